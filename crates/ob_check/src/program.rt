@@ -1,0 +1,91 @@
+//! The checked program, as the crates above read it.
+
+/// An INTEGER or a BOOLEAN.
+#[derive(Clone, Copy, Debug, PartialEq, Eq)]
+pub enum Scalar {
+    Int(i32),
+    Bool(bool),
+}
+
+/// A type.
+#[derive(Clone, Copy, Debug, PartialEq, Eq)]
+pub enum DataType {
+    Integer,
+}
+
+/// Variables in text order, procedures in the order of their headings.
+#[derive(Drop)]
+pub struct Program {
+    pub variables: Vec<Variable>,
+    pub procedures: Vec<Procedure>,
+    pub body: Vec<Statement>,
+}
+
+#[derive(Drop)]
+pub struct Variable {
+    pub name: String,
+    pub data_type: DataType,
+}
+
+#[derive(Drop)]
+pub struct Procedure {
+    pub name: String,
+    pub is_exported: bool,
+    pub parameters: Vec<Parameter>,
+    pub body: Vec<Statement>,
+}
+
+#[derive(Drop)]
+pub struct Parameter {
+    pub name: String,
+    pub is_var: bool,
+    pub data_type: DataType,
+}
+
+/// A statement; an empty one leaves nothing here.
+#[derive(Drop)]
+pub enum Statement {
+    Assign {
+        target: Designator,
+        value: Expression,
+    },
+}
+
+/// A variable of the module, or of the procedure itself.
+#[derive(Drop)]
+pub struct Designator {
+    pub is_own: bool,
+    pub name: String,
+}
+
+/// An expression with a scalar value.
+#[cycle(expressions)]
+#[derive(Drop)]
+pub enum Expression {
+    Literal(Scalar),
+    ValueOf {
+        data_type: DataType,
+        variable: Designator,
+    },
+    Negated(Box<Expression>),
+    /// A first operand, and from the left each operator with the operand to its right.
+    Computed {
+        first: Box<Expression>,
+        rest: Vec<Operation>,
+    },
+}
+
+/// An operator and the operand to its right.
+#[cycle(expressions)]
+#[derive(Drop)]
+pub struct Operation {
+    pub operator: Arithmetic,
+    pub operand: Expression,
+}
+
+/// An operator that gives an INTEGER.
+#[derive(Clone, Copy, Debug, PartialEq, Eq)]
+pub enum Arithmetic {
+    Plus,
+    Minus,
+}

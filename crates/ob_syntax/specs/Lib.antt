@@ -1,0 +1,9 @@
+pub mod Spelling
+pub mod Tokens
+pub mod Lexemes
+pub mod ScanFaults
+pub mod Tree
+pub mod View
+pub mod Grammar
+pub mod Conditions
+pub mod ParseFaults

@@ -1,0 +1,48 @@
+-- What each fault of the parser says of a text with its tokens.
+use Rattle.std.specs.Prelude.{◌≡◌, ◌⊎◌, ℕ, suc, ◌++◌, length, take, slice_get, option_map, Some}
+use Rattle.ob_syntax.specs.declared.parser.ParseFault.{ParseFault}
+use Rattle.ob_syntax.specs.declared.parser.ParseFault.TheVariants.{Unexpected, NameDiffers, NoMemory}
+use Rattle.ob_syntax.specs.Lexemes.{lexemes, place_of}
+use Rattle.ob_syntax.specs.Tokens.{TokenizedText}
+use Rattle.ob_syntax.specs.Tree.{Module}
+use Rattle.ob_syntax.specs.Grammar.{Lexemes, Derives, BeginsModule}
+use Rattle.ob_syntax.specs.Conditions.{KeepsConditions, NameDiffersAt}
+
+-- the tokens of a text, as the grammar reads them
+abbrev pub lexemes_of : TokenizedText → Lexemes
+lexemes_of t = lexemes t.text t.tokens
+
+-- some continuation of these tokens derives a module that keeps the conditions
+abbrev pub BeginsGoodModule : Lexemes → Type 0
+BeginsGoodModule tokens = (more : Lexemes) × (m : Module) × Derives (tokens ++ more) m × KeepsConditions m
+
+-- the token at this index stands at this place
+abbrev pub StandsAt : Lexemes → ℕ → ℕ → Type 0
+StandsAt tokens index place = option_map place_of (slice_get tokens index) ≡ Some place
+
+-- no module goes on with this token, though one does with those before it
+pub record RefusesToken (tokens : Lexemes) (place : ℕ) : Type 0 where
+  pub index : ℕ
+  pub there : StandsAt tokens index place
+  pub before : BeginsGoodModule (take index tokens)
+  pub none : BeginsModule (take (suc index) tokens) → ⊥
+
+-- these tokens are no module, though one goes on with them; the place is the text's length
+pub record RefusesEnd (tokens : Lexemes) (end place : ℕ) : Type 0 where
+  pub there : place ≡ end
+  pub before : BeginsGoodModule tokens
+  pub none : (m : Module) → Derives tokens m → ⊥
+
+-- a module goes on with this token, and in each that does it is a name after END that differs
+pub record RefusesName (tokens : Lexemes) (place : ℕ) : Type 0 where
+  pub index : ℕ
+  pub there : StandsAt tokens index place
+  pub before : BeginsGoodModule (take index tokens)
+  pub some : BeginsModule (take (suc index) tokens)
+  pub differs : (more : Lexemes) (m : Module) → Derives (take (suc index) tokens ++ more) m → NameDiffersAt m place
+
+abbrev pub IsParseFault : TokenizedText → ParseFault → Type 0
+IsParseFault t (Unexpected place) =
+    RefusesToken (lexemes_of t) place ⊎ RefusesEnd (lexemes_of t) (length t.text) place
+IsParseFault t (NameDiffers place) = RefusesName (lexemes_of t) place
+IsParseFault t NoMemory = Unit {0}
