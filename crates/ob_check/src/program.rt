@@ -89,3 +89,17 @@ pub enum Arithmetic {
     Plus,
     Minus,
 }
+
+/// What a caller knows of an exported procedure.
+#[derive(Drop)]
+pub struct Export {
+    pub name: String,
+    pub parameters: Vec<Formal>,
+}
+
+/// The mode and the type of a parameter.
+#[derive(Clone, Copy, Debug, PartialEq, Eq)]
+pub struct Formal {
+    pub is_var: bool,
+    pub data_type: DataType,
+}

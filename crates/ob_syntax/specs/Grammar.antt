@@ -1,5 +1,5 @@
 -- The grammar. In each relation the list on the left begins with the phrase, and the list on the right is what stands behind it.
-use Rattle.std.specs.Prelude.{ℕ, Bool, true, false, List, [], ◌∷◌, ◌++◌, Option, Some, None}
+use Rattle.std.specs.Prelude.{ℕ, pos, Bool, true, false, List, [], ◌∷◌, ◌++◌, Option, Some, None}
 use Rattle.ob_syntax.specs.declared.scan.token.Kind.{Kind}
 use Rattle.ob_syntax.specs.Spelling.{number_value}
 use Rattle.ob_syntax.specs.Lexemes.{Lexeme, lexeme}
@@ -90,7 +90,7 @@ mutual
   pub data Factor : Lexemes → Expr → Lexemes → Type 0 where
     named : {a b : Lexemes} {name : Name} → TakesName a name b → Factor a (Tree.Named name) b
     number : {place : ℕ} {bytes : List ℕ} {rest : Lexemes} →
-        Factor (lexeme Kind.Number place bytes ∷ rest) (Tree.Number (number_value bytes) place) rest
+        Factor (lexeme Kind.Number place bytes ∷ rest) (Tree.Number (pos (number_value bytes)) place) rest
 
 -- IdentList = ident {"," ident}
 abbrev pub IdentList : Phrase (List Name)

@@ -1,5 +1,5 @@
 -- The tree of a module without the memory that holds it: what the grammar derives and the rules speak of. A place is a byte offset.
-use Rattle.std.specs.Prelude.{ℕ, Bool, List, Option}
+use Rattle.std.specs.Prelude.{ℕ, ℤ, Bool, List, Option}
 use Rattle.ob_syntax.specs.declared.tree.Operator.{Operator}
 use Rattle.ob_syntax.specs.declared.tree.Sign.{Sign}
 
@@ -10,7 +10,7 @@ pub record Name : Type 0 where
 
 mutual
   pub data Expr : Type 0 where
-    Number : (value place : ℕ) → Expr
+    Number : (value : ℤ) (place : ℕ) → Expr
     Named : (name : Name) → Expr
     -- a sign, or two operands or more
     Sum : (sign : Option Sign) (first : Expr) (rest : Operands) → Expr

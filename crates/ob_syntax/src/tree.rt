@@ -73,8 +73,8 @@ pub struct Designator {
 #[cycle(expr)]
 #[derive(Drop)]
 pub enum Expr {
-    /// A number.
-    Number { value: u32, place: usize },
+    /// A number: 0 to 2147483647 in a tree that was parsed.
+    Number { value: i32, place: usize },
     /// A name.
     Named(Designator),
     /// A sign before the first factor, or two factors or more.
