@@ -1,5 +1,6 @@
 pub mod Program
 pub mod View
+pub mod Arithmetic
 pub mod Scopes
 pub mod Typing
 pub mod Parts

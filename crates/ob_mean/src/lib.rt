@@ -1,2 +1,9 @@
-//! x
+//! The source meaning: one call on the object at a time.
 #![tactic(auto)]
+
+pub mod call;
+pub mod interpreter;
+pub mod opening;
+pub mod sequence;
+pub mod state;
+pub mod value;

@@ -1,0 +1,7 @@
+pub mod Value
+pub mod Store
+pub mod Evaluation
+pub mod Statements
+pub mod Object
+pub mod Faults
+pub mod View

@@ -1,0 +1,9 @@
+//! Values of variables.
+
+use ob_check::program::Scalar;
+
+/// The value of a variable.
+#[derive(Clone, Copy, Debug, PartialEq, Eq)]
+pub enum Value {
+    Single(Scalar),
+}
