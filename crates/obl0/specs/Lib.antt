@@ -1,0 +1,4 @@
+pub mod Script
+pub mod ReplyLines
+pub mod SequentialRun
+pub mod ScriptView

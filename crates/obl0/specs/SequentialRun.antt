@@ -1,0 +1,99 @@
+-- A sequential run: from the bytes of a module and of a script to the bytes that are printed.
+use Rattle.std.specs.Prelude.{◌≡◌, ℕ, suc, List, [], map, take, slice_get, Some}
+use Rattle.ob_syntax.specs.declared.scan.token.Token.{Token}
+use Rattle.ob_syntax.specs.Tokens.{HasTokens, TokenizedText}
+use Rattle.ob_syntax.specs.ScanFaults.{IsScanFault}
+use Rattle.ob_syntax.specs.Tree
+use Rattle.ob_syntax.specs.Lexemes.{lexemes}
+use Rattle.ob_syntax.specs.Grammar.{Derives}
+use Rattle.ob_syntax.specs.Conditions.{KeepsConditions}
+use Rattle.ob_syntax.specs.ParseFaults.{IsParseFault}
+use Rattle.ob_check.specs.Program.{Program}
+use Rattle.ob_check.specs.Typing.{WellTyped}
+use Rattle.ob_check.specs.CheckFaults.{IsCheckFault}
+use Rattle.ob_check.specs.Exports.{headings}
+use Rattle.ob_mean.specs.Object.{Reply, State, IsOpening, AreReplies}
+use Rattle.ob_mean.specs.Faults.{IsOpenFault, NeedsMoreAt}
+use Rattle.obl0.specs.Script.{ScriptCall, IsScript, IsScriptFault}
+use Rattle.obl0.specs.ReplyLines.{reply_lines, count_of}
+use Rattle.obl0.specs.declared.sequential.SeqTextFault.{SeqTextFault}
+use Rattle.obl0.specs.declared.sequential.SeqTextFault.TheVariants as Faults
+
+-- the turns of an opening, and of each call
+abbrev pub turns : ℕ
+turns = 1000000
+
+-- how many processes a script for a sequential run may name: 0 to 15
+abbrev pub processes : ℕ
+processes = 16
+
+-- the text of a module stands for this checked program
+pub record IsModule (text : List ℕ) (program : Program) : Type 0 where
+  pub tokens : List Token
+  pub tree : Tree.Module
+  pub scanned : HasTokens text tokens
+  pub derived : Derives (lexemes text tokens) tree
+  pub agrees : KeepsConditions tree
+  pub typed : WellTyped tree program
+
+-- the printed bytes are the E lines of the replies that the meaning gives to the script's calls, made one at a time in
+-- line order from the opening state
+pub record IsSequentialRun (module_text script output : List ℕ) : Type 0 where
+  pub program : Program
+  pub calls : List ScriptCall
+  pub replies : List Reply
+  pub is_module : IsModule module_text program
+  pub read : IsScript (headings program) processes script calls
+  pub replied : AreReplies program turns (map (λ c. c.call) calls) replies
+  pub printed : output ≡ reply_lines [] (map (λ c. c.process) calls) replies
+
+-- a parse fault of a text with its tokens
+pub record IsParseFaultOf (text : List ℕ) (fault : _) : Type 0 where
+  pub tokens : List Token
+  pub scanned : HasTokens text tokens
+  pub fails : IsParseFault (record { text = text; tokens = tokens }) fault
+
+-- a check fault of a text with its tree
+pub record IsCheckFaultOf (text : List ℕ) (fault : _) : Type 0 where
+  pub tokens : List Token
+  pub tree : Tree.Module
+  pub scanned : HasTokens text tokens
+  pub derived : Derives (lexemes text tokens) tree
+  pub fails : IsCheckFault tree fault
+
+-- the opening of a text's program fails
+pub record IsOpenFaultOf (text : List ℕ) (fault : _) : Type 0 where
+  pub program : Program
+  pub is_module : IsModule text program
+  pub fails : IsOpenFault program turns fault
+
+-- the script is none for a text's program, whose opening ends
+pub record IsScriptFaultOf (text script : List ℕ) (fault : _) : Type 0 where
+  pub program : Program
+  pub state : State
+  pub is_module : IsModule text program
+  pub opens : IsOpening program turns state
+  pub fails : IsScriptFault (headings program) processes script fault
+
+-- a call of the script needs more turns: its process, and its number among the calls of that process
+pub record NeedsMoreTurns (text script : List ℕ) (process number : ℕ) : Type 0 where
+  pub program : Program
+  pub calls : List ScriptCall
+  pub position : ℕ
+  pub call : ScriptCall
+  pub is_module : IsModule text program
+  pub read : IsScript (headings program) processes script calls
+  pub more : NeedsMoreAt program turns (map (λ c. c.call) calls) position
+  pub here : slice_get calls position ≡ Some call
+  pub by : call.process ≡ process
+  pub counted : number ≡ suc (count_of process (map (λ c. c.process) (take position calls)))
+
+-- what each fault says of a module's text and a script
+abbrev pub IsSeqTextFault : (text script : List ℕ) → SeqTextFault → Type 0
+IsSeqTextFault text script (Faults.Scan e) = IsScanFault text e
+IsSeqTextFault text script (Faults.Parse e) = IsParseFaultOf text e
+IsSeqTextFault text script (Faults.Check e) = IsCheckFaultOf text e
+IsSeqTextFault text script (Faults.Open e) = IsOpenFaultOf text e
+IsSeqTextFault text script (Faults.Script e) = IsScriptFaultOf text script e
+IsSeqTextFault text script (Faults.NeedsMore process number) = NeedsMoreTurns text script process number
+IsSeqTextFault text script Faults.NoMemory = Unit {0}

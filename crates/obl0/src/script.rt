@@ -1,0 +1,52 @@
+//! Scripts: the calls that a run makes.
+
+ghost use Rattle.std.specs.Prelude.{IfOk, IfErr, map};
+ghost use Rattle.ob_check.specs.CheckedModule.{program_in};
+ghost use Rattle.ob_check.specs.Exports.{headings};
+ghost use Rattle.obl0.specs.Script.{IsScript, IsScriptFault};
+ghost use Rattle.obl0.specs.ScriptView.{script_call_of};
+
+use ob_check::checked::Checked;
+use ob_mean::call::Call;
+use std::alloc::{AllocError, AllocFailed, Global};
+use thiserror::Error;
+
+/// A call by a process.
+#[derive(Drop)]
+pub struct ScriptCall {
+    pub process: usize,
+    pub call: Call,
+}
+
+/// Why a text is no script. Lines count from 1.
+#[derive(Clone, Copy, Debug, PartialEq, Eq, Error)]
+pub enum ScriptFault {
+    /// L1: the first word is no process, or the second one is missing or no name.
+    #[error("L1 line {0}")]
+    Form(usize),
+    /// L2: no export has the procedure's name.
+    #[error("L2 line {0}")]
+    Procedure(usize),
+    /// L3: the arguments don't fit the value parameters.
+    #[error("L3 line {0}")]
+    Arguments(usize),
+    /// L4: there is no such process.
+    #[error("L4 line {0}")]
+    Process(usize),
+    /// Want of memory.
+    #[error("NoMemory")]
+    NoMemory,
+}
+
+/// The calls of a script on a module's exports, by processes below `processes`, in line order.
+pub fn read_script(
+    _alloc: Global,
+    checked: &Checked,
+    processes: usize,
+    text: &[u8],
+) -> Result<Vec<ScriptCall>, ScriptFault>
+    ensures script { IfOk result (λ calls. IsScript (headings (program_in checked.now)) processes text.now (map script_call_of calls.items)) }
+    ensures fault { IfErr result (λ e. IsScriptFault (headings (program_in checked.now)) processes text.now e) }
+{
+    Err(ScriptFault::NoMemory)
+}
