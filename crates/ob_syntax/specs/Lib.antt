@@ -7,3 +7,7 @@ pub mod View
 pub mod Grammar
 pub mod Conditions
 pub mod ParseFaults
+pub mod Scanning
+pub mod Reading
+pub mod Forms
+pub mod Answers

@@ -1,6 +1,6 @@
 -- What each fault of the scanner says: behind tokens of the text, at the place that it names, stands what the fault is about.
 -- Where such a thing stands, the text has no list of tokens.
-use Rattle.std.specs.Prelude.{◌≡◌, ℕ, ◌<◌, length, List, [], ◌∷◌, ◌++◌}
+use Rattle.std.specs.Prelude.{◌≡◌, ℕ, ◌<◌, length, List, ◌∷◌, ◌++◌}
 use Rattle.ob_syntax.specs.declared.scan.fault.ScanFault.{ScanFault}
 use Rattle.ob_syntax.specs.declared.scan.fault.ScanFault.TheVariants.{StrayByte, NumberTooLarge, OpenComment, NameTooLong, TooLong, NoMemory}
 use Rattle.ob_syntax.specs.declared.scan.token.Kind.{Kind}

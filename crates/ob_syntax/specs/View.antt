@@ -2,6 +2,7 @@
 use Rattle.std.specs.Prelude.{List, [], ◌∷◌, map, option_map, string_bytes}
 use Rattle.ob_syntax.specs.declared.tree.Name.{Name}
 use Rattle.ob_syntax.specs.declared.tree.Expr.{Expr, Row_of-Operand, end_of-Operand, more_of-Operand}
+use Rattle.ob_syntax.specs.declared.tree.Operand.{Operand}
 use Rattle.ob_syntax.specs.declared.tree.Expr.TheVariants.{Number, Named, Sum'}
 use Rattle.ob_syntax.specs.declared.tree.TypeExpr.{TypeExpr}
 use Rattle.ob_syntax.specs.declared.tree.TypeExpr.TheVariants as Types
@@ -26,6 +27,11 @@ abbrev mutual
   pub operands_of : {m : _} → Row_of-Operand m → Tree.Operands
   operands_of end_of-Operand = Tree.no_operand
   operands_of (more_of-Operand operator place e rest) = Tree.operand operator place (expr_of e) (operands_of rest)
+
+-- operands that stand outside an expression
+abbrev pub operands_in : List Operand → Tree.Operands
+operands_in [] = Tree.no_operand
+operands_in (o ∷ rest) = Tree.operand o.operator o.place (expr_of o.value) (operands_in rest)
 
 abbrev pub type_of : TypeExpr → Tree.TypeExpr
 type_of (Types.Named name) = Tree.Called (name_of name)

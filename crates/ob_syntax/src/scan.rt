@@ -4,22 +4,29 @@ ghost use Rattle.std.specs.Prelude.{◌≡◌, ◌<◌, ◌↔◌, length, IfOk,
 ghost use Rattle.ob_syntax.specs.Tokens.{HasTokens};
 ghost use Rattle.ob_syntax.specs.ScanFaults.{IsScanFault};
 
+mod comment;
 pub mod fault;
+mod keyword;
+mod lexeme;
+mod symbol;
+#[cfg(test)]
+mod tests;
 pub mod token;
 pub mod tokens;
 
+use comment::{comment_end, opens_comment};
 pub use fault::ScanFault;
+use lexeme::{is_blank, lexeme};
+use std::alloc::Global;
 pub use token::{Kind, Token};
 pub use tokens::Tokens;
-
-use std::alloc::Global;
 
 /// The most bytes that a text may have.
 pub const LONGEST_TEXT: usize = 65536;
 
 /// The tokens of a text: each the longest spelling that can stand at its place, between blanks and
 /// nested comments.
-pub fn scan(_alloc: Global, text: &[u8]) -> Result<Tokens<'_>, ScanFault>
+pub fn scan(alloc: Global, text: &[u8]) -> Result<Tokens<'_>, ScanFault>
     ensures text { IfOk result (λ tokens. tokens.text ≡ text.now) }
     ensures tokens { IfOk result (λ tokens. HasTokens text.now tokens.tokens) }
 
@@ -30,5 +37,18 @@ pub fn scan(_alloc: Global, text: &[u8]) -> Result<Tokens<'_>, ScanFault>
     if text.len() > LONGEST_TEXT {
         return Err(ScanFault::TooLong);
     }
-    Err(ScanFault::NoMemory)
+    let mut items = Vec::new(alloc);
+    let mut at = 0;
+    while at < text.len() {
+        if is_blank(text[at]) {
+            at += 1;
+        } else if opens_comment(&text[at..]) {
+            at = comment_end(text, at)?;
+        } else {
+            let token = lexeme(text, at)?;
+            items.push(token)?;
+            at = token.end;
+        }
+    }
+    Ok(Tokens::new(text, items))
 }

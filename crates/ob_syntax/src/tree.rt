@@ -74,7 +74,10 @@ pub struct Designator {
 #[derive(Drop)]
 pub enum Expr {
     /// A number: 0 to 2147483647 in a tree that was parsed.
-    Number { value: i32, place: usize },
+    Number {
+        value: i32,
+        place: usize,
+    },
     /// A name.
     Named(Designator),
     /// A sign before the first factor, or two factors or more.

@@ -1,0 +1,17 @@
+pub mod Comments
+pub mod Declarations
+pub mod Expressions
+pub mod FaultFacts
+pub mod Loops
+pub mod Names
+pub mod Phrases
+pub mod Reached
+pub mod Runs
+pub mod Spellings
+pub mod Stands
+pub mod States
+pub mod Steps
+pub mod Symbols
+pub mod Texts
+pub mod TokenFacts
+pub mod Whole

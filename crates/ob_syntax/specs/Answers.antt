@@ -1,0 +1,82 @@
+-- What a method of the parser answers.
+use Rattle.std.specs.Prelude.{◌≡◌, ℕ, List, length, slice_get, Some, Result, Ok, Err, map, option_map}
+use Rattle.ob_syntax.specs.declared.parser.ParseFault.{ParseFault}
+use Rattle.ob_syntax.specs.declared.parser.ParseFault.TheVariants.{Unexpected, NameDiffers, NoMemory}
+use Rattle.ob_syntax.specs.declared.parser.Parser.{Parser}
+use Rattle.ob_syntax.specs.declared.parser.Heading.{Heading}
+use Rattle.ob_syntax.specs.declared.tree.Name.{Name}
+use Rattle.ob_syntax.specs.declared.tree.Procedure.{Procedure}
+use Rattle.ob_syntax.specs.declared.scan.token.Kind.{Kind}
+use Rattle.ob_syntax.specs.Lexemes.{lexeme}
+use Rattle.ob_syntax.specs.Tokens.{TokenizedText}
+use Rattle.ob_syntax.specs.Tree
+use Rattle.ob_syntax.specs.View.{name_of, section_of, stmts_in, heading_of}
+use Rattle.ob_syntax.specs.Forms as forms
+use Rattle.ob_syntax.specs.Forms.{ProcedureTree}
+use Rattle.ob_syntax.specs.Grammar.{Lexemes}
+use Rattle.ob_syntax.specs.ParseFaults.{lexemes_of, StandsAt}
+use Rattle.ob_syntax.specs.Reading.{Form, Reads, Refuses, unexpected, breaks, name_differs, kind_at, place_at}
+
+-- a text with its tokens, and how many of them are read
+pub record State : Type 0 where
+  pub source : TokenizedText
+  pub position : ℕ
+
+abbrev pub state : Parser → State
+state p = record { source = p.tokens.now; position = p.position }
+
+abbrev pub tokens_of : State → Lexemes
+tokens_of s = lexemes_of s.source
+
+-- the token that stands here has these bytes
+abbrev pub IsSpelledAt : State → List ℕ → Type 0
+IsSpelledAt s bytes =
+    (kind : Kind) (place : ℕ) (spelt : List ℕ) →
+    slice_get (tokens_of s) s.position ≡ Some (lexeme kind place spelt) → bytes ≡ spelt
+
+-- from s to t the parser read x
+pub record Went {A : Type 0} (F : Form A) (s : State) (x : A) (t : State) : Type 0 where
+  pub kept : t.source ≡ s.source
+  pub reads : Reads F (tokens_of s) s.position x t.position
+
+-- the fault of a phrase from s on
+abbrev pub Fails : {A : Type 0} → Form A → State → ParseFault → Type 0
+Fails F s (Unexpected place) =
+    (i : ℕ) × (place ≡ place_at (length s.source.text) (tokens_of s) i) × Refuses F (tokens_of s) s.position unexpected i
+Fails F s (NameDiffers place) =
+    (i : ℕ) × StandsAt (tokens_of s) i place × Refuses F (tokens_of s) s.position (breaks (name_differs place)) i
+Fails F s NoMemory = Unit {0}
+
+-- no token of this kind stands here, and this is at fault
+abbrev pub FailsHere : Kind → State → ParseFault → Type 0
+FailsHere kind s (Unexpected place) =
+    (place ≡ place_at (length s.source.text) (tokens_of s) s.position) × ¬ (kind_at (tokens_of s) s.position ≡ Some kind)
+FailsHere kind s (NameDiffers place) = ⊥
+FailsHere kind s NoMemory = Unit {0}
+
+abbrev pub Answers : {X A : Type 0} → (X → A) → Form A → State → Result X ParseFault → State → Type 0
+Answers view F s (Ok x) t = Went F s (view x) t
+Answers view F s (Err e) t = Fails F s e
+
+-- a name, or a fault at the token that stands here
+abbrev pub AnswersName : State → Result Name ParseFault → State → Type 0
+AnswersName s (Ok n) t = Went forms.name s (name_of n) t
+AnswersName s (Err e) t = FailsHere Kind.Ident s e
+
+-- a heading that stands outside its procedure
+abbrev pub heading_in : Heading → Tree.Heading
+heading_in h =
+    record {
+      place = h.place;
+      name = name_of h.name;
+      is_exported = h.is_exported;
+      parameters = option_map (λ ss. map section_of ss.items) h.parameters;
+    }
+
+abbrev pub procedure_of : Procedure → ProcedureTree
+procedure_of p =
+    record {
+      heading = heading_of p;
+      body = option_map (λ b. stmts_in b.items) p.body;
+      end_name = name_of p.end_name;
+    }
