@@ -7,6 +7,17 @@ pub enum Scalar {
     Bool(bool),
 }
 
+impl Default for Scalar {
+    ghost use Rattle.std.specs.Prelude.{◌≡◌, pos};
+    ghost use Rattle.ob_check.specs.declared.program.Scalar.TheVariants.{Int};
+
+    ghost is_default = { λ s. s ≡ Int (pos 0) };
+
+    fn default() -> Scalar {
+        Scalar::Int(0)
+    }
+}
+
 /// A type.
 #[derive(Clone, Copy, Debug, PartialEq, Eq)]
 pub enum DataType {

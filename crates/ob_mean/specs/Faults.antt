@@ -29,3 +29,9 @@ IsSeqFault program turns calls (Seq.OpeningTrap k) = opening program turns ≡ S
 IsSeqFault program turns calls Seq.OpeningNeedsMore = opening program turns ≡ Statements.NotYet
 IsSeqFault program turns calls (Seq.NeedsMore position) = NeedsMoreAt program turns calls position
 IsSeqFault program turns calls Seq.NoMemory = Unit {0}
+
+-- the fault of an opening, as a fault of calls made one at a time
+abbrev pub of_opening : OpenFault → SeqFault
+of_opening (Open.Trap k) = Seq.OpeningTrap k
+of_opening Open.NeedsMore = Seq.OpeningNeedsMore
+of_opening Open.NoMemory = Seq.NoMemory

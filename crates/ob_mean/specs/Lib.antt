@@ -5,3 +5,4 @@ pub mod Statements
 pub mod Object
 pub mod Faults
 pub mod View
+pub mod Running

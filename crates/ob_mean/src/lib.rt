@@ -6,4 +6,7 @@ pub mod interpreter;
 pub mod opening;
 pub mod sequence;
 pub mod state;
+mod store;
+#[cfg(test)]
+mod tests;
 pub mod value;

@@ -1,6 +1,7 @@
 //! States of a module's object.
 
 use crate::value::Value;
+use std::alloc::{AllocError, Global};
 
 /// A variable's name with its value.
 #[derive(Drop)]
@@ -16,7 +17,7 @@ pub struct State {
 }
 
 impl State {
-    ghost use Rattle.std.specs.Prelude.{◌≡◌};
+    ghost use Rattle.std.specs.Prelude.{◌≡◌, IfOk};
     ghost use Rattle.ob_mean.specs.View.{state_of, state_in};
 
     /// The state in which variables have these values.
@@ -31,5 +32,19 @@ impl State {
         ensures { state_in result.now ≡ state_of self.now }
     {
         &self.variables
+    }
+
+    /// An equal state.
+    pub(crate) fn copy(&self, alloc: Global) -> Result<State, AllocError>
+        ensures { IfOk result (λ s. state_of s ≡ state_of self.now) }
+    {
+        let mut variables = Vec::new(alloc);
+        for variable in self.variables() {
+            variables.push(NamedValue {
+                name: String::from_str(alloc, variable.name.as_str())?,
+                value: variable.value,
+            })?;
+        }
+        Ok(State::new(variables))
     }
 }

@@ -1,0 +1,7 @@
+pub mod Chains
+pub mod Bindings
+pub mod Exports
+pub mod Kept
+pub mod Calls
+pub mod InTurn
+mod Rows
