@@ -28,6 +28,14 @@ state p = record { source = p.tokens.now; position = p.position }
 abbrev pub tokens_of : State → Lexemes
 tokens_of s = lexemes_of s.source
 
+-- a token of this kind stands here
+abbrev pub IsAt : State → Kind → Type 0
+IsAt s kind = kind_at (tokens_of s) s.position ≡ Some kind
+
+-- where the token that stands here begins, or the end of the text
+abbrev pub place_of_fault : State → ℕ
+place_of_fault s = place_at (length s.source.text) (tokens_of s) s.position
+
 -- the token that stands here has these bytes
 abbrev pub IsSpelledAt : State → List ℕ → Type 0
 IsSpelledAt s bytes =

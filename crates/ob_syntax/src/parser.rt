@@ -1,6 +1,6 @@
 //! The parser: from the tokens of a text to its tree.
 
-ghost use Rattle.std.specs.Prelude.{pos, ◌≡◌, ℕ, ◌+◌, ◌<◌, ◌≤◌, ◌↔◌, Bool, IsTrue, length, slice_get, string_bytes, map, option_map, IfOk, IfErr, OnOk, IfSome, IfNone, OnSome};
+ghost use Rattle.std.specs.Prelude.{◌≡◌, ℕ, pos, ◌+◌, ◌<◌, ◌≤◌, ◌↔◌, Bool, IsTrue, length, slice_get, string_bytes, map, option_map, IfOk, IfErr, OnOk, IfSome, IfNone, OnSome};
 ghost use Rattle.std.specs.List.{list_all};
 ghost use Rattle.std.specs.Char.{is_ascii_alphanumeric, is_ascii_digit};
 ghost use Rattle.ob_syntax.specs.declared.scan.token.Kind.{Kind};
@@ -11,9 +11,9 @@ ghost use Rattle.ob_syntax.specs.Grammar.{Derives, IsAddition};
 ghost use Rattle.ob_syntax.specs.Conditions.{KeepsConditions};
 ghost use Rattle.ob_syntax.specs.ParseFaults.{lexemes_of, IsParseFault};
 ghost use Rattle.ob_syntax.specs.View.{name_of, expr_of, operands_in, type_of, stmt_of, stmts_in, var_decl_of, section_of, procedures_in, declarations_of, module_of};
-ghost use Rattle.ob_syntax.specs.Reading.{kind_at, place_at};
+ghost use Rattle.ob_syntax.specs.Reading.{place_at};
 ghost use Rattle.ob_syntax.specs.Forms as forms;
-ghost use Rattle.ob_syntax.specs.Answers.{state, tokens_of, IsSpelledAt, Went, Answers, AnswersName, heading_in, procedure_of};
+ghost use Rattle.ob_syntax.specs.Answers.{state, tokens_of, IsAt, place_of_fault, IsSpelledAt, Went, Answers, AnswersName, heading_in, procedure_of};
 
 #[cfg(test)]
 mod tests;
@@ -114,7 +114,7 @@ impl<'a> Parser<'a> {
 
     /// Whether a token of this kind stands here.
     fn at(&self, kind: Kind) -> bool
-        ensures kind { IsTrue result ↔ (kind_at (tokens_of (state self.now)) self.now.position ≡ Some kind) }
+        ensures kind { IsTrue result ↔ (IsAt (state self.now) kind) }
         ensures within { IsTrue result → self.now.position < length self.now.tokens.now.tokens }
     {
         match self.current() {
@@ -140,9 +140,9 @@ impl<'a> Parser<'a> {
     fn bytes(&self) -> &'a [u8]
         requires { self.now.position < length self.now.tokens.now.tokens }
         ensures spelling { IsSpelledAt (state self.now) result.now }
-        ensures ident { kind_at (tokens_of (state self.now)) self.now.position ≡ Some Kind.Ident → IsTrue (list_all is_ascii_alphanumeric result.now) }
-        ensures digits { kind_at (tokens_of (state self.now)) self.now.position ≡ Some Kind.Number → IsTrue (list_all is_ascii_digit result.now) }
-        ensures limit { kind_at (tokens_of (state self.now)) self.now.position ≡ Some Kind.Number → number_value result.now ≤ 2147483647 }
+        ensures ident { IsAt (state self.now) Kind.Ident → IsTrue (list_all is_ascii_alphanumeric result.now) }
+        ensures digits { IsAt (state self.now) Kind.Number → IsTrue (list_all is_ascii_digit result.now) }
+        ensures limit { IsAt (state self.now) Kind.Number → number_value result.now ≤ 2147483647 }
     {
         let token = self.here();
         &self.tokens.text()[token.start..token.end]
@@ -150,7 +150,7 @@ impl<'a> Parser<'a> {
 
     /// That the token that stands here is at fault, or the end.
     fn unexpected(&self) -> ParseFault
-        ensures { result ≡ ParseFault.Unexpected (place_at (length self.now.tokens.now.text) (tokens_of (state self.now)) self.now.position) }
+        ensures { result ≡ ParseFault.Unexpected (place_of_fault (state self.now)) }
     {
         match self.current() {
             Some(token) => ParseFault::Unexpected(token.start),
@@ -165,7 +165,7 @@ impl<'a> Parser<'a> {
         ensures moved { self.new.position ≡ self.old.position + 1 }
         ensures place { result ≡ place_at 0 (tokens_of (state self.old)) self.old.position }
         ensures kept { self.new.tokens.now ≡ self.old.tokens.now }
-        ensures took { (k : Kind) → kind_at (tokens_of (state self.old)) self.old.position ≡ Some k → Went (forms.token k) (state self.old) result (state self.new) }
+        ensures took { (k : Kind) → IsAt (state self.old) k → Went (forms.token k) (state self.old) result (state self.new) }
     {
         let place = self.tokens.as_slice()[self.position].start;
         self.position += 1;
@@ -243,8 +243,8 @@ impl<'a> Parser<'a> {
 
     /// "+" | "-", where one stands here.
     fn operator(&self) -> Option<Operator>
-        ensures some { IfSome result (λ operator. (kind : Kind) × IsAddition kind operator × (kind_at (tokens_of (state self.now)) self.now.position ≡ Some kind)) }
-        ensures none { IfNone result ((kind : Kind) (operator : Operator) → IsAddition kind operator → kind_at (tokens_of (state self.now)) self.now.position ≡ Some kind → ⊥) }
+        ensures some { IfSome result (λ operator. (kind : Kind) × IsAddition kind operator × (IsAt (state self.now) kind)) }
+        ensures none { IfNone result ((kind : Kind) (operator : Operator) → IsAddition kind operator → IsAt (state self.now) kind → ⊥) }
         ensures within { OnSome result (self.now.position < length self.now.tokens.now.tokens) }
     {
         if self.at(Kind::Plus) {
@@ -315,7 +315,7 @@ impl<'a> Parser<'a> {
 
     /// number
     fn number(&mut self) -> Expr
-        requires { kind_at (tokens_of (state self.old)) self.old.position ≡ Some Kind.Number }
+        requires { IsAt (state self.old) Kind.Number }
         ensures { Went forms.factor (state self.old) (expr_of result) (state self.new) }
     {
         let value = number_of(self.bytes());

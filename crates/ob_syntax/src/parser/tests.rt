@@ -2,10 +2,18 @@
 
 use crate::parser::{ParseFault, parse};
 use crate::scan::scan;
-use crate::tree::{Expr, Name, Operator, Section, Stmt, TypeExpr};
+use crate::tree::{Expr, Name, Operator, Procedure, Section, Stmt, TypeExpr};
 use std::alloc::Global;
 use std::process::Abort;
 use std::test::Fail;
+
+const fn p1(place: usize) -> Option<ParseFault> {
+    Some(ParseFault::Unexpected(place))
+}
+
+const fn p3(place: usize) -> Option<ParseFault> {
+    Some(ParseFault::NameDiffers(place))
+}
 
 /// The parser's fault at a text that has tokens.
 fn fault_of(alloc: Global, text: &[u8]) -> Result<Option<ParseFault>, Fail> {
@@ -27,102 +35,42 @@ fn places_faults(rt: HostRuntime) -> Result<(), Fail> {
         ),
         (b"MODULE M; BEGIN ; x := 1;; END M.", None),
         (b"MODULE M; BEGIN x := +1 - y + 2 END M.", None),
-        (b"", Some(ParseFault::Unexpected(0))),
-        (b"M", Some(ParseFault::Unexpected(0))),
-        (b"MODULE", Some(ParseFault::Unexpected(6))),
-        (b"MODULE ;", Some(ParseFault::Unexpected(7))),
-        (b"MODULE M END M.", Some(ParseFault::Unexpected(9))),
-        (b"MODULE M; x := 1 END M.", Some(ParseFault::Unexpected(10))),
-        (b"MODULE M; END", Some(ParseFault::Unexpected(13))),
-        (b"MODULE M; END N.", Some(ParseFault::NameDiffers(14))),
-        (b"MODULE M; END N", Some(ParseFault::NameDiffers(14))),
-        (b"MODULE M; END M", Some(ParseFault::Unexpected(15))),
-        (b"MODULE M; BEGIN END M;", Some(ParseFault::Unexpected(21))),
-        (b"MODULE M; END M. x", Some(ParseFault::Unexpected(17))),
-        (
-            b"MODULE M; VAR x T; END M.",
-            Some(ParseFault::Unexpected(16)),
-        ),
-        (
-            b"MODULE M; VAR x, : T; END M.",
-            Some(ParseFault::Unexpected(17)),
-        ),
-        (
-            b"MODULE M; VAR x: ; END M.",
-            Some(ParseFault::Unexpected(17)),
-        ),
-        (
-            b"MODULE M; VAR x: T END M.",
-            Some(ParseFault::Unexpected(19)),
-        ),
-        (
-            b"MODULE M; VAR x: T; VAR y: T; END M.",
-            Some(ParseFault::Unexpected(20)),
-        ),
-        (
-            b"MODULE M; PROCEDURE *; END P; END M.",
-            Some(ParseFault::Unexpected(20)),
-        ),
-        (
-            b"MODULE M; PROCEDURE P END P; END M.",
-            Some(ParseFault::Unexpected(22)),
-        ),
-        (
-            b"MODULE M; PROCEDURE P; VAR x: T; END P; END M.",
-            Some(ParseFault::Unexpected(23)),
-        ),
-        (
-            b"MODULE M; PROCEDURE P; END Q END",
-            Some(ParseFault::NameDiffers(27)),
-        ),
-        (
-            b"MODULE M; PROCEDURE P; END P END M.",
-            Some(ParseFault::Unexpected(29)),
-        ),
-        (
-            b"MODULE M; PROCEDURE P(; END P; END M.",
-            Some(ParseFault::Unexpected(22)),
-        ),
-        (
-            b"MODULE M; PROCEDURE P(VAR ); END P; END M.",
-            Some(ParseFault::Unexpected(26)),
-        ),
-        (
-            b"MODULE M; PROCEDURE P(a b: T); END P; END M.",
-            Some(ParseFault::Unexpected(24)),
-        ),
+        (b"", p1(0)),
+        (b"M", p1(0)),
+        (b"MODULE", p1(6)),
+        (b"MODULE ;", p1(7)),
+        (b"MODULE M END M.", p1(9)),
+        (b"MODULE M; x := 1 END M.", p1(10)),
+        (b"MODULE M; END", p1(13)),
+        (b"MODULE M; END N.", p3(14)),
+        (b"MODULE M; END N", p3(14)),
+        (b"MODULE M; END M", p1(15)),
+        (b"MODULE M; BEGIN END M;", p1(21)),
+        (b"MODULE M; END M. x", p1(17)),
+        (b"MODULE M; VAR x T; END M.", p1(16)),
+        (b"MODULE M; VAR x, : T; END M.", p1(17)),
+        (b"MODULE M; VAR x: ; END M.", p1(17)),
+        (b"MODULE M; VAR x: T END M.", p1(19)),
+        (b"MODULE M; VAR x: T; VAR y: T; END M.", p1(20)),
+        (b"MODULE M; PROCEDURE *; END P; END M.", p1(20)),
+        (b"MODULE M; PROCEDURE P END P; END M.", p1(22)),
+        (b"MODULE M; PROCEDURE P; VAR x: T; END P; END M.", p1(23)),
+        (b"MODULE M; PROCEDURE P; END Q END", p3(27)),
+        (b"MODULE M; PROCEDURE P; END P END M.", p1(29)),
+        (b"MODULE M; PROCEDURE P(; END P; END M.", p1(22)),
+        (b"MODULE M; PROCEDURE P(VAR ); END P; END M.", p1(26)),
+        (b"MODULE M; PROCEDURE P(a b: T); END P; END M.", p1(24)),
         (
             b"MODULE M; PROCEDURE P(a: T VAR b: T); END P; END M.",
-            Some(ParseFault::Unexpected(27)),
+            p1(27),
         ),
-        (
-            b"MODULE M; PROCEDURE P(a: T; ); END P; END M.",
-            Some(ParseFault::Unexpected(28)),
-        ),
-        (
-            b"MODULE M; BEGIN x = 1 END M.",
-            Some(ParseFault::Unexpected(18)),
-        ),
-        (
-            b"MODULE M; BEGIN x := END M.",
-            Some(ParseFault::Unexpected(21)),
-        ),
-        (
-            b"MODULE M; BEGIN x := - - 1 END M.",
-            Some(ParseFault::Unexpected(23)),
-        ),
-        (
-            b"MODULE M; BEGIN x := 1 + ; END M.",
-            Some(ParseFault::Unexpected(25)),
-        ),
-        (
-            b"MODULE M; BEGIN x := 1 2 END M.",
-            Some(ParseFault::Unexpected(23)),
-        ),
-        (
-            b"MODULE M; BEGIN x := 1 y := 2 END M.",
-            Some(ParseFault::Unexpected(23)),
-        ),
+        (b"MODULE M; PROCEDURE P(a: T; ); END P; END M.", p1(28)),
+        (b"MODULE M; BEGIN x = 1 END M.", p1(18)),
+        (b"MODULE M; BEGIN x := END M.", p1(21)),
+        (b"MODULE M; BEGIN x := - - 1 END M.", p1(23)),
+        (b"MODULE M; BEGIN x := 1 + ; END M.", p1(25)),
+        (b"MODULE M; BEGIN x := 1 2 END M.", p1(23)),
+        (b"MODULE M; BEGIN x := 1 y := 2 END M.", p1(23)),
     ];
     for (text, want) in texts {
         assert_eq!(rt; fault_of(rt.alloc(), text)?, want);
@@ -181,10 +129,31 @@ fn expect_sum(rt: &impl Abort, value: &Expr) {
     expect_one(rt, &rest[1].value, 91);
 }
 
+/// The procedure `P` of the module below.
+fn expect_procedure(rt: &impl Abort, procedure: &Procedure) -> Result<(), Fail> {
+    assert_eq!(rt; procedure.place, 26);
+    expect_name(rt, &procedure.name, "P", 36);
+    assert!(rt; procedure.is_exported);
+    expect_sections(rt, procedure.parameters.as_ref().ok_or("no parentheses")?);
+    expect_name(rt, &procedure.end_name, "P", 98);
+
+    let statements = procedure.body.as_ref().ok_or("no BEGIN")?;
+    assert_eq!(rt; statements.len(), 2);
+    match &statements[0] {
+        Stmt::Assign { target, value } => {
+            expect_name(rt, &target.name, "c", 77);
+            expect_sum(rt, value);
+        }
+        Stmt::Empty => panic!(rt; "no assignment"),
+    }
+    assert!(rt; matches!(&statements[1], Stmt::Empty));
+    Ok(())
+}
+
 #[test]
 fn reads_module(rt: HostRuntime) -> Result<(), Fail> {
-    let text = b"MODULE M; VAR x: INTEGER; PROCEDURE P*(a, b: INTEGER; VAR c: INTEGER); BEG\
-        IN c := -a + b - 1; END P; BEGIN x := 1 END M.";
+    let text = b"MODULE M; VAR x: INTEGER; PROCEDURE P*(a, b: INTEGER; VAR c: INTEGER); \
+        BEGIN c := -a + b - 1; END P; BEGIN x := 1 END M.";
     let tokens = scan(rt.alloc(), text)?;
     let module = parse(rt.alloc(), &tokens)?;
     expect_name(&rt, &module.name, "M", 7);
@@ -197,23 +166,7 @@ fn reads_module(rt: HostRuntime) -> Result<(), Fail> {
     expect_type(&rt, &variables[0].of_type, 17);
 
     assert_eq!(rt; module.declarations.procedures.len(), 1);
-    let procedure = &module.declarations.procedures[0];
-    assert_eq!(rt; procedure.place, 26);
-    expect_name(&rt, &procedure.name, "P", 36);
-    assert!(rt; procedure.is_exported);
-    expect_sections(&rt, procedure.parameters.as_ref().ok_or("no parentheses")?);
-    expect_name(&rt, &procedure.end_name, "P", 98);
-
-    let statements = procedure.body.as_ref().ok_or("no BEGIN")?;
-    assert_eq!(rt; statements.len(), 2);
-    match &statements[0] {
-        Stmt::Assign { target, value } => {
-            expect_name(&rt, &target.name, "c", 77);
-            expect_sum(&rt, value);
-        }
-        Stmt::Empty => panic!(rt; "no assignment"),
-    }
-    assert!(rt; matches!(&statements[1], Stmt::Empty));
+    expect_procedure(&rt, &module.declarations.procedures[0])?;
 
     let statements = module.body.as_ref().ok_or("no BEGIN")?;
     assert_eq!(rt; statements.len(), 1);
