@@ -2,15 +2,12 @@
 use Rattle.std.specs.Prelude.{List, map, string_bytes}
 use Rattle.ob_check.specs.declared.program.Formal.{Formal}
 use Rattle.ob_check.specs.declared.program.Export.{Export}
-use Rattle.ob_check.specs.Program.{Name, Parameter, Procedure, Program, exports}
+use Rattle.ob_check.specs.Program.{Name, Procedure, Program, formal_of, exports}
 
 -- what a caller knows of an exported procedure: its name, and of each parameter the mode and the type
 pub record Heading : Type 0 where
   pub name : Name
   pub parameters : List Formal
-
-abbrev pub formal_of : Parameter → Formal
-formal_of p = record { is_var = p.is_var; data_type = p.type }
 
 abbrev pub heading_of : Procedure → Heading
 heading_of p = record { name = p.name; parameters = map formal_of p.parameters }

@@ -7,3 +7,4 @@ pub mod Parts
 pub mod CheckFaults
 pub mod Exports
 pub mod CheckedModule
+pub mod Checking

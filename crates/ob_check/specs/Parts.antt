@@ -1,13 +1,13 @@
 -- The parts of a module, each with the names that are declared where it stands. The rules on faults speak of them.
-use Rattle.std.specs.Prelude.{◌≡◌, ℕ, suc, ◌+◌, List, [], ◌∷◌, ◌++◌, length, Option, Some, if◌then◌else◌}
+use Rattle.std.specs.Prelude.{◌≡◌, ℕ, suc, ◌+◌, List, [], ◌∷◌, ◌++◌, length, map, Option, Some, if◌then◌else◌}
 use Rattle.ob_syntax.specs.declared.tree.Sign.{Sign}
 use Rattle.ob_syntax.specs.declared.tree.Operator.{Operator}
 use Rattle.ob_syntax.specs.Tree
 use Rattle.ob_syntax.specs.Tree.{Expr, Operands, TypeExpr, Stmt, Stmts, VarDecl, Section, Heading, Procedures, Module}
 use Rattle.ob_check.specs.declared.program.DataType.{DataType}
 use Rattle.ob_check.specs.declared.program.DataType.TheVariants.{Integer}
-use Rattle.ob_check.specs.Program.{Parameter, Variable, Procedure}
-use Rattle.ob_check.specs.Scopes.{Environment, TypeName, ProcedureName, declared, variable_words}
+use Rattle.ob_check.specs.Program.{Parameter, Variable, Procedure, formal_of}
+use Rattle.ob_check.specs.Scopes.{Environment, TypeName, ProcedureName, no_names, declared, variable_words}
 use Rattle.ob_check.specs.Typing.{Variables, Parameters, Declares, listed, inner_scope, opening_names}
 
 pub data Part : Type 0 where
@@ -76,15 +76,15 @@ pub data Holds : Environment → Part → Environment → Part → Type 0 where
   procedure_name : {env : Environment} {n exported : ℕ} {heading : Heading} {body : Option Stmts} {end_name : Tree.Name} {rest : Procedures} →
       Holds env (SomeProcedures n exported (Tree.procedure heading body end_name rest)) env (New heading.name)
   sections : {env : Environment} {n exported : ℕ} {heading : Heading} {body : Option Stmts} {end_name : Tree.Name} {rest : Procedures} →
-      Holds env (SomeProcedures n exported (Tree.procedure heading body end_name rest)) ([] ∷ env) (SomeSections 0 (listed heading.parameters))
+      Holds env (SomeProcedures n exported (Tree.procedure heading body end_name rest)) (no_names ∷ env) (SomeSections 0 (listed heading.parameters))
   procedure_body : {env within : Environment} {n exported : ℕ} {heading : Heading} {body : Stmts} {end_name : Tree.Name} {rest : Procedures} {ps : List Parameter} →
-      Parameters ([] ∷ env) (listed heading.parameters) within ps →
+      Parameters (no_names ∷ env) (listed heading.parameters) within ps →
       Holds env (SomeProcedures n exported (Tree.procedure heading (Some body) end_name rest))
-      (inner_scope within (declared env heading.name.text (ProcedureName n ps))) (SomeStatements body)
+      (inner_scope within (declared env heading.name.text (ProcedureName n (map formal_of ps)))) (SomeStatements body)
   other_procedures : {env within : Environment} {n exported : ℕ} {heading : Heading} {body : Option Stmts} {end_name : Tree.Name} {rest : Procedures} {ps : List Parameter} →
-      Parameters ([] ∷ env) (listed heading.parameters) within ps →
+      Parameters (no_names ∷ env) (listed heading.parameters) within ps →
       Holds env (SomeProcedures n exported (Tree.procedure heading body end_name rest))
-      (declared env heading.name.text (ProcedureName n ps))
+      (declared env heading.name.text (ProcedureName n (map formal_of ps)))
       (SomeProcedures (suc n) (if heading.is_exported then suc exported else exported) rest)
 
 -- the second part stands in the first one, directly or further in

@@ -3,6 +3,7 @@ use Rattle.std.specs.Prelude.{ℕ, ℤ, Bool, List, filter}
 use Rattle.ob_check.specs.declared.program.DataType.{DataType}
 use Rattle.ob_check.specs.declared.program.Arithmetic.{Arithmetic}
 use Rattle.ob_check.specs.declared.program.Scalar.{Scalar}
+use Rattle.ob_check.specs.declared.program.Formal.{Formal}
 
 abbrev pub Name : Type 0
 Name = List ℕ
@@ -37,6 +38,10 @@ pub record Parameter : Type 0 where
   pub name : Name
   pub is_var : Bool
   pub type : DataType
+
+-- what a call has to know of a parameter
+abbrev pub formal_of : Parameter → Formal
+formal_of p = record { is_var = p.is_var; data_type = p.type }
 
 pub record Variable : Type 0 where
   pub name : Name

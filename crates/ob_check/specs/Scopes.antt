@@ -1,8 +1,9 @@
--- Declared names. The innermost scope comes first, and in a scope the last declaration.
+-- Declared names. The innermost scope comes first.
 use Rattle.std.specs.Prelude.{◌≡◌, ℕ, List, [], ◌∷◌, length, Option, Some, None, codes, bytes_eq, if◌then◌else◌, sum_by}
 use Rattle.ob_check.specs.declared.program.DataType.{DataType}
 use Rattle.ob_check.specs.declared.program.DataType.TheVariants.{Integer}
-use Rattle.ob_check.specs.Program.{Name, Parameter, Variable}
+use Rattle.ob_check.specs.declared.program.Formal.{Formal}
+use Rattle.ob_check.specs.Program.{Name, Variable}
 
 -- what a name stands for
 pub data Object : Type 0 where
@@ -10,22 +11,22 @@ pub data Object : Type 0 where
   ModuleVariable : (type : DataType) → Object
   -- a parameter of a procedure, with the number of scopes at its declaration
   LocalVariable : (level : ℕ) (type : DataType) → Object
-  ProcedureName : (number : ℕ) (parameters : List Parameter) → Object
+  ProcedureName : (number : ℕ) (parameters : List Formal) → Object
 
-pub record Entry : Type 0 where
-  pub name : Name
-  pub object : Object
-
+-- what each name that is declared in a scope stands for
 abbrev pub Scope : Type 0
-Scope = List Entry
+Scope = Name → Option Object
+
+-- a scope that declares nothing
+abbrev pub no_names : Scope
+no_names name = None
+
+-- a scope with one name more
+abbrev pub with_name : Scope → Name → Object → Scope
+with_name scope name object other = if bytes_eq name other then Some object else scope other
 
 abbrev pub Environment : Type 0
 Environment = List Scope
-
--- what a name stands for in one scope
-abbrev pub in_scope : Scope → Name → Option Object
-in_scope [] name = None
-in_scope (e ∷ scope) name = if bytes_eq e.name name then Some e.object else in_scope scope name
 
 -- the first, or else the second
 abbrev pub or_else : Option Object → Option Object → Option Object
@@ -35,17 +36,17 @@ or_else None other = other
 -- what a name stands for: inner names hide outer ones
 abbrev pub found : Environment → Name → Option Object
 found [] name = None
-found (scope ∷ outer) name = or_else (in_scope scope name) (found outer name)
+found (scope ∷ outer) name = or_else (scope name) (found outer name)
 
 -- the innermost scope does not declare this name
 abbrev pub IsNew : Environment → Name → Type 0
 IsNew [] name = Unit {0}
-IsNew (scope ∷ outer) name = in_scope scope name ≡ None
+IsNew (scope ∷ outer) name = scope name ≡ None
 
 -- with one name more in the innermost scope
 abbrev pub declared : Environment → Name → Object → Environment
-declared [] name object = (record { name = name; object = object } ∷ []) ∷ []
-declared (scope ∷ outer) name object = (record { name = name; object = object } ∷ scope) ∷ outer
+declared [] name object = with_name no_names name object ∷ []
+declared (scope ∷ outer) name object = with_name scope name object ∷ outer
 
 -- how many scopes there are: 1 is the outermost, 2 the module's
 abbrev pub level : Environment → ℕ
@@ -58,7 +59,7 @@ variable_in environment type = LocalVariable (level environment) type
 
 -- the outermost scope
 abbrev pub outermost : Scope
-outermost = record { name = codes "INTEGER"; object = TypeName Integer } ∷ []
+outermost = with_name no_names (codes "INTEGER") (TypeName Integer)
 
 -- the words of a type
 abbrev pub words : DataType → ℕ

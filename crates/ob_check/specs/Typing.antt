@@ -9,8 +9,8 @@ use Rattle.ob_check.specs.declared.program.DataType.TheVariants.{Integer}
 use Rattle.ob_check.specs.declared.program.Arithmetic.{Arithmetic}
 use Rattle.ob_check.specs.declared.program.Scalar.TheVariants.{Int}
 use Rattle.ob_check.specs.Program
-use Rattle.ob_check.specs.Program.{Name, Expression, Literal, ValueOf, Negated, Computed, Operations, Designator, OfModule, Own, Statement, Statements, Parameter, Variable, Procedure, exports}
-use Rattle.ob_check.specs.Scopes.{TypeName, ModuleVariable, LocalVariable, ProcedureName, Environment, found, IsNew, declared, level, variable_in, outermost, variable_words}
+use Rattle.ob_check.specs.Program.{Name, Expression, Literal, ValueOf, Negated, Computed, Operations, Designator, OfModule, Own, Statement, Statements, Parameter, Variable, Procedure, formal_of, exports}
+use Rattle.ob_check.specs.Scopes.{TypeName, ModuleVariable, LocalVariable, ProcedureName, Environment, no_names, found, IsNew, declared, level, variable_in, outermost, variable_words}
 
 -- `+` and `-`: two INTEGER give an INTEGER
 pub data IsArithmetic : Operator → Arithmetic → Type 0 where
@@ -115,11 +115,11 @@ pub data DeclaresProcedures : Environment → ℕ → Procedures → Environment
   procedure : {env within after : Environment} {n : ℕ} {heading : Heading} {body : Option Stmts} {end_name : Tree.Name} {rest : Procedures}
       {parameters : List Parameter} {statements : Statements} {others : List Procedure} →
       IsNew env heading.name.text →
-      Parameters ([] ∷ env) (listed heading.parameters) within parameters →
+      Parameters (no_names ∷ env) (listed heading.parameters) within parameters →
       length parameters ≤ 8 →
       -- the procedure's own name is visible in it, unless a parameter hides it
-      IsBody (inner_scope within (declared env heading.name.text (ProcedureName n parameters))) body statements →
-      DeclaresProcedures (declared env heading.name.text (ProcedureName n parameters)) (suc n) rest after others →
+      IsBody (inner_scope within (declared env heading.name.text (ProcedureName n (map formal_of parameters)))) body statements →
+      DeclaresProcedures (declared env heading.name.text (ProcedureName n (map formal_of parameters))) (suc n) rest after others →
       DeclaresProcedures env n (Tree.procedure heading body end_name rest) after
       (record { name = heading.name.text; is_exported = heading.is_exported; parameters = parameters; body = statements } ∷ others)
 
@@ -132,7 +132,7 @@ pub data Declares : Environment → Declarations → Environment → List Variab
 
 -- the names that a module's text begins under: its own scope, still empty, in the outermost one
 abbrev pub opening_names : Environment
-opening_names = [] ∷ outermost ∷ []
+opening_names = no_names ∷ outermost ∷ []
 
 -- a module is well typed as this program
 pub data WellTyped (m : Module) : Program.Program → Type 0 where

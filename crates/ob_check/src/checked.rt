@@ -23,6 +23,20 @@ pub struct Checked {
 impl Checked {
     ghost use Rattle.ob_check.specs.CheckedModule.{tree_in, program_in};
 
+    /// What was checked, with the exports of the program.
+    pub(crate) fn new(tree: Module, program: Program, exports: Vec<Export>) -> Checked
+        requires listed { map export_of exports.items ≡ headings (program_of program) }
+        requires typed { WellTyped (module_of tree) (program_of program) }
+        ensures tree { tree_in result ≡ module_of tree }
+        ensures program { program_in result ≡ program_of program }
+    {
+        Checked {
+            tree,
+            program,
+            exports,
+        }
+    }
+
     /// The tree that was checked.
     pub fn tree(&self) -> &Module
         ensures { module_of result.now ≡ tree_in self.now }

@@ -1,15 +1,32 @@
 //! The checker: from the tree of a module to its checked program.
 
-ghost use Rattle.std.specs.Prelude.{◌≡◌, IfOk, IfErr};
+ghost use Rattle.std.specs.Prelude.{◌≡◌, IfOk, IfErr, option_map};
 ghost use Rattle.ob_syntax.specs.View.{module_of};
-ghost use Rattle.ob_check.specs.Typing.{WellTyped};
+ghost use Rattle.ob_check.specs.Typing.{WellTyped, listed};
 ghost use Rattle.ob_check.specs.CheckedModule.{tree_in, program_in};
 ghost use Rattle.ob_check.specs.CheckFaults.{IsCheckFault};
+ghost use Rattle.ob_check.specs.View.{program_of};
+
+mod exports;
+mod expressions;
+mod names;
+mod procedures;
+mod scopes;
+mod statements;
+#[cfg(test)]
+mod tests;
+mod variables;
 
 use crate::checked::Checked;
+use crate::program::Program;
+use exports::exports_of;
 use ob_syntax::tree::Module;
+use procedures::declare_procedures;
+use scopes::Scopes;
+use statements::checked_body;
 use std::alloc::{AllocError, AllocFailed, Global};
 use thiserror::Error;
+use variables::declare_variables;
 
 /// Why a module is refused: the rule that fails. A place is a byte offset from 0.
 #[derive(Clone, Copy, Debug, PartialEq, Eq, Error)]
@@ -54,14 +71,41 @@ impl<T: Drop> From<AllocFailed<T>> for CheckFault {
     }
 }
 
-/// The checked program of a module that is well typed, with its tree unchanged.
-pub fn check(_alloc: Global, tree: Module) -> Result<Checked, CheckFault>
+/// The checked program of a module that is well typed, with its tree unchanged. Of several faults
+/// the first in the text is answered.
+pub fn check(alloc: Global, tree: Module) -> Result<Checked, CheckFault>
     ensures unchanged { IfOk result (λ c. tree_in c ≡ module_of tree) }
     ensures typed { IfOk result (λ c. WellTyped (module_of tree) (program_in c)) }
 
     // The rule fails at its place, and the module is not well typed.
     ensures fault { IfErr result (λ e. IsCheckFault (module_of tree) e) }
 {
-    let _tree = tree;
-    Err(CheckFault::NoMemory)
+    let program = checked_program(alloc, &tree)?;
+    let exports = exports_of(alloc, &program.procedures)?;
+    Ok(Checked::new(tree, program, exports))
+}
+
+fn checked_program(alloc: Global, tree: &Module) -> Result<Program, CheckFault>
+    ensures typed { IfOk result (λ p. WellTyped (module_of tree.now) (program_of p)) }
+    ensures fault { IfErr result (λ e. IsCheckFault (module_of tree.now) e) }
+{
+    let mut scopes = Scopes::new(alloc)?;
+    let variables = declare_variables(alloc, &mut scopes, listed(&tree.declarations.variables))?;
+    let procedures = declare_procedures(alloc, &mut scopes, &tree.declarations.procedures)?;
+    let body = checked_body(alloc, &scopes, &tree.body)?;
+    Ok(Program {
+        variables,
+        procedures,
+        body,
+    })
+}
+
+/// A list whose keyword or parentheses do not stand is empty.
+fn listed<T>(list: &Option<Vec<T>>) -> &[T]
+    ensures { result.now ≡ listed (option_map (λ v. v.items) list.now) }
+{
+    match list {
+        Some(items) => items.as_slice(),
+        None => &[],
+    }
 }

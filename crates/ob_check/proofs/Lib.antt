@@ -1,0 +1,14 @@
+pub mod Determined
+pub mod IllTyped
+pub mod Faults
+pub mod Looked
+pub mod Uses
+pub mod Exported
+pub mod Lists
+pub mod Sections
+pub mod Sums
+pub mod Exprs
+pub mod Bodies
+pub mod Declared
+pub mod Rows
+pub mod Modules

@@ -1,0 +1,89 @@
+-- A whole module: its program, and the faults of its parts.
+use Rattle.std.proofs.Common.{◌≡◌, ℕ, ◌≤◌, List, Option, Some, None, option_map, Vec, length, map, refl, sym, ap, subst, ◌∙◌}
+use Rattle.std.specs.declared.alloc.Global.{Global}
+use Rattle.ob_syntax.specs.declared.tree.Module.{Module}
+use Rattle.ob_syntax.specs.declared.tree.Procedure.{Procedure}
+use Rattle.ob_syntax.specs.declared.tree.VarDecl.{VarDecl}
+use Rattle.ob_syntax.specs.Tree
+use Rattle.ob_syntax.specs.View.{var_decl_of, procedures_in, stmts_in, module_of}
+use Rattle.ob_check.specs.declared.checker.CheckFault.{CheckFault}
+use Rattle.ob_check.specs.declared.checker.CheckFault.TheVariants.{UnknownName, DeclaredTwice, WrongKind, PassesLimit, NoMemory}
+use Rattle.ob_check.specs.Program as Program
+use Rattle.ob_check.specs.Program.{Variable, exports}
+use Rattle.ob_check.specs.Scopes.{Environment, variable_words}
+use Rattle.ob_check.specs.Typing as Typing
+use Rattle.ob_check.specs.Typing.{Variables, DeclaresProcedures, IsBody, WellTyped, listed, opening_names}
+use Rattle.ob_check.specs.Parts as Parts
+use Rattle.ob_check.specs.Parts.{Part, SomeVariables, SomeProcedures, SomeStatements, Within, Stands}
+use Rattle.ob_check.specs.CheckFaults.{BreaksRule, IsCheckFault}
+use Rattle.ob_check.specs.Checking.{FailsWithin, IsFaultIn, IsFaultInBody}
+use Rattle.ob_check.proofs.IllTyped.{ill_typed}
+
+pub no_memory : (m : Tree.Module) → IsCheckFault m NoMemory
+no_memory m = record { fails = tt; ill_typed = λ h program w. h }
+
+-- what stands in this part stands in the module
+abbrev StandsIn : Tree.Module → Environment → Part → Type 0
+StandsIn m env part = (inside : Environment) (innermost : Part) → Within env part inside innermost → Stands m inside innermost
+
+breaks : (m : Tree.Module) (env : Environment) (part : Part) (fault : CheckFault) → StandsIn m env part → FailsWithin env part fault → BreaksRule m fault
+breaks m env part fault up h = record { env = h.inside; part = h.innermost; stands = up h.inside h.innermost h.within; fails = h.fails }
+
+raised : (m : Tree.Module) (env : Environment) (part : Part) (e : CheckFault) → StandsIn m env part → IsFaultIn env part e → IsCheckFault m e
+raised m env part (UnknownName place) up h = let b = breaks m env part (UnknownName place) up h in record { fails = b; ill_typed = λ o. ill_typed m (UnknownName place) b }
+raised m env part (DeclaredTwice place) up h = let b = breaks m env part (DeclaredTwice place) up h in record { fails = b; ill_typed = λ o. ill_typed m (DeclaredTwice place) b }
+raised m env part (WrongKind place) up h = let b = breaks m env part (WrongKind place) up h in record { fails = b; ill_typed = λ o. ill_typed m (WrongKind place) b }
+raised m env part (PassesLimit place) up h = let b = breaks m env part (PassesLimit place) up h in record { fails = b; ill_typed = λ o. ill_typed m (PassesLimit place) b }
+raised m env part NoMemory up h = no_memory m
+
+listed_variables : (o : Option (Vec VarDecl Global)) → map var_decl_of (listed (option_map (λ v. v.items) o)) ≡ listed (option_map (λ vs. map var_decl_of vs.items) o)
+listed_variables None = refl
+listed_variables (Some v) = refl
+
+module _ (tree : Module) (start : Environment) (opening : start ≡ opening_names) (decls : List VarDecl) (listing : decls ≡ listed (option_map (λ v. v.items) tree.declarations.variables)) where
+  abbrev variables_in : Option (List Tree.VarDecl)
+  variables_in = option_map (λ vs. map var_decl_of vs.items) tree.declarations.variables
+
+  same_variables_in : map var_decl_of decls ≡ listed variables_in
+  same_variables_in = ap (map var_decl_of) listing ∙ listed_variables tree.declarations.variables
+
+  pub variables_raised : (e : CheckFault) → IsFaultIn start (SomeVariables 0 (map var_decl_of decls)) e → IsCheckFault (module_of tree) e
+  variables_raised e h =
+      let P : Environment → Type 0 = λ x. IsFaultIn x (SomeVariables 0 (map var_decl_of decls)) e in
+      let Q : List Tree.VarDecl → Type 0 = λ xs. IsFaultIn opening_names (SomeVariables 0 xs) e in
+      raised (module_of tree) opening_names (SomeVariables 0 (listed variables_in)) e (λ inside innermost w. Parts.in_variables refl w)
+      (subst Q same_variables_in (subst P opening h))
+
+  module _ (between : Environment) (vs : List Variable) (variables : Variables start (map var_decl_of decls) between vs)
+      (procedures : List Procedure) (slice : procedures ≡ tree.declarations.procedures.items) where
+    declared_variables : Variables opening_names (listed variables_in) between vs
+    declared_variables =
+        let P : Environment → Type 0 = λ x. Variables x (map var_decl_of decls) between vs in
+        let Q : List Tree.VarDecl → Type 0 = λ xs. Variables opening_names xs between vs in
+        subst Q same_variables_in (subst P opening variables)
+
+    pub procedures_raised : (e : CheckFault) → IsFaultIn between (SomeProcedures 0 0 (procedures_in procedures)) e → IsCheckFault (module_of tree) e
+    procedures_raised e h =
+        let P : List Procedure → Type 0 = λ ps. IsFaultIn between (SomeProcedures 0 0 (procedures_in ps)) e in
+        raised (module_of tree) between (SomeProcedures 0 0 (procedures_in tree.declarations.procedures.items)) e
+        (λ inside innermost w. Parts.in_procedures refl declared_variables w) (subst P slice h)
+
+    module _ (inside : Environment) (ps : List Program.Procedure) (declares : DeclaresProcedures between 0 (procedures_in procedures) inside ps) where
+      declared_all : Typing.Declares opening_names (module_of tree).declarations inside vs ps
+      declared_all =
+          let P : List Procedure → Type 0 = λ qs. DeclaresProcedures between 0 (procedures_in qs) inside ps in
+          Typing.declarations declared_variables (subst P slice declares)
+
+      body_stands : (body : Tree.Stmts) → (module_of tree).body ≡ Some body → (e : CheckFault) → IsFaultIn inside (SomeStatements body) e → IsCheckFault (module_of tree) e
+      body_stands body is e h = raised (module_of tree) inside (SomeStatements body) e (λ at innermost w. Parts.in_body is declared_all w) h
+
+      body_of : (body : Option Tree.Stmts) → (module_of tree).body ≡ body → (e : CheckFault) → IsFaultInBody inside body e → IsCheckFault (module_of tree) e
+      body_of None is e h = subst (IsCheckFault (module_of tree)) (sym h) (no_memory (module_of tree))
+      body_of (Some body) is e h = body_stands body is e h
+
+      pub body_raised : (e : CheckFault) → IsFaultInBody inside (module_of tree).body e → IsCheckFault (module_of tree) e
+      body_raised e h = body_of (module_of tree).body refl e h
+
+      pub module_typed : (body : Program.Statements) → variable_words vs ≤ 4096 → length (exports (record { variables = vs; procedures = ps; body = body })) ≤ 64 →
+          IsBody inside (module_of tree).body body → WellTyped (module_of tree) (record { variables = vs; procedures = ps; body = body })
+      module_typed body words limit h = Typing.well_typed declared_all words limit h

@@ -1,0 +1,99 @@
+-- What the parts of the checker answer.
+use Rattle.std.specs.Prelude.{◌≡◌, ℕ, ◌++◌, Bool, true, false, List, [], ◌∷◌, map, Option, Some, None, option_map, String}
+use Rattle.std.specs.declared.alloc.Global.{Global}
+use Rattle.indexmap.specs.IndexMap.{IndexMap, get_by_text}
+use Rattle.ob_syntax.specs.declared.tree.Operand.{Operand}
+use Rattle.ob_syntax.specs.Tree
+use Rattle.ob_syntax.specs.declared.tree.Procedure.{Procedure}
+use Rattle.ob_syntax.specs.View.{name_of, expr_of, stmts_in, heading_of}
+use Rattle.ob_check.specs.declared.checker.CheckFault.{CheckFault}
+use Rattle.ob_check.specs.declared.checker.CheckFault.TheVariants.{NoMemory}
+use Rattle.ob_check.specs.declared.checker.scopes.Object.{Object}
+use Rattle.ob_check.specs.declared.checker.scopes.Object.TheVariants as Objects
+use Rattle.ob_check.specs.declared.checker.scopes.Scopes.{Scopes}
+use Rattle.ob_check.specs.declared.program.DataType.{DataType}
+use Rattle.ob_check.specs.declared.program.Operation.{Operation}
+use Rattle.ob_check.specs.Program as Programs
+use Rattle.ob_check.specs.Program.{Name, Variable, Parameter}
+use Rattle.ob_check.specs.Scopes as Declared
+use Rattle.ob_check.specs.Scopes.{Environment, Scope, TypeName, ModuleVariable, LocalVariable, ProcedureName}
+use Rattle.ob_check.specs.Typing.{Denotes, Names, section_parameters}
+use Rattle.ob_check.specs.Parts.{Part, SomeStatements, Within}
+use Rattle.ob_check.specs.CheckFaults.{Fails}
+use Rattle.ob_check.specs.View.{expression_of}
+
+-- what an object of the program stands for, in a procedure's own scope or in one of those around it
+abbrev pub meaning_of : Bool → Object → Declared.Object
+meaning_of is_own (Objects.Type t) = TypeName t
+meaning_of true (Objects.Variable t) = LocalVariable 3 t
+meaning_of false (Objects.Variable t) = ModuleVariable t
+meaning_of is_own (Objects.Procedure number parameters) = ProcedureName number parameters.items
+
+abbrev pub scope_of : {S : Type 0} → Bool → IndexMap (String Global) Object S → Scope
+scope_of is_own names name = option_map (meaning_of is_own) (get_by_text names name)
+
+abbrev pub scopes_around : {S : Type 0} → Option (IndexMap (String Global) Object S) → Environment → Environment
+scopes_around None outer = outer
+scopes_around (Some own) outer = scope_of true own ∷ outer
+
+-- the names that the scopes of the program declare
+abbrev pub env_of : Scopes → Environment
+env_of s = scopes_around s.own (scope_of false s.module ∷ scope_of false s.outermost ∷ [])
+
+-- the names around the innermost scope
+abbrev pub outer : Environment → Environment
+outer [] = []
+outer (scope ∷ env) = env
+
+-- a rule fails within this part
+pub record FailsWithin (env : Environment) (part : Part) (fault : CheckFault) : Type 0 where
+  pub inside : Environment
+  pub innermost : Part
+  pub within : Within env part inside innermost
+  pub fails : Fails inside innermost fault
+
+-- a fault of this part: a rule fails within it, or memory is wanted
+abbrev pub IsFaultIn : Environment → Part → CheckFault → Type 0
+IsFaultIn env part NoMemory = Unit {0}
+IsFaultIn env part fault = FailsWithin env part fault
+
+-- the same of a body, which has none where BEGIN does not stand
+abbrev pub IsFaultInBody : Environment → Option Tree.Stmts → CheckFault → Type 0
+IsFaultInBody env None fault = fault ≡ NoMemory
+IsFaultInBody env (Some body) fault = IsFaultIn env (SomeStatements body) fault
+
+-- this fault, and then this fact, or want of memory
+abbrev pub IsFault : CheckFault → Type 0 → CheckFault → Type 0
+IsFault expected P NoMemory = Unit {0}
+IsFault expected P fault = (fault ≡ expected) × P
+
+-- variables of one type
+abbrev pub called : DataType → List Tree.Name → List Variable
+called t names = map (λ n. record { name = n.text; type = t }) names
+
+-- a declaration of variables leads on to these names, and adds its variables
+pub record AddsVariables (env : Environment) (x : Tree.VarDecl) (after : Environment) (old new : List Variable) : Type 0 where
+  pub type : DataType
+  pub denotes : Denotes env x.of_type type
+  pub names : Names env x.names type after (called type x.names)
+  pub added : new ≡ old ++ called type x.names
+
+-- the same of a section and its parameters
+pub record AddsParameters (env : Environment) (x : Tree.Section) (after : Environment) (old new : List Parameter) : Type 0 where
+  pub type : DataType
+  pub denotes : Denotes env x.of_type type
+  pub names : Names env x.names type after (called type x.names)
+  pub added : new ≡ old ++ section_parameters x.is_var (called type x.names)
+
+-- a procedure before others
+abbrev pub in_front : Procedure → Tree.Procedures → Tree.Procedures
+in_front p rest = Tree.procedure (heading_of p) (option_map (λ b. stmts_in b.items) p.body) (name_of p.end_name) rest
+
+-- operands that stand outside an expression
+abbrev pub operands_in : List Operand → Tree.Operands
+operands_in [] = Tree.no_operand
+operands_in (o ∷ rest) = Tree.operand o.operator o.place (expr_of o.value) (operands_in rest)
+
+abbrev pub operations_in : List Operation → Programs.Operations
+operations_in [] = Programs.no_operation
+operations_in (o ∷ rest) = Programs.operation o.operator (expression_of o.operand) (operations_in rest)

@@ -1,0 +1,83 @@
+//! Expressions. Their operands are taken one after another, so that a long sum is no deep recursion.
+
+ghost use Rattle.std.specs.Prelude.{◌≡◌, IfOk, IfErr};
+ghost use Rattle.ob_syntax.specs.View.{expr_of};
+ghost use Rattle.ob_check.specs.declared.program.DataType.TheVariants.{Integer};
+ghost use Rattle.ob_check.specs.Typing.{HasType, AreOperands, IsArithmetic, with_sign};
+ghost use Rattle.ob_check.specs.Parts.{AnExpression, SomeOperands};
+ghost use Rattle.ob_check.specs.Checking.{env_of, IsFaultIn, operands_in, operations_in};
+ghost use Rattle.ob_check.specs.View.{expression_of};
+
+use super::CheckFault;
+use super::names::variable_named;
+use super::scopes::Scopes;
+use crate::program::{Arithmetic, Expression, Operation, Scalar};
+use ob_syntax::tree::{Expr, Operand, Operator, Sign};
+use std::alloc::{AllocError, Global};
+
+/// The checked expression of INTEGER, which is the only type.
+#[cycle(expression)]
+pub fn expression(alloc: Global, scopes: &Scopes, expr: &Expr) -> Result<Expression, CheckFault>
+    ensures typed { IfOk result (λ x. HasType (env_of scopes.now) (expr_of expr.now) Integer (expression_of x)) }
+    ensures fault { IfErr result (λ e. IsFaultIn (env_of scopes.now) (AnExpression (expr_of expr.now)) e) }
+{
+    match expr {
+        Expr::Number { value, .. } => Ok(Expression::Literal(Scalar::Int(*value))),
+        Expr::Named(designator) => {
+            let (data_type, variable) = variable_named(scopes, &designator.name)?;
+            Ok(Expression::ValueOf {
+                data_type,
+                variable,
+            })
+        }
+        Expr::Sum { sign, first, rest } => {
+            let first = expression(alloc, scopes, first)?;
+            let first = signed(alloc, *sign, first)?;
+            let rest = operations(alloc, scopes, rest)?;
+            let first = Box::new(alloc, first)?;
+            Ok(Expression::Computed { first, rest })
+        }
+    }
+}
+
+/// The operators and operands behind a first operand.
+#[cycle(expression)]
+fn operations(
+    alloc: Global,
+    scopes: &Scopes,
+    operands: &[Operand],
+) -> Result<Vec<Operation>, CheckFault>
+    ensures typed { IfOk result (λ x. AreOperands (env_of scopes.now) (operands_in operands.now) (operations_in x.items)) }
+    ensures fault { IfErr result (λ e. IsFaultIn (env_of scopes.now) (SomeOperands (operands_in operands.now)) e) }
+{
+    let mut operations = Vec::new(alloc);
+    for o in operands {
+        let operator = arithmetic(o.operator);
+        let operand = expression(alloc, scopes, &o.value)?;
+        operations.push(Operation { operator, operand })?;
+    }
+    Ok(operations)
+}
+
+/// An expression behind a sign; `+` leaves it as it is.
+fn signed(
+    alloc: Global,
+    sign: Option<Sign>,
+    operand: Expression,
+) -> Result<Expression, AllocError>
+    ensures { IfOk result (λ x. expression_of x ≡ with_sign sign (expression_of operand)) }
+{
+    match sign {
+        Some(Sign { is_minus: true, .. }) => Ok(Expression::Negated(Box::new(alloc, operand)?)),
+        _ => Ok(operand),
+    }
+}
+
+fn arithmetic(operator: Operator) -> Arithmetic
+    ensures { IsArithmetic operator result }
+{
+    match operator {
+        Operator::Plus => Arithmetic::Plus,
+        Operator::Minus => Arithmetic::Minus,
+    }
+}
