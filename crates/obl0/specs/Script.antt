@@ -1,5 +1,5 @@
 -- Scripts: what each line says, of calls on the exports of a module by so many processes.
-use Rattle.std.specs.Prelude.{◌≡◌, ℕ, ℤ, pos, negsuc, neg_ℤ, suc, pred, ◌-◌, ◌<◌, ◌≤◌, ◌≤ℤ◌, ◌==◌, ◌||◌, not, Bool, true, IsTrue, List, [], ◌∷◌, length, map, filter, take, slice_get, bytes_eq, codes, if◌then◌else◌, Option, Some, None, option_map}
+use Rattle.std.specs.Prelude.{◌≡◌, ℕ, ℤ, pos, neg_ℤ, suc, ◌-◌, ◌<◌, ◌≤◌, ◌==◌, ◌||◌, not, Bool, IsTrue, List, [], ◌∷◌, length, map, filter, take, slice_get, bytes_eq, if◌then◌else◌, Option, Some, None, option_map}
 use Rattle.std.specs.List.{list_all, slice_split}
 use Rattle.std.specs.Char.{is_ascii_digit}
 use Rattle.ob_syntax.specs.declared.scan.token.Kind.{Kind}

@@ -1,7 +1,7 @@
 -- A sequential run: from the bytes of a module and of a script to the bytes that are printed.
-use Rattle.std.specs.Prelude.{◌≡◌, ℕ, suc, List, [], map, take, slice_get, Some}
+use Rattle.std.specs.Prelude.{◌≡◌, ◌≢◌, ℕ, suc, List, [], map, take, slice_get, Some}
 use Rattle.ob_syntax.specs.declared.scan.token.Token.{Token}
-use Rattle.ob_syntax.specs.Tokens.{HasTokens, TokenizedText}
+use Rattle.ob_syntax.specs.Tokens.{HasTokens}
 use Rattle.ob_syntax.specs.ScanFaults.{IsScanFault}
 use Rattle.ob_syntax.specs.Tree
 use Rattle.ob_syntax.specs.Lexemes.{lexemes}
@@ -16,6 +16,11 @@ use Rattle.ob_mean.specs.Object.{Reply, State, IsOpening, AreReplies}
 use Rattle.ob_mean.specs.Faults.{IsOpenFault, NeedsMoreAt}
 use Rattle.obl0.specs.Script.{ScriptCall, IsScript, IsScriptFault}
 use Rattle.obl0.specs.ReplyLines.{reply_lines, count_of}
+use Rattle.ob_syntax.specs.declared.scan.fault.ScanFault.TheVariants as Scan
+use Rattle.ob_syntax.specs.declared.parser.ParseFault.TheVariants as Parse
+use Rattle.ob_check.specs.declared.checker.CheckFault.TheVariants as Check
+use Rattle.ob_mean.specs.declared.opening.OpenFault.TheVariants as Open
+use Rattle.obl0.specs.declared.script.ScriptFault.TheVariants as Script
 use Rattle.obl0.specs.declared.sequential.SeqTextFault.{SeqTextFault}
 use Rattle.obl0.specs.declared.sequential.SeqTextFault.TheVariants as Faults
 
@@ -53,12 +58,13 @@ pub record IsParseFaultOf (text : List ℕ) (fault : _) : Type 0 where
   pub scanned : HasTokens text tokens
   pub fails : IsParseFault (record { text = text; tokens = tokens }) fault
 
--- a check fault of a text with its tree
+-- a check fault of a text with its tree, whose names after END agree
 pub record IsCheckFaultOf (text : List ℕ) (fault : _) : Type 0 where
   pub tokens : List Token
   pub tree : Tree.Module
   pub scanned : HasTokens text tokens
   pub derived : Derives (lexemes text tokens) tree
+  pub agrees : KeepsConditions tree
   pub fails : IsCheckFault tree fault
 
 -- the opening of a text's program fails
@@ -97,3 +103,13 @@ IsSeqTextFault text script (Faults.Open e) = IsOpenFaultOf text e
 IsSeqTextFault text script (Faults.Script e) = IsScriptFaultOf text script e
 IsSeqTextFault text script (Faults.NeedsMore process number) = NeedsMoreTurns text script process number
 IsSeqTextFault text script Faults.NoMemory = Unit {0}
+
+-- want of memory is told by its own variant alone
+abbrev pub TellsMemoryApart : SeqTextFault → Type 0
+TellsMemoryApart (Faults.Scan e) = e ≢ Scan.NoMemory
+TellsMemoryApart (Faults.Parse e) = e ≢ Parse.NoMemory
+TellsMemoryApart (Faults.Check e) = e ≢ Check.NoMemory
+TellsMemoryApart (Faults.Open e) = e ≢ Open.NoMemory
+TellsMemoryApart (Faults.Script e) = e ≢ Script.NoMemory
+TellsMemoryApart (Faults.NeedsMore process number) = Unit {0}
+TellsMemoryApart Faults.NoMemory = Unit {0}

@@ -6,6 +6,13 @@ ghost use Rattle.ob_check.specs.Exports.{headings};
 ghost use Rattle.obl0.specs.Script.{IsScript, IsScriptFault};
 ghost use Rattle.obl0.specs.ScriptView.{script_call_of};
 
+mod line;
+#[cfg(test)]
+mod tests;
+mod words;
+
+use crate::script::line::read_line;
+use crate::script::words::words_of;
 use ob_check::checked::Checked;
 use ob_mean::call::Call;
 use std::alloc::{AllocError, AllocFailed, Global};
@@ -38,9 +45,31 @@ pub enum ScriptFault {
     NoMemory,
 }
 
+impl From<AllocError> for ScriptFault {
+    ghost use Rattle.std.specs.Prelude.{◌≡◌};
+    ghost use Rattle.obl0.specs.declared.script.ScriptFault.TheVariants.{NoMemory};
+
+    ghost from_gives = { λ _ e. e ≡ NoMemory };
+
+    fn from(_: AllocError) -> ScriptFault {
+        ScriptFault::NoMemory
+    }
+}
+
+impl<T: Drop> From<AllocFailed<T>> for ScriptFault {
+    ghost use Rattle.std.specs.Prelude.{◌≡◌};
+    ghost use Rattle.obl0.specs.declared.script.ScriptFault.TheVariants.{NoMemory};
+
+    ghost from_gives = { λ _ e. e ≡ NoMemory };
+
+    fn from(_: AllocFailed<T>) -> ScriptFault {
+        ScriptFault::NoMemory
+    }
+}
+
 /// The calls of a script on a module's exports, by processes below `processes`, in line order.
 pub fn read_script(
-    _alloc: Global,
+    alloc: Global,
     checked: &Checked,
     processes: usize,
     text: &[u8],
@@ -48,5 +77,13 @@ pub fn read_script(
     ensures script { IfOk result (λ calls. IsScript (headings (program_in checked.now)) processes text.now (map script_call_of calls.items)) }
     ensures fault { IfErr result (λ e. IsScriptFault (headings (program_in checked.now)) processes text.now e) }
 {
-    Err(ScriptFault::NoMemory)
+    let exports = checked.exports();
+    let mut calls = Vec::new(alloc);
+    for (index, line) in text.split(|byte| *byte == b'\n').enumerate() {
+        let words = words_of(alloc, line)?;
+        if let Some(call) = read_line(alloc, exports, processes, index + 1, &words)? {
+            calls.push(call)?;
+        }
+    }
+    Ok(calls)
 }

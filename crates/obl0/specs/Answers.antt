@@ -1,0 +1,53 @@
+-- What the program answers to a request, by what reads of files give.
+use Rattle.std.specs.Prelude.{◌≡◌, ℕ, false, List, [], ◌++◌, Result, Ok, Err, codes, string_bytes}
+use Rattle.obl0.specs.declared.answered.Answer.{Answer}
+use Rattle.obl0.specs.declared.files.FileFault.{FileFault}
+use Rattle.obl0.specs.declared.files.FileFault.TheVariants.{Unreadable}
+use Rattle.obl0.specs.declared.sequential.SeqTextFault.{SeqTextFault}
+use Rattle.obl0.specs.SequentialRun.{IsSequentialRun, IsSeqTextFault}
+use Rattle.obl0.specs.MemoryFaults.{is_memory_fault}
+use Rattle.obl0.specs.CommandLine.{Text, Request, Seq, Help, Unclear}
+
+-- only text on standard output, and status 0
+pub record IsPrinted (answer : Answer) (text : Text) : Type 0 where
+  pub status : answer.status ≡ 0
+  pub out : string_bytes answer.out ≡ text
+  pub err : string_bytes answer.err ≡ []
+
+-- only text on standard error, and another status
+pub record IsRefused (answer : Answer) (number : ℕ) (text : Text) : Type 0 where
+  pub status : answer.status ≡ number
+  pub out : string_bytes answer.out ≡ []
+  pub err : string_bytes answer.err ≡ text
+
+-- a file can't be read
+abbrev pub IsUnreadable : Answer → Text → Type 0
+IsUnreadable answer name = IsRefused answer 3 (codes "cannot read " ++ name ++ codes "\n")
+
+-- to the bytes of a module and of a script: the lines of the sequential run, or one line on the fault, which is not want
+-- of memory
+pub data IsSeqAnswer (module_bytes script_bytes : List ℕ) (answer : Answer) : Type 0 where
+  run : (lines : Text) → IsSequentialRun module_bytes script_bytes lines →
+      IsPrinted answer lines → IsSeqAnswer module_bytes script_bytes answer
+  fault : (e : SeqTextFault) (line : Text) → IsSeqTextFault module_bytes script_bytes e → is_memory_fault e ≡ false →
+      IsRefused answer 1 (line ++ codes "\n") → IsSeqAnswer module_bytes script_bytes answer
+
+-- Of a read: the state before, the file's name, what was answered, and the state after.
+module _ {F : Type 0} (Reads : F → Text → Result (List ℕ) FileFault → F → Type 0) where
+  -- the module's file is read and then the script's, and then the answer is made of their bytes; the first that can't be
+  -- read is the answer
+  pub data IsSeqOutcome (before : F) (module_name script_name : Text) (answer : Answer) (after : F) : Type 0 where
+    no_module : Reads before module_name (Err Unreadable) after → IsUnreadable answer module_name →
+        IsSeqOutcome before module_name script_name answer after
+    no_script : (module_bytes : List ℕ) (between : F) →
+        Reads before module_name (Ok module_bytes) between → Reads between script_name (Err Unreadable) after →
+        IsUnreadable answer script_name → IsSeqOutcome before module_name script_name answer after
+    both : (module_bytes script_bytes : List ℕ) (between : F) →
+        Reads before module_name (Ok module_bytes) between → Reads between script_name (Ok script_bytes) after →
+        IsSeqAnswer module_bytes script_bytes answer → IsSeqOutcome before module_name script_name answer after
+
+  -- the answer to a request; no file is read but for a command
+  abbrev pub IsAnswer : Request → F → Answer → F → Type 0
+  IsAnswer (Seq module_name script_name) before answer after = IsSeqOutcome before module_name script_name answer after
+  IsAnswer Help before answer after = (text : Text) × IsPrinted answer text × (after ≡ before)
+  IsAnswer Unclear before answer after = (text : Text) × IsRefused answer 2 text × (after ≡ before)

@@ -1,0 +1,20 @@
+-- The command line in the words of clap.
+use Rattle.std.specs.Prelude.{true, [], codes}
+use Rattle.clap.specs.Words.{App, Rule, Shape, Text, new_app, new_rule, with_rule, with_subcommand}
+
+abbrev pub name_rule : Text → Rule
+name_rule id = record (new_rule id) { required = true }
+
+abbrev pub seq_app : App
+seq_app = with_rule (with_rule (new_app (codes "seq")) (name_rule (codes "MODULE"))) (name_rule (codes "SCRIPT"))
+
+abbrev pub top_shape : Shape
+top_shape = record (new_app (codes "obl0")).top {
+  no_binary_name = true;
+  disable_help_subcommand = true;
+  arg_required_else_help = true;
+  subcommand_required = true;
+}
+
+abbrev pub obl0_app : App
+obl0_app = with_subcommand (record { top = top_shape; subs = [] }) seq_app.top

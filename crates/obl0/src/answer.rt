@@ -1,0 +1,109 @@
+//! From the words of the command line to what the program prints and its exit status.
+
+ghost use Rattle.std.specs.Prelude.{◌≡◌, ◌∷◌, [], false, IfOk, map, codes};
+ghost use Rattle.obl0.specs.Answers.{IsAnswer, IsSeqAnswer, IsSeqOutcome, IsUnreadable};
+ghost use Rattle.obl0.specs.CommandLine.{Text, is_option, request};
+ghost use Rattle.obl0.specs.Commands.{request_of};
+ghost use Rattle.obl0.specs.MemoryFaults.{is_memory_fault};
+
+use crate::answered::Answer;
+use crate::command::{Command, Stop, read_command};
+use crate::files::{FileFault, Files};
+use crate::script::ScriptFault;
+use crate::sequential::{SeqTextFault, seq_text};
+use ob_check::checker::CheckFault;
+use ob_mean::opening::OpenFault;
+use ob_syntax::NoMemory;
+use ob_syntax::parser::ParseFault;
+use ob_syntax::scan::ScanFault;
+use std::alloc::{AllocError, Global};
+
+/// The answer to the words behind the program's name. Files are read in the order in which the words
+/// name them, before anything is made of them.
+pub fn answer<F: Files>(alloc: Global, words: &[&str], files: &mut F) -> Result<Answer, NoMemory>
+    // To any words: what they ask for is answered.
+    ensures asked { IfOk result (λ a. IsAnswer F.reads (request (map (λ word. word.now) words.now)) files.old a files.new) }
+
+    // To `seq` and two names: the outcome of these two files.
+    ensures seq { (m s : Text) → map (λ word. word.now) words.now ≡ codes "seq" ∷ m ∷ s ∷ [] → is_option m ≡ false → is_option s ≡ false
+        → IfOk result (λ a. IsSeqOutcome F.reads files.old m s a files.new) }
+{
+    match read_command(alloc, words) {
+        Ok(command) => obey(alloc, command, files),
+        Err(Stop::Help(text)) => Ok(Answer::printed(alloc, text)),
+        Err(Stop::Unclear(text)) => Ok(Answer::refused(alloc, 2, text)),
+        Err(Stop::NoMemory) => Err(NoMemory),
+    }
+}
+
+/// The answer to a command.
+fn obey<F: Files>(alloc: Global, command: Command<'_>, files: &mut F) -> Result<Answer, NoMemory>
+    ensures { IfOk result (λ a. IsAnswer F.reads (request_of command.entry) files.old a files.new) }
+{
+    match command {
+        Command::Seq {
+            module_name,
+            script_name,
+        } => obey_seq(alloc, module_name, script_name, files),
+    }
+}
+
+/// The answer to `seq`, of the names of its files.
+fn obey_seq<F: Files>(
+    alloc: Global,
+    module_name: &str,
+    script_name: &str,
+    files: &mut F,
+) -> Result<Answer, NoMemory>
+    ensures { IfOk result (λ a. IsSeqOutcome F.reads files.old module_name.now script_name.now a files.new) }
+{
+    let module = match files.read(module_name) {
+        Ok(bytes) => bytes,
+        Err(FileFault::Unreadable) => return Ok(unreadable(alloc, module_name)?),
+        Err(FileFault::NoMemory) => return Err(NoMemory),
+    };
+    let script = match files.read(script_name) {
+        Ok(bytes) => bytes,
+        Err(FileFault::Unreadable) => return Ok(unreadable(alloc, script_name)?),
+        Err(FileFault::NoMemory) => return Err(NoMemory),
+    };
+    answer_seq(alloc, module.as_slice(), script.as_slice())
+}
+
+/// The answer where a file can't be read.
+fn unreadable(alloc: Global, name: &str) -> Result<Answer, AllocError>
+    ensures { IfOk result (λ a. IsUnreadable a name.now) }
+{
+    let line = format!(in alloc; "cannot read {name}\n")?;
+    Ok(Answer::refused(alloc, 3, line))
+}
+
+/// The answer to the texts of a module and of a script.
+fn answer_seq(alloc: Global, module: &[u8], script: &[u8]) -> Result<Answer, NoMemory>
+    ensures { IfOk result (IsSeqAnswer «module».now script.now) }
+{
+    match seq_text(alloc, module, script) {
+        Ok(lines) => Ok(Answer::printed(alloc, lines)),
+        Err(fault) if wants_memory(fault) => Err(NoMemory),
+        Err(fault) => {
+            let mut line = fault.to_string(alloc)?;
+            line.push('\n')?;
+            Ok(Answer::refused(alloc, 1, line))
+        }
+    }
+}
+
+/// Whether a fault is want of memory, at whatever step.
+fn wants_memory(fault: SeqTextFault) -> bool
+    ensures { result ≡ is_memory_fault fault }
+{
+    matches!(
+        fault,
+        SeqTextFault::Scan(ScanFault::NoMemory)
+            | SeqTextFault::Parse(ParseFault::NoMemory)
+            | SeqTextFault::Check(CheckFault::NoMemory)
+            | SeqTextFault::Open(OpenFault::NoMemory)
+            | SeqTextFault::Script(ScriptFault::NoMemory)
+            | SeqTextFault::NoMemory
+    )
+}
