@@ -1,5 +1,5 @@
 -- Statements, one after another.
-use Rattle.std.proofs.Common.{◌≡◌, List, [], ◌∷◌, ◌++◌, refl, ap, sym, subst, ◌∙◌}
+use Rattle.std.proofs.Common.{◌≡◌, List, [], ◌∷◌, ◌++◌, refl, ap, sym, subst}
 use Rattle.ob_syntax.specs.declared.tree.Designator.{Designator}
 use Rattle.ob_syntax.specs.declared.tree.Expr.{Expr}
 use Rattle.ob_syntax.specs.declared.tree.Stmt.{Stmt}

@@ -1,5 +1,5 @@
 -- Names that are declared one after another, and the faults among them.
-use Rattle.std.proofs.Common.{◌≡◌, ℕ, ◌+◌, ◌*◌, ◌-◌, ◌<◌, ◌≤◌, suc, List, [], ◌∷◌, ◌++◌, length, map, refl, sym, ap, subst, ◌∙◌, arith, Bool, append_assoc}
+use Rattle.std.proofs.Common.{◌≡◌, ℕ, ◌+◌, ◌*◌, ◌-◌, ◌<◌, ◌≤◌, suc, List, [], ◌∷◌, ◌++◌, length, sym, ap, subst, ◌∙◌, arith, Bool, append_assoc}
 use Rattle.std.proofs.lemmas.List.{map-append, length-append, length-map}
 use Rattle.ob_syntax.specs.Tree
 use Rattle.ob_syntax.specs.Tree.{VarDecl, Section}
@@ -80,8 +80,8 @@ parameters_more t is_var old now new names more name p e h pushed same =
     let of = λ (ns : List Tree.Name). section_parameters is_var (called t ns) in
     let last : Parameter = record { name = name.text; is_var = is_var; type = t } in
     let parts : of (names ++ name ∷ []) ≡ of names ++ last ∷ [] =
-        ap (section_parameters is_var) (map-append (λ (n : Tree.Name). record { name = n.text; type = t }) names (name ∷ []))
-        ∙ map-append (λ (u : Variable). record { name = u.name; is_var = is_var; type = u.type }) (called t names) (record { name = name.text; type = t } ∷ []) in
+    ap (section_parameters is_var) (map-append (λ (n : Tree.Name). record { name = n.text; type = t }) names (name ∷ []))
+    ∙ map-append (λ (u : Variable). record { name = u.name; is_var = is_var; type = u.type }) (called t names) (record { name = name.text; type = t } ∷ []) in
     pushed ∙ ap (λ ps. ps ++ p ∷ []) h ∙ ap (λ q. (old ++ of names) ++ q ∷ []) same ∙ append_assoc old (of names) (last ∷ [])
     ∙ ap (λ ps. old ++ ps) (sym parts ∙ ap of (sym e))
 

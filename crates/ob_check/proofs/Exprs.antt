@@ -1,5 +1,5 @@
 -- Expressions and their operands, one after another.
-use Rattle.std.proofs.Common.{◌≡◌, ℕ, ℤ, List, [], ◌∷◌, ◌++◌, refl, ap, sym, subst, ◌∙◌, Box, Vec, Option}
+use Rattle.std.proofs.Common.{◌≡◌, ℕ, ℤ, List, ◌∷◌, refl, ap, sym, subst, ◌∙◌, Box, Vec, Option}
 use Rattle.std.specs.declared.alloc.Global.{Global}
 use Rattle.ob_syntax.specs.declared.tree.Designator.{Designator}
 use Rattle.ob_syntax.specs.declared.tree.Expr.{Expr}
@@ -12,7 +12,6 @@ use Rattle.ob_check.specs.declared.checker.CheckFault.{CheckFault}
 use Rattle.ob_check.specs.declared.program.Arithmetic.{Arithmetic}
 use Rattle.ob_check.specs.declared.program.DataType.{DataType}
 use Rattle.ob_check.specs.declared.program.DataType.TheVariants.{Integer}
-use Rattle.ob_check.specs.declared.program.Designator as Programs
 use Rattle.ob_check.specs.declared.program.Expression.{Expression}
 use Rattle.ob_check.specs.declared.program.Expression.TheVariants as Expressions
 use Rattle.ob_check.specs.declared.program.Operation.{Operation}
@@ -23,7 +22,7 @@ use Rattle.ob_check.specs.Typing as Typing
 use Rattle.ob_check.specs.Typing.{IsVariable, HasType, AreOperands, IsArithmetic, with_sign}
 use Rattle.ob_check.specs.Parts as Parts
 use Rattle.ob_check.specs.Parts.{AVariable, AnExpression, SomeOperands}
-use Rattle.ob_check.specs.View.{designator_of, expression_of}
+use Rattle.ob_check.specs.View.{expression_of}
 use Rattle.ob_check.specs.Checking.{IsFaultIn, operands_in, operations_in}
 use Rattle.ob_check.proofs.Faults.{further_in}
 use Rattle.ob_check.proofs.Sums.{expr_of-sum, expression_of-computed}

@@ -1,5 +1,5 @@
 -- Faults of parts, and those of what holds them.
-use Rattle.std.proofs.Common.{◌≡◌, Result, List, ◌∷◌, ◌++◌, refl, sym, ap, subst, ◌∙◌}
+use Rattle.std.proofs.Common.{◌≡◌, Result, sym, subst}
 use Rattle.std.specs.Result.{IfErr, IsErrAnd}
 use Rattle.std.proofs.lemmas.Result.{err_from_is_err_and}
 use Rattle.ob_check.specs.declared.checker.CheckFault.{CheckFault}

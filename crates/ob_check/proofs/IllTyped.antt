@@ -1,17 +1,16 @@
 -- Where a rule fails, the module is not well typed: each part that stands in a well-typed module is well typed there.
-use Rattle.std.proofs.Common.{◌≡◌, ℕ, suc, ◌+◌, ◌*◌, ◌<◌, ◌≤◌, Bool, true, false, List, [], ◌∷◌, ◌++◌, Option, Some, None, length, map, filter, refl, sym, ap, subst, ◌∙◌, arith, rules, cond, if◌then◌else◌}
+use Rattle.std.proofs.Common.{◌≡◌, ℕ, suc, ◌+◌, ◌*◌, ◌<◌, ◌≤◌, Bool, true, false, List, [], ◌∷◌, ◌++◌, Option, Some, None, length, map, filter, refl, sym, ap, subst, ◌∙◌, arith, cond, if◌then◌else◌}
 use Rattle.std.specs.Prelude.{bytes_eq}
 use Rattle.std.proofs.lemmas.List.{append-nil, length-append, length-map}
 use Rattle.std.proofs.lemmas.List.Sums.{sum_by-cons, sum_by-append}
 use Rattle.ob_syntax.specs.Tree
 use Rattle.ob_syntax.specs.Tree.{Expr, Operands, TypeExpr, Stmt, Stmts, VarDecl, Section, Heading, Declarations, Procedures, Module}
 use Rattle.ob_check.specs.declared.checker.CheckFault.{CheckFault}
-use Rattle.ob_check.specs.declared.checker.CheckFault.TheVariants as Faults
 use Rattle.ob_check.specs.declared.program.DataType.{DataType}
 use Rattle.ob_check.specs.declared.program.DataType.TheVariants.{Integer}
 use Rattle.ob_check.specs.Program
 use Rattle.ob_check.specs.Program.{Name, Expression, Operations, Designator, Statement, Statements, Parameter, Variable, Procedure, formal_of, exports}
-use Rattle.ob_check.specs.Scopes.{Environment, Object, TypeName, ModuleVariable, LocalVariable, ProcedureName, Scope, no_names, with_name, found, IsNew, declared, variable_in, words, variable_words}
+use Rattle.ob_check.specs.Scopes.{Environment, Object, TypeName, ProcedureName, Scope, no_names, with_name, found, IsNew, declared, variable_in, words, variable_words}
 use Rattle.ob_check.specs.Typing as Typing
 use Rattle.ob_check.specs.Typing.{IsVariable, HasType, AreOperands, Denotes, IsStatement, AreStatements, IsBody, Names, Variables, Parameters, DeclaresProcedures, Declares, section_parameters, listed, inner_scope, opening_names, WellTyped}
 use Rattle.ob_check.specs.Parts as Parts
@@ -19,7 +18,7 @@ use Rattle.ob_check.specs.Parts.{Part, New, AVariable, AnExpression, SomeOperand
 use Rattle.ob_check.specs.Checking.{called}
 use Rattle.ob_check.specs.CheckFaults as Rules
 use Rattle.ob_check.specs.CheckFaults.{Fails, IsNoVariable, IsNoType, BreaksRule}
-use Rattle.ob_check.proofs.Determined.{one_type, same_names, same_variables, same_parameters, same_declarations, Same}
+use Rattle.ob_check.proofs.Determined.{one_type, same_variables, same_parameters, same_declarations, Same}
 
 -- the exports among some procedures
 abbrev pub exports_among : List Procedure → ℕ

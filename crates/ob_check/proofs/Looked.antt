@@ -1,5 +1,5 @@
 -- The scopes of the program, against the names that they declare.
-use Rattle.std.proofs.Common.{◌≡◌, ◌↔◌, ℕ, Bool, true, false, cond, List, [], ◌∷◌, Option, Some, None, option_map, is_some, IsTrue, String, Bor, refl, sym, ap, subst, ◌∙◌, length}
+use Rattle.std.proofs.Common.{◌≡◌, Bool, true, false, cond, [], ◌∷◌, Option, Some, None, option_map, is_some, String, refl, sym, ap, subst, ◌∙◌}
 use Rattle.std.specs.declared.alloc.Global.{Global}
 use Rattle.std.specs.Prelude.{bytes_eq, string_bytes, codes}
 use Rattle.std.specs.String.{string_eq}

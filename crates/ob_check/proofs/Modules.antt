@@ -1,11 +1,11 @@
 -- A whole module: its program, and the faults of its parts.
-use Rattle.std.proofs.Common.{◌≡◌, ℕ, ◌≤◌, List, Option, Some, None, option_map, Vec, length, map, refl, sym, ap, subst, ◌∙◌}
+use Rattle.std.proofs.Common.{◌≡◌, ◌≤◌, List, Option, Some, None, option_map, Vec, length, map, refl, sym, ap, subst, ◌∙◌}
 use Rattle.std.specs.declared.alloc.Global.{Global}
 use Rattle.ob_syntax.specs.declared.tree.Module.{Module}
 use Rattle.ob_syntax.specs.declared.tree.Procedure.{Procedure}
 use Rattle.ob_syntax.specs.declared.tree.VarDecl.{VarDecl}
 use Rattle.ob_syntax.specs.Tree
-use Rattle.ob_syntax.specs.View.{var_decl_of, procedures_in, stmts_in, module_of}
+use Rattle.ob_syntax.specs.View.{var_decl_of, procedures_in, module_of}
 use Rattle.ob_check.specs.declared.checker.CheckFault.{CheckFault}
 use Rattle.ob_check.specs.declared.checker.CheckFault.TheVariants.{UnknownName, DeclaredTwice, WrongKind, PassesLimit, NoMemory}
 use Rattle.ob_check.specs.Program as Program

@@ -1,7 +1,6 @@
 -- Declarations one after another: of variables, and of parameters.
-use Rattle.std.proofs.Common.{◌≡◌, ℕ, ◌+◌, ◌≤◌, List, [], ◌∷◌, ◌++◌, length, map, refl, sym, ap, subst, ◌∙◌, arith, append_assoc}
+use Rattle.std.proofs.Common.{◌≡◌, ℕ, ◌+◌, List, [], ◌∷◌, ◌++◌, length, sym, ap, subst, ◌∙◌, append_assoc}
 use Rattle.std.proofs.lemmas.List.{append-nil, length-append}
-use Rattle.ob_syntax.specs.Tree
 use Rattle.ob_syntax.specs.Tree.{VarDecl, Section}
 use Rattle.ob_check.specs.declared.checker.CheckFault.{CheckFault}
 use Rattle.ob_check.specs.Program.{Variable, Parameter}
@@ -23,7 +22,7 @@ module _ (env between : Environment) (left : List VarDecl) (x : VarDecl) (rest :
       let P : List VarDecl → Type 0 = λ ys. Variables env ys after (called adds.type x.names ++ vs) in
       let Q : List Variable → Type 0 = λ us. Variables start all after us in
       let e : old ++ (called adds.type x.names ++ vs) ≡ new ++ vs =
-          sym (append_assoc old (called adds.type x.names) vs) ∙ ap (λ us. us ++ vs) (sym adds.added) in
+      sym (append_assoc old (called adds.type x.names) vs) ∙ ap (λ us. us ++ vs) (sym adds.added) in
       subst Q e (done _ (subst P (sym next) (Typing.more adds.denotes adds.names h)))
 
   pub variables_fault : (words more : ℕ) (e : CheckFault) → words ≡ variable_words old → more ≡ variable_words new →
@@ -31,7 +30,7 @@ module _ (env between : Environment) (left : List VarDecl) (x : VarDecl) (rest :
   variables_fault words more e was now h =
       let one : Variables env (x ∷ []) between (called adds.type x.names ++ []) = Typing.more adds.denotes adds.names Typing.none in
       let count = now ∙ ap variable_words adds.added ∙ words_append old (called adds.type x.names) ∙ ap (λ n. n + variable_words (called adds.type x.names)) (sym was)
-          ∙ ap (λ us. words + variable_words us) (sym (append-nil (called adds.type x.names))) in
+      ∙ ap (λ us. words + variable_words us) (sym (append-nil (called adds.type x.names))) in
       let P : List VarDecl → Type 0 = λ ys. IsFaultIn env (SomeVariables words ys) e in
       let Q : ℕ → Type 0 = λ n. IsFaultIn between (SomeVariables n rest) e in
       subst P (sym next) (further_in e (Parts.other_variables one) (subst Q count h))

@@ -1,5 +1,5 @@
 -- Faults of procedures and their parameters.
-use Rattle.std.proofs.Common.{◌≡◌, ◌↔◌, ◌≤◌, IsTrue, ℕ, ◌+◌, suc, Bool, true, false, List, [], ◌∷◌, ◌++◌, Option, Some, None, option_map, Vec, length, map, refl, sym, ap, subst, ◌∙◌, arith, if◌then◌else◌}
+use Rattle.std.proofs.Common.{◌≡◌, ◌↔◌, ◌≤◌, IsTrue, ℕ, suc, true, false, List, ◌∷◌, Option, Some, None, option_map, Vec, length, map, refl, sym, ap, subst, ◌∙◌, if◌then◌else◌}
 use Rattle.std.specs.declared.alloc.Global.{Global}
 use Rattle.ob_syntax.specs.declared.tree.Procedure.{Procedure}
 use Rattle.ob_syntax.specs.declared.tree.Section.{Section}

@@ -4,7 +4,6 @@ use Rattle.ob_syntax.specs.declared.tree.Sign.{Sign}
 use Rattle.ob_syntax.specs.declared.tree.Operator.{Operator}
 use Rattle.ob_syntax.specs.Tree
 use Rattle.ob_syntax.specs.Tree.{Expr, Operands, TypeExpr, Stmt, Stmts, VarDecl, Section, Heading, Procedures, Module}
-use Rattle.ob_check.specs.declared.program.DataType.{DataType}
 use Rattle.ob_check.specs.declared.program.DataType.TheVariants.{Integer}
 use Rattle.ob_check.specs.Program.{Parameter, Variable, Procedure, formal_of}
 use Rattle.ob_check.specs.Scopes.{Environment, TypeName, ProcedureName, no_names, declared, variable_words}

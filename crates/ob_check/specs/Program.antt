@@ -1,5 +1,5 @@
 -- The checked program: each name resolved, each expression with its type. A name is the list of its bytes.
-use Rattle.std.specs.Prelude.{ℕ, ℤ, Bool, List, filter}
+use Rattle.std.specs.Prelude.{ℕ, Bool, List, filter}
 use Rattle.ob_check.specs.declared.program.DataType.{DataType}
 use Rattle.ob_check.specs.declared.program.Arithmetic.{Arithmetic}
 use Rattle.ob_check.specs.declared.program.Scalar.{Scalar}

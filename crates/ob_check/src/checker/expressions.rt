@@ -60,11 +60,7 @@ fn operations(
 }
 
 /// An expression behind a sign; `+` leaves it as it is.
-fn signed(
-    alloc: Global,
-    sign: Option<Sign>,
-    operand: Expression,
-) -> Result<Expression, AllocError>
+fn signed(alloc: Global, sign: Option<Sign>, operand: Expression) -> Result<Expression, AllocError>
     ensures { IfOk result (λ x. expression_of x ≡ with_sign sign (expression_of operand)) }
 {
     match sign {

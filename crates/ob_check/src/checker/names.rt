@@ -48,7 +48,9 @@ fn type_named(scopes: &Scopes, name: &Name) -> Result<DataType, CheckFault>
         None => Err(CheckFault::UnknownName(name.place)),
         Some((object, _)) => match object {
             Object::Type(data_type) => Ok(*data_type),
-            Object::Variable(_) | Object::Procedure { .. } => Err(CheckFault::WrongKind(name.place)),
+            Object::Variable(_) | Object::Procedure { .. } => Err(CheckFault::WrongKind(
+                name.place,
+            )),
         },
     }
 }

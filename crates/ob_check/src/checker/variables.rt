@@ -70,11 +70,7 @@ fn declare_some(
 }
 
 /// Declares names in the innermost scope.
-fn declare_names(
-    scopes: &mut Scopes,
-    names: &[Name],
-    data_type: DataType,
-) -> Result<(), CheckFault>
+fn declare_names(scopes: &mut Scopes, names: &[Name], data_type: DataType) -> Result<(), CheckFault>
     ensures ok { OnOk result (Names (env_of scopes.old) (map name_of names.now) data_type (env_of scopes.new) (called data_type (map name_of names.now))) }
     ensures own { OnOk result (is_some scopes.new.own ≡ is_some scopes.old.own) }
     ensures fault { IfErr result (λ e. (words : ℕ) (x : trees.VarDecl) (xs : List trees.VarDecl) → x.names ≡ map name_of names.now → IsFaultIn (env_of scopes.old) (SomeVariables words (x ∷ xs)) e) }

@@ -11,13 +11,13 @@ pub returns-in_err-procedures-clause-fault : goal.returns-in_err-procedures-clau
 returns-in_err-procedures-clause-fault c =
     passed_on _ _ _ c.from_residual-in_err-procedures.ensures.1
     (procedures_raised c.args.tree.now _ c.in_ok-scopes.ensures.opening _ c.listed.ensures _ _ c.in_ok-variables.ensures.typed _ c.deref.ensures.value
-      _ c.in_err-procedures.ensures.fault)
+    _ c.in_err-procedures.ensures.fault)
 
 pub returns-in_err-body-clause-fault : goal.returns-in_err-body-clause-fault
 returns-in_err-body-clause-fault c =
     passed_on _ _ _ c.from_residual-in_err-body.ensures.1
     (body_raised c.args.tree.now _ c.in_ok-scopes.ensures.opening _ c.listed.ensures _ _ c.in_ok-variables.ensures.typed _ c.deref.ensures.value
-      _ _ c.in_ok-procedures.ensures.typed _ c.in_err-body.ensures.fault)
+    _ _ c.in_ok-procedures.ensures.typed _ c.in_err-body.ensures.fault)
 
 pub returns-clause-typed : goal.returns-clause-typed
 returns-clause-typed c =

@@ -1,4 +1,4 @@
-use Rattle.std.proofs.Common.{◌≡◌, Some, sym, ap, ◌∙◌, ⊎_elim}
+use Rattle.std.proofs.Common.{Some, sym, ap, ◌∙◌, ⊎_elim}
 use Rattle.ob_syntax.specs.View.{name_of}
 use Rattle.ob_check.specs.Checking.{env_of, meaning_of}
 use Rattle.ob_check.specs.Scopes.{found}

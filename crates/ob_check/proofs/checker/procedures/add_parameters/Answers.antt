@@ -1,4 +1,4 @@
-use Rattle.std.proofs.Common.{◌≡◌, ℕ, List, refl, sym, ap, ◌∙◌, map, take, drop, ◌+◌, ◌++◌, [], ◌∷◌, arith, length}
+use Rattle.std.proofs.Common.{ℕ, List, refl, sym, ap, ◌∙◌, map, take, drop, ◌+◌, [], ◌∷◌, arith}
 use Rattle.std.proofs.lemmas.List.{append-nil, length-map, map-append}
 use Rattle.ob_syntax.specs.View.{name_of, section_of}
 use Rattle.ob_check.specs.Typing as Typing
@@ -19,7 +19,7 @@ returns-in_err-declare_variable-clause-fault c =
     let around = map_around_in name_of _ items i c.name-item.result c.deref-name-items.ensures.value c.loop-name-test.true c.name-item.is in
     passed_on _ _ _ c.from_residual.ensures.1
     (λ xs. twice_in_section _ (map name_of (take i items)) (map name_of (drop (i + 1) items)) (name_of c.name-item.result)
-      c.loop-name.invariant.names _ (section_of c.args.section.now) xs _ around c.in_err-declare_variable.ensures.fault)
+    c.loop-name.invariant.names _ (section_of c.args.section.now) xs _ around c.in_err-declare_variable.ensures.fault)
 
 pub returns-then-len-eq-MAX_PARAMETERS-clause-fault : goal.returns-then-len-eq-MAX_PARAMETERS-clause-fault
 returns-then-len-eq-MAX_PARAMETERS-clause-fault c = λ xs.

@@ -1,7 +1,6 @@
-use Rattle.std.proofs.Common.{◌≡◌, ℕ, List, map, length, option_map, arith, refl, sym, ap, subst, ◌∙◌}
+use Rattle.std.proofs.Common.{map, option_map, arith, ap, ◌∙◌}
 use Rattle.std.proofs.lemmas.List.{length-map}
 use Rattle.ob_syntax.specs.View.{name_of, stmts_in}
-use Rattle.ob_check.specs.Checking.{env_of}
 use Rattle.ob_check.specs.Program.{formal_of}
 use Rattle.ob_check.specs.View.{parameter_of, statements_in}
 use Rattle.ob_check.proofs.Exported.{formals_again}
@@ -22,7 +21,7 @@ returns-in_err-body-clause-fault c =
     let formals = c.in_ok-formals.ensures ∙ ap (map (λ q. formal_of (parameter_of q))) c.deref.ensures.value ∙ formals_again params in
     passed_on _ _ _ c.from_residual-in_err-body.ensures.1
     (body_fault _ c.args.number p _ _ declares _ formals _ c.in_ok-declare_procedure.ensures.ok
-      (option_map (λ b. stmts_in b.items) p.body) (name_of p.end_name) _ c.in_err-body.ensures.fault)
+    (option_map (λ b. stmts_in b.items) p.body) (name_of p.end_name) _ c.in_err-body.ensures.fault)
 
 pub returns-clause-typed : goal.returns-clause-typed
 returns-clause-typed c =

@@ -1,4 +1,4 @@
-use Rattle.std.proofs.Common.{ap, sym, subst, ◌∙◌, ◌≡◌}
+use Rattle.std.proofs.Common.{sym, subst}
 use Rattle.ob_check.specs.Scopes.{IsNew}
 use Rattle.ob_check.specs.Checking.{env_of}
 use Rattle.ob_check.proofs.Sections.{name_twice, export_too_many, false_at}

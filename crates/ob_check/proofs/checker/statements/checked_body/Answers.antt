@@ -1,13 +1,12 @@
-use Rattle.std.proofs.Common.{◌≡◌, List, Option, Some, None, option_map, Vec, IfOk, sym, ap, subst, ◌∙◌}
+use Rattle.std.proofs.Common.{List, Option, None, option_map, Vec, sym, ap, subst}
 use Rattle.std.specs.declared.alloc.Global.{Global}
-use Rattle.std.proofs.lemmas.Result.{IfOk-weaker, IfErr-weaker}
+use Rattle.std.proofs.lemmas.Result.{IfOk-weaker}
 use Rattle.ob_syntax.specs.declared.tree.Stmt.{Stmt}
 use Rattle.ob_syntax.specs.View.{stmts_in}
-use Rattle.ob_check.specs.Parts.{SomeStatements}
 use Rattle.ob_check.specs.Program.{Statements}
 use Rattle.ob_check.specs.Typing as Typing
 use Rattle.ob_check.specs.Typing.{IsBody, AreStatements}
-use Rattle.ob_check.specs.Checking.{env_of, IsFaultIn, IsFaultInBody}
+use Rattle.ob_check.specs.Checking.{env_of}
 use Rattle.ob_check.specs.View.{statements_in}
 use Rattle.ob_check.proofs.checker.statements.checked_body.Goals as goal
 
@@ -16,9 +15,9 @@ returns-in-Some-clause-typed c =
     let env = env_of c.args.scopes.now in
     IfOk-weaker c.checked_statements.result (λ ss. AreStatements env (stmts_in c.deref.result.now) (statements_in ss.items)) _
     (λ ss h.
-      let P : Option (Vec Stmt Global) → Type 0 = λ b. IsBody env (option_map (λ x. stmts_in x.items) b) (statements_in ss.items) in
-      let Q : List Stmt → Type 0 = λ b. AreStatements env (stmts_in b) (statements_in ss.items) in
-      subst P (sym c.in-Some.is) (Typing.some (subst Q c.deref.ensures.value h)))
+    let P : Option (Vec Stmt Global) → Type 0 = λ b. IsBody env (option_map (λ x. stmts_in x.items) b) (statements_in ss.items) in
+    let Q : List Stmt → Type 0 = λ b. AreStatements env (stmts_in b) (statements_in ss.items) in
+    subst P (sym c.in-Some.is) (Typing.some (subst Q c.deref.ensures.value h)))
     c.checked_statements.ensures.typed
 
 pub returns-in-None-clause-typed : goal.returns-in-None-clause-typed

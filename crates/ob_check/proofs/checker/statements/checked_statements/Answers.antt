@@ -1,4 +1,4 @@
-use Rattle.std.proofs.Common.{◌≡◌, [], ◌∷◌, ◌++◌, Vec, arith, refl, ap, sym, subst, ◌∙◌}
+use Rattle.std.proofs.Common.{Vec, arith, ap, sym, subst, ◌∙◌}
 use Rattle.std.specs.declared.alloc.Global.{Global}
 use Rattle.std.proofs.lemmas.List.{at_drop_all}
 use Rattle.ob_syntax.specs.Tree.{Stmts}
@@ -39,12 +39,12 @@ loop-statement-preserved c =
           let P : Statements → Type 0 = λ xs. AreStatements env all xs in
           let before = λ (v : Vec Statement Global). statements_before v.items cs in
           elim c.match-statement.branch [
-            in-Assign+in_ok-target-in-Assign+in_ok-value-in-Assign+in_ok-push-in-Assign w ↦
-              let whole = c.loop-statement.invariant.typed _ (assign_typed env _ s _ next _ _ w.in-Assign.is _ _ _ cs w.in_ok-target-in-Assign.ensures.found w.in_ok-value-in-Assign.ensures.typed h) in
-              let pushed = statements_before-push c.loop-statement.checked.items (Programs.Assign w.in_ok-target-in-Assign.target w.in_ok-value-in-Assign.value) cs in
-              subst P (pushed ∙ ap (λ ss. statements_before ss cs) (sym w.in_ok-push-in-Assign.ensures.items) ∙ sym (ap before w.checked-is)) whole
+            | in-Assign+in_ok-target-in-Assign+in_ok-value-in-Assign+in_ok-push-in-Assign w ↦
+                let whole = c.loop-statement.invariant.typed _ (assign_typed env _ s _ next _ _ w.in-Assign.is _ _ _ cs w.in_ok-target-in-Assign.ensures.found w.in_ok-value-in-Assign.ensures.typed h) in
+                let pushed = statements_before-push c.loop-statement.checked.items (Programs.Assign w.in_ok-target-in-Assign.target w.in_ok-value-in-Assign.value) cs in
+                subst P (pushed ∙ ap (λ ss. statements_before ss cs) (sym w.in_ok-push-in-Assign.ensures.items) ∙ sym (ap before w.checked-is)) whole
             | in-Empty w ↦
-              subst P (sym (ap before w.checked-is)) (c.loop-statement.invariant.typed _ (empty_typed env _ s _ next cs w.in-Empty.is h))
+                subst P (sym (ap before w.checked-is)) (c.loop-statement.invariant.typed _ (empty_typed env _ s _ next cs w.in-Empty.is h))
           ];
       fault = λ e h. c.loop-statement.invariant.fault e (statements_fault env _ s _ next e h);
     }

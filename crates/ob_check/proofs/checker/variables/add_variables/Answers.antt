@@ -1,4 +1,4 @@
-use Rattle.std.proofs.Common.{refl, sym, ap, ◌∙◌, map, take, drop, ◌+◌, ◌*◌, length}
+use Rattle.std.proofs.Common.{sym, ap, ◌∙◌, map, take, drop, ◌+◌, ◌*◌, length}
 use Rattle.ob_syntax.specs.View.{name_of}
 use Rattle.ob_check.specs.Scopes.{words}
 use Rattle.ob_check.proofs.Declared.{words_added, words_too_many}

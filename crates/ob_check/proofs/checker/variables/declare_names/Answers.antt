@@ -1,4 +1,4 @@
-use Rattle.std.proofs.Common.{refl, sym, ap, ◌∙◌, map, take, drop, ◌+◌}
+use Rattle.std.proofs.Common.{refl, ◌∙◌, map, take, drop, ◌+◌}
 use Rattle.ob_syntax.specs.View.{name_of}
 use Rattle.ob_check.specs.Typing as Typing
 use Rattle.ob_check.specs.Checking.{env_of}
@@ -16,7 +16,7 @@ returns-in_err-declare_variable-clause-fault c =
     let around = map_around name_of c.args.names.now i c.name-item.result c.loop-name-test.true c.name-item.is in
     passed_on _ _ _ c.from_residual.ensures.1
     (λ words x xs e. twice_in_variables _ (map name_of (take i c.args.names.now)) (map name_of (drop (i + 1) c.args.names.now)) (name_of c.name-item.result)
-      c.loop-name.invariant.names words x xs _ (e ∙ around) c.in_err-declare_variable.ensures.fault)
+    c.loop-name.invariant.names words x xs _ (e ∙ around) c.in_err-declare_variable.ensures.fault)
 
 pub loop-name-preserved : goal.loop-name-preserved
 loop-name-preserved c =
