@@ -6,7 +6,7 @@ ghost use Rattle.ob_syntax.specs.ScanFaults.{IsScanFault};
 
 mod comment;
 pub mod fault;
-mod keyword;
+pub mod keyword;
 mod lexeme;
 mod symbol;
 #[cfg(test)]

@@ -1,6 +1,6 @@
 //! Reply lines: what is printed of the replies to calls.
 
-ghost use Rattle.std.specs.Prelude.{◌≡◌, ◌<◌, ◌++◌, [], map, codes, All, IfOk, OnOk, string_bytes};
+ghost use Rattle.std.specs.Prelude.{◌≡◌, ◌<◌, ◌++◌, [], map, codes, decimal, All, IfOk, OnOk, string_bytes};
 ghost use Rattle.std.specs.List.{flat_map};
 ghost use Rattle.ob_mean.specs.View.{reply_of};
 ghost use Rattle.obl0.specs.ReplyLines.{scalar_text, reply_text, reply_line, reply_lines};
@@ -8,10 +8,10 @@ ghost use Rattle.obl0.specs.ReplyLines.{scalar_text, reply_text, reply_line, rep
 #[cfg(test)]
 mod tests;
 
+use itoa::{Buffer, Integer};
 use ob_check::program::Scalar;
 use ob_mean::call::Reply;
 use std::alloc::{AllocError, Global};
-use std::fmt::Write;
 
 /// The lines of replies to the calls of these callers, processes below `processes`.
 pub fn print_replies(
@@ -41,12 +41,23 @@ fn push_line(
 ) -> Result<(), AllocError>
     ensures { OnOk result (string_bytes text.new ≡ string_bytes text.old ++ reply_line process number (reply_of reply.now)) }
 {
-    write!(text, "E {process}.{number}")?;
+    text.push_str("E ")?;
+    push_number(text, process)?;
+    text.push_str(".")?;
+    push_number(text, number)?;
     match reply {
         Reply::Done(values) => push_values(text, values)?,
-        Reply::Trap(trap) => write!(text, " trap {trap}")?,
+        Reply::Trap(trap) => push_trap(text, *trap)?,
     }
     text.push_str("\n")
+}
+
+/// Appends what stands behind the id of a call that traps.
+fn push_trap(text: &mut String, trap: u8) -> Result<(), AllocError>
+    ensures { OnOk result (string_bytes text.new ≡ string_bytes text.old ++ (codes " trap " ++ decimal trap)) }
+{
+    text.push_str(" trap ")?;
+    push_number(text, trap)
 }
 
 /// Appends what stands behind the id of a call that is done.
@@ -65,8 +76,19 @@ fn push_value(text: &mut String, value: Scalar) -> Result<(), AllocError>
     ensures { OnOk result (string_bytes text.new ≡ string_bytes text.old ++ (codes " " ++ scalar_text value)) }
 {
     match value {
-        Scalar::Int(number) => write!(text, " {number}"),
+        Scalar::Int(integer) => {
+            text.push_str(" ")?;
+            push_number(text, integer)
+        }
         Scalar::Bool(true) => text.push_str(" TRUE"),
         Scalar::Bool(false) => text.push_str(" FALSE"),
     }
+}
+
+/// Appends a number in decimal digits, with a `-` where it is below 0.
+fn push_number<I: Integer>(text: &mut String, number: I) -> Result<(), AllocError>
+    ensures { OnOk result (string_bytes text.new ≡ string_bytes text.old ++ I.text number) }
+{
+    let mut buffer = Buffer::new();
+    text.push_str(buffer.format(number))
 }

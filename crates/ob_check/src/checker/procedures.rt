@@ -124,7 +124,7 @@ fn declare_parameters(
     Ok(parameters)
 }
 
-/// Declares the parameters of one section. Its names are tested before their type.
+/// Declares the parameters of one section: first its names, each with the limit, then their type.
 fn declare_section(
     scopes: &mut Scopes,
     parameters: &mut Vec<Parameter>,
@@ -137,7 +137,7 @@ fn declare_section(
     ensures fault { IfErr result (λ e. (xs : List trees.Section) → IsFaultIn (env_of scopes.old) (SomeSections (vec_len parameters.old) (section_of section.now ∷ xs)) e) }
 {
     let denoted = type_denoted(scopes, &section.of_type);
-    // The names are declared before it is told that their type fails: then no one looks them up.
+    // The names come before their type in the text. Where it fails, nobody looks them up.
     add_parameters(
         scopes,
         parameters,
@@ -148,6 +148,7 @@ fn declare_section(
     Ok(())
 }
 
+/// Declares parameters of one type, and tests name by name how many there are.
 fn add_parameters(
     scopes: &mut Scopes,
     parameters: &mut Vec<Parameter>,

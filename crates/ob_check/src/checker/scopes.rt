@@ -35,6 +35,7 @@ pub struct Scopes {
     own: Option<Scope>,
 }
 
+/// Adds a name to a scope, or replaces it there.
 fn add(scope: &mut Scope, name: String, object: Object) -> Result<(), CheckFault>
     ensures ok { OnOk result ((is_own : Bool) → scope_of is_own scope.new ≡ with_name (scope_of is_own scope.old) (string_bytes name) (meaning_of is_own object)) }
     ensures fault { IfErr result (λ e. e ≡ CheckFault.NoMemory) }

@@ -60,7 +60,7 @@ fn declare_some(
     ensures fault { IfErr result (λ e. (xs : List trees.VarDecl) → IsFaultIn (env_of scopes.old) (SomeVariables variables.old.words (var_decl_of declaration.now ∷ xs)) e) }
 {
     let denoted = type_denoted(scopes, &declaration.of_type);
-    // The names are declared before it is told that their type fails: then no one looks them up.
+    // The names come before their type in the text. Where it fails, nobody looks them up.
     declare_names(
         scopes,
         &declaration.names,

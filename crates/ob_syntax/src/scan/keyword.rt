@@ -7,8 +7,8 @@ ghost use Rattle.ob_syntax.specs.Spelling.{fixed_spelling};
 
 use crate::scan::token::Kind;
 
-/// The keyword that a word is.
-pub(super) fn keyword(word: &[u8]) -> Option<Kind>
+/// The keyword that a word is, of bytes whose first one is a letter.
+pub fn keyword(word: &[u8]) -> Option<Kind>
     requires filled { 0 < length word.now }
     requires letter { IsTrue (is_ascii_alphabetic (slice_index word.now 0)) }
     ensures is { IfSome result (λ kind. fixed_spelling kind ≡ Some word.now) }

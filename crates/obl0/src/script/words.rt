@@ -9,7 +9,7 @@ ghost use Rattle.ob_check.specs.declared.program.Scalar.{Scalar};
 ghost use Rattle.obl0.specs.Script.{words, is_blank, IsDigits, IsProcess, IsInteger, IsArgument, IsName};
 
 use ob_check::program::{DataType, Scalar};
-use ob_syntax::scan::Kind;
+use ob_syntax::scan::keyword::keyword;
 use std::alloc::{AllocError, Global};
 
 /// The most digits of a process.
@@ -92,35 +92,4 @@ pub(super) fn is_name(word: &[u8]) -> bool
     first.is_ascii_alphabetic()
         && others.iter().all(|byte| byte.is_ascii_alphanumeric())
         && keyword(word).is_none()
-}
-
-/// The keyword that a word is.
-fn keyword(word: &[u8]) -> Option<Kind>
-    requires filled { 0 < length word.now }
-    requires letter { IsTrue (is_ascii_alphabetic (slice_index word.now 0)) }
-    ensures is { IfSome result (λ kind. fixed_spelling kind ≡ Some word.now) }
-    ensures none { IfNone result ((kind : Kind) → fixed_spelling kind ≢ Some word.now) }
-{
-    match word {
-        b"MODULE" => Some(Kind::Module),
-        b"BEGIN" => Some(Kind::Begin),
-        b"END" => Some(Kind::End),
-        b"CONST" => Some(Kind::Const),
-        b"TYPE" => Some(Kind::Type),
-        b"VAR" => Some(Kind::Var),
-        b"PROCEDURE" => Some(Kind::Procedure),
-        b"ARRAY" => Some(Kind::Array),
-        b"OF" => Some(Kind::Of),
-        b"RECORD" => Some(Kind::Record),
-        b"IF" => Some(Kind::If),
-        b"THEN" => Some(Kind::Then),
-        b"ELSIF" => Some(Kind::Elsif),
-        b"ELSE" => Some(Kind::Else),
-        b"WHILE" => Some(Kind::While),
-        b"DO" => Some(Kind::Do),
-        b"DIV" => Some(Kind::Div),
-        b"MOD" => Some(Kind::Mod),
-        b"OR" => Some(Kind::Or),
-        _ => None,
-    }
 }
