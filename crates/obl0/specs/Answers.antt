@@ -1,11 +1,10 @@
 -- What the program answers to a request, by what reads of files give.
-use Rattle.std.specs.Prelude.{◌≡◌, ℕ, false, List, [], ◌++◌, Result, Ok, Err, codes, string_bytes}
+use Rattle.std.specs.Prelude.{◌≡◌, ℕ, List, [], ◌++◌, Result, Ok, Err, codes, string_bytes}
 use Rattle.obl0.specs.declared.answered.Answer.{Answer}
 use Rattle.obl0.specs.declared.files.FileFault.{FileFault}
 use Rattle.obl0.specs.declared.files.FileFault.TheVariants.{Unreadable}
 use Rattle.obl0.specs.declared.sequential.SeqTextFault.{SeqTextFault}
-use Rattle.obl0.specs.SequentialRun.{IsSequentialRun, IsSeqTextFault}
-use Rattle.obl0.specs.MemoryFaults.{is_memory_fault}
+use Rattle.obl0.specs.SequentialRun.{IsSequentialRun, IsSeqTextFault, IsNumbered}
 use Rattle.obl0.specs.CommandLine.{Text, Request, Seq, Help, Unclear}
 
 -- only text on standard output, and status 0
@@ -29,7 +28,7 @@ IsUnreadable answer name = IsRefused answer 3 (codes "cannot read " ++ name ++ c
 pub data IsSeqAnswer (module_bytes script_bytes : List ℕ) (answer : Answer) : Type 0 where
   run : (lines : Text) → IsSequentialRun module_bytes script_bytes lines →
       IsPrinted answer lines → IsSeqAnswer module_bytes script_bytes answer
-  fault : (e : SeqTextFault) (line : Text) → IsSeqTextFault module_bytes script_bytes e → is_memory_fault e ≡ false →
+  fault : (e : SeqTextFault) (line : Text) → IsSeqTextFault module_bytes script_bytes e → IsNumbered e →
       IsRefused answer 1 (line ++ codes "\n") → IsSeqAnswer module_bytes script_bytes answer
 
 -- Of a read: the state before, the file's name, what was answered, and the state after.

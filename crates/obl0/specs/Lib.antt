@@ -7,5 +7,4 @@ pub mod SequentialParts
 pub mod CommandLine
 pub mod ClapCommand
 pub mod Commands
-pub mod MemoryFaults
 pub mod Answers

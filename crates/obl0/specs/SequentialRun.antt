@@ -1,5 +1,5 @@
 -- A sequential run: from the bytes of a module and of a script to the bytes that are printed.
-use Rattle.std.specs.Prelude.{◌≡◌, ◌≢◌, ℕ, suc, List, [], map, take, slice_get, Some}
+use Rattle.std.specs.Prelude.{◌≡◌, ◌≢◌, ℕ, suc, Bool, true, false, List, [], map, take, slice_get, Some}
 use Rattle.ob_syntax.specs.declared.scan.token.Token.{Token}
 use Rattle.ob_syntax.specs.Tokens.{HasTokens}
 use Rattle.ob_syntax.specs.ScanFaults.{IsScanFault}
@@ -113,3 +113,11 @@ TellsMemoryApart (Faults.Open e) = e ≢ Open.NoMemory
 TellsMemoryApart (Faults.Script e) = e ≢ Script.NoMemory
 TellsMemoryApart (Faults.NeedsMore process number) = Unit {0}
 TellsMemoryApart Faults.NoMemory = Unit {0}
+
+abbrev pub is_want_of_memory : SeqTextFault → Bool
+is_want_of_memory Faults.NoMemory = true
+is_want_of_memory _ = false
+
+-- a fault with a number, so no want of memory
+abbrev pub IsNumbered : SeqTextFault → Type 0
+IsNumbered fault = (is_want_of_memory fault ≡ false) × TellsMemoryApart fault

@@ -4,18 +4,13 @@ ghost use Rattle.std.specs.Prelude.{◌≡◌, ◌∷◌, [], false, IfOk, map, 
 ghost use Rattle.obl0.specs.Answers.{IsAnswer, IsSeqAnswer, IsSeqOutcome, IsUnreadable};
 ghost use Rattle.obl0.specs.CommandLine.{Text, is_option, request};
 ghost use Rattle.obl0.specs.Commands.{request_of};
-ghost use Rattle.obl0.specs.MemoryFaults.{is_memory_fault};
+ghost use Rattle.obl0.specs.SequentialRun.{is_want_of_memory};
 
 use crate::answered::Answer;
 use crate::command::{Command, Stop, read_command};
 use crate::files::{FileFault, Files};
-use crate::script::ScriptFault;
 use crate::sequential::{SeqTextFault, seq_text};
-use ob_check::checker::CheckFault;
-use ob_mean::opening::OpenFault;
 use ob_syntax::NoMemory;
-use ob_syntax::parser::ParseFault;
-use ob_syntax::scan::ScanFault;
 use std::alloc::{AllocError, Global};
 
 /// The answer to the words behind the program's name. Files are read in the order in which the words
@@ -93,17 +88,9 @@ fn answer_seq(alloc: Global, module: &[u8], script: &[u8]) -> Result<Answer, NoM
     }
 }
 
-/// Whether a fault is want of memory, at whatever step.
+/// Whether a fault is want of memory.
 fn wants_memory(fault: SeqTextFault) -> bool
-    ensures { result ≡ is_memory_fault fault }
+    ensures { result ≡ is_want_of_memory fault }
 {
-    matches!(
-        fault,
-        SeqTextFault::Scan(ScanFault::NoMemory)
-            | SeqTextFault::Parse(ParseFault::NoMemory)
-            | SeqTextFault::Check(CheckFault::NoMemory)
-            | SeqTextFault::Open(OpenFault::NoMemory)
-            | SeqTextFault::Script(ScriptFault::NoMemory)
-            | SeqTextFault::NoMemory
-    )
+    matches!(fault, SeqTextFault::NoMemory)
 }
