@@ -1,0 +1,44 @@
+/* Loaded before a program: refuses its allocation number REFUSE, counted from 1, and tells so on descriptor 9. */
+#define _GNU_SOURCE
+#include <dlfcn.h>
+#include <errno.h>
+#include <stdlib.h>
+#include <unistd.h>
+
+static long refused = -1;
+static long count = 0;
+
+static int refuses(void) {
+    if (refused < 0) {
+        const char *text = getenv("REFUSE");
+        refused = text ? atol(text) : 0;
+    }
+    if (++count != refused) return 0;
+    if (write(9, "refused\n", 8) != 8) _exit(99);
+    errno = ENOMEM;
+    return 1;
+}
+
+void *malloc(size_t size) {
+    static void *(*real)(size_t);
+    if (!real) real = dlsym(RTLD_NEXT, "malloc");
+    return refuses() ? NULL : real(size);
+}
+
+void *realloc(void *old, size_t size) {
+    static void *(*real)(void *, size_t);
+    if (!real) real = dlsym(RTLD_NEXT, "realloc");
+    return refuses() ? NULL : real(old, size);
+}
+
+void *aligned_alloc(size_t align, size_t size) {
+    static void *(*real)(size_t, size_t);
+    if (!real) real = dlsym(RTLD_NEXT, "aligned_alloc");
+    return refuses() ? NULL : real(align, size);
+}
+
+int posix_memalign(void **out, size_t align, size_t size) {
+    static int (*real)(void **, size_t, size_t);
+    if (!real) real = dlsym(RTLD_NEXT, "posix_memalign");
+    return refuses() ? ENOMEM : real(out, align, size);
+}
