@@ -1,0 +1,2 @@
+mod Example
+pub mod Turns

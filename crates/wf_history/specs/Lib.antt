@@ -1,0 +1,4 @@
+pub mod History
+pub mod Legal
+pub mod OfModule
+pub mod View

@@ -1,0 +1,10 @@
+//! Histories of calls on a shared object, and legal orders of their calls.
+#![tactic(auto)]
+
+pub mod event;
+pub mod history;
+#[cfg(test)]
+mod tests;
+
+pub use event::{CallId, Event};
+pub use history::History;

@@ -1,0 +1,25 @@
+use Rattle.std.proofs.Common.{◌<◌, ◌≤◌, arith, sym, ◌∙◌}
+use Rattle.wf_object.specs.declared.process.Sizes.{Sizes}
+use Rattle.wf_object.proofs.StartSound.{start_sound, few_words}
+use Rattle.wf_object.proofs.machine.Machine.new.Goals as goal
+
+pub idle-requires : goal.idle-requires
+idle-requires g c =
+    let e = g.E.Engine in
+    record { sized = few_words (e.meaning c.args.engine) (e.lawful c.args.engine) (e.fits c.args.engine) (g.met.E.Engine.law c.args.engine) (record { processes = c.args.n; variables = c.variable_words.result; replies = c.reply_words.result; arguments = c.announce_words.result }) (omega arith) (omega arith) c.variable_words.ensures c.reply_words.ensures c.announce_words.ensures }
+
+pub invariant_of-result : goal.invariant_of-result
+invariant_of-result g c =
+    let e = g.E.Engine in
+    let law = g.met.E.Engine.law c.args.engine in
+    let z : Sizes = record { processes = c.args.n; variables = c.variable_words.result; replies = c.reply_words.result; arguments = c.announce_words.result } in
+    let some : 0 < c.args.n = omega arith in
+    let few : c.args.n ≤ 16 = omega arith in
+    let sized = few_words (e.meaning c.args.engine) (e.lawful c.args.engine) (e.fits c.args.engine) law z few some c.variable_words.ensures c.reply_words.ensures c.announce_words.ensures in
+    rw (c.in_ok-shared.ensures.cell, c.in_ok-records.ensures)
+    (start_sound (e.meaning c.args.engine) (e.fits c.args.engine) z c.args.block.now c.in_ok-processes.processes.items sized (law.length_lawful c.args.block.now c.requires ∙ sym c.variable_words.ensures) c.variable_words.ensures c.reply_words.ensures c.announce_words.ensures c.in_ok-processes.ensures.count c.in_ok-processes.ensures.idle)
+
+pub returns-clause-state : goal.returns-clause-state
+returns-clause-state g c =
+    rw (← c.variable_words.ensures, ← c.reply_words.ensures, ← c.announce_words.ensures)
+    (record { cell = c.in_ok-shared.ensures.cell; count = c.in_ok-processes.ensures.count; idle = c.in_ok-processes.ensures.idle; records = c.in_ok-records.ensures })

@@ -1,0 +1,20 @@
+-- What events and answers stand for: no pointers, and vectors as lists.
+use Rattle.std.specs.Prelude.{Option, Some, None}
+use Rattle.ob_mean.specs.Object.{ObjectCall, Reply}
+use Rattle.ob_mean.specs.View.{reply_of}
+use Rattle.wf_history.specs.declared.event.Event as Rust
+use Rattle.wf_history.specs.History.{Event}
+use Rattle.wf_history.specs.View.{event_of}
+use Rattle.wf_object.specs.declared.records.StepOut.{StepOut}
+use Rattle.wf_object.specs.declared.records.StepOut.TheVariants.{On, Began, Answered, Halted}
+use Rattle.wf_object.specs.Object.{Answer, GoesOn, Begins, Replies, Halts}
+
+abbrev pub event_in : Option Rust.Event → Option (Event ObjectCall Reply)
+event_in None = None
+event_in (Some event) = Some (event_of event)
+
+abbrev pub answer_in : StepOut → Answer
+answer_in On = GoesOn
+answer_in (Began id) = Begins id
+answer_in (Answered id reply) = Replies id (reply_of reply)
+answer_in Halted = Halts

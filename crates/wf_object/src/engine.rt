@@ -1,0 +1,86 @@
+//! What a machine asks of a sequential object: an engine, and the law that it meets.
+
+use ob_mean::call::{Call, Reply};
+use ob_syntax::NoMemory;
+use std::alloc::Global;
+
+/// What one step of a body answers.
+#[derive(Clone, Copy, Debug, PartialEq, Eq)]
+pub enum EngineTurn {
+    /// The body goes on.
+    On,
+    /// The body has ended; its results stand in the run.
+    Returned,
+    /// The body has ended with the trap of this number.
+    Trapped(u8),
+    /// Nothing can be done, as never from the start of a fitting call on a lawful block.
+    Stuck,
+}
+
+/// A sequential object whose state is a block of words. A run holds what one body keeps between
+/// its steps.
+pub trait Engine: Drop {
+    type Run: Drop;
+
+    ghost use Rattle.std.specs.Prelude.{◌≡◌, ◌<◌, ◌+◌, length, List, ℤ};
+    ghost use Rattle.ob_mean.specs.Object.{ObjectCall};
+    ghost use Rattle.ob_mean.specs.View.{call_of, reply_of};
+    ghost use Rattle.wf_object.specs.Meaning.{Meaning, IsLawful};
+
+    /// What the engine computes: numbers of words, what each of its calls does, and the effect of a
+    /// call on a block.
+    ghost meaning: { Self → Meaning Self.Run };
+
+    /// The blocks that it works on.
+    ghost lawful: { Self → List ℤ → Type 0 };
+
+    /// The calls that it takes.
+    ghost fits: { Self → ObjectCall → Type 0 };
+
+    /// Words of a block.
+    fn variable_words(&self) -> usize
+        ensures { result ≡ (meaning self.now).variables };
+
+    /// Words of a body's results.
+    fn reply_words(&self) -> usize
+        ensures { result ≡ (meaning self.now).replies };
+
+    /// Words of an announced call.
+    fn announce_words(&self) -> usize
+        ensures { result ≡ (meaning self.now).arguments };
+
+    /// A run to be started; it may hold anything.
+    fn new_run(&self, alloc: Global) -> Result<Self::Run, NoMemory>;
+
+    /// Writes a call as words.
+    fn lay(&self, call: &Call, words: &mut [i64])
+        requires fits { fits self.now (call_of call.now) }
+        requires words { length words.old ≡ (meaning self.now).arguments }
+        ensures { words.new ≡ (meaning self.now).lay (call_of call.now) };
+
+    /// Starts the body of the call that the words hold; what the run held before is gone.
+    fn start(&self, run: &mut Self::Run, words: &[i64])
+        requires { length words.now ≡ (meaning self.now).arguments }
+        ensures { run.new ≡ (meaning self.now).start words.now };
+
+    /// One step of the body on a block.
+    fn step(&self, run: &mut Self::Run, block: &mut [i64]) -> EngineTurn
+        requires { length block.old ≡ (meaning self.now).variables }
+        ensures turn { result ≡ ((meaning self.now).step run.old block.old).turn }
+        ensures run { run.new ≡ ((meaning self.now).step run.old block.old).run }
+        ensures block { block.new ≡ ((meaning self.now).step run.old block.old).block };
+
+    /// Result i of a body that has returned.
+    fn result(&self, run: &Self::Run, i: usize) -> i64
+        requires { i < (meaning self.now).replies }
+        ensures { result ≡ (meaning self.now).result run.now i };
+
+    /// The reply to a call that a status (0, or a trap's number) and results stand for.
+    fn reply(&self, call: &Call, words: &[i64]) -> Reply
+        requires fits { fits self.now (call_of call.now) }
+        requires words { length words.now ≡ (meaning self.now).replies + 1 }
+        ensures { reply_of result ≡ (meaning self.now).reply (call_of call.now) words.now };
+
+    /// Its steps lead to the block and the reply of each call's effect.
+    ghost law: { (e : Self) → IsLawful (meaning e) (lawful e) (fits e) };
+}

@@ -1,0 +1,240 @@
+//! What was seen, in which order calls were applied, and who stepped.
+
+ghost use Rattle.std.specs.Prelude.{◌≡◌, ℕ, ◌+◌, ◌<◌, ◌^◌, ◌++◌, ◌∷◌, [], Some, OnOk, OnErr, IfOk, length, vec_len, vec_capacity, slice_set, if◌then◌else◌, replicate};
+ghost use Rattle.wf_object.specs.Object.{counted, answer_by};
+ghost use Rattle.wf_object.specs.View.{event_in, answer_in};
+
+use crate::copies::copy_reply;
+use crate::process::Label;
+use ob_mean::call::Reply;
+use ob_syntax::NoMemory;
+use std::alloc::Global;
+use std::marker::Model;
+use wf_history::{CallId, Event, History};
+
+/// So many steps of one process in a row.
+#[derive(Clone, Copy, Debug, PartialEq, Eq)]
+pub struct Turns {
+    pub process: usize,
+    pub count: u64,
+}
+
+/// What a step answers.
+#[derive(Drop)]
+pub enum StepOut {
+    /// The process goes on.
+    On,
+    /// The process began its next call.
+    Began(CallId),
+    /// The process's call ended with this reply.
+    Answered(CallId, Reply),
+    /// The process has no call left: nothing changed but the schedule.
+    Halted,
+}
+
+/// What was seen, in which order calls were applied, and who stepped; and of the history's lengths
+/// those at each process's last FLIP, and for each block that behind the event that last made it the root.
+#[derive(Drop)]
+pub struct Records {
+    history: History,
+    order: Vec<CallId>,
+    schedule: Vec<Turns>,
+    flipped: Vec<usize>,
+    rooted: Vec<usize>,
+}
+
+impl Model for Records {
+    ghost use Rattle.wf_object.specs.Object as object;
+
+    ghost Value = { object.Records };
+
+    ghost view = { λ r. record { history = r.history; order = r.order.items; schedule = r.schedule.items; flipped = r.flipped.items; rooted = r.rooted.items } };
+}
+
+impl Records {
+    ghost use Rattle.wf_history.specs.History.{IsHistory};
+    ghost use Rattle.wf_object.specs.Object.{noted, history_after};
+    ghost use Rattle.wf_object.specs.Start.{records_at_start};
+
+    /// The records of n processes before any step.
+    pub fn new(alloc: Global, n: usize) -> Result<Self, NoMemory>
+        requires { n < 2 ^ 60 }
+        ensures { IfOk result (λ r. r ≡ records_at_start n) }
+    {
+        Ok(Records {
+            history: History::new(alloc),
+            order: Vec::new(alloc),
+            schedule: Vec::new(alloc),
+            flipped: vec![in alloc; 0; n]?,
+            rooted: vec![in alloc; 0; n + 1]?,
+        })
+    }
+
+    /// One more step of process p, which stands at the label and owns the block, with what is seen.
+    /// Nothing changes where memory runs out.
+    pub fn note(
+        &mut self,
+        p: usize,
+        label: Label,
+        block: usize,
+        event: Option<Event>,
+    ) -> Result<(), NoMemory>
+        requires in_turn { IsHistory (history_after self.old.history (event_in event)) }
+        requires process { p < length self.old.flipped }
+        requires block { block < length self.old.rooted }
+        ensures ok { OnOk result (self.new ≡ noted self.old p label block (event_in event)) }
+        ensures err { OnErr result (self.new ≡ self.old) }
+    {
+        self.schedule.try_reserve(1)?;
+        let seen = self.history.len();
+        note_event(
+            &mut self.history,
+            &mut self.order,
+            &mut self.rooted,
+            block,
+            event,
+        )?;
+        note_flip(&mut self.flipped, p, label, seen);
+        count_turn(&mut self.schedule, p);
+        Ok(())
+    }
+
+    pub fn history(&self) -> &History
+        ensures { result.now ≡ self.now.history }
+    {
+        &self.history
+    }
+
+    pub fn order(&self) -> &[CallId]
+        ensures { result.now ≡ self.now.order }
+    {
+        self.order.as_slice()
+    }
+
+    pub fn schedule(&self) -> &[Turns]
+        ensures { result.now ≡ self.now.schedule }
+    {
+        self.schedule.as_slice()
+    }
+
+    pub fn into_parts(self) -> (History, Vec<CallId>, Vec<Turns>)
+        ensures history { result.0 ≡ self.history }
+        ensures order { result.1.items ≡ self.order }
+        ensures schedule { result.2.items ≡ self.schedule }
+    {
+        let Records {
+            history,
+            order,
+            schedule,
+            flipped: _,
+            rooted: _,
+        } = self;
+        (history, order, schedule)
+    }
+}
+
+ghost use Rattle.wf_history.specs.History.{IsHistory, Applied};
+ghost use Rattle.wf_object.specs.Object.{history_after, order_after, rooted_after, at_flip};
+
+/// What was seen, at the end of the history; calls that took effect in the order too, and the mark
+/// of the block that became the root. Nothing changes where memory runs out.
+fn note_event(
+    history: &mut History,
+    order: &mut Vec<CallId>,
+    rooted: &mut Vec<usize>,
+    block: usize,
+    event: Option<Event>,
+) -> Result<(), NoMemory>
+    requires in_turn { IsHistory (history_after history.old (event_in event)) }
+    requires block { block < length rooted.old.items }
+    ensures history { OnOk result (history.new ≡ history_after history.old (event_in event)) }
+    ensures order { OnOk result (order.new.items ≡ order_after order.old.items (event_in event)) }
+    ensures rooted { OnOk result (rooted.new.items ≡ rooted_after rooted.old.items block (length history.old + 1) (event_in event)) }
+    ensures no_history { OnErr result (history.new ≡ history.old) }
+    ensures no_order { OnErr result (order.new.items ≡ order.old.items) }
+    ensures no_rooted { OnErr result (rooted.new.items ≡ rooted.old.items) }
+{
+    match event {
+        None => Ok(()),
+        Some(Event::Begin(id, call)) => history.push(Event::Begin(id, call)),
+        Some(Event::Applied(ids)) => {
+            note_applied(history, order, ids)?;
+            rooted[block] = history.len();
+            Ok(())
+        }
+        Some(Event::End(id, reply)) => history.push(Event::End(id, reply)),
+    }
+}
+
+/// At FLIP the history's length is marked for the process.
+fn note_flip(flipped: &mut Vec<usize>, p: usize, label: Label, seen: usize)
+    requires { p < length flipped.old.items }
+    ensures { flipped.new.items ≡ (if at_flip label then slice_set flipped.old.items p seen else flipped.old.items) }
+{
+    if label == Label::Flip {
+        flipped[p] = seen;
+    }
+}
+
+/// Calls that took effect, at the end of the history and of the order.
+fn note_applied(
+    history: &mut History,
+    order: &mut Vec<CallId>,
+    ids: Vec<CallId>,
+) -> Result<(), NoMemory>
+    requires { IsHistory (history.old ++ Applied ids.items ∷ []) }
+    ensures history { OnOk result (history.new ≡ history.old ++ Applied ids.items ∷ []) }
+    ensures order { OnOk result (order.new.items ≡ order.old.items ++ ids.items) }
+    ensures no_history { OnErr result (history.new ≡ history.old) }
+    ensures no_order { OnErr result (order.new.items ≡ order.old.items) }
+{
+    let before = order.len();
+    order.extend_from_slice(ids.as_slice())?;
+    match history.push(Event::Applied(ids)) {
+        Ok(()) => Ok(()),
+        Err(fault) => {
+            order.truncate(before);
+            Err(fault)
+        }
+    }
+}
+
+fn count_turn(schedule: &mut Vec<Turns>, p: usize)
+    requires { vec_len schedule.old < vec_capacity schedule.old }
+    ensures { schedule.new.items ≡ counted schedule.old.items p }
+{
+    let n = schedule.len();
+    if n > 0 && schedule[n - 1].process == p && schedule[n - 1].count < u64::MAX {
+        schedule[n - 1].count += 1;
+    } else {
+        push_reserved(
+            schedule,
+            Turns {
+                process: p,
+                count: 1,
+            },
+        );
+    }
+}
+
+fn push_reserved<T: Drop>(v: &mut Vec<T>, x: T)
+    requires { vec_len v.old < vec_capacity v.old }
+    ensures { v.new.items ≡ v.old.items ++ x ∷ [] }
+{
+    match v.push(x) {
+        Ok(()) => {}
+        Err(_) => unreachable!(),
+    }
+}
+
+/// What a step at the label answers, where this is what is seen.
+pub fn answer(alloc: Global, label: Label, event: &Option<Event>) -> Result<StepOut, NoMemory>
+    ensures { IfOk result (λ out. answer_in out ≡ answer_by label (event_in event.now)) }
+{
+    match event {
+        None if label == Label::Next => Ok(StepOut::Halted),
+        None | Some(Event::Applied(_)) => Ok(StepOut::On),
+        Some(Event::Begin(id, _)) => Ok(StepOut::Began(*id)),
+        Some(Event::End(id, reply)) => Ok(StepOut::Answered(*id, copy_reply(alloc, reply)?)),
+    }
+}

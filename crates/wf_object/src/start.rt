@@ -1,0 +1,69 @@
+//! Where an object begins.
+
+ghost use Rattle.std.specs.Prelude.{◌≡◌, ◌+◌, ◌<◌, ◌^◌, IfOk, IfErr, length};
+ghost use Rattle.wf_object.specs.declared.fault.NewFault.TheVariants as Faults;
+ghost use Rattle.wf_object.specs.Shape.{IsSized};
+ghost use Rattle.wf_object.specs.Start.{cell_at_start, IsIdle};
+ghost use Rattle.wf_object.specs.Linked.{Each};
+
+use crate::engine::Engine;
+use crate::fault::NewFault;
+use crate::process::{Label, Process, Registers, Sizes};
+use crate::steps::block_length;
+use ll_cell::Shared;
+use ob_syntax::NoMemory;
+use std::alloc::Global;
+
+/// The cell with these words in its root: they enter by process 0's own block and one exchange.
+pub fn opened(alloc: Global, z: Sizes, block: &[i64]) -> Result<Shared, NewFault>
+    requires sized { IsSized z }
+    requires words { length block.now ≡ z.variables }
+    ensures cell { IfOk result (λ shared. shared ≡ cell_at_start z block.now) }
+    ensures memory { IfErr result (λ fault. fault ≡ Faults.NoMemory) }
+{
+    let mut shared = Shared::new(alloc, z.processes, block_length(z), z.arguments + 1)?;
+    shared.own_words(0, z.variables).copy_from_slice(block);
+    let _ = shared.load_linked(0);
+    let _ = shared.store_conditional(0);
+    Ok(shared)
+}
+
+fn idle_process<E: Engine>(alloc: Global, engine: &E, z: Sizes) -> Result<Process<E::Run>, NoMemory>
+    requires { z.arguments + z.replies + z.variables < 2 ^ 62 }
+    ensures { IfOk result (IsIdle z) }
+{
+    Ok(Process {
+        label: Label::Next,
+        calls: Vec::new(alloc),
+        begun: 0,
+        registers: Registers {
+            r: 0,
+            acc: 0,
+            i: 0,
+            j: 0,
+            round: 0,
+            status: 0,
+        },
+        list: vec![in alloc; 0; z.arguments]?,
+        replies: vec![in alloc; 0; z.replies + 1]?,
+        save: vec![in alloc; 0; z.variables]?,
+        run: engine.new_run(alloc)?,
+    })
+}
+
+/// Processes that have no call yet.
+pub fn idle<E: Engine>(
+    alloc: Global,
+    engine: &E,
+    z: Sizes,
+) -> Result<Vec<Process<E::Run>>, NoMemory>
+    requires sized { IsSized z }
+    ensures count { IfOk result (λ v. length v.items ≡ z.processes) }
+    ensures idle { IfOk result (λ v. Each (λ _ q. IsIdle z q) v.items) }
+{
+    let mut v = Vec::new(alloc);
+    for _p in 0..z.processes {
+        v.push(idle_process(alloc, engine, z)?)?;
+    }
+    Ok(v)
+}

@@ -1,0 +1,407 @@
+//! The rows of the table, one function each. Each changes the cell in at most one way, and the record of its process.
+
+ghost use Rattle.std.specs.Prelude.{◌≡◌, ℕ, ◌+◌, ◌*◌, ◌<◌, ◌≤◌, length};
+ghost use Rattle.ll_cell.specs.Cell.{own_of, block_of, announcement_of, word_at, is_linked};
+ghost use Rattle.wf_object.specs.Machine.{next, mine, fetch, save, enter, undo, keep, commit, kept_word, row, or_past, part, toggle_place, cell_after, post, flip, try, links, load, store, check, seen, read, take_reply, give, body_step, toggle_in, announced_toggle, own_block, block_words, inverted};
+ghost use Rattle.wf_object.specs.Facts.{CallsFit};
+ghost use Rattle.wf_object.specs.Shape.{IsSized, IsShaped, IsInRange};
+ghost use Rattle.wf_object.specs.declared.process.Label.TheVariants.{Next, Post, Flip, Try, Link, Load, Store, Check1, Mine, Seen, Fetch, Check2, Save, Enter, Body, Undo, Keep, Commit, Read, Take, Give};
+
+use crate::engine::{Engine, EngineTurn};
+use crate::process::{Label, Process, Sizes};
+use ll_cell::Shared;
+
+pub fn part_of(z: Sizes, q: usize) -> usize
+    requires sized { IsSized z }
+    requires process { q ≤ z.processes }
+    ensures place { result ≡ part z q }
+    ensures within { result ≤ block_words z }
+    ensures room { q < z.processes → result + (z.replies + 2) ≤ block_words z }
+{
+    z.variables + q * (z.replies + 2)
+}
+
+pub fn post<R>(z: Sizes, shared: &mut Shared, q: &mut Process<R>, p: usize)
+    requires sized { IsSized z }
+    requires shaped { IsShaped z shared.old }
+    requires process { p < z.processes }
+    requires in_range { IsInRange z q.old }
+    requires label { q.old.label ≡ Post }
+    ensures cell { shared.new ≡ cell_after shared.old p (post z q.old).change }
+    ensures process { q.new ≡ (post z q.old).process }
+{
+    let i = q.registers.i;
+    shared.write_announce(p, i, q.list[i]);
+    q.registers.i = i + 1;
+    if i + 1 == z.arguments {
+        q.label = Label::Flip;
+    }
+}
+
+pub fn flip<R>(z: Sizes, shared: &mut Shared, q: &mut Process<R>, p: usize)
+    requires sized { IsSized z }
+    requires shaped { IsShaped z shared.old }
+    requires process { p < z.processes }
+    ensures cell { shared.new ≡ cell_after shared.old p (flip z shared.old p q.old).change }
+    ensures process { q.new ≡ (flip z shared.old p q.old).process }
+{
+    let toggle = shared.read_announce(p, z.arguments);
+    shared.write_announce(p, z.arguments, turned(toggle));
+    q.registers.round = 0;
+    q.label = Label::Try;
+}
+
+fn turned(toggle: i64) -> i64
+    ensures { result ≡ inverted toggle }
+{
+    if toggle == 0 { 1 } else { 0 }
+}
+
+pub fn try_round<R>(q: &mut Process<R>)
+    requires { q.old.registers.round ≤ 2 }
+    ensures process { q.new ≡ (try q.old).process }
+{
+    if q.registers.round == 2 {
+        q.label = Label::Read;
+    } else {
+        q.registers.round += 1;
+        q.label = Label::Link;
+    }
+}
+
+pub fn link<R>(shared: &mut Shared, q: &mut Process<R>, p: usize)
+    requires { p < length shared.old.linked }
+    ensures cell { shared.new ≡ cell_after shared.old p (links shared.old q.old).change }
+    ensures process { q.new ≡ (links shared.old q.old).process }
+{
+    q.registers.r = shared.load_linked(p);
+    q.registers.i = 0;
+    q.label = Label::Load;
+}
+
+pub fn load<R>(z: Sizes, shared: &Shared, q: &mut Process<R>)
+    requires shaped { IsShaped z shared.now }
+    requires in_range { IsInRange z q.old }
+    requires label { q.old.label ≡ Load }
+    ensures { q.new ≡ (load shared.now q.old).process }
+{
+    q.registers.acc = shared.read_word(q.registers.r, q.registers.i);
+    q.label = Label::Store;
+}
+
+pub fn store<R>(z: Sizes, shared: &mut Shared, q: &mut Process<R>, p: usize)
+    requires sized { IsSized z }
+    requires shaped { IsShaped z shared.old }
+    requires process { p < z.processes }
+    requires in_range { IsInRange z q.old }
+    requires label { q.old.label ≡ Store }
+    ensures cell { shared.new ≡ cell_after shared.old p (store z q.old).change }
+    ensures process { q.new ≡ (store z q.old).process }
+{
+    let i = q.registers.i;
+    shared.write_word(p, i, q.registers.acc);
+    q.registers.i = i + 1;
+    q.label = if i + 1 == block_length(z) {
+        Label::Check1
+    } else {
+        Label::Load
+    };
+}
+
+pub fn block_length(z: Sizes) -> usize
+    requires { IsSized z }
+    ensures { result ≡ block_words z }
+{
+    part_of(z, z.processes)
+}
+
+pub fn check<R>(shared: &Shared, q: &mut Process<R>, p: usize, passed: Label)
+    requires { p < length shared.now.linked }
+    ensures { q.new ≡ (check passed shared.now p q.old).process }
+{
+    if shared.validate(p) {
+        q.registers.i = 0;
+        q.label = passed;
+    } else {
+        q.label = Label::Try;
+    }
+}
+
+pub fn body<E: Engine>(engine: &E, z: Sizes, shared: &mut Shared, q: &mut Process<E::Run>, p: usize)
+    requires sized { IsSized z }
+    requires shaped { IsShaped z shared.old }
+    requires process { p < z.processes }
+    requires variables { z.variables ≡ (E.meaning engine.now).variables }
+    ensures cell { shared.new ≡ cell_after shared.old p (body_step (E.meaning engine.now) z shared.old p q.old).change }
+    ensures process { q.new ≡ (body_step (E.meaning engine.now) z shared.old p q.old).process }
+{
+    let block = shared.own_words(p, z.variables);
+    match engine.step(&mut q.run, block) {
+        EngineTurn::On | EngineTurn::Stuck => {}
+        EngineTurn::Returned => {
+            q.registers.i = 0;
+            q.registers.status = 0;
+            q.label = Label::Keep;
+        }
+        EngineTurn::Trapped(k) => {
+            q.registers.i = 0;
+            q.registers.status = i64::from(k);
+            q.label = if z.variables == 0 {
+                Label::Keep
+            } else {
+                Label::Undo
+            };
+        }
+    }
+}
+
+pub fn next<E: Engine>(engine: &E, q: &mut Process<E::Run>)
+    requires list { length q.old.list ≡ (E.meaning engine.now).arguments }
+    requires begun { q.old.begun ≤ length q.old.calls }
+    requires fits { CallsFit (E.fits engine.now) q.old }
+    ensures { q.new ≡ (next (E.meaning engine.now) q.old).process }
+{
+    if q.begun < q.calls.len() {
+        engine.lay(&q.calls[q.begun], &mut q.list);
+        q.begun += 1;
+        q.registers.i = 0;
+        q.label = Label::Post;
+    }
+}
+
+pub fn mine<R>(z: Sizes, shared: &Shared, q: &mut Process<R>, p: usize)
+    requires sized { IsSized z }
+    requires shaped { IsShaped z shared.now }
+    requires process { p < z.processes }
+    ensures { q.new ≡ (mine z shared.now p q.old).process }
+{
+    if own_toggle(z, shared, p, p) == shared.read_announce(p, z.arguments) {
+        q.label = Label::Read;
+    } else {
+        q.registers.j = 0;
+        q.label = Label::Seen;
+    }
+}
+
+/// The toggle of process q in p's own block.
+pub fn own_toggle(z: Sizes, shared: &Shared, p: usize, q: usize) -> i64
+    requires sized { IsSized z }
+    requires shaped { IsShaped z shared.now }
+    requires process { p < z.processes }
+    requires other { q < z.processes }
+    ensures { result ≡ toggle_in z (own_block shared.now p) q }
+{
+    shared.read_word(shared.own_block(p), part_of(z, q) + (z.replies + 1))
+}
+
+pub fn seen<R>(z: Sizes, shared: &Shared, q: &mut Process<R>, p: usize)
+    requires sized { IsSized z }
+    requires shaped { IsShaped z shared.now }
+    requires process { p < z.processes }
+    requires in_range { q.old.registers.j ≤ z.processes }
+    ensures { q.new ≡ (seen z shared.now p q.old).process }
+{
+    let j = q.registers.j;
+    if j == z.processes {
+        q.label = Label::Commit;
+    } else if shared.read_announce(j, z.arguments) == own_toggle(z, shared, p, j) {
+        q.registers.j = j + 1;
+    } else {
+        q.registers.i = 0;
+        q.label = Label::Fetch;
+    }
+}
+
+pub fn fetch<R>(z: Sizes, shared: &Shared, q: &mut Process<R>)
+    requires sized { IsSized z }
+    requires shaped { IsShaped z shared.now }
+    requires in_range { IsInRange z q.old }
+    requires label { q.old.label ≡ Fetch }
+    ensures { q.new ≡ (fetch z shared.now q.old).process }
+{
+    let i = q.registers.i;
+    q.list[i] = shared.read_announce(q.registers.j, i);
+    q.registers.i = i + 1;
+    if i + 1 == z.arguments {
+        q.label = Label::Check2;
+    }
+}
+
+pub fn save<R>(z: Sizes, shared: &Shared, q: &mut Process<R>, p: usize)
+    requires sized { IsSized z }
+    requires shaped { IsShaped z shared.now }
+    requires process { p < z.processes }
+    requires in_range { IsInRange z q.old }
+    requires label { q.old.label ≡ Save }
+    ensures { q.new ≡ (save z shared.now p q.old).process }
+{
+    let i = q.registers.i;
+    q.save[i] = shared.read_word(shared.own_block(p), i);
+    q.registers.i = i + 1;
+    if i + 1 == z.variables {
+        q.label = Label::Enter;
+    }
+}
+
+pub fn enter<E: Engine>(engine: &E, q: &mut Process<E::Run>)
+    requires { length q.old.list ≡ (E.meaning engine.now).arguments }
+    ensures { q.new ≡ (enter (E.meaning engine.now) q.old).process }
+{
+    engine.start(&mut q.run, &q.list);
+    q.label = Label::Body;
+}
+
+pub fn undo<R>(z: Sizes, shared: &mut Shared, q: &mut Process<R>, p: usize)
+    requires sized { IsSized z }
+    requires shaped { IsShaped z shared.old }
+    requires process { p < z.processes }
+    requires in_range { IsInRange z q.old }
+    requires label { q.old.label ≡ Undo }
+    ensures cell { shared.new ≡ cell_after shared.old p (undo z q.old).change }
+    ensures process { q.new ≡ (undo z q.old).process }
+{
+    let i = q.registers.i;
+    shared.write_word(p, i, q.save[i]);
+    if i + 1 == z.variables {
+        q.registers.i = 0;
+        q.label = Label::Keep;
+    } else {
+        q.registers.i = i + 1;
+    }
+}
+
+/// The word that KEEP writes next: status, results, toggle.
+fn word_kept<E: Engine>(engine: &E, z: Sizes, shared: &Shared, q: &Process<E::Run>, p: usize) -> i64
+    requires sized { IsSized z }
+    requires shaped { IsShaped z shared.now }
+    requires process { p < z.processes }
+    requires in_range { IsInRange z q.now }
+    requires label { q.now.label ≡ Keep }
+    requires replies { z.replies ≡ (E.meaning engine.now).replies }
+    ensures { result ≡ kept_word (E.meaning engine.now) z shared.now p q.now }
+{
+    let i = q.registers.i;
+    if i == 0 {
+        q.registers.status
+    } else if i == z.replies + 1 {
+        turned(own_toggle(z, shared, p, q.registers.j))
+    } else if q.registers.status == 0 {
+        engine.result(&q.run, i - 1)
+    } else {
+        0
+    }
+}
+
+pub fn keep<E: Engine>(engine: &E, z: Sizes, shared: &mut Shared, q: &mut Process<E::Run>, p: usize)
+    requires sized { IsSized z }
+    requires shaped { IsShaped z shared.old }
+    requires process { p < z.processes }
+    requires in_range { IsInRange z q.old }
+    requires label { q.old.label ≡ Keep }
+    requires replies { z.replies ≡ (E.meaning engine.now).replies }
+    ensures cell { shared.new ≡ cell_after shared.old p (keep (E.meaning engine.now) z shared.old p q.old).change }
+    ensures process { q.new ≡ (keep (E.meaning engine.now) z shared.old p q.old).process }
+{
+    let w = word_kept(engine, z, shared, q, p);
+    let i = q.registers.i;
+    shared.write_word(p, part_of(z, q.registers.j) + i, w);
+    if i + 1 == z.replies + 2 {
+        q.registers.i = 0;
+        q.registers.j += 1;
+        q.label = Label::Seen;
+    } else {
+        q.registers.i = i + 1;
+    }
+}
+
+pub fn commit<R>(shared: &mut Shared, q: &mut Process<R>, p: usize)
+    requires links { p < length shared.old.linked }
+    requires owns { p < length shared.old.own }
+    ensures cell { shared.new ≡ cell_after shared.old p (commit shared.old p q.old).change }
+    ensures process { q.new ≡ (commit shared.old p q.old).process }
+{
+    q.label = if shared.store_conditional(p) {
+        Label::Read
+    } else {
+        Label::Try
+    };
+}
+
+pub fn read<R>(shared: &Shared, q: &mut Process<R>)
+    ensures { q.new ≡ (read shared.now q.old).process }
+{
+    q.registers.r = shared.root();
+    q.registers.i = 0;
+    q.label = Label::Take;
+}
+
+pub fn take_reply<R>(z: Sizes, shared: &Shared, q: &mut Process<R>, p: usize)
+    requires sized { IsSized z }
+    requires shaped { IsShaped z shared.now }
+    requires process { p < z.processes }
+    requires in_range { IsInRange z q.old }
+    requires label { q.old.label ≡ Take }
+    ensures { q.new ≡ (take_reply z shared.now p q.old).process }
+{
+    let i = q.registers.i;
+    q.replies[i] = shared.read_word(q.registers.r, part_of(z, p) + i);
+    q.registers.i = i + 1;
+    if i + 1 == z.replies + 1 {
+        q.label = Label::Give;
+    }
+}
+
+pub fn give<R>(q: &mut Process<R>)
+    ensures { q.new ≡ (give q.old).process }
+{
+    q.label = Label::Next;
+}
+
+fn or_past(words: usize, label: Label, past: Label) -> Label
+    ensures { result ≡ or_past words label past }
+{
+    if words == 0 { past } else { label }
+}
+
+/// One step of the process on the cell.
+pub fn act<E: Engine>(engine: &E, z: Sizes, shared: &mut Shared, q: &mut Process<E::Run>, p: usize)
+    requires sized { IsSized z }
+    requires shaped { IsShaped z shared.old }
+    requires process { p < z.processes }
+    requires in_range { IsInRange z q.old }
+    requires variables { z.variables ≡ (E.meaning engine.now).variables }
+    requires replies { z.replies ≡ (E.meaning engine.now).replies }
+    requires arguments { z.arguments ≡ (E.meaning engine.now).arguments }
+    requires fits { CallsFit (E.fits engine.now) q.old }
+    ensures cell { shared.new ≡ cell_after shared.old p (row q.old.label (E.meaning engine.now) z shared.old p q.old).change }
+    ensures process { q.new ≡ (row q.old.label (E.meaning engine.now) z shared.old p q.old).process }
+{
+    match q.label {
+        Label::Next => next(engine, q),
+        Label::Post => post(z, shared, q, p),
+        Label::Flip => flip(z, shared, q, p),
+        Label::Try => try_round(q),
+        Label::Link => link(shared, q, p),
+        Label::Load => load(z, shared, q),
+        Label::Store => store(z, shared, q, p),
+        Label::Check1 => check(shared, q, p, Label::Mine),
+        Label::Mine => mine(z, shared, q, p),
+        Label::Seen => seen(z, shared, q, p),
+        Label::Fetch => fetch(z, shared, q),
+        Label::Check2 => check(
+            shared,
+            q,
+            p,
+            or_past(z.variables, Label::Save, Label::Enter),
+        ),
+        Label::Save => save(z, shared, q, p),
+        Label::Enter => enter(engine, q),
+        Label::Body => body(engine, z, shared, q, p),
+        Label::Undo => undo(z, shared, q, p),
+        Label::Keep => keep(engine, z, shared, q, p),
+        Label::Commit => commit(shared, q, p),
+        Label::Read => read(shared, q),
+        Label::Take => take_reply(z, shared, q, p),
+        Label::Give => give(q),
+    }
+}

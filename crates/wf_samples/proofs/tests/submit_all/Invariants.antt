@@ -1,0 +1,8 @@
+use Rattle.std.proofs.Common.{◌≡◌}
+use Rattle.wf_samples.proofs.tests.submit_all.Given as goal
+
+abbrev pub invariant-loop-p : goal.invariant-loop-p
+invariant-loop-p g l = record {
+  sizes : l.machine.sizes ≡ l.initial.machine.sizes;
+  engine : l.machine.engine ≡ l.initial.machine.engine;
+}

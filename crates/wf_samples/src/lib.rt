@@ -1,0 +1,11 @@
+//! Small engines, with which the step machine is tested and measured.
+#![tactic(auto)]
+
+pub mod adder;
+pub mod tally;
+#[cfg(test)]
+mod tests;
+pub mod words;
+
+pub use adder::Adder;
+pub use tally::Tally;
