@@ -7,7 +7,7 @@ use Rattle.ob_syntax.specs.declared.tree.Expr.TheVariants as Exprs
 use Rattle.ob_syntax.specs.declared.tree.Operand.{Operand}
 use Rattle.ob_syntax.specs.declared.tree.Sign.{Sign}
 use Rattle.ob_syntax.specs.Tree
-use Rattle.ob_syntax.specs.View.{name_of, expr_of}
+use Rattle.ob_syntax.specs.View.{name_of, expr_of, operands_in}
 use Rattle.ob_check.specs.declared.checker.CheckFault.{CheckFault}
 use Rattle.ob_check.specs.declared.program.Arithmetic.{Arithmetic}
 use Rattle.ob_check.specs.declared.program.DataType.{DataType}
@@ -23,9 +23,10 @@ use Rattle.ob_check.specs.Typing.{IsVariable, HasType, AreOperands, IsArithmetic
 use Rattle.ob_check.specs.Parts as Parts
 use Rattle.ob_check.specs.Parts.{AVariable, AnExpression, SomeOperands}
 use Rattle.ob_check.specs.View.{expression_of}
-use Rattle.ob_check.specs.Checking.{IsFaultIn, operands_in, operations_in}
+use Rattle.ob_check.specs.Checking.{IsFaultIn, operations_in}
 use Rattle.ob_check.proofs.Faults.{further_in}
-use Rattle.ob_check.proofs.Sums.{expr_of-sum, expression_of-computed}
+use Rattle.ob_check.proofs.Sums.{expression_of-computed}
+use Rattle.ob_syntax.proofs.Loops.{expr_of-sum}
 
 -- there is one type
 pub is_integer : (t : DataType) → t ≡ Integer

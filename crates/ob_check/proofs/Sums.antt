@@ -1,33 +1,13 @@
--- Sums: vectors within an expression as lists, and operations one more at a time.
-use Rattle.std.proofs.Common.{◌≡◌, List, [], ◌∷◌, ◌++◌, refl, ap, ◌∙◌, Box, Vec, Option}
+-- Operations of the checked program: a vector within an expression as a list, and one more at a time.
+use Rattle.std.proofs.Common.{◌≡◌, List, [], ◌∷◌, ◌++◌, refl, ap, ◌∙◌, Box, Vec}
 use Rattle.std.specs.declared.alloc.Global.{Global}
 use mathlib.Core.Former.{Count}
-use Rattle.ob_syntax.specs.declared.tree.Expr.{Expr, Row_of-Operand, end_of-Operand, more_of-Operand, items-the_row-Operand, items_hidden-the_row-Operand-0}
-use Rattle.ob_syntax.specs.declared.tree.Expr.TheVariants as Exprs
-use Rattle.ob_syntax.specs.declared.tree.Operand.{Operand}
-use Rattle.ob_syntax.specs.declared.tree.Sign.{Sign}
-use Rattle.ob_syntax.specs.Tree
-use Rattle.ob_syntax.specs.View.{expr_of, operands_of}
 use Rattle.ob_check.specs.declared.program.Expression.{Expression, Row_of-Operation, end_of-Operation, more_of-Operation, items-the_row-Operation, items_hidden-the_row-Operation-0}
 use Rattle.ob_check.specs.declared.program.Expression.TheVariants as Expressions
 use Rattle.ob_check.specs.declared.program.Operation.{Operation}
 use Rattle.ob_check.specs.Program as Program
 use Rattle.ob_check.specs.View.{expression_of, operations_of}
-use Rattle.ob_check.specs.Checking.{operands_in, operations_in}
-
-operands_row : (n : _) (row : Row_of-Operand n) → operands_of row ≡ operands_in (items-the_row-Operand n row)
-operands_row n end_of-Operand = refl
-operands_row n (more_of-Operand operator place e rest) = ap (Tree.operand operator place (expr_of e)) (operands_row _ rest)
-
-abbrev row_of : Expr → (n : Count) × Row_of-Operand n
-row_of (Exprs.Sum' sign p first shape rest) = (_, rest)
-row_of _ = (_, end_of-Operand)
-
-pub expr_of-sum : (sign : Option Sign) (first : Box Expr Global) (rest : Vec Operand Global) →
-    expr_of (Exprs.Sum sign first rest) ≡ Tree.Sum sign (expr_of first.value) (operands_in rest.items)
-expr_of-sum sign first rest =
-    let row = row_of (Exprs.Sum sign first rest) in
-    ap (Tree.Sum sign (expr_of first.value)) (operands_row row.0 row.1 ∙ ap operands_in (items_hidden-the_row-Operand-0 rest))
+use Rattle.ob_check.specs.Checking.{operations_in}
 
 operations_row : (n : _) (row : Row_of-Operation n) → operations_of row ≡ operations_in (items-the_row-Operation n row)
 operations_row n end_of-Operation = refl

@@ -2,10 +2,9 @@
 use Rattle.std.specs.Prelude.{◌≡◌, ◌++◌, Bool, true, false, List, [], ◌∷◌, map, Option, Some, None, option_map, String}
 use Rattle.std.specs.declared.alloc.Global.{Global}
 use Rattle.indexmap.specs.IndexMap.{IndexMap, get_by_text}
-use Rattle.ob_syntax.specs.declared.tree.Operand.{Operand}
 use Rattle.ob_syntax.specs.Tree
 use Rattle.ob_syntax.specs.declared.tree.Procedure.{Procedure}
-use Rattle.ob_syntax.specs.View.{name_of, expr_of, stmts_in, heading_of}
+use Rattle.ob_syntax.specs.View.{name_of, stmts_in, heading_of}
 use Rattle.ob_check.specs.declared.checker.CheckFault.{CheckFault}
 use Rattle.ob_check.specs.declared.checker.CheckFault.TheVariants.{NoMemory}
 use Rattle.ob_check.specs.declared.checker.scopes.Object.{Object}
@@ -89,11 +88,7 @@ pub record AddsParameters (env : Environment) (x : Tree.Section) (after : Enviro
 abbrev pub in_front : Procedure → Tree.Procedures → Tree.Procedures
 in_front p rest = Tree.procedure (heading_of p) (option_map (λ b. stmts_in b.items) p.body) (name_of p.end_name) rest
 
--- operands that stand outside an expression
-abbrev pub operands_in : List Operand → Tree.Operands
-operands_in [] = Tree.no_operand
-operands_in (o ∷ rest) = Tree.operand o.operator o.place (expr_of o.value) (operands_in rest)
-
+-- operations that stand outside an expression
 abbrev pub operations_in : List Operation → Programs.Operations
 operations_in [] = Programs.no_operation
 operations_in (o ∷ rest) = Programs.operation o.operator (expression_of o.operand) (operations_in rest)

@@ -1,11 +1,11 @@
 //! Expressions. Their operands are taken one after another, so that a long sum is no deep recursion.
 
 ghost use Rattle.std.specs.Prelude.{◌≡◌, IfOk, IfErr};
-ghost use Rattle.ob_syntax.specs.View.{expr_of};
+ghost use Rattle.ob_syntax.specs.View.{expr_of, operands_in};
 ghost use Rattle.ob_check.specs.declared.program.DataType.TheVariants.{Integer};
 ghost use Rattle.ob_check.specs.Typing.{HasType, AreOperands, IsArithmetic, with_sign};
 ghost use Rattle.ob_check.specs.Parts.{AnExpression, SomeOperands};
-ghost use Rattle.ob_check.specs.Checking.{env_of, IsFaultIn, operands_in, operations_in};
+ghost use Rattle.ob_check.specs.Checking.{env_of, IsFaultIn, operations_in};
 ghost use Rattle.ob_check.specs.View.{expression_of};
 
 use super::CheckFault;

@@ -2,7 +2,8 @@ use Rattle.std.proofs.Common.{arith, ap, sym, subst, ◌∙◌}
 use Rattle.std.proofs.lemmas.Int.{ints, to_z-of_z}
 use Rattle.std.proofs.lemmas.List.{at_drop_all}
 use Rattle.ob_syntax.specs.Tree.{Operands}
-use Rattle.ob_check.specs.Checking.{env_of, operands_in}
+use Rattle.ob_check.specs.Checking.{env_of}
+use Rattle.ob_syntax.specs.View.{operands_in}
 use Rattle.ob_check.specs.Program as Program
 use Rattle.ob_check.specs.Program.{Operations}
 use Rattle.ob_check.specs.Typing as Typing
