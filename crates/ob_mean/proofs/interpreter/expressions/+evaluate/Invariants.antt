@@ -2,7 +2,7 @@ use Rattle.std.proofs.Common.{◌≡◌, drop}
 use Rattle.ob_check.specs.View.{expression_of}
 use Rattle.ob_mean.specs.Evaluation.{value_of, value_behind}
 use Rattle.ob_mean.specs.Running.{store_of}
-use Rattle.ob_mean.proofs.Chains.{operations_in}
+use Rattle.ob_check.specs.Checking.{operations_in}
 use Rattle.ob_mean.proofs.interpreter.expressions.+evaluate.Given as goal
 
 -- what the operators that are left make of the value so far is the value of all
