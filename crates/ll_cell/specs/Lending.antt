@@ -1,3 +1,4 @@
+-- What a cell is once the words that were lent of a block come back.
 use Rattle.std.specs.Prelude.{ℕ, ℤ, List}
 use Rattle.std.specs.Borrow.{Lends, MutBor, Fml, i64, Array}
 use Rattle.ll_cell.specs.contracts.shared.Shared.{the_row}

@@ -4,6 +4,7 @@ ghost use Rattle.std.specs.Prelude.{◌≡◌, ℕ, ◌+◌, ◌<◌, ◌⊎◌,
 ghost use Rattle.ll_cell.specs.Cell.{block_of};
 ghost use Rattle.ob_mean.specs.View.{call_of};
 ghost use Rattle.wf_object.specs.declared.fault.NewFault.TheVariants as Faults;
+ghost use Rattle.wf_object.specs.Shape.{IsSized, IsShaped};
 ghost use Rattle.wf_object.specs.View.{answer_in};
 
 use crate::engine::Engine;
@@ -197,8 +198,6 @@ impl<E: Engine> Machine<E> {
         (engine, history, order, schedule)
     }
 }
-
-ghost use Rattle.wf_object.specs.Shape.{IsSized, IsShaped};
 
 /// The first words of the root.
 fn root_words(alloc: Global, z: Sizes, shared: &Shared) -> Result<Vec<i64>, NoMemory>

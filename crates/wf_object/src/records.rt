@@ -1,7 +1,8 @@
 //! What was seen, in which order calls were applied, and who stepped.
 
 ghost use Rattle.std.specs.Prelude.{◌≡◌, ℕ, ◌+◌, ◌<◌, ◌^◌, ◌++◌, ◌∷◌, [], Some, OnOk, OnErr, IfOk, length, vec_len, vec_capacity, slice_set, if◌then◌else◌, replicate};
-ghost use Rattle.wf_object.specs.Object.{counted, answer_by};
+ghost use Rattle.wf_history.specs.History.{IsHistory, Applied};
+ghost use Rattle.wf_object.specs.Object.{counted, answer_by, history_after, order_after, rooted_after, at_flip};
 ghost use Rattle.wf_object.specs.View.{event_in, answer_in};
 
 use crate::copies::copy_reply;
@@ -52,8 +53,7 @@ impl Model for Records {
 }
 
 impl Records {
-    ghost use Rattle.wf_history.specs.History.{IsHistory};
-    ghost use Rattle.wf_object.specs.Object.{noted, history_after};
+    ghost use Rattle.wf_object.specs.Object.{noted};
     ghost use Rattle.wf_object.specs.Start.{records_at_start};
 
     /// The records of n processes before any step.
@@ -132,9 +132,6 @@ impl Records {
         (history, order, schedule)
     }
 }
-
-ghost use Rattle.wf_history.specs.History.{IsHistory, Applied};
-ghost use Rattle.wf_object.specs.Object.{history_after, order_after, rooted_after, at_flip};
 
 /// What was seen, at the end of the history; calls that took effect in the order too, and the mark
 /// of the block that became the root. Nothing changes where memory runs out.
