@@ -1,20 +1,19 @@
--- Names and types as they are read, and the name behind an END.
+-- Names as they are read, and the name behind an END.
 use Rattle.std.proofs.Common.{drop, take, ◌≡◌, ℕ, suc, zero, ◌+◌, ◌≤◌, Bool, true, false, not, List, [], ◌∷◌, ◌++◌, Option, Some, refl, sym, ◌∙◌, ap, subst, arith, slice_get, length, Contains}
 use Rattle.std.specs.Str.{bytes_eq}
 use Rattle.std.proofs.lemmas.Slice.Eq.{bytes_eq-Decides}
 use Rattle.std.proofs.lemmas.Option.{slice_get_within}
-use Rattle.ob_syntax.specs.declared.scan.token.Kind.{Kind}
-use Rattle.ob_syntax.specs.Lexemes.{Lexeme, lexeme}
-use Rattle.ob_syntax.specs.Tree
-use Rattle.ob_syntax.specs.Tree.{Name, TypeExpr}
+use Rattle.ob_scan.specs.declared.token.Kind.{Kind}
+use Rattle.ob_scan.specs.Lexemes.{Lexeme, lexeme}
+use Rattle.ob_syntax.specs.Tree.{Name}
 use Rattle.ob_syntax.specs.Grammar
-use Rattle.ob_syntax.specs.Grammar.{Lexemes, TakesAt, takes, TakesName, IsType}
-use Rattle.ob_syntax.specs.Reading.{Breach, name_differs, Reads, breaks, Refuses, kind_at, place_at}
+use Rattle.ob_syntax.specs.Grammar.{Lexemes, TakesAt, takes, TakesName}
+use Rattle.ob_syntax.specs.Conditions.{Breach, name_differs, differing}
+use Rattle.ob_syntax.specs.Reading.{Reads, breaks, Refuses, kind_at, place_at}
 use Rattle.ob_syntax.specs.Forms as forms
-use Rattle.ob_syntax.specs.Forms.{differing}
 use Rattle.ob_syntax.specs.Answers.{State, tokens_of, IsSpelledAt, Went}
 use Rattle.ob_syntax.proofs.States.{went_one}
-use Rattle.ob_syntax.proofs.Steps.{Leads, Fills, Begins, lexeme_there, itself, same_before, drop_before, alive_here}
+use Rattle.ob_syntax.proofs.Steps.{Fills, Begins, lexeme_there, itself, same_before, drop_before, alive_here}
 use Rattle.ob_syntax.proofs.Phrases.{Listed, fill_separated, begins_separated}
 
 name_first : {t : Lexeme} {a b : Lexemes} {y : Name} → TakesName (t ∷ a) y b → (t ≡ lexeme Kind.Ident y.place y.text) × (b ≡ a)
@@ -163,25 +162,3 @@ begins_ident_list = begins_separated begins_name
 
 pub fill_ident_list : Fills forms.ident_list
 fill_ident_list = fill_separated listed_names fill_name
-
--- type = ident
-
-type_only : {a b : Lexemes} {y : TypeExpr} → IsType a y b → (x : Name) × (y ≡ Tree.Called x) × TakesName a x b
-type_only (Grammar.called {name = name} d) = (name, refl, d)
-
-pub leads_type : {tokens : Lexemes} {p : ℕ} → Leads forms.type_expr tokens p forms.name p (λ x. Tree.Called x)
-leads_type = record {
-  order = omega arith;
-  within = λ h. h;
-  into = λ other same x rest d. Grammar.called d;
-  onto = λ other same y rest d stops. (let m = type_only d in (m.0, m.1, m.2, stops));
-  breaches = λ x. refl;
-}
-
-pub fill_type : Fills forms.type_expr
-fill_type = record {
-  more = lexeme Kind.Ident 0 [] ∷ [];
-  tree = Tree.Called (record { text = []; place = 0 });
-  derives = λ rest. Grammar.called Grammar.takes;
-  kept = refl;
-}

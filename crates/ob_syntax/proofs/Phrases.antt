@@ -1,9 +1,10 @@
 -- The phrases that hold other phrases: what is left of each, by the token that stands there. Each lemma once, over any form.
 use Rattle.std.proofs.Common.{drop, ◌≡◌, ℕ, suc, Bool, true, false, List, [], ◌∷◌, ◌++◌, Option, Some, None, refl, sym, ◌∙◌, ap, subst, arith}
-use Rattle.ob_syntax.specs.declared.scan.token.Kind.{Kind}
+use Rattle.ob_scan.specs.declared.token.Kind.{Kind}
 use Rattle.ob_syntax.specs.Grammar.{Lexemes, Phrase, Takes, TakesAt, takes, TakesWord, Each, Separated, Perhaps, Behind}
 use Rattle.ob_syntax.specs.Grammar as Grammar
-use Rattle.ob_syntax.specs.Reading.{Form, Breach, Stops, Reads, kind_at, place_at}
+use Rattle.ob_syntax.specs.Conditions.{Breach}
+use Rattle.ob_syntax.specs.Reading.{Form, Stops, Reads, kind_at, place_at}
 use Rattle.ob_syntax.specs.Forms as forms
 use Rattle.ob_syntax.specs.Forms.{token, Both, both}
 use Rattle.ob_syntax.proofs.Steps.{Leads, Follows, Fills, Begins, Passes, takes_same, no_takes_same, same_token, stops_at, not_stopped, weaker, kind_within, shorter}

@@ -2,12 +2,13 @@
 use Rattle.std.proofs.Common.{◌≡◌, ℕ, suc, ◌+◌, length, Some, true, false, IsTrue, ◌↔◌, Result, refl, sym, ◌∙◌, ap, subst, arith}
 use Rattle.std.specs.Result.{IsErrAnd, IfErr}
 use Rattle.std.proofs.lemmas.Result.{err_from_is_err_and}
-use Rattle.ob_syntax.specs.declared.scan.token.Kind.{Kind}
+use Rattle.ob_scan.specs.declared.token.Kind.{Kind}
 use Rattle.ob_syntax.specs.declared.parser.ParseFault.{ParseFault}
-use Rattle.ob_syntax.specs.declared.parser.ParseFault.TheVariants.{Unexpected, NameDiffers, NoMemory}
-use Rattle.ob_syntax.specs.Tokens.{TokenizedText}
+use Rattle.ob_syntax.specs.declared.parser.ParseFault.TheVariants.{Unexpected, TooDeep, NameDiffers, NoMemory}
+use Rattle.ob_scan.specs.Tokens.{TokenizedText}
 use Rattle.ob_syntax.specs.ParseFaults.{lexemes_of, StandsAt}
-use Rattle.ob_syntax.specs.Reading.{Form, Sequel, behind_part, Reads, Refuses, unexpected, breaks, name_differs, kind_at, place_at}
+use Rattle.ob_syntax.specs.Reading.{Form, Sequel, behind_part, Reads, Refuses, unexpected, breaks, kind_at, place_at}
+use Rattle.ob_syntax.specs.Conditions.{name_differs, too_deep}
 use Rattle.ob_syntax.specs.Forms.{token, both, linked}
 use Rattle.ob_syntax.specs.Answers.{State, tokens_of, Went, Fails, FailsHere, Answers}
 use Rattle.ob_syntax.proofs.Steps.{Leads, Fills, leads_on, leads_itself, leads_as, leads_reads, leads_refuses, Follows, leads_second, first_refuses, always, reads_token, Begins, refuses_beginning}
@@ -39,6 +40,10 @@ pub fails : {A B : Type 0} {F : Form A} {G : Form B} {s t : State} {f : B → A}
 fails {G = G} {t = t} a (Unexpected place) (i, h, r) =
     let P : TokenizedText → Type 0 = λ source. Refuses G (lexemes_of source) t.position unexpected i in
     (i, h ∙ ap (λ source. place_at (length source.text) (lexemes_of source) i) a.kept, leads_refuses a.leads (subst P a.kept r))
+fails {G = G} {t = t} a (TooDeep place) (i, h, r) =
+    let P : TokenizedText → Type 0 = λ source. Refuses G (lexemes_of source) t.position (breaks (too_deep place)) i in
+    let Q : TokenizedText → Type 0 = λ source. StandsAt (lexemes_of source) i place in
+    (i, subst Q a.kept h, leads_refuses a.leads (subst P a.kept r))
 fails {G = G} {t = t} a (NameDiffers place) (i, h, r) =
     let P : TokenizedText → Type 0 = λ source. Refuses G (lexemes_of source) t.position (breaks (name_differs place)) i in
     let Q : TokenizedText → Type 0 = λ source. StandsAt (lexemes_of source) i place in
@@ -52,6 +57,7 @@ second_linked follows a = record { kept = a.kept; leads = leads_second follows a
 pub first_fails : {A B : Type 0} {F : Form A} {S : Sequel A B} (s : State) →
     ((z : A) → Follows F (behind_part S z)) → ((z : A) → Fills (behind_part S z)) → (e : ParseFault) → Fails F s e → Fails (linked F S) s e
 first_fails s follows fills (Unexpected place) (i, h, r) = (i, h, first_refuses follows fills r)
+first_fails s follows fills (TooDeep place) (i, h, r) = (i, h, first_refuses follows fills r)
 first_fails s follows fills (NameDiffers place) (i, h, r) = (i, h, first_refuses follows fills r)
 first_fails s follows fills NoMemory h = tt
 
@@ -111,6 +117,7 @@ refused_here {F = F} s e r =
 
 pub fails_here : {A : Type 0} {F : Form A} {kind : Kind} (s : State) → Begins F kind → Fills F → (e : ParseFault) → FailsHere kind s e → Fails F s e
 fails_here s h fills (Unexpected place) (e, missing) = (s.position, e, refuses_beginning h fills missing)
+fails_here s h fills (TooDeep place) h' = absurd h'
 fails_here s h fills (NameDiffers place) h' = absurd h'
 fails_here s h fills NoMemory h' = tt
 

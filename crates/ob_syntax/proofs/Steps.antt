@@ -2,10 +2,11 @@
 use Rattle.std.proofs.Common.{◌≡◌, ℕ, suc, ◌<◌, ◌≤◌, Bool, true, false, List, [], ◌∷◌, ◌++◌, drop, Option, Some, refl, sym, ◌∙◌, ap, subst, arith, option_map, zero, take, length, append_assoc, slice_get}
 use Rattle.std.specs.Option.{option_map_or}
 use Rattle.std.proofs.lemmas.List.Elements.{Contains-append_left}
-use Rattle.ob_syntax.specs.declared.scan.token.Kind.{Kind}
-use Rattle.ob_syntax.specs.Lexemes.{Lexeme, lexeme, place_of}
+use Rattle.ob_scan.specs.declared.token.Kind.{Kind}
+use Rattle.ob_scan.specs.Lexemes.{Lexeme, lexeme, place_of}
 use Rattle.ob_syntax.specs.Grammar.{Lexemes, TakesAt, takes}
-use Rattle.ob_syntax.specs.Reading.{Form, Sequel, behind_part, Breach, Same, Stops, Reads, Reason, unexpected, breaks, Explains, Refuses, kind_of, kind_at, place_at, GoesOnWell}
+use Rattle.ob_syntax.specs.Conditions.{Breach}
+use Rattle.ob_syntax.specs.Reading.{Form, Sequel, behind_part, Same, Stops, Reads, Reason, unexpected, breaks, Explains, Refuses, kind_of, kind_at, place_at, GoesOnWell}
 use Rattle.ob_syntax.specs.Forms.{nothing, token, both, linked}
 
 -- What is left of F at p is G at q, and f makes the tree of F of the tree of G.

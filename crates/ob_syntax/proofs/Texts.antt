@@ -10,11 +10,11 @@ use Rattle.std.proofs.lemmas.Str.Ascii.{IsAscii-nil, IsAscii-cons}
 use Rattle.std.proofs.lemmas.List.{take_more, take-append-drop}
 use Rattle.std.proofs.lemmas.List.Sums.{fold-append}
 use Rattle.std.proofs.lemmas.Bool.Decides.{nat_tests}
-use Rattle.ob_syntax.specs.Spelling.{number_value}
-use Rattle.ob_syntax.specs.declared.scan.token.Kind.{Kind}
-use Rattle.ob_syntax.specs.declared.scan.token.Token.{Token}
-use Rattle.ob_syntax.specs.Tokens.{spelling}
-use Rattle.ob_syntax.specs.Lexemes.{Lexeme, lexeme, place_of, lexemes}
+use Rattle.ob_scan.specs.Spelling.{number_value}
+use Rattle.ob_scan.specs.declared.token.Kind.{Kind}
+use Rattle.ob_scan.specs.declared.token.Token.{Token}
+use Rattle.ob_scan.specs.Tokens.{spelling}
+use Rattle.ob_scan.specs.Lexemes.{Lexeme, lexeme, place_of, lexemes}
 use Rattle.ob_syntax.specs.Reading.{kind_of, kind_at, place_at}
 
 pub lexeme_at : (text : List ℕ) (tokens : List Token) (p : ℕ) →

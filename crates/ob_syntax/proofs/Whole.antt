@@ -1,91 +1,22 @@
 -- From the phrase of the whole text to what `parse` answers.
-use Rattle.std.proofs.Common.{◌≡◌, ℕ, suc, zero, ◌<◌, ◌≤◌, Bool, true, false, List, [], ◌∷◌, ◌++◌, take, drop, length, slice_get, Option, Some, None, refl, sym, ◌∙◌, ap, subst, arith, ◌⊎◌, inl, inr, Contains, option_map, is_some}
+use Rattle.std.proofs.Common.{◌≡◌, ℕ, suc, zero, ◌<◌, ◌≤◌, true, false, [], ◌∷◌, ◌++◌, take, drop, length, slice_get, Option, Some, None, refl, sym, ◌∙◌, ap, subst, arith, ◌⊎◌, inl, inr, option_map, is_some}
 use Rattle.std.specs.Option.{option_map_or}
-use Rattle.std.specs.Str.{bytes_eq}
-use Rattle.std.proofs.lemmas.Slice.Eq.{bytes_eq-Decides}
 use Rattle.std.proofs.lemmas.Option.{slice_get_within}
 use Rattle.std.proofs.lemmas.List.{append-nil, take_all}
-use Rattle.std.proofs.lemmas.List.Elements.{Contains-append_cases}
 use Rattle.ob_syntax.specs.declared.parser.ParseFault.{ParseFault}
-use Rattle.ob_syntax.specs.declared.parser.ParseFault.TheVariants.{Unexpected, NameDiffers, NoMemory}
-use Rattle.ob_syntax.specs.declared.scan.token.Token.{Token}
-use Rattle.ob_syntax.specs.Tokens.{TokenizedText, spelling}
-use Rattle.ob_syntax.specs.Lexemes.{Lexeme, lexeme, place_of}
-use Rattle.ob_syntax.specs.Tree
-use Rattle.ob_syntax.specs.Tree.{Name, Procedures, Module}
+use Rattle.ob_syntax.specs.declared.parser.ParseFault.TheVariants.{Unexpected, TooDeep, NameDiffers, NoMemory}
+use Rattle.ob_scan.specs.declared.token.Token.{Token}
+use Rattle.ob_scan.specs.Tokens.{TokenizedText, spelling}
+use Rattle.ob_scan.specs.Lexemes.{Lexeme, lexeme, place_of}
+use Rattle.ob_syntax.specs.Tree.{Module}
 use Rattle.ob_syntax.specs.Grammar.{Lexemes, Derives, BeginsModule}
-use Rattle.ob_syntax.specs.Conditions.{EndNamesAgree, EndNameDiffersAt, procedures_of, KeepsConditions, NameDiffersAt}
-use Rattle.ob_syntax.specs.ParseFaults.{lexemes_of, BeginsGoodModule, IsParseFault}
-use Rattle.ob_syntax.specs.Reading.{Same, Breach, name_differs, Reads, GoesOn, GoesOnWell, place_at}
+use Rattle.ob_syntax.specs.Conditions.{Breach, name_differs, too_deep, breaches, NameDiffersAt, TooDeepAt}
+use Rattle.ob_syntax.specs.ParseFaults.{lexemes_of, BeginsGoodModule, StandsAt, BreaksCondition, IsParseFault}
+use Rattle.ob_syntax.specs.Reading.{Same, Explains, breaks, Reads, Refuses, GoesOn, GoesOnWell, place_at}
 use Rattle.ob_syntax.specs.Forms as forms
-use Rattle.ob_syntax.specs.Forms.{differing, breaches_in, breaches}
 use Rattle.ob_syntax.specs.Answers.{State, tokens_of, Went, Fails}
 use Rattle.ob_syntax.proofs.Steps.{same_before, drop_before, itself, nothing_stops}
-use Rattle.ob_syntax.proofs.Names.{same_names, other_names}
 use Rattle.ob_syntax.proofs.Texts.{lexeme_at, lexeme_here}
-
--- the conditions
-
-both_empty : (xs ys : List Breach) → xs ++ ys ≡ [] → (xs ≡ []) × (ys ≡ [])
-both_empty [] ys e = (refl, e)
-both_empty (x ∷ xs) ys e = absurd (cc)
-
--- either the names are the same, or they differ at the second one's place
-name_cases : (n x : Name) → ((n.text ≡ x.text) × (differing n x ≡ []))
-    ⊎ (¬ (n.text ≡ x.text) × (differing n x ≡ name_differs x.place ∷ []))
-name_cases n x =
-    let decides = bytes_eq-Decides n.text x.text in
-    let P : Bool → Type 0 = λ b.
-    bytes_eq n.text x.text ≡ b → ((n.text ≡ x.text) × (differing n x ≡ []))
-    ⊎ (¬ (n.text ≡ x.text) × (differing n x ≡ name_differs x.place ∷ [])) in
-    (elim (bytes_eq n.text x.text) as P [
-      | true ↦ λ e. inl (decides.0 e, same_names n x e)
-      | false ↦ λ e. inr (λ h. (let t = decides.1 h in cc), other_names n x e)
-    ]) refl
-
-agree : (n x : Name) → differing n x ≡ [] → n.text ≡ x.text
-agree n x e = elim (name_cases n x) [ inl m ↦ m.0 | inr m ↦ (let f = m.1 in absurd (cc)) ]
-
-no_breach : (place : ℕ) → Contains [] (name_differs place) → ⊥
-no_breach place (k, below, e) = omega arith
-
-one_breach : (place q : ℕ) → Contains (name_differs place ∷ []) (name_differs q) → place ≡ q
-one_breach place q (zero, below, e) = cc
-one_breach place q (suc k, below, e) = absurd (omega arith)
-
-differ : (n x : Name) (place : ℕ) → Contains (differing n x) (name_differs place) → ¬ (n.text ≡ x.text) × (x.place ≡ place)
-differ n x place h =
-    let P : List Breach → Type 0 = λ bs. Contains bs (name_differs place) in
-    elim (name_cases n x) [
-      | inl m ↦ absurd (no_breach place (subst P m.1 h))
-      | inr m ↦ (m.0, one_breach x.place place (subst P m.1 h))
-    ]
-
-end_names_agree : (ps : Procedures) → breaches_in ps ≡ [] → EndNamesAgree ps
-end_names_agree Tree.no_procedure e = tt
-end_names_agree (Tree.procedure heading body end_name rest) e =
-    let m = both_empty (differing heading.name end_name) (breaches_in rest) e in
-    (agree heading.name end_name m.0, end_names_agree rest m.1)
-
-end_name_differs : (ps : Procedures) (place : ℕ) → Contains (breaches_in ps) (name_differs place) → EndNameDiffersAt ps place
-end_name_differs Tree.no_procedure place h = no_breach place h
-end_name_differs (Tree.procedure heading body end_name rest) place h =
-    elim (Contains-append_cases (differing heading.name end_name) (breaches_in rest) (name_differs place) h) [
-      | inl m ↦ inl (differ heading.name end_name place m)
-      | inr m ↦ inr (end_name_differs rest place m)
-    ]
-
-keeps : (m : Module) → breaches m ≡ [] → KeepsConditions m
-keeps m e =
-    let k = both_empty (breaches_in (procedures_of m.declarations)) (differing m.name m.end_name) e in
-    record { end_name = agree m.name m.end_name k.1; end_names = end_names_agree (procedures_of m.declarations) k.0 }
-
-name_differs_at : (m : Module) (place : ℕ) → Contains (breaches m) (name_differs place) → NameDiffersAt m place
-name_differs_at m place h =
-    elim (Contains-append_cases (breaches_in (procedures_of m.declarations)) (differing m.name m.end_name) (name_differs place) h) [
-      | inl k ↦ inr (end_name_differs (procedures_of m.declarations) place k)
-      | inr k ↦ inl (differ m.name m.end_name place k)
-    ]
 
 -- the faults
 
@@ -96,7 +27,7 @@ begins : (tokens : Lexemes) → GoesOnWell forms.module_text tokens 0 → Begins
 begins tokens h =
     let g = h.goes_on in
     let P : Lexemes → Type 0 = λ l. forms.module_text.relation (tokens ++ l) g.tree [] in
-    (g.more, g.tree, subst P (append-nil g.more) (g.derives []), keeps g.tree h.kept)
+    (g.more, g.tree, subst P (append-nil g.more) (g.derives []), h.kept)
 
 goes_on : (tokens : Lexemes) → GoesOn forms.module_text tokens 0 → BeginsModule tokens
 goes_on tokens g =
@@ -135,22 +66,27 @@ unexpected_fault source place i e good none_here none_at_all =
           inr (record { there = e ∙ ap at n; before = subst P (take_all i tokens past) good; none = none_at_all past }))
     ]
 
+-- the token at i breaks a condition
+breaks_fault : {IsBroken : Module → ℕ → Type 0} (breach : Breach) (tokens : Lexemes) (place i : ℕ) → StandsAt tokens i place →
+    ((m : Module) → Explains (breaks breach) (breaches m) → IsBroken m place) →
+    Refuses forms.module_text tokens 0 (breaks breach) i → BreaksCondition IsBroken tokens place
+breaks_fault breach tokens place i h at r = record {
+  index = i;
+  there = h;
+  before = begins (take i tokens) (r.alive (omega arith));
+  some = goes_on (take (suc i) tokens) (r.reached tt (omega arith));
+  broken = λ more m d. at m (r.never (take (suc i) tokens ++ more) (same_front tokens i more (r.there tt)) m [] d (nothing_stops []));
+}
+
 pub faults : (source : TokenizedText) (e : ParseFault) → Fails forms.module_text (record { source = source; position = 0 }) e → IsParseFault source e
 faults source (Unexpected place) (i, h, r) =
     let tokens = lexemes_of source in
     unexpected_fault source place i h (begins (take i tokens) (r.alive (omega arith)))
     (λ below b. r.never (take (suc i) tokens ++ b.0) (same_front tokens i b.0 below) b.1 [] b.2 (nothing_stops []))
     (λ past m d. r.never tokens (itself _ tokens) m [] d (nothing_stops []))
+faults source (TooDeep place) (i, h, r) = breaks_fault {IsBroken = TooDeepAt} (too_deep place) (lexemes_of source) place i h (λ m b. b) r
 faults source (NameDiffers place) (i, h, r) =
-    let tokens = lexemes_of source in
-    record {
-      index = i;
-      there = h;
-      before = begins (take i tokens) (r.alive (omega arith));
-      some = goes_on (take (suc i) tokens) (r.reached tt (omega arith));
-      differs = λ more m d.
-          name_differs_at m place (r.never (take (suc i) tokens ++ more) (same_front tokens i more (r.there tt)) m [] d (nothing_stops []));
-    }
+    breaks_fault {IsBroken = NameDiffersAt} (name_differs place) (lexemes_of source) place i h (λ m b. b) r
 faults source NoMemory h = tt
 
 -- the module
@@ -168,8 +104,10 @@ derived source m q h n =
     let P : Lexemes → Type 0 = λ rest. forms.module_text.relation tokens m rest in
     subst P (drop_past tokens q (past_end tokens q n)) (h.sound tokens (itself _ tokens))
 
-pub kept : (source : TokenizedText) (m : Module) (q : ℕ) → Reads forms.module_text (lexemes_of source) 0 m q → KeepsConditions m
-kept source m q h = keeps m h.kept
+-- no other module is the whole text, since nothing follows it
+pub alone : (source : TokenizedText) (m : Module) (q : ℕ) → Reads forms.module_text (lexemes_of source) 0 m q →
+    (other : Module) → Derives (lexemes_of source) other → other ≡ m
+alone source m q h other d = let tokens = lexemes_of source in (h.only tokens (itself _ tokens) other [] d (nothing_stops [])).0
 
 none_at_end : (tokens : Lexemes) (q : ℕ) → [] ≡ drop q tokens → slice_get tokens q ≡ None
 none_at_end [] q h = refl
@@ -188,7 +126,7 @@ too_long source m q place t h here e =
       [],
       m,
       subst P (drop_before tokens q [] (omega arith)) (h.sound (take q tokens ++ []) (same_before tokens q [] (omega arith))),
-      keeps m h.kept,
+      h.kept,
     ) in
     unexpected_fault source place q e good
     (λ more b.

@@ -1,21 +1,29 @@
 -- What a method of the parser answers.
-use Rattle.std.specs.Prelude.{◌≡◌, ℕ, List, length, slice_get, Some, Result, Ok, Err, map, option_map}
+use Rattle.std.specs.Prelude.{◌≡◌, ℕ, List, length, slice_get, Option, Some, None, Vec, Result, Ok, Err, map, option_map}
 use Rattle.ob_syntax.specs.declared.parser.ParseFault.{ParseFault}
-use Rattle.ob_syntax.specs.declared.parser.ParseFault.TheVariants.{Unexpected, NameDiffers, NoMemory}
+use Rattle.ob_syntax.specs.declared.parser.ParseFault.TheVariants.{Unexpected, TooDeep, NameDiffers, NoMemory}
 use Rattle.ob_syntax.specs.declared.parser.Parser.{Parser}
-use Rattle.ob_syntax.specs.declared.parser.Heading.{Heading}
+use Rattle.ob_syntax.specs.declared.parser.declarations.Heading.{Heading}
+use Rattle.ob_syntax.specs.declared.tree.Selector.{Selector}
+use Rattle.ob_syntax.specs.declared.tree.Selector.TheVariants as Selectors
+use Rattle.ob_syntax.specs.declared.tree.FieldList.{FieldList}
+use Rattle.ob_syntax.specs.declared.tree.FieldList.TheVariants as Lists
+use Rattle.ob_syntax.specs.declared.tree.Branch.{Branch}
+use Rattle.ob_syntax.specs.declared.tree.Stmt.{Stmt}
 use Rattle.ob_syntax.specs.declared.tree.Name.{Name}
-use Rattle.ob_syntax.specs.declared.tree.Procedure.{Procedure}
-use Rattle.ob_syntax.specs.declared.scan.token.Kind.{Kind}
-use Rattle.ob_syntax.specs.Lexemes.{lexeme}
-use Rattle.ob_syntax.specs.Tokens.{TokenizedText}
+use Rattle.ob_syntax.specs.declared.tree.Procedure.{Procedure, Procedure'}
+use Rattle.std.specs.Global.{Global}
+use Rattle.ob_scan.specs.declared.token.Kind.{Kind}
+use Rattle.ob_scan.specs.Lexemes.{lexeme}
+use Rattle.ob_scan.specs.Tokens.{TokenizedText}
 use Rattle.ob_syntax.specs.Tree
-use Rattle.ob_syntax.specs.View.{name_of, section_of, stmts_in, heading_of}
+use Rattle.ob_syntax.specs.View.{name_of, expr_of, type_of, section_of, stmts_in, declarations_of}
 use Rattle.ob_syntax.specs.Forms as forms
 use Rattle.ob_syntax.specs.Forms.{ProcedureTree}
 use Rattle.ob_syntax.specs.Grammar.{Lexemes}
+use Rattle.ob_syntax.specs.Conditions.{name_differs, too_deep}
 use Rattle.ob_syntax.specs.ParseFaults.{lexemes_of, StandsAt}
-use Rattle.ob_syntax.specs.Reading.{Form, Reads, Refuses, unexpected, breaks, name_differs, kind_at, place_at}
+use Rattle.ob_syntax.specs.Reading.{Form, Reads, Refuses, unexpected, breaks, kind_at, place_at}
 
 -- a text with its tokens, and how many of them are read
 pub record State : Type 0 where
@@ -51,6 +59,8 @@ pub record Went {A : Type 0} (F : Form A) (s : State) (x : A) (t : State) : Type
 abbrev pub Fails : {A : Type 0} → Form A → State → ParseFault → Type 0
 Fails F s (Unexpected place) =
     (i : ℕ) × (place ≡ place_at (length s.source.text) (tokens_of s) i) × Refuses F (tokens_of s) s.position unexpected i
+Fails F s (TooDeep place) =
+    (i : ℕ) × StandsAt (tokens_of s) i place × Refuses F (tokens_of s) s.position (breaks (too_deep place)) i
 Fails F s (NameDiffers place) =
     (i : ℕ) × StandsAt (tokens_of s) i place × Refuses F (tokens_of s) s.position (breaks (name_differs place)) i
 Fails F s NoMemory = Unit {0}
@@ -59,6 +69,7 @@ Fails F s NoMemory = Unit {0}
 abbrev pub FailsHere : Kind → State → ParseFault → Type 0
 FailsHere kind s (Unexpected place) =
     (place ≡ place_at (length s.source.text) (tokens_of s) s.position) × ¬ (kind_at (tokens_of s) s.position ≡ Some kind)
+FailsHere kind s (TooDeep place) = ⊥
 FailsHere kind s (NameDiffers place) = ⊥
 FailsHere kind s NoMemory = Unit {0}
 
@@ -82,9 +93,34 @@ heading_in h =
     }
 
 abbrev pub procedure_of : Procedure → ProcedureTree
-procedure_of p =
+procedure_of (Procedure' place name is_exported parameters declarations body end_name) =
     record {
-      heading = heading_of p;
-      body = option_map (λ b. stmts_in b.items) p.body;
-      end_name = name_of p.end_name;
+      heading =
+          record {
+            place = place;
+            name = name_of name;
+            is_exported = is_exported;
+            parameters = option_map (λ ss. map section_of ss.items) parameters;
+          };
+      declarations = declarations_of declarations;
+      body = option_map (λ b. stmts_in b.items) body;
+      end_name = name_of end_name;
     }
+
+-- a selector, a field list and a branch that stand alone
+
+abbrev pub selector_of : Selector → forms.OneSelector
+selector_of (Selectors.Field place name) = forms.OneSelector.field place (name_of name)
+selector_of (Selectors.Index place index) = forms.OneSelector.index place (expr_of index)
+
+abbrev pub field_list_of : FieldList → forms.OneFieldList
+field_list_of Lists.Empty = forms.OneFieldList.empty
+field_list_of (Lists.Fields names of_type) = forms.OneFieldList.fields (map name_of names.items) (type_of of_type)
+
+abbrev pub branch_of : Branch → forms.OneBranch
+branch_of b = record { condition = expr_of b.condition; body = stmts_in b.body.items }
+
+-- what stands behind ELSE
+abbrev pub otherwise_of : Option (Vec Stmt Global) → Tree.Otherwise
+otherwise_of None = Tree.no_else
+otherwise_of (Some body) = Tree.else' (stmts_in body.items)

@@ -1,13 +1,12 @@
-pub mod Spelling
-pub mod Tokens
-pub mod Lexemes
-pub mod ScanFaults
 pub mod Tree
 pub mod View
 pub mod Grammar
 pub mod Conditions
 pub mod ParseFaults
-pub mod Scanning
+pub mod Places
+pub mod Printing
+pub mod PrintedAgain
+pub mod ReadFaults
 pub mod Reading
 pub mod Forms
 pub mod Answers

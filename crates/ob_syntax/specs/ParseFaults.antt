@@ -1,12 +1,12 @@
 -- What each fault of the parser says of a text with its tokens.
 use Rattle.std.specs.Prelude.{◌≡◌, ◌⊎◌, ℕ, suc, ◌++◌, length, take, slice_get, option_map, Some}
 use Rattle.ob_syntax.specs.declared.parser.ParseFault.{ParseFault}
-use Rattle.ob_syntax.specs.declared.parser.ParseFault.TheVariants.{Unexpected, NameDiffers, NoMemory}
-use Rattle.ob_syntax.specs.Lexemes.{lexemes, place_of}
-use Rattle.ob_syntax.specs.Tokens.{TokenizedText}
+use Rattle.ob_syntax.specs.declared.parser.ParseFault.TheVariants.{Unexpected, TooDeep, NameDiffers, NoMemory}
+use Rattle.ob_scan.specs.Lexemes.{lexemes, place_of}
+use Rattle.ob_scan.specs.Tokens.{TokenizedText}
 use Rattle.ob_syntax.specs.Tree.{Module}
 use Rattle.ob_syntax.specs.Grammar.{Lexemes, Derives, BeginsModule}
-use Rattle.ob_syntax.specs.Conditions.{KeepsConditions, NameDiffersAt}
+use Rattle.ob_syntax.specs.Conditions.{KeepsConditions, NameDiffersAt, TooDeepAt}
 
 -- the tokens of a text, as the grammar reads them
 abbrev pub lexemes_of : TokenizedText → Lexemes
@@ -33,16 +33,17 @@ pub record RefusesEnd (tokens : Lexemes) (end place : ℕ) : Type 0 where
   pub before : BeginsGoodModule tokens
   pub none : (m : Module) → Derives tokens m → ⊥
 
--- a module goes on with this token, and in each that does it is a name after END that differs
-pub record RefusesName (tokens : Lexemes) (place : ℕ) : Type 0 where
+-- a module goes on with this token, and in each that does the token breaks a condition
+pub record BreaksCondition (IsBroken : Module → ℕ → Type 0) (tokens : Lexemes) (place : ℕ) : Type 0 where
   pub index : ℕ
   pub there : StandsAt tokens index place
   pub before : BeginsGoodModule (take index tokens)
   pub some : BeginsModule (take (suc index) tokens)
-  pub differs : (more : Lexemes) (m : Module) → Derives (take (suc index) tokens ++ more) m → NameDiffersAt m place
+  pub broken : (more : Lexemes) (m : Module) → Derives (take (suc index) tokens ++ more) m → IsBroken m place
 
 abbrev pub IsParseFault : TokenizedText → ParseFault → Type 0
 IsParseFault t (Unexpected place) =
     RefusesToken (lexemes_of t) place ⊎ RefusesEnd (lexemes_of t) (length t.text) place
-IsParseFault t (NameDiffers place) = RefusesName (lexemes_of t) place
+IsParseFault t (TooDeep place) = BreaksCondition TooDeepAt (lexemes_of t) place
+IsParseFault t (NameDiffers place) = BreaksCondition NameDiffersAt (lexemes_of t) place
 IsParseFault t NoMemory = Unit {0}

@@ -1,14 +1,10 @@
 -- What reading a phrase from a place in the tokens means: the tree and the place behind it, or the place of the token that refuses it.
 use Rattle.std.specs.Prelude.{◌≡◌, ℕ, suc, ◌<◌, ◌≤◌, Bool, false, List, [], ◌∷◌, ◌++◌, drop, take, length, slice_get, Option, option_map, Contains}
 use Rattle.std.specs.Option.{option_map_or}
-use Rattle.ob_syntax.specs.declared.scan.token.Kind.{Kind}
-use Rattle.ob_syntax.specs.Lexemes.{Lexeme, lexeme, place_of}
+use Rattle.ob_scan.specs.declared.token.Kind.{Kind}
+use Rattle.ob_scan.specs.Lexemes.{Lexeme, lexeme, place_of}
 use Rattle.ob_syntax.specs.Grammar.{Lexemes, Phrase}
-
--- a condition beside the grammar that a tree breaks, with the place of the token that breaks it
-pub data Breach : Type 0 where
-  -- a name behind an END is not that of its module or procedure
-  name_differs : (place : ℕ) → Breach
+use Rattle.ob_syntax.specs.Conditions.{Breach}
 
 -- A phrase with what its contract speaks of: the kinds of token that continue the phrase where it could also end,
 -- and what breaks a condition in it.

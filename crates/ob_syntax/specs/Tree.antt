@@ -11,26 +11,65 @@ pub record Name : Type 0 where
 mutual
   pub data Expr : Type 0 where
     Number : (value : ℤ) (place : ℕ) → Expr
-    Named : (name : Name) → Expr
-    -- a sign, or two operands or more
+    Named : (name : Name) (selectors : Selectors) → Expr
+    Parens : (place : ℕ) (inner : Expr) → Expr
+    Not : (place : ℕ) (operand : Expr) → Expr
+    -- two factors or more
+    Product : (first : Expr) (rest : Operands) → Expr
+    -- a sign, or two terms or more
     Sum : (sign : Option Sign) (first : Expr) (rest : Operands) → Expr
+    -- two simple expressions
+    Comparison : (left : Expr) (operator : Operator) (place : ℕ) (right : Expr) → Expr
 
   -- operators, each with its place and the operand to its right
   pub data Operands : Type 0 where
     no_operand : Operands
     operand : (operator : Operator) (place : ℕ) (value : Expr) (rest : Operands) → Operands
 
-pub data TypeExpr : Type 0 where
-  Called : (name : Name) → TypeExpr
+  pub data Selectors : Type 0 where
+    no_selector : Selectors
+    field : (place : ℕ) (name : Name) (rest : Selectors) → Selectors
+    index : (place : ℕ) (index : Expr) (rest : Selectors) → Selectors
+
+mutual
+  pub data TypeExpr : Type 0 where
+    Called : (name : Name) → TypeExpr
+    Array : (place : ℕ) (length : Expr) (element : TypeExpr) → TypeExpr
+    Record : (place : ℕ) (fields : FieldLists) → TypeExpr
+
+  -- what stands between the semicolons of a record: fields of one type, or nothing
+  pub data FieldLists : Type 0 where
+    no_list : FieldLists
+    empty_list : (rest : FieldLists) → FieldLists
+    fields : (names : List Name) (of_type : TypeExpr) (rest : FieldLists) → FieldLists
 
 mutual
   pub data Stmt : Type 0 where
     Empty : Stmt
-    Assign : (target : Name) (value : Expr) → Stmt
+    Assign : (target : Name) (selectors : Selectors) (value : Expr) → Stmt
+    Call : (procedure : Name) (actuals : Option (List Expr)) → Stmt
+    If : (place : ℕ) (branches : Branches) (otherwise : Otherwise) → Stmt
+    While : (place : ℕ) (condition : Expr) (body : Stmts) → Stmt
 
   pub data Stmts : Type 0 where
     no_stmt : Stmts
     stmt : (first : Stmt) (rest : Stmts) → Stmts
+
+  pub data Branches : Type 0 where
+    no_branch : Branches
+    branch : (condition : Expr) (body : Stmts) (rest : Branches) → Branches
+
+  pub data Otherwise : Type 0 where
+    no_else : Otherwise
+    else' : (body : Stmts) → Otherwise
+
+pub record ConstDecl : Type 0 where
+  pub name : Name
+  pub value : Expr
+
+pub record TypeDecl : Type 0 where
+  pub name : Name
+  pub definition : TypeExpr
 
 pub record VarDecl : Type 0 where
   pub names : List Name
@@ -52,11 +91,13 @@ pub record Heading : Type 0 where
 -- a list is none where its keyword does not stand
 mutual
   pub data Declarations : Type 0 where
-    Declared : (variables : Option (List VarDecl)) (procedures : Procedures) → Declarations
+    Declared : (constants : Option (List ConstDecl)) (types : Option (List TypeDecl))
+        (variables : Option (List VarDecl)) (procedures : Procedures) → Declarations
 
   pub data Procedures : Type 0 where
     no_procedure : Procedures
-    procedure : (heading : Heading) (body : Option Stmts) (end_name : Name) (rest : Procedures) → Procedures
+    procedure : (heading : Heading) (declarations : Declarations) (body : Option Stmts) (end_name : Name)
+        (rest : Procedures) → Procedures
 
 pub record Module : Type 0 where
   pub name : Name

@@ -1,17 +1,25 @@
 -- The tree that a value of the program stands for: no pointers, and vectors as lists.
 use Rattle.std.specs.Prelude.{List, [], ◌∷◌, map, option_map, string_bytes}
 use Rattle.ob_syntax.specs.declared.tree.Name.{Name}
-use Rattle.ob_syntax.specs.declared.tree.Expr.{Expr, Row_of-Operand, end_of-Operand, more_of-Operand}
+use Rattle.ob_syntax.specs.declared.tree.Expr.{Expr, Row_of-Operand, end_of-Operand, more_of-Operand, Row_of-Selector, end_of-Selector, more_of-Selector}
+use Rattle.ob_syntax.specs.declared.tree.Expr.TheVariants.{Number, Named', Parens', Not', Product', Sum', Comparison'}
+use Rattle.ob_syntax.specs.declared.tree.Selector.TheVariants.{Field, Index}
+use Rattle.ob_syntax.specs.declared.tree.TypeExpr.{TypeExpr, Row_of-FieldList, end_of-FieldList, more_of-FieldList}
+use Rattle.ob_syntax.specs.declared.tree.TypeExpr.TheVariants.{Named, Array', Record'}
+use Rattle.ob_syntax.specs.declared.tree.FieldList.TheVariants.{Empty, Fields}
+use Rattle.ob_syntax.specs.declared.tree.Stmt.{Stmt, Row_of-Stmt, end_of-Stmt, more_of-Stmt, Row_of-Branch, end_of-Branch, more_of-Branch, Held-Stmt-If-2, None', Some'}
+use Rattle.ob_syntax.specs.declared.tree.Stmt.TheVariants as Stmts
 use Rattle.ob_syntax.specs.declared.tree.Operand.{Operand}
-use Rattle.ob_syntax.specs.declared.tree.Expr.TheVariants.{Number, Named, Sum'}
-use Rattle.ob_syntax.specs.declared.tree.TypeExpr.{TypeExpr}
-use Rattle.ob_syntax.specs.declared.tree.TypeExpr.TheVariants as Types
-use Rattle.ob_syntax.specs.declared.tree.Stmt.{Stmt}
-use Rattle.ob_syntax.specs.declared.tree.Stmt.TheVariants.{Empty, Assign}
+use Rattle.ob_syntax.specs.declared.tree.Selector.{Selector}
+use Rattle.ob_syntax.specs.declared.tree.FieldList.{FieldList}
+use Rattle.ob_syntax.specs.declared.tree.Branch.{Branch}
+use Rattle.ob_syntax.specs.declared.tree.ConstDecl.{ConstDecl}
+use Rattle.ob_syntax.specs.declared.tree.TypeDecl.{TypeDecl}
 use Rattle.ob_syntax.specs.declared.tree.VarDecl.{VarDecl}
-use Rattle.ob_syntax.specs.declared.tree.Section.{Section}
 use Rattle.ob_syntax.specs.declared.tree.Procedure.{Procedure}
-use Rattle.ob_syntax.specs.declared.tree.Declarations.{Declarations}
+use Rattle.ob_syntax.specs.declared.tree.Section.{Section}
+use Rattle.ob_syntax.specs.declared.tree.Declarations.{Declarations, Declarations', Row_of-Procedure, end_of-Procedure, more_of-Procedure}
+use Rattle.ob_syntax.specs.declared.tree.Procedure.{Procedure'}
 use Rattle.ob_syntax.specs.declared.tree.Module.{Module}
 use Rattle.ob_syntax.specs.Tree
 
@@ -21,29 +29,85 @@ name_of n = record { text = string_bytes n.text; place = n.place }
 abbrev mutual
   pub expr_of : Expr → Tree.Expr
   expr_of (Number value place) = Tree.Number value place
-  expr_of (Named d) = Tree.Named (name_of d.name)
+  expr_of (Named' name shape selectors) = Tree.Named (name_of name) (selectors_of selectors)
+  expr_of (Parens' place p inner) = Tree.Parens place (expr_of inner)
+  expr_of (Not' place p e) = Tree.Not place (expr_of e)
+  expr_of (Product' p first shape rest) = Tree.Product (expr_of first) (operands_of rest)
   expr_of (Sum' sign p first shape rest) = Tree.Sum sign (expr_of first) (operands_of rest)
+  expr_of (Comparison' p left operator place q right) = Tree.Comparison (expr_of left) operator place (expr_of right)
 
   pub operands_of : {m : _} → Row_of-Operand m → Tree.Operands
   operands_of end_of-Operand = Tree.no_operand
   operands_of (more_of-Operand operator place e rest) = Tree.operand operator place (expr_of e) (operands_of rest)
+
+  pub selectors_of : {m : _} → Row_of-Selector m → Tree.Selectors
+  selectors_of end_of-Selector = Tree.no_selector
+  selectors_of (more_of-Selector (Field place name) rest) = Tree.field place (name_of name) (selectors_of rest)
+  selectors_of (more_of-Selector (Index place i) rest) = Tree.index place (expr_of i) (selectors_of rest)
 
 -- operands that stand outside an expression
 abbrev pub operands_in : List Operand → Tree.Operands
 operands_in [] = Tree.no_operand
 operands_in (o ∷ rest) = Tree.operand o.operator o.place (expr_of o.value) (operands_in rest)
 
-abbrev pub type_of : TypeExpr → Tree.TypeExpr
-type_of (Types.Named name) = Tree.Called (name_of name)
+-- the selectors of a designator that stands outside an expression
+abbrev pub selectors_in : List Selector → Tree.Selectors
+selectors_in [] = Tree.no_selector
+selectors_in (Field place name ∷ rest) = Tree.field place (name_of name) (selectors_in rest)
+selectors_in (Index place i ∷ rest) = Tree.index place (expr_of i) (selectors_in rest)
 
-abbrev pub stmt_of : Stmt → Tree.Stmt
-stmt_of Empty = Tree.Empty
-stmt_of (Assign target e) = Tree.Assign (name_of target.name) (expr_of e)
+abbrev mutual
+  pub type_of : TypeExpr → Tree.TypeExpr
+  type_of (Named name) = Tree.Called (name_of name)
+  type_of (Array' place length p element) = Tree.Array place (expr_of length) (type_of element)
+  type_of (Record' place shape lists) = Tree.Record place (fields_of lists)
+
+  pub fields_of : {m : _} → Row_of-FieldList m → Tree.FieldLists
+  fields_of end_of-FieldList = Tree.no_list
+  fields_of (more_of-FieldList Empty rest) = Tree.empty_list (fields_of rest)
+  fields_of (more_of-FieldList (Fields names t) rest) = Tree.fields (map name_of names.items) (type_of t) (fields_of rest)
+
+-- field lists that stand outside a type
+abbrev pub fields_in : List FieldList → Tree.FieldLists
+fields_in [] = Tree.no_list
+fields_in (Empty ∷ rest) = Tree.empty_list (fields_in rest)
+fields_in (Fields names t ∷ rest) = Tree.fields (map name_of names.items) (type_of t) (fields_in rest)
+
+abbrev mutual
+  pub stmt_of : Stmt → Tree.Stmt
+  stmt_of Stmts.Empty = Tree.Empty
+  stmt_of (Stmts.Assign target e) = Tree.Assign (name_of target.name) (selectors_in target.selectors.items) (expr_of e)
+  stmt_of (Stmts.Call name actuals) = Tree.Call (name_of name) (option_map (λ es. map expr_of es.items) actuals)
+  stmt_of (Stmts.If' place shape branches otherwise) = Tree.If place (branches_of branches) (else_of otherwise)
+  stmt_of (Stmts.While' place condition shape body) = Tree.While place (expr_of condition) (stmts_of body)
+
+  pub stmts_of : {m : _} → Row_of-Stmt m → Tree.Stmts
+  stmts_of end_of-Stmt = Tree.no_stmt
+  stmts_of (more_of-Stmt s rest) = Tree.stmt (stmt_of s) (stmts_of rest)
+
+  pub branches_of : {m : _} → Row_of-Branch m → Tree.Branches
+  branches_of end_of-Branch = Tree.no_branch
+  branches_of (more_of-Branch condition shape body rest) = Tree.branch (expr_of condition) (stmts_of body) (branches_of rest)
+
+  pub else_of : Held-Stmt-If-2 → Tree.Otherwise
+  else_of None' = Tree.no_else
+  else_of (Some' shape body) = Tree.else' (stmts_of body)
 
 -- the statements of a body
 abbrev pub stmts_in : List Stmt → Tree.Stmts
 stmts_in [] = Tree.no_stmt
 stmts_in (s ∷ rest) = Tree.stmt (stmt_of s) (stmts_in rest)
+
+-- branches that stand outside a statement
+abbrev pub branches_in : List Branch → Tree.Branches
+branches_in [] = Tree.no_branch
+branches_in (b ∷ rest) = Tree.branch (expr_of b.condition) (stmts_in b.body.items) (branches_in rest)
+
+abbrev pub const_decl_of : ConstDecl → Tree.ConstDecl
+const_decl_of c = record { name = name_of c.name; value = expr_of c.value }
+
+abbrev pub type_decl_of : TypeDecl → Tree.TypeDecl
+type_decl_of t = record { name = name_of t.name; definition = type_of t.definition }
 
 abbrev pub var_decl_of : VarDecl → Tree.VarDecl
 var_decl_of v = record { names = map name_of v.names.items; of_type = type_of v.of_type }
@@ -51,23 +115,42 @@ var_decl_of v = record { names = map name_of v.names.items; of_type = type_of v.
 abbrev pub section_of : Section → Tree.Section
 section_of s = record { is_var = s.is_var; names = map name_of s.names.items; of_type = type_of s.of_type }
 
+abbrev mutual
+  pub declarations_of : Declarations → Tree.Declarations
+  declarations_of (Declarations' constants types variables shape procedures) =
+      Tree.Declared
+      (option_map (λ cs. map const_decl_of cs.items) constants)
+      (option_map (λ ts. map type_decl_of ts.items) types)
+      (option_map (λ vs. map var_decl_of vs.items) variables)
+      (procedures_of procedures)
+
+  pub procedures_of : {m : _} → Row_of-Procedure m → Tree.Procedures
+  procedures_of end_of-Procedure = Tree.no_procedure
+  procedures_of (more_of-Procedure (Procedure' place name is_exported parameters declarations body end_name) rest) =
+      Tree.procedure
+      (record { place = place; name = name_of name; is_exported = is_exported; parameters = option_map (λ ss. map section_of ss.items) parameters })
+      (declarations_of declarations) (option_map (λ b. stmts_in b.items) body) (name_of end_name) (procedures_of rest)
+
+-- procedures that stand outside their declarations
+
 abbrev pub heading_of : Procedure → Tree.Heading
-heading_of p =
+heading_of (Procedure' place name is_exported parameters declarations body end_name) =
     record {
-      place = p.place;
-      name = name_of p.name;
-      is_exported = p.is_exported;
-      parameters = option_map (λ ss. map section_of ss.items) p.parameters;
+      place = place;
+      name = name_of name;
+      is_exported = is_exported;
+      parameters = option_map (λ ss. map section_of ss.items) parameters;
     }
+
+abbrev pub procedure_before : Procedure → Tree.Procedures → Tree.Procedures
+procedure_before (Procedure' place name is_exported parameters declarations body end_name) rest =
+    Tree.procedure
+    (record { place = place; name = name_of name; is_exported = is_exported; parameters = option_map (λ ss. map section_of ss.items) parameters })
+    (declarations_of declarations) (option_map (λ b. stmts_in b.items) body) (name_of end_name) rest
 
 abbrev pub procedures_in : List Procedure → Tree.Procedures
 procedures_in [] = Tree.no_procedure
-procedures_in (p ∷ rest) =
-    Tree.procedure (heading_of p) (option_map (λ b. stmts_in b.items) p.body) (name_of p.end_name) (procedures_in rest)
-
-abbrev pub declarations_of : Declarations → Tree.Declarations
-declarations_of d =
-    Tree.Declared (option_map (λ vs. map var_decl_of vs.items) d.variables) (procedures_in d.procedures.items)
+procedures_in (p ∷ rest) = procedure_before p (procedures_in rest)
 
 abbrev pub module_of : Module → Tree.Module
 module_of m =

@@ -1,112 +1,224 @@
 //! The tree of a module, part by part in the order of the grammar. A place is a byte offset of the text.
 
 /// An occurrence of a name.
-#[derive(Debug, Drop)]
+#[derive(Debug, PartialEq, Eq, Drop)]
 pub struct Name {
     pub text: String,
     pub place: usize,
 }
 
-/// A module, and the name behind its END.
-#[derive(Drop)]
-pub struct Module {
-    pub name: Name,
-    pub declarations: Declarations,
-    pub body: Option<Vec<Stmt>>,
-    pub end_name: Name,
+/// An operator between two operands.
+#[derive(Clone, Copy, Debug, PartialEq, Eq)]
+pub enum Operator {
+    Equal,
+    NotEqual,
+    Less,
+    LessOrEqual,
+    Greater,
+    GreaterOrEqual,
+    Plus,
+    Minus,
+    Or,
+    Times,
+    Div,
+    Mod,
+    And,
 }
 
-/// Declarations; the variables are `None` where VAR does not stand.
-#[derive(Drop)]
-pub struct Declarations {
-    pub variables: Option<Vec<VarDecl>>,
-    pub procedures: Vec<Procedure>,
-}
-
-/// Variables of one type.
-#[derive(Drop)]
-pub struct VarDecl {
-    pub names: Vec<Name>,
-    pub of_type: TypeExpr,
-}
-
-/// A procedure; the place of PROCEDURE, and the name behind its END. The parameters are `None`
-/// where no parentheses stand.
-#[derive(Drop)]
-pub struct Procedure {
+/// The sign before a first term.
+#[derive(Clone, Copy, Debug, PartialEq, Eq)]
+pub struct Sign {
+    pub is_minus: bool,
     pub place: usize,
-    pub name: Name,
-    pub is_exported: bool,
-    pub parameters: Option<Vec<Section>>,
-    pub body: Option<Vec<Stmt>>,
-    pub end_name: Name,
-}
-
-/// Formal parameters of one mode and type.
-#[derive(Drop)]
-pub struct Section {
-    pub is_var: bool,
-    pub names: Vec<Name>,
-    pub of_type: TypeExpr,
-}
-
-/// A type as it is written.
-#[derive(Drop)]
-pub enum TypeExpr {
-    Named(Name),
-}
-
-/// A statement.
-#[derive(Drop)]
-pub enum Stmt {
-    Empty,
-    Assign { target: Designator, value: Expr },
-}
-
-/// A variable as it is written.
-#[derive(Drop)]
-pub struct Designator {
-    pub name: Name,
 }
 
 /// An expression as it is written.
 #[cycle(expr)]
-#[derive(Drop)]
+#[derive(Debug, PartialEq, Eq, Drop)]
 pub enum Expr {
     /// A number: 0 to 2147483647 in a tree that was parsed.
     Number {
         value: i32,
         place: usize,
     },
-    /// A name.
+    /// A name with its selectors.
     Named(Designator),
-    /// A sign before the first factor, or two factors or more.
+    /// An expression in parentheses; the place of the `(`.
+    Parens {
+        place: usize,
+        inner: Box<Expr>,
+    },
+    /// `~` before a factor.
+    Not {
+        place: usize,
+        operand: Box<Expr>,
+    },
+    /// Two factors or more.
+    Product {
+        first: Box<Expr>,
+        rest: Vec<Operand>,
+    },
+    /// A sign before the first term, or two terms or more.
     Sum {
         sign: Option<Sign>,
         first: Box<Expr>,
         rest: Vec<Operand>,
     },
+    /// Two simple expressions.
+    Comparison {
+        left: Box<Expr>,
+        operator: Operator,
+        place: usize,
+        right: Box<Expr>,
+    },
 }
 
 /// An operator with its place, and the operand to its right.
 #[cycle(expr)]
-#[derive(Drop)]
+#[derive(Debug, PartialEq, Eq, Drop)]
 pub struct Operand {
     pub operator: Operator,
     pub place: usize,
     pub value: Expr,
 }
 
-/// An operator between two operands.
-#[derive(Clone, Copy, Debug, PartialEq, Eq)]
-pub enum Operator {
-    Plus,
-    Minus,
+/// A name with its selectors.
+#[cycle(expr)]
+#[derive(Debug, PartialEq, Eq, Drop)]
+pub struct Designator {
+    pub name: Name,
+    pub selectors: Vec<Selector>,
 }
 
-/// The sign before a first operand.
-#[derive(Clone, Copy, Debug, PartialEq, Eq)]
-pub struct Sign {
-    pub is_minus: bool,
+/// A selector.
+#[cycle(expr)]
+#[derive(Debug, PartialEq, Eq, Drop)]
+pub enum Selector {
+    /// The place of the `.`, and the field.
+    Field { place: usize, name: Name },
+    /// The place of the `[`, and the index.
+    Index { place: usize, index: Expr },
+}
+
+/// A type as it is written.
+#[cycle(types)]
+#[derive(Debug, PartialEq, Eq, Drop)]
+pub enum TypeExpr {
+    Named(Name),
+    /// The place of ARRAY.
+    Array {
+        place: usize,
+        length: Expr,
+        element: Box<TypeExpr>,
+    },
+    /// The place of RECORD.
+    Record {
+        place: usize,
+        fields: Vec<FieldList>,
+    },
+}
+
+/// Fields of one type, or nothing between two semicolons.
+#[cycle(types)]
+#[derive(Debug, PartialEq, Eq, Drop)]
+pub enum FieldList {
+    Empty,
+    Fields { names: Vec<Name>, of_type: TypeExpr },
+}
+
+/// A statement.
+#[cycle(statements)]
+#[derive(Debug, PartialEq, Eq, Drop)]
+pub enum Stmt {
+    Empty,
+    Assign {
+        target: Designator,
+        value: Expr,
+    },
+    /// The actuals are `None` where no parentheses stand.
+    Call {
+        procedure: Name,
+        actuals: Option<Vec<Expr>>,
+    },
+    /// IF with each ELSIF, and ELSE where it stands; the place of IF.
+    If {
+        place: usize,
+        branches: Vec<Branch>,
+        otherwise: Option<Vec<Stmt>>,
+    },
+    /// The place of WHILE.
+    While {
+        place: usize,
+        condition: Expr,
+        body: Vec<Stmt>,
+    },
+}
+
+/// A condition with the statements behind THEN.
+#[cycle(statements)]
+#[derive(Debug, PartialEq, Eq, Drop)]
+pub struct Branch {
+    pub condition: Expr,
+    pub body: Vec<Stmt>,
+}
+
+/// A constant.
+#[derive(Debug, PartialEq, Eq, Drop)]
+pub struct ConstDecl {
+    pub name: Name,
+    pub value: Expr,
+}
+
+/// A name for a type.
+#[derive(Debug, PartialEq, Eq, Drop)]
+pub struct TypeDecl {
+    pub name: Name,
+    pub definition: TypeExpr,
+}
+
+/// Variables of one type.
+#[derive(Debug, PartialEq, Eq, Drop)]
+pub struct VarDecl {
+    pub names: Vec<Name>,
+    pub of_type: TypeExpr,
+}
+
+/// Formal parameters of one mode and type.
+#[derive(Debug, PartialEq, Eq, Drop)]
+pub struct Section {
+    pub is_var: bool,
+    pub names: Vec<Name>,
+    pub of_type: TypeExpr,
+}
+
+/// Declarations; a list is `None` where its keyword does not stand.
+#[cycle(declarations)]
+#[derive(Debug, PartialEq, Eq, Drop)]
+pub struct Declarations {
+    pub constants: Option<Vec<ConstDecl>>,
+    pub types: Option<Vec<TypeDecl>>,
+    pub variables: Option<Vec<VarDecl>>,
+    pub procedures: Vec<Procedure>,
+}
+
+/// A procedure; the place of PROCEDURE, and the name behind its END.
+#[cycle(declarations)]
+#[derive(Debug, PartialEq, Eq, Drop)]
+pub struct Procedure {
     pub place: usize,
+    pub name: Name,
+    pub is_exported: bool,
+    pub parameters: Option<Vec<Section>>,
+    pub declarations: Declarations,
+    pub body: Option<Vec<Stmt>>,
+    pub end_name: Name,
+}
+
+/// A module, and the name behind its END.
+#[derive(Debug, PartialEq, Eq, Drop)]
+pub struct Module {
+    pub name: Name,
+    pub declarations: Declarations,
+    pub body: Option<Vec<Stmt>>,
+    pub end_name: Name,
 }

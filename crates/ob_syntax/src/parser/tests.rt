@@ -1,181 +1,497 @@
-//! Texts of each production, and the places of faults.
+//! Texts of each production, and the places of faults. In these tables `|` stands before the token at
+//! fault; a text without it has no fault.
+
+mod trees;
 
 use crate::parser::{ParseFault, parse};
-use crate::scan::scan;
-use crate::tree::{Expr, Name, Operator, Procedure, Section, Stmt, TypeExpr};
-use std::alloc::Global;
+use ob_scan::scan;
+use std::alloc::{AllocError, Global};
 use std::process::Abort;
 use std::test::Fail;
 
-const fn p1(place: usize) -> Option<ParseFault> {
-    Some(ParseFault::Unexpected(place))
-}
-
-const fn p3(place: usize) -> Option<ParseFault> {
-    Some(ParseFault::NameDiffers(place))
-}
-
 /// The parser's fault at a text that has tokens.
-fn fault_of(alloc: Global, text: &[u8]) -> Result<Option<ParseFault>, Fail> {
-    let tokens = scan(alloc, text)?;
+fn fault_of(alloc: Global, text: &str) -> Result<Option<ParseFault>, Fail> {
+    let tokens = scan(alloc, text.as_bytes())?;
     Ok(parse(alloc, &tokens).err())
 }
 
+/// The text without its mark, and the mark's place.
+fn unmarked(alloc: Global, text: &str) -> Result<(String, Option<usize>), AllocError> {
+    match text.split_once('|') {
+        Some((before, behind)) => {
+            let plain = format!(in alloc; "{before}{behind}")?;
+            Ok((plain, Some(before.len())))
+        }
+        None => Ok((String::from_str(alloc, text)?, None)),
+    }
+}
+
+/// Requires of each text, put between these, that it is refused by P1 at its mark, or that it is a module.
+fn expect_places(
+    rt: &impl Abort,
+    alloc: Global,
+    before: &str,
+    texts: &[&str],
+    behind: &str,
+) -> Result<(), Fail> {
+    for text in texts {
+        let whole = format!(in alloc; "{before}{text}{behind}")?;
+        let (plain, place) = unmarked(alloc, whole.as_str())?;
+        let want = place.map(ParseFault::Unexpected);
+        assert_eq!(rt; fault_of(alloc, plain.as_str())?, want, "{text}");
+    }
+    Ok(())
+}
+
 #[test]
-fn places_faults(rt: HostRuntime) -> Result<(), Fail> {
-    let texts: [(&[u8], Option<ParseFault>); 41] = [
-        (b"MODULE M; END M.", None),
-        (b"MODULE M; VAR END M.", None),
-        (b"MODULE M; VAR x: T; y, z: U; END M.", None),
-        (b"MODULE M; PROCEDURE P; END P; END M.", None),
-        (b"MODULE M; PROCEDURE P*(); END P; END M.", None),
-        (
-            b"MODULE M; PROCEDURE P(VAR a, b: T; c: T); BEGIN END P; PROCEDURE Q; END Q; END M.",
-            None,
-        ),
-        (b"MODULE M; BEGIN ; x := 1;; END M.", None),
-        (b"MODULE M; BEGIN x := +1 - y + 2 END M.", None),
-        (b"", p1(0)),
-        (b"M", p1(0)),
-        (b"MODULE", p1(6)),
-        (b"MODULE ;", p1(7)),
-        (b"MODULE M END M.", p1(9)),
-        (b"MODULE M; x := 1 END M.", p1(10)),
-        (b"MODULE M; END", p1(13)),
-        (b"MODULE M; END N.", p3(14)),
-        (b"MODULE M; END N", p3(14)),
-        (b"MODULE M; END M", p1(15)),
-        (b"MODULE M; BEGIN END M;", p1(21)),
-        (b"MODULE M; END M. x", p1(17)),
-        (b"MODULE M; VAR x T; END M.", p1(16)),
-        (b"MODULE M; VAR x, : T; END M.", p1(17)),
-        (b"MODULE M; VAR x: ; END M.", p1(17)),
-        (b"MODULE M; VAR x: T END M.", p1(19)),
-        (b"MODULE M; VAR x: T; VAR y: T; END M.", p1(20)),
-        (b"MODULE M; PROCEDURE *; END P; END M.", p1(20)),
-        (b"MODULE M; PROCEDURE P END P; END M.", p1(22)),
-        (b"MODULE M; PROCEDURE P; VAR x: T; END P; END M.", p1(23)),
-        (b"MODULE M; PROCEDURE P; END Q END", p3(27)),
-        (b"MODULE M; PROCEDURE P; END P END M.", p1(29)),
-        (b"MODULE M; PROCEDURE P(; END P; END M.", p1(22)),
-        (b"MODULE M; PROCEDURE P(VAR ); END P; END M.", p1(26)),
-        (b"MODULE M; PROCEDURE P(a b: T); END P; END M.", p1(24)),
-        (
-            b"MODULE M; PROCEDURE P(a: T VAR b: T); END P; END M.",
-            p1(27),
-        ),
-        (b"MODULE M; PROCEDURE P(a: T; ); END P; END M.", p1(28)),
-        (b"MODULE M; BEGIN x = 1 END M.", p1(18)),
-        (b"MODULE M; BEGIN x := END M.", p1(21)),
-        (b"MODULE M; BEGIN x := - - 1 END M.", p1(23)),
-        (b"MODULE M; BEGIN x := 1 + ; END M.", p1(25)),
-        (b"MODULE M; BEGIN x := 1 2 END M.", p1(23)),
-        (b"MODULE M; BEGIN x := 1 y := 2 END M.", p1(23)),
+fn places_faults_of_modules(rt: HostRuntime) -> Result<(), Fail> {
+    let texts = [
+        "MODULE M; END M.",
+        "MODULE M; BEGIN END M.",
+        "MODULE M; CONST TYPE VAR BEGIN END M.",
+        "|",
+        "   |",
+        "|M",
+        "|BEGIN END M.",
+        "MODULE|",
+        "MODULE (* M; END M. *) |",
+        "MODULE |;",
+        "MODULE |MODULE; END MODULE.",
+        "MODULE M |END M.",
+        "MODULE M|. END M.",
+        "MODULE M;|",
+        "MODULE M; |x := 1 END M.",
+        "MODULE M; BEGIN|",
+        "MODULE M; BEGIN |BEGIN END M.",
+        "MODULE M; BEGIN END |END M.",
+        "MODULE M; BEGIN |VAR x: T; END M.",
+        "MODULE M; END|",
+        "MODULE M; END |.",
+        "MODULE M; END M|",
+        "MODULE M; END M \n|",
+        "MODULE M; BEGIN END M|;",
+        "MODULE M; END M|, N.",
+        "MODULE M; END M. |x",
+        "MODULE M; END M.|.",
+        "MODULE M; END M. |MODULE N; END N.",
     ];
-    for (text, want) in texts {
-        assert_eq!(rt; fault_of(rt.alloc(), text)?, want);
-    }
-    Ok(())
-}
-
-fn expect_name(rt: &impl Abort, name: &Name, text: &str, place: usize) {
-    assert_eq!(rt; name.text.as_str(), text);
-    assert_eq!(rt; name.place, place);
-}
-
-fn expect_type(rt: &impl Abort, of_type: &TypeExpr, place: usize) {
-    let TypeExpr::Named(name) = of_type;
-    expect_name(rt, name, "INTEGER", place);
-}
-
-fn expect_named(rt: &impl Abort, value: &Expr, text: &str, place: usize) {
-    match value {
-        Expr::Named(designator) => expect_name(rt, &designator.name, text, place),
-        _ => panic!(rt; "no name"),
-    }
-}
-
-fn expect_one(rt: &impl Abort, value: &Expr, at: usize) {
-    assert!(rt; matches!(value, Expr::Number { value: 1, place } if *place == at));
-}
-
-/// The parameters `a, b: INTEGER; VAR c: INTEGER`.
-fn expect_sections(rt: &impl Abort, sections: &[Section]) {
-    assert_eq!(rt; sections.len(), 2);
-    assert!(rt; !sections[0].is_var);
-    assert_eq!(rt; sections[0].names.len(), 2);
-    expect_name(rt, &sections[0].names[0], "a", 39);
-    expect_name(rt, &sections[0].names[1], "b", 42);
-    expect_type(rt, &sections[0].of_type, 45);
-    assert!(rt; sections[1].is_var);
-    assert_eq!(rt; sections[1].names.len(), 1);
-    expect_name(rt, &sections[1].names[0], "c", 58);
-    expect_type(rt, &sections[1].of_type, 61);
-}
-
-/// The value `-a + b - 1`.
-fn expect_sum(rt: &impl Abort, value: &Expr) {
-    let Expr::Sum { sign, first, rest } = value else {
-        panic!(rt; "no sum");
-    };
-    assert!(rt; matches!(sign, Some(sign) if sign.is_minus && sign.place == 82));
-    expect_named(rt, first, "a", 83);
-    assert_eq!(rt; rest.len(), 2);
-    assert_eq!(rt; rest[0].operator, Operator::Plus);
-    assert_eq!(rt; rest[0].place, 85);
-    expect_named(rt, &rest[0].value, "b", 87);
-    assert_eq!(rt; rest[1].operator, Operator::Minus);
-    assert_eq!(rt; rest[1].place, 89);
-    expect_one(rt, &rest[1].value, 91);
-}
-
-/// The procedure `P` of the module below.
-fn expect_procedure(rt: &impl Abort, procedure: &Procedure) -> Result<(), Fail> {
-    assert_eq!(rt; procedure.place, 26);
-    expect_name(rt, &procedure.name, "P", 36);
-    assert!(rt; procedure.is_exported);
-    expect_sections(rt, procedure.parameters.as_ref().ok_or("no parentheses")?);
-    expect_name(rt, &procedure.end_name, "P", 98);
-
-    let statements = procedure.body.as_ref().ok_or("no BEGIN")?;
-    assert_eq!(rt; statements.len(), 2);
-    match &statements[0] {
-        Stmt::Assign { target, value } => {
-            expect_name(rt, &target.name, "c", 77);
-            expect_sum(rt, value);
-        }
-        Stmt::Empty => panic!(rt; "no assignment"),
-    }
-    assert!(rt; matches!(&statements[1], Stmt::Empty));
+    expect_places(&rt, rt.alloc(), "", &texts, "")?;
+    let behind_end = fault_of(rt.alloc(), "MODULE M; END M. x")?;
+    assert_eq!(rt; behind_end, Some(ParseFault::Unexpected(17)));
     Ok(())
 }
 
 #[test]
-fn reads_module(rt: HostRuntime) -> Result<(), Fail> {
-    let text = b"MODULE M; VAR x: INTEGER; PROCEDURE P*(a, b: INTEGER; VAR c: INTEGER); \
-        BEGIN c := -a + b - 1; END P; BEGIN x := 1 END M.";
-    let tokens = scan(rt.alloc(), text)?;
-    let module = parse(rt.alloc(), &tokens)?;
-    expect_name(&rt, &module.name, "M", 7);
-    expect_name(&rt, &module.end_name, "M", 118);
+fn places_faults_of_declarations(rt: HostRuntime) -> Result<(), Fail> {
+    let texts = [
+        "CONST",
+        "CONST a = 1; b = -a * 2 + c; c = 1 < 2;",
+        "CONST |1 = 1;",
+        "CONST a|, b = 1;",
+        "CONST a |: 1;",
+        "CONST a = |;",
+        "CONST a = 1 |b = 2;",
+        "CONST a = 1 = 2 |= 3;",
+        "CONST a = 1; |CONST b = 2;",
+        "TYPE",
+        "TYPE T = INTEGER; U = T;",
+        "TYPE T |: INTEGER;",
+        "TYPE T = |1;",
+        "TYPE T = U|, V;",
+        "TYPE T = U |V = U;",
+        "TYPE T = U; |CONST a = 1;",
+        "TYPE T = ARRAY 2 * n + 1 OF ARRAY m OF U;",
+        "TYPE T = ARRAY |OF U;",
+        "TYPE T = ARRAY 3 |U;",
+        "TYPE T = ARRAY 3|, 4 OF U;",
+        "TYPE T = ARRAY 3 OF |;",
+        "TYPE T = RECORD END;",
+        "TYPE T = RECORD ;; a: U; b, c: RECORD d: U END; END;",
+        "TYPE T = RECORD |1 END;",
+        "TYPE T = RECORD |VAR a: U END;",
+        "TYPE T = RECORD a |END;",
+        "TYPE T = RECORD a, |: U END;",
+        "TYPE T = RECORD a: |END;",
+        "TYPE T = RECORD a: U |b: U END;",
+        "TYPE T = RECORD a: U; END |M.",
+        "VAR",
+        "VAR x: T; y, z: ARRAY 3 OF RECORD a: T END;",
+        "VAR |: T;",
+        "VAR x |= T;",
+        "VAR x |T;",
+        "VAR x, |: T;",
+        "VAR x: |;",
+        "VAR x: |VAR;",
+        "VAR x: T |y: T;",
+        "VAR x: T; |TYPE U = T;",
+        "VAR x: T; |VAR y: T;",
+    ];
+    expect_places(&rt, rt.alloc(), "MODULE M; ", &texts, " END M.")?;
+    Ok(())
+}
 
-    let variables = module.declarations.variables.as_ref().ok_or("no VAR")?;
-    assert_eq!(rt; variables.len(), 1);
-    assert_eq!(rt; variables[0].names.len(), 1);
-    expect_name(&rt, &variables[0].names[0], "x", 14);
-    expect_type(&rt, &variables[0].of_type, 17);
+#[test]
+fn places_faults_of_procedures(rt: HostRuntime) -> Result<(), Fail> {
+    let texts = [
+        "PROCEDURE P; END P; PROCEDURE Q; BEGIN END Q;",
+        "PROCEDURE P*; END P;",
+        "PROCEDURE P(); END P;",
+        "PROCEDURE P*(VAR a, b: T; c: T); BEGIN END P;",
+        "PROCEDURE P(a: ARRAY 2 OF T; VAR b: RECORD END); END P;",
+        "PROCEDURE P; CONST c = 1; TYPE T = U; VAR x: T; PROCEDURE Q; END Q; BEGIN x := c END P;",
+        "PROCEDURE |*; END P;",
+        "PROCEDURE P |END P;",
+        "PROCEDURE P*|*; END P;",
+        "PROCEDURE P()|*; END P;",
+        "PROCEDURE P()|(); END P;",
+        "PROCEDURE P()|: T; END P;",
+        "PROCEDURE P(|; END P;",
+        "PROCEDURE P(|1: T); END P;",
+        "PROCEDURE P(VAR |); END P;",
+        "PROCEDURE P(VAR |VAR a: T); END P;",
+        "PROCEDURE P(a |b: T); END P;",
+        "PROCEDURE P(a|); END P;",
+        "PROCEDURE P(a, |VAR b: T); END P;",
+        "PROCEDURE P(a: |); END P;",
+        "PROCEDURE P(a: T|, b: T); END P;",
+        "PROCEDURE P(a: T |VAR b: T); END P;",
+        "PROCEDURE P(a: T; |); END P;",
+        "PROCEDURE P(a: T; |END P;",
+        "PROCEDURE P(a: T |END P;",
+        "PROCEDURE P; |x := 1 END P;",
+        "PROCEDURE P; PROCEDURE Q; END Q; |VAR x: T; END P;",
+        "PROCEDURE P; END|; END M.",
+        "PROCEDURE P; END P |END M.",
+        "PROCEDURE P; END P|. END M.",
+        "PROCEDURE P; END P; |VAR x: T;",
+        "PROCEDURE P; END P; |;",
+        "PROCEDURE P; |1 END Q; END N.",
+    ];
+    expect_places(&rt, rt.alloc(), "MODULE M; ", &texts, " END M.")?;
+    Ok(())
+}
 
-    assert_eq!(rt; module.declarations.procedures.len(), 1);
-    expect_procedure(&rt, &module.declarations.procedures[0])?;
+#[test]
+fn places_names_that_differ(rt: HostRuntime) -> Result<(), Fail> {
+    let texts = [
+        "MODULE M; PROCEDURE M; PROCEDURE M; END M; END M; END M.",
+        "MODULE M; END |N.",
+        "MODULE M; END |N",
+        "MODULE M; END |m.",
+        "MODULE M; END |MM.",
+        "MODULE MM; END |M.",
+        "MODULE M; PROCEDURE P; END |Q END",
+        "MODULE M; PROCEDURE P; END P; END |P.",
+        "MODULE M; PROCEDURE P; PROCEDURE Q; END |P; END Q; END N.",
+        "MODULE M; PROCEDURE P; PROCEDURE Q; END Q; END |Q; END N.",
+    ];
+    for text in texts {
+        let (plain, place) = unmarked(rt.alloc(), text)?;
+        let want = place.map(ParseFault::NameDiffers);
+        assert_eq!(rt; fault_of(rt.alloc(), plain.as_str())?, want, "{text}");
+    }
+    Ok(())
+}
 
-    let statements = module.body.as_ref().ok_or("no BEGIN")?;
-    assert_eq!(rt; statements.len(), 1);
-    match &statements[0] {
-        Stmt::Assign { target, value } => {
-            expect_name(&rt, &target.name, "x", 107);
-            expect_one(&rt, value, 112);
-        }
-        Stmt::Empty => panic!(rt; "no assignment"),
+#[test]
+fn places_faults_of_statements(rt: HostRuntime) -> Result<(), Fail> {
+    let texts = [
+        "",
+        ";",
+        "; x := 1;; P;",
+        "P; P(); P(1); P(x, y + 1, z[0].a)",
+        "a.b[1].c[d.e][2] := 1",
+        "|1",
+        "|(x) := 1",
+        "|~x",
+        "x |= 1",
+        "x |: 1",
+        "x|, y := 1",
+        "x := |;",
+        "x := |END M.",
+        "x := 1 |2",
+        "x := 1 |y := 2",
+        "x := y |:= 1",
+        "x.|1 := 2",
+        "x.a |END M.",
+        "x.a|(1)",
+        "x[|] := 1",
+        "x[1 |:= 2",
+        "x[1|, 2] := 3",
+        "x[1]|; y",
+        "x[1]|(2)",
+        "P |x",
+        "P(|, 1)",
+        "P(|;",
+        "P(1|;",
+        "P(1, |)",
+        "P(1 |2)",
+        "P(x |:= 1)",
+        "P()|()",
+        "P()|.a := 1",
+        "P(1) |:= 2",
+        "P(1)|[2] := 3",
+    ];
+    expect_places(&rt, rt.alloc(), "MODULE M; BEGIN ", &texts, " END M.")?;
+    Ok(())
+}
+
+#[test]
+fn places_faults_of_control(rt: HostRuntime) -> Result<(), Fail> {
+    let texts = [
+        "IF a THEN END",
+        "IF a THEN x := 1 ELSIF b = c THEN ELSIF d THEN P ELSE x := 2; y := 3 END",
+        "IF a THEN WHILE b DO IF c THEN END; x := 1 END ELSE END",
+        "WHILE a # b DO x := 1; y := 2 END",
+        "WHILE a DO END; WHILE b DO END;",
+        "|THEN",
+        "|ELSIF a THEN END",
+        "|ELSE",
+        "|DO",
+        "IF |THEN END",
+        "IF a |DO END",
+        "IF a |x := 1 END",
+        "IF a |:= b THEN END",
+        "IF a THEN |DO END",
+        "IF a THEN |BEGIN END",
+        "IF a THEN x := 1 END |M.",
+        "IF a THEN END |x := 1",
+        "IF a THEN ELSIF |THEN END",
+        "IF a THEN ELSIF b |ELSE END",
+        "IF a THEN ELSE |THEN END",
+        "IF a THEN ELSE |ELSE END",
+        "IF a THEN ELSE x := 1 |ELSIF b THEN END",
+        "WHILE |DO END",
+        "WHILE a |THEN END",
+        "WHILE a DO |ELSE END",
+        "WHILE a DO END |x",
+        "WHILE a DO x := 1 END |M.",
+    ];
+    expect_places(&rt, rt.alloc(), "MODULE M; BEGIN ", &texts, " END M.")?;
+    Ok(())
+}
+
+#[test]
+fn places_faults_of_operators(rt: HostRuntime) -> Result<(), Fail> {
+    let texts = [
+        "a = b",
+        "a # b",
+        "a < b",
+        "a <= b",
+        "a > b",
+        "a >= b",
+        "+a - b + c OR d",
+        "a * b DIV c MOD d & e",
+        "-~a * ~~b = -1",
+        "a = b |= c",
+        "a < b |> c",
+        "a = |= b",
+        "|= a",
+        "|* a",
+        "|& a",
+        "|OR a",
+        "-|- a",
+        "+|- a",
+        "a + |- b",
+        "a * |- b",
+        "~|- a",
+        "a |~b",
+        "a + |;",
+        "a * |END M.",
+        "a OR |OR b",
+        "a & |)",
+        "-|END M.",
+        "~|END M.",
+    ];
+    expect_places(&rt, rt.alloc(), "MODULE M; BEGIN x := ", &texts, " END M.")?;
+    Ok(())
+}
+
+#[test]
+fn places_faults_of_factors(rt: HostRuntime) -> Result<(), Fail> {
+    let texts = [
+        "00012",
+        "((-a))",
+        "(a = b) = c",
+        "a.b.c",
+        "a[b][c]",
+        "a[-b = c].d",
+        "|IF a THEN b END",
+        "a |b",
+        "1 |2",
+        "(|)",
+        "(a |END M.",
+        "(a |b)",
+        "(a|, b)",
+        "(a|]",
+        "(a)|)",
+        "a[|]",
+        "a[1|)",
+        "a[1|, 2]",
+        "a[1 |END M.",
+        "a[1]|]",
+        "a.|1",
+        "a.|[1]",
+        "a.|END M.",
+        "a|(1)",
+        "a.b|(1)",
+        "1|.a",
+        "1|[0]",
+        "1|(a)",
+        "(a)|.b",
+        "(a)|[1]",
+    ];
+    expect_places(&rt, rt.alloc(), "MODULE M; BEGIN x := ", &texts, " END M.")?;
+    Ok(())
+}
+
+/// What stands before constructs, what opens and closes one, and what stands behind them.
+type Nest = [&'static str; 4];
+
+const PROCEDURES: Nest = ["MODULE M; ", "PROCEDURE P; ", "END P; ", "END M."];
+
+const ARRAYS: Nest = ["MODULE M; TYPE T = ", "ARRAY 1 OF ", "", "; END M."];
+
+const RECORDS: Nest = ["MODULE M; VAR x: ", "RECORD a: ", " END", "; END M."];
+
+const IFS: Nest = ["MODULE M; BEGIN ", "IF a THEN ", "END ", "END M."];
+
+const ELSES: Nest = ["MODULE M; BEGIN ", "IF a THEN ELSE ", "END ", "END M."];
+
+const WHILES: Nest = ["MODULE M; BEGIN ", "WHILE a DO ", "END ", "END M."];
+
+const BOTH: Nest = [
+    "MODULE M; BEGIN ",
+    "IF a THEN WHILE b DO ",
+    "END END ",
+    "END M.",
+];
+
+const PARENTHESES: Nest = ["MODULE M; VAR x: INTEGER; BEGIN x := ", "(", ")", " END M."];
+
+const ACTUALS: Nest = ["MODULE M; BEGIN P(", "(", ")", ") END M."];
+
+const INDICES: Nest = ["MODULE M; BEGIN x := a", "[a", "]", " END M."];
+
+const TARGETS: Nest = ["MODULE M; BEGIN x", "[a", "]", " := 1 END M."];
+
+const NEGATIONS: Nest = ["MODULE M; CONST c = ", "~", "", "; END M."];
+
+/// The text of so many constructs round this, and where the last one opens.
+fn nested(
+    alloc: Global,
+    nest: &Nest,
+    count: usize,
+    within: &str,
+) -> Result<(String, usize), AllocError> {
+    let [before, opening, closing, behind] = nest;
+    let mut text = String::from_str(alloc, before)?;
+    let mut last = 0;
+    for _ in 0..count {
+        last = text.len();
+        text.push_str(opening)?;
+    }
+    text.push_str(within)?;
+    for _ in 0..count {
+        text.push_str(closing)?;
+    }
+    text.push_str(behind)?;
+    Ok((text, last))
+}
+
+#[test]
+fn counts_nesting(rt: HostRuntime) -> Result<(), Fail> {
+    let rows = [
+        (PROCEDURES, ""),
+        (ARRAYS, "U"),
+        (RECORDS, "T"),
+        (IFS, ""),
+        (ELSES, ""),
+        (WHILES, ""),
+        (PARENTHESES, "1"),
+        (ACTUALS, "1"),
+        (INDICES, ""),
+        (TARGETS, ""),
+        (NEGATIONS, "1"),
+    ];
+    for (nest, within) in rows {
+        let (text, _) = nested(rt.alloc(), &nest, 100, within)?;
+        assert_eq!(rt; fault_of(rt.alloc(), text.as_str())?, None, "{text}");
+        let (text, last) = nested(rt.alloc(), &nest, 101, within)?;
+        let want = Some(ParseFault::TooDeep(last));
+        assert_eq!(rt; fault_of(rt.alloc(), text.as_str())?, want, "{text}");
+    }
+    let (text, _) = nested(rt.alloc(), &PARENTHESES, 101, "1")?;
+    let want = Some(ParseFault::TooDeep(137));
+    assert_eq!(rt; fault_of(rt.alloc(), text.as_str())?, want);
+    Ok(())
+}
+
+#[test]
+fn counts_all_kinds_together(rt: HostRuntime) -> Result<(), Fail> {
+    let rows = [
+        (BOTH, 50, "P(1); x.a := -1 + 2 * b "),
+        (BOTH, 50, "x := |(1) "),
+        (BOTH, 50, "x := 1 + 2 * |~b "),
+        (BOTH, 50, "x := a.b|[1] "),
+        (BOTH, 50, "x|[1] := 2 "),
+        (BOTH, 50, "P(1, |(2)) "),
+        (BOTH, 50, "|IF a THEN END "),
+        (BOTH, 50, "|WHILE a DO END "),
+        (IFS, 99, "IF a THEN ELSIF b THEN ELSE END "),
+        (IFS, 99, "IF |(a) THEN END "),
+        (IFS, 99, "IF a THEN ELSIF |~b THEN END "),
+        (IFS, 99, "IF a THEN ELSE |WHILE b DO END END "),
+        (WHILES, 99, "WHILE |~a DO END "),
+        (ARRAYS, 99, "ARRAY 2 * n OF U"),
+        (ARRAYS, 99, "ARRAY |(1) OF U"),
+        (ARRAYS, 99, "ARRAY 1 OF |RECORD END"),
+        (RECORDS, 99, "RECORD a: |ARRAY 1 OF U END"),
+        (PROCEDURES, 99, "PROCEDURE Q(a: T); BEGIN x := 1 END Q; "),
+        (PROCEDURES, 99, "PROCEDURE Q(a: |RECORD END); END Q; "),
+        (PROCEDURES, 100, "CONST c = |(1); "),
+        (PROCEDURES, 100, "TYPE T = |RECORD END; "),
+        (PROCEDURES, 100, "VAR x: |ARRAY 1 OF T; "),
+        (PROCEDURES, 100, "BEGIN |IF a THEN END "),
+    ];
+    for (nest, count, within) in rows {
+        let (text, _) = nested(rt.alloc(), &nest, count, within)?;
+        let (plain, place) = unmarked(rt.alloc(), text.as_str())?;
+        let want = place.map(ParseFault::TooDeep);
+        assert_eq!(rt; fault_of(rt.alloc(), plain.as_str())?, want, "{within}");
+    }
+    Ok(())
+}
+
+#[test]
+fn counts_no_neighbours(rt: HostRuntime) -> Result<(), Fail> {
+    let rows = [
+        ["MODULE M; ", "PROCEDURE P; END P; ", "", "END M."],
+        ["MODULE M; TYPE ", "T = ARRAY (1) OF U; ", "", "END M."],
+        [
+            "MODULE M; VAR x: RECORD ",
+            "a: RECORD END; ",
+            "",
+            "END; END M.",
+        ],
+        [
+            "MODULE M; BEGIN ",
+            "IF a THEN END; WHILE b DO END; ",
+            "",
+            "END M.",
+        ],
+        [
+            "MODULE M; BEGIN IF a THEN ",
+            "ELSIF (b) THEN ",
+            "",
+            "END END M.",
+        ],
+        ["MODULE M; BEGIN x := a", " + (b) * ~c[1]", "", " END M."],
+        ["MODULE M; BEGIN x := a", "[1]", "", " END M."],
+    ];
+    for row in rows {
+        let (text, _) = nested(rt.alloc(), &row, 101, "")?;
+        assert_eq!(rt; fault_of(rt.alloc(), text.as_str())?, None, "{text}");
     }
     Ok(())
 }

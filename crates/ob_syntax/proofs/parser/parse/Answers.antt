@@ -1,7 +1,7 @@
 use Rattle.ob_syntax.specs.ParseFaults.{IsParseFault}
 use Rattle.ob_syntax.specs.Answers.{state}
 use Rattle.ob_syntax.proofs.States.{passed_on}
-use Rattle.ob_syntax.proofs.Whole.{faults, goes_past, ends, kept}
+use Rattle.ob_syntax.proofs.Whole.{faults, goes_past, ends, alone}
 use Rattle.ob_syntax.proofs.parser.parse.Goals as goal
 
 pub returns-in_err-module-clause-fault : goal.returns-in_err-module-clause-fault
@@ -17,5 +17,8 @@ pub returns-clause-derives : goal.returns-clause-derives
 returns-clause-derives c =
     ends c.args.tokens.now _ (state c.module_text.new.self) _ c.in_ok-module.ensures c.current.ensures c.if-is_some.ensures
 
-pub returns-clause-agrees : goal.returns-clause-agrees
-returns-clause-agrees c = kept c.args.tokens.now _ _ c.in_ok-module.ensures.reads
+pub returns-clause-alone : goal.returns-clause-alone
+returns-clause-alone c = alone c.args.tokens.now _ _ c.in_ok-module.ensures.reads
+
+pub returns-clause-keeps : goal.returns-clause-keeps
+returns-clause-keeps c = c.in_ok-module.ensures.reads.kept

@@ -1,7 +1,7 @@
 use Rattle.std.proofs.Common.{Some, sym, ◌∙◌, ap, rules}
 use Rattle.std.proofs.lemmas.Option.{slice_get_within}
 use denote.Enum.Bare.{same_true, true_same}
-use Rattle.ob_syntax.specs.contracts.scan.token.Kind.{the_type}
+use Rattle.ob_scan.specs.contracts.token.Kind.{the_type}
 use Rattle.ob_syntax.proofs.Texts.{kind_here, no_kind_here, of_kind}
 use Rattle.ob_syntax.proofs.parser.Parser.at.Goals as goal
 

@@ -2,7 +2,7 @@ use Rattle.std.proofs.Common.{refl}
 use Rattle.ob_syntax.proofs.Steps.{closed}
 use Rattle.ob_syntax.proofs.Phrases.{leads_some, leads_behind, reads_none}
 use Rattle.ob_syntax.proofs.States.{starts, reaches, fails, past, path_on, passed, stays, false_at, true_at}
-use Rattle.ob_syntax.proofs.Expressions.{optional_body}
+use Rattle.ob_syntax.proofs.Statements.{optional_body}
 use Rattle.ob_syntax.proofs.parser.Parser.body.Goals as goal
 
 pub returns-then-not-at : goal.returns-then-not-at

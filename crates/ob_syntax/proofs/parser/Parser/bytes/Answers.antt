@@ -1,7 +1,7 @@
 use Rattle.std.proofs.Common.{◌≤◌, ◌-◌, IsTrue, subst, ap, sym, ◌∙◌, List, ℕ, take, drop}
 use Rattle.std.specs.List.{list_all}
 use Rattle.std.specs.Char.{is_ascii_alphanumeric, is_ascii_digit}
-use Rattle.ob_syntax.specs.Spelling.{number_value}
+use Rattle.ob_scan.specs.Spelling.{number_value}
 use Rattle.ob_syntax.proofs.Texts.{of_kind, of_bytes}
 use Rattle.ob_syntax.proofs.parser.Parser.bytes.Goals as goal
 

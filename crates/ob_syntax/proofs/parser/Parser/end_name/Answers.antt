@@ -1,5 +1,5 @@
 use Rattle.std.proofs.Common.{ap, option_map}
-use Rattle.ob_syntax.specs.Lexemes.{place_of}
+use Rattle.ob_scan.specs.Lexemes.{place_of}
 use Rattle.ob_syntax.specs.Answers.{state}
 use Rattle.ob_syntax.specs.View.{name_of}
 use Rattle.ob_syntax.proofs.Names.{begins_end_name, fill_end_name, name_read, reads_end_name, refuses_end_name, differs, agrees}

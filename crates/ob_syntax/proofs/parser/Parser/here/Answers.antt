@@ -1,10 +1,10 @@
 use Rattle.std.proofs.Common.{◌≡◌, ◌≤◌, IsTrue, length}
 use Rattle.std.specs.List.{list_all}
 use Rattle.std.specs.Char.{is_ascii_alphanumeric, is_ascii_digit}
-use Rattle.ob_syntax.specs.declared.scan.token.Kind.{Kind}
-use Rattle.ob_syntax.specs.Spelling.{number_value}
-use Rattle.ob_syntax.specs.Tokens.{spelling}
-use Rattle.ob_syntax.proofs.TokenFacts.{token_within, ident_spelled, number_spelled}
+use Rattle.ob_scan.specs.declared.token.Kind.{Kind}
+use Rattle.ob_scan.specs.Spelling.{number_value}
+use Rattle.ob_scan.specs.Tokens.{spelling}
+use Rattle.ob_scan.proofs.TokenFacts.{token_within, ident_spelled, number_spelled}
 use Rattle.ob_syntax.proofs.Texts.{all_at}
 use Rattle.ob_syntax.proofs.parser.Parser.here.Goals as goal
 

@@ -1,7 +1,7 @@
 use Rattle.std.proofs.Common.{◌-◌, ◌++◌, length, map}
 use Rattle.ob_syntax.specs.Answers.{state}
 use Rattle.ob_syntax.specs.Forms as forms
-use Rattle.ob_syntax.specs.declared.scan.token.Kind.{Kind}
+use Rattle.ob_scan.specs.declared.token.Kind.{Kind}
 use Rattle.ob_syntax.specs.View.{name_of}
 use Rattle.ob_syntax.proofs.Phrases.{tail}
 use Rattle.ob_syntax.proofs.States.{Path}

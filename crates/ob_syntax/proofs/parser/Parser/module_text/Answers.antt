@@ -4,8 +4,7 @@ use Rattle.ob_syntax.specs.View.{name_of}
 use Rattle.ob_syntax.proofs.Steps.{closed, before, fill_token, fill_linked, fill_both}
 use Rattle.ob_syntax.proofs.States.{starts, reaches, fails, fails_in, fails_in_linked, fails_here, past, passed}
 use Rattle.ob_syntax.proofs.Names.{begins_name, fill_name, fill_end_name}
-use Rattle.ob_syntax.proofs.Expressions.{fill_body}
-use Rattle.ob_syntax.proofs.Declarations.{leads_module, name_follows, fill_in_module, fill_behind_name, past_name, declarations_follow}
+use Rattle.ob_syntax.proofs.Declarations.{leads_module, name_follows, fill_declarations, fill_module_end, fill_behind_name, past_name, declarations_follow}
 use Rattle.ob_syntax.proofs.parser.Parser.module_text.Goals as goal
 
 pub returns-in_err-expect : goal.returns-in_err-expect
@@ -23,14 +22,14 @@ pub returns-in_err-expect-2 : goal.returns-in_err-expect-2
 returns-in_err-expect-2 c =
     let way = past_name (past (starts leads_module) (closed (λ k. refl)) c.in_ok-expect.ensures.answers) c.in_ok-name.ensures in
     passed _ _ _ _ _ _ c.from_residual-in_err-expect-2.ensures.1
-    (fails_in way (closed (λ k. refl)) (fill_in_module (name_of c.in_ok-name.name)) _ c.in_err-expect-2.ensures.answers)
+    (fails_in way (closed (λ k. refl)) (fill_both fill_declarations (fill_module_end (name_of c.in_ok-name.name))) _ c.in_err-expect-2.ensures.answers)
 
 pub returns-in_err-declarations : goal.returns-in_err-declarations
 returns-in_err-declarations c =
     let way = past_name (past (starts leads_module) (closed (λ k. refl)) c.in_ok-expect.ensures.answers) c.in_ok-name.ensures in
     let way = past way (closed (λ k. refl)) c.in_ok-expect-2.ensures.answers in
     passed _ _ _ _ _ _ c.from_residual-in_err-declarations.ensures.1
-    (fails_in way (declarations_follow _) (fill_both fill_body (fill_both fill_token (fill_both (fill_end_name (name_of c.in_ok-name.name)) fill_token))) _
+    (fails_in way (declarations_follow _) (fill_module_end (name_of c.in_ok-name.name)) _
     c.in_err-declarations.ensures)
 
 pub returns-in_err-body : goal.returns-in_err-body

@@ -4,7 +4,7 @@ use Rattle.ob_syntax.proofs.Expressions.{went_number}
 use Rattle.ob_syntax.proofs.parser.Parser.number.Goals as goal
 
 pub returns : goal.returns
-returns c =
+returns c = λ depth.
     let same : to_z w32 (of_z w32 c.number_of-value.result) ≡ c.number_of-value.result = search (arith, to_z-of_z) in
     rw same
     (went_number (state c.args.self.now) (state c.take-place.new.self) _ _ _ c.take-place.ensures.kept c.take-place.ensures.moved

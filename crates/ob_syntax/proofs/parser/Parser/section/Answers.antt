@@ -2,7 +2,7 @@ use Rattle.std.proofs.Common.{refl}
 use Rattle.ob_syntax.specs.Forms as forms
 use Rattle.ob_syntax.proofs.Steps.{closed, before, fill_token, fill_both}
 use Rattle.ob_syntax.proofs.States.{starts, reaches, fails, fails_in, past, passed}
-use Rattle.ob_syntax.proofs.Names.{fill_type}
+use Rattle.ob_syntax.proofs.Types.{fill_type}
 use Rattle.ob_syntax.proofs.Declarations.{leads_section, var_follows}
 use Rattle.ob_syntax.proofs.parser.Parser.section.Goals as goal
 

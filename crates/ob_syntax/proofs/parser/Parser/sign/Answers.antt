@@ -1,23 +1,25 @@
-use Rattle.std.proofs.Common.{◌≡◌, Some, refl, sym, ap, ◌∙◌}
-use denote.Enum.Bare.{sameb}
-use Rattle.ob_syntax.specs.declared.tree.Operator.{Operator}
+use Rattle.std.proofs.Common.{◌≡◌, true, false, Option, Some, sym, ◌∙◌, ap}
 use Rattle.ob_syntax.specs.declared.tree.Sign.{Sign}
-use Rattle.ob_syntax.specs.contracts.tree.Operator.{the_type}
-use Rattle.ob_syntax.proofs.Expressions.{is_minus, sign_of, reads_sign, reads_no_sign}
-use Rattle.ob_syntax.proofs.States.{stays, went_one, went_as}
+use Rattle.ob_syntax.specs.Reading.{kind_at}
+use Rattle.ob_syntax.specs.Answers.{state, tokens_of}
+use Rattle.ob_syntax.proofs.Expressions.{sign_kind, reads_sign, reads_no_sign}
+use Rattle.ob_syntax.proofs.States.{stays, went_one, went_as, false_at, true_at}
 use Rattle.ob_syntax.proofs.parser.Parser.sign.Goals as goal
+use Rattle.ob_syntax.proofs.parser.Parser.sign.Goals.{else-not-is_minus-via-then-not-is_minus+else-not-at, else-not-is_minus-via-else-not-is_minus}
 
-tests_minus : (operator : Operator) → is_minus operator ≡ sameb the_type operator Operator.Minus
-tests_minus Operator.Plus = refl
-tests_minus Operator.Minus = refl
-
-pub returns-in_err-operator : goal.returns-in_err-operator
-returns-in_err-operator c = went_as (sym c.from_residual.ensures) (stays (reads_no_sign c.in_err-operator.ensures.none))
+pub returns-then-not-at : goal.returns-then-not-at
+returns-then-not-at c = stays (reads_no_sign (λ is_minus here. elim is_minus as (λ b. kind_at (tokens_of (state c.args.self.now)) c.args.self.now.position ≡ Some (sign_kind b) → ⊥) [
+  | true ↦ false_at c.if-not-is_minus.ensures.kind
+  | false ↦ false_at c.if-not-at.ensures.kind
+] here))
 
 pub returns : goal.returns
 returns c =
-    let operator = c.in_ok-operator.operator in
-    let found = c.in_ok-operator.ensures.some in
-    let P : _ → Sign = λ b. record { is_minus = b; place = c.take-place.result } in
-    went_as (ap (λ q. Some (sign_of operator q)) (sym c.take-place.ensures.place) ∙ ap (λ b. Some (P b)) (tests_minus operator ∙ sym c.eq.ensures))
-    (went_one c.take-place.ensures.kept c.take-place.ensures.moved (reads_sign found.1 found.2))
+    let here : kind_at (tokens_of (state c.args.self.now)) c.args.self.now.position ≡ Some (sign_kind c.at-is_minus.result) =
+    elim c.else-not-is_minus.branch [
+      | else-not-is_minus-via-then-not-is_minus+else-not-at w ↦ true_at w.if-not-at.ensures.kind ∙ ap (λ b. Some (sign_kind b)) (sym w.if-not-is_minus.true)
+      | else-not-is_minus-via-else-not-is_minus w ↦ true_at w.if-not-is_minus.ensures.kind ∙ ap (λ b. Some (sign_kind b)) (sym w.if-not-is_minus.false)
+    ] in
+    let P : _ → Option Sign = λ q. Some (record { is_minus = c.at-is_minus.result; place = q }) in
+    went_as (ap P (sym c.take-place.ensures.place))
+    (went_one c.take-place.ensures.kept c.take-place.ensures.moved (reads_sign c.at-is_minus.result here))

@@ -1,7 +1,7 @@
 use Rattle.std.proofs.Common.{refl}
 use Rattle.ob_syntax.proofs.Steps.{closed, before, fill_token, fill_both}
 use Rattle.ob_syntax.proofs.States.{starts, reaches, fails, fails_in, past, passed}
-use Rattle.ob_syntax.proofs.Names.{fill_type}
+use Rattle.ob_syntax.proofs.Types.{fill_type}
 use Rattle.ob_syntax.proofs.Declarations.{leads_var_declaration}
 use Rattle.ob_syntax.proofs.parser.Parser.var_declaration.Goals as goal
 

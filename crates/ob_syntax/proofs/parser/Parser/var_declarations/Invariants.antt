@@ -6,7 +6,7 @@ use Rattle.ob_syntax.proofs.States.{Path}
 use Rattle.ob_syntax.proofs.parser.Parser.var_declarations.Given as goal
 
 abbrev pub invariant-loop-self : goal.invariant-loop-self
-invariant-loop-self l = Path forms.var_declarations (state l.fn.self) (forms.var_declarations) (state l.self) (λ xs. map var_decl_of l.all.items ++ xs)
+invariant-loop-self l = Path (forms.var_declarations l.depth) (state l.fn.self) (forms.var_declarations l.depth) (state l.self) (λ xs. map var_decl_of l.all.items ++ xs)
 
 abbrev pub decreases-loop-self : goal.decreases-loop-self
 decreases-loop-self l = length l.self.tokens.now.tokens - l.self.position

@@ -1,0 +1,17 @@
+-- Tokens with their bytes, as the grammar reads them.
+use Rattle.std.specs.Prelude.{ℕ, List, map}
+use Rattle.ob_scan.specs.declared.token.Kind.{Kind}
+use Rattle.ob_scan.specs.declared.token.Token.{Token}
+use Rattle.ob_scan.specs.Tokens.{spelling}
+
+-- a token's kind, its place and its bytes
+pub data Lexeme : Type 0 where
+  lexeme : (kind : Kind) (place : ℕ) (bytes : List ℕ) → Lexeme
+
+-- where a token begins
+abbrev pub place_of : Lexeme → ℕ
+place_of (lexeme kind place bytes) = place
+
+-- the tokens of a text with their bytes
+abbrev pub lexemes : List ℕ → List Token → List Lexeme
+lexemes text = map (λ t. lexeme t.kind t.start (spelling text t))

@@ -1,0 +1,18 @@
+//! The tokens of a module's text.
+#![tactic(auto)]
+
+mod comment;
+pub mod fault;
+pub mod keyword;
+mod lexeme;
+pub mod scanner;
+mod symbol;
+#[cfg(test)]
+mod tests;
+pub mod token;
+pub mod tokens;
+
+pub use fault::ScanFault;
+pub use scanner::scan;
+pub use token::{Kind, Token};
+pub use tokens::Tokens;

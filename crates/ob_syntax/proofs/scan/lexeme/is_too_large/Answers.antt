@@ -1,5 +1,0 @@
-use Rattle.std.proofs.Common.{arith}
-use Rattle.ob_syntax.proofs.scan.lexeme.is_too_large.Goals as goal
-
-pub overflow_mul-value : goal.overflow_mul-value
-overflow_mul-value c = omega arith

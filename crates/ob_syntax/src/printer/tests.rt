@@ -1,0 +1,37 @@
+//! Texts with their printed texts.
+
+use crate::printer::print;
+use crate::reader::read;
+use std::test::Fail;
+
+#[test]
+fn prints_texts(rt: HostRuntime) -> Result<(), Fail> {
+    let texts: [(&[u8], &str); 2] = [
+        (
+            b"MODULE M;(* c (* d *) *)VAR x:INTEGER;END M.",
+            "MODULE M ; VAR x : INTEGER ; END M .\n",
+        ),
+        (
+            b"MODULE Whole; CONST n=007; m=-n+1; \
+            TYPE A=ARRAY n OF INTEGER; R=RECORD END; S=RECORD x,y: A;; z: R END; VAR a,b: A; c: S; \
+            PROCEDURE P*(VAR x,y: INTEGER; z: A); CONST k=0; PROCEDURE Q; BEGIN END Q; PROCEDURE R(); END R; \
+            BEGIN x:=y END P; \
+            BEGIN IF a#b THEN P ELSIF a<b THEN P(); ELSIF a<=b THEN ELSE P(a, b[1].z) END; \
+            WHILE ~(a>b) OR c.x[n]>=c.z.y DO a:=+a*b DIV c MOD 2&(x=y)-1 END; END Whole.",
+            "MODULE Whole ; CONST n = 7 ; m = - n + 1 ; \
+            TYPE A = ARRAY n OF INTEGER ; R = RECORD END ; S = RECORD x , y : A ; ; z : R END ; VAR a , b : A ; c : S ; \
+            PROCEDURE P * ( VAR x , y : INTEGER ; z : A ) ; CONST k = 0 ; PROCEDURE Q ; BEGIN END Q ; PROCEDURE R ( ) ; END R ; \
+            BEGIN x := y END P ; \
+            BEGIN IF a # b THEN P ELSIF a < b THEN P ( ) ; ELSIF a <= b THEN ELSE P ( a , b [ 1 ] . z ) END ; \
+            WHILE ~ ( a > b ) OR c . x [ n ] >= c . z . y DO a := + a * b DIV c MOD 2 & ( x = y ) - 1 END ; END Whole .\n",
+        ),
+    ];
+    for (text, want) in texts {
+        let printed = print(rt.alloc(), &read(rt.alloc(), text)?)?;
+        assert_eq!(rt; printed.as_str(), want);
+
+        let again = print(rt.alloc(), &read(rt.alloc(), printed.as_bytes())?)?;
+        assert_eq!(rt; again.as_str(), want);
+    }
+    Ok(())
+}

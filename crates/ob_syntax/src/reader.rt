@@ -1,0 +1,62 @@
+//! From the bytes of a text to its tree.
+
+ghost use Rattle.std.specs.Prelude.{◌≡◌, ◌≤◌, length, IfOk, IfErr};
+ghost use Rattle.ob_syntax.specs.Tree as trees;
+ghost use Rattle.ob_syntax.specs.Conditions.{KeepsConditions};
+ghost use Rattle.ob_syntax.specs.Places.{bare};
+ghost use Rattle.ob_syntax.specs.PrintedAgain.{LeadsTo};
+ghost use Rattle.ob_syntax.specs.ReadFaults.{IsTextOf, IsReadFault, IsWant};
+ghost use Rattle.ob_syntax.specs.View.{module_of};
+
+use crate::parser::{ParseFault, parse};
+use crate::tree::Module;
+use ob_scan::{ScanFault, scan};
+use std::alloc::Global;
+use thiserror::Error;
+
+/// Why a text is no module.
+#[derive(Clone, Copy, Debug, PartialEq, Eq, Error)]
+pub enum ReadFault {
+    /// S1 to S6.
+    #[error("{0}")]
+    Scan(ScanFault),
+    /// P1 to P4.
+    #[error("{0}")]
+    Parse(ParseFault),
+}
+
+impl From<ScanFault> for ReadFault {
+    ghost use Rattle.std.specs.Prelude.{◌≡◌};
+    ghost use Rattle.ob_syntax.specs.declared.reader.ReadFault.TheVariants.{Scan};
+
+    ghost from_gives = { λ fault e. e ≡ Scan fault };
+
+    fn from(fault: ScanFault) -> ReadFault {
+        ReadFault::Scan(fault)
+    }
+}
+
+impl From<ParseFault> for ReadFault {
+    ghost use Rattle.std.specs.Prelude.{◌≡◌};
+    ghost use Rattle.ob_syntax.specs.declared.reader.ReadFault.TheVariants.{Parse};
+
+    ghost from_gives = { λ fault e. e ≡ Parse fault };
+
+    fn from(fault: ParseFault) -> ReadFault {
+        ReadFault::Parse(fault)
+    }
+}
+
+/// The module of a text. A fault of its tokens is answered before one of the grammar, wherever it stands.
+pub fn read(alloc: Global, text: &[u8]) -> Result<Module, ReadFault>
+    ensures read { IfOk result (λ m. IsTextOf text.now (module_of m)) }
+    ensures fault { IfErr result (λ e. IsReadFault text.now e) }
+
+    // A text that leads to a module but for places, as a printed one does, is read as that module or memory is wanted.
+    ensures again { (m : trees.Module) → LeadsTo text.now m → KeepsConditions m → length text.now ≤ 65536 →
+        (IfOk result (λ x. bare (module_of x) ≡ bare m)) × (IfErr result IsWant) }
+{
+    let tokens = scan(alloc, text)?;
+    let module = parse(alloc, &tokens)?;
+    Ok(module)
+}
