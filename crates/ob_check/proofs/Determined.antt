@@ -55,13 +55,13 @@ same_parameters {after' = after'} (Typing.more {x = x} {xs = xs} d h rest) (Typi
 pub same_procedures : {env after after' : Environment} {n : ℕ} {xs : Procedures} {us vs : List Procedure} →
     DeclaresProcedures env n xs after us → DeclaresProcedures env n xs after' vs → after ≡ after'
 same_procedures Typing.none Typing.none = refl
-same_procedures {env = env} {after' = after'} {n = n} (Typing.procedure {heading = heading} {rest = rest} {parameters = ps} new p limit body others) (Typing.procedure {others = vs} new' p' limit' body' others') =
+same_procedures {env = env} {after' = after'} {n = n} (Typing.procedure {heading = heading} {rest = rest} {parameters = ps} new p limit nothing body others) (Typing.procedure {others = vs} new' p' limit' nothing' body' others') =
     let same = same_parameters p p' in
     let P : List Parameter → Type 0 = λ qs. DeclaresProcedures (declared env heading.name.text (ProcedureName n (map formal_of qs))) (suc n) rest after' vs in
     same_procedures others (subst P (sym same.list) others')
 
 pub same_declarations : {env after after' : Environment} {d : Declarations} {us vs : List Variable} {ps qs : List Procedure} →
     Declares env d after us ps → Declares env d after' vs qs → after ≡ after'
-same_declarations {after' = after'} (Typing.declarations {procedures = procedures} v p) (Typing.declarations {ps = qs} v' p') =
+same_declarations {after' = after'} (Typing.declarations {procedures = procedures} c t v p) (Typing.declarations {ps = qs} c' t' v' p') =
     let P : Environment → Type 0 = λ e. DeclaresProcedures e 0 procedures after' qs in
     same_procedures p (subst P (sym (same_variables v v').env) p')

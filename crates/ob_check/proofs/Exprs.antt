@@ -1,5 +1,5 @@
 -- Expressions and their operands, one after another.
-use Rattle.std.proofs.Common.{◌≡◌, ℕ, ℤ, List, ◌∷◌, refl, ap, sym, subst, ◌∙◌, Box, Vec, Option}
+use Rattle.std.proofs.Common.{◌≡◌, ℕ, ℤ, List, [], ◌∷◌, refl, ap, sym, subst, ◌∙◌, Box, Vec, Option, true, false, if◌then◌else◌}
 use Rattle.std.specs.declared.alloc.Global.{Global}
 use Rattle.ob_syntax.specs.declared.tree.Designator.{Designator}
 use Rattle.ob_syntax.specs.declared.tree.Expr.{Expr}
@@ -7,8 +7,9 @@ use Rattle.ob_syntax.specs.declared.tree.Expr.TheVariants as Exprs
 use Rattle.ob_syntax.specs.declared.tree.Operand.{Operand}
 use Rattle.ob_syntax.specs.declared.tree.Sign.{Sign}
 use Rattle.ob_syntax.specs.Tree
-use Rattle.ob_syntax.specs.View.{name_of, expr_of, operands_in}
+use Rattle.ob_syntax.specs.View.{name_of, expr_of, operands_in, selectors_in}
 use Rattle.ob_check.specs.declared.checker.CheckFault.{CheckFault}
+use Rattle.ob_check.specs.declared.checker.CheckFault.TheVariants.{NotSupported}
 use Rattle.ob_check.specs.declared.program.Arithmetic.{Arithmetic}
 use Rattle.ob_check.specs.declared.program.DataType.{DataType}
 use Rattle.ob_check.specs.declared.program.DataType.TheVariants.{Integer}
@@ -20,13 +21,14 @@ use Rattle.ob_check.specs.Program as Program
 use Rattle.ob_check.specs.Scopes.{Environment}
 use Rattle.ob_check.specs.Typing as Typing
 use Rattle.ob_check.specs.Typing.{IsVariable, HasType, AreOperands, IsArithmetic, with_sign}
+use Rattle.ob_check.specs.FirstPath.{is_arithmetic, all_arithmetic}
 use Rattle.ob_check.specs.Parts as Parts
 use Rattle.ob_check.specs.Parts.{AVariable, AnExpression, SomeOperands}
 use Rattle.ob_check.specs.View.{expression_of}
 use Rattle.ob_check.specs.Checking.{IsFaultIn, operations_in}
 use Rattle.ob_check.proofs.Faults.{further_in}
 use Rattle.ob_check.proofs.Sums.{expression_of-computed}
-use Rattle.ob_syntax.proofs.Loops.{expr_of-sum}
+use Rattle.ob_check.proofs.Outside.{expr_of-named, expr_of-sum}
 
 -- there is one type
 pub is_integer : (t : DataType) → t ≡ Integer
@@ -39,16 +41,21 @@ module _ (env : Environment) (e : Expr) where
       let Q : ℤ → Type 0 = λ x. HasType env (Tree.Number x place) Integer (Program.Literal (Int w)) in
       subst P (sym is) (subst Q same Typing.number)
 
-  pub named_typed : (d : Designator) (t : DataType) (v : Program.Designator) → e ≡ Exprs.Named d → IsVariable env (name_of d.name) t v → HasType env (expr_of e) Integer (Program.ValueOf t v)
-  named_typed d t v is h =
-      let P : Expr → Type 0 = λ x. HasType env (expr_of x) Integer (Program.ValueOf t v) in
-      let Q : DataType → Type 0 = λ u. HasType env (Tree.Named (name_of d.name)) u (Program.ValueOf t v) in
-      subst P (sym is) (subst Q (is_integer t) (Typing.variable h))
+  -- a name without selectors
+  module _ (d : Designator) (is : e ≡ Exprs.Named d) (bare : d.selectors.items ≡ []) where
+    named : expr_of e ≡ Tree.Named (name_of d.name) Tree.no_selector
+    named = ap expr_of is ∙ expr_of-named d ∙ ap (λ xs. Tree.Named (name_of d.name) (selectors_in xs)) bare
 
-  pub named_fault : (d : Designator) (fault : CheckFault) → e ≡ Exprs.Named d → IsFaultIn env (AVariable (name_of d.name)) fault → IsFaultIn env (AnExpression (expr_of e)) fault
-  named_fault d fault is h =
-      let P : Expr → Type 0 = λ x. IsFaultIn env (AnExpression (expr_of x)) fault in
-      subst P (sym is) (further_in fault Parts.named h)
+    pub named_typed : (t : DataType) (v : Program.Designator) → IsVariable env (name_of d.name) t v → HasType env (expr_of e) Integer (Program.ValueOf t v)
+    named_typed t v h =
+        let P : Tree.Expr → Type 0 = λ x. HasType env x Integer (Program.ValueOf t v) in
+        let Q : DataType → Type 0 = λ u. HasType env (Tree.Named (name_of d.name) Tree.no_selector) u (Program.ValueOf t v) in
+        subst P (sym named) (subst Q (is_integer t) (Typing.variable h))
+
+    pub named_fault : (fault : CheckFault) → IsFaultIn env (AVariable (name_of d.name)) fault → IsFaultIn env (AnExpression (expr_of e)) fault
+    named_fault fault h =
+        let P : Tree.Expr → Type 0 = λ x. IsFaultIn env (AnExpression x) fault in
+        subst P (sym named) (further_in fault Parts.named h)
 
   module _ (sign : Option Sign) (first : Box Expr Global) (rest : Vec Operand Global) (is : e ≡ Exprs.Sum sign first rest) where
     viewed : expr_of e ≡ Tree.Sum sign (expr_of first.value) (operands_in rest.items)
@@ -94,3 +101,11 @@ module _ (env : Environment) (left : List Operand) (o : Operand) (rest : List Op
   operands_typed a c cs k h r =
       let P : List Operand → Type 0 = λ os. AreOperands env (operands_in os) (Program.operation a c cs) in
       subst P (sym next) (Typing.more k h r)
+
+  -- an operator that is not known
+  pub operator_fault : (place : ℕ) → is_arithmetic o.operator ≡ false → IsFaultIn env (SomeOperands (operands_in left)) (NotSupported place)
+  operator_fault place h known =
+      let e : all_arithmetic (operands_in left) ≡ (if is_arithmetic o.operator then all_arithmetic (operands_in rest) else false) = ap (λ os. all_arithmetic (operands_in os)) next in
+      let f : all_arithmetic (operands_in left) ≡ false = e ∙ ap (λ b. if b then all_arithmetic (operands_in rest) else false) h in
+      let g : true ≡ false = sym known.0 ∙ f in
+      cc

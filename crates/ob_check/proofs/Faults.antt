@@ -1,14 +1,15 @@
 -- Faults of parts, and those of what holds them.
-use Rattle.std.proofs.Common.{◌≡◌, Result, sym, subst}
+use Rattle.std.proofs.Common.{◌≡◌, ℕ, Result, sym, subst}
 use Rattle.std.specs.Result.{IfErr, IsErrAnd}
 use Rattle.std.proofs.lemmas.Result.{err_from_is_err_and}
 use Rattle.ob_check.specs.declared.checker.CheckFault.{CheckFault}
-use Rattle.ob_check.specs.declared.checker.CheckFault.TheVariants.{UnknownName, DeclaredTwice, WrongKind, PassesLimit, NoMemory}
+use Rattle.ob_check.specs.declared.checker.CheckFault.TheVariants.{UnknownName, DeclaredTwice, WrongKind, PassesLimit, NotSupported, NoMemory}
 use Rattle.ob_check.specs.Scopes.{Environment}
 use Rattle.ob_check.specs.Parts as Parts
 use Rattle.ob_check.specs.Parts.{Part, Holds}
 use Rattle.ob_check.specs.CheckFaults.{Fails}
 use Rattle.ob_check.specs.Checking.{FailsWithin, IsFaultIn, IsFault}
+use Rattle.ob_check.proofs.Known.{known_held}
 
 pub fails_here : {env : Environment} {part : Part} {fault : CheckFault} → Fails env part fault → FailsWithin env part fault
 fails_here h = record { inside = _; innermost = _; within = Parts.itself; fails = h }
@@ -22,10 +23,15 @@ further_in (UnknownName place) k h = fails_further k h
 further_in (DeclaredTwice place) k h = fails_further k h
 further_in (WrongKind place) k h = fails_further k h
 further_in (PassesLimit place) k h = fails_further k h
+further_in (NotSupported place) k h = λ known. h (known_held k known)
 further_in NoMemory k h = tt
 
 expected_in : (P : Type 0) (expected fault : CheckFault) (env : Environment) (part : Part) → (fault ≡ expected) × P → (P → FailsWithin env part expected) → FailsWithin env part fault
 expected_in P expected fault env part h f = subst (FailsWithin env part) (sym h.0) (f h.1)
+
+-- no rule says what is not known yet
+no_rule : {env : Environment} {part : Part} {place : ℕ} → Fails env part (NotSupported place) → ⊥
+no_rule h = elim h [ ]
 
 -- one fault, or want of memory
 pub fault_in : (P : Type 0) (expected : CheckFault) (e : CheckFault) (env : Environment) (part : Part) → IsFault expected P e → (P → FailsWithin env part expected) → IsFaultIn env part e
@@ -33,6 +39,7 @@ fault_in P expected (UnknownName place) env part h f = expected_in P expected _ 
 fault_in P expected (DeclaredTwice place) env part h f = expected_in P expected _ env part h f
 fault_in P expected (WrongKind place) env part h f = expected_in P expected _ env part h f
 fault_in P expected (PassesLimit place) env part h f = expected_in P expected _ env part h f
+fault_in P expected (NotSupported place) env part h f = absurd (no_rule (expected_in P expected _ env part h f).fails)
 fault_in P expected NoMemory env part h f = tt
 
 -- the exit of a `?`: the callee's fault is the caller's

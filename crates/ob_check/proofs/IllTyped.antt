@@ -26,7 +26,7 @@ exports_among ps = length (filter (λ p. p.is_exported) ps)
 
 abbrev StatementTyped : Environment → Stmt → Type 0
 StatementTyped env Tree.Empty = Unit {0}
-StatementTyped env (Tree.Assign name e) = (c : Statement) × IsStatement env (Tree.Assign name e) c
+StatementTyped env s = (c : Statement) × IsStatement env s c
 
 -- the part is well typed where it stands, and keeps the limits
 abbrev Typed : Environment → Part → Type 0
@@ -47,7 +47,7 @@ Typed env (SomeProcedures n exported ps) =
 -- parts of expressions and statements
 
 typed_named : {env : Environment} {name : Tree.Name} {t : DataType} {c : Expression} →
-    HasType env (Tree.Named name) t c → (u : DataType) × (d : Designator) × IsVariable env name u d
+    HasType env (Tree.Named name Tree.no_selector) t c → (u : DataType) × (d : Designator) × IsVariable env name u d
 typed_named (Typing.variable h) = (_, _, h)
 
 record SumTyped (env : Environment) (e : Expr) (os : Operands) : Type 0 where
@@ -66,7 +66,7 @@ record AssignTyped (env : Environment) (name : Tree.Name) (e : Expr) : Type 0 wh
   target : (t : DataType) × (d : Designator) × IsVariable env name t d
   value : (t : DataType) × (c : Expression) × HasType env e t c
 
-typed_assign : {env : Environment} {name : Tree.Name} {e : Expr} {c : Statement} → IsStatement env (Tree.Assign name e) c → AssignTyped env name e
+typed_assign : {env : Environment} {name : Tree.Name} {e : Expr} {c : Statement} → IsStatement env (Tree.Assign name Tree.no_selector e) c → AssignTyped env name e
 typed_assign (Typing.assign h k) = record { target = (_, _, h); value = (_, _, k) }
 
 record FrontTyped (env : Environment) (s : Stmt) (ss : Stmts) : Type 0 where
@@ -75,7 +75,7 @@ record FrontTyped (env : Environment) (s : Stmt) (ss : Stmts) : Type 0 where
 
 some_statement : {env : Environment} (s : Stmt) (c : Statement) → IsStatement env s c → StatementTyped env s
 some_statement Tree.Empty c h = tt
-some_statement (Tree.Assign name e) c h = (c, h)
+some_statement s c h = (c, h)
 
 typed_front : {env : Environment} {s : Stmt} {ss : Stmts} {cs : Statements} → AreStatements env (Tree.stmt s ss) cs → FrontTyped env s ss
 typed_front (Typing.empty h) = record { first = tt; rest = (_, h) }
@@ -189,9 +189,9 @@ exports_cons q qs = by q.is_exported
     by true = refl
     by false = refl
 
-typed_procedures : {env after : Environment} {n exported : ℕ} {heading : Heading} {body : Option Stmts} {end_name : Tree.Name} {rest : Procedures} {qs : List Procedure} →
-    DeclaresProcedures env n (Tree.procedure heading body end_name rest) after qs → exported + exports_among qs ≤ 64 → ProceduresTyped env n exported heading body rest
-typed_procedures {exported = exported} (Typing.procedure {heading = heading} {parameters = ps} {statements = ss} {others = others} new h limit body rest) exports =
+typed_procedures : {env after : Environment} {n exported : ℕ} {heading : Heading} {inner : Declarations} {body : Option Stmts} {end_name : Tree.Name} {rest : Procedures} {qs : List Procedure} →
+    DeclaresProcedures env n (Tree.procedure heading inner body end_name rest) after qs → exported + exports_among qs ≤ 64 → ProceduresTyped env n exported heading body rest
+typed_procedures {exported = exported} (Typing.procedure {heading = heading} {parameters = ps} {statements = ss} {others = others} new h limit nothing body rest) exports =
     let e = exports_cons (record { name = heading.name.text; is_exported = heading.is_exported; parameters = ps; body = ss }) others in
     let f = one_more heading.is_exported exported (exports_among others) in
     record {
@@ -336,9 +336,9 @@ refuted (Rules.too_many_exports {heading = heading} e) h =
 
 -- the whole module
 
-typed_declarations : {env after : Environment} {variables : Option (List VarDecl)} {procedures : Procedures} {vs : List Variable} {ps : List Procedure} →
-    Declares env (Tree.Declared variables procedures) after vs ps → (between : Environment) × Variables env (listed variables) between vs × DeclaresProcedures between 0 procedures after ps
-typed_declarations (Typing.declarations v p) = (_, v, p)
+typed_declarations : {env after : Environment} {constants : _} {types : _} {variables : Option (List VarDecl)} {procedures : Procedures} {vs : List Variable} {ps : List Procedure} →
+    Declares env (Tree.Declared constants types variables procedures) after vs ps → (between : Environment) × Variables env (listed variables) between vs × DeclaresProcedures between 0 procedures after ps
+typed_declarations (Typing.declarations c t v p) = (_, v, p)
 
 well_typed_part : (m : Module) (program : Program.Program) {env : Environment} {part : Part} → Stands m env part → WellTyped m program → Typed env part
 well_typed_part m program {env = env} {part = part} stands (Typing.well_typed {env = after} d words exports body) = by stands

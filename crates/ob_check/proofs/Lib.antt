@@ -1,5 +1,6 @@
 pub mod Determined
 pub mod IllTyped
+pub mod Known
 pub mod Faults
 pub mod Looked
 pub mod Uses
@@ -7,6 +8,7 @@ pub mod Exported
 pub mod Lists
 pub mod Sections
 pub mod Sums
+pub mod Outside
 pub mod Exprs
 pub mod Bodies
 pub mod Declared

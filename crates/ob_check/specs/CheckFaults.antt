@@ -1,14 +1,15 @@
 -- For each rule: it fails at a place of a module.
 use Rattle.std.specs.Prelude.{◌≡◌, ℕ, suc, ◌+◌, ◌*◌, ◌<◌, ◌≤◌, true, length, List, ◌∷◌, ◌++◌, Option, Some, None}
 use Rattle.ob_syntax.specs.Tree
-use Rattle.ob_syntax.specs.Tree.{Stmts, VarDecl, Section, Heading, Procedures, Module}
+use Rattle.ob_syntax.specs.Tree.{Stmts, VarDecl, Section, Heading, Declarations, Procedures, Module}
 use Rattle.ob_check.specs.declared.checker.CheckFault.{CheckFault}
-use Rattle.ob_check.specs.declared.checker.CheckFault.TheVariants.{UnknownName, DeclaredTwice, WrongKind, PassesLimit, NoMemory}
+use Rattle.ob_check.specs.declared.checker.CheckFault.TheVariants.{UnknownName, DeclaredTwice, WrongKind, PassesLimit, NotSupported, NoMemory}
 use Rattle.ob_check.specs.declared.program.DataType.{DataType}
 use Rattle.ob_check.specs.declared.program.Formal.{Formal}
 use Rattle.ob_check.specs.Program
 use Rattle.ob_check.specs.Scopes.{Environment, Object, TypeName, ModuleVariable, LocalVariable, ProcedureName, found, IsNew, words}
 use Rattle.ob_check.specs.Typing.{Denotes, WellTyped}
+use Rattle.ob_check.specs.FirstPath.{outside}
 use Rattle.ob_check.specs.Parts.{Part, New, AVariable, AType, SomeVariables, SomeSections, SomeProcedures, Stands}
 
 -- a name that stands for no variable
@@ -47,9 +48,9 @@ pub data Fails : Environment → Part → CheckFault → Type 0 where
       x.names ≡ before ++ name ∷ behind → count + length before ≡ 8 →
       Fails env (SomeSections count (x ∷ xs)) (PassesLimit name.place)
   -- a 65th export, at the name
-  too_many_exports : {env : Environment} {n : ℕ} {heading : Heading} {body : Option Stmts} {end_name : Tree.Name} {rest : Procedures} →
+  too_many_exports : {env : Environment} {n : ℕ} {heading : Heading} {inner : Declarations} {body : Option Stmts} {end_name : Tree.Name} {rest : Procedures} →
       heading.is_exported ≡ true →
-      Fails env (SomeProcedures n 64 (Tree.procedure heading body end_name rest)) (PassesLimit heading.name.place)
+      Fails env (SomeProcedures n 64 (Tree.procedure heading inner body end_name rest)) (PassesLimit heading.name.place)
 
 -- a rule fails at a part of the module
 pub record BreaksRule (m : Module) (fault : CheckFault) : Type 0 where
@@ -58,9 +59,10 @@ pub record BreaksRule (m : Module) (fault : CheckFault) : Type 0 where
   pub stands : Stands m env part
   pub fails : Fails env part fault
 
--- want of memory is the fault of no rule
+-- want of memory is the fault of no rule, and what the checker does not know yet is told at the first place of the text
 abbrev pub FailsAt : Module → CheckFault → Type 0
 FailsAt m NoMemory = Unit {0}
+FailsAt m (NotSupported place) = outside m ≡ Some place
 FailsAt m fault = BreaksRule m fault
 
 -- the fault is one of a rule, and no want of memory

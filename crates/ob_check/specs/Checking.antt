@@ -3,10 +3,10 @@ use Rattle.std.specs.Prelude.{◌≡◌, ◌++◌, Bool, true, false, List, [], 
 use Rattle.std.specs.declared.alloc.Global.{Global}
 use Rattle.indexmap.specs.IndexMap.{IndexMap, get_by_text}
 use Rattle.ob_syntax.specs.Tree
-use Rattle.ob_syntax.specs.declared.tree.Procedure.{Procedure}
-use Rattle.ob_syntax.specs.View.{name_of, stmts_in, heading_of}
+use Rattle.ob_syntax.specs.declared.tree.Procedure.{Procedure, out-Procedure}
+use Rattle.ob_syntax.specs.View.{name_of, section_of, stmts_in, declarations_of}
 use Rattle.ob_check.specs.declared.checker.CheckFault.{CheckFault}
-use Rattle.ob_check.specs.declared.checker.CheckFault.TheVariants.{NoMemory}
+use Rattle.ob_check.specs.declared.checker.CheckFault.TheVariants.{NotSupported, NoMemory}
 use Rattle.ob_check.specs.declared.checker.scopes.Object.{Object}
 use Rattle.ob_check.specs.declared.checker.scopes.Object.TheVariants as Objects
 use Rattle.ob_check.specs.declared.checker.scopes.Scopes.{Scopes}
@@ -17,7 +17,8 @@ use Rattle.ob_check.specs.Program.{Name, Variable, Parameter}
 use Rattle.ob_check.specs.Scopes as Declared
 use Rattle.ob_check.specs.Scopes.{Environment, Scope, TypeName, ModuleVariable, LocalVariable, ProcedureName}
 use Rattle.ob_check.specs.Typing.{Denotes, Names, section_parameters}
-use Rattle.ob_check.specs.Parts.{Part, SomeStatements, Within}
+use Rattle.ob_check.specs.FirstPath.{all_arithmetic, outside_expr, outside_operands, outside_type, outside_stmt, outside_stmts, outside_variables, outside_sections, outside_procedures}
+use Rattle.ob_check.specs.Parts.{Part, New, AVariable, AnExpression, SomeOperands, AType, AStatement, SomeStatements, SomeVariables, SomeSections, SomeProcedures, Within}
 use Rattle.ob_check.specs.CheckFaults.{Fails}
 use Rattle.ob_check.specs.View.{expression_of}
 
@@ -51,9 +52,23 @@ pub record FailsWithin (env : Environment) (part : Part) (fault : CheckFault) : 
   pub within : Within env part inside innermost
   pub fails : Fails inside innermost fault
 
--- a fault of this part: a rule fails within it, or memory is wanted
+-- the checker knows each construct of this part
+abbrev pub IsKnown : Part → Type 0
+IsKnown (New name) = Unit {0}
+IsKnown (AVariable name) = Unit {0}
+IsKnown (AnExpression e) = outside_expr e ≡ None
+IsKnown (SomeOperands operands) = (all_arithmetic operands ≡ true) × (outside_operands operands ≡ None)
+IsKnown (AType t) = outside_type t ≡ None
+IsKnown (AStatement s) = outside_stmt s ≡ None
+IsKnown (SomeStatements ss) = outside_stmts ss ≡ None
+IsKnown (SomeVariables words vs) = outside_variables vs ≡ None
+IsKnown (SomeSections count xs) = outside_sections xs ≡ None
+IsKnown (SomeProcedures number exported ps) = outside_procedures ps ≡ None
+
+-- a fault of this part: a rule fails within it, something in it is not known, or memory is wanted
 abbrev pub IsFaultIn : Environment → Part → CheckFault → Type 0
 IsFaultIn env part NoMemory = Unit {0}
+IsFaultIn env part (NotSupported place) = ¬ IsKnown part
 IsFaultIn env part fault = FailsWithin env part fault
 
 -- the same of a body, which has none where BEGIN does not stand
@@ -84,9 +99,27 @@ pub record AddsParameters (env : Environment) (x : Tree.Section) (after : Enviro
   pub names : Names env x.names type after (called type x.names)
   pub added : new ≡ old ++ section_parameters x.is_var (called type x.names)
 
+-- the parts of a procedure
+
+abbrev pub heading_in : Procedure → Tree.Heading
+heading_in p =
+    let parts = out-Procedure p in
+    record {
+      place = parts.place;
+      name = name_of parts.name;
+      is_exported = parts.is_exported;
+      parameters = option_map (λ ss. map section_of ss.items) parts.parameters;
+    }
+
+abbrev pub inner_of : Procedure → Tree.Declarations
+inner_of p = declarations_of (out-Procedure p).declarations
+
+abbrev pub body_of : Procedure → Option Tree.Stmts
+body_of p = option_map (λ b. stmts_in b.items) (out-Procedure p).body
+
 -- a procedure before others
 abbrev pub in_front : Procedure → Tree.Procedures → Tree.Procedures
-in_front p rest = Tree.procedure (heading_of p) (option_map (λ b. stmts_in b.items) p.body) (name_of p.end_name) rest
+in_front p rest = Tree.procedure (heading_in p) (inner_of p) (body_of p) (name_of (out-Procedure p).end_name) rest
 
 -- operations that stand outside an expression
 abbrev pub operations_in : List Operation → Programs.Operations

@@ -3,7 +3,7 @@ use Rattle.std.specs.Prelude.{◌≡◌, ℕ, suc, ◌+◌, List, [], ◌∷◌,
 use Rattle.ob_syntax.specs.declared.tree.Sign.{Sign}
 use Rattle.ob_syntax.specs.declared.tree.Operator.{Operator}
 use Rattle.ob_syntax.specs.Tree
-use Rattle.ob_syntax.specs.Tree.{Expr, Operands, TypeExpr, Stmt, Stmts, VarDecl, Section, Heading, Procedures, Module}
+use Rattle.ob_syntax.specs.Tree.{Expr, Operands, TypeExpr, Stmt, Stmts, ConstDecl, TypeDecl, VarDecl, Section, Heading, Declarations, Procedures, Module}
 use Rattle.ob_check.specs.declared.program.DataType.TheVariants.{Integer}
 use Rattle.ob_check.specs.Program.{Parameter, Variable, Procedure, formal_of}
 use Rattle.ob_check.specs.Scopes.{Environment, TypeName, ProcedureName, no_names, declared, variable_words}
@@ -35,7 +35,7 @@ names_declared env (name ∷ names) = names_declared (declared env name.text (Ty
 pub data Holds : Environment → Part → Environment → Part → Type 0 where
   -- expressions
   named : {env : Environment} {name : Tree.Name} →
-      Holds env (AnExpression (Tree.Named name)) env (AVariable name)
+      Holds env (AnExpression (Tree.Named name Tree.no_selector)) env (AVariable name)
   first_operand : {env : Environment} {sign : Option Sign} {e : Expr} {rest : Operands} →
       Holds env (AnExpression (Tree.Sum sign e rest)) env (AnExpression e)
   other_operands : {env : Environment} {sign : Option Sign} {e : Expr} {rest : Operands} →
@@ -46,9 +46,9 @@ pub data Holds : Environment → Part → Environment → Part → Type 0 where
       Holds env (SomeOperands (Tree.operand operator place e rest)) env (SomeOperands rest)
   -- statements
   target : {env : Environment} {name : Tree.Name} {e : Expr} →
-      Holds env (AStatement (Tree.Assign name e)) env (AVariable name)
+      Holds env (AStatement (Tree.Assign name Tree.no_selector e)) env (AVariable name)
   assigned : {env : Environment} {name : Tree.Name} {e : Expr} →
-      Holds env (AStatement (Tree.Assign name e)) env (AnExpression e)
+      Holds env (AStatement (Tree.Assign name Tree.no_selector e)) env (AnExpression e)
   first_statement : {env : Environment} {s : Stmt} {ss : Stmts} →
       Holds env (SomeStatements (Tree.stmt s ss)) env (AStatement s)
   other_statements : {env : Environment} {s : Stmt} {ss : Stmts} →
@@ -72,17 +72,17 @@ pub data Holds : Environment → Part → Environment → Part → Type 0 where
       Parameters env (x ∷ []) behind ps →
       Holds env (SomeSections count (x ∷ xs)) behind (SomeSections (count + length ps) xs)
   -- procedures
-  procedure_name : {env : Environment} {n exported : ℕ} {heading : Heading} {body : Option Stmts} {end_name : Tree.Name} {rest : Procedures} →
-      Holds env (SomeProcedures n exported (Tree.procedure heading body end_name rest)) env (New heading.name)
-  sections : {env : Environment} {n exported : ℕ} {heading : Heading} {body : Option Stmts} {end_name : Tree.Name} {rest : Procedures} →
-      Holds env (SomeProcedures n exported (Tree.procedure heading body end_name rest)) (no_names ∷ env) (SomeSections 0 (listed heading.parameters))
-  procedure_body : {env within : Environment} {n exported : ℕ} {heading : Heading} {body : Stmts} {end_name : Tree.Name} {rest : Procedures} {ps : List Parameter} →
+  procedure_name : {env : Environment} {n exported : ℕ} {heading : Heading} {inner : Declarations} {body : Option Stmts} {end_name : Tree.Name} {rest : Procedures} →
+      Holds env (SomeProcedures n exported (Tree.procedure heading inner body end_name rest)) env (New heading.name)
+  sections : {env : Environment} {n exported : ℕ} {heading : Heading} {inner : Declarations} {body : Option Stmts} {end_name : Tree.Name} {rest : Procedures} →
+      Holds env (SomeProcedures n exported (Tree.procedure heading inner body end_name rest)) (no_names ∷ env) (SomeSections 0 (listed heading.parameters))
+  procedure_body : {env within : Environment} {n exported : ℕ} {heading : Heading} {inner : Declarations} {body : Stmts} {end_name : Tree.Name} {rest : Procedures} {ps : List Parameter} →
       Parameters (no_names ∷ env) (listed heading.parameters) within ps →
-      Holds env (SomeProcedures n exported (Tree.procedure heading (Some body) end_name rest))
+      Holds env (SomeProcedures n exported (Tree.procedure heading inner (Some body) end_name rest))
       (inner_scope within (declared env heading.name.text (ProcedureName n (map formal_of ps)))) (SomeStatements body)
-  other_procedures : {env within : Environment} {n exported : ℕ} {heading : Heading} {body : Option Stmts} {end_name : Tree.Name} {rest : Procedures} {ps : List Parameter} →
+  other_procedures : {env within : Environment} {n exported : ℕ} {heading : Heading} {inner : Declarations} {body : Option Stmts} {end_name : Tree.Name} {rest : Procedures} {ps : List Parameter} →
       Parameters (no_names ∷ env) (listed heading.parameters) within ps →
-      Holds env (SomeProcedures n exported (Tree.procedure heading body end_name rest))
+      Holds env (SomeProcedures n exported (Tree.procedure heading inner body end_name rest))
       (declared env heading.name.text (ProcedureName n (map formal_of ps)))
       (SomeProcedures (suc n) (if heading.is_exported then suc exported else exported) rest)
 
@@ -94,11 +94,11 @@ pub data Within : Environment → Part → Environment → Part → Type 0 where
 
 -- a part of the module, under the names declared there
 pub data Stands (m : Module) : Environment → Part → Type 0 where
-  in_variables : {env : Environment} {part : Part} {variables : Option (List VarDecl)} {procedures : Procedures} →
-      m.declarations ≡ Tree.Declared variables procedures →
+  in_variables : {env : Environment} {part : Part} {constants : Option (List ConstDecl)} {types : Option (List TypeDecl)} {variables : Option (List VarDecl)} {procedures : Procedures} →
+      m.declarations ≡ Tree.Declared constants types variables procedures →
       Within opening_names (SomeVariables 0 (listed variables)) env part → Stands m env part
-  in_procedures : {between env : Environment} {part : Part} {variables : Option (List VarDecl)} {procedures : Procedures} {vs : List Variable} →
-      m.declarations ≡ Tree.Declared variables procedures →
+  in_procedures : {between env : Environment} {part : Part} {constants : Option (List ConstDecl)} {types : Option (List TypeDecl)} {variables : Option (List VarDecl)} {procedures : Procedures} {vs : List Variable} →
+      m.declarations ≡ Tree.Declared constants types variables procedures →
       Variables opening_names (listed variables) between vs →
       Within between (SomeProcedures 0 0 procedures) env part → Stands m env part
   in_body : {inside env : Environment} {part : Part} {body : Stmts} {vs : List Variable} {ps : List Procedure} →

@@ -3,7 +3,7 @@ use Rattle.std.specs.Prelude.{◌≡◌, ℕ, suc, ◌≤◌, Bool, List, [], �
 use Rattle.ob_syntax.specs.declared.tree.Operator.{Operator}
 use Rattle.ob_syntax.specs.declared.tree.Sign.{Sign}
 use Rattle.ob_syntax.specs.Tree
-use Rattle.ob_syntax.specs.Tree.{Expr, Operands, TypeExpr, Stmt, Stmts, VarDecl, Section, Heading, Declarations, Procedures, Module}
+use Rattle.ob_syntax.specs.Tree.{Expr, Operands, TypeExpr, Stmt, Stmts, ConstDecl, TypeDecl, VarDecl, Section, Heading, Declarations, Procedures, Module}
 use Rattle.ob_check.specs.declared.program.DataType.{DataType}
 use Rattle.ob_check.specs.declared.program.DataType.TheVariants.{Integer}
 use Rattle.ob_check.specs.declared.program.Arithmetic.{Arithmetic}
@@ -41,7 +41,7 @@ module _ (env : Environment) where
     pub data HasType : Expr → DataType → Expression → Type 0 where
       number : {value : _} {place : ℕ} → HasType (Tree.Number value place) Integer (Literal (Int value))
       variable : {name : Tree.Name} {t : DataType} {d : Designator} →
-          IsVariable name t d → HasType (Tree.Named name) t (ValueOf t d)
+          IsVariable name t d → HasType (Tree.Named name Tree.no_selector) t (ValueOf t d)
       sum : {sign : Option Sign} {first : Expr} {rest : Operands} {c : Expression} {operations : Operations} →
           HasType first Integer c → AreOperands rest operations →
           HasType (Tree.Sum sign first rest) Integer (Computed (with_sign sign c) operations)
@@ -62,7 +62,7 @@ module _ (env : Environment) where
     -- the expression has the type of the target
     assign : {name : Tree.Name} {e : Expr} {t : DataType} {d : Designator} {c : Expression} →
         IsVariable name t d → HasType e t c →
-        IsStatement (Tree.Assign name e) (Program.Assign d c)
+        IsStatement (Tree.Assign name Tree.no_selector e) (Program.Assign d c)
 
   -- statements one behind the other; an empty one leaves nothing
   pub data AreStatements : Stmts → Statements → Type 0 where
@@ -109,26 +109,33 @@ abbrev pub inner_scope : Environment → Environment → Environment
 inner_scope [] env = env
 inner_scope (scope ∷ outer) env = scope ∷ env
 
+-- no constant, type, variable or procedure, whatever keywords stand
+abbrev pub DeclareNothing : Declarations → Type 0
+DeclareNothing (Tree.Declared constants types variables procedures) =
+    (listed constants ≡ []) × (listed types ≡ []) × (listed variables ≡ []) × (procedures ≡ Tree.no_procedure)
+
 -- procedures in the order of their headings, numbered from n
 pub data DeclaresProcedures : Environment → ℕ → Procedures → Environment → List Procedure → Type 0 where
   none : {env : Environment} {n : ℕ} → DeclaresProcedures env n Tree.no_procedure env []
-  procedure : {env within after : Environment} {n : ℕ} {heading : Heading} {body : Option Stmts} {end_name : Tree.Name} {rest : Procedures}
+  procedure : {env within after : Environment} {n : ℕ} {heading : Heading} {inner : Declarations} {body : Option Stmts} {end_name : Tree.Name} {rest : Procedures}
       {parameters : List Parameter} {statements : Statements} {others : List Procedure} →
       IsNew env heading.name.text →
       Parameters (no_names ∷ env) (listed heading.parameters) within parameters →
       length parameters ≤ 8 →
+      DeclareNothing inner →
       -- the procedure's own name is visible in it, unless a parameter hides it
       IsBody (inner_scope within (declared env heading.name.text (ProcedureName n (map formal_of parameters)))) body statements →
       DeclaresProcedures (declared env heading.name.text (ProcedureName n (map formal_of parameters))) (suc n) rest after others →
-      DeclaresProcedures env n (Tree.procedure heading body end_name rest) after
+      DeclaresProcedures env n (Tree.procedure heading inner body end_name rest) after
       (record { name = heading.name.text; is_exported = heading.is_exported; parameters = parameters; body = statements } ∷ others)
 
 -- declarations, with the variables and procedures that they declare
 pub data Declares : Environment → Declarations → Environment → List Variable → List Procedure → Type 0 where
-  declarations : {env between after : Environment} {variables : Option (List VarDecl)} {procedures : Procedures}
-      {vs : List Variable} {ps : List Procedure} →
+  declarations : {env between after : Environment} {constants : Option (List ConstDecl)} {types : Option (List TypeDecl)}
+      {variables : Option (List VarDecl)} {procedures : Procedures} {vs : List Variable} {ps : List Procedure} →
+      listed constants ≡ [] → listed types ≡ [] →
       Variables env (listed variables) between vs → DeclaresProcedures between 0 procedures after ps →
-      Declares env (Tree.Declared variables procedures) after vs ps
+      Declares env (Tree.Declared constants types variables procedures) after vs ps
 
 -- the names that a module's text begins under: its own scope, still empty, in the outermost one
 abbrev pub opening_names : Environment

@@ -1,14 +1,16 @@
 //! The checker: from the tree of a module to its checked program.
 
-ghost use Rattle.std.specs.Prelude.{◌≡◌, IfOk, IfErr, option_map};
+ghost use Rattle.std.specs.Prelude.{◌≡◌, ℕ, IfOk, IfErr, option_map};
 ghost use Rattle.ob_syntax.specs.View.{module_of};
 ghost use Rattle.ob_check.specs.Typing.{WellTyped, listed};
+ghost use Rattle.ob_check.specs.FirstPath.{outside};
 ghost use Rattle.ob_check.specs.CheckedModule.{tree_in, program_in};
 ghost use Rattle.ob_check.specs.CheckFaults.{IsCheckFault};
 ghost use Rattle.ob_check.specs.View.{program_of};
 
 mod exports;
 mod expressions;
+mod first_path;
 mod names;
 mod procedures;
 mod scopes;
@@ -20,6 +22,7 @@ mod variables;
 use crate::checked::Checked;
 use crate::program::Program;
 use exports::exports_of;
+use first_path::outside;
 use ob_syntax::tree::Module;
 use procedures::declare_procedures;
 use scopes::Scopes;
@@ -44,6 +47,10 @@ pub enum CheckFault {
     /// export, at the name.
     #[error("C9 at {0}")]
     PassesLimit(usize),
+    /// C12: the first construct of the text that the checker does not know yet, at its first
+    /// token. It comes before each other fault.
+    #[error("C12 at {0}")]
+    NotSupported(usize),
     /// C11: want of memory.
     #[error("NoMemory")]
     NoMemory,
@@ -72,20 +79,28 @@ impl<T: Drop> From<AllocFailed<T>> for CheckFault {
 }
 
 /// The checked program of a module that is well typed, with its tree unchanged. Of several faults
-/// the first in the text is answered.
+/// the first in the text is answered, but what the checker does not know yet is told before all others.
 pub fn check(alloc: Global, tree: Module) -> Result<Checked, CheckFault>
     ensures unchanged { IfOk result (λ c. tree_in c ≡ module_of tree) }
     ensures typed { IfOk result (λ c. WellTyped (module_of tree) (program_in c)) }
 
     // The rule fails at its place, and the module is not well typed.
     ensures fault { IfErr result (λ e. IsCheckFault (module_of tree) e) }
+
+    // The first construct that is not known is told, whatever else fails.
+    ensures first { (place : ℕ) → outside (module_of tree) ≡ Some place → result ≡ Err (CheckFault.NotSupported place) }
 {
+    if let Some(place) = outside(&tree) {
+        return Err(CheckFault::NotSupported(place));
+    }
     let program = checked_program(alloc, &tree)?;
     let exports = exports_of(alloc, &program.procedures)?;
     Ok(Checked::new(tree, program, exports))
 }
 
+/// The program of a module in which each construct is known.
 fn checked_program(alloc: Global, tree: &Module) -> Result<Program, CheckFault>
+    requires { outside (module_of tree.now) ≡ None }
     ensures typed { IfOk result (λ p. WellTyped (module_of tree.now) (program_of p)) }
     ensures fault { IfErr result (λ e. IsCheckFault (module_of tree.now) e) }
 {

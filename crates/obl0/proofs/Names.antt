@@ -2,9 +2,9 @@
 use Rattle.std.proofs.Common.{◌≡◌, ◌≢◌, ℕ, Option, Bool, not, is_some, IfSome, IfNone, List, ◌∷◌, Some, None, refl, sym, ◌∙◌, ap, true, false, IsTrue}
 use Rattle.std.specs.List.{list_all}
 use Rattle.std.specs.Char.{is_ascii_alphabetic, is_ascii_alphanumeric}
-use Rattle.ob_syntax.specs.declared.scan.token.Kind.{Kind}
-use Rattle.ob_syntax.specs.declared.scan.token.Kind.TheVariants.{Ident}
-use Rattle.ob_syntax.specs.Spelling.{Spells, fixed, name, number, fixed_spelling}
+use Rattle.ob_scan.specs.declared.token.Kind.{Kind}
+use Rattle.ob_scan.specs.declared.token.Kind.TheVariants.{Ident}
+use Rattle.ob_scan.specs.Spelling.{Spells, fixed, name, number, fixed_spelling}
 
 pub record IsNameOf (word : List ℕ) : Type 0 where
   pub first : ℕ

@@ -3,7 +3,7 @@ use Rattle.std.proofs.Common.{◌≡◌, ℕ, ◌≤◌, ℤ, pos, neg_ℤ, ◌-
 use Rattle.std.proofs.lemmas.Bool.{false≢true}
 use Rattle.std.proofs.lemmas.Int.{ints}
 use Rattle.std.specs.Result.{OkIff, result_ok}
-use Rattle.ob_syntax.specs.Spelling.{number_value}
+use Rattle.ob_scan.specs.Spelling.{number_value}
 use Rattle.obl0.specs.Script.{Word, IsDigits, IsInteger, positive, negative}
 use mir.Val.{SFits}
 

@@ -5,7 +5,7 @@ use Rattle.std.proofs.lemmas.List.FromFn.{get_or-enumerate_from, length-enumerat
 use Rattle.std.proofs.lemmas.Option.{slice_get_read}
 use Rattle.std.proofs.Math.ListN.{get_or-map}
 use Rattle.std.specs.List.{enumerate_from}
-use Rattle.ob_syntax.specs.Spelling.{number_value}
+use Rattle.ob_scan.specs.Spelling.{number_value}
 use Rattle.ob_check.specs.declared.program.Scalar.{Scalar}
 use Rattle.ob_check.specs.Exports.{Heading}
 use Rattle.obl0.specs.declared.script.ScriptFault.{ScriptFault}

@@ -1,7 +1,7 @@
 -- The parts of a sequential run: how the faults below are told, and a checked module's calls.
 use Rattle.std.specs.Prelude.{◌≡◌, ℕ, suc, List, [], map, take, slice_get, Some}
-use Rattle.ob_syntax.specs.declared.scan.fault.ScanFault.{ScanFault}
-use Rattle.ob_syntax.specs.declared.scan.fault.ScanFault.TheVariants as Scan
+use Rattle.ob_scan.specs.declared.fault.ScanFault.{ScanFault}
+use Rattle.ob_scan.specs.declared.fault.ScanFault.TheVariants as Scan
 use Rattle.ob_syntax.specs.declared.parser.ParseFault.{ParseFault}
 use Rattle.ob_syntax.specs.declared.parser.ParseFault.TheVariants as Parse
 use Rattle.ob_check.specs.Program.{Program}

@@ -1,10 +1,10 @@
 -- A sequential run: from the bytes of a module and of a script to the bytes that are printed.
 use Rattle.std.specs.Prelude.{◌≡◌, ◌≢◌, ℕ, suc, Bool, true, false, List, [], map, take, slice_get, Some}
-use Rattle.ob_syntax.specs.declared.scan.token.Token.{Token}
-use Rattle.ob_syntax.specs.Tokens.{HasTokens}
-use Rattle.ob_syntax.specs.ScanFaults.{IsScanFault}
+use Rattle.ob_scan.specs.declared.token.Token.{Token}
+use Rattle.ob_scan.specs.Tokens.{HasTokens}
+use Rattle.ob_scan.specs.ScanFaults.{IsScanFault}
 use Rattle.ob_syntax.specs.Tree
-use Rattle.ob_syntax.specs.Lexemes.{lexemes}
+use Rattle.ob_scan.specs.Lexemes.{lexemes}
 use Rattle.ob_syntax.specs.Grammar.{Derives}
 use Rattle.ob_syntax.specs.Conditions.{KeepsConditions}
 use Rattle.ob_syntax.specs.ParseFaults.{IsParseFault}
@@ -16,7 +16,7 @@ use Rattle.ob_mean.specs.Object.{Reply, State, IsOpening, AreReplies}
 use Rattle.ob_mean.specs.Faults.{IsOpenFault, NeedsMoreAt}
 use Rattle.obl0.specs.Script.{ScriptCall, IsScript, IsScriptFault}
 use Rattle.obl0.specs.ReplyLines.{reply_lines, count_of}
-use Rattle.ob_syntax.specs.declared.scan.fault.ScanFault.TheVariants as Scan
+use Rattle.ob_scan.specs.declared.fault.ScanFault.TheVariants as Scan
 use Rattle.ob_syntax.specs.declared.parser.ParseFault.TheVariants as Parse
 use Rattle.ob_check.specs.declared.checker.CheckFault.TheVariants as Check
 use Rattle.ob_mean.specs.declared.opening.OpenFault.TheVariants as Open

@@ -15,8 +15,9 @@ use ob_check::checker::{CheckFault, check};
 use ob_mean::call::Call;
 use ob_mean::opening::{OpenFault, opening};
 use ob_mean::sequence::{SeqFault, sequence};
+use ob_scan::scanner::LONGEST_TEXT;
+use ob_scan::{ScanFault, scan};
 use ob_syntax::parser::{ParseFault, parse};
-use ob_syntax::scan::{LONGEST_TEXT, ScanFault, scan};
 use std::alloc::{AllocError, AllocFailed, Global};
 use thiserror::Error;
 

@@ -5,7 +5,10 @@ mod rows;
 use crate::answer::answer;
 use crate::answered::Answer;
 use crate::files::{FileFault, Files};
+use crate::sequential::SeqTextFault;
+use ob_check::checker::CheckFault;
 use ob_syntax::NoMemory;
+use ob_syntax::parser::ParseFault;
 use std::alloc::Global;
 use std::test::Fail;
 
@@ -41,6 +44,18 @@ fn answer_to(alloc: Global, words: &[&str]) -> Result<Answer, NoMemory> {
         files: &[("m", "")],
     };
     answer(alloc, words, &mut files)
+}
+
+/// Faults with a place, as they are printed whatever text they are of.
+#[test]
+fn printed_faults(rt: HostRuntime) -> Result<(), Fail> {
+    let too_deep = SeqTextFault::Parse(ParseFault::TooDeep(137));
+    let line = format!(in rt.alloc(); "{too_deep}")?;
+    assert_eq!(rt; line.as_str(), "P2 at 137");
+    let not_supported = SeqTextFault::Check(CheckFault::NotSupported(37));
+    let line = format!(in rt.alloc(); "{not_supported}")?;
+    assert_eq!(rt; line.as_str(), "C12 at 37");
+    Ok(())
 }
 
 #[test]

@@ -1,14 +1,16 @@
 //! Expressions. Their operands are taken one after another, so that a long sum is no deep recursion.
 
-ghost use Rattle.std.specs.Prelude.{◌≡◌, IfOk, IfErr};
+ghost use Rattle.std.specs.Prelude.{◌≡◌, is_some, IfOk, IfErr, IfSome};
 ghost use Rattle.ob_syntax.specs.View.{expr_of, operands_in};
 ghost use Rattle.ob_check.specs.declared.program.DataType.TheVariants.{Integer};
 ghost use Rattle.ob_check.specs.Typing.{HasType, AreOperands, IsArithmetic, with_sign};
+ghost use Rattle.ob_check.specs.FirstPath.{is_arithmetic};
 ghost use Rattle.ob_check.specs.Parts.{AnExpression, SomeOperands};
 ghost use Rattle.ob_check.specs.Checking.{env_of, IsFaultIn, operations_in};
 ghost use Rattle.ob_check.specs.View.{expression_of};
 
 use super::CheckFault;
+use super::first_path::first_place;
 use super::names::variable_named;
 use super::scopes::Scopes;
 use crate::program::{Arithmetic, Expression, Operation, Scalar};
@@ -24,6 +26,9 @@ pub fn expression(alloc: Global, scopes: &Scopes, expr: &Expr) -> Result<Express
     match expr {
         Expr::Number { value, .. } => Ok(Expression::Literal(Scalar::Int(*value))),
         Expr::Named(designator) => {
+            if !designator.selectors.is_empty() {
+                return Err(CheckFault::NotSupported(designator.name.place));
+            }
             let (data_type, variable) = variable_named(scopes, &designator.name)?;
             Ok(Expression::ValueOf {
                 data_type,
@@ -36,6 +41,9 @@ pub fn expression(alloc: Global, scopes: &Scopes, expr: &Expr) -> Result<Express
             let rest = operations(alloc, scopes, rest)?;
             let first = Box::new(alloc, first)?;
             Ok(Expression::Computed { first, rest })
+        }
+        Expr::Parens { .. } | Expr::Not { .. } | Expr::Product { .. } | Expr::Comparison { .. } => {
+            Err(CheckFault::NotSupported(first_place(expr)))
         }
     }
 }
@@ -52,7 +60,9 @@ fn operations(
 {
     let mut operations = Vec::new(alloc);
     for o in operands {
-        let operator = arithmetic(o.operator);
+        let Some(operator) = arithmetic(o.operator) else {
+            return Err(CheckFault::NotSupported(o.place));
+        };
         let operand = expression(alloc, scopes, &o.value)?;
         operations.push(Operation { operator, operand })?;
     }
@@ -69,11 +79,14 @@ fn signed(alloc: Global, sign: Option<Sign>, operand: Expression) -> Result<Expr
     }
 }
 
-fn arithmetic(operator: Operator) -> Arithmetic
-    ensures { IsArithmetic operator result }
+/// What an operator of a sum computes, where that is known.
+pub fn arithmetic(operator: Operator) -> Option<Arithmetic>
+    ensures known { IfSome result (λ a. IsArithmetic operator a) }
+    ensures told { is_some result ≡ is_arithmetic operator }
 {
     match operator {
-        Operator::Plus => Arithmetic::Plus,
-        Operator::Minus => Arithmetic::Minus,
+        Operator::Plus => Some(Arithmetic::Plus),
+        Operator::Minus => Some(Arithmetic::Minus),
+        _ => None,
     }
 }

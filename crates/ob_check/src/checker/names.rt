@@ -37,6 +37,9 @@ pub fn type_denoted(scopes: &Scopes, type_expr: &TypeExpr) -> Result<DataType, C
 {
     match type_expr {
         TypeExpr::Named(name) => type_named(scopes, name),
+        TypeExpr::Array { place, .. } | TypeExpr::Record { place, .. } => Err(
+            CheckFault::NotSupported(*place),
+        ),
     }
 }
 

@@ -44,9 +44,18 @@ fn checked_statements(
         match statement {
             Stmt::Empty => {}
             Stmt::Assign { target, value } => {
+                if !target.selectors.is_empty() {
+                    return Err(CheckFault::NotSupported(target.name.place));
+                }
                 let (_, target) = variable_named(scopes, &target.name)?;
                 let value = expression(alloc, scopes, value)?;
                 checked.push(Statement::Assign { target, value })?;
+            }
+            Stmt::Call { procedure, .. } => {
+                return Err(CheckFault::NotSupported(procedure.place));
+            }
+            Stmt::If { place, .. } | Stmt::While { place, .. } => {
+                return Err(CheckFault::NotSupported(*place));
             }
         }
     }

@@ -2,14 +2,14 @@
 
 ghost use Rattle.std.specs.Prelude.{◌≡◌, ◌≢◌, ℕ, ℤ, ◌≤◌, ◌<◌, ◌^◌, ◌↔◌, map, length, slice_index, IsTrue, IfOk, MatchOption, Some, IfSome, IfNone};
 ghost use Rattle.std.specs.Char.{is_ascii_alphabetic};
-ghost use Rattle.ob_syntax.specs.Spelling.{fixed_spelling};
-ghost use Rattle.ob_syntax.specs.declared.scan.token.Kind.{Kind};
+ghost use Rattle.ob_scan.specs.Spelling.{fixed_spelling};
+ghost use Rattle.ob_scan.specs.declared.token.Kind.{Kind};
 ghost use Rattle.ob_check.specs.declared.program.DataType.{DataType};
 ghost use Rattle.ob_check.specs.declared.program.Scalar.{Scalar};
 ghost use Rattle.obl0.specs.Script.{words, is_blank, IsDigits, IsProcess, IsInteger, IsArgument, IsName};
 
 use ob_check::program::{DataType, Scalar};
-use ob_syntax::scan::keyword::keyword;
+use ob_scan::keyword::keyword;
 use std::alloc::{AllocError, Global};
 
 /// The most digits of a process.

@@ -109,6 +109,28 @@ fn faults(rt: HostRuntime) -> Result<(), Fail> {
             "",
             "C9 at 46\n",
         ),
+        ("MODULE M; CONST c = 1; END M.", "", "C12 at 16\n"),
+        ("MODULE M; TYPE T = INTEGER; END M.", "", "C12 at 15\n"),
+        (
+            "MODULE M; VAR a: ARRAY 2 OF INTEGER; END M.",
+            "",
+            "C12 at 17\n",
+        ),
+        (
+            "MODULE M; VAR x: INTEGER; BEGIN x := -x * 2 END M.",
+            "",
+            "C12 at 38\n",
+        ),
+        (
+            "MODULE M; VAR x, x: INTEGER; BEGIN IF x = 1 THEN END END M.",
+            "",
+            "C12 at 35\n",
+        ),
+        (
+            "MODULE M; PROCEDURE P; END P; BEGIN P END M.",
+            "",
+            "C12 at 36\n",
+        ),
         (TRAPS, "x Inc", "O2 trap 1\n"),
         (COUNTER, "x Inc", "L1 line 1\n"),
         (COUNTER, "0 Inc\n\n0", "L1 line 3\n"),
@@ -119,6 +141,34 @@ fn faults(rt: HostRuntime) -> Result<(), Fail> {
     for (module, script, line) in rows {
         assert_fault(&rt, &seq_answer(rt.alloc(), module, script)?, line);
     }
+    Ok(())
+}
+
+/// The text of a module with an expression in so many parentheses; the first stands at 37.
+fn nested(alloc: Global, depth: usize) -> Result<String, AllocError> {
+    let mut text = String::from_str(alloc, "MODULE M; VAR x: INTEGER; BEGIN x := ")?;
+    for _ in 0..depth {
+        text.push('(')?;
+    }
+    text.push('x')?;
+    for _ in 0..depth {
+        text.push(')')?;
+    }
+    text.push_str(" END M.")?;
+    Ok(text)
+}
+
+#[test]
+fn nesting(rt: HostRuntime) -> Result<(), Fail> {
+    let alloc = rt.alloc();
+    let deep = nested(alloc, 100)?;
+    assert_fault(&rt, &seq_answer(alloc, deep.as_str(), "")?, "C12 at 37\n");
+    let too_deep = nested(alloc, 101)?;
+    assert_fault(
+        &rt,
+        &seq_answer(alloc, too_deep.as_str(), "")?,
+        "P2 at 137\n",
+    );
     Ok(())
 }
 

@@ -4,10 +4,10 @@ use Rattle.ob_check.specs.declared.program.Arithmetic.TheVariants as Arithmetics
 use Rattle.ob_check.specs.Typing.{IsArithmetic, plus, minus}
 use Rattle.ob_check.proofs.checker.expressions.arithmetic.Goals as goal
 
-pub returns-in-Plus : goal.returns-in-Plus
-returns-in-Plus c =
+pub returns-in-Plus-clause-known : goal.returns-in-Plus-clause-known
+returns-in-Plus-clause-known c =
     let P : Operator → Type 0 = λ o. IsArithmetic o Arithmetics.Plus in subst P (sym c.in-Plus.is) plus
 
-pub returns-in-Minus : goal.returns-in-Minus
-returns-in-Minus c =
+pub returns-in-Minus-clause-known : goal.returns-in-Minus-clause-known
+returns-in-Minus-clause-known c =
     let P : Operator → Type 0 = λ o. IsArithmetic o Arithmetics.Minus in subst P (sym c.in-Minus.is) minus

@@ -6,17 +6,18 @@ use Rattle.ob_check.specs.Parts.{SomeProcedures}
 use Rattle.ob_check.specs.Program.{Procedure}
 use Rattle.ob_check.specs.Typing as Typing
 use Rattle.ob_check.specs.Typing.{DeclaresProcedures}
-use Rattle.ob_check.specs.Checking.{env_of, in_front, IsFaultIn}
+use Rattle.ob_check.specs.Checking.{env_of, heading_in, in_front, IsFaultIn}
 use Rattle.ob_check.specs.View.{procedure_of}
 use Rattle.ob_check.proofs.Exported.{exported_of, exported_count}
 use Rattle.ob_check.proofs.Faults.{passed_on}
 use Rattle.ob_check.proofs.Lists.{next_left}
+use Rattle.ob_check.proofs.Outside.{procedure_before-parts}
 use Rattle.ob_check.proofs.checker.procedures.declare_procedures.Goals as goal
 
 pub returns-in_err-exported-clause-fault : goal.returns-in_err-exported-clause-fault
 returns-in_err-exported-clause-fault c =
     let l = c.loop-procedure in
-    let next = ap procedures_in (next_left c.args.procedures.now l.procedure-index c.procedure-item.result c.loop-procedure-test.true c.procedure-item.is) in
+    let next = ap procedures_in (next_left c.args.procedures.now l.procedure-index c.procedure-item.result c.loop-procedure-test.true c.procedure-item.is) ∙ procedure_before-parts c.procedure-item.result _ in
     let fault = c.in_err-exported.field-0.0 in
     let P : Procedures → Type 0 = λ ps. IsFaultIn (env_of l.scopes) (SomeProcedures (vec_len l.checked) l.exported ps) fault in
     passed_on _ _ _ c.from_residual.ensures.1
@@ -25,7 +26,7 @@ returns-in_err-exported-clause-fault c =
 pub returns-in_err-one-clause-fault : goal.returns-in_err-one-clause-fault
 returns-in_err-one-clause-fault c =
     let l = c.loop-procedure in
-    let next = ap procedures_in (next_left c.args.procedures.now l.procedure-index c.procedure-item.result c.loop-procedure-test.true c.procedure-item.is) in
+    let next = ap procedures_in (next_left c.args.procedures.now l.procedure-index c.procedure-item.result c.loop-procedure-test.true c.procedure-item.is) ∙ procedure_before-parts c.procedure-item.result _ in
     let fault = c.in_err-one.field-0.0 in
     let rest = procedures_in (drop (l.procedure-index + 1) c.args.procedures.now) in
     let P : Procedures → Type 0 = λ ps. IsFaultIn (env_of l.scopes) (SomeProcedures (vec_len l.checked) l.exported ps) fault in
@@ -39,7 +40,7 @@ loop-procedure-preserved c =
     let p = c.procedure-item.result in
     let one = c.in_ok-one.one in
     let env = env_of l.scopes in
-    let next = ap procedures_in (next_left c.args.procedures.now l.procedure-index p c.loop-procedure-test.true c.procedure-item.is) in
+    let next = ap procedures_in (next_left c.args.procedures.now l.procedure-index p c.loop-procedure-test.true c.procedure-item.is) ∙ procedure_before-parts p _ in
     let rest = procedures_in (drop (l.procedure-index + 1) c.args.procedures.now) in
     let number : vec_len c.push.new.self ≡ suc c.len.result = omega (arith, c.in_ok-push.ensures.len, c.len.ensures) in
     let pushed = ap (map procedure_of) c.in_ok-push.ensures.items ∙ map-append procedure_of l.checked.items (one ∷ []) in
@@ -61,7 +62,7 @@ loop-procedure-preserved c =
           let here = c.in_ok-one.ensures.behind l.exported rest e (subst B c.in_ok-exported.ensures.count (subst A number h)) in
           l.invariant.fault e (subst D (sym next) (subst C c.len.ensures here));
       count =
-          c.in_ok-exported.ensures.count ∙ ap (λ n. if p.is_exported then suc n else n) l.invariant.count
+          c.in_ok-exported.ensures.count ∙ ap (λ n. if (heading_in p).is_exported then suc n else n) l.invariant.count
           ∙ ap (λ b. if b then suc (length (exported_of l.checked.items)) else length (exported_of l.checked.items)) (sym c.in_ok-one.ensures.exported)
           ∙ sym (exported_count l.checked.items one) ∙ ap (λ ps. length (exported_of ps)) (sym c.in_ok-push.ensures.items);
       limit = c.in_ok-exported.ensures.limit;

@@ -2,7 +2,7 @@
 use Rattle.std.proofs.Common.{◌≡◌, ◌<◌, ◌^◌, true, take}
 use Rattle.std.specs.Char.{is_ascii_digit}
 use Rattle.std.specs.List.{list_all}
-use Rattle.ob_syntax.specs.Spelling.{number_value}
+use Rattle.ob_scan.specs.Spelling.{number_value}
 use Rattle.obl0.proofs.script.words.read_digits.Given as goal
 
 abbrev pub invariant-loop-byte : goal.invariant-loop-byte

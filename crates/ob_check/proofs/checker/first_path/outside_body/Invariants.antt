@@ -1,0 +1,8 @@
+use Rattle.std.proofs.Common.{◌≡◌, drop}
+use Rattle.ob_syntax.specs.View.{stmts_in}
+use Rattle.ob_check.specs.FirstPath.{outside_stmts}
+use Rattle.ob_check.proofs.checker.first_path.outside_body.Given as goal
+
+-- nothing has been found so far
+abbrev pub invariant-loop-statement : goal.invariant-loop-statement
+invariant-loop-statement l = outside_stmts (stmts_in l.statement-items) ≡ outside_stmts (stmts_in (drop l.statement-index l.statement-items))
