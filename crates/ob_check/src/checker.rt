@@ -15,8 +15,6 @@ mod names;
 mod procedures;
 mod scopes;
 mod statements;
-#[cfg(test)]
-mod tests;
 mod variables;
 
 use crate::checked::Checked;

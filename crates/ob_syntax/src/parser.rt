@@ -20,8 +20,6 @@ mod declarations;
 mod expressions;
 mod names;
 mod statements;
-#[cfg(test)]
-mod tests;
 mod types;
 
 use crate::tree::Module;

@@ -9,8 +9,6 @@ ghost use Rattle.ob_syntax.specs.PrintedAgain.{HasText, LeadsTo};
 
 mod expressions;
 mod statements;
-#[cfg(test)]
-mod tests;
 mod types;
 
 use crate::no_memory::NoMemory;

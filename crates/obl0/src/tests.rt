@@ -1,6 +1,12 @@
 //! Answers over files in memory.
 
+mod checking;
+mod marked;
+mod nesting;
+mod parsing;
+mod printing;
 mod rows;
+mod trees;
 
 use crate::answer::answer;
 use crate::answered::Answer;

@@ -1,7 +1,7 @@
 //! Texts with their printed texts.
 
-use crate::printer::print;
-use crate::reader::read;
+use ob_syntax::printer::print;
+use ob_syntax::reader::read;
 use std::test::Fail;
 
 #[test]

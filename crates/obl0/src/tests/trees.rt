@@ -1,11 +1,11 @@
 //! Small texts with their trees.
 
-use crate::parser::parse;
-use crate::tree::{
+use ob_scan::scan;
+use ob_syntax::parser::parse;
+use ob_syntax::tree::{
     Branch, ConstDecl, Declarations, Designator, Expr, FieldList, Module, Name, Operand, Operator,
     Procedure, Section, Selector, Sign, Stmt, TypeDecl, TypeExpr, VarDecl,
 };
-use ob_scan::scan;
 use std::alloc::{AllocError, Global};
 use std::process::Abort;
 use std::test::Fail;
