@@ -28,7 +28,7 @@ use Rattle.ob_check.specs.View.{expression_of}
 use Rattle.ob_check.specs.Checking.{IsFaultIn, operations_in}
 use Rattle.ob_check.proofs.Faults.{further_in}
 use Rattle.ob_check.proofs.Sums.{expression_of-computed}
-use Rattle.ob_check.proofs.Outside.{expr_of-named, expr_of-sum}
+use Rattle.ob_syntax.proofs.Rows.{expr_of-named, expr_of-sum}
 
 -- there is one type
 pub is_integer : (t : DataType) → t ≡ Integer

@@ -19,7 +19,8 @@ use Rattle.ob_check.specs.Parts as Parts
 use Rattle.ob_check.specs.Parts.{Part, SomeVariables, SomeProcedures, SomeStatements, Within, Stands}
 use Rattle.ob_check.specs.CheckFaults.{BreaksRule, IsCheckFault}
 use Rattle.ob_check.specs.Checking.{FailsWithin, IsKnown, IsFaultIn, IsFaultInBody}
-use Rattle.ob_check.proofs.Outside.{declarations_of-parts, listed_seen}
+use Rattle.ob_syntax.proofs.Rows.{declarations_of-parts}
+use Rattle.ob_check.proofs.Outside.{listed_seen}
 use Rattle.ob_check.proofs.Known.{or_first, or_second, well_typed_known, no_constants, no_types}
 use Rattle.ob_check.proofs.IllTyped.{ill_typed}
 

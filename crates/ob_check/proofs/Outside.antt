@@ -2,76 +2,20 @@
 use Rattle.std.proofs.Common.{◌≡◌, ℕ, length, Bool, true, false, ◌&&◌, List, [], ◌∷◌, Option, Some, None, option_map, Box, Vec, Global, refl, sym, ap, ◌∙◌, map, arith, vec_len, ◌==◌, eqb-true, eq-eqb, if◌then◌else◌}
 use Rattle.std.specs.Option.{option_or}
 use Rattle.std.specs.List.{list_all}
-use mathlib.Core.Former.{Count}
-use Rattle.ob_syntax.specs.declared.tree.Expr.{Expr, Row_of-Operand, end_of-Operand, more_of-Operand, items-the_row-Operand, items_hidden-the_row-Operand-1, Row_of-Selector, end_of-Selector, more_of-Selector, items-the_row-Selector, items_hidden-the_row-Selector-0}
+use Rattle.ob_syntax.specs.declared.tree.Expr.{Expr}
 use Rattle.ob_syntax.specs.declared.tree.Expr.TheVariants as Exprs
 use Rattle.ob_syntax.specs.declared.tree.Designator.{Designator}
 use Rattle.ob_syntax.specs.declared.tree.Operand.{Operand}
 use Rattle.ob_syntax.specs.declared.tree.Selector.{Selector}
 use Rattle.ob_syntax.specs.declared.tree.Selector.TheVariants.{Field, Index}
 use Rattle.ob_syntax.specs.declared.tree.Sign.{Sign}
-use Rattle.ob_syntax.specs.declared.tree.Procedure.{Procedure, Procedure', out-Procedure}
-use Rattle.ob_syntax.specs.declared.tree.Declarations.{Declarations, Declarations', out-Declarations, Row_of-Procedure, end_of-Procedure, more_of-Procedure, items-the_row-Procedure, items_shown-the_row-Procedure-0}
 use Rattle.ob_syntax.specs.declared.tree.Stmt.{Stmt}
 use Rattle.ob_syntax.specs.declared.tree.Stmt.TheVariants as Stmts
 use Rattle.ob_syntax.specs.Tree
-use Rattle.ob_syntax.specs.View.{name_of, expr_of, operands_of, operands_in, selectors_of, selectors_in, const_decl_of, type_decl_of, var_decl_of, stmt_of, declarations_of, procedures_of, procedures_in, procedure_before}
+use Rattle.ob_syntax.specs.View.{name_of, expr_of, operands_in, selectors_in, stmt_of}
+use Rattle.ob_syntax.proofs.Rows.{expr_of-named, expr_of-sum}
 use Rattle.ob_check.specs.Typing.{listed}
 use Rattle.ob_check.specs.FirstPath.{is_arithmetic, all_arithmetic, first_place, outside_expr, outside_operands, outside_stmt}
-use Rattle.ob_check.specs.Checking.{in_front}
-
--- the tree of an expression whose vectors are seen as lists
-
-operands_row : (n : Count) (row : Row_of-Operand n) → operands_of row ≡ operands_in (items-the_row-Operand n row)
-operands_row n end_of-Operand = refl
-operands_row n (more_of-Operand operator place e rest) = ap (Tree.operand operator place (expr_of e)) (operands_row _ rest)
-
-selectors_row : (n : Count) (row : Row_of-Selector n) → selectors_of row ≡ selectors_in (items-the_row-Selector n row)
-selectors_row n end_of-Selector = refl
-selectors_row n (more_of-Selector (Field place name) rest) = ap (Tree.field place (name_of name)) (selectors_row _ rest)
-selectors_row n (more_of-Selector (Index place i) rest) = ap (Tree.index place (expr_of i)) (selectors_row _ rest)
-
-abbrev operand_row_of : Expr → (n : Count) × Row_of-Operand n
-operand_row_of (Exprs.Product' p first shape rest) = (_, rest)
-operand_row_of (Exprs.Sum' sign p first shape rest) = (_, rest)
-operand_row_of _ = (_, end_of-Operand)
-
-abbrev selector_row_of : Expr → (n : Count) × Row_of-Selector n
-selector_row_of (Exprs.Named' name shape selectors) = (_, selectors)
-selector_row_of _ = (_, end_of-Selector)
-
-pub expr_of-sum : (sign : Option Sign) (first : Box Expr Global) (rest : Vec Operand Global) →
-    expr_of (Exprs.Sum sign first rest) ≡ Tree.Sum sign (expr_of first.value) (operands_in rest.items)
-expr_of-sum sign first rest =
-    let row = operand_row_of (Exprs.Sum sign first rest) in
-    ap (Tree.Sum sign (expr_of first.value)) (operands_row row.0 row.1 ∙ ap operands_in (items_hidden-the_row-Operand-1 rest))
-
-pub expr_of-named : (d : Designator) → expr_of (Exprs.Named d) ≡ Tree.Named (name_of d.name) (selectors_in d.selectors.items)
-expr_of-named d =
-    let row = selector_row_of (Exprs.Named d) in
-    ap (Tree.Named (name_of d.name)) (selectors_row row.0 row.1 ∙ ap selectors_in (items_hidden-the_row-Selector-0 d.selectors))
-
--- declarations with their parts
-
-procedures_row : (n : Count) (row : Row_of-Procedure n) → procedures_of row ≡ procedures_in (items-the_row-Procedure n row)
-procedures_row n end_of-Procedure = refl
-procedures_row n (more_of-Procedure (Procedure' place name is_exported parameters declarations body end_name) rest) =
-    ap (procedure_before (Procedure' place name is_exported parameters declarations body end_name)) (procedures_row _ rest)
-
-pub declarations_of-parts : (d : Declarations) → declarations_of d ≡
-    Tree.Declared
-    (option_map (λ cs. map const_decl_of cs.items) (out-Declarations d).constants)
-    (option_map (λ ts. map type_decl_of ts.items) (out-Declarations d).types)
-    (option_map (λ vs. map var_decl_of vs.items) (out-Declarations d).variables)
-    (procedures_in (out-Declarations d).procedures.items)
-unfolding out-Declarations denote.Hole.Carrier.out
-declarations_of-parts (Declarations' constants types variables shape procedures) =
-    ap (Tree.Declared (option_map (λ cs. map const_decl_of cs.items) constants) (option_map (λ ts. map type_decl_of ts.items) types) (option_map (λ vs. map var_decl_of vs.items) variables))
-    (procedures_row _ procedures ∙ ap procedures_in (sym (items_shown-the_row-Procedure-0 _ procedures)))
-
-pub procedure_before-parts : (p : Procedure) (rest : Tree.Procedures) → procedure_before p rest ≡ in_front p rest
-unfolding out-Procedure denote.Hole.Carrier.out
-procedure_before-parts (Procedure' place name is_exported parameters declarations body end_name) rest = refl
 
 -- a list whose keyword may not stand, seen part by part
 pub listed_seen : {X Y : Type 0} (f : X → Y) (o : Option (Vec X Global)) → map f (listed (option_map (λ v. v.items) o)) ≡ listed (option_map (λ v. map f v.items) o)

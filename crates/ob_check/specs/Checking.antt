@@ -3,8 +3,6 @@ use Rattle.std.specs.Prelude.{◌≡◌, ◌++◌, Bool, true, false, List, [], 
 use Rattle.std.specs.declared.alloc.Global.{Global}
 use Rattle.indexmap.specs.IndexMap.{IndexMap, get_by_text}
 use Rattle.ob_syntax.specs.Tree
-use Rattle.ob_syntax.specs.declared.tree.Procedure.{Procedure, out-Procedure}
-use Rattle.ob_syntax.specs.View.{name_of, section_of, stmts_in, declarations_of}
 use Rattle.ob_check.specs.declared.checker.CheckFault.{CheckFault}
 use Rattle.ob_check.specs.declared.checker.CheckFault.TheVariants.{NotSupported, NoMemory}
 use Rattle.ob_check.specs.declared.checker.scopes.Object.{Object}
@@ -98,28 +96,6 @@ pub record AddsParameters (env : Environment) (x : Tree.Section) (after : Enviro
   pub denotes : Denotes env x.of_type type
   pub names : Names env x.names type after (called type x.names)
   pub added : new ≡ old ++ section_parameters x.is_var (called type x.names)
-
--- the parts of a procedure
-
-abbrev pub heading_in : Procedure → Tree.Heading
-heading_in p =
-    let parts = out-Procedure p in
-    record {
-      place = parts.place;
-      name = name_of parts.name;
-      is_exported = parts.is_exported;
-      parameters = option_map (λ ss. map section_of ss.items) parts.parameters;
-    }
-
-abbrev pub inner_of : Procedure → Tree.Declarations
-inner_of p = declarations_of (out-Procedure p).declarations
-
-abbrev pub body_of : Procedure → Option Tree.Stmts
-body_of p = option_map (λ b. stmts_in b.items) (out-Procedure p).body
-
--- a procedure before others
-abbrev pub in_front : Procedure → Tree.Procedures → Tree.Procedures
-in_front p rest = Tree.procedure (heading_in p) (inner_of p) (body_of p) (name_of (out-Procedure p).end_name) rest
 
 -- operations that stand outside an expression
 abbrev pub operations_in : List Operation → Programs.Operations

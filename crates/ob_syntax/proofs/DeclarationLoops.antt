@@ -1,8 +1,6 @@
 -- What the loops on types and declarations have read, in front of what is left.
-use Rattle.std.proofs.Common.{◌≡◌, ℕ, List, [], ◌∷◌, ◌++◌, refl, ◌∙◌, ap, Vec, Global, Option, map, option_map}
+use Rattle.std.proofs.Common.{◌≡◌, List, [], ◌∷◌, ◌++◌, refl, ◌∙◌, ap, Vec, Global, Option, map, option_map}
 use mathlib.Core.Former.{Count}
-use Rattle.ob_syntax.specs.declared.tree.TypeExpr.{TypeExpr, Row_of-FieldList, end_of-FieldList, more_of-FieldList, items-the_row-FieldList, items_hidden-the_row-FieldList-0}
-use Rattle.ob_syntax.specs.declared.tree.TypeExpr.TheVariants as Types
 use Rattle.ob_syntax.specs.declared.tree.FieldList.{FieldList}
 use Rattle.ob_syntax.specs.declared.tree.FieldList.TheVariants.{Empty, Fields}
 use Rattle.ob_syntax.specs.declared.parser.declarations.Heading.{Heading}
@@ -11,16 +9,17 @@ use Rattle.ob_syntax.specs.declared.tree.Stmt.{Stmt}
 use Rattle.ob_syntax.specs.declared.tree.ConstDecl.{ConstDecl}
 use Rattle.ob_syntax.specs.declared.tree.TypeDecl.{TypeDecl}
 use Rattle.ob_syntax.specs.declared.tree.VarDecl.{VarDecl}
-use Rattle.ob_syntax.specs.declared.tree.Procedure.{Procedure, Procedure'}
-use Rattle.ob_syntax.specs.declared.tree.Declarations.{Declarations, Declarations', Row_of-Procedure, end_of-Procedure, more_of-Procedure, items-the_row-Procedure, items_hidden-the_row-Procedure-0}
-use Rattle.ob_syntax.specs.declared.tree.Declarations.TheViews.{roll-Declarations, roll-Procedure}
+use Rattle.ob_syntax.specs.declared.tree.Procedure.{Procedure}
+use Rattle.ob_syntax.specs.declared.tree.Declarations.{Declarations, Declarations', Row_of-Procedure, items_hidden-the_row-Procedure-0}
+use Rattle.ob_syntax.specs.declared.tree.Declarations.TheViews.{roll-Declarations, roll-Procedure, out-Procedure}
 use Rattle.ob_syntax.specs.declared.tree.Declarations.TheBlock.{hidden-the_row-Procedure-0}
-use denote.Hole.Carrier.{roll}
+use denote.Hole.Carrier.{roll, out}
 use Rattle.ob_syntax.specs.Tree
 use Rattle.ob_syntax.specs.Tree.{FieldLists, Procedures}
-use Rattle.ob_syntax.specs.View.{type_of, fields_of, fields_in, name_of, const_decl_of, type_decl_of, var_decl_of, declarations_of, procedures_of, procedure_before, procedures_in, stmts_in}
+use Rattle.ob_syntax.specs.View.{fields_in, name_of, const_decl_of, type_decl_of, var_decl_of, declarations_of, procedure_before, procedures_in, stmts_in}
 use Rattle.ob_syntax.specs.Forms.{list_in_front}
 use Rattle.ob_syntax.specs.Answers.{field_list_of, procedure_of, heading_in}
+use Rattle.ob_syntax.proofs.Rows.{procedures_row}
 
 -- field lists
 
@@ -38,47 +37,20 @@ fields_before-end [] = refl
 fields_before-end (Empty ∷ xs) = ap Tree.empty_list (fields_before-end xs)
 fields_before-end (Fields names t ∷ xs) = ap (list_in_front (field_list_of (Fields names t))) (fields_before-end xs)
 
-fields_row : (n : Count) (row : Row_of-FieldList n) → fields_of row ≡ fields_in (items-the_row-FieldList n row)
-fields_row n end_of-FieldList = refl
-fields_row n (more_of-FieldList Empty rest) = ap Tree.empty_list (fields_row _ rest)
-fields_row n (more_of-FieldList (Fields names t) rest) = ap (list_in_front (field_list_of (Fields names t))) (fields_row _ rest)
-
-abbrev row_of : TypeExpr → (n : Count) × Row_of-FieldList n
-row_of (Types.Record' place shape lists) = (_, lists)
-row_of _ = (_, end_of-FieldList)
-
--- a record, with its field lists as a list
-pub type_of-record : (place : ℕ) (fields : Vec FieldList Global) → type_of (Types.Record place fields) ≡ Tree.Record place (fields_in fields.items)
-type_of-record place fields =
-    let row = row_of (Types.Record place fields) in
-    ap (Tree.Record place) (fields_row row.0 row.1 ∙ ap fields_in (items_hidden-the_row-FieldList-0 fields))
-
 -- procedures
-
--- this procedure in front of others
-abbrev pub procedure_first : Procedure → Procedures → Procedures
-procedure_first p rest = let t = procedure_of p in Tree.procedure t.heading t.declarations t.body t.end_name rest
-
-procedure_first-before : (p : Procedure) (rest : Procedures) → procedure_first p rest ≡ procedure_before p rest
-procedure_first-before (Procedure' place name is_exported parameters declarations body end_name) rest = refl
 
 abbrev pub procedures_before : List Procedure → Procedures → Procedures
 procedures_before [] rest = rest
-procedures_before (p ∷ ps) rest = procedure_first p (procedures_before ps rest)
+procedures_before (p ∷ ps) rest = procedure_before p (procedures_before ps rest)
 
 pub procedures_before-push : (ps : List Procedure) (p : Procedure) (rest : Procedures) →
-    procedures_before ps (procedure_first p rest) ≡ procedures_before (ps ++ p ∷ []) rest
+    procedures_before ps (procedure_before p rest) ≡ procedures_before (ps ++ p ∷ []) rest
 procedures_before-push [] p rest = refl
-procedures_before-push (q ∷ ps) p rest = ap (procedure_first q) (procedures_before-push ps p rest)
+procedures_before-push (q ∷ ps) p rest = ap (procedure_before q) (procedures_before-push ps p rest)
 
 pub procedures_before-end : (ps : List Procedure) → procedures_before ps Tree.no_procedure ≡ procedures_in ps
 procedures_before-end [] = refl
-procedures_before-end (p ∷ ps) = procedure_first-before p (procedures_before ps Tree.no_procedure) ∙ ap (procedure_before p) (procedures_before-end ps)
-
-procedures_row : (n : Count) (row : Row_of-Procedure n) → procedures_of row ≡ procedures_in (items-the_row-Procedure n row)
-procedures_row n end_of-Procedure = refl
-procedures_row n (more_of-Procedure (Procedure' place name is_exported parameters declarations body end_name) rest) =
-    ap (procedure_before (Procedure' place name is_exported parameters declarations body end_name)) (procedures_row _ rest)
+procedures_before-end (p ∷ ps) = ap (procedure_before p) (procedures_before-end ps)
 
 abbrev procedure_row_of : Declarations → (n : Count) × Row_of-Procedure n
 procedure_row_of (Declarations' constants types variables shape procedures) = (_, procedures)
@@ -109,5 +81,5 @@ pub procedure_of-made : (heading : Heading) (declarations : Declarations) (body 
       end_name = end_name;
     }))
     ≡ record { heading = heading_in heading; declarations = declarations_of declarations; body = option_map (λ ss. stmts_in ss.items) body; end_name = name_of end_name }
-unfolding roll-Procedure roll
+unfolding roll-Procedure out-Procedure roll out
 procedure_of-made heading declarations body end_name = refl

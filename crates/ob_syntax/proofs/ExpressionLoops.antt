@@ -1,19 +1,18 @@
--- What a loop of expressions has read so far, in front of what is left, and the expression that holds it.
+-- What a loop of expressions has read so far, in front of what is left, and the expression that it makes.
 use Rattle.std.proofs.Common.{◌≡◌, List, [], ◌∷◌, ◌++◌, Option, Some, None, refl, sym, ◌∙◌, ap, length, arith, Box, Vec, Global, is_some, false}
-use mathlib.Core.Former.{Count}
-use Rattle.ob_syntax.specs.declared.tree.Expr.{Expr, Row_of-Operand, end_of-Operand, more_of-Operand, items-the_row-Operand, items_hidden-the_row-Operand-1, Row_of-Selector, end_of-Selector, more_of-Selector, items-the_row-Selector, items_hidden-the_row-Selector-0}
+use Rattle.ob_syntax.specs.declared.tree.Expr.{Expr}
 use Rattle.ob_syntax.specs.declared.tree.Expr.TheVariants as Exprs
-use Rattle.ob_syntax.specs.declared.tree.Designator.{Designator}
 use Rattle.ob_syntax.specs.declared.tree.Operand.{Operand}
 use Rattle.ob_syntax.specs.declared.tree.Selector.{Selector}
 use Rattle.ob_syntax.specs.declared.tree.Selector.TheVariants.{Field, Index}
 use Rattle.ob_syntax.specs.declared.tree.Sign.{Sign}
 use Rattle.ob_syntax.specs.Tree
 use Rattle.ob_syntax.specs.Tree.{Operands, Selectors}
-use Rattle.ob_syntax.specs.View.{name_of, expr_of, operands_of, operands_in, selectors_of, selectors_in}
+use Rattle.ob_syntax.specs.View.{name_of, expr_of, operands_in, selectors_in}
 use Rattle.ob_syntax.specs.Forms.{in_front}
 use Rattle.ob_syntax.specs.Answers.{selector_of}
 use Rattle.ob_syntax.proofs.Expressions.{product_of, sum_of}
+use Rattle.ob_syntax.proofs.Rows.{expr_of-product, expr_of-sum}
 
 -- operands
 
@@ -34,29 +33,6 @@ operands_before_more os ps o e rest = operands_before-push os o rest ∙ ap (λ 
 pub operands_before-end : (os : List Operand) → operands_before os Tree.no_operand ≡ operands_in os
 operands_before-end [] = refl
 operands_before-end (o ∷ os) = ap (Tree.operand o.operator o.place (expr_of o.value)) (operands_before-end os)
-
-operands_row : (n : Count) (row : Row_of-Operand n) → operands_of row ≡ operands_in (items-the_row-Operand n row)
-operands_row n end_of-Operand = refl
-operands_row n (more_of-Operand operator place e rest) = ap (Tree.operand operator place (expr_of e)) (operands_row _ rest)
-
-abbrev row_of : Expr → (n : Count) × Row_of-Operand n
-row_of (Exprs.Product' p first shape rest) = (_, rest)
-row_of (Exprs.Sum' sign p first shape rest) = (_, rest)
-row_of _ = (_, end_of-Operand)
-
--- a product, with its operands as a list
-expr_of-product : (first : Box Expr Global) (rest : Vec Operand Global) →
-    expr_of (Exprs.Product first rest) ≡ Tree.Product (expr_of first.value) (operands_in rest.items)
-expr_of-product first rest =
-    let row = row_of (Exprs.Product first rest) in
-    ap (Tree.Product (expr_of first.value)) (operands_row row.0 row.1 ∙ ap operands_in (items_hidden-the_row-Operand-1 rest))
-
--- a sum, with its operands as a list
-expr_of-sum : (sign : Option Sign) (first : Box Expr Global) (rest : Vec Operand Global) →
-    expr_of (Exprs.Sum sign first rest) ≡ Tree.Sum sign (expr_of first.value) (operands_in rest.items)
-expr_of-sum sign first rest =
-    let row = row_of (Exprs.Sum sign first rest) in
-    ap (Tree.Sum sign (expr_of first.value)) (operands_row row.0 row.1 ∙ ap operands_in (items_hidden-the_row-Operand-1 rest))
 
 -- a factor alone
 pub product_alone : (e : Tree.Expr) (os : List Operand) → length os ≡ 0 → product_of e (operands_in os) ≡ e
@@ -115,18 +91,3 @@ pub selectors_before-end : (ss : List Selector) → selectors_before ss Tree.no_
 selectors_before-end [] = refl
 selectors_before-end (Field place name ∷ ss) = ap (Tree.field place (name_of name)) (selectors_before-end ss)
 selectors_before-end (Index place i ∷ ss) = ap (Tree.index place (expr_of i)) (selectors_before-end ss)
-
-selectors_row : (n : Count) (row : Row_of-Selector n) → selectors_of row ≡ selectors_in (items-the_row-Selector n row)
-selectors_row n end_of-Selector = refl
-selectors_row n (more_of-Selector (Field place name) rest) = ap (Tree.field place (name_of name)) (selectors_row _ rest)
-selectors_row n (more_of-Selector (Index place i) rest) = ap (Tree.index place (expr_of i)) (selectors_row _ rest)
-
-abbrev selector_row_of : Expr → (n : Count) × Row_of-Selector n
-selector_row_of (Exprs.Named' name shape selectors) = (_, selectors)
-selector_row_of _ = (_, end_of-Selector)
-
--- a designator, with its selectors as a list
-pub expr_of-named : (d : Designator) → expr_of (Exprs.Named d) ≡ Tree.Named (name_of d.name) (selectors_in d.selectors.items)
-expr_of-named d =
-    let row = selector_row_of (Exprs.Named d) in
-    ap (Tree.Named (name_of d.name)) (selectors_row row.0 row.1 ∙ ap selectors_in (items_hidden-the_row-Selector-0 d.selectors))

@@ -11,7 +11,7 @@ use Rattle.ob_syntax.specs.declared.tree.FieldList.{FieldList}
 use Rattle.ob_syntax.specs.declared.tree.FieldList.TheVariants.{Empty, Fields}
 use Rattle.ob_syntax.specs.declared.tree.Stmt.{Stmt}
 use Rattle.ob_syntax.specs.declared.tree.Branch.{Branch}
-use Rattle.ob_syntax.specs.declared.tree.Procedure.{Procedure, Procedure'}
+use Rattle.ob_syntax.specs.declared.tree.Procedure.{Procedure}
 use Rattle.ob_syntax.specs.Tree
 use Rattle.ob_syntax.specs.View.{name_of, expr_of, selectors_in, type_of, fields_in, stmts_in, branches_in, procedures_in}
 use Rattle.ob_syntax.specs.Printing.{Word, fixed, between, spaced, name_words, expr_words, selector_words, type_words, field_words, more_field_words, stmts_words, more_stmts_words, branch_words, more_branch_words, procedure_words}
@@ -128,4 +128,4 @@ field_list_first false (Fields names t) rest =
 
 pub procedure_first : (p : Procedure) (rest : List Procedure) →
     procedure_words (procedures_in (p ∷ rest)) ≡ procedure_words (procedures_in (p ∷ [])) ++ procedure_words (procedures_in rest)
-procedure_first (Procedure' place name is_exported parameters declarations body end_name) rest = simp append_assoc
+procedure_first p rest = simp append_assoc

@@ -19,7 +19,7 @@ use Rattle.ob_syntax.specs.declared.tree.Declarations.{Declarations, Declaration
 use Rattle.ob_syntax.specs.declared.tree.Declarations.TheViews.{out-Declarations, out-Procedure}
 use Rattle.ob_syntax.specs.declared.tree.Procedure.{Procedure, Procedure'}
 use Rattle.ob_syntax.specs.Tree
-use Rattle.ob_syntax.specs.View.{name_of, expr_of, operands_of, operands_in, selectors_of, selectors_in, type_of, fields_of, fields_in, stmt_of, stmts_of, stmts_in, branches_of, branches_in, else_of, section_of, const_decl_of, type_decl_of, var_decl_of, declarations_of, heading_of, procedures_of, procedures_in, procedure_before}
+use Rattle.ob_syntax.specs.View.{name_of, expr_of, operands_of, operands_in, selectors_of, selectors_in, type_of, fields_of, fields_in, stmt_of, stmts_of, stmts_in, branches_of, branches_in, else_of, const_decl_of, type_decl_of, var_decl_of, declarations_of, procedures_of, procedures_in, procedure_before}
 use Rattle.ob_syntax.specs.Answers.{otherwise_of}
 
 -- expressions
@@ -121,7 +121,8 @@ stmt_of-if place branches otherwise =
 
 -- declarations
 
-procedures_row : (n : Count) (row : Row_of-Procedure n) → procedures_of row ≡ procedures_in (items-the_row-Procedure n row)
+pub procedures_row : (n : Count) (row : Row_of-Procedure n) → procedures_of row ≡ procedures_in (items-the_row-Procedure n row)
+unfolding out-Procedure out
 procedures_row n end_of-Procedure = refl
 procedures_row n (more_of-Procedure (Procedure' place name is_exported parameters declarations body end_name) rest) =
     ap (procedure_before (Procedure' place name is_exported parameters declarations body end_name)) (procedures_row _ rest)
@@ -135,21 +136,3 @@ declarations_of-parts (Declarations' constants types variables shape procedures)
     ap (Tree.Declared (option_map (λ cs. map const_decl_of cs.items) constants) (option_map (λ ts. map type_decl_of ts.items) types)
     (option_map (λ vs. map var_decl_of vs.items) variables))
     (procedures_row _ procedures ∙ ap procedures_in (sym (items_shown-the_row-Procedure-0 shape procedures)))
-
-pub heading_of-parts : (p : Procedure) →
-    heading_of p
-    ≡ record {
-      place = (out-Procedure p).place;
-      name = name_of (out-Procedure p).name;
-      is_exported = (out-Procedure p).is_exported;
-      parameters = option_map (λ ss. map section_of ss.items) (out-Procedure p).parameters;
-    }
-unfolding out-Procedure out
-heading_of-parts (Procedure' place name is_exported parameters declarations body end_name) = refl
-
-pub procedure_before-parts : (p : Procedure) (rest : Tree.Procedures) →
-    procedure_before p rest
-    ≡ Tree.procedure (heading_of p) (declarations_of (out-Procedure p).declarations) (option_map (λ b. stmts_in b.items) (out-Procedure p).body)
-    (name_of (out-Procedure p).end_name) rest
-unfolding out-Procedure out
-procedure_before-parts (Procedure' place name is_exported parameters declarations body end_name) rest = refl

@@ -11,13 +11,13 @@ use Rattle.ob_syntax.specs.declared.tree.FieldList.TheVariants as Lists
 use Rattle.ob_syntax.specs.declared.tree.Branch.{Branch}
 use Rattle.ob_syntax.specs.declared.tree.Stmt.{Stmt}
 use Rattle.ob_syntax.specs.declared.tree.Name.{Name}
-use Rattle.ob_syntax.specs.declared.tree.Procedure.{Procedure, Procedure'}
+use Rattle.ob_syntax.specs.declared.tree.Procedure.{Procedure, out-Procedure}
 use Rattle.std.specs.Global.{Global}
 use Rattle.ob_scan.specs.declared.token.Kind.{Kind}
 use Rattle.ob_scan.specs.Lexemes.{lexeme}
 use Rattle.ob_scan.specs.Tokens.{TokenizedText}
 use Rattle.ob_syntax.specs.Tree
-use Rattle.ob_syntax.specs.View.{name_of, expr_of, type_of, section_of, stmts_in, declarations_of}
+use Rattle.ob_syntax.specs.View.{name_of, expr_of, type_of, section_of, stmts_in, heading_of, inner_of, body_of}
 use Rattle.ob_syntax.specs.Forms as forms
 use Rattle.ob_syntax.specs.Forms.{ProcedureTree}
 use Rattle.ob_syntax.specs.Grammar.{Lexemes}
@@ -93,18 +93,12 @@ heading_in h =
     }
 
 abbrev pub procedure_of : Procedure → ProcedureTree
-procedure_of (Procedure' place name is_exported parameters declarations body end_name) =
+procedure_of p =
     record {
-      heading =
-          record {
-            place = place;
-            name = name_of name;
-            is_exported = is_exported;
-            parameters = option_map (λ ss. map section_of ss.items) parameters;
-          };
-      declarations = declarations_of declarations;
-      body = option_map (λ b. stmts_in b.items) body;
-      end_name = name_of end_name;
+      heading = heading_of p;
+      declarations = inner_of p;
+      body = body_of p;
+      end_name = name_of (out-Procedure p).end_name;
     }
 
 -- a selector, a field list and a branch that stand alone

@@ -1,5 +1,5 @@
 -- The tree that a value of the program stands for: no pointers, and vectors as lists.
-use Rattle.std.specs.Prelude.{List, [], ◌∷◌, map, option_map, string_bytes}
+use Rattle.std.specs.Prelude.{List, [], ◌∷◌, map, Option, option_map, string_bytes}
 use Rattle.ob_syntax.specs.declared.tree.Name.{Name}
 use Rattle.ob_syntax.specs.declared.tree.Expr.{Expr, Row_of-Operand, end_of-Operand, more_of-Operand, Row_of-Selector, end_of-Selector, more_of-Selector}
 use Rattle.ob_syntax.specs.declared.tree.Expr.TheVariants.{Number, Named', Parens', Not', Product', Sum', Comparison'}
@@ -16,10 +16,9 @@ use Rattle.ob_syntax.specs.declared.tree.Branch.{Branch}
 use Rattle.ob_syntax.specs.declared.tree.ConstDecl.{ConstDecl}
 use Rattle.ob_syntax.specs.declared.tree.TypeDecl.{TypeDecl}
 use Rattle.ob_syntax.specs.declared.tree.VarDecl.{VarDecl}
-use Rattle.ob_syntax.specs.declared.tree.Procedure.{Procedure}
+use Rattle.ob_syntax.specs.declared.tree.Procedure.{Procedure, Procedure', out-Procedure}
 use Rattle.ob_syntax.specs.declared.tree.Section.{Section}
 use Rattle.ob_syntax.specs.declared.tree.Declarations.{Declarations, Declarations', Row_of-Procedure, end_of-Procedure, more_of-Procedure}
-use Rattle.ob_syntax.specs.declared.tree.Procedure.{Procedure'}
 use Rattle.ob_syntax.specs.declared.tree.Module.{Module}
 use Rattle.ob_syntax.specs.Tree
 
@@ -131,22 +130,27 @@ abbrev mutual
       (record { place = place; name = name_of name; is_exported = is_exported; parameters = option_map (λ ss. map section_of ss.items) parameters })
       (declarations_of declarations) (option_map (λ b. stmts_in b.items) body) (name_of end_name) (procedures_of rest)
 
--- procedures that stand outside their declarations
+-- the parts of a procedure that stands outside its declarations
 
 abbrev pub heading_of : Procedure → Tree.Heading
-heading_of (Procedure' place name is_exported parameters declarations body end_name) =
+heading_of p =
+    let parts = out-Procedure p in
     record {
-      place = place;
-      name = name_of name;
-      is_exported = is_exported;
-      parameters = option_map (λ ss. map section_of ss.items) parameters;
+      place = parts.place;
+      name = name_of parts.name;
+      is_exported = parts.is_exported;
+      parameters = option_map (λ ss. map section_of ss.items) parts.parameters;
     }
 
+abbrev pub inner_of : Procedure → Tree.Declarations
+inner_of p = declarations_of (out-Procedure p).declarations
+
+abbrev pub body_of : Procedure → Option Tree.Stmts
+body_of p = option_map (λ b. stmts_in b.items) (out-Procedure p).body
+
+-- a procedure before others
 abbrev pub procedure_before : Procedure → Tree.Procedures → Tree.Procedures
-procedure_before (Procedure' place name is_exported parameters declarations body end_name) rest =
-    Tree.procedure
-    (record { place = place; name = name_of name; is_exported = is_exported; parameters = option_map (λ ss. map section_of ss.items) parameters })
-    (declarations_of declarations) (option_map (λ b. stmts_in b.items) body) (name_of end_name) rest
+procedure_before p rest = Tree.procedure (heading_of p) (inner_of p) (body_of p) (name_of (out-Procedure p).end_name) rest
 
 abbrev pub procedures_in : List Procedure → Tree.Procedures
 procedures_in [] = Tree.no_procedure

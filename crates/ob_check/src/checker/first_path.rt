@@ -2,9 +2,8 @@
 
 ghost use Rattle.std.specs.Prelude.{◌≡◌, IsTrue, map, option_map};
 ghost use Rattle.std.specs.List.{list_all};
-ghost use Rattle.ob_syntax.specs.View.{expr_of, operands_in, type_of, stmt_of, stmts_in, var_decl_of, section_of, const_decl_of, type_decl_of, procedures_in, declarations_of, module_of};
+ghost use Rattle.ob_syntax.specs.View.{expr_of, operands_in, type_of, stmt_of, stmts_in, var_decl_of, section_of, const_decl_of, type_decl_of, procedures_in, declarations_of, heading_of, inner_of, body_of, module_of};
 ghost use Rattle.ob_check.specs.FirstPath as rules;
-ghost use Rattle.ob_check.specs.Checking.{heading_in, inner_of, body_of};
 
 use super::expressions::arithmetic;
 use super::listed;
@@ -117,7 +116,7 @@ fn outside_procedures(procedures: &[Procedure]) -> Option<usize>
 }
 
 fn outside_procedure(procedure: &Procedure) -> Option<usize>
-    ensures { result ≡ rules.outside_procedure (heading_in procedure.now) (inner_of procedure.now) (body_of procedure.now) }
+    ensures { result ≡ rules.outside_procedure (heading_of procedure.now) (inner_of procedure.now) (body_of procedure.now) }
 {
     outside_sections(listed(&procedure.parameters))
         .or(first_declared(&procedure.declarations))

@@ -2,12 +2,12 @@
 
 ghost use Rattle.std.specs.Prelude.{◌≡◌, ◌≤◌, ℕ, suc, ◌∷◌, ◌++◌, List, map, filter, length, is_some, true, false, IfOk, OnOk, IfErr, vec_len, if◌then◌else◌};
 ghost use Rattle.ob_syntax.specs.Tree as trees;
-ghost use Rattle.ob_syntax.specs.View.{procedures_in, section_of};
+ghost use Rattle.ob_syntax.specs.View.{section_of, heading_of, procedure_before, procedures_in};
 ghost use Rattle.ob_check.specs.Scopes.{Environment, IsNew};
 ghost use Rattle.ob_check.specs.Program as programs;
 ghost use Rattle.ob_check.specs.Typing.{Names, Parameters, DeclaresProcedures, section_parameters};
 ghost use Rattle.ob_check.specs.Parts.{SomeSections, SomeProcedures};
-ghost use Rattle.ob_check.specs.Checking.{env_of, called, heading_in, in_front, AddsParameters, IsFaultIn};
+ghost use Rattle.ob_check.specs.Checking.{env_of, called, AddsParameters, IsFaultIn};
 ghost use Rattle.ob_check.specs.View.{parameter_of, procedure_of};
 
 use super::exports::formals_of;
@@ -55,10 +55,10 @@ fn test_name(
     exported: usize,
 ) -> Result<usize, CheckFault>
     requires { exported ≤ 64 }
-    ensures fresh { OnOk result (IsNew (env_of scopes.now) (heading_in procedure.now).name.text) }
-    ensures count { IfOk result (λ n. n ≡ (if (heading_in procedure.now).is_exported then suc exported else exported)) }
+    ensures fresh { OnOk result (IsNew (env_of scopes.now) (heading_of procedure.now).name.text) }
+    ensures count { IfOk result (λ n. n ≡ (if (heading_of procedure.now).is_exported then suc exported else exported)) }
     ensures limit { IfOk result (λ n. n ≤ 64) }
-    ensures fault { IfErr result (λ e. (number : ℕ) (rest : trees.Procedures) → IsFaultIn (env_of scopes.now) (SomeProcedures number exported (in_front procedure.now rest)) e) }
+    ensures fault { IfErr result (λ e. (number : ℕ) (rest : trees.Procedures) → IsFaultIn (env_of scopes.now) (SomeProcedures number exported (procedure_before procedure.now rest)) e) }
 {
     let name = &procedure.name;
     if !scopes.is_new(&name.text) {
@@ -81,16 +81,16 @@ fn declare_procedure(
     procedure: &tree::Procedure,
 ) -> Result<Procedure, CheckFault>
     requires { is_some scopes.old.own ≡ false }
-    ensures typed { IfOk result (λ p. IsNew (env_of scopes.old) (heading_in procedure.now).name.text →
+    ensures typed { IfOk result (λ p. IsNew (env_of scopes.old) (heading_of procedure.now).name.text →
         (rest : trees.Procedures) (after : Environment) (others : List programs.Procedure) →
         DeclaresProcedures (env_of scopes.new) (suc number) rest after others →
-        DeclaresProcedures (env_of scopes.old) number (in_front procedure.now rest) after (procedure_of p ∷ others)) }
-    ensures exported { IfOk result (λ p. p.is_exported ≡ (heading_in procedure.now).is_exported) }
+        DeclaresProcedures (env_of scopes.old) number (procedure_before procedure.now rest) after (procedure_of p ∷ others)) }
+    ensures exported { IfOk result (λ p. p.is_exported ≡ (heading_of procedure.now).is_exported) }
     ensures own { OnOk result (is_some scopes.new.own ≡ false) }
     ensures behind { OnOk result ((exported : ℕ) (rest : trees.Procedures) (e : CheckFault) →
-        IsFaultIn (env_of scopes.new) (SomeProcedures (suc number) (if (heading_in procedure.now).is_exported then suc exported else exported) rest) e →
-        IsFaultIn (env_of scopes.old) (SomeProcedures number exported (in_front procedure.now rest)) e) }
-    ensures fault { IfErr result (λ e. (exported : ℕ) (rest : trees.Procedures) → IsFaultIn (env_of scopes.old) (SomeProcedures number exported (in_front procedure.now rest)) e) }
+        IsFaultIn (env_of scopes.new) (SomeProcedures (suc number) (if (heading_of procedure.now).is_exported then suc exported else exported) rest) e →
+        IsFaultIn (env_of scopes.old) (SomeProcedures number exported (procedure_before procedure.now rest)) e) }
+    ensures fault { IfErr result (λ e. (exported : ℕ) (rest : trees.Procedures) → IsFaultIn (env_of scopes.old) (SomeProcedures number exported (procedure_before procedure.now rest)) e) }
 {
     scopes.open(alloc);
     let parameters = declare_parameters(alloc, scopes, listed(&procedure.parameters))?;

@@ -5,7 +5,7 @@ use Rattle.ob_syntax.specs.declared.tree.Declarations.TheViews.{out-Declarations
 use Rattle.ob_syntax.specs.Tree
 use Rattle.ob_syntax.specs.View.{name_of, const_decl_of, type_decl_of, var_decl_of, declarations_of, heading_of, procedures_in, stmts_in}
 use Rattle.ob_syntax.specs.Printing.{spaced, ident, fixed, part_words, const_words, type_decl_words, var_decl_words, heading_words, body_words, declaration_words, procedure_words}
-use Rattle.ob_syntax.proofs.Rows.{declarations_of-parts, procedure_before-parts}
+use Rattle.ob_syntax.proofs.Rows.{declarations_of-parts}
 use Rattle.ob_syntax.proofs.PrintedLoops.{writes_all, writes_both, loop_writes, loop_wrote, procedure_first}
 use Rattle.ob_syntax.proofs.printer.+declarations.Goals as goal
 
@@ -38,8 +38,7 @@ push_procedure-returns t c =
     (writes_both _ inner (body ++ end) c.in_ok-push_declarations.ensures
     (writes_both _ body end c.in_ok-push_body.ensures
     (writes_both _ (fixed Kind.End ∷ []) (ident (name_of p.end_name) ∷ fixed Kind.Semicolon ∷ []) c.in_ok-push_word-2.ensures
-    (writes_both _ (ident (name_of p.end_name) ∷ []) (fixed Kind.Semicolon ∷ []) c.in_ok-push_name.ensures last)))))
-    ∙ ap (λ x. string_bytes c.args.text.now ++ spaced (procedure_words x)) (sym (procedure_before-parts c.args.procedure.now Tree.no_procedure)))
+    (writes_both _ (ident (name_of p.end_name) ∷ []) (fixed Kind.Semicolon ∷ []) c.in_ok-push_name.ensures last))))))
     c.push_word-3.ensures
 
 pub push_procedures-loop-procedure-init : goal.push_procedures-loop-procedure-init

@@ -5,7 +5,6 @@ use Rattle.ob_scan.specs.declared.token.Kind.{Kind}
 use Rattle.ob_syntax.specs.declared.tree.Declarations.TheViews.{out-Procedure}
 use Rattle.ob_syntax.specs.View.{name_of, section_of}
 use Rattle.ob_syntax.specs.Printing.{spaced, ident, fixed, perhaps, parameter_words, heading_words}
-use Rattle.ob_syntax.proofs.Rows.{heading_of-parts}
 use Rattle.ob_syntax.proofs.PrintedLoops.{writes_both}
 use Rattle.ob_syntax.proofs.printer.push_heading.Goals as goal
 use Rattle.ob_syntax.proofs.printer.push_heading.Goals.{then-procedure+in_ok-push_word-2, else-procedure}
@@ -27,6 +26,5 @@ returns c =
     on_ok_weaker c.push_parameters.result
     (λ (last : string_bytes c.push_parameters.new.text ≡ string_bytes c.if-procedure.text ++ spaced parameters).
     writes_both _ (fixed Kind.Procedure ∷ []) (ident (name_of p.name) ∷ (mark ++ parameters)) c.in_ok-push_word.ensures
-    (writes_both _ (ident (name_of p.name) ∷ []) (mark ++ parameters) c.in_ok-push_name.ensures (writes_both _ mark parameters h last))
-    ∙ ap (λ h. string_bytes c.args.text.now ++ spaced (heading_words h)) (sym (heading_of-parts c.args.procedure.now)))
+    (writes_both _ (ident (name_of p.name) ∷ []) (mark ++ parameters) c.in_ok-push_name.ensures (writes_both _ mark parameters h last)))
     c.push_parameters.ensures

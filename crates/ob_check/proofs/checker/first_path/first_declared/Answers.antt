@@ -2,7 +2,8 @@ use Rattle.std.proofs.Common.{sym, ap, ◌∙◌, map}
 use Rattle.ob_syntax.specs.declared.tree.Declarations.{out-Declarations}
 use Rattle.ob_syntax.specs.View.{const_decl_of, type_decl_of, var_decl_of, procedures_in}
 use Rattle.ob_check.specs.FirstPath.{first_constant, first_type, first_variable, first_procedure, first_declared}
-use Rattle.ob_check.proofs.Outside.{declarations_of-parts, listed_seen, or_four}
+use Rattle.ob_syntax.proofs.Rows.{declarations_of-parts}
+use Rattle.ob_check.proofs.Outside.{listed_seen, or_four}
 use Rattle.ob_check.proofs.checker.first_path.first_declared.Goals as goal
 
 pub returns : goal.returns

@@ -3,18 +3,18 @@ use Rattle.std.proofs.lemmas.List.{at_drop_all}
 use Rattle.ob_syntax.specs.View.{procedures_in}
 use Rattle.ob_check.specs.FirstPath.{outside_procedures}
 use Rattle.ob_check.proofs.Lists.{next_left}
-use Rattle.ob_check.proofs.Outside.{procedure_before-parts, first_found, first_behind}
+use Rattle.ob_check.proofs.Outside.{first_found, first_behind}
 use Rattle.ob_check.proofs.checker.first_path.outside_procedures.Goals as goal
 
 pub returns-in-Some : goal.returns-in-Some
 returns-in-Some c =
     let next = next_left c.args.procedures.now c.loop-procedure.procedure-index c.procedure-item.result c.loop-procedure-test.true c.procedure-item.is in
-    first_found _ _ _ _ (c.loop-procedure.invariant ∙ ap (λ xs. outside_procedures (procedures_in xs)) next ∙ ap outside_procedures (procedure_before-parts c.procedure-item.result _)) (sym c.outside_procedure.ensures ∙ c.in-Some.is)
+    first_found _ _ _ _ (c.loop-procedure.invariant ∙ ap (λ xs. outside_procedures (procedures_in xs)) next) (sym c.outside_procedure.ensures ∙ c.in-Some.is)
 
 pub loop-procedure-preserved : goal.loop-procedure-preserved
 loop-procedure-preserved c =
     let next = next_left c.args.procedures.now c.loop-procedure.procedure-index c.procedure-item.result c.loop-procedure-test.true c.procedure-item.is in
-    first_behind _ _ _ (c.loop-procedure.invariant ∙ ap (λ xs. outside_procedures (procedures_in xs)) next ∙ ap outside_procedures (procedure_before-parts c.procedure-item.result _)) (sym c.outside_procedure.ensures ∙ c.in_default.is)
+    first_behind _ _ _ (c.loop-procedure.invariant ∙ ap (λ xs. outside_procedures (procedures_in xs)) next) (sym c.outside_procedure.ensures ∙ c.in_default.is)
 
 pub returns : goal.returns
 returns c =

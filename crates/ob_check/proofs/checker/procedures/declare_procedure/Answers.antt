@@ -1,9 +1,9 @@
 use Rattle.std.proofs.Common.{map, arith, sym, ap, ◌∙◌}
 use Rattle.std.proofs.lemmas.List.{length-map}
 use Rattle.ob_syntax.specs.declared.tree.Procedure.{out-Procedure}
-use Rattle.ob_syntax.specs.View.{name_of}
+use Rattle.ob_syntax.specs.View.{name_of, inner_of, body_of}
 use Rattle.ob_check.specs.Program.{formal_of}
-use Rattle.ob_check.specs.Checking.{env_of, inner_of, body_of}
+use Rattle.ob_check.specs.Checking.{env_of}
 use Rattle.ob_check.specs.View.{parameter_of, statements_in}
 use Rattle.ob_check.proofs.Exported.{formals_again}
 use Rattle.ob_check.proofs.Faults.{passed_on}

@@ -1,23 +1,22 @@
 use Rattle.std.proofs.Common.{◌≡◌, ℕ, suc, ◌+◌, List, [], ◌∷◌, ◌++◌, map, length, drop, vec_len, arith, sym, ap, subst, ◌∙◌, append_assoc, if◌then◌else◌}
 use Rattle.std.proofs.lemmas.List.{append-nil, drop_all, map-append}
 use Rattle.ob_syntax.specs.Tree.{Procedures}
-use Rattle.ob_syntax.specs.View.{procedures_in}
+use Rattle.ob_syntax.specs.View.{heading_of, procedure_before, procedures_in}
 use Rattle.ob_check.specs.Parts.{SomeProcedures}
 use Rattle.ob_check.specs.Program.{Procedure}
 use Rattle.ob_check.specs.Typing as Typing
 use Rattle.ob_check.specs.Typing.{DeclaresProcedures}
-use Rattle.ob_check.specs.Checking.{env_of, heading_in, in_front, IsFaultIn}
+use Rattle.ob_check.specs.Checking.{env_of, IsFaultIn}
 use Rattle.ob_check.specs.View.{procedure_of}
 use Rattle.ob_check.proofs.Exported.{exported_of, exported_count}
 use Rattle.ob_check.proofs.Faults.{passed_on}
 use Rattle.ob_check.proofs.Lists.{next_left}
-use Rattle.ob_check.proofs.Outside.{procedure_before-parts}
 use Rattle.ob_check.proofs.checker.procedures.declare_procedures.Goals as goal
 
 pub returns-in_err-exported-clause-fault : goal.returns-in_err-exported-clause-fault
 returns-in_err-exported-clause-fault c =
     let l = c.loop-procedure in
-    let next = ap procedures_in (next_left c.args.procedures.now l.procedure-index c.procedure-item.result c.loop-procedure-test.true c.procedure-item.is) ∙ procedure_before-parts c.procedure-item.result _ in
+    let next = ap procedures_in (next_left c.args.procedures.now l.procedure-index c.procedure-item.result c.loop-procedure-test.true c.procedure-item.is) in
     let fault = c.in_err-exported.field-0.0 in
     let P : Procedures → Type 0 = λ ps. IsFaultIn (env_of l.scopes) (SomeProcedures (vec_len l.checked) l.exported ps) fault in
     passed_on _ _ _ c.from_residual.ensures.1
@@ -26,11 +25,11 @@ returns-in_err-exported-clause-fault c =
 pub returns-in_err-one-clause-fault : goal.returns-in_err-one-clause-fault
 returns-in_err-one-clause-fault c =
     let l = c.loop-procedure in
-    let next = ap procedures_in (next_left c.args.procedures.now l.procedure-index c.procedure-item.result c.loop-procedure-test.true c.procedure-item.is) ∙ procedure_before-parts c.procedure-item.result _ in
+    let next = ap procedures_in (next_left c.args.procedures.now l.procedure-index c.procedure-item.result c.loop-procedure-test.true c.procedure-item.is) in
     let fault = c.in_err-one.field-0.0 in
     let rest = procedures_in (drop (l.procedure-index + 1) c.args.procedures.now) in
     let P : Procedures → Type 0 = λ ps. IsFaultIn (env_of l.scopes) (SomeProcedures (vec_len l.checked) l.exported ps) fault in
-    let Q : ℕ → Type 0 = λ n. IsFaultIn (env_of l.scopes) (SomeProcedures n l.exported (in_front c.procedure-item.result rest)) fault in
+    let Q : ℕ → Type 0 = λ n. IsFaultIn (env_of l.scopes) (SomeProcedures n l.exported (procedure_before c.procedure-item.result rest)) fault in
     passed_on _ _ _ c.from_residual-in_err-one.ensures.1
     (l.invariant.fault fault (subst P (sym next) (subst Q c.len.ensures (c.in_err-one.ensures.fault l.exported rest))))
 
@@ -40,7 +39,7 @@ loop-procedure-preserved c =
     let p = c.procedure-item.result in
     let one = c.in_ok-one.one in
     let env = env_of l.scopes in
-    let next = ap procedures_in (next_left c.args.procedures.now l.procedure-index p c.loop-procedure-test.true c.procedure-item.is) ∙ procedure_before-parts p _ in
+    let next = ap procedures_in (next_left c.args.procedures.now l.procedure-index p c.loop-procedure-test.true c.procedure-item.is) in
     let rest = procedures_in (drop (l.procedure-index + 1) c.args.procedures.now) in
     let number : vec_len c.push.new.self ≡ suc c.len.result = omega (arith, c.in_ok-push.ensures.len, c.len.ensures) in
     let pushed = ap (map procedure_of) c.in_ok-push.ensures.items ∙ map-append procedure_of l.checked.items (one ∷ []) in
@@ -48,7 +47,7 @@ loop-procedure-preserved c =
     record {
       typed = λ after ps h.
           let A : ℕ → Type 0 = λ n. DeclaresProcedures (env_of c.declare_procedure.new.scopes) n rest after ps in
-          let B : ℕ → Type 0 = λ n. DeclaresProcedures env n (in_front p rest) after (procedure_of one ∷ ps) in
+          let B : ℕ → Type 0 = λ n. DeclaresProcedures env n (procedure_before p rest) after (procedure_of one ∷ ps) in
           let C : Procedures → Type 0 = λ qs. DeclaresProcedures env (vec_len l.checked) qs after (procedure_of one ∷ ps) in
           let D : List Procedure → Type 0 = λ qs. DeclaresProcedures (env_of c.args.scopes.now) 0 (procedures_in c.args.procedures.now) after qs in
           let here = c.in_ok-one.ensures.typed c.in_ok-exported.ensures.fresh rest after ps (subst A number h) in
@@ -57,12 +56,12 @@ loop-procedure-preserved c =
       fault = λ e h.
           let A : ℕ → Type 0 = λ n. IsFaultIn (env_of c.declare_procedure.new.scopes) (SomeProcedures n c.in_ok-exported.exported rest) e in
           let B : ℕ → Type 0 = λ n. IsFaultIn (env_of c.declare_procedure.new.scopes) (SomeProcedures (suc c.len.result) n rest) e in
-          let C : ℕ → Type 0 = λ n. IsFaultIn env (SomeProcedures n l.exported (in_front p rest)) e in
+          let C : ℕ → Type 0 = λ n. IsFaultIn env (SomeProcedures n l.exported (procedure_before p rest)) e in
           let D : Procedures → Type 0 = λ qs. IsFaultIn env (SomeProcedures (vec_len l.checked) l.exported qs) e in
           let here = c.in_ok-one.ensures.behind l.exported rest e (subst B c.in_ok-exported.ensures.count (subst A number h)) in
           l.invariant.fault e (subst D (sym next) (subst C c.len.ensures here));
       count =
-          c.in_ok-exported.ensures.count ∙ ap (λ n. if (heading_in p).is_exported then suc n else n) l.invariant.count
+          c.in_ok-exported.ensures.count ∙ ap (λ n. if (heading_of p).is_exported then suc n else n) l.invariant.count
           ∙ ap (λ b. if b then suc (length (exported_of l.checked.items)) else length (exported_of l.checked.items)) (sym c.in_ok-one.ensures.exported)
           ∙ sym (exported_count l.checked.items one) ∙ ap (λ ps. length (exported_of ps)) (sym c.in_ok-push.ensures.items);
       limit = c.in_ok-exported.ensures.limit;

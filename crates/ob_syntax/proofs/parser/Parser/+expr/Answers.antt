@@ -13,7 +13,8 @@ use Rattle.ob_syntax.proofs.Firsts.{fill_factor, fill_expression}
 use Rattle.ob_syntax.proofs.Selectors.{fill_selectors, leads_more_selectors, reads_no_selectors, leads_field, leads_index, fill_selector, selector_on}
 use Rattle.ob_syntax.proofs.Operators.{chained_terms, chained_factors, leads_operand, reads_no_operand, operands_follow, fill_operands}
 use Rattle.ob_syntax.proofs.Expressions.{leads_expression, leads_comparison, reads_no_comparison, comparison_follows, fill_comparison, leads_simple, sign_follows, leads_term, leads_named, leads_parens, leads_not, refuses_factor}
-use Rattle.ob_syntax.proofs.ExpressionLoops.{operands_before_more, operands_before-end, product_alone, product_made, sum_alone, sum_made, selectors_before_more, selectors_before-end, expr_of-named}
+use Rattle.ob_syntax.proofs.ExpressionLoops.{operands_before_more, operands_before-end, product_alone, product_made, sum_alone, sum_made, selectors_before_more, selectors_before-end}
+use Rattle.ob_syntax.proofs.Rows.{expr_of-named}
 use Rattle.ob_syntax.proofs.parser.Parser.+expr.Goals as goal
 use Rattle.ob_syntax.proofs.parser.Parser.+expr.Goals.{simple_expression-else-is_none-via-then-is_none+else-is_empty, simple_expression-else-is_none-via-else-is_none, selectors-then-at, selectors-else-at+then-at-2}
 

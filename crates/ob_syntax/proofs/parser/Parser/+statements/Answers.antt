@@ -8,7 +8,8 @@ use Rattle.ob_syntax.proofs.States.{starts, reaches, fails, past, fails_in, pass
 use Rattle.ob_syntax.proofs.Openings.{went_opens, token_there, fails_deep}
 use Rattle.ob_syntax.proofs.Firsts.{fill_expression}
 use Rattle.ob_syntax.proofs.Statements.{token_read, fill_statement, fill_more_statements, fill_statements, fill_more_branches, fill_branches, fill_otherwise, leads_if, leads_while, reads_empty, leads_statements, statement_follows, leads_more_statements, reads_no_statements, leads_branch, leads_branches, branch_follows, leads_elsif, reads_no_elsif, leads_else, reads_no_else, branches_follow}
-use Rattle.ob_syntax.proofs.StatementLoops.{stmts_before, stmts_before-push, stmts_before-end, branches_before, branches_before-push, branches_before-end, stmt_of-while, stmt_of-if}
+use Rattle.ob_syntax.proofs.StatementLoops.{stmts_before, stmts_before-push, stmts_before-end, branches_before, branches_before-push, branches_before-end}
+use Rattle.ob_syntax.proofs.Rows.{stmt_of-while, stmt_of-if}
 use Rattle.ob_syntax.proofs.parser.Parser.+statements.Goals as goal
 
 pub statement-returns-else-at-3 : goal.statement-returns-else-at-3
@@ -159,7 +160,7 @@ pub if_statement-returns : goal.if_statement-returns
 if_statement-returns t c =
     let way = past (starts (leads_if c.requires)) (closed (λ k. refl)) (went_opens (omega arith) (c.take-place.ensures.took _ c.requires)) in
     let way = past (past way branches_follow c.in_ok-branches.ensures) (before_last refl) c.in_ok-otherwise.ensures in
-    went_as (stmt_of-if c.take-place.result c.in_ok-branches.branches c.in_ok-otherwise.otherwise)
+    went_as (sym (stmt_of-if c.take-place.result c.in_ok-branches.branches c.in_ok-otherwise.otherwise))
     (reaches way c.in_ok-expect.ensures.answers)
 
 -- WhileStatement
@@ -203,5 +204,5 @@ while_statement-returns t c =
     let way = past (starts (leads_while c.requires)) (closed (λ k. refl)) (went_opens (omega arith) (c.take-place.ensures.took _ c.requires)) in
     let way = past way (before (both (forms.statements (c.args.depth + 1)) (token Kind.End)) refl) c.in_ok-condition.ensures in
     let way = past (past way (closed (λ k. refl)) c.in_ok-expect.ensures.answers) (before_last refl) c.in_ok-body.ensures in
-    went_as (stmt_of-while c.take-place.result c.in_ok-condition.condition c.in_ok-body.body)
+    went_as (sym (stmt_of-while c.take-place.result c.in_ok-condition.condition c.in_ok-body.body))
     (reaches way c.in_ok-expect-2.ensures.answers)

@@ -7,7 +7,8 @@ use Rattle.ob_syntax.proofs.States.{starts, reaches, fails, past, fails_in, fail
 use Rattle.ob_syntax.proofs.Openings.{went_opens, fails_deep, token_there}
 use Rattle.ob_syntax.proofs.Names.{begins_name, fill_name}
 use Rattle.ob_syntax.proofs.Types.{fill_type, leads_array, fill_behind_array, leads_fields, reads_no_fields, leads_field_lists, fill_more_fields, more_fields_follow, leads_more_fields, reads_no_more_fields, leads_record, fill_behind_record, leads_called}
-use Rattle.ob_syntax.proofs.DeclarationLoops.{fields_before, fields_before-push, fields_before-end, type_of-record}
+use Rattle.ob_syntax.proofs.DeclarationLoops.{fields_before, fields_before-push, fields_before-end}
+use Rattle.ob_syntax.proofs.Rows.{type_of-record}
 use Rattle.ob_syntax.proofs.parser.Parser.+types.Goals as goal
 
 pub array_type-returns-then-depth-ge-DEEPEST_NESTING : goal.array_type-returns-then-depth-ge-DEEPEST_NESTING
