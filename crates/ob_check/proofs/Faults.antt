@@ -1,7 +1,5 @@
 -- Faults of parts, and those of what holds them.
-use Rattle.std.proofs.Common.{◌≡◌, ℕ, Result, sym, subst}
-use Rattle.std.specs.Result.{IfErr, IsErrAnd}
-use Rattle.std.proofs.lemmas.Result.{err_from_is_err_and}
+use Rattle.std.proofs.Common.{◌≡◌, ℕ, sym, subst}
 use Rattle.ob_check.specs.declared.checker.CheckFault.{CheckFault}
 use Rattle.ob_check.specs.declared.checker.CheckFault.TheVariants.{UnknownName, DeclaredTwice, WrongKind, PassesLimit, NotSupported, NoMemory}
 use Rattle.ob_check.specs.Scopes.{Environment}
@@ -41,10 +39,3 @@ fault_in P expected (WrongKind place) env part h f = expected_in P expected _ en
 fault_in P expected (PassesLimit place) env part h f = expected_in P expected _ env part h f
 fault_in P expected (NotSupported place) env part h f = absurd (no_rule (expected_in P expected _ env part h f).fails)
 fault_in P expected NoMemory env part h f = tt
-
--- the exit of a `?`: the callee's fault is the caller's
-pub passed_on : {X : Type 0} (P : CheckFault → Type 0) (r : Result X CheckFault) (e : CheckFault) → IsErrAnd r (λ d. d ≡ e) → P e → IfErr r P
-passed_on {X = X} P r e h bad =
-    let m = err_from_is_err_and r h in
-    let Q : Result X CheckFault → Type 0 = λ v. IfErr v P in
-    subst Q (sym m.1) (subst P (sym m.2) bad)

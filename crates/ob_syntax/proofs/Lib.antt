@@ -4,6 +4,7 @@ pub mod BareConditions
 pub mod DeclarationLoops
 pub mod Declarations
 pub mod ExpressionLoops
+pub mod Exits
 pub mod Expressions
 pub mod Firsts
 pub mod Loops

@@ -2,7 +2,6 @@
 use Rattle.std.proofs.Common.{◌≡◌, ◌≤◌, ℕ, suc, List, ◌++◌, drop, take, length, inl, inr, Result, sym, subst, arith}
 use Rattle.std.specs.List.{Contains}
 use Rattle.std.specs.Result.{IsErrAnd, IfOk, IfErr}
-use Rattle.std.proofs.lemmas.Result.{err_from_is_err_and}
 use Rattle.std.proofs.lemmas.List.{take-append-drop}
 use Rattle.ob_scan.specs.declared.token.Token.{Token}
 use Rattle.ob_scan.specs.declared.fault.ScanFault.{ScanFault}
@@ -19,19 +18,10 @@ use Rattle.ob_syntax.specs.Conditions.{Breach, KeepsConditions, breaches}
 use Rattle.ob_syntax.specs.ParseFaults.{lexemes_of, IsParseFault}
 use Rattle.ob_syntax.specs.PrintedAgain.{LeadsTo}
 use Rattle.ob_syntax.specs.ReadFaults.{IsWant, of_scan, of_parse}
-
--- the exit of a `?`
-pub raised : {X E : Type 0} (Q : E → Type 0) (r : Result X E) (e : E) → IsErrAnd r (λ d. d ≡ e) → Q e → IfErr r Q
-raised {X = X} {E = E} Q r e h bad =
-    let m = err_from_is_err_and r h in
-    let R : Result X E → Type 0 = λ v. IfErr v Q in
-    subst R (sym m.1) (subst Q (sym m.2) bad)
+use Rattle.ob_syntax.proofs.Exits.{exits}
 
 pub raised_both : {X E : Type 0} (P : X → Type 0) (Q : E → Type 0) (r : Result X E) (e : E) → IsErrAnd r (λ d. d ≡ e) → Q e → IfOk r P × IfErr r Q
-raised_both {X = X} {E = E} P Q r e h bad =
-    let m = err_from_is_err_and r h in
-    let R : Result X E → Type 0 = λ v. IfOk v P × IfErr v Q in
-    subst R (sym m.1) (tt, subst Q (sym m.2) bad)
+raised_both P Q r e h bad = exits (λ v. IfOk v P × IfErr v Q) r e h (tt, bad)
 
 -- of a text that has tokens and is not too long, the scanner can only want memory
 pub scan_wants : {text : List ℕ} {tokens : List Token} (fault : ScanFault) → IsScanFault text fault → HasTokens text tokens →

@@ -17,7 +17,7 @@ use Rattle.ob_syntax.specs.declared.tree.Stmt.TheVariants as Variants
 use Rattle.ob_syntax.specs.declared.tree.Branch.{Branch}
 use Rattle.ob_syntax.specs.declared.tree.Declarations.{Declarations, Declarations', Row_of-Procedure, end_of-Procedure, more_of-Procedure, items-the_row-Procedure, items_shown-the_row-Procedure-0}
 use Rattle.ob_syntax.specs.declared.tree.Declarations.TheViews.{out-Declarations, out-Procedure}
-use Rattle.ob_syntax.specs.declared.tree.Procedure.{Procedure, Procedure'}
+use Rattle.ob_syntax.specs.declared.tree.Procedure.{Procedure'}
 use Rattle.ob_syntax.specs.Tree
 use Rattle.ob_syntax.specs.View.{name_of, expr_of, operands_of, operands_in, selectors_of, selectors_in, type_of, fields_of, fields_in, stmt_of, stmts_of, stmts_in, branches_of, branches_in, else_of, const_decl_of, type_decl_of, var_decl_of, declarations_of, procedures_of, procedures_in, procedure_before}
 use Rattle.ob_syntax.specs.Answers.{otherwise_of}

@@ -1,5 +1,5 @@
 -- Statements: what is left of each phrase, by the token that stands there.
-use Rattle.std.proofs.Common.{◌≡◌, ℕ, pos, ◌+◌, Bool, true, false, List, [], ◌∷◌, ◌++◌, Option, Some, None, refl, sym, ap, arith, flat_map}
+use Rattle.std.proofs.Common.{◌≡◌, ℕ, pos, ◌+◌, true, false, List, [], ◌∷◌, ◌++◌, Option, Some, None, refl, sym, ap, arith, flat_map}
 use Rattle.std.proofs.lemmas.List.{append-nil}
 use Rattle.ob_scan.specs.declared.token.Kind.{Kind}
 use Rattle.ob_scan.specs.Lexemes.{lexeme}
@@ -11,7 +11,7 @@ use Rattle.ob_syntax.specs.Conditions.{Breach, opening, in_expr, in_selectors, i
 use Rattle.ob_syntax.specs.Reading.{Form, Stops, Reads, kind_at}
 use Rattle.ob_syntax.specs.Answers.{State, tokens_of, Went}
 use Rattle.ob_syntax.specs.Forms as forms
-use Rattle.ob_syntax.specs.Forms.{OneBranch, TakesBranch, token, opens, Both, both}
+use Rattle.ob_syntax.specs.Forms.{assignment_goes_on, OneBranch, TakesBranch, token, opens, Both, both}
 use Rattle.ob_syntax.proofs.Steps.{Leads, Follows, Fills, takes_same, no_takes_same, same_token, stops_at, not_stopped, weaker, nothing_stops, before_last, across, fill_token, takes_at_only, itself}
 use Rattle.ob_syntax.proofs.Phrases.{Optional, Listed, begins_behind, fill_perhaps, fill_separated}
 use Rattle.ob_syntax.proofs.Names.{begins_name}
@@ -240,11 +240,6 @@ leads_named {n = n} here = record {
   breaches = λ x. in_named n x.0 x.1;
 }
 
--- what an assignment may begin with behind its name
-abbrev pub assignment_goes_on : Kind → Bool
-assignment_goes_on Kind.Assign = true
-assignment_goes_on k = forms.selectors_go_on k
-
 assignment_starts : {a b c : Lexemes} {place : ℕ} {y : Selectors} → Grammar.Selector a y b → TakesAt Kind.Assign place b c →
     Starts assignment_goes_on a
 assignment_starts Grammar.no_more t = there refl t
@@ -311,25 +306,20 @@ bare_only h k (TakesAfterName.assigned d u f) = absurd (k (assignment_starts d u
 bare_only h k (TakesAfterName.called Grammar.absent) = (refl, refl)
 bare_only h k (TakesAfterName.called (Grammar.present d)) = (let m = begins_actuals d in absurd (h m.0 m.1 m.2))
 
-no_assignment : {a : Lexemes} → ((place : ℕ) (b : Lexemes) → TakesAt Kind.Assign place a b → ⊥) →
-    ((place : ℕ) (b : Lexemes) → TakesAt Kind.Dot place a b → ⊥) →
-    ((place : ℕ) (b : Lexemes) → TakesAt Kind.LeftBracket place a b → ⊥) → Starts assignment_goes_on a → ⊥
-no_assignment h k l (there {kind = Kind.Assign} e t) = h _ _ t
-no_assignment h k l (there {kind = Kind.Dot} e t) = k _ _ t
-no_assignment h k l (there {kind = Kind.LeftBracket} e t) = l _ _ t
-no_assignment h k l (there {kind = _} e t) = absurd (cc)
+no_assignment : {a : Lexemes} → ((kind : Kind) (place : ℕ) (b : Lexemes) → assignment_goes_on kind ≡ true → TakesAt kind place a b → ⊥) →
+    Starts assignment_goes_on a → ⊥
+no_assignment h (there e t) = h _ _ _ e t
 
 pub reads_bare : {n : ℕ} {tokens : Lexemes} {p : ℕ} → (kind_at tokens p ≡ Some Kind.LeftParen → ⊥) →
-    (kind_at tokens p ≡ Some Kind.Assign → ⊥) → (kind_at tokens p ≡ Some Kind.Dot → ⊥) → (kind_at tokens p ≡ Some Kind.LeftBracket → ⊥) →
+    ((kind : Kind) × (assignment_goes_on kind ≡ true) × (kind_at tokens p ≡ Some kind) → ⊥) →
     Reads (after_name n) tokens p (AfterName.called None) p
-reads_bare no_paren no_assign no_dot no_bracket = record {
+reads_bare no_paren no_assigned = record {
   order = omega arith;
   within = λ h. h;
   sound = λ other same. TakesAfterName.called Grammar.absent;
   only = λ other same y rest d stops.
       bare_only (λ place b t. no_takes_same no_paren same t)
-      (no_assignment (λ place b t. no_takes_same no_assign same t) (λ place b t. no_takes_same no_dot same t)
-      (λ place b t. no_takes_same no_bracket same t)) d;
+      (no_assignment (λ kind place b e t. no_takes_same (λ h. no_assigned (kind, e, h)) same t)) d;
   kept = refl;
 }
 

@@ -1,7 +1,6 @@
 -- The lemmas of Steps over states of the parser, so that a method's answer is a path of its calls.
 use Rattle.std.proofs.Common.{◌≡◌, ℕ, suc, ◌+◌, length, Some, true, false, IsTrue, ◌↔◌, Result, refl, sym, ◌∙◌, ap, subst, arith}
-use Rattle.std.specs.Result.{IsErrAnd, IfErr}
-use Rattle.std.proofs.lemmas.Result.{err_from_is_err_and}
+use Rattle.std.specs.Result.{IsErrAnd}
 use Rattle.ob_scan.specs.declared.token.Kind.{Kind}
 use Rattle.ob_syntax.specs.declared.parser.ParseFault.{ParseFault}
 use Rattle.ob_syntax.specs.declared.parser.ParseFault.TheVariants.{Unexpected, TooDeep, NameDiffers, NoMemory}
@@ -12,6 +11,7 @@ use Rattle.ob_syntax.specs.Conditions.{name_differs, too_deep}
 use Rattle.ob_syntax.specs.Forms.{token, both, linked}
 use Rattle.ob_syntax.specs.Answers.{State, tokens_of, Went, Fails, FailsHere, Answers}
 use Rattle.ob_syntax.proofs.Steps.{Leads, Fills, leads_on, leads_itself, leads_as, leads_reads, leads_refuses, Follows, leads_second, first_refuses, always, reads_token, Begins, refuses_beginning}
+use Rattle.ob_syntax.proofs.Exits.{exits}
 
 -- From s to t the parser read what is in front of G in a phrase F; f makes the tree of F of the tree of G.
 pub record Path {A B : Type 0} (F : Form A) (s : State) (G : Form B) (t : State) (f : B → A) : Type 0 where
@@ -138,21 +138,10 @@ went_as {A = A} {F = F} {s = s} {t = t} e a = let P : A → Type 0 = λ z. Went 
 -- the exit of a `?`: the callee's fault is the caller's
 pub passed : {X A : Type 0} (view : X → A) (F : Form A) (s t : State) (r : Result X ParseFault) (e : ParseFault) →
     IsErrAnd r (λ d. d ≡ e) → Fails F s e → Answers view F s r t
-passed {X = X} view F s t r e h bad =
-    let m = err_from_is_err_and r h in
-    let P : ParseFault → Type 0 = λ d. Fails F s d in
-    let Q : Result X ParseFault → Type 0 = λ v. Answers view F s v t in
-    subst Q (sym m.1) (subst P (sym m.2) bad)
+passed view F s t r e h bad = exits (λ v. Answers view F s v t) r e h bad
 
 pub false_at : {P : Type 0} → (IsTrue false ↔ P) → P → ⊥
 false_at h p = let e : false ≡ true = h.1 p in cc
 
 pub true_at : {P : Type 0} → (IsTrue true ↔ P) → P
 true_at h = h.0 refl
-
--- the exit of a `?` in the function that answers for the whole text
-pub passed_on : {X : Type 0} (P : ParseFault → Type 0) (r : Result X ParseFault) (e : ParseFault) → IsErrAnd r (λ d. d ≡ e) → P e → IfErr r P
-passed_on {X = X} P r e h bad =
-    let m = err_from_is_err_and r h in
-    let Q : Result X ParseFault → Type 0 = λ v. IfErr v P in
-    subst Q (sym m.1) (subst P (sym m.2) bad)

@@ -1,5 +1,5 @@
 -- What a method of the parser answers.
-use Rattle.std.specs.Prelude.{◌≡◌, ℕ, List, length, slice_get, Option, Some, None, Vec, Result, Ok, Err, map, option_map}
+use Rattle.std.specs.Prelude.{◌≡◌, ℕ, true, List, length, slice_get, Option, Some, None, Vec, Result, Ok, Err, map, option_map}
 use Rattle.ob_syntax.specs.declared.parser.ParseFault.{ParseFault}
 use Rattle.ob_syntax.specs.declared.parser.ParseFault.TheVariants.{Unexpected, TooDeep, NameDiffers, NoMemory}
 use Rattle.ob_syntax.specs.declared.parser.Parser.{Parser}
@@ -39,6 +39,10 @@ tokens_of s = lexemes_of s.source
 -- a token of this kind stands here
 abbrev pub IsAt : State → Kind → Type 0
 IsAt s kind = kind_at (tokens_of s) s.position ≡ Some kind
+
+-- a token stands here with which an assignment goes on behind its first name
+abbrev pub GoesOnAsAssignment : State → Type 0
+GoesOnAsAssignment s = (kind : Kind) × (forms.assignment_goes_on kind ≡ true) × IsAt s kind
 
 -- where the token that stands here begins, or the end of the text
 abbrev pub place_of_fault : State → ℕ

@@ -49,6 +49,11 @@ selectors_go_on Kind.Dot = true
 selectors_go_on Kind.LeftBracket = true
 selectors_go_on _ = false
 
+-- behind the first name of an assignment
+abbrev pub assignment_goes_on : Kind → Bool
+assignment_goes_on Kind.Assign = true
+assignment_goes_on k = selectors_go_on k
+
 abbrev pub term_goes_on : Kind → Bool
 term_goes_on Kind.Times = true
 term_goes_on Kind.Div = true

@@ -1,10 +1,10 @@
 //! Statements.
 
-ghost use Rattle.std.specs.Prelude.{map, option_map};
+ghost use Rattle.std.specs.Prelude.{◌↔◌, IsTrue, map, option_map};
 ghost use Rattle.ob_scan.specs.declared.token.Kind.{Kind};
 ghost use Rattle.ob_syntax.specs.View.{expr_of, stmt_of, stmts_in, branches_in};
 ghost use Rattle.ob_syntax.specs.Forms as forms;
-ghost use Rattle.ob_syntax.specs.Answers.{state, IsAt, Answers, branch_of, otherwise_of};
+ghost use Rattle.ob_syntax.specs.Answers.{state, IsAt, GoesOnAsAssignment, Answers, branch_of, otherwise_of};
 
 use crate::parser::{DEEPEST_NESTING, ParseFault, Parser};
 use crate::tree::{Branch, Designator, Expr, Stmt};
@@ -43,6 +43,13 @@ impl<'a> Parser<'a> {
         }
     }
 
+    /// Whether what follows a name makes it an assignment: `:=`, or a selector.
+    fn at_assignment(&self) -> bool
+        ensures { IsTrue result ↔ (GoesOnAsAssignment (state self.now)) }
+    {
+        self.at(Kind::Assign) || self.at(Kind::Dot) || self.at(Kind::LeftBracket)
+    }
+
     /// assignment = ident selector ":=" expression, or ProcedureCall = ident [ActualParameters]
     fn assignment_or_call(&mut self, depth: usize) -> Result<Stmt, ParseFault>
         requires { IsAt (state self.old) Kind.Ident }
@@ -55,7 +62,7 @@ impl<'a> Parser<'a> {
                 procedure: name,
                 actuals: Some(actuals),
             })
-        } else if self.at(Kind::Assign) || self.at(Kind::Dot) || self.at(Kind::LeftBracket) {
+        } else if self.at_assignment() {
             let selectors = self.selectors(depth)?;
             self.expect(Kind::Assign)?;
             let value = self.expression(depth)?;

@@ -1,6 +1,6 @@
 use Rattle.ob_syntax.specs.ParseFaults.{IsParseFault}
 use Rattle.ob_syntax.specs.Answers.{state}
-use Rattle.ob_syntax.proofs.States.{passed_on}
+use Rattle.ob_syntax.proofs.Exits.{passed_on}
 use Rattle.ob_syntax.proofs.Whole.{faults, goes_past, ends, alone}
 use Rattle.ob_syntax.proofs.parser.parse.Goals as goal
 

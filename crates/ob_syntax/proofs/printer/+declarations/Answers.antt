@@ -2,7 +2,6 @@ use Rattle.std.proofs.Common.{◌≡◌, ◌∷◌, [], ◌++◌, string_bytes, 
 use Rattle.std.proofs.lemmas.Result.{on_ok_weaker}
 use Rattle.ob_scan.specs.declared.token.Kind.{Kind}
 use Rattle.ob_syntax.specs.declared.tree.Declarations.TheViews.{out-Declarations, out-Procedure}
-use Rattle.ob_syntax.specs.Tree
 use Rattle.ob_syntax.specs.View.{name_of, const_decl_of, type_decl_of, var_decl_of, declarations_of, heading_of, procedures_in, stmts_in}
 use Rattle.ob_syntax.specs.Printing.{spaced, ident, fixed, part_words, const_words, type_decl_words, var_decl_words, heading_words, body_words, declaration_words, procedure_words}
 use Rattle.ob_syntax.proofs.Rows.{declarations_of-parts}

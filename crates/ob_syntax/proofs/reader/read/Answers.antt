@@ -4,12 +4,13 @@ use Rattle.ob_syntax.specs.Places.{bare}
 use Rattle.ob_syntax.specs.ReadFaults.{IsReadFault, in_scan, in_parse, IsWant}
 use Rattle.ob_syntax.specs.View.{module_of}
 use Rattle.ob_syntax.proofs.BareConditions.{keeps_bare}
-use Rattle.ob_syntax.proofs.ReadTexts.{raised, raised_both, scan_wants, parse_wants, leads_by, of_text}
+use Rattle.ob_syntax.proofs.Exits.{passed_on}
+use Rattle.ob_syntax.proofs.ReadTexts.{raised_both, scan_wants, parse_wants, leads_by, of_text}
 use Rattle.ob_syntax.proofs.reader.read.Goals as goal
 
 pub returns-in_err-tokens-clause-fault : goal.returns-in_err-tokens-clause-fault
 returns-in_err-tokens-clause-fault c =
-    raised (IsReadFault c.args.text.now) c.from_residual.result (Scan c.in_err-tokens.field-0.0) c.from_residual.ensures.1
+    passed_on (IsReadFault c.args.text.now) c.from_residual.result (Scan c.in_err-tokens.field-0.0) c.from_residual.ensures.1
     (in_scan c.in_err-tokens.ensures.fault)
 
 pub returns-in_err-tokens-clause-again : goal.returns-in_err-tokens-clause-again
@@ -22,7 +23,7 @@ pub returns-in_err-module-clause-fault : goal.returns-in_err-module-clause-fault
 returns-in_err-module-clause-fault c =
     let source = c.in_ok-tokens.tokens in
     let fault = c.in_err-module.field-0.0 in
-    raised (IsReadFault c.args.text.now) c.from_residual-in_err-module.result (Parse fault) c.from_residual-in_err-module.ensures.1
+    passed_on (IsReadFault c.args.text.now) c.from_residual-in_err-module.result (Parse fault) c.from_residual-in_err-module.ensures.1
     (in_parse c.in_ok-tokens.ensures.tokens (of_text source fault c.in_ok-tokens.ensures.text c.in_err-module.ensures.fault))
 
 pub returns-in_err-module-clause-again : goal.returns-in_err-module-clause-again

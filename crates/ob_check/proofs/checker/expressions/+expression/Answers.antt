@@ -12,7 +12,7 @@ use Rattle.ob_check.specs.Typing.{AreOperands}
 use Rattle.ob_check.specs.View.{expression_of}
 use Rattle.ob_check.proofs.Lists.{next_left}
 use Rattle.ob_check.proofs.Sums.{operations_before, operations_before-push, operations_before-end}
-use Rattle.ob_check.proofs.Faults.{passed_on}
+use Rattle.ob_syntax.proofs.Exits.{passed_on}
 use Rattle.ob_check.proofs.Outside.{is_bare, is_not_bare, selected_outside}
 use Rattle.ob_check.proofs.Exprs.{number_typed, named_typed, named_fault, first_fault, rest_fault, sum_typed, operand_fault, operands_fault, operands_typed, operator_fault}
 use Rattle.ob_check.proofs.checker.expressions.+expression.Goals as goal

@@ -5,7 +5,7 @@ use Rattle.ob_check.specs.Typing as Typing
 use Rattle.ob_check.specs.Checking.{env_of}
 use Rattle.ob_check.specs.View.{parameter_of}
 use Rattle.ob_check.proofs.Declared.{names_more, twice_in_section, parameters_more, parameters_count, ninth}
-use Rattle.ob_check.proofs.Faults.{passed_on}
+use Rattle.ob_syntax.proofs.Exits.{passed_on}
 use Rattle.ob_check.proofs.Lists.{map_around_in, map_taken_in}
 use Rattle.ob_check.proofs.checker.procedures.add_parameters.Goals as goal
 

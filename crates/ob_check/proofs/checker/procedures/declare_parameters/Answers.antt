@@ -8,7 +8,7 @@ use Rattle.ob_check.specs.Typing as Typing
 use Rattle.ob_check.specs.Typing.{Parameters}
 use Rattle.ob_check.specs.Checking.{env_of, IsFaultIn}
 use Rattle.ob_check.specs.View.{parameter_of}
-use Rattle.ob_check.proofs.Faults.{passed_on}
+use Rattle.ob_syntax.proofs.Exits.{passed_on}
 use Rattle.ob_check.proofs.Lists.{next_left}
 use Rattle.ob_check.proofs.Rows.{parameters_typed, parameters_fault}
 use Rattle.ob_check.proofs.checker.procedures.declare_parameters.Goals as goal

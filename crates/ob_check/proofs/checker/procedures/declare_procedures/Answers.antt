@@ -9,7 +9,7 @@ use Rattle.ob_check.specs.Typing.{DeclaresProcedures}
 use Rattle.ob_check.specs.Checking.{env_of, IsFaultIn}
 use Rattle.ob_check.specs.View.{procedure_of}
 use Rattle.ob_check.proofs.Exported.{exported_of, exported_count}
-use Rattle.ob_check.proofs.Faults.{passed_on}
+use Rattle.ob_syntax.proofs.Exits.{passed_on}
 use Rattle.ob_check.proofs.Lists.{next_left}
 use Rattle.ob_check.proofs.checker.procedures.declare_procedures.Goals as goal
 

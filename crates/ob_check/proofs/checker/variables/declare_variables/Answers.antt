@@ -8,7 +8,7 @@ use Rattle.ob_check.specs.Typing as Typing
 use Rattle.ob_check.specs.Typing.{Variables}
 use Rattle.ob_check.specs.Checking.{env_of, IsFaultIn}
 use Rattle.ob_check.specs.View.{variable_of}
-use Rattle.ob_check.proofs.Faults.{passed_on}
+use Rattle.ob_syntax.proofs.Exits.{passed_on}
 use Rattle.ob_check.proofs.Lists.{next_left}
 use Rattle.ob_check.proofs.Rows.{variables_typed, variables_fault}
 use Rattle.ob_check.proofs.checker.variables.declare_variables.Goals as goal
