@@ -1,7 +1,9 @@
-//! How deep constructs may be nested, and what counts.
+//! How deep constructs may be nested, and what counts. The deepest trees are read, printed and dropped.
 
 use super::marked::{fault_of, unmarked};
 use ob_syntax::parser::ParseFault;
+use ob_syntax::printer::print;
+use ob_syntax::reader::read;
 use std::alloc::{AllocError, Global};
 use std::test::Fail;
 
@@ -76,7 +78,9 @@ fn counts_nesting(rt: HostRuntime) -> Result<(), Fail> {
     ];
     for (nest, within) in rows {
         let (text, _) = nested(rt.alloc(), &nest, 100, within)?;
-        assert_eq!(rt; fault_of(rt.alloc(), text.as_str())?, None, "{text}");
+        let printed = print(rt.alloc(), &read(rt.alloc(), text.as_bytes())?)?;
+        let again = print(rt.alloc(), &read(rt.alloc(), printed.as_bytes())?)?;
+        assert_eq!(rt; again.as_str(), printed.as_str());
         let (text, last) = nested(rt.alloc(), &nest, 101, within)?;
         let want = Some(ParseFault::TooDeep(last));
         assert_eq!(rt; fault_of(rt.alloc(), text.as_str())?, want, "{text}");
