@@ -5,7 +5,7 @@ mod marked;
 mod nesting;
 mod parsing;
 mod printing;
-mod rows;
+mod runs;
 mod trees;
 
 use crate::answer::answer;

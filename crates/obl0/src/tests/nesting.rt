@@ -8,7 +8,7 @@ use std::alloc::{AllocError, Global};
 use std::test::Fail;
 
 /// What stands before constructs, what opens and closes one, and what stands behind them.
-type Nest = [&'static str; 4];
+pub type Nest = [&'static str; 4];
 
 const PROCEDURES: Nest = ["MODULE M; ", "PROCEDURE P; ", "END P; ", "END M."];
 
@@ -29,7 +29,7 @@ const BOTH: Nest = [
     "END M.",
 ];
 
-const PARENTHESES: Nest = ["MODULE M; VAR x: INTEGER; BEGIN x := ", "(", ")", " END M."];
+pub const PARENTHESES: Nest = ["MODULE M; VAR x: INTEGER; BEGIN x := ", "(", ")", " END M."];
 
 const ACTUALS: Nest = ["MODULE M; BEGIN P(", "(", ")", ") END M."];
 
@@ -40,7 +40,7 @@ const TARGETS: Nest = ["MODULE M; BEGIN x", "[a", "]", " := 1 END M."];
 const NEGATIONS: Nest = ["MODULE M; CONST c = ", "~", "", "; END M."];
 
 /// The text of so many constructs round this, and where the last one opens.
-fn nested(
+pub fn nested(
     alloc: Global,
     nest: &Nest,
     count: usize,

@@ -1,6 +1,7 @@
 //! What `seq` answers to modules and scripts.
 
 use super::Shelf;
+use super::nesting::{PARENTHESES, nested};
 use crate::answer::answer;
 use crate::answered::Answer;
 use ob_syntax::NoMemory;
@@ -144,26 +145,12 @@ fn faults(rt: HostRuntime) -> Result<(), Fail> {
     Ok(())
 }
 
-/// The text of a module with an expression in so many parentheses; the first stands at 37.
-fn nested(alloc: Global, depth: usize) -> Result<String, AllocError> {
-    let mut text = String::from_str(alloc, "MODULE M; VAR x: INTEGER; BEGIN x := ")?;
-    for _ in 0..depth {
-        text.push('(')?;
-    }
-    text.push('x')?;
-    for _ in 0..depth {
-        text.push(')')?;
-    }
-    text.push_str(" END M.")?;
-    Ok(text)
-}
-
 #[test]
 fn nesting(rt: HostRuntime) -> Result<(), Fail> {
     let alloc = rt.alloc();
-    let deep = nested(alloc, 100)?;
+    let (deep, _) = nested(alloc, &PARENTHESES, 100, "x")?;
     assert_fault(&rt, &seq_answer(alloc, deep.as_str(), "")?, "C12 at 37\n");
-    let too_deep = nested(alloc, 101)?;
+    let (too_deep, _) = nested(alloc, &PARENTHESES, 101, "x")?;
     assert_fault(
         &rt,
         &seq_answer(alloc, too_deep.as_str(), "")?,
