@@ -1,5 +1,5 @@
 use Rattle.std.proofs.Common.{◌≡◌}
-use Rattle.machine_refusals.proofs.run.Given as goal
+use Rattle.wf_refusals.proofs.run.Given as goal
 
 abbrev pub invariant-loop-value : goal.invariant-loop-value
 invariant-loop-value g l = l.machine.sizes ≡ l.initial.machine.sizes

@@ -1,5 +1,5 @@
 use Rattle.std.proofs.Common.{◌≡◌}
-use Rattle.machine_refusals.proofs.play.Given as goal
+use Rattle.wf_refusals.proofs.play.Given as goal
 
 abbrev pub invariant-loop : goal.invariant-loop
 invariant-loop g l = l.machine.sizes ≡ l.initial.machine.sizes
