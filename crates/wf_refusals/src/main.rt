@@ -19,7 +19,7 @@ use trouble::Trouble;
 use wf_object::{Machine, StepOut};
 use wf_samples::Adder;
 
-/// Status 4: the test itself got no memory. Status 5: the machine is at fault.
+/// Status 4: the run itself got no memory. Status 5: the machine is at fault.
 fn main(rt: HostRuntime) -> ExitCode {
     match run(&rt) {
         Ok(()) => ExitCode::SUCCESS,

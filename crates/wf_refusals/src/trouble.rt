@@ -6,7 +6,7 @@ use thiserror::Error;
 /// Why there is nothing to print.
 #[derive(Clone, Copy, Debug, PartialEq, Eq, Error)]
 pub enum Trouble {
-    #[error("the test's own want of memory")]
+    #[error("the run's own want of memory")]
     Own,
     #[error("a call that was refused memory changed the machine")]
     Changed,
