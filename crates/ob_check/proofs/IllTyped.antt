@@ -4,7 +4,7 @@ use Rattle.std.specs.Prelude.{bytes_eq}
 use Rattle.std.proofs.lemmas.List.{append-nil, length-append, length-map}
 use Rattle.std.proofs.lemmas.List.Sums.{sum_by-cons, sum_by-append}
 use Rattle.ob_syntax.specs.Tree
-use Rattle.ob_syntax.specs.Tree.{Expr, Operands, TypeExpr, Stmt, Stmts, VarDecl, Section, Heading, Declarations, Procedures, Module}
+use Rattle.ob_syntax.specs.Tree.{Expr, Operands, TypeExpr, Stmt, Stmts, VarDecl, DeclarationPart, Section, Heading, Declarations, Procedures, Module}
 use Rattle.ob_check.specs.declared.checker.CheckFault.{CheckFault}
 use Rattle.ob_check.specs.declared.program.DataType.{DataType}
 use Rattle.ob_check.specs.declared.program.DataType.TheVariants.{Integer}
@@ -12,7 +12,7 @@ use Rattle.ob_check.specs.Program
 use Rattle.ob_check.specs.Program.{Name, Expression, Operations, Designator, Statement, Statements, Parameter, Variable, Procedure, formal_of, exports}
 use Rattle.ob_check.specs.Scopes.{Environment, Object, TypeName, ProcedureName, Scope, no_names, with_name, found, IsNew, declared, variable_in, words, variable_words}
 use Rattle.ob_check.specs.Typing as Typing
-use Rattle.ob_check.specs.Typing.{IsVariable, HasType, AreOperands, Denotes, IsStatement, AreStatements, IsBody, Names, Variables, Parameters, DeclaresProcedures, Declares, section_parameters, listed, inner_scope, opening_names, WellTyped}
+use Rattle.ob_check.specs.Typing.{IsVariable, HasType, AreOperands, Denotes, IsStatement, AreStatements, IsBody, Names, Variables, Parameters, DeclaresProcedures, Declares, section_parameters, listed, declared_by, inner_scope, opening_names, WellTyped}
 use Rattle.ob_check.specs.Parts as Parts
 use Rattle.ob_check.specs.Parts.{Part, New, AVariable, AnExpression, SomeOperands, AType, AStatement, SomeStatements, SomeVariables, SomeSections, SomeProcedures, Holds, Within, Stands, names_declared}
 use Rattle.ob_check.specs.Checking.{called}
@@ -336,8 +336,8 @@ refuted (Rules.too_many_exports {heading = heading} e) h =
 
 -- the whole module
 
-typed_declarations : {env after : Environment} {constants : _} {types : _} {variables : Option (List VarDecl)} {procedures : Procedures} {vs : List Variable} {ps : List Procedure} →
-    Declares env (Tree.Declared constants types variables procedures) after vs ps → (between : Environment) × Variables env (listed variables) between vs × DeclaresProcedures between 0 procedures after ps
+typed_declarations : {env after : Environment} {constants : _} {types : _} {variables : Option (DeclarationPart VarDecl)} {procedures : Procedures} {vs : List Variable} {ps : List Procedure} →
+    Declares env (Tree.Declared constants types variables procedures) after vs ps → (between : Environment) × Variables env (declared_by variables) between vs × DeclaresProcedures between 0 procedures after ps
 typed_declarations (Typing.declarations c t v p) = (_, v, p)
 
 well_typed_part : (m : Module) (program : Program.Program) {env : Environment} {part : Part} → Stands m env part → WellTyped m program → Typed env part

@@ -1,15 +1,15 @@
 -- Parts in which each construct is known: what they hold, and what is well typed, is such a part.
-use Rattle.std.proofs.Common.{◌≡◌, ℕ, Bool, true, false, List, [], ◌∷◌, Option, Some, None, refl, sym, ap, ◌∙◌, if◌then◌else◌}
+use Rattle.std.proofs.Common.{◌≡◌, ℕ, Bool, true, false, List, Option, Some, None, refl, sym, ap, ◌∙◌, if◌then◌else◌}
 use Rattle.std.specs.Option.{option_or}
 use Rattle.ob_syntax.specs.declared.tree.Operator.{Operator}
 use Rattle.ob_syntax.specs.Tree
-use Rattle.ob_syntax.specs.Tree.{Expr, Operands, TypeExpr, Stmt, Stmts, ConstDecl, TypeDecl, VarDecl, Section, Declarations, Procedures, Module}
+use Rattle.ob_syntax.specs.Tree.{Expr, Operands, TypeExpr, Stmt, Stmts, VarDecl, DeclarationPart, Section, Declarations, Procedures, Module}
 use Rattle.ob_check.specs.Program
 use Rattle.ob_check.specs.Program.{Variable, Parameter, Procedure}
 use Rattle.ob_check.specs.Scopes.{Environment}
 use Rattle.ob_check.specs.Typing as Typing
 use Rattle.ob_check.specs.Typing.{HasType, AreOperands, Denotes, IsStatement, AreStatements, IsBody, Variables, Parameters, DeclareNothing, DeclaresProcedures, Declares, WellTyped, IsArithmetic, listed}
-use Rattle.ob_check.specs.FirstPath.{is_arithmetic, all_arithmetic, first_place, outside_expr, outside_operands, outside_type, outside_stmt, outside_stmts, outside_body, outside_variables, outside_sections, first_constant, first_type, first_variable, first_procedure, first_declared, outside_procedure, outside_procedures, outside_declarations, outside}
+use Rattle.ob_check.specs.FirstPath.{is_arithmetic, all_arithmetic, first_place, outside_expr, outside_operands, outside_type, outside_stmt, outside_stmts, outside_body, outside_variables, outside_sections, part_place, first_procedure, first_declared, outside_procedure, outside_procedures, outside_declarations, outside}
 use Rattle.ob_check.specs.Parts as Parts
 use Rattle.ob_check.specs.Parts.{Part, Holds}
 use Rattle.ob_check.specs.Checking.{IsKnown}
@@ -123,7 +123,7 @@ sections_known (Typing.more d n h) = or_none (type_known d) (sections_known h)
 
 nothing_declared : (d : Declarations) → DeclareNothing d → first_declared d ≡ None
 nothing_declared (Tree.Declared constants types variables procedures) h =
-    or_none (ap first_constant h.0) (or_none (ap first_type h.1) (or_none (ap first_variable h.2) (ap first_procedure h.3)))
+    or_none (ap part_place h.0) (or_none (ap part_place h.1) (or_none (ap part_place h.2) (ap first_procedure h.3)))
 
 procedures_known : {env after : Environment} {n : ℕ} {ps : Procedures} {qs : List Procedure} → DeclaresProcedures env n ps after qs → outside_procedures ps ≡ None
 procedures_known Typing.none = refl
@@ -132,24 +132,16 @@ procedures_known (Typing.procedure {inner = inner} new parameters limit nothing 
 
 declarations_known : {env after : Environment} {d : Declarations} {vs : List Variable} {ps : List Procedure} → Declares env d after vs ps → outside_declarations d ≡ None
 declarations_known (Typing.declarations c t v p) =
-    or_none (ap first_constant c) (or_none (ap first_type t) (or_none (variables_known v) (procedures_known p)))
+    or_none (ap part_place c) (or_none (ap part_place t) (or_none (variables_known v) (procedures_known p)))
 
 pub well_typed_known : (m : Module) (program : Program.Program) → WellTyped m program → outside m ≡ None
 well_typed_known m program (Typing.well_typed d words exports body) = or_none (declarations_known d) (body_known body)
 
 -- declarations of which there is none
 
-pub no_constants : (cs : List ConstDecl) → first_constant cs ≡ None → cs ≡ []
-no_constants [] h = refl
-no_constants (c ∷ cs) h = absurd cc
-
-pub no_types : (ts : List TypeDecl) → first_type ts ≡ None → ts ≡ []
-no_types [] h = refl
-no_types (t ∷ ts) h = absurd cc
-
-no_variables : (xs : List VarDecl) → first_variable xs ≡ None → xs ≡ []
-no_variables [] h = refl
-no_variables (x ∷ xs) h = absurd cc
+pub no_part : {A : Type 0} (o : Option (DeclarationPart A)) → part_place o ≡ None → o ≡ None
+no_part None h = refl
+no_part (Some part) h = absurd cc
 
 no_procedures : (ps : Procedures) → first_procedure ps ≡ None → ps ≡ Tree.no_procedure
 no_procedures Tree.no_procedure h = refl
@@ -157,14 +149,14 @@ no_procedures (Tree.procedure heading inner body end_name rest) h = absurd cc
 
 pub declares_nothing : (d : Declarations) → first_declared d ≡ None → DeclareNothing d
 declares_nothing (Tree.Declared constants types variables procedures) h =
-    let c = first_constant (listed constants) in
-    let t = first_type (listed types) in
-    let v = first_variable (listed variables) in
+    let c = part_place constants in
+    let t = part_place types in
+    let v = part_place variables in
     let p = first_procedure procedures in
     let behind = or_second c (option_or t (option_or v p)) h in
     let last = or_second t (option_or v p) behind in (
-      no_constants (listed constants) (or_first c (option_or t (option_or v p)) h),
-      no_types (listed types) (or_first t (option_or v p) behind),
-      no_variables (listed variables) (or_first v p last),
+      no_part constants (or_first c (option_or t (option_or v p)) h),
+      no_part types (or_first t (option_or v p) behind),
+      no_part variables (or_first v p last),
       no_procedures procedures (or_second v p last),
     )

@@ -1,27 +1,26 @@
 -- A whole module: its program, and the faults of its (out-Declarations tree.declarations).
-use Rattle.std.proofs.Common.{◌≡◌, ℕ, ◌≤◌, List, [], Option, Some, None, option_map, length, map, refl, sym, ap, subst, ◌∙◌}
+use Rattle.std.proofs.Common.{◌≡◌, ℕ, ◌≤◌, List, Option, Some, None, option_map, length, map, refl, sym, ap, subst, ◌∙◌}
 use Rattle.std.specs.Option.{option_or}
 use Rattle.ob_syntax.specs.declared.tree.Declarations.{out-Declarations}
 use Rattle.ob_syntax.specs.declared.tree.Module.{Module}
 use Rattle.ob_syntax.specs.declared.tree.Procedure.{Procedure}
 use Rattle.ob_syntax.specs.declared.tree.VarDecl.{VarDecl}
 use Rattle.ob_syntax.specs.Tree
-use Rattle.ob_syntax.specs.View.{const_decl_of, type_decl_of, var_decl_of, procedures_in, module_of}
+use Rattle.ob_syntax.specs.View.{constants_of, types_of, variables_of, var_decl_of, procedures_in, module_of}
 use Rattle.ob_check.specs.declared.checker.CheckFault.{CheckFault}
 use Rattle.ob_check.specs.declared.checker.CheckFault.TheVariants.{UnknownName, DeclaredTwice, WrongKind, PassesLimit, NotSupported, NoMemory}
 use Rattle.ob_check.specs.Program as Program
 use Rattle.ob_check.specs.Program.{Variable, exports}
 use Rattle.ob_check.specs.Scopes.{Environment, variable_words}
 use Rattle.ob_check.specs.Typing as Typing
-use Rattle.ob_check.specs.Typing.{Variables, DeclaresProcedures, IsBody, WellTyped, listed, opening_names}
-use Rattle.ob_check.specs.FirstPath.{first_constant, first_type, outside_variables, outside_procedures, outside_declarations, outside_body, outside}
+use Rattle.ob_check.specs.Typing.{Variables, DeclaresProcedures, IsBody, WellTyped, declared_by, opening_names}
+use Rattle.ob_check.specs.FirstPath.{part_place, outside_variables, outside_procedures, outside_declarations, outside_body, outside}
 use Rattle.ob_check.specs.Parts as Parts
 use Rattle.ob_check.specs.Parts.{Part, SomeVariables, SomeProcedures, SomeStatements, Within, Stands}
 use Rattle.ob_check.specs.CheckFaults.{BreaksRule, IsCheckFault}
 use Rattle.ob_check.specs.Checking.{FailsWithin, IsKnown, IsFaultIn, IsFaultInBody}
 use Rattle.ob_syntax.proofs.Rows.{declarations_of-parts}
-use Rattle.ob_check.proofs.Outside.{listed_seen}
-use Rattle.ob_check.proofs.Known.{or_first, or_second, well_typed_known, no_constants, no_types}
+use Rattle.ob_check.proofs.Known.{or_first, or_second, well_typed_known, no_part}
 use Rattle.ob_check.proofs.IllTyped.{ill_typed}
 
 pub no_memory : (m : Tree.Module) → IsCheckFault m NoMemory
@@ -48,60 +47,57 @@ not_supported m place h = record { fails = h; ill_typed = λ o program w. let e 
 
 -- a module in which each construct is known, with its declarations part by part
 module _ (tree : Module) (whole : outside (module_of tree) ≡ None) where
-  abbrev constants_in : Option (List Tree.ConstDecl)
-  constants_in = option_map (λ cs. map const_decl_of cs.items) (out-Declarations tree.declarations).constants
+  abbrev constants_in : Option (Tree.DeclarationPart Tree.ConstDecl)
+  constants_in = option_map constants_of (out-Declarations tree.declarations).constants
 
-  abbrev types_in : Option (List Tree.TypeDecl)
-  types_in = option_map (λ ts. map type_decl_of ts.items) (out-Declarations tree.declarations).types
+  abbrev types_in : Option (Tree.DeclarationPart Tree.TypeDecl)
+  types_in = option_map types_of (out-Declarations tree.declarations).types
 
-  abbrev variables_in : Option (List Tree.VarDecl)
-  variables_in = option_map (λ vs. map var_decl_of vs.items) (out-Declarations tree.declarations).variables
+  abbrev variables_in : Option (Tree.DeclarationPart Tree.VarDecl)
+  variables_in = option_map variables_of (out-Declarations tree.declarations).variables
 
   abbrev all_procedures : Tree.Procedures
   all_procedures = procedures_in (out-Declarations tree.declarations).procedures.items
 
   record PartsKnown : Type 0 where
-    constants : listed constants_in ≡ []
-    types : listed types_in ≡ []
-    variables : outside_variables (listed variables_in) ≡ None
+    constants : constants_in ≡ None
+    types : types_in ≡ None
+    variables : outside_variables (declared_by variables_in) ≡ None
     procedures : outside_procedures all_procedures ≡ None
     body : outside_body (module_of tree).body ≡ None
 
   known_parts : PartsKnown
   known_parts =
-      let c = first_constant (listed constants_in) in
-      let t = first_type (listed types_in) in
-      let v = outside_variables (listed variables_in) in
+      let c = part_place constants_in in
+      let t = part_place types_in in
+      let v = outside_variables (declared_by variables_in) in
       let p = outside_procedures all_procedures in
       let all = sym (ap outside_declarations (declarations_of-parts tree.declarations)) ∙ or_first (outside_declarations (module_of tree).declarations) (outside_body (module_of tree).body) whole in
       let behind = or_second c (option_or t (option_or v p)) all in
       let last = or_second t (option_or v p) behind in
       record {
-        constants = no_constants (listed constants_in) (or_first c (option_or t (option_or v p)) all);
-        types = no_types (listed types_in) (or_first t (option_or v p) behind);
+        constants = no_part constants_in (or_first c (option_or t (option_or v p)) all);
+        types = no_part types_in (or_first t (option_or v p) behind);
         variables = or_first v p last;
         procedures = or_second v p last;
         body = or_second (outside_declarations (module_of tree).declarations) (outside_body (module_of tree).body) whole;
       }
 
-  module _ (start : Environment) (opening : start ≡ opening_names) (decls : List VarDecl) (listing : decls ≡ listed (option_map (λ v. v.items) (out-Declarations tree.declarations).variables)) where
-    same_variables_in : map var_decl_of decls ≡ listed variables_in
-    same_variables_in = ap (map var_decl_of) listing ∙ listed_seen var_decl_of (out-Declarations tree.declarations).variables
-
+  module _ (start : Environment) (opening : start ≡ opening_names) (decls : List VarDecl) (listing : map var_decl_of decls ≡ declared_by variables_in) where
     pub variables_raised : (e : CheckFault) → IsFaultIn start (SomeVariables 0 (map var_decl_of decls)) e → IsCheckFault (module_of tree) e
     variables_raised e h =
         let P : Environment → Type 0 = λ x. IsFaultIn x (SomeVariables 0 (map var_decl_of decls)) e in
         let Q : List Tree.VarDecl → Type 0 = λ xs. IsFaultIn opening_names (SomeVariables 0 xs) e in
-        raised (module_of tree) opening_names (SomeVariables 0 (listed variables_in)) e known_parts.variables (λ inside innermost w. Parts.in_variables (declarations_of-parts tree.declarations) w)
-        (subst Q same_variables_in (subst P opening h))
+        raised (module_of tree) opening_names (SomeVariables 0 (declared_by variables_in)) e known_parts.variables (λ inside innermost w. Parts.in_variables (declarations_of-parts tree.declarations) w)
+        (subst Q listing (subst P opening h))
 
     module _ (between : Environment) (vs : List Variable) (variables : Variables start (map var_decl_of decls) between vs)
         (procedures : List Procedure) (slice : procedures ≡ (out-Declarations tree.declarations).procedures.items) where
-      declared_variables : Variables opening_names (listed variables_in) between vs
+      declared_variables : Variables opening_names (declared_by variables_in) between vs
       declared_variables =
           let P : Environment → Type 0 = λ x. Variables x (map var_decl_of decls) between vs in
           let Q : List Tree.VarDecl → Type 0 = λ xs. Variables opening_names xs between vs in
-          subst Q same_variables_in (subst P opening variables)
+          subst Q listing (subst P opening variables)
 
       pub procedures_raised : (e : CheckFault) → IsFaultIn between (SomeProcedures 0 0 (procedures_in procedures)) e → IsCheckFault (module_of tree) e
       procedures_raised e h =

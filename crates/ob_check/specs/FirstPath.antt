@@ -1,13 +1,13 @@
 -- The place of the first construct in a part of the tree that the checker does not know yet, in the order of the text. Those are
--- constants, types that are no names, declarations of a procedure's own, calls, IF, WHILE, selectors, and expressions that are
--- neither names, numbers nor sums by `+` and `-`. A construct's place is that of its first token.
+-- CONST and TYPE with what they declare, types that are no names, declarations of a procedure's own, calls, IF, WHILE, selectors,
+-- and expressions that are neither names, numbers nor sums by `+` and `-`. A construct's place is that of its first token.
 use Rattle.std.specs.Prelude.{ℕ, Bool, true, false, List, [], ◌∷◌, Option, Some, None, if◌then◌else◌}
 use Rattle.std.specs.Option.{option_or}
 use Rattle.ob_syntax.specs.declared.tree.Operator.{Operator}
 use Rattle.ob_syntax.specs.declared.tree.Operator.TheVariants.{Plus, Minus}
 use Rattle.ob_syntax.specs.Tree
-use Rattle.ob_syntax.specs.Tree.{Name, Expr, Operands, TypeExpr, Stmt, Stmts, ConstDecl, TypeDecl, VarDecl, Section, Heading, Declarations, Procedures, Module}
-use Rattle.ob_check.specs.Typing.{listed}
+use Rattle.ob_syntax.specs.Tree.{Name, Expr, Operands, TypeExpr, Stmt, Stmts, VarDecl, DeclarationPart, Section, Heading, Declarations, Procedures, Module}
+use Rattle.ob_check.specs.Typing.{listed, declared_by}
 
 -- the place of an expression's first token
 abbrev pub first_place : Expr → ℕ
@@ -74,30 +74,12 @@ abbrev pub outside_sections : List Section → Option ℕ
 outside_sections [] = None
 outside_sections (x ∷ xs) = option_or (outside_type x.of_type) (outside_sections xs)
 
--- declarations of which none is known: the first one
+-- declarations of which none is known
 
-abbrev pub first_constant : List ConstDecl → Option ℕ
-first_constant [] = None
-first_constant (c ∷ cs) = Some c.name.place
-
-abbrev pub first_type : List TypeDecl → Option ℕ
-first_type [] = None
-first_type (t ∷ ts) = Some t.name.place
-
--- the place of a type's first token
-abbrev pub type_place : TypeExpr → ℕ
-type_place (Tree.Called name) = name.place
-type_place (Tree.Array place length element) = place
-type_place (Tree.Record place lists) = place
-
--- the place of the first name of a list, or of its type where there is none
-abbrev pub names_place : List Name → TypeExpr → ℕ
-names_place [] t = type_place t
-names_place (name ∷ names) t = name.place
-
-abbrev pub first_variable : List VarDecl → Option ℕ
-first_variable [] = None
-first_variable (x ∷ xs) = Some (names_place x.names x.of_type)
+-- the keyword of a part
+abbrev pub part_place : {A : Type 0} → Option (DeclarationPart A) → Option ℕ
+part_place None = None
+part_place (Some part) = Some part.place
 
 abbrev pub first_procedure : Procedures → Option ℕ
 first_procedure Tree.no_procedure = None
@@ -106,8 +88,7 @@ first_procedure (Tree.procedure heading inner body end_name rest) = Some heading
 -- within a procedure
 abbrev pub first_declared : Declarations → Option ℕ
 first_declared (Tree.Declared constants types variables procedures) =
-    option_or (first_constant (listed constants)) (option_or (first_type (listed types))
-    (option_or (first_variable (listed variables)) (first_procedure procedures)))
+    option_or (part_place constants) (option_or (part_place types) (option_or (part_place variables) (first_procedure procedures)))
 
 -- declarations of the module
 
@@ -123,8 +104,8 @@ outside_procedures (Tree.procedure heading inner body end_name rest) =
 
 abbrev pub outside_declarations : Declarations → Option ℕ
 outside_declarations (Tree.Declared constants types variables procedures) =
-    option_or (first_constant (listed constants)) (option_or (first_type (listed types))
-    (option_or (outside_variables (listed variables)) (outside_procedures procedures)))
+    option_or (part_place constants) (option_or (part_place types)
+    (option_or (outside_variables (declared_by variables)) (outside_procedures procedures)))
 
 abbrev pub outside : Module → Option ℕ
 outside m = option_or (outside_declarations m.declarations) (outside_body m.body)

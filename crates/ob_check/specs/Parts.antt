@@ -3,11 +3,11 @@ use Rattle.std.specs.Prelude.{◌≡◌, ℕ, suc, ◌+◌, List, [], ◌∷◌,
 use Rattle.ob_syntax.specs.declared.tree.Sign.{Sign}
 use Rattle.ob_syntax.specs.declared.tree.Operator.{Operator}
 use Rattle.ob_syntax.specs.Tree
-use Rattle.ob_syntax.specs.Tree.{Expr, Operands, TypeExpr, Stmt, Stmts, ConstDecl, TypeDecl, VarDecl, Section, Heading, Declarations, Procedures, Module}
+use Rattle.ob_syntax.specs.Tree.{Expr, Operands, TypeExpr, Stmt, Stmts, ConstDecl, TypeDecl, VarDecl, DeclarationPart, Section, Heading, Declarations, Procedures, Module}
 use Rattle.ob_check.specs.declared.program.DataType.TheVariants.{Integer}
 use Rattle.ob_check.specs.Program.{Parameter, Variable, Procedure, formal_of}
 use Rattle.ob_check.specs.Scopes.{Environment, TypeName, ProcedureName, no_names, declared, variable_words}
-use Rattle.ob_check.specs.Typing.{Variables, Parameters, Declares, listed, inner_scope, opening_names}
+use Rattle.ob_check.specs.Typing.{Variables, Parameters, Declares, listed, declared_by, inner_scope, opening_names}
 
 pub data Part : Type 0 where
   -- a name that is declared in the innermost scope
@@ -94,12 +94,12 @@ pub data Within : Environment → Part → Environment → Part → Type 0 where
 
 -- a part of the module, under the names declared there
 pub data Stands (m : Module) : Environment → Part → Type 0 where
-  in_variables : {env : Environment} {part : Part} {constants : Option (List ConstDecl)} {types : Option (List TypeDecl)} {variables : Option (List VarDecl)} {procedures : Procedures} →
+  in_variables : {env : Environment} {part : Part} {constants : Option (DeclarationPart ConstDecl)} {types : Option (DeclarationPart TypeDecl)} {variables : Option (DeclarationPart VarDecl)} {procedures : Procedures} →
       m.declarations ≡ Tree.Declared constants types variables procedures →
-      Within opening_names (SomeVariables 0 (listed variables)) env part → Stands m env part
-  in_procedures : {between env : Environment} {part : Part} {constants : Option (List ConstDecl)} {types : Option (List TypeDecl)} {variables : Option (List VarDecl)} {procedures : Procedures} {vs : List Variable} →
+      Within opening_names (SomeVariables 0 (declared_by variables)) env part → Stands m env part
+  in_procedures : {between env : Environment} {part : Part} {constants : Option (DeclarationPart ConstDecl)} {types : Option (DeclarationPart TypeDecl)} {variables : Option (DeclarationPart VarDecl)} {procedures : Procedures} {vs : List Variable} →
       m.declarations ≡ Tree.Declared constants types variables procedures →
-      Variables opening_names (listed variables) between vs →
+      Variables opening_names (declared_by variables) between vs →
       Within between (SomeProcedures 0 0 procedures) env part → Stands m env part
   in_body : {inside env : Environment} {part : Part} {body : Stmts} {vs : List Variable} {ps : List Procedure} →
       m.body ≡ Some body → Declares opening_names m.declarations inside vs ps →

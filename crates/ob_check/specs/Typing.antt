@@ -3,7 +3,7 @@ use Rattle.std.specs.Prelude.{◌≡◌, ℕ, suc, ◌≤◌, Bool, List, [], �
 use Rattle.ob_syntax.specs.declared.tree.Operator.{Operator}
 use Rattle.ob_syntax.specs.declared.tree.Sign.{Sign}
 use Rattle.ob_syntax.specs.Tree
-use Rattle.ob_syntax.specs.Tree.{Expr, Operands, TypeExpr, Stmt, Stmts, ConstDecl, TypeDecl, VarDecl, Section, Heading, Declarations, Procedures, Module}
+use Rattle.ob_syntax.specs.Tree.{Expr, Operands, TypeExpr, Stmt, Stmts, ConstDecl, TypeDecl, VarDecl, DeclarationPart, Section, Heading, Declarations, Procedures, Module}
 use Rattle.ob_check.specs.declared.program.DataType.{DataType}
 use Rattle.ob_check.specs.declared.program.DataType.TheVariants.{Integer}
 use Rattle.ob_check.specs.declared.program.Arithmetic.{Arithmetic}
@@ -22,10 +22,15 @@ abbrev pub with_sign : Option Sign → Expression → Expression
 with_sign None e = e
 with_sign (Some sign) e = if sign.is_minus then Negated e else e
 
--- a list whose keyword or parentheses do not stand is empty
+-- a list whose parentheses or keyword do not stand is empty
 abbrev pub listed : {A : Type 0} → Option (List A) → List A
 listed None = []
 listed (Some xs) = xs
+
+-- what a part declares: nothing, where its keyword does not stand
+abbrev pub declared_by : {A : Type 0} → Option (DeclarationPart A) → List A
+declared_by None = []
+declared_by (Some part) = part.declared
 
 module _ (env : Environment) where
   -- this name is a variable of this type
@@ -109,10 +114,10 @@ abbrev pub inner_scope : Environment → Environment → Environment
 inner_scope [] env = env
 inner_scope (scope ∷ outer) env = scope ∷ env
 
--- no constant, type, variable or procedure, whatever keywords stand
+-- no CONST, TYPE, VAR or procedure
 abbrev pub DeclareNothing : Declarations → Type 0
 DeclareNothing (Tree.Declared constants types variables procedures) =
-    (listed constants ≡ []) × (listed types ≡ []) × (listed variables ≡ []) × (procedures ≡ Tree.no_procedure)
+    (constants ≡ None) × (types ≡ None) × (variables ≡ None) × (procedures ≡ Tree.no_procedure)
 
 -- procedures in the order of their headings, numbered from n
 pub data DeclaresProcedures : Environment → ℕ → Procedures → Environment → List Procedure → Type 0 where
@@ -131,10 +136,10 @@ pub data DeclaresProcedures : Environment → ℕ → Procedures → Environment
 
 -- declarations, with the variables and procedures that they declare
 pub data Declares : Environment → Declarations → Environment → List Variable → List Procedure → Type 0 where
-  declarations : {env between after : Environment} {constants : Option (List ConstDecl)} {types : Option (List TypeDecl)}
-      {variables : Option (List VarDecl)} {procedures : Procedures} {vs : List Variable} {ps : List Procedure} →
-      listed constants ≡ [] → listed types ≡ [] →
-      Variables env (listed variables) between vs → DeclaresProcedures between 0 procedures after ps →
+  declarations : {env between after : Environment} {constants : Option (DeclarationPart ConstDecl)} {types : Option (DeclarationPart TypeDecl)}
+      {variables : Option (DeclarationPart VarDecl)} {procedures : Procedures} {vs : List Variable} {ps : List Procedure} →
+      constants ≡ None → types ≡ None →
+      Variables env (declared_by variables) between vs → DeclaresProcedures between 0 procedures after ps →
       Declares env (Tree.Declared constants types variables procedures) after vs ps
 
 -- the names that a module's text begins under: its own scope, still empty, in the outermost one

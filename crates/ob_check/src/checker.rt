@@ -1,8 +1,8 @@
 //! The checker: from the tree of a module to its checked program.
 
-ghost use Rattle.std.specs.Prelude.{◌≡◌, ℕ, IfOk, IfErr, option_map};
-ghost use Rattle.ob_syntax.specs.View.{module_of};
-ghost use Rattle.ob_check.specs.Typing.{WellTyped, listed};
+ghost use Rattle.std.specs.Prelude.{◌≡◌, ℕ, IfOk, IfErr, map, option_map};
+ghost use Rattle.ob_syntax.specs.View.{var_decl_of, variables_of, module_of};
+ghost use Rattle.ob_check.specs.Typing.{WellTyped, listed, declared_by};
 ghost use Rattle.ob_check.specs.FirstPath.{outside};
 ghost use Rattle.ob_check.specs.CheckedModule.{tree_in, program_in};
 ghost use Rattle.ob_check.specs.CheckFaults.{IsCheckFault};
@@ -21,7 +21,7 @@ use crate::checked::Checked;
 use crate::program::Program;
 use exports::exports_of;
 use first_path::outside;
-use ob_syntax::tree::Module;
+use ob_syntax::tree::{Module, VarDecl, Variables};
 use procedures::declare_procedures;
 use scopes::Scopes;
 use statements::checked_body;
@@ -103,7 +103,11 @@ fn checked_program(alloc: Global, tree: &Module) -> Result<Program, CheckFault>
     ensures fault { IfErr result (λ e. IsCheckFault (module_of tree.now) e) }
 {
     let mut scopes = Scopes::new(alloc)?;
-    let variables = declare_variables(alloc, &mut scopes, listed(&tree.declarations.variables))?;
+    let variables = declare_variables(
+        alloc,
+        &mut scopes,
+        declared_variables(&tree.declarations.variables),
+    )?;
     let procedures = declare_procedures(alloc, &mut scopes, &tree.declarations.procedures)?;
     let body = checked_body(alloc, &scopes, &tree.body)?;
     Ok(Program {
@@ -113,7 +117,17 @@ fn checked_program(alloc: Global, tree: &Module) -> Result<Program, CheckFault>
     })
 }
 
-/// A list whose keyword or parentheses do not stand is empty.
+/// The variables behind VAR; none where it does not stand.
+fn declared_variables(variables: &Option<Variables>) -> &[VarDecl]
+    ensures { map var_decl_of result.now ≡ declared_by (option_map variables_of variables.now) }
+{
+    match variables {
+        Some(part) => part.declared.as_slice(),
+        None => &[],
+    }
+}
+
+/// A list whose parentheses or keyword do not stand is empty.
 fn listed<T>(list: &Option<Vec<T>>) -> &[T]
     ensures { result.now ≡ listed (option_map (λ v. v.items) list.now) }
 {

@@ -5,10 +5,10 @@ use Rattle.ob_scan.specs.Spelling.{number_value}
 use Rattle.ob_scan.specs.Lexemes.{lexeme}
 use Rattle.ob_syntax.specs.declared.tree.Sign.{Sign}
 use Rattle.ob_syntax.specs.Tree
-use Rattle.ob_syntax.specs.Tree.{Name, Expr, Operands, no_operand, operand, Selectors, no_selector, TypeExpr, FieldLists, no_list, empty_list, Stmt, Stmts, no_stmt, stmt, Branches, no_branch, branch, Otherwise, no_else, else', ConstDecl, TypeDecl, VarDecl, Section, Heading, Declarations, Declared, Procedures, no_procedure, Module}
+use Rattle.ob_syntax.specs.Tree.{Name, Expr, Operands, no_operand, operand, Selectors, no_selector, TypeExpr, FieldLists, no_list, empty_list, Stmt, Stmts, no_stmt, stmt, Branches, no_branch, branch, Otherwise, no_else, else', ConstDecl, TypeDecl, VarDecl, DeclarationPart, Section, Heading, Declarations, Declared, Procedures, no_procedure, Module}
 use Rattle.ob_syntax.specs.Grammar
-use Rattle.ob_syntax.specs.Grammar.{Lexemes, Phrase, TakesAt, Takes, takes, TakesName, TakesWord, Each, Separated, Perhaps, Behind, TakesSign, Expression, SimpleExpression, Terms, Term, Factors, Factor, Selector, IdentList, IsType, FieldList, MoreFields, ActualParameters, Statement, StatementSequence, MoreStatements, Alternative, MoreAlternatives, ElsePart, ConstDeclaration, TypeDeclaration, VarDeclaration, FPSection, FormalParameters, ProcedureHeading, BodyPart, DeclarationsPart, ProcedureDeclarations, ModuleText, Derives}
-use Rattle.ob_syntax.specs.Places.{bare_name, bare_sign, bare_expr, bare_operands, bare_selectors, bare_type, bare_fields, bare_stmt, bare_stmts, bare_branches, bare_otherwise, bare_const, bare_type_decl, bare_variables, bare_section, bare_heading, bare_declarations, bare_procedures, bare}
+use Rattle.ob_syntax.specs.Grammar.{Lexemes, Phrase, TakesAt, Takes, takes, TakesName, TakesWord, Each, Separated, Perhaps, Behind, PartBehind, TakesSign, Expression, SimpleExpression, Terms, Term, Factors, Factor, Selector, IdentList, IsType, FieldList, MoreFields, ActualParameters, Statement, StatementSequence, MoreStatements, Alternative, MoreAlternatives, ElsePart, ConstDeclaration, TypeDeclaration, VarDeclaration, FPSection, FormalParameters, ProcedureHeading, BodyPart, DeclarationsPart, ProcedureDeclarations, ModuleText, Derives}
+use Rattle.ob_syntax.specs.Places.{bare_name, bare_sign, bare_expr, bare_operands, bare_selectors, bare_type, bare_fields, bare_stmt, bare_stmts, bare_branches, bare_otherwise, bare_const, bare_type_decl, bare_variables, bare_part, bare_section, bare_heading, bare_declarations, bare_procedures, bare}
 
 -- tokens of the same kinds, each name with the same bytes, each number with the same value
 pub data Alike : Lexemes → Lexemes → Type 0 where
@@ -137,9 +137,22 @@ behind h (Grammar.behind t d) l =
     record { tree = p.tree; rest = p.rest; derives = Grammar.behind (takes_of s) p.derives; same = p.same; alike = p.alike }
 
 -- a keyword, and each declaration behind it
-part : {A : Type 0} {R : Phrase A} {f : A → A} {kind : Kind} {a b c : Lexemes} {x : Option (List A)} → ReadsAlike R f →
-    Perhaps (Behind kind (Each R)) a x b → Alike a c → LeadsAlike (Perhaps (Behind kind (Each R))) (option_map (map f)) x b c
-part h d l = optional (record { reads = λ e. behind (record { reads = λ g. each h g }) e }) d l
+part_behind : {A : Type 0} {R : Phrase A} {f : A → A} {kind : Kind} {a b c : Lexemes} {x : DeclarationPart A} → ReadsAlike R f →
+    PartBehind kind (Each R) a x b → Alike a c → LeadsAlike (PartBehind kind (Each R)) (bare_part f) x b c
+part_behind h (Grammar.part t d) l =
+    let s = at t l in
+    let p = each h d s.alike in
+    record {
+      tree = record { place = s.place; declared = p.tree };
+      rest = p.rest;
+      derives = Grammar.part s.taken p.derives;
+      same = λ i. record { place = 0; declared = p.same i };
+      alike = p.alike;
+    }
+
+part : {A : Type 0} {R : Phrase A} {f : A → A} {kind : Kind} {a b c : Lexemes} {x : Option (DeclarationPart A)} → ReadsAlike R f →
+    Perhaps (PartBehind kind (Each R)) a x b → Alike a c → LeadsAlike (Perhaps (PartBehind kind (Each R))) (option_map (bare_part f)) x b c
+part h d l = optional (record { reads = λ e. part_behind h e }) d l
 
 -- The productions.
 

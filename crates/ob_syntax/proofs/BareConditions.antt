@@ -3,9 +3,9 @@ use Rattle.std.proofs.Common.{◌≡◌, ℕ, ◌+◌, Bool, true, false, List, 
 use Rattle.std.specs.Prelude.{if◌then◌else◌, nat_le}
 use Rattle.std.specs.Option.{option_map_or}
 use Rattle.std.specs.Str.{bytes_eq}
-use Rattle.ob_syntax.specs.Tree.{Name, Expr, Number, Named, Parens, Not, Product, Sum, Comparison, Operands, no_operand, operand, Selectors, no_selector, field, index, TypeExpr, Called, Array, Record, FieldLists, no_list, empty_list, fields, Stmt, Empty, Assign, Call, If, While, Stmts, no_stmt, stmt, Branches, no_branch, branch, Otherwise, no_else, else', Declarations, Declared, Procedures, no_procedure, procedure, Module}
+use Rattle.ob_syntax.specs.Tree.{Name, Expr, Number, Named, Parens, Not, Product, Sum, Comparison, Operands, no_operand, operand, Selectors, no_selector, field, index, TypeExpr, Called, Array, Record, FieldLists, no_list, empty_list, fields, Stmt, Empty, Assign, Call, If, While, Stmts, no_stmt, stmt, Branches, no_branch, branch, Otherwise, no_else, else', DeclarationPart, Declarations, Declared, Procedures, no_procedure, procedure, Module}
 use Rattle.ob_syntax.specs.Conditions.{Breach, name_differs, too_deep, limit, opening, differing, in_expr, in_operands, in_selectors, in_type, in_fields, in_stmt, in_stmts, in_branches, in_otherwise, in_body, in_declarations, in_procedures, breaches, KeepsConditions}
-use Rattle.ob_syntax.specs.Places.{bare_name, bare_expr, bare_operands, bare_selectors, bare_type, bare_fields, bare_stmt, bare_stmts, bare_branches, bare_otherwise, bare_const, bare_type_decl, bare_variables, bare_section, bare_declarations, bare_procedures, bare}
+use Rattle.ob_syntax.specs.Places.{bare_name, bare_expr, bare_operands, bare_selectors, bare_type, bare_fields, bare_stmt, bare_stmts, bare_branches, bare_otherwise, bare_const, bare_type_decl, bare_variables, bare_part, bare_section, bare_declarations, bare_procedures, bare}
 
 -- as many breaches
 record AsMany (xs ys : List Breach) : Type 0 where
@@ -44,6 +44,10 @@ perhaps f g h (Some x) = h x
 perhaps_each : {A : Type 0} (f : A → List Breach) (g : A → A) → ((x : A) → AsMany (f (g x)) (f x)) → (o : Option (List A)) →
     AsMany (option_map_or (flat_map f) (option_map (map g) o) []) (option_map_or (flat_map f) o [])
 perhaps_each f g h = perhaps (flat_map f) (map g) (each f g h)
+
+perhaps_part : {A : Type 0} (f : A → List Breach) (g : A → A) → ((x : A) → AsMany (f (g x)) (f x)) → (o : Option (DeclarationPart A)) →
+    AsMany (option_map_or (λ p. flat_map f p.declared) (option_map (bare_part g) o) []) (option_map_or (λ p. flat_map f p.declared) o [])
+perhaps_part f g h = perhaps (λ p. flat_map f p.declared) (bare_part g) (λ p. each f g h p.declared)
 
 mutual
   expr : (n : ℕ) (e : Expr) → AsMany (in_expr n (bare_expr e)) (in_expr n e)
@@ -101,9 +105,9 @@ body_part n = perhaps (in_stmts n) bare_stmts (statements n)
 mutual
   declared : (n : ℕ) (d : Declarations) → AsMany (in_declarations n (bare_declarations d)) (in_declarations n d)
   declared n (Declared constants types variables ps) =
-      joined (perhaps_each (λ c. in_expr n c.value) bare_const (λ c. expr n c.value) constants)
-      (joined (perhaps_each (λ t. in_type n t.definition) bare_type_decl (λ t. type_expr n t.definition) types)
-      (joined (perhaps_each (λ v. in_type n v.of_type) bare_variables (λ v. type_expr n v.of_type) variables)
+      joined (perhaps_part (λ c. in_expr n c.value) bare_const (λ c. expr n c.value) constants)
+      (joined (perhaps_part (λ t. in_type n t.definition) bare_type_decl (λ t. type_expr n t.definition) types)
+      (joined (perhaps_part (λ v. in_type n v.of_type) bare_variables (λ v. type_expr n v.of_type) variables)
       (procedures n ps)))
 
   procedures : (n : ℕ) (ps : Procedures) → AsMany (in_procedures n (bare_procedures ps)) (in_procedures n ps)

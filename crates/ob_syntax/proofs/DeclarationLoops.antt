@@ -1,14 +1,14 @@
 -- What the loops on types and declarations have read, in front of what is left.
-use Rattle.std.proofs.Common.{◌≡◌, List, [], ◌∷◌, ◌++◌, refl, ◌∙◌, ap, Vec, Global, Option, map, option_map}
+use Rattle.std.proofs.Common.{◌≡◌, List, [], ◌∷◌, ◌++◌, refl, ◌∙◌, ap, Vec, Global, Option, option_map}
 use mathlib.Core.Former.{Count}
 use Rattle.ob_syntax.specs.declared.tree.FieldList.{FieldList}
 use Rattle.ob_syntax.specs.declared.tree.FieldList.TheVariants.{Empty, Fields}
 use Rattle.ob_syntax.specs.declared.parser.declarations.Heading.{Heading}
 use Rattle.ob_syntax.specs.declared.tree.Name.{Name}
 use Rattle.ob_syntax.specs.declared.tree.Stmt.{Stmt}
-use Rattle.ob_syntax.specs.declared.tree.ConstDecl.{ConstDecl}
-use Rattle.ob_syntax.specs.declared.tree.TypeDecl.{TypeDecl}
-use Rattle.ob_syntax.specs.declared.tree.VarDecl.{VarDecl}
+use Rattle.ob_syntax.specs.declared.tree.Constants.{Constants}
+use Rattle.ob_syntax.specs.declared.tree.Types.{Types}
+use Rattle.ob_syntax.specs.declared.tree.Variables.{Variables}
 use Rattle.ob_syntax.specs.declared.tree.Procedure.{Procedure}
 use Rattle.ob_syntax.specs.declared.tree.Declarations.{Declarations, Declarations', Row_of-Procedure, items_hidden-the_row-Procedure-0}
 use Rattle.ob_syntax.specs.declared.tree.Declarations.TheViews.{roll-Declarations, roll-Procedure, out-Procedure}
@@ -16,7 +16,7 @@ use Rattle.ob_syntax.specs.declared.tree.Declarations.TheBlock.{hidden-the_row-P
 use denote.Hole.Carrier.{roll, out}
 use Rattle.ob_syntax.specs.Tree
 use Rattle.ob_syntax.specs.Tree.{FieldLists, Procedures}
-use Rattle.ob_syntax.specs.View.{fields_in, name_of, const_decl_of, type_decl_of, var_decl_of, declarations_of, procedure_before, procedures_in, stmts_in}
+use Rattle.ob_syntax.specs.View.{fields_in, name_of, constants_of, types_of, variables_of, declarations_of, procedure_before, procedures_in, stmts_in}
 use Rattle.ob_syntax.specs.Forms.{list_in_front}
 use Rattle.ob_syntax.specs.Answers.{field_list_of, procedure_of, heading_in}
 use Rattle.ob_syntax.proofs.Rows.{procedures_row}
@@ -56,17 +56,17 @@ abbrev procedure_row_of : Declarations → (n : Count) × Row_of-Procedure n
 procedure_row_of (Declarations' constants types variables shape procedures) = (_, procedures)
 
 -- declarations, with their procedures as a list
-pub declarations_of-declared : (constants : Option (Vec ConstDecl Global)) (types : Option (Vec TypeDecl Global)) (variables : Option (Vec VarDecl Global))
+pub declarations_of-declared : (constants : Option Constants) (types : Option Types) (variables : Option Variables)
     (procedures : Vec Procedure Global) →
     declarations_of (roll-Declarations (record { constants = constants; types = types; variables = variables; procedures = procedures }))
-    ≡ Tree.Declared (option_map (λ xs. map const_decl_of xs.items) constants) (option_map (λ xs. map type_decl_of xs.items) types)
-    (option_map (λ xs. map var_decl_of xs.items) variables) (procedures_in procedures.items)
+    ≡ Tree.Declared (option_map constants_of constants) (option_map types_of types)
+    (option_map variables_of variables) (procedures_in procedures.items)
 unfolding roll-Declarations hidden-the_row-Procedure-0 roll
 declarations_of-declared constants types variables procedures =
     let made = roll-Declarations (record { constants = constants; types = types; variables = variables; procedures = procedures }) in
     let row = procedure_row_of made in
-    ap (Tree.Declared (option_map (λ xs. map const_decl_of xs.items) constants) (option_map (λ xs. map type_decl_of xs.items) types)
-    (option_map (λ xs. map var_decl_of xs.items) variables))
+    ap (Tree.Declared (option_map constants_of constants) (option_map types_of types)
+    (option_map variables_of variables))
     (procedures_row row.0 row.1 ∙ ap procedures_in (items_hidden-the_row-Procedure-0 procedures))
 
 -- a procedure, from its parts

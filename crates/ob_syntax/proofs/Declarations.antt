@@ -4,7 +4,7 @@ use Rattle.std.proofs.lemmas.List.{append-nil}
 use Rattle.ob_scan.specs.declared.token.Kind.{Kind}
 use Rattle.ob_scan.specs.Lexemes.{lexeme}
 use Rattle.ob_syntax.specs.Tree
-use Rattle.ob_syntax.specs.Tree.{Name, Expr, Stmts, TypeExpr, ConstDecl, TypeDecl, VarDecl, Section, Heading, Declarations, Procedures, no_procedure, Module}
+use Rattle.ob_syntax.specs.Tree.{Name, Expr, Stmts, TypeExpr, ConstDecl, TypeDecl, VarDecl, DeclarationPart, Section, Heading, Declarations, Procedures, no_procedure, Module}
 use Rattle.ob_syntax.specs.Grammar
 use Rattle.ob_syntax.specs.Grammar.{Lexemes, Phrase, Takes, TakesAt, TakesName, TakesWord, Perhaps, Separated, Expression, IdentList, IsType, ConstDeclaration, TypeDeclaration, VarDeclaration, FPSection, FormalParameters, ProcedureHeading, BodyPart, DeclarationsPart, ProcedureDeclarations, ModuleText}
 use Rattle.ob_syntax.specs.Conditions.{limit, differing, in_expr, in_type, in_constants, in_types, in_variables, in_parameters, in_declarations, in_body, in_procedures}
@@ -13,7 +13,7 @@ use Rattle.ob_syntax.specs.Forms as forms
 use Rattle.ob_syntax.specs.Forms.{token, opens, Both, both, linked, ProcedureTree, ProcedureDeclaration, declares}
 use Rattle.ob_syntax.specs.Answers.{State, Went}
 use Rattle.ob_syntax.proofs.Steps.{Leads, Follows, Fills, Begins, Passes, takes_same, no_takes_same, same_token, stops_at, not_stopped, nothing_stops, weaker, before, closed, across, across_last, fill_token, fill_both}
-use Rattle.ob_syntax.proofs.Phrases.{Optional, Repeated, Listed, begins_behind, fill_perhaps, fill_word, passes_perhaps}
+use Rattle.ob_syntax.proofs.Phrases.{Optional, Repeated, Listed, begins_part, fill_perhaps, fill_word, passes_perhaps}
 use Rattle.ob_syntax.proofs.States.{Path, past_linked}
 use Rattle.ob_syntax.proofs.Openings.{not_deep}
 use Rattle.ob_syntax.proofs.Names.{begins_name, begins_ident_list, fill_name, fill_end_name}
@@ -69,8 +69,8 @@ ident_of_constants Kind.Ident h = h
 ident_of_constants _ h = refl
 
 pub optional_constants : {n : ℕ} →
-    Optional forms.constants_go_on (in_constants n) (forms.behind Kind.Const (forms.const_declarations n)) Kind.Const
-optional_constants = record { begins = begins_behind; absent = refl; inner = ident_of_constants; none = refl; some = λ x. refl }
+    Optional forms.constants_go_on (in_constants n) (forms.part Kind.Const (forms.const_declarations n)) Kind.Const
+optional_constants {n = n} = record { begins = begins_part (forms.const_declarations n); absent = refl; inner = ident_of_constants; none = refl; some = λ x. refl }
 
 -- ident "=" type ";"
 
@@ -107,8 +107,8 @@ ident_of_types Kind.Ident h = h
 ident_of_types _ h = refl
 
 pub optional_types : {n : ℕ} →
-    Optional forms.types_go_on (in_types n) (forms.behind Kind.«Type» (forms.type_declarations n)) Kind.«Type»
-optional_types = record { begins = begins_behind; absent = refl; inner = ident_of_types; none = refl; some = λ x. refl }
+    Optional forms.types_go_on (in_types n) (forms.part Kind.«Type» (forms.type_declarations n)) Kind.«Type»
+optional_types {n = n} = record { begins = begins_part (forms.type_declarations n); absent = refl; inner = ident_of_types; none = refl; some = λ x. refl }
 
 -- IdentList ":" type ";"
 
@@ -146,8 +146,8 @@ ident_of_variables Kind.Ident h = h
 ident_of_variables _ h = refl
 
 pub optional_variables : {n : ℕ} →
-    Optional forms.variables_go_on (in_variables n) (forms.behind Kind.Var (forms.var_declarations n)) Kind.Var
-optional_variables = record { begins = begins_behind; absent = refl; inner = ident_of_variables; none = refl; some = λ x. refl }
+    Optional forms.variables_go_on (in_variables n) (forms.part Kind.Var (forms.var_declarations n)) Kind.Var
+optional_variables {n = n} = record { begins = begins_part (forms.var_declarations n); absent = refl; inner = ident_of_variables; none = refl; some = λ x. refl }
 
 -- FPSection = ["VAR"] IdentList ":" type
 
@@ -538,7 +538,7 @@ passes_procedures : {A : Type 0} {F : Form A} {n : ℕ} → F.continues Kind.Pro
 passes_procedures e = record { passes = λ a x rest d s. procedures_stop e d s }
 
 declarations_only : (n : ℕ) {a rest : Lexemes} {y : Declarations} → DeclarationsPart a y rest →
-    (x : Option (List ConstDecl) × (Option (List TypeDecl) × (Option (List VarDecl) × Procedures)))
+    (x : Option (DeclarationPart ConstDecl) × (Option (DeclarationPart TypeDecl) × (Option (DeclarationPart VarDecl) × Procedures)))
     × (y ≡ Tree.Declared x.0 x.1.0 x.1.1.0 x.1.1.1)
     × (both (forms.constants n) (both (forms.types n) (both (forms.variables n) (last_procedures n)))).relation a x rest
 declarations_only n (Grammar.declarations {constants = constants} {types = types} {variables = variables} {procedures = procedures} d e f g) =

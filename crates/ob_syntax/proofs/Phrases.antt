@@ -1,7 +1,8 @@
 -- The phrases that hold other phrases: what is left of each, by the token that stands there. Each lemma once, over any form.
 use Rattle.std.proofs.Common.{drop, ◌≡◌, ℕ, suc, Bool, true, false, List, [], ◌∷◌, ◌++◌, Option, Some, None, refl, sym, ◌∙◌, ap, subst, arith}
 use Rattle.ob_scan.specs.declared.token.Kind.{Kind}
-use Rattle.ob_syntax.specs.Grammar.{Lexemes, Phrase, Takes, TakesAt, takes, TakesWord, Each, Separated, Perhaps, Behind}
+use Rattle.ob_syntax.specs.Grammar.{Lexemes, Phrase, Takes, TakesAt, takes, TakesWord, Each, Separated, Perhaps, Behind, PartBehind}
+use Rattle.ob_syntax.specs.Tree.{DeclarationPart}
 use Rattle.ob_syntax.specs.Grammar as Grammar
 use Rattle.ob_syntax.specs.Conditions.{Breach}
 use Rattle.ob_syntax.specs.Reading.{Form, Stops, Reads, kind_at, place_at}
@@ -127,6 +128,25 @@ leads_behind = record {
 
 pub begins_behind : {A : Type 0} {F : Form A} {kind : Kind} → Begins (forms.behind kind F) kind
 begins_behind = record { begins = λ a x rest d. (let m = behind_only d in (m.0.0, m.2.0, m.2.1)) }
+
+-- "word" phrase, with the place of the word
+
+part_only : {A : Type 0} {kind : Kind} {R : Phrase (List A)} {a rest : Lexemes} {y : DeclarationPart A} → PartBehind kind R a y rest →
+    (x : ℕ × List A) × (y ≡ record { place = x.0; declared = x.1 }) × Both (λ b place c. TakesAt kind place b c) R a x rest
+part_only (Grammar.part {x = x} t d) = ((x.place, x.declared), refl, (_, t, d))
+
+pub leads_part : {A : Type 0} (F : Form (List A)) {kind : Kind} {tokens : Lexemes} {p : ℕ} →
+    Leads (forms.part kind F) tokens p (both (token kind) F) p (λ x. record { place = x.0; declared = x.1 })
+leads_part F = record {
+  order = omega arith;
+  within = λ h. h;
+  into = λ other same x rest d. Grammar.part d.1 d.2;
+  onto = λ other same y rest d stops. (let m = part_only d in (m.0, m.1, m.2, stops));
+  breaches = λ x. refl;
+}
+
+pub begins_part : {A : Type 0} (F : Form (List A)) {kind : Kind} → Begins (forms.part kind F) kind
+begins_part F = record { begins = λ a x rest d. (let m = part_only d in (m.0.0, m.2.0, m.2.1)) }
 
 -- {phrase}
 

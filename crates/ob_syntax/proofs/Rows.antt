@@ -19,7 +19,7 @@ use Rattle.ob_syntax.specs.declared.tree.Declarations.{Declarations, Declaration
 use Rattle.ob_syntax.specs.declared.tree.Declarations.TheViews.{out-Declarations, out-Procedure}
 use Rattle.ob_syntax.specs.declared.tree.Procedure.{Procedure'}
 use Rattle.ob_syntax.specs.Tree
-use Rattle.ob_syntax.specs.View.{name_of, expr_of, operands_of, operands_in, selectors_of, selectors_in, type_of, fields_of, fields_in, stmt_of, stmts_of, stmts_in, branches_of, branches_in, else_of, const_decl_of, type_decl_of, var_decl_of, declarations_of, procedures_of, procedures_in, procedure_before}
+use Rattle.ob_syntax.specs.View.{name_of, expr_of, operands_of, operands_in, selectors_of, selectors_in, type_of, fields_of, fields_in, stmt_of, stmts_of, stmts_in, branches_of, branches_in, else_of, constants_of, types_of, variables_of, declarations_of, procedures_of, procedures_in, procedure_before}
 use Rattle.ob_syntax.specs.Answers.{otherwise_of}
 
 -- expressions
@@ -129,10 +129,10 @@ procedures_row n (more_of-Procedure (Procedure' place name is_exported parameter
 
 pub declarations_of-parts : (d : Declarations) →
     declarations_of d
-    ≡ Tree.Declared (option_map (λ cs. map const_decl_of cs.items) (out-Declarations d).constants) (option_map (λ ts. map type_decl_of ts.items) (out-Declarations d).types)
-    (option_map (λ vs. map var_decl_of vs.items) (out-Declarations d).variables) (procedures_in (out-Declarations d).procedures.items)
+    ≡ Tree.Declared (option_map constants_of (out-Declarations d).constants) (option_map types_of (out-Declarations d).types)
+    (option_map variables_of (out-Declarations d).variables) (procedures_in (out-Declarations d).procedures.items)
 unfolding out-Declarations out
 declarations_of-parts (Declarations' constants types variables shape procedures) =
-    ap (Tree.Declared (option_map (λ cs. map const_decl_of cs.items) constants) (option_map (λ ts. map type_decl_of ts.items) types)
-    (option_map (λ vs. map var_decl_of vs.items) variables))
+    ap (Tree.Declared (option_map constants_of constants) (option_map types_of types)
+    (option_map variables_of variables))
     (procedures_row _ procedures ∙ ap procedures_in (sym (items_shown-the_row-Procedure-0 shape procedures)))

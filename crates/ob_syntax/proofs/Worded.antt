@@ -8,9 +8,9 @@ use Rattle.ob_scan.specs.Spelling.{fixed_spelling, number_value}
 use Rattle.ob_scan.specs.Lexemes.{Lexeme, lexeme}
 use Rattle.ob_syntax.specs.declared.tree.Operator.{Operator}
 use Rattle.ob_syntax.specs.declared.tree.Sign.{Sign}
-use Rattle.ob_syntax.specs.Tree.{Name, Expr, Operands, Selectors, TypeExpr, FieldLists, Stmt, Stmts, Branches, Otherwise, ConstDecl, TypeDecl, VarDecl, Section, Heading, Declarations, Procedures, Module}
+use Rattle.ob_syntax.specs.Tree.{Name, Expr, Operands, Selectors, TypeExpr, FieldLists, Stmt, Stmts, Branches, Otherwise, ConstDecl, TypeDecl, VarDecl, DeclarationPart, Section, Heading, Declarations, Procedures, Module}
 use Rattle.ob_syntax.specs.Grammar
-use Rattle.ob_syntax.specs.Grammar.{Lexemes, Phrase, TakesAt, Takes, TakesName, TakesWord, Each, Separated, Perhaps, Behind, IsRelation, IsAddition, IsMultiplication, TakesSign, Expression, SimpleExpression, Terms, Term, Factors, Factor, Selector, IdentList, IsType, FieldList, MoreFields, ActualParameters, Statement, StatementSequence, MoreStatements, Alternative, MoreAlternatives, ElsePart, ConstDeclaration, TypeDeclaration, VarDeclaration, FPSection, FormalParameters, ProcedureHeading, BodyPart, DeclarationsPart, ProcedureDeclarations, ModuleText, Derives}
+use Rattle.ob_syntax.specs.Grammar.{Lexemes, Phrase, TakesAt, Takes, TakesName, TakesWord, Each, Separated, Perhaps, Behind, PartBehind, IsRelation, IsAddition, IsMultiplication, TakesSign, Expression, SimpleExpression, Terms, Term, Factors, Factor, Selector, IdentList, IsType, FieldList, MoreFields, ActualParameters, Statement, StatementSequence, MoreStatements, Alternative, MoreAlternatives, ElsePart, ConstDeclaration, TypeDeclaration, VarDeclaration, FPSection, FormalParameters, ProcedureHeading, BodyPart, DeclarationsPart, ProcedureDeclarations, ModuleText, Derives}
 use Rattle.ob_syntax.specs.Printing.{Word, fixed, ident, operator_kind, sign_words, between, perhaps, name_words, expr_words, operand_words, selector_words, type_words, field_words, more_field_words, actual_words, stmt_words, stmts_words, more_stmts_words, branch_words, more_branch_words, else_words, body_words, const_words, type_decl_words, var_decl_words, section_words, parameter_words, heading_words, part_words, declaration_words, procedure_words, words_behind}
 
 -- the bytes of a token that has no fixed spelling, as they are printed
@@ -119,9 +119,13 @@ behind e h = record { keeps = λ d. behind_words e h d }
     behind_words e h (Grammar.behind t p) = next (word e t) (h.keeps p)
 
 -- a keyword, and each declaration behind it
-part : {A : Type 0} {R : Phrase A} {words : A → List Word} {kind : Kind} {bytes : List ℕ} {a b : Lexemes} {x : Option (List A)} →
-    fixed_spelling kind ≡ Some bytes → Keeps R words → Perhaps (Behind kind (Each R)) a x b → Worded a (part_words kind words x) b
-part e h d = optional (behind e (record { keeps = λ f. each h f })) d
+part : {A : Type 0} {R : Phrase A} {words : A → List Word} {kind : Kind} {bytes : List ℕ} {a b : Lexemes} {x : Option (DeclarationPart A)} →
+    fixed_spelling kind ≡ Some bytes → Keeps R words → Perhaps (PartBehind kind (Each R)) a x b → Worded a (part_words kind words x) b
+part e h d = optional (record { keeps = λ f. part_behind e h f }) d
+  where
+    part_behind : {A : Type 0} {R : Phrase A} {words : A → List Word} {kind : Kind} {bytes : List ℕ} {a b : Lexemes} {x : DeclarationPart A} →
+        fixed_spelling kind ≡ Some bytes → Keeps R words → PartBehind kind (Each R) a x b → Worded a (fixed kind ∷ flat_map words x.declared) b
+    part_behind e h (Grammar.part t p) = next (at e t) (each h p)
 
 -- The productions.
 

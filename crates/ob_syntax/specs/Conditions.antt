@@ -3,7 +3,7 @@
 use Rattle.std.specs.Prelude.{◌≡◌, ℕ, ◌+◌, List, [], ◌∷◌, ◌++◌, Option, Contains, flat_map, nat_le, if◌then◌else◌}
 use Rattle.std.specs.Option.{option_map_or}
 use Rattle.std.specs.Str.{bytes_eq}
-use Rattle.ob_syntax.specs.Tree.{Name, Expr, Number, Named, Parens, Not, Product, Sum, Comparison, Operands, no_operand, operand, Selectors, no_selector, field, index, TypeExpr, Called, Array, Record, FieldLists, no_list, empty_list, fields, Stmt, Empty, Assign, Call, If, While, Stmts, no_stmt, stmt, Branches, no_branch, branch, Otherwise, no_else, else', ConstDecl, TypeDecl, VarDecl, Section, Declarations, Declared, Procedures, no_procedure, procedure, Module}
+use Rattle.ob_syntax.specs.Tree.{Name, Expr, Number, Named, Parens, Not, Product, Sum, Comparison, Operands, no_operand, operand, Selectors, no_selector, field, index, TypeExpr, Called, Array, Record, FieldLists, no_list, empty_list, fields, Stmt, Empty, Assign, Call, If, While, Stmts, no_stmt, stmt, Branches, no_branch, branch, Otherwise, no_else, else', ConstDecl, TypeDecl, VarDecl, DeclarationPart, Section, Declarations, Declared, Procedures, no_procedure, procedure, Module}
 
 -- what breaks a condition, with the place of the token that breaks it
 pub data Breach : Type 0 where
@@ -83,14 +83,14 @@ abbrev mutual
 abbrev pub in_body : ℕ → Option Stmts → List Breach
 in_body n body = option_map_or (in_stmts n) body []
 
-abbrev pub in_constants : ℕ → Option (List ConstDecl) → List Breach
-in_constants n constants = option_map_or (flat_map (λ c. in_expr n c.value)) constants []
+abbrev pub in_constants : ℕ → Option (DeclarationPart ConstDecl) → List Breach
+in_constants n constants = option_map_or (λ part. flat_map (λ c. in_expr n c.value) part.declared) constants []
 
-abbrev pub in_types : ℕ → Option (List TypeDecl) → List Breach
-in_types n types = option_map_or (flat_map (λ t. in_type n t.definition)) types []
+abbrev pub in_types : ℕ → Option (DeclarationPart TypeDecl) → List Breach
+in_types n types = option_map_or (λ part. flat_map (λ t. in_type n t.definition) part.declared) types []
 
-abbrev pub in_variables : ℕ → Option (List VarDecl) → List Breach
-in_variables n variables = option_map_or (flat_map (λ v. in_type n v.of_type)) variables []
+abbrev pub in_variables : ℕ → Option (DeclarationPart VarDecl) → List Breach
+in_variables n variables = option_map_or (λ part. flat_map (λ v. in_type n v.of_type) part.declared) variables []
 
 abbrev pub in_parameters : ℕ → Option (List Section) → List Breach
 in_parameters n parameters = option_map_or (flat_map (λ section. in_type n section.of_type)) parameters []

@@ -3,9 +3,9 @@ use Rattle.std.specs.Prelude.{ℕ, ◌+◌, Bool, true, false, List, [], ◌++�
 use Rattle.ob_scan.specs.declared.token.Kind.{Kind}
 use Rattle.ob_syntax.specs.declared.tree.Sign.{Sign}
 use Rattle.ob_syntax.specs.Tree
-use Rattle.ob_syntax.specs.Tree.{Name, Expr, Operands, Selectors, TypeExpr, FieldLists, Stmt, Stmts, Branches, Otherwise, ConstDecl, TypeDecl, VarDecl, Section, Heading, Declarations, Procedures, Module}
+use Rattle.ob_syntax.specs.Tree.{Name, Expr, Operands, Selectors, TypeExpr, FieldLists, Stmt, Stmts, Branches, Otherwise, ConstDecl, TypeDecl, VarDecl, DeclarationPart, Section, Heading, Declarations, Procedures, Module}
 use Rattle.ob_syntax.specs.Grammar
-use Rattle.ob_syntax.specs.Grammar.{Lexemes, Phrase, Takes, TakesAt, TakesName, TakesWord, Each, Separated, Perhaps, Behind, TakesSign, Expression, SimpleExpression, Terms, Term, Factors, Factor, IdentList, IsType, ActualParameters, Statement, StatementSequence, MoreStatements, Alternative, MoreAlternatives, ElsePart, ConstDeclaration, TypeDeclaration, VarDeclaration, FPSection, FormalParameters, ProcedureHeading, BodyPart, DeclarationsPart, ProcedureDeclarations, ModuleText}
+use Rattle.ob_syntax.specs.Grammar.{Lexemes, Phrase, Takes, TakesAt, TakesName, TakesWord, Each, Separated, Perhaps, Behind, PartBehind, TakesSign, Expression, SimpleExpression, Terms, Term, Factors, Factor, IdentList, IsType, ActualParameters, Statement, StatementSequence, MoreStatements, Alternative, MoreAlternatives, ElsePart, ConstDeclaration, TypeDeclaration, VarDeclaration, FPSection, FormalParameters, ProcedureHeading, BodyPart, DeclarationsPart, ProcedureDeclarations, ModuleText}
 use Rattle.ob_syntax.specs.Conditions.{Breach, opening, differing, in_expr, in_operands, in_selectors, in_type, in_fields, in_stmt, in_stmts, in_branches, in_otherwise, in_body, in_constants, in_types, in_variables, in_parameters, in_declarations, in_procedures, breaches}
 use Rattle.ob_syntax.specs.Reading.{Form, Sequel}
 
@@ -185,6 +185,10 @@ perhaps continues breaks F = record { relation = Perhaps F.relation; continues =
 abbrev pub behind : {A : Type 0} → Kind → Form A → Form A
 behind kind F = record { relation = Behind kind F.relation; continues = F.continues; breaches = F.breaches }
 
+-- the same, with the place of the word
+abbrev pub part : {A : Type 0} → Kind → Form (List A) → Form (DeclarationPart A)
+part kind F = record { relation = PartBehind kind F.relation; continues = F.continues; breaches = λ x. F.breaches x.declared }
+
 -- names
 
 abbrev pub name : Form Name
@@ -335,8 +339,8 @@ const_declaration n = record { relation = ConstDeclaration; continues = nothing;
 abbrev pub const_declarations : ℕ → Form (List ConstDecl)
 const_declarations n = each ident (flat_map (λ c. in_expr n c.value)) (const_declaration n)
 
-abbrev pub constants : ℕ → Form (Option (List ConstDecl))
-constants n = perhaps constants_go_on (in_constants n) (behind Kind.Const (const_declarations n))
+abbrev pub constants : ℕ → Form (Option (DeclarationPart ConstDecl))
+constants n = perhaps constants_go_on (in_constants n) (part Kind.Const (const_declarations n))
 
 abbrev pub type_declaration : ℕ → Form TypeDecl
 type_declaration n = record { relation = TypeDeclaration; continues = nothing; breaches = λ t. in_type n t.definition }
@@ -344,8 +348,8 @@ type_declaration n = record { relation = TypeDeclaration; continues = nothing; b
 abbrev pub type_declarations : ℕ → Form (List TypeDecl)
 type_declarations n = each ident (flat_map (λ t. in_type n t.definition)) (type_declaration n)
 
-abbrev pub types : ℕ → Form (Option (List TypeDecl))
-types n = perhaps types_go_on (in_types n) (behind Kind.«Type» (type_declarations n))
+abbrev pub types : ℕ → Form (Option (DeclarationPart TypeDecl))
+types n = perhaps types_go_on (in_types n) (part Kind.«Type» (type_declarations n))
 
 abbrev pub var_declaration : ℕ → Form VarDecl
 var_declaration n = record { relation = VarDeclaration; continues = nothing; breaches = λ v. in_type n v.of_type }
@@ -353,8 +357,8 @@ var_declaration n = record { relation = VarDeclaration; continues = nothing; bre
 abbrev pub var_declarations : ℕ → Form (List VarDecl)
 var_declarations n = each ident (flat_map (λ v. in_type n v.of_type)) (var_declaration n)
 
-abbrev pub variables : ℕ → Form (Option (List VarDecl))
-variables n = perhaps variables_go_on (in_variables n) (behind Kind.Var (var_declarations n))
+abbrev pub variables : ℕ → Form (Option (DeclarationPart VarDecl))
+variables n = perhaps variables_go_on (in_variables n) (part Kind.Var (var_declarations n))
 
 abbrev pub section : ℕ → Form Section
 section n = record { relation = FPSection; continues = nothing; breaches = λ s. in_type n s.of_type }

@@ -6,7 +6,7 @@ use Rattle.ob_scan.specs.Lexemes.{Lexeme, lexeme}
 use Rattle.ob_syntax.specs.declared.tree.Operator.{Operator}
 use Rattle.ob_syntax.specs.declared.tree.Sign.{Sign}
 use Rattle.ob_syntax.specs.Tree
-use Rattle.ob_syntax.specs.Tree.{Name, Expr, Operands, no_operand, operand, Selectors, no_selector, TypeExpr, FieldLists, no_list, empty_list, Stmt, Stmts, no_stmt, stmt, Branches, no_branch, branch, Otherwise, no_else, else', ConstDecl, TypeDecl, VarDecl, Section, Heading, Declarations, Declared, Procedures, no_procedure, Module}
+use Rattle.ob_syntax.specs.Tree.{Name, Expr, Operands, no_operand, operand, Selectors, no_selector, TypeExpr, FieldLists, no_list, empty_list, Stmt, Stmts, no_stmt, stmt, Branches, no_branch, branch, Otherwise, no_else, else', ConstDecl, TypeDecl, VarDecl, DeclarationPart, Section, Heading, Declarations, Declared, Procedures, no_procedure, Module}
 
 -- tokens with their bytes
 abbrev pub Lexemes : Type 0
@@ -54,6 +54,10 @@ pub data Perhaps {A : Type 0} (R : Phrase A) : Lexemes → Option A → Lexemes 
 -- "word" phrase
 pub data Behind {A : Type 0} (word : Kind) (R : Phrase A) : Lexemes → A → Lexemes → Type 0 where
   behind : {a b c : Lexemes} {x : A} → Takes word a b → R b x c → Behind word R a x c
+
+-- "word" phrase, with the place of the word
+pub data PartBehind {A : Type 0} (word : Kind) (R : Phrase (List A)) : Lexemes → DeclarationPart A → Lexemes → Type 0 where
+  part : {a b c : Lexemes} {x : DeclarationPart A} → TakesAt word x.place a b → R b x.declared c → PartBehind word R a x c
 
 -- "=" "#" "<" "<=" ">" ">="
 pub data IsRelation : Kind → Operator → Type 0 where
@@ -285,11 +289,11 @@ mutual
   -- declarations = ["CONST" {ident "=" expression ";"}] ["TYPE" {ident "=" type ";"}]
   --   ["VAR" {IdentList ":" type ";"}] {ProcedureDeclaration ";"}
   pub data DeclarationsPart : Lexemes → Declarations → Lexemes → Type 0 where
-    declarations : {a b c d e : Lexemes} {constants : Option (List ConstDecl)} {types : Option (List TypeDecl)}
-        {variables : Option (List VarDecl)} {procedures : Procedures} →
-        Perhaps (Behind Kind.Const (Each ConstDeclaration)) a constants b →
-        Perhaps (Behind Kind.«Type» (Each TypeDeclaration)) b types c →
-        Perhaps (Behind Kind.Var (Each VarDeclaration)) c variables d →
+    declarations : {a b c d e : Lexemes} {constants : Option (DeclarationPart ConstDecl)} {types : Option (DeclarationPart TypeDecl)}
+        {variables : Option (DeclarationPart VarDecl)} {procedures : Procedures} →
+        Perhaps (PartBehind Kind.Const (Each ConstDeclaration)) a constants b →
+        Perhaps (PartBehind Kind.«Type» (Each TypeDeclaration)) b types c →
+        Perhaps (PartBehind Kind.Var (Each VarDeclaration)) c variables d →
         ProcedureDeclarations d procedures e →
         DeclarationsPart a (Declared constants types variables procedures) e
 

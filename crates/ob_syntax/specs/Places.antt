@@ -1,7 +1,7 @@
 -- A tree without its places: each place is 0.
 use Rattle.std.specs.Prelude.{map, option_map}
 use Rattle.ob_syntax.specs.declared.tree.Sign.{Sign}
-use Rattle.ob_syntax.specs.Tree.{Name, Expr, Number, Named, Parens, Not, Product, Sum, Comparison, Operands, no_operand, operand, Selectors, no_selector, field, index, TypeExpr, Called, Array, Record, FieldLists, no_list, empty_list, fields, Stmt, Empty, Assign, Call, If, While, Stmts, no_stmt, stmt, Branches, no_branch, branch, Otherwise, no_else, else', ConstDecl, TypeDecl, VarDecl, Section, Heading, Declarations, Declared, Procedures, no_procedure, procedure, Module}
+use Rattle.ob_syntax.specs.Tree.{Name, Expr, Number, Named, Parens, Not, Product, Sum, Comparison, Operands, no_operand, operand, Selectors, no_selector, field, index, TypeExpr, Called, Array, Record, FieldLists, no_list, empty_list, fields, Stmt, Empty, Assign, Call, If, While, Stmts, no_stmt, stmt, Branches, no_branch, branch, Otherwise, no_else, else', ConstDecl, TypeDecl, VarDecl, DeclarationPart, Section, Heading, Declarations, Declared, Procedures, no_procedure, procedure, Module}
 
 abbrev pub bare_name : Name → Name
 bare_name n = record { text = n.text; place = 0 }
@@ -68,6 +68,9 @@ bare_type_decl t = record { name = bare_name t.name; definition = bare_type t.de
 abbrev pub bare_variables : VarDecl → VarDecl
 bare_variables v = record { names = map bare_name v.names; of_type = bare_type v.of_type }
 
+abbrev pub bare_part : {A : Type 0} → (A → A) → DeclarationPart A → DeclarationPart A
+bare_part f part = record { place = 0; declared = map f part.declared }
+
 abbrev pub bare_section : Section → Section
 bare_section s = record { is_var = s.is_var; names = map bare_name s.names; of_type = bare_type s.of_type }
 
@@ -83,8 +86,8 @@ bare_heading h =
 abbrev mutual
   pub bare_declarations : Declarations → Declarations
   bare_declarations (Declared constants types variables procedures) =
-      Declared (option_map (map bare_const) constants) (option_map (map bare_type_decl) types)
-      (option_map (map bare_variables) variables) (bare_procedures procedures)
+      Declared (option_map (bare_part bare_const) constants) (option_map (bare_part bare_type_decl) types)
+      (option_map (bare_part bare_variables) variables) (bare_procedures procedures)
 
   pub bare_procedures : Procedures → Procedures
   bare_procedures no_procedure = no_procedure

@@ -7,7 +7,7 @@ use Rattle.ob_scan.specs.declared.token.Kind.{Kind}
 use Rattle.ob_scan.specs.Spelling.{fixed_spelling}
 use Rattle.ob_syntax.specs.declared.tree.Operator.{Operator}
 use Rattle.ob_syntax.specs.declared.tree.Sign.{Sign}
-use Rattle.ob_syntax.specs.Tree.{Name, Expr, Number, Named, Parens, Not, Product, Sum, Comparison, Operands, no_operand, operand, Selectors, no_selector, field, index, TypeExpr, Called, Array, Record, FieldLists, no_list, empty_list, fields, Stmt, Empty, Assign, Call, If, While, Stmts, no_stmt, stmt, Branches, no_branch, branch, Otherwise, no_else, else', ConstDecl, TypeDecl, VarDecl, Section, Heading, Declarations, Declared, Procedures, no_procedure, procedure, Module}
+use Rattle.ob_syntax.specs.Tree.{Name, Expr, Number, Named, Parens, Not, Product, Sum, Comparison, Operands, no_operand, operand, Selectors, no_selector, field, index, TypeExpr, Called, Array, Record, FieldLists, no_list, empty_list, fields, Stmt, Empty, Assign, Call, If, While, Stmts, no_stmt, stmt, Branches, no_branch, branch, Otherwise, no_else, else', ConstDecl, TypeDecl, VarDecl, DeclarationPart, Section, Heading, Declarations, Declared, Procedures, no_procedure, procedure, Module}
 
 -- a token that is printed: its kind and its bytes
 pub record Word : Type 0 where
@@ -156,8 +156,8 @@ heading_words h =
     ∷ ((if h.is_exported then (fixed Kind.Times ∷ []) else []) ++ perhaps parameter_words h.parameters)
 
 -- a keyword, and each declaration behind it
-abbrev pub part_words : {A : Type 0} → Kind → (A → List Word) → Option (List A) → List Word
-part_words word words = perhaps (λ all. fixed word ∷ flat_map words all)
+abbrev pub part_words : {A : Type 0} → Kind → (A → List Word) → Option (DeclarationPart A) → List Word
+part_words word words = perhaps (λ part. fixed word ∷ flat_map words part.declared)
 
 abbrev mutual
   pub declaration_words : Declarations → List Word

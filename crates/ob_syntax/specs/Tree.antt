@@ -75,6 +75,11 @@ pub record VarDecl : Type 0 where
   pub names : List Name
   pub of_type : TypeExpr
 
+-- CONST, TYPE or VAR with its place, and what is declared behind it
+pub record DeclarationPart (A : Type 0) : Type 0 where
+  pub place : ℕ
+  pub declared : List A
+
 -- formal parameters of one mode and type
 pub record Section : Type 0 where
   pub is_var : Bool
@@ -88,11 +93,11 @@ pub record Heading : Type 0 where
   pub is_exported : Bool
   pub parameters : Option (List Section)
 
--- a list is none where its keyword does not stand
+-- a part is none where its keyword does not stand
 mutual
   pub data Declarations : Type 0 where
-    Declared : (constants : Option (List ConstDecl)) (types : Option (List TypeDecl))
-        (variables : Option (List VarDecl)) (procedures : Procedures) → Declarations
+    Declared : (constants : Option (DeclarationPart ConstDecl)) (types : Option (DeclarationPart TypeDecl))
+        (variables : Option (DeclarationPart VarDecl)) (procedures : Procedures) → Declarations
 
   pub data Procedures : Type 0 where
     no_procedure : Procedures

@@ -16,6 +16,9 @@ use Rattle.ob_syntax.specs.declared.tree.Branch.{Branch}
 use Rattle.ob_syntax.specs.declared.tree.ConstDecl.{ConstDecl}
 use Rattle.ob_syntax.specs.declared.tree.TypeDecl.{TypeDecl}
 use Rattle.ob_syntax.specs.declared.tree.VarDecl.{VarDecl}
+use Rattle.ob_syntax.specs.declared.tree.Constants.{Constants}
+use Rattle.ob_syntax.specs.declared.tree.Types.{Types}
+use Rattle.ob_syntax.specs.declared.tree.Variables.{Variables}
 use Rattle.ob_syntax.specs.declared.tree.Procedure.{Procedure, Procedure', out-Procedure}
 use Rattle.ob_syntax.specs.declared.tree.Section.{Section}
 use Rattle.ob_syntax.specs.declared.tree.Declarations.{Declarations, Declarations', Row_of-Procedure, end_of-Procedure, more_of-Procedure}
@@ -111,16 +114,22 @@ type_decl_of t = record { name = name_of t.name; definition = type_of t.definiti
 abbrev pub var_decl_of : VarDecl → Tree.VarDecl
 var_decl_of v = record { names = map name_of v.names.items; of_type = type_of v.of_type }
 
+abbrev pub constants_of : Constants → Tree.DeclarationPart Tree.ConstDecl
+constants_of part = record { place = part.place; declared = map const_decl_of part.declared.items }
+
+abbrev pub types_of : Types → Tree.DeclarationPart Tree.TypeDecl
+types_of part = record { place = part.place; declared = map type_decl_of part.declared.items }
+
+abbrev pub variables_of : Variables → Tree.DeclarationPart Tree.VarDecl
+variables_of part = record { place = part.place; declared = map var_decl_of part.declared.items }
+
 abbrev pub section_of : Section → Tree.Section
 section_of s = record { is_var = s.is_var; names = map name_of s.names.items; of_type = type_of s.of_type }
 
 abbrev mutual
   pub declarations_of : Declarations → Tree.Declarations
   declarations_of (Declarations' constants types variables shape procedures) =
-      Tree.Declared
-      (option_map (λ cs. map const_decl_of cs.items) constants)
-      (option_map (λ ts. map type_decl_of ts.items) types)
-      (option_map (λ vs. map var_decl_of vs.items) variables)
+      Tree.Declared (option_map constants_of constants) (option_map types_of types) (option_map variables_of variables)
       (procedures_of procedures)
 
   pub procedures_of : {m : _} → Row_of-Procedure m → Tree.Procedures

@@ -3,7 +3,7 @@
 
 ghost use Rattle.std.specs.Prelude.{◌≡◌, [], ◌∷◌, ◌++◌, map, option_map, string_bytes, if◌then◌else◌, IfOk, OnOk};
 ghost use Rattle.ob_scan.specs.declared.token.Kind.{Kind};
-ghost use Rattle.ob_syntax.specs.View.{name_of, section_of, heading_of, const_decl_of, type_decl_of, var_decl_of, declarations_of, procedures_in, module_of};
+ghost use Rattle.ob_syntax.specs.View.{name_of, section_of, heading_of, constants_of, types_of, variables_of, declarations_of, procedures_in, module_of};
 ghost use Rattle.ob_syntax.specs.Printing.{ident, fixed, name_words, spaced, section_words, heading_words, perhaps, parameter_words, part_words, const_words, type_decl_words, var_decl_words, declaration_words, procedure_words, words_behind, printed};
 ghost use Rattle.ob_syntax.specs.PrintedAgain.{HasText, LeadsTo};
 
@@ -12,7 +12,7 @@ mod statements;
 mod types;
 
 use crate::no_memory::NoMemory;
-use crate::tree::{ConstDecl, Declarations, Module, Name, Procedure, Section, TypeDecl, VarDecl};
+use crate::tree::{Constants, Declarations, Module, Name, Procedure, Section, Types, Variables};
 use std::alloc::Global;
 
 /// The text of a module: all its tokens, numbers without leading zeros, one space between two, and a line feed at the
@@ -76,14 +76,14 @@ fn push_names(text: &mut String, names: &[Name]) -> Result<(), NoMemory>
 }
 
 /// Appends `CONST` and each constant, where it stands.
-fn push_constants(text: &mut String, constants: &Option<Vec<ConstDecl>>) -> Result<(), NoMemory>
-    ensures { OnOk result (string_bytes text.new ≡ string_bytes text.old ++ spaced (part_words Kind.Const const_words (option_map (λ cs. map const_decl_of cs.items) constants.now))) }
+fn push_constants(text: &mut String, constants: &Option<Constants>) -> Result<(), NoMemory>
+    ensures { OnOk result (string_bytes text.new ≡ string_bytes text.old ++ spaced (part_words Kind.Const const_words (option_map constants_of constants.now))) }
 {
-    let Some(constants) = constants else {
+    let Some(part) = constants else {
         return Ok(());
     };
     push_word(text, "CONST")?;
-    for constant in constants {
+    for constant in &part.declared {
         push_name(text, &constant.name)?;
         push_word(text, "=")?;
         expressions::push_expr(text, &constant.value)?;
@@ -93,14 +93,14 @@ fn push_constants(text: &mut String, constants: &Option<Vec<ConstDecl>>) -> Resu
 }
 
 /// Appends `TYPE` and each type, where it stands.
-fn push_types(text: &mut String, types: &Option<Vec<TypeDecl>>) -> Result<(), NoMemory>
-    ensures { OnOk result (string_bytes text.new ≡ string_bytes text.old ++ spaced (part_words Kind.«Type» type_decl_words (option_map (λ ts. map type_decl_of ts.items) types.now))) }
+fn push_types(text: &mut String, types: &Option<Types>) -> Result<(), NoMemory>
+    ensures { OnOk result (string_bytes text.new ≡ string_bytes text.old ++ spaced (part_words Kind.«Type» type_decl_words (option_map types_of types.now))) }
 {
-    let Some(types) = types else {
+    let Some(part) = types else {
         return Ok(());
     };
     push_word(text, "TYPE")?;
-    for declaration in types {
+    for declaration in &part.declared {
         push_name(text, &declaration.name)?;
         push_word(text, "=")?;
         types::push_type(text, &declaration.definition)?;
@@ -110,14 +110,14 @@ fn push_types(text: &mut String, types: &Option<Vec<TypeDecl>>) -> Result<(), No
 }
 
 /// Appends `VAR` and each declaration of variables, where it stands.
-fn push_variables(text: &mut String, variables: &Option<Vec<VarDecl>>) -> Result<(), NoMemory>
-    ensures { OnOk result (string_bytes text.new ≡ string_bytes text.old ++ spaced (part_words Kind.Var var_decl_words (option_map (λ vs. map var_decl_of vs.items) variables.now))) }
+fn push_variables(text: &mut String, variables: &Option<Variables>) -> Result<(), NoMemory>
+    ensures { OnOk result (string_bytes text.new ≡ string_bytes text.old ++ spaced (part_words Kind.Var var_decl_words (option_map variables_of variables.now))) }
 {
-    let Some(variables) = variables else {
+    let Some(part) = variables else {
         return Ok(());
     };
     push_word(text, "VAR")?;
-    for declaration in variables {
+    for declaration in &part.declared {
         push_names(text, &declaration.names)?;
         push_word(text, ":")?;
         types::push_type(text, &declaration.of_type)?;

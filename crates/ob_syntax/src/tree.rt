@@ -183,6 +183,27 @@ pub struct VarDecl {
     pub of_type: TypeExpr,
 }
 
+/// CONST with its place, and the constants behind it.
+#[derive(Debug, PartialEq, Eq, Drop)]
+pub struct Constants {
+    pub place: usize,
+    pub declared: Vec<ConstDecl>,
+}
+
+/// TYPE with its place, and the types behind it.
+#[derive(Debug, PartialEq, Eq, Drop)]
+pub struct Types {
+    pub place: usize,
+    pub declared: Vec<TypeDecl>,
+}
+
+/// VAR with its place, and the variables behind it.
+#[derive(Debug, PartialEq, Eq, Drop)]
+pub struct Variables {
+    pub place: usize,
+    pub declared: Vec<VarDecl>,
+}
+
 /// Formal parameters of one mode and type.
 #[derive(Debug, PartialEq, Eq, Drop)]
 pub struct Section {
@@ -191,13 +212,13 @@ pub struct Section {
     pub of_type: TypeExpr,
 }
 
-/// Declarations; a list is `None` where its keyword does not stand.
+/// Declarations; a part is `None` where its keyword does not stand.
 #[cycle(declarations)]
 #[derive(Debug, PartialEq, Eq, Drop)]
 pub struct Declarations {
-    pub constants: Option<Vec<ConstDecl>>,
-    pub types: Option<Vec<TypeDecl>>,
-    pub variables: Option<Vec<VarDecl>>,
+    pub constants: Option<Constants>,
+    pub types: Option<Types>,
+    pub variables: Option<Variables>,
     pub procedures: Vec<Procedure>,
 }
 

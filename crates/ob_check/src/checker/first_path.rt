@@ -2,14 +2,14 @@
 
 ghost use Rattle.std.specs.Prelude.{◌≡◌, IsTrue, map, option_map};
 ghost use Rattle.std.specs.List.{list_all};
-ghost use Rattle.ob_syntax.specs.View.{expr_of, operands_in, type_of, stmt_of, stmts_in, var_decl_of, section_of, const_decl_of, type_decl_of, procedures_in, declarations_of, heading_of, inner_of, body_of, module_of};
+ghost use Rattle.ob_syntax.specs.View.{expr_of, operands_in, type_of, stmt_of, stmts_in, var_decl_of, section_of, constants_of, types_of, variables_of, procedures_in, declarations_of, heading_of, inner_of, body_of, module_of};
 ghost use Rattle.ob_check.specs.FirstPath as rules;
 
 use super::expressions::arithmetic;
-use super::listed;
+use super::{declared_variables, listed};
 use ob_syntax::tree::{
-    ConstDecl, Declarations, Expr, Module, Operand, Procedure, Section, Stmt, TypeDecl, TypeExpr,
-    VarDecl,
+    Constants, Declarations, Expr, Module, Operand, Procedure, Section, Stmt, TypeExpr, Types,
+    VarDecl, Variables,
 };
 
 /// Where the first construct stands that is not known, at its first token.
@@ -19,67 +19,48 @@ pub fn outside(tree: &Module) -> Option<usize>
     outside_declarations(&tree.declarations).or(outside_body(&tree.body))
 }
 
-/// In the declarations of a module: of these, constants and types are not known.
+/// In the declarations of a module: of these, CONST and TYPE are not known.
 fn outside_declarations(declarations: &Declarations) -> Option<usize>
     ensures { result ≡ rules.outside_declarations (declarations_of declarations.now) }
 {
-    first_constant(listed(&declarations.constants))
-        .or(first_type(listed(&declarations.types)))
-        .or(outside_variables(listed(&declarations.variables)))
+    constants_place(&declarations.constants)
+        .or(types_place(&declarations.types))
+        .or(outside_variables(declared_variables(&declarations.variables)))
         .or(outside_procedures(&declarations.procedures))
 }
 
-/// Where the first declaration within a procedure stands; none of them is known.
+/// Where the declarations within a procedure begin; none of them is known.
 pub fn first_declared(declarations: &Declarations) -> Option<usize>
     ensures { result ≡ rules.first_declared (declarations_of declarations.now) }
 {
-    first_constant(listed(&declarations.constants))
-        .or(first_type(listed(&declarations.types)))
-        .or(first_variable(listed(&declarations.variables)))
+    constants_place(&declarations.constants)
+        .or(types_place(&declarations.types))
+        .or(variables_place(&declarations.variables))
         .or(first_procedure(&declarations.procedures))
 }
 
-fn first_constant(constants: &[ConstDecl]) -> Option<usize>
-    ensures { result ≡ rules.first_constant (map const_decl_of constants.now) }
+fn constants_place(constants: &Option<Constants>) -> Option<usize>
+    ensures { result ≡ rules.part_place (option_map constants_of constants.now) }
 {
-    constants.first().map(|c| c.name.place)
+    constants.as_ref().map(|part| part.place)
 }
 
-fn first_type(types: &[TypeDecl]) -> Option<usize>
-    ensures { result ≡ rules.first_type (map type_decl_of types.now) }
+fn types_place(types: &Option<Types>) -> Option<usize>
+    ensures { result ≡ rules.part_place (option_map types_of types.now) }
 {
-    types.first().map(|t| t.name.place)
+    types.as_ref().map(|part| part.place)
 }
 
-fn first_variable(variables: &[VarDecl]) -> Option<usize>
-    ensures { result ≡ rules.first_variable (map var_decl_of variables.now) }
+fn variables_place(variables: &Option<Variables>) -> Option<usize>
+    ensures { result ≡ rules.part_place (option_map variables_of variables.now) }
 {
-    variables.first().map(variable_place)
+    variables.as_ref().map(|part| part.place)
 }
 
 fn first_procedure(procedures: &[Procedure]) -> Option<usize>
     ensures { result ≡ rules.first_procedure (procedures_in procedures.now) }
 {
     procedures.first().map(|p| p.place)
-}
-
-/// The place of a declaration's first name; where a tree has none, that of the type.
-fn variable_place(variables: &VarDecl) -> usize
-    ensures { result ≡ rules.names_place (var_decl_of variables.now).names (var_decl_of variables.now).of_type }
-{
-    match variables.names.first() {
-        Some(name) => name.place,
-        None => type_place(&variables.of_type),
-    }
-}
-
-fn type_place(type_expr: &TypeExpr) -> usize
-    ensures { result ≡ rules.type_place (type_of type_expr.now) }
-{
-    match type_expr {
-        TypeExpr::Named(name) => name.place,
-        TypeExpr::Array { place, .. } | TypeExpr::Record { place, .. } => *place,
-    }
 }
 
 fn outside_variables(declarations: &[VarDecl]) -> Option<usize>

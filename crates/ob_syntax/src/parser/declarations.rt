@@ -1,12 +1,15 @@
 //! Declarations and the module.
 
 ghost use Rattle.std.specs.Prelude.{◌<◌, map, option_map, OnOk};
-ghost use Rattle.ob_syntax.specs.View.{const_decl_of, type_decl_of, var_decl_of, section_of, procedures_in, declarations_of, module_of};
+ghost use Rattle.ob_syntax.specs.View.{const_decl_of, type_decl_of, var_decl_of, constants_of, types_of, variables_of, section_of, procedures_in, declarations_of, module_of};
 ghost use Rattle.ob_syntax.specs.Forms as forms;
 ghost use Rattle.ob_syntax.specs.Answers.{state, Answers, heading_in, procedure_of};
 
 use crate::parser::{DEEPEST_NESTING, ParseFault, Parser};
-use crate::tree::{ConstDecl, Declarations, Module, Name, Procedure, Section, TypeDecl, VarDecl};
+use crate::tree::{
+    ConstDecl, Constants, Declarations, Module, Name, Procedure, Section, TypeDecl, Types, VarDecl,
+    Variables,
+};
 use ob_scan::Kind;
 
 /// The heading of a procedure, with the place of PROCEDURE.
@@ -44,15 +47,15 @@ impl<'a> Parser<'a> {
     }
 
     /// ["CONST" {ident "=" expression ";"}]
-    fn constants(&mut self, depth: usize) -> Result<Option<Vec<ConstDecl>>, ParseFault>
-        ensures { Answers (λ x. option_map (λ xs. map const_decl_of xs.items) x) (forms.constants depth) (state self.old) result (state self.new) }
+    fn constants(&mut self, depth: usize) -> Result<Option<Constants>, ParseFault>
+        ensures { Answers (λ x. option_map constants_of x) (forms.constants depth) (state self.old) result (state self.new) }
     {
         if !self.at(Kind::Const) {
             return Ok(None);
         }
-        self.take();
-        let constants = self.const_declarations(depth)?;
-        Ok(Some(constants))
+        let place = self.take();
+        let declared = self.const_declarations(depth)?;
+        Ok(Some(Constants { place, declared }))
     }
 
     /// ident "=" type ";"
@@ -80,15 +83,15 @@ impl<'a> Parser<'a> {
     }
 
     /// ["TYPE" {ident "=" type ";"}]
-    fn types(&mut self, depth: usize) -> Result<Option<Vec<TypeDecl>>, ParseFault>
-        ensures { Answers (λ x. option_map (λ xs. map type_decl_of xs.items) x) (forms.types depth) (state self.old) result (state self.new) }
+    fn types(&mut self, depth: usize) -> Result<Option<Types>, ParseFault>
+        ensures { Answers (λ x. option_map types_of x) (forms.types depth) (state self.old) result (state self.new) }
     {
         if !self.at(Kind::Type) {
             return Ok(None);
         }
-        self.take();
-        let types = self.type_declarations(depth)?;
-        Ok(Some(types))
+        let place = self.take();
+        let declared = self.type_declarations(depth)?;
+        Ok(Some(Types { place, declared }))
     }
 
     /// IdentList ":" type ";"
@@ -116,15 +119,15 @@ impl<'a> Parser<'a> {
     }
 
     /// ["VAR" {IdentList ":" type ";"}]
-    fn variables(&mut self, depth: usize) -> Result<Option<Vec<VarDecl>>, ParseFault>
-        ensures { Answers (λ x. option_map (λ xs. map var_decl_of xs.items) x) (forms.variables depth) (state self.old) result (state self.new) }
+    fn variables(&mut self, depth: usize) -> Result<Option<Variables>, ParseFault>
+        ensures { Answers (λ x. option_map variables_of x) (forms.variables depth) (state self.old) result (state self.new) }
     {
         if !self.at(Kind::Var) {
             return Ok(None);
         }
-        self.take();
-        let variables = self.var_declarations(depth)?;
-        Ok(Some(variables))
+        let place = self.take();
+        let declared = self.var_declarations(depth)?;
+        Ok(Some(Variables { place, declared }))
     }
 
     /// FPSection = ["VAR"] IdentList ":" type

@@ -68,13 +68,15 @@ fn expect_support(
     Ok(())
 }
 
-/// Keywords with nothing behind them declare nothing, and the first of two constructs is told.
+/// A VAR of the module may stand with nothing behind it. The first of two constructs is told.
 #[test]
 fn declarations_that_are_not_supported(rt: HostRuntime) -> Result<(), Fail> {
     let texts = [
-        "CONST TYPE VAR x: INTEGER; PROCEDURE P; CONST TYPE VAR END P;",
-        "CONST |c = (1);",
-        "TYPE |T = RECORD ; END; VAR x: RECORD END;",
+        "VAR PROCEDURE P; END P;",
+        "|CONST TYPE VAR",
+        "|TYPE VAR x: RECORD END;",
+        "|CONST c = (1);",
+        "|TYPE T = RECORD ; END; VAR x: RECORD END;",
         "VAR a, a: |ARRAY x OF INTEGER;",
         "VAR a: |RECORD END;",
         "PROCEDURE P*(VAR a: |ARRAY x OF INTEGER); END P;",
@@ -87,9 +89,12 @@ fn declarations_that_are_not_supported(rt: HostRuntime) -> Result<(), Fail> {
 #[test]
 fn declarations_in_a_procedure_are_not_supported(rt: HostRuntime) -> Result<(), Fail> {
     let texts = [
-        "CONST |c = x;",
-        "TYPE |T = INTEGER;",
-        "VAR |y, z: INTEGER;",
+        "|CONST",
+        "|TYPE VAR",
+        "|VAR",
+        "|CONST c = x;",
+        "|TYPE T = INTEGER;",
+        "|VAR y, z: INTEGER;",
         "|PROCEDURE Q; END Q;",
     ];
     let behind = " END P; PROCEDURE P; END P; END M.";

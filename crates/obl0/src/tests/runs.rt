@@ -110,8 +110,8 @@ fn faults(rt: HostRuntime) -> Result<(), Fail> {
             "",
             "C9 at 46\n",
         ),
-        ("MODULE M; CONST c = 1; END M.", "", "C12 at 16\n"),
-        ("MODULE M; TYPE T = INTEGER; END M.", "", "C12 at 15\n"),
+        ("MODULE M; CONST c = 1; END M.", "", "C12 at 10\n"),
+        ("MODULE M; TYPE T = INTEGER; END M.", "", "C12 at 10\n"),
         (
             "MODULE M; VAR a: ARRAY 2 OF INTEGER; END M.",
             "",

@@ -3,8 +3,9 @@
 use ob_scan::scan;
 use ob_syntax::parser::parse;
 use ob_syntax::tree::{
-    Branch, ConstDecl, Declarations, Designator, Expr, FieldList, Module, Name, Operand, Operator,
-    Procedure, Section, Selector, Sign, Stmt, TypeDecl, TypeExpr, VarDecl,
+    Branch, ConstDecl, Constants, Declarations, Designator, Expr, FieldList, Module, Name, Operand,
+    Operator, Procedure, Section, Selector, Sign, Stmt, TypeDecl, TypeExpr, Types, VarDecl,
+    Variables,
 };
 use std::alloc::{AllocError, Global};
 use std::process::Abort;
@@ -310,9 +311,18 @@ fn reads_declarations(rt: HostRuntime) -> Result<(), Fail> {
     let want = Module {
         name: name(alloc, "M", 7)?,
         declarations: Declarations {
-            constants: Some(vec![in alloc; constant]?),
-            types: Some(vec![in alloc; type_declaration(alloc)?]?),
-            variables: Some(vec![in alloc; variables]?),
+            constants: Some(Constants {
+                place: 10,
+                declared: vec![in alloc; constant]?,
+            }),
+            types: Some(Types {
+                place: 23,
+                declared: vec![in alloc; type_declaration(alloc)?]?,
+            }),
+            variables: Some(Variables {
+                place: 65,
+                declared: vec![in alloc; variables]?,
+            }),
             procedures: vec![in alloc; procedure(alloc)?]?,
         },
         body: None,

@@ -1,8 +1,8 @@
-use Rattle.std.proofs.Common.{◌≡◌, ◌∷◌, [], ◌++◌, string_bytes, map, option_map, refl, sym, ◌∙◌, ap}
+use Rattle.std.proofs.Common.{◌≡◌, ◌∷◌, [], ◌++◌, string_bytes, option_map, refl, sym, ◌∙◌, ap}
 use Rattle.std.proofs.lemmas.Result.{on_ok_weaker}
 use Rattle.ob_scan.specs.declared.token.Kind.{Kind}
 use Rattle.ob_syntax.specs.declared.tree.Declarations.TheViews.{out-Declarations, out-Procedure}
-use Rattle.ob_syntax.specs.View.{name_of, const_decl_of, type_decl_of, var_decl_of, declarations_of, heading_of, procedures_in, stmts_in}
+use Rattle.ob_syntax.specs.View.{name_of, constants_of, types_of, variables_of, declarations_of, heading_of, procedures_in, stmts_in}
 use Rattle.ob_syntax.specs.Printing.{spaced, ident, fixed, part_words, const_words, type_decl_words, var_decl_words, heading_words, body_words, declaration_words, procedure_words}
 use Rattle.ob_syntax.proofs.Rows.{declarations_of-parts}
 use Rattle.ob_syntax.proofs.PrintedLoops.{writes_all, writes_both, loop_writes, loop_wrote, procedure_first}
@@ -11,9 +11,9 @@ use Rattle.ob_syntax.proofs.printer.+declarations.Goals as goal
 pub push_declarations-returns : goal.push_declarations-returns
 push_declarations-returns t c =
     let d = out-Declarations c.args.declarations.now in
-    let constants = part_words Kind.Const const_words (option_map (λ cs. map const_decl_of cs.items) d.constants) in
-    let types = part_words Kind.«Type» type_decl_words (option_map (λ ts. map type_decl_of ts.items) d.types) in
-    let variables = part_words Kind.Var var_decl_words (option_map (λ vs. map var_decl_of vs.items) d.variables) in
+    let constants = part_words Kind.Const const_words (option_map constants_of d.constants) in
+    let types = part_words Kind.«Type» type_decl_words (option_map types_of d.types) in
+    let variables = part_words Kind.Var var_decl_words (option_map variables_of d.variables) in
     let procedures = procedure_words (procedures_in c.deref.result.now) in
     on_ok_weaker c.push_procedures.result
     (λ (last : string_bytes c.push_procedures.new.text ≡ string_bytes c.push_variables.new.text ++ spaced procedures).

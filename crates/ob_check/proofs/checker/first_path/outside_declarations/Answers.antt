@@ -1,16 +1,14 @@
-use Rattle.std.proofs.Common.{sym, ap, ◌∙◌, map}
-use Rattle.ob_syntax.specs.declared.tree.Declarations.{out-Declarations}
-use Rattle.ob_syntax.specs.View.{const_decl_of, type_decl_of, var_decl_of, procedures_in}
-use Rattle.ob_check.specs.FirstPath.{first_constant, first_type, outside_variables, outside_procedures, outside_declarations}
+use Rattle.std.proofs.Common.{sym, ap, ◌∙◌}
+use Rattle.ob_syntax.specs.View.{procedures_in}
+use Rattle.ob_check.specs.FirstPath.{outside_variables, outside_procedures, outside_declarations}
 use Rattle.ob_syntax.proofs.Rows.{declarations_of-parts}
-use Rattle.ob_check.proofs.Outside.{listed_seen, or_four}
+use Rattle.ob_check.proofs.Outside.{or_four}
 use Rattle.ob_check.proofs.checker.first_path.outside_declarations.Goals as goal
 
 pub returns : goal.returns
 returns c =
-    or_four c.first_constant.result c.first_type.result c.outside_variables.result c.outside_procedures.result c.or.ensures c.or-2.ensures c.or-3.ensures
-    (c.first_constant.ensures ∙ ap (λ xs. first_constant (map const_decl_of xs)) c.listed.ensures ∙ ap first_constant (listed_seen const_decl_of (out-Declarations c.args.declarations.now).constants))
-    (c.first_type.ensures ∙ ap (λ xs. first_type (map type_decl_of xs)) c.listed-2.ensures ∙ ap first_type (listed_seen type_decl_of (out-Declarations c.args.declarations.now).types))
-    (c.outside_variables.ensures ∙ ap (λ xs. outside_variables (map var_decl_of xs)) c.listed-3.ensures ∙ ap outside_variables (listed_seen var_decl_of (out-Declarations c.args.declarations.now).variables))
+    or_four c.constants_place.result c.types_place.result c.outside_variables.result c.outside_procedures.result c.or.ensures c.or-2.ensures c.or-3.ensures
+    c.constants_place.ensures c.types_place.ensures
+    (c.outside_variables.ensures ∙ ap outside_variables c.declared_variables.ensures)
     (c.outside_procedures.ensures ∙ ap (λ xs. outside_procedures (procedures_in xs)) c.deref.ensures.value)
     ∙ sym (ap outside_declarations (declarations_of-parts c.args.declarations.now))
