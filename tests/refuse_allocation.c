@@ -1,7 +1,8 @@
-/* Loaded before a program: refuses its allocation number REFUSE, counted from 1, and tells so on descriptor 9. */
+/* Loaded before a program: refuses its allocation number REFUSE, counted from 1, and then makes the file REFUSED. */
 #define _GNU_SOURCE
 #include <dlfcn.h>
 #include <errno.h>
+#include <fcntl.h>
 #include <stdlib.h>
 #include <unistd.h>
 
@@ -14,7 +15,7 @@ static int refuses(void) {
         refused = text ? atol(text) : 0;
     }
     if (++count != refused) return 0;
-    if (write(9, "refused\n", 8) != 8) _exit(99);
+    if (close(open(getenv("REFUSED"), O_CREAT | O_WRONLY, 0600)) != 0) _exit(99);
     errno = ENOMEM;
     return 1;
 }

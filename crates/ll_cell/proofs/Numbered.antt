@@ -5,8 +5,8 @@ use Rattle.std.proofs.lemmas.List.FromFn.{length-range_with_len, get_or-range_wi
 use Rattle.std.proofs.lemmas.Grind.{common_steps}
 use Rattle.ll_cell.specs.Cell.{IsNumbered}
 
-pub exchanged : (root : ℕ) (own : List ℕ) (p : ℕ) → p < length own → IsNumbered root own → IsNumbered (get_or own p 0) (set own p root)
-exchanged root own p lt h = record {
+pub keeps_numbered : (root : ℕ) (own : List ℕ) (p : ℕ) → p < length own → IsNumbered root own → IsNumbered (get_or own p 0) (set own p root)
+keeps_numbered root own p lt h = record {
   root_in = grind (arith, common_steps, h.own_in p lt);
   own_in = λ q w. grind (arith, common_steps, h.own_in q, h.root_in);
   root_apart = λ q w. grind (arith, common_steps, h.root_apart p lt, h.own_apart q p);

@@ -38,12 +38,13 @@ word_at ws i = slice_index_or ws i (pos 0)
 abbrev pub link : Cell → ℕ → Cell
 link c p = record c { linked = slice_set c.linked p true }
 
--- where p is linked, root and own number change places and every link is cleared
+-- root and own number change places, and every link is cleared
+abbrev pub exchanged : Cell → ℕ → Cell
+exchanged c p = record c { root = own_of c p; own = slice_set c.own p c.root; linked = replicate (length c.linked) false }
+
+-- an exchange, where p is linked
 abbrev pub exchange : Cell → ℕ → Cell
-exchange c p =
-    if is_linked c p
-    then record c { root = own_of c p; own = slice_set c.own p c.root; linked = replicate (length c.linked) false }
-    else c
+exchange c p = if is_linked c p then exchanged c p else c
 
 -- p's own block holds these words
 abbrev pub with_own : Cell → ℕ → List ℤ → Cell

@@ -12,6 +12,16 @@ fn processes_are_1_to_16(rt: HostRuntime) -> Result<(), Fail> {
 }
 
 #[test]
+fn faults_have_their_lines(rt: HostRuntime) -> Result<(), Fail> {
+    assert_eq!(rt; CellFault::Processes.to_string(rt.alloc())?.as_str(), "N1");
+    assert_eq!(rt;
+        CellFault::NoMemory.to_string(rt.alloc())?.as_str(),
+        "NoMemory"
+    );
+    Ok(())
+}
+
+#[test]
 fn one_of_two_linked_processes_stores(rt: HostRuntime) -> Result<(), Fail> {
     let mut cell = Shared::new(rt.alloc(), 2, 3, 2)?;
     assert_eq!(rt; cell.load_linked(0), 0);

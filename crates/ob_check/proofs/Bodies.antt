@@ -1,11 +1,11 @@
 -- Statements, one after another.
 use Rattle.std.proofs.Common.{◌≡◌, ℕ, List, [], ◌∷◌, ◌++◌, Some, None, refl, ap, sym, subst, ◌∙◌}
-use Rattle.ob_syntax.specs.declared.tree.Designator.{Designator}
-use Rattle.ob_syntax.specs.declared.tree.Expr.{Expr}
-use Rattle.ob_syntax.specs.declared.tree.Stmt.{Stmt}
-use Rattle.ob_syntax.specs.declared.tree.Stmt.TheVariants as Stmts
-use Rattle.ob_syntax.specs.Tree
-use Rattle.ob_syntax.specs.View.{name_of, expr_of, selectors_in, stmt_of, stmts_in}
+use Rattle.ob_grammar.specs.declared.tree.Designator.{Designator}
+use Rattle.ob_grammar.specs.declared.tree.Expr.{Expr}
+use Rattle.ob_grammar.specs.declared.tree.Stmt.{Stmt}
+use Rattle.ob_grammar.specs.declared.tree.Stmt.TheVariants as Stmts
+use Rattle.ob_grammar.specs.Tree
+use Rattle.ob_grammar.specs.View.{name_of, expr_of, selectors_in, stmt_of, stmts_in}
 use Rattle.ob_check.specs.declared.checker.CheckFault.{CheckFault}
 use Rattle.ob_check.specs.declared.checker.CheckFault.TheVariants.{NotSupported}
 use Rattle.ob_check.specs.declared.program.DataType.{DataType}

@@ -1,8 +1,8 @@
 -- Names that are declared one after another, and the faults among them.
 use Rattle.std.proofs.Common.{◌≡◌, ℕ, ◌+◌, ◌*◌, ◌-◌, ◌<◌, ◌≤◌, suc, List, [], ◌∷◌, ◌++◌, length, sym, ap, subst, ◌∙◌, arith, Bool, append_assoc}
 use Rattle.std.proofs.lemmas.List.{map-append, length-append, length-map}
-use Rattle.ob_syntax.specs.Tree
-use Rattle.ob_syntax.specs.Tree.{VarDecl, Section}
+use Rattle.ob_grammar.specs.Tree
+use Rattle.ob_grammar.specs.Tree.{VarDecl, Section}
 use Rattle.ob_check.specs.declared.checker.CheckFault.{CheckFault}
 use Rattle.ob_check.specs.declared.checker.CheckFault.TheVariants.{DeclaredTwice, PassesLimit}
 use Rattle.ob_check.specs.declared.program.DataType.{DataType}

@@ -1,7 +1,7 @@
 -- Declarations lead to one environment, and to one list of variables or parameters.
 use Rattle.std.proofs.Common.{◌≡◌, ℕ, suc, List, ◌∷◌, ◌++◌, refl, sym, ap, subst, map}
-use Rattle.ob_syntax.specs.Tree
-use Rattle.ob_syntax.specs.Tree.{TypeExpr, VarDecl, Section, Declarations, Procedures}
+use Rattle.ob_grammar.specs.Tree
+use Rattle.ob_grammar.specs.Tree.{TypeExpr, VarDecl, Section, Declarations, Procedures}
 use Rattle.ob_check.specs.declared.program.DataType.{DataType}
 use Rattle.ob_check.specs.Program.{Parameter, Variable, Procedure, formal_of}
 use Rattle.ob_check.specs.Scopes.{Environment, ProcedureName, declared}

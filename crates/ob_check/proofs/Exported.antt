@@ -8,7 +8,7 @@ use Rattle.ob_check.specs.declared.program.Parameter.{Parameter}
 use Rattle.ob_check.specs.declared.program.Procedure.{Procedure}
 use Rattle.ob_check.specs.Program as Program
 use Rattle.ob_check.specs.Program.{formal_of}
-use Rattle.ob_check.specs.Exports.{Heading, heading_of, export_of}
+use Rattle.ob_check.specs.Exports.{Signature, signature_of, export_of}
 use Rattle.ob_check.specs.View.{parameter_of, procedure_of}
 
 pub formals_again : (ps : List Parameter) → map (λ p. formal_of (parameter_of p)) ps ≡ map formal_of (map parameter_of ps)
@@ -31,15 +31,15 @@ pub exported_of-shown : (ps : List Procedure) (p : Procedure) → p.is_exported 
 exported_of-shown ps p e = exported_of-push ps p ∙ ap (λ b. exported_of ps ++ cond b (procedure_of p ∷ []) []) e
 
 pub headings_more : (es : List Export) (e : Export) (ps : List Procedure) (p : Procedure) →
-    map export_of es ≡ map heading_of (exported_of ps) → p.is_exported ≡ true → export_of e ≡ heading_of (procedure_of p) →
-    map export_of (es ++ e ∷ []) ≡ map heading_of (exported_of (ps ++ p ∷ []))
+    map export_of es ≡ map signature_of (exported_of ps) → p.is_exported ≡ true → export_of e ≡ signature_of (procedure_of p) →
+    map export_of (es ++ e ∷ []) ≡ map signature_of (exported_of (ps ++ p ∷ []))
 headings_more es e ps p h shown same =
     let left = map-append export_of es (e ∷ []) in
-    let right = ap (map heading_of) (exported_of-shown ps p shown) ∙ map-append heading_of (exported_of ps) (procedure_of p ∷ []) in
-    left ∙ ap (λ hs. hs ++ export_of e ∷ []) h ∙ ap (λ (x : Heading). map heading_of (exported_of ps) ++ x ∷ []) same ∙ sym right
+    let right = ap (map signature_of) (exported_of-shown ps p shown) ∙ map-append signature_of (exported_of ps) (procedure_of p ∷ []) in
+    left ∙ ap (λ hs. hs ++ export_of e ∷ []) h ∙ ap (λ (x : Signature). map signature_of (exported_of ps) ++ x ∷ []) same ∙ sym right
 
 pub same_heading : (e : Export) (p : Procedure) → string_bytes e.name ≡ string_bytes p.name → e.parameters.items ≡ map (λ q. formal_of (parameter_of q)) p.parameters.items →
-    export_of e ≡ heading_of (procedure_of p)
+    export_of e ≡ signature_of (procedure_of p)
 same_heading e p name formals =
     let all = formals ∙ formals_again p.parameters.items in
     λ i. record { name = name i; parameters = all i }

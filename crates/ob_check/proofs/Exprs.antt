@@ -1,13 +1,13 @@
 -- Expressions and their operands, one after another.
 use Rattle.std.proofs.Common.{◌≡◌, ℕ, ℤ, List, [], ◌∷◌, refl, ap, sym, subst, ◌∙◌, Box, Vec, Option, true, false, if◌then◌else◌}
 use Rattle.std.specs.declared.alloc.Global.{Global}
-use Rattle.ob_syntax.specs.declared.tree.Designator.{Designator}
-use Rattle.ob_syntax.specs.declared.tree.Expr.{Expr}
-use Rattle.ob_syntax.specs.declared.tree.Expr.TheVariants as Exprs
-use Rattle.ob_syntax.specs.declared.tree.Operand.{Operand}
-use Rattle.ob_syntax.specs.declared.tree.Sign.{Sign}
-use Rattle.ob_syntax.specs.Tree
-use Rattle.ob_syntax.specs.View.{name_of, expr_of, operands_in, selectors_in}
+use Rattle.ob_grammar.specs.declared.tree.Designator.{Designator}
+use Rattle.ob_grammar.specs.declared.tree.Expr.{Expr}
+use Rattle.ob_grammar.specs.declared.tree.Expr.TheVariants as Exprs
+use Rattle.ob_grammar.specs.declared.tree.Operand.{Operand}
+use Rattle.ob_grammar.specs.declared.tree.Sign.{Sign}
+use Rattle.ob_grammar.specs.Tree
+use Rattle.ob_grammar.specs.View.{name_of, expr_of, operands_in, selectors_in}
 use Rattle.ob_check.specs.declared.checker.CheckFault.{CheckFault}
 use Rattle.ob_check.specs.declared.checker.CheckFault.TheVariants.{NotSupported}
 use Rattle.ob_check.specs.declared.program.Arithmetic.{Arithmetic}
@@ -28,7 +28,7 @@ use Rattle.ob_check.specs.View.{expression_of}
 use Rattle.ob_check.specs.Checking.{IsFaultIn, operations_in}
 use Rattle.ob_check.proofs.Faults.{further_in}
 use Rattle.ob_check.proofs.Sums.{expression_of-computed}
-use Rattle.ob_syntax.proofs.Rows.{expr_of-named, expr_of-sum}
+use Rattle.ob_grammar.proofs.Rows.{expr_of-named, expr_of-sum}
 
 -- there is one type
 pub is_integer : (t : DataType) → t ≡ Integer

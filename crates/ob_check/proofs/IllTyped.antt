@@ -3,8 +3,8 @@ use Rattle.std.proofs.Common.{◌≡◌, ℕ, suc, ◌+◌, ◌*◌, ◌<◌, �
 use Rattle.std.specs.Prelude.{bytes_eq}
 use Rattle.std.proofs.lemmas.List.{append-nil, length-append, length-map}
 use Rattle.std.proofs.lemmas.List.Sums.{sum_by-cons, sum_by-append}
-use Rattle.ob_syntax.specs.Tree
-use Rattle.ob_syntax.specs.Tree.{Expr, Operands, TypeExpr, Stmt, Stmts, VarDecl, DeclarationPart, Section, Heading, Declarations, Procedures, Module}
+use Rattle.ob_grammar.specs.Tree
+use Rattle.ob_grammar.specs.Tree.{Expr, Operands, TypeExpr, Stmt, Stmts, VarDecl, DeclarationPart, Section, Heading, Declarations, Procedures, Module}
 use Rattle.ob_check.specs.declared.checker.CheckFault.{CheckFault}
 use Rattle.ob_check.specs.declared.program.DataType.{DataType}
 use Rattle.ob_check.specs.declared.program.DataType.TheVariants.{Integer}
@@ -291,10 +291,10 @@ not_found : (env : Environment) (name : Tree.Name) {t : DataType} {d : Designato
 not_found env name p (Typing.of_module q) = cc
 not_found env name p (Typing.own q) = cc
 
-no_type_found : (env : Environment) (name : Tree.Name) {t : DataType} → found env name.text ≡ None → Denotes env (Tree.Called name) t → ⊥
+no_type_found : (env : Environment) (name : Tree.Name) {t : DataType} → found env name.text ≡ None → Denotes env (Tree.NamedType name) t → ⊥
 no_type_found env name p (Typing.called q) = cc
 
-not_type : (env : Environment) (name : Tree.Name) (o : Object) {t : DataType} → found env name.text ≡ Some o → IsNoType o → Denotes env (Tree.Called name) t → ⊥
+not_type : (env : Environment) (name : Tree.Name) (o : Object) {t : DataType} → found env name.text ≡ Some o → IsNoType o → Denotes env (Tree.NamedType name) t → ⊥
 not_type env name _ p Rules.of_module (Typing.called q) = cc
 not_type env name _ p Rules.local (Typing.called q) = cc
 not_type env name _ p Rules.procedure (Typing.called q) = cc

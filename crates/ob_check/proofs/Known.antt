@@ -1,9 +1,9 @@
 -- Parts in which each construct is known: what they hold, and what is well typed, is such a part.
 use Rattle.std.proofs.Common.{◌≡◌, ℕ, Bool, true, false, List, Option, Some, None, refl, sym, ap, ◌∙◌, if◌then◌else◌}
 use Rattle.std.specs.Option.{option_or}
-use Rattle.ob_syntax.specs.declared.tree.Operator.{Operator}
-use Rattle.ob_syntax.specs.Tree
-use Rattle.ob_syntax.specs.Tree.{Expr, Operands, TypeExpr, Stmt, Stmts, VarDecl, DeclarationPart, Section, Declarations, Procedures, Module}
+use Rattle.ob_grammar.specs.declared.tree.Operator.{Operator}
+use Rattle.ob_grammar.specs.Tree
+use Rattle.ob_grammar.specs.Tree.{Expr, Operands, TypeExpr, Stmt, Stmts, VarDecl, DeclarationPart, Section, Declarations, Procedures, Module}
 use Rattle.ob_check.specs.Program
 use Rattle.ob_check.specs.Program.{Variable, Parameter, Procedure}
 use Rattle.ob_check.specs.Scopes.{Environment}

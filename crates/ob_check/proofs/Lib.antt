@@ -14,3 +14,4 @@ pub mod Bodies
 pub mod Declared
 pub mod Rows
 pub mod Modules
+pub mod OneProgram

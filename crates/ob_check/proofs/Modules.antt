@@ -1,12 +1,12 @@
 -- A whole module: its program, and the faults of its (out-Declarations tree.declarations).
 use Rattle.std.proofs.Common.{◌≡◌, ℕ, ◌≤◌, List, Option, Some, None, option_map, length, map, refl, sym, ap, subst, ◌∙◌}
 use Rattle.std.specs.Option.{option_or}
-use Rattle.ob_syntax.specs.declared.tree.Declarations.{out-Declarations}
-use Rattle.ob_syntax.specs.declared.tree.Module.{Module}
-use Rattle.ob_syntax.specs.declared.tree.Procedure.{Procedure}
-use Rattle.ob_syntax.specs.declared.tree.VarDecl.{VarDecl}
-use Rattle.ob_syntax.specs.Tree
-use Rattle.ob_syntax.specs.View.{constants_of, types_of, variables_of, var_decl_of, procedures_in, module_of}
+use Rattle.ob_grammar.specs.declared.tree.Declarations.{out-Declarations}
+use Rattle.ob_grammar.specs.declared.tree.ModuleTree.{ModuleTree}
+use Rattle.ob_grammar.specs.declared.tree.Procedure.{Procedure}
+use Rattle.ob_grammar.specs.declared.tree.VarDecl.{VarDecl}
+use Rattle.ob_grammar.specs.Tree
+use Rattle.ob_grammar.specs.View.{constants_of, types_of, variables_of, var_decl_of, procedures_in, module_of}
 use Rattle.ob_check.specs.declared.checker.CheckFault.{CheckFault}
 use Rattle.ob_check.specs.declared.checker.CheckFault.TheVariants.{UnknownName, DeclaredTwice, WrongKind, PassesLimit, NotSupported, NoMemory}
 use Rattle.ob_check.specs.Program as Program
@@ -19,7 +19,7 @@ use Rattle.ob_check.specs.Parts as Parts
 use Rattle.ob_check.specs.Parts.{Part, SomeVariables, SomeProcedures, SomeStatements, Within, Stands}
 use Rattle.ob_check.specs.CheckFaults.{BreaksRule, IsCheckFault}
 use Rattle.ob_check.specs.Checking.{FailsWithin, IsKnown, IsFaultIn, IsFaultInBody}
-use Rattle.ob_syntax.proofs.Rows.{declarations_of-parts}
+use Rattle.ob_grammar.proofs.Rows.{declarations_of-parts}
 use Rattle.ob_check.proofs.Known.{or_first, or_second, well_typed_known, no_part}
 use Rattle.ob_check.proofs.IllTyped.{ill_typed}
 
@@ -46,7 +46,7 @@ pub not_supported : (m : Tree.Module) (place : ℕ) → outside m ≡ Some place
 not_supported m place h = record { fails = h; ill_typed = λ o program w. let e = well_typed_known m program w in cc }
 
 -- a module in which each construct is known, with its declarations part by part
-module _ (tree : Module) (whole : outside (module_of tree) ≡ None) where
+module _ (tree : ModuleTree) (whole : outside (module_of tree) ≡ None) where
   abbrev constants_in : Option (Tree.DeclarationPart Tree.ConstDecl)
   constants_in = option_map constants_of (out-Declarations tree.declarations).constants
 

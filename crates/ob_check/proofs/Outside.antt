@@ -2,18 +2,18 @@
 use Rattle.std.proofs.Common.{◌≡◌, ℕ, length, Bool, true, false, ◌&&◌, List, [], ◌∷◌, Option, Some, None, option_map, Box, Vec, Global, refl, sym, ap, ◌∙◌, map, arith, vec_len, ◌==◌, eqb-true, eq-eqb, if◌then◌else◌}
 use Rattle.std.specs.Option.{option_or}
 use Rattle.std.specs.List.{list_all}
-use Rattle.ob_syntax.specs.declared.tree.Expr.{Expr}
-use Rattle.ob_syntax.specs.declared.tree.Expr.TheVariants as Exprs
-use Rattle.ob_syntax.specs.declared.tree.Designator.{Designator}
-use Rattle.ob_syntax.specs.declared.tree.Operand.{Operand}
-use Rattle.ob_syntax.specs.declared.tree.Selector.{Selector}
-use Rattle.ob_syntax.specs.declared.tree.Selector.TheVariants.{Field, Index}
-use Rattle.ob_syntax.specs.declared.tree.Sign.{Sign}
-use Rattle.ob_syntax.specs.declared.tree.Stmt.{Stmt}
-use Rattle.ob_syntax.specs.declared.tree.Stmt.TheVariants as Stmts
-use Rattle.ob_syntax.specs.Tree
-use Rattle.ob_syntax.specs.View.{name_of, expr_of, operands_in, selectors_in, stmt_of}
-use Rattle.ob_syntax.proofs.Rows.{expr_of-named, expr_of-sum}
+use Rattle.ob_grammar.specs.declared.tree.Expr.{Expr}
+use Rattle.ob_grammar.specs.declared.tree.Expr.TheVariants as Exprs
+use Rattle.ob_grammar.specs.declared.tree.Designator.{Designator}
+use Rattle.ob_grammar.specs.declared.tree.Operand.{Operand}
+use Rattle.ob_grammar.specs.declared.tree.Selector.{Selector}
+use Rattle.ob_grammar.specs.declared.tree.Selector.TheVariants.{Field, Index}
+use Rattle.ob_grammar.specs.declared.tree.Sign.{Sign}
+use Rattle.ob_grammar.specs.declared.tree.Stmt.{Stmt}
+use Rattle.ob_grammar.specs.declared.tree.Stmt.TheVariants as Stmts
+use Rattle.ob_grammar.specs.Tree
+use Rattle.ob_grammar.specs.View.{name_of, expr_of, operands_in, selectors_in, stmt_of}
+use Rattle.ob_grammar.proofs.Rows.{expr_of-named, expr_of-sum}
 use Rattle.ob_check.specs.Typing.{listed}
 use Rattle.ob_check.specs.FirstPath.{is_arithmetic, all_arithmetic, first_place, outside_expr, outside_operands, outside_stmt}
 

@@ -1,7 +1,7 @@
 -- Declarations one after another: of variables, and of parameters.
 use Rattle.std.proofs.Common.{◌≡◌, ℕ, ◌+◌, List, [], ◌∷◌, ◌++◌, length, sym, ap, subst, ◌∙◌, append_assoc}
 use Rattle.std.proofs.lemmas.List.{append-nil, length-append}
-use Rattle.ob_syntax.specs.Tree.{VarDecl, Section}
+use Rattle.ob_grammar.specs.Tree.{VarDecl, Section}
 use Rattle.ob_check.specs.declared.checker.CheckFault.{CheckFault}
 use Rattle.ob_check.specs.Program.{Variable, Parameter}
 use Rattle.ob_check.specs.Scopes.{Environment, variable_words}

@@ -1,10 +1,10 @@
 -- Faults of procedures and their parameters.
 use Rattle.std.proofs.Common.{◌≡◌, ◌↔◌, ◌≤◌, IsTrue, ℕ, suc, true, false, List, ◌∷◌, Option, Some, None, option_map, length, map, refl, sym, ap, subst, ◌∙◌, if◌then◌else◌}
 use Rattle.std.specs.Option.{option_or}
-use Rattle.ob_syntax.specs.declared.tree.Procedure.{Procedure, out-Procedure}
-use Rattle.ob_syntax.specs.declared.tree.Section.{Section}
-use Rattle.ob_syntax.specs.Tree
-use Rattle.ob_syntax.specs.View.{section_of, heading_of, inner_of, body_of, procedure_before}
+use Rattle.ob_grammar.specs.declared.tree.Procedure.{Procedure, out-Procedure}
+use Rattle.ob_grammar.specs.declared.tree.Section.{Section}
+use Rattle.ob_grammar.specs.Tree
+use Rattle.ob_grammar.specs.View.{section_of, heading_of, inner_of, body_of, procedure_before}
 use Rattle.ob_check.specs.declared.checker.CheckFault.{CheckFault}
 use Rattle.ob_check.specs.declared.checker.CheckFault.TheVariants.{DeclaredTwice, PassesLimit, NotSupported}
 use Rattle.ob_check.specs.declared.program.DataType.{DataType}

@@ -2,7 +2,7 @@
 use Rattle.std.proofs.Common.{◌≡◌, ℕ, Bool, true, false, Some, None, refl, sym, subst, if◌then◌else◌}
 use Rattle.std.proofs.Common.{Vec}
 use Rattle.std.specs.declared.alloc.Global.{Global}
-use Rattle.ob_syntax.specs.Tree
+use Rattle.ob_grammar.specs.Tree
 use Rattle.ob_check.specs.declared.checker.CheckFault.TheVariants.{UnknownName, WrongKind}
 use Rattle.ob_check.specs.declared.checker.scopes.Object.{Object}
 use Rattle.ob_check.specs.declared.checker.scopes.Object.TheVariants as Objects
@@ -32,7 +32,7 @@ module _ (env : Environment) (name : Tree.Name) where
       let Q : Name → Type 0 = λ x. IsVariable env name t (Program.OfModule x) in
       subst Q (sym e) (Typing.of_module h)
 
-  pub is_type : (is_own : Bool) (o : Object) (t : DataType) → found env name.text ≡ Some (meaning_of is_own o) → o ≡ Objects.Type t → Denotes env (Tree.Called name) t
+  pub is_type : (is_own : Bool) (o : Object) (t : DataType) → found env name.text ≡ Some (meaning_of is_own o) → o ≡ Objects.Type t → Denotes env (Tree.NamedType name) t
   is_type is_own o t h e =
       let P : Object → Type 0 = λ x. found env name.text ≡ Some (meaning_of is_own x) in
       Typing.called (subst P e h)
@@ -42,13 +42,13 @@ module _ (env : Environment) (name : Tree.Name) where
   pub unknown_variable : found env name.text ≡ None → FailsWithin env (AVariable name) (UnknownName name.place)
   unknown_variable h = fails_here (Rules.unknown_variable h)
 
-  pub unknown_type : found env name.text ≡ None → FailsWithin env (AType (Tree.Called name)) (UnknownName name.place)
+  pub unknown_type : found env name.text ≡ None → FailsWithin env (AType (Tree.NamedType name)) (UnknownName name.place)
   unknown_type h = fails_here (Rules.unknown_type h)
 
   no_variable : (is_own : Bool) (o : Object) → found env name.text ≡ Some (meaning_of is_own o) → IsNoVariable (meaning_of is_own o) → FailsWithin env (AVariable name) (WrongKind name.place)
   no_variable is_own o h k = fails_here (Rules.no_variable h k)
 
-  no_type : (is_own : Bool) (o : Object) → found env name.text ≡ Some (meaning_of is_own o) → IsNoType (meaning_of is_own o) → FailsWithin env (AType (Tree.Called name)) (WrongKind name.place)
+  no_type : (is_own : Bool) (o : Object) → found env name.text ≡ Some (meaning_of is_own o) → IsNoType (meaning_of is_own o) → FailsWithin env (AType (Tree.NamedType name)) (WrongKind name.place)
   no_type is_own o h k = fails_here (Rules.no_type h k)
 
   pub type_no_variable : (is_own : Bool) (o : Object) (t : DataType) → found env name.text ≡ Some (meaning_of is_own o) → o ≡ Objects.Type t → FailsWithin env (AVariable name) (WrongKind name.place)
@@ -61,8 +61,8 @@ module _ (env : Environment) (name : Tree.Name) where
   variable_kind true t = Rules.local
   variable_kind false t = Rules.of_module
 
-  pub variable_no_type : (is_own : Bool) (o : Object) (t : DataType) → found env name.text ≡ Some (meaning_of is_own o) → o ≡ Objects.Variable t → FailsWithin env (AType (Tree.Called name)) (WrongKind name.place)
+  pub variable_no_type : (is_own : Bool) (o : Object) (t : DataType) → found env name.text ≡ Some (meaning_of is_own o) → o ≡ Objects.Variable t → FailsWithin env (AType (Tree.NamedType name)) (WrongKind name.place)
   variable_no_type is_own o t h e = no_type is_own o h (subst (λ x. IsNoType (meaning_of is_own x)) (sym e) (variable_kind is_own t))
 
-  pub procedure_no_type : (is_own : Bool) (o : Object) (n : ℕ) (ps : Vec Formal Global) → found env name.text ≡ Some (meaning_of is_own o) → o ≡ Objects.Procedure n ps → FailsWithin env (AType (Tree.Called name)) (WrongKind name.place)
+  pub procedure_no_type : (is_own : Bool) (o : Object) (n : ℕ) (ps : Vec Formal Global) → found env name.text ≡ Some (meaning_of is_own o) → o ≡ Objects.Procedure n ps → FailsWithin env (AType (Tree.NamedType name)) (WrongKind name.place)
   procedure_no_type is_own o n ps h e = no_type is_own o h (subst (λ x. IsNoType (meaning_of is_own x)) (sym e) Rules.procedure)

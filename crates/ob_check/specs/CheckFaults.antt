@@ -1,7 +1,7 @@
 -- For each rule: it fails at a place of a module.
 use Rattle.std.specs.Prelude.{◌≡◌, ℕ, suc, ◌+◌, ◌*◌, ◌<◌, ◌≤◌, true, length, List, ◌∷◌, ◌++◌, Option, Some, None}
-use Rattle.ob_syntax.specs.Tree
-use Rattle.ob_syntax.specs.Tree.{Stmts, VarDecl, Section, Heading, Declarations, Procedures, Module}
+use Rattle.ob_grammar.specs.Tree
+use Rattle.ob_grammar.specs.Tree.{Stmts, VarDecl, Section, Heading, Declarations, Procedures, Module}
 use Rattle.ob_check.specs.declared.checker.CheckFault.{CheckFault}
 use Rattle.ob_check.specs.declared.checker.CheckFault.TheVariants.{UnknownName, DeclaredTwice, WrongKind, PassesLimit, NotSupported, NoMemory}
 use Rattle.ob_check.specs.declared.program.DataType.{DataType}
@@ -29,7 +29,7 @@ pub data Fails : Environment → Part → CheckFault → Type 0 where
   unknown_variable : {env : Environment} {name : Tree.Name} →
       found env name.text ≡ None → Fails env (AVariable name) (UnknownName name.place)
   unknown_type : {env : Environment} {name : Tree.Name} →
-      found env name.text ≡ None → Fails env (AType (Tree.Called name)) (UnknownName name.place)
+      found env name.text ≡ None → Fails env (AType (Tree.NamedType name)) (UnknownName name.place)
   -- a name twice in one scope, at the second
   declared_twice : {env : Environment} {name : Tree.Name} →
       ¬ IsNew env name.text → Fails env (New name) (DeclaredTwice name.place)
@@ -37,7 +37,7 @@ pub data Fails : Environment → Part → CheckFault → Type 0 where
   no_variable : {env : Environment} {name : Tree.Name} {o : Object} →
       found env name.text ≡ Some o → IsNoVariable o → Fails env (AVariable name) (WrongKind name.place)
   no_type : {env : Environment} {name : Tree.Name} {o : Object} →
-      found env name.text ≡ Some o → IsNoType o → Fails env (AType (Tree.Called name)) (WrongKind name.place)
+      found env name.text ≡ Some o → IsNoType o → Fails env (AType (Tree.NamedType name)) (WrongKind name.place)
   -- a variable with which the module has over 4096 words, at the name
   too_many_words : {env : Environment} {before_words : ℕ} {x : VarDecl} {xs : List VarDecl} {t : DataType} (before behind : List Tree.Name) (name : Tree.Name) →
       Denotes env x.of_type t → x.names ≡ before ++ name ∷ behind →

@@ -3,10 +3,10 @@
 -- and expressions that are neither names, numbers nor sums by `+` and `-`. A construct's place is that of its first token.
 use Rattle.std.specs.Prelude.{ℕ, Bool, true, false, List, [], ◌∷◌, Option, Some, None, if◌then◌else◌}
 use Rattle.std.specs.Option.{option_or}
-use Rattle.ob_syntax.specs.declared.tree.Operator.{Operator}
-use Rattle.ob_syntax.specs.declared.tree.Operator.TheVariants.{Plus, Minus}
-use Rattle.ob_syntax.specs.Tree
-use Rattle.ob_syntax.specs.Tree.{Name, Expr, Operands, TypeExpr, Stmt, Stmts, VarDecl, DeclarationPart, Section, Heading, Declarations, Procedures, Module}
+use Rattle.ob_grammar.specs.declared.tree.Operator.{Operator}
+use Rattle.ob_grammar.specs.declared.tree.Operator.TheVariants.{Plus, Minus}
+use Rattle.ob_grammar.specs.Tree
+use Rattle.ob_grammar.specs.Tree.{Name, Expr, Operands, TypeExpr, Stmt, Stmts, VarDecl, DeclarationPart, Section, Heading, Declarations, Procedures, Module}
 use Rattle.ob_check.specs.Typing.{listed, declared_by}
 
 -- the place of an expression's first token
@@ -46,7 +46,7 @@ abbrev mutual
   outside_operands (Tree.operand operator place e rest) = option_or (outside_expr e) (outside_operands rest)
 
 abbrev pub outside_type : TypeExpr → Option ℕ
-outside_type (Tree.Called name) = None
+outside_type (Tree.NamedType name) = None
 outside_type (Tree.Array place length element) = Some place
 outside_type (Tree.Record place lists) = Some place
 

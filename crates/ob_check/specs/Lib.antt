@@ -9,3 +9,4 @@ pub mod CheckFaults
 pub mod Exports
 pub mod CheckedModule
 pub mod Checking
+pub mod ModuleText

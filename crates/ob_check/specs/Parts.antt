@@ -1,9 +1,9 @@
 -- The parts of a module, each with the names that are declared where it stands. The rules on faults speak of them.
 use Rattle.std.specs.Prelude.{◌≡◌, ℕ, suc, ◌+◌, List, [], ◌∷◌, ◌++◌, length, map, Option, Some, if◌then◌else◌}
-use Rattle.ob_syntax.specs.declared.tree.Sign.{Sign}
-use Rattle.ob_syntax.specs.declared.tree.Operator.{Operator}
-use Rattle.ob_syntax.specs.Tree
-use Rattle.ob_syntax.specs.Tree.{Expr, Operands, TypeExpr, Stmt, Stmts, ConstDecl, TypeDecl, VarDecl, DeclarationPart, Section, Heading, Declarations, Procedures, Module}
+use Rattle.ob_grammar.specs.declared.tree.Sign.{Sign}
+use Rattle.ob_grammar.specs.declared.tree.Operator.{Operator}
+use Rattle.ob_grammar.specs.Tree
+use Rattle.ob_grammar.specs.Tree.{Expr, Operands, TypeExpr, Stmt, Stmts, ConstDecl, TypeDecl, VarDecl, DeclarationPart, Section, Heading, Declarations, Procedures, Module}
 use Rattle.ob_check.specs.declared.program.DataType.TheVariants.{Integer}
 use Rattle.ob_check.specs.Program.{Parameter, Variable, Procedure, formal_of}
 use Rattle.ob_check.specs.Scopes.{Environment, TypeName, ProcedureName, no_names, declared, variable_words}

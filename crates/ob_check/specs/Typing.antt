@@ -1,9 +1,9 @@
 -- Well-typedness: judgements that lead from a part of the tree, under declared names, to a part of the checked program.
 use Rattle.std.specs.Prelude.{◌≡◌, ℕ, suc, ◌≤◌, Bool, List, [], ◌∷◌, ◌++◌, length, map, Option, Some, None, if◌then◌else◌}
-use Rattle.ob_syntax.specs.declared.tree.Operator.{Operator}
-use Rattle.ob_syntax.specs.declared.tree.Sign.{Sign}
-use Rattle.ob_syntax.specs.Tree
-use Rattle.ob_syntax.specs.Tree.{Expr, Operands, TypeExpr, Stmt, Stmts, ConstDecl, TypeDecl, VarDecl, DeclarationPart, Section, Heading, Declarations, Procedures, Module}
+use Rattle.ob_grammar.specs.declared.tree.Operator.{Operator}
+use Rattle.ob_grammar.specs.declared.tree.Sign.{Sign}
+use Rattle.ob_grammar.specs.Tree
+use Rattle.ob_grammar.specs.Tree.{Expr, Operands, TypeExpr, Stmt, Stmts, ConstDecl, TypeDecl, VarDecl, DeclarationPart, Section, Heading, Declarations, Procedures, Module}
 use Rattle.ob_check.specs.declared.program.DataType.{DataType}
 use Rattle.ob_check.specs.declared.program.DataType.TheVariants.{Integer}
 use Rattle.ob_check.specs.declared.program.Arithmetic.{Arithmetic}
@@ -61,7 +61,7 @@ module _ (env : Environment) where
   -- this type expression is this type
   pub data Denotes : TypeExpr → DataType → Type 0 where
     called : {name : Tree.Name} {t : DataType} →
-        found env name.text ≡ Some (TypeName t) → Denotes (Tree.Called name) t
+        found env name.text ≡ Some (TypeName t) → Denotes (Tree.NamedType name) t
 
   pub data IsStatement : Stmt → Statement → Type 0 where
     -- the expression has the type of the target

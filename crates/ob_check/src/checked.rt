@@ -1,47 +1,55 @@
 //! A module that is well typed.
 
 ghost use Rattle.std.specs.Prelude.{◌≡◌, map};
-ghost use Rattle.ob_syntax.specs.View.{module_of};
+ghost use Rattle.ob_grammar.specs.View.{module_of};
 ghost use Rattle.ob_check.specs.View.{program_of};
 ghost use Rattle.ob_check.specs.Typing.{WellTyped};
-ghost use Rattle.ob_check.specs.Exports.{export_of, headings};
+ghost use Rattle.ob_check.specs.Exports.{export_of, signatures};
 ghost use Rattle.std.proofs.Props.{props};
 
 use crate::program::{Export, Program};
-use ob_syntax::tree::Module;
+use ob_grammar::tree::ModuleTree;
+use ob_parser::module::Module;
 
 /// A module that is well typed, with its tree unchanged and the program that it is well typed as.
 #[derive(Drop)]
 pub struct Checked {
-    tree: Module,
+    module: Module,
     program: Program,
     exports: Vec<Export>,
-    ghost listed: { map export_of exports.items ≡ headings (program_of program) } by { Prim.hlevel props },
-    ghost typed: { ∥ WellTyped (module_of tree) (program_of program) ∥₁ },
+    ghost listed: { map export_of exports.items ≡ signatures (program_of program) } by { Prim.hlevel props },
+    ghost typed: { ∥ WellTyped (module_of «module») (program_of program) ∥₁ },
 }
 
 impl Checked {
     ghost use Rattle.ob_check.specs.CheckedModule.{tree_in, program_in};
 
     /// What was checked, with the exports of the program.
-    pub(crate) fn new(tree: Module, program: Program, exports: Vec<Export>) -> Checked
-        requires listed { map export_of exports.items ≡ headings (program_of program) }
-        requires typed { WellTyped (module_of tree) (program_of program) }
-        ensures tree { tree_in result ≡ module_of tree }
+    pub(crate) fn new(module: Module, program: Program, exports: Vec<Export>) -> Checked
+        requires listed { map export_of exports.items ≡ signatures (program_of program) }
+        requires typed { WellTyped (module_of «module») (program_of program) }
+        ensures tree { tree_in result ≡ module_of «module» }
         ensures program { program_in result ≡ program_of program }
     {
         Checked {
-            tree,
+            module,
             program,
             exports,
         }
     }
 
-    /// The tree that was checked.
-    pub fn tree(&self) -> &Module
+    /// The module that was checked.
+    pub fn module(&self) -> &Module
         ensures { module_of result.now ≡ tree_in self.now }
     {
-        &self.tree
+        &self.module
+    }
+
+    /// Its tree.
+    pub fn tree(&self) -> &ModuleTree
+        ensures { module_of result.now ≡ tree_in self.now }
+    {
+        self.module.tree()
     }
 
     /// The checked program: each name resolved, each expression with its type.
@@ -53,7 +61,7 @@ impl Checked {
 
     /// The exports in text order, numbered from 0.
     pub fn exports(&self) -> &[Export]
-        ensures { map export_of result.now ≡ headings (program_in self.now) }
+        ensures { map export_of result.now ≡ signatures (program_in self.now) }
     {
         &self.exports
     }

@@ -1,11 +1,12 @@
 //! The checker: from the tree of a module to its checked program.
 
 ghost use Rattle.std.specs.Prelude.{◌≡◌, ℕ, IfOk, IfErr, map, option_map};
-ghost use Rattle.ob_syntax.specs.View.{var_decl_of, variables_of, module_of};
+ghost use Rattle.ob_grammar.specs.View.{var_decl_of, variables_of, module_of};
 ghost use Rattle.ob_check.specs.Typing.{WellTyped, listed, declared_by};
 ghost use Rattle.ob_check.specs.FirstPath.{outside};
 ghost use Rattle.ob_check.specs.CheckedModule.{tree_in, program_in};
 ghost use Rattle.ob_check.specs.CheckFaults.{IsCheckFault};
+ghost use Rattle.ob_check.specs.Program.{Program as CheckedProgram};
 ghost use Rattle.ob_check.specs.View.{program_of};
 
 mod exports;
@@ -21,7 +22,8 @@ use crate::checked::Checked;
 use crate::program::Program;
 use exports::exports_of;
 use first_path::outside;
-use ob_syntax::tree::{Module, VarDecl, Variables};
+use ob_grammar::tree::{ModuleTree, VarDecl, Variables};
+use ob_parser::module::Module;
 use procedures::declare_procedures;
 use scopes::Scopes;
 use statements::checked_body;
@@ -49,7 +51,7 @@ pub enum CheckFault {
     /// token. It comes before each other fault.
     #[error("C12 at {0}")]
     NotSupported(usize),
-    /// C11: want of memory.
+    /// Want of memory.
     #[error("NoMemory")]
     NoMemory,
 }
@@ -76,28 +78,32 @@ impl<T: Drop> From<AllocFailed<T>> for CheckFault {
     }
 }
 
-/// The checked program of a module that is well typed, with its tree unchanged. Of several faults
-/// the first in the text is answered, but what the checker does not know yet is told before all others.
-pub fn check(alloc: Global, tree: Module) -> Result<Checked, CheckFault>
-    ensures unchanged { IfOk result (λ c. tree_in c ≡ module_of tree) }
-    ensures typed { IfOk result (λ c. WellTyped (module_of tree) (program_in c)) }
+/// The checked program of a module that is well typed, with its tree unchanged. What the checker does
+/// not know yet is told before all other faults. Of those the first in the text is meant to be told,
+/// which no clause says.
+pub fn check(alloc: Global, module: Module) -> Result<Checked, CheckFault>
+    ensures unchanged { IfOk result (λ c. tree_in c ≡ module_of «module») }
+    ensures typed { IfOk result (λ c. WellTyped (module_of «module») (program_in c)) }
+    // It is well typed as no other program.
+    ensures alone { IfOk result (λ c. (other : CheckedProgram) → WellTyped (module_of «module») other → other ≡ program_in c) }
 
     // The rule fails at its place, and the module is not well typed.
-    ensures fault { IfErr result (λ e. IsCheckFault (module_of tree) e) }
+    ensures fault { IfErr result (λ e. IsCheckFault (module_of «module») e) }
 
     // The first construct that is not known is told, whatever else fails.
-    ensures first { (place : ℕ) → outside (module_of tree) ≡ Some place → result ≡ Err (CheckFault.NotSupported place) }
+    ensures first { (place : ℕ) → outside (module_of «module») ≡ Some place → result ≡ Err (CheckFault.NotSupported place) }
 {
-    if let Some(place) = outside(&tree) {
+    let tree = module.tree();
+    if let Some(place) = outside(tree) {
         return Err(CheckFault::NotSupported(place));
     }
-    let program = checked_program(alloc, &tree)?;
+    let program = checked_program(alloc, tree)?;
     let exports = exports_of(alloc, &program.procedures)?;
-    Ok(Checked::new(tree, program, exports))
+    Ok(Checked::new(module, program, exports))
 }
 
 /// The program of a module in which each construct is known.
-fn checked_program(alloc: Global, tree: &Module) -> Result<Program, CheckFault>
+fn checked_program(alloc: Global, tree: &ModuleTree) -> Result<Program, CheckFault>
     requires { outside (module_of tree.now) ≡ None }
     ensures typed { IfOk result (λ p. WellTyped (module_of tree.now) (program_of p)) }
     ensures fault { IfErr result (λ e. IsCheckFault (module_of tree.now) e) }

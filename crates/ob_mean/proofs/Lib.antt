@@ -1,3 +1,4 @@
+pub mod MoreTurns
 pub mod Chains
 pub mod Bindings
 pub mod Exports

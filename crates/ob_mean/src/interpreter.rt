@@ -16,7 +16,7 @@ use crate::state::State;
 use crate::store::Store;
 use ob_check::checked::Checked;
 use ob_check::program::{Procedure, Program};
-use ob_syntax::NoMemory;
+use ob_grammar::NoMemory;
 use smallvec::SmallVec;
 use std::alloc::Global;
 

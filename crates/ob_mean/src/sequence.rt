@@ -10,7 +10,7 @@ use crate::call::{Call, Reply};
 use crate::interpreter::interpret;
 use crate::opening::{OpenFault, opening};
 use ob_check::checked::Checked;
-use ob_syntax::NoMemory;
+use ob_grammar::NoMemory;
 use std::alloc::{AllocFailed, Global};
 use thiserror::Error;
 

@@ -35,7 +35,7 @@ impl State {
     }
 
     /// An equal state.
-    pub(crate) fn copy(&self, alloc: Global) -> Result<State, AllocError>
+    pub fn copy(&self, alloc: Global) -> Result<State, AllocError>
         ensures { IfOk result (λ s. state_of s ≡ state_of self.now) }
     {
         let mut variables = Vec::new(alloc);

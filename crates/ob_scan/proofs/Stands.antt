@@ -8,6 +8,7 @@ use Rattle.std.proofs.lemmas.List.Edits.{length-between}
 use Rattle.ob_scan.specs.declared.fault.ScanFault.TheVariants.{StrayByte, NumberTooLarge, NameTooLong}
 use Rattle.ob_scan.specs.declared.token.Kind.{Kind}
 use Rattle.ob_scan.specs.declared.token.Kind.TheVariants.{Ident, Number}
+use Rattle.ob_scan.specs.declared.token.TheConstants.{LONGEST_NAME, LARGEST_NUMBER}
 use Rattle.ob_scan.specs.Spelling.{fixed_spelling, Spells, fixed, name, number, number_value, IsLongest}
 use Rattle.ob_scan.specs.Tokens.{IsBlank, KeepsLimits}
 use Rattle.ob_scan.specs.ScanFaults.{IsStray, HasSpelling, has}
@@ -66,7 +67,7 @@ module _ (text : List ℕ) (start end : ℕ) (r : IsRun text start end is_ascii_
       subst P (sym r.parts)
       (name first_letter (run_passes is_ascii_alphanumeric r.rest) (λ k e. n k (e ∙ ap Some (sym r.parts))))
 
-  pub name_stands : ((kind : Kind) → fixed_spelling kind ≢ Some (slice_range text start end)) → end - start ≤ 64 →
+  pub name_stands : ((kind : Kind) → fixed_spelling kind ≢ Some (slice_range text start end)) → end - start ≤ LONGEST_NAME →
       StandsToken text start (record { kind = Ident; start = start; end = end })
   name_stands n short = record {
     starts = refl;
@@ -77,10 +78,10 @@ module _ (text : List ℕ) (start end : ℕ) (r : IsRun text start end is_ascii_
     limited = ((λ _. omega (arith, length-between text start end r.within)), (λ k. absurd (name_no_number k)));
   }
 
-  pub name_too_long : ((kind : Kind) → fixed_spelling kind ≢ Some (slice_range text start end)) → 64 < end - start →
+  pub name_too_long : ((kind : Kind) → fixed_spelling kind ≢ Some (slice_range text start end)) → LONGEST_NAME < end - start →
       StandsFault text start (NameTooLong start)
   name_too_long n long =
-      let P : List ℕ → Type 0 = HasSpelling Ident (λ bytes. 64 < length bytes) in
+      let P : List ℕ → Type 0 = HasSpelling Ident (λ bytes. LONGEST_NAME < length bytes) in
       let o = r.ordered in (
         refl,
         subst P (slice_join text start end (omega arith))
@@ -88,9 +89,9 @@ module _ (text : List ℕ) (start end : ℕ) (r : IsRun text start end is_ascii_
       )
 
 -- what a test that failed says of a bound
-pub not_over : {answer : Bool} {n : ℕ} → IsTrue answer ↔ (2147483647 < n) → answer ≡ false → n ≤ 2147483647
+pub not_over : {answer : Bool} {n : ℕ} → IsTrue answer ↔ (LARGEST_NUMBER < n) → answer ≡ false → n ≤ LARGEST_NUMBER
 not_over {answer = answer} {n = n} says h =
-    ⊎_elim (λ (l : 2147483647 < n). absurd (false≢true (sym h ∙ says.1 l))) (λ (g : n ≤ 2147483647). g) (cases_lt 2147483647 n)
+    ⊎_elim (λ (l : LARGEST_NUMBER < n). absurd (false≢true (sym h ∙ says.1 l))) (λ (g : n ≤ LARGEST_NUMBER). g) (cases_lt LARGEST_NUMBER n)
 
 -- a run of digits
 module _ (text : List ℕ) (start end : ℕ) (r : IsRun text start end is_ascii_digit)
@@ -111,7 +112,7 @@ module _ (text : List ℕ) (start end : ℕ) (r : IsRun text start end is_ascii_
       (number
       (and_from (is_ascii_digit r.first) (list_all is_ascii_digit (take n r.rest)) first_digit (run_passes is_ascii_digit r.rest)))
 
-  pub number_stands : number_value (slice_range text start end) ≤ 2147483647 →
+  pub number_stands : number_value (slice_range text start end) ≤ LARGEST_NUMBER →
       StandsToken text start (record { kind = Number; start = start; end = end })
   number_stands small = record {
     starts = refl;
@@ -122,10 +123,10 @@ module _ (text : List ℕ) (start end : ℕ) (r : IsRun text start end is_ascii_
     limited = ((λ k. absurd (name_no_number (sym k))), (λ _. small));
   }
 
-  pub number_too_large : 2147483647 < number_value (slice_range text start end) →
+  pub number_too_large : LARGEST_NUMBER < number_value (slice_range text start end) →
       StandsFault text start (NumberTooLarge start)
   number_too_large large =
-      let P : List ℕ → Type 0 = HasSpelling Number (λ bytes. 2147483647 < number_value bytes) in
+      let P : List ℕ → Type 0 = HasSpelling Number (λ bytes. LARGEST_NUMBER < number_value bytes) in
       let o = r.ordered in
       (refl, subst P (slice_join text start end (omega arith)) (has number_spells digits_longest large))
 

@@ -5,15 +5,17 @@ use Rattle.std.specs.Int.{is_in_range}
 use Rattle.std.specs.Char.{is_ascii_alphabetic, is_ascii_alphanumeric, is_ascii_digit}
 use Rattle.std.proofs.lemmas.Bool.{or_cases, or_left, or_right, and_from}
 use Rattle.std.proofs.lemmas.List.{take_at, drop_at, take-append-drop, drop-drop}
-use Rattle.std.proofs.lemmas.List.Elements.{All-nil, All-cons, All-weaker}
+use Rattle.std.proofs.lemmas.List.Elements.{All-nil, All-cons, All-head, All-tail, All-weaker}
 use Rattle.ob_scan.specs.declared.token.Kind.{Kind}
 use Rattle.ob_scan.specs.declared.token.Kind.TheVariants.{Ident, Number}
+use Rattle.ob_scan.specs.declared.token.TheConstants.{LONGEST_NAME, LARGEST_NUMBER}
 use Rattle.ob_scan.specs.declared.token.Token.{Token}
+use Rattle.ob_scan.specs.Lexemes.{lexeme, IsSpelled, spelled, lexemes}
 use Rattle.ob_scan.specs.Spelling.{fixed_spelling, Spells, fixed, name, number, number_value}
-use Rattle.ob_scan.specs.Tokens.{CommentEnds, close, nested, other, BeginsWith, stops, blank, comment, token, spelling, place, HasTokens}
+use Rattle.ob_scan.specs.Tokens.{CommentEnds, close, nested, other, BeginsWith, stops, blank, comment, token, spelling, place, KeepsLimits, HasTokens}
 
 -- a token lies within its text, and its bytes spell its kind
-pub record IsSpelled (text : List ℕ) (t : Token) : Type 0 where
+pub record IsSpelledWithin (text : List ℕ) (t : Token) : Type 0 where
   pub ordered : t.start ≤ t.end
   pub within : t.end ≤ length text
   pub spells : Spells (spelling text t) t.kind
@@ -55,7 +57,7 @@ spelling_there before bytes behind whole text e f =
 
 spelled_at : (before bytes behind : List ℕ) (kind : Kind) (whole text : List ℕ) →
     whole ≡ before ++ text → text ≡ bytes ++ behind → Spells bytes kind →
-    IsSpelled whole (record { kind = kind; start = place whole text; end = place whole behind })
+    IsSpelledWithin whole (record { kind = kind; start = place whole text; end = place whole behind })
 spelled_at before bytes behind kind whole text e f s =
     let lw = ap length e ∙ length-append before text in
     let lt = ap length f ∙ length-append bytes behind in
@@ -68,8 +70,8 @@ spelled_at before bytes behind kind whole text e f s =
 
 -- each token of what is left of a text is spelled there
 spelled_behind : {whole text rest : List ℕ} {tokens : List Token} (before : List ℕ) → whole ≡ before ++ text →
-    BeginsWith whole text tokens rest → All (IsSpelled whole) tokens
-spelled_behind {whole = whole} before e stops = All-nil (IsSpelled whole)
+    BeginsWith whole text tokens rest → All (IsSpelledWithin whole) tokens
+spelled_behind {whole = whole} before e stops = All-nil (IsSpelledWithin whole)
 spelled_behind before e (blank {byte = byte} {text = text} b r) =
     spelled_behind (before ++ byte ∷ []) (e ∙ sym (append_assoc before (byte ∷ []) text)) r
 spelled_behind before e (comment {behind = behind} c r) =
@@ -77,18 +79,18 @@ spelled_behind before e (comment {behind = behind} c r) =
     spelled_behind (before ++ (40 ∷ 42 ∷ x.0))
     (e ∙ ap (λ l. before ++ (40 ∷ 42 ∷ l)) x.1 ∙ sym (append_assoc before (40 ∷ 42 ∷ x.0) behind)) r
 spelled_behind {whole = whole} before e (token {text = text} {behind = behind} {tokens = tokens} bytes kind f s l n r) =
-    All-cons (IsSpelled whole) (record { kind = kind; start = place whole text; end = place whole behind }) tokens
+    All-cons (IsSpelledWithin whole) (record { kind = kind; start = place whole text; end = place whole behind }) tokens
     (spelled_at before bytes behind kind whole text e f s)
     (spelled_behind (before ++ bytes) (e ∙ ap (λ l. before ++ l) f ∙ sym (append_assoc before bytes behind)) r)
 
 -- each token of a text is spelled there
-pub tokens_spelled : {text : List ℕ} {tokens : List Token} → HasTokens text tokens → All (IsSpelled text) tokens
+pub tokens_spelled : {text : List ℕ} {tokens : List Token} → HasTokens text tokens → All (IsSpelledWithin text) tokens
 tokens_spelled h = spelled_behind [] refl h.spelled
 
 pub token_within : {text : List ℕ} {tokens : List Token} → HasTokens text tokens →
     All (λ t. (t.start ≤ t.end) × (t.end ≤ length text)) tokens
 token_within {text = text} {tokens = tokens} h =
-    All-weaker (IsSpelled text) (λ t. (t.start ≤ t.end) × (t.end ≤ length text)) (λ t s. (s.ordered, s.within)) tokens
+    All-weaker (IsSpelledWithin text) (λ t. (t.start ≤ t.end) × (t.end ≤ length text)) (λ t s. (s.ordered, s.within)) tokens
     (tokens_spelled h)
 
 pub alphabetic_alphanumeric : (byte : ℕ) → IsTrue (is_ascii_alphabetic byte) → IsTrue (is_ascii_alphanumeric byte)
@@ -118,18 +120,18 @@ number_bytes (number d) h = (d, omega arith)
 pub ident_spelled : {text : List ℕ} {tokens : List Token} → HasTokens text tokens →
     All (λ t. t.kind ≡ Ident → IsTrue (list_all is_ascii_alphanumeric (spelling text t))) tokens
 ident_spelled {text = text} {tokens = tokens} h =
-    All-weaker (IsSpelled text) (λ t. t.kind ≡ Ident → IsTrue (list_all is_ascii_alphanumeric (spelling text t)))
+    All-weaker (IsSpelledWithin text) (λ t. t.kind ≡ Ident → IsTrue (list_all is_ascii_alphanumeric (spelling text t)))
     (λ t s e. (ident_bytes s.spells e).0) tokens (tokens_spelled h)
 
--- a name has a byte and at most 64
+-- a name has a byte, and is no longer than the limit
 pub ident_length : {text : List ℕ} {tokens : List Token} → HasTokens text tokens →
-    All (λ t. t.kind ≡ Ident → (0 < length (spelling text t)) × (length (spelling text t) ≤ 64)) tokens
+    All (λ t. t.kind ≡ Ident → (0 < length (spelling text t)) × (length (spelling text t) ≤ LONGEST_NAME)) tokens
 ident_length {text = text} {tokens = tokens} h k d below e =
     ((ident_bytes (tokens_spelled h k d below).spells e).1, (h.limited k d below).0 e)
 
 pub number_spelled : {text : List ℕ} {tokens : List Token} → HasTokens text tokens →
     All (λ t. t.kind ≡ Number →
-    IsTrue (list_all is_ascii_digit (spelling text t)) × (number_value (spelling text t) ≤ 2147483647)) tokens
+    IsTrue (list_all is_ascii_digit (spelling text t)) × (number_value (spelling text t) ≤ LARGEST_NUMBER)) tokens
 number_spelled {text = text} {tokens = tokens} h k d below e =
     ((number_bytes (tokens_spelled h k d below).spells e).0, (h.limited k d below).1 e)
 
@@ -137,3 +139,16 @@ number_spelled {text = text} {tokens = tokens} h k d below e =
 pub number_filled : {text : List ℕ} {tokens : List Token} → HasTokens text tokens →
     All (λ t. t.kind ≡ Number → 0 < length (spelling text t)) tokens
 number_filled h k d below e = (number_bytes (tokens_spelled h k d below).spells e).1
+
+all_spelled : (text : List ℕ) (tokens : List Token) → All (IsSpelledWithin text) tokens → All (KeepsLimits text) tokens →
+    All IsSpelled (lexemes text tokens)
+all_spelled text [] s l = All-nil IsSpelled
+all_spelled text (t ∷ ts) s l =
+    let first = All-head (IsSpelledWithin text) t ts s in
+    let limits = All-head (KeepsLimits text) t ts l in
+    All-cons IsSpelled (lexeme t.kind t.start (spelling text t)) (lexemes text ts) (spelled first.spells limits.0 limits.1)
+    (all_spelled text ts (All-tail (IsSpelledWithin text) t ts s) (All-tail (KeepsLimits text) t ts l))
+
+-- the tokens of a text with their bytes are spelled within the limits
+pub lexemes_spelled : {text : List ℕ} {tokens : List Token} → HasTokens text tokens → All IsSpelled (lexemes text tokens)
+lexemes_spelled {text = text} {tokens = tokens} h = all_spelled text tokens (tokens_spelled h) h.limited

@@ -1,7 +1,9 @@
 -- Tokens with their bytes, as the grammar reads them.
-use Rattle.std.specs.Prelude.{ℕ, List, map}
+use Rattle.std.specs.Prelude.{◌≡◌, ℕ, ◌≤◌, List, length, map}
 use Rattle.ob_scan.specs.declared.token.Kind.{Kind}
+use Rattle.ob_scan.specs.declared.token.TheConstants.{LONGEST_NAME, LARGEST_NUMBER}
 use Rattle.ob_scan.specs.declared.token.Token.{Token}
+use Rattle.ob_scan.specs.Spelling.{Spells, number_value}
 use Rattle.ob_scan.specs.Tokens.{spelling}
 
 -- a token's kind, its place and its bytes
@@ -15,3 +17,11 @@ place_of (lexeme kind place bytes) = place
 -- the tokens of a text with their bytes
 abbrev pub lexemes : List ℕ → List Token → List Lexeme
 lexemes text = map (λ t. lexeme t.kind t.start (spelling text t))
+
+-- the bytes of this token spell its kind, within the limits on names and numbers
+pub data IsSpelled : Lexeme → Type 0 where
+  spelled : {kind : Kind} {place : ℕ} {bytes : List ℕ} →
+      Spells bytes kind →
+      (kind ≡ Kind.Ident → length bytes ≤ LONGEST_NAME) →
+      (kind ≡ Kind.Number → number_value bytes ≤ LARGEST_NUMBER) →
+      IsSpelled (lexeme kind place bytes)

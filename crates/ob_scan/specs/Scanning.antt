@@ -3,6 +3,7 @@ use Rattle.std.specs.Prelude.{◌≡◌, ◌≢◌, ℕ, ◌+◌, ◌<◌, ◌�
 use Rattle.ob_scan.specs.declared.fault.ScanFault.{ScanFault}
 use Rattle.ob_scan.specs.declared.fault.ScanFault.TheVariants.{StrayByte, NumberTooLarge, OpenComment, NameTooLong, TooLong, NoMemory}
 use Rattle.ob_scan.specs.declared.token.Kind.{Kind}
+use Rattle.ob_scan.specs.declared.token.TheConstants.{LONGEST_NAME, LARGEST_NUMBER}
 use Rattle.ob_scan.specs.declared.token.Token.{Token}
 use Rattle.ob_scan.specs.Spelling.{fixed_spelling, Spells, IsLongest, number_value}
 use Rattle.ob_scan.specs.Tokens.{spelling, KeepsLimits}
@@ -27,9 +28,9 @@ pub record StandsToken (text : List ℕ) (start : ℕ) (t : Token) : Type 0 wher
 abbrev pub StandsFault : List ℕ → ℕ → ScanFault → Type 0
 StandsFault text start (StrayByte at) = (at ≡ start) × IsStray (drop start text)
 StandsFault text start (NumberTooLarge at) =
-    (at ≡ start) × HasSpelling Kind.Number (λ bytes. 2147483647 < number_value bytes) (drop start text)
+    (at ≡ start) × HasSpelling Kind.Number (λ bytes. LARGEST_NUMBER < number_value bytes) (drop start text)
 StandsFault text start (OpenComment at) = (at ≡ start) × IsOpenComment (drop start text)
 StandsFault text start (NameTooLong at) =
-    (at ≡ start) × HasSpelling Kind.Ident (λ bytes. 64 < length bytes) (drop start text)
+    (at ≡ start) × HasSpelling Kind.Ident (λ bytes. LONGEST_NAME < length bytes) (drop start text)
 StandsFault text start TooLong = ⊥
 StandsFault text start NoMemory = ⊥

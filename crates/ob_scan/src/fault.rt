@@ -21,7 +21,7 @@ pub enum ScanFault {
     /// S5: the text has over 65,536 bytes.
     #[error("S5 at 65536")]
     TooLong,
-    /// S6: want of memory.
+    /// Want of memory.
     #[error("NoMemory")]
     NoMemory,
 }

@@ -10,13 +10,7 @@ ghost use Rattle.ob_scan.specs.Scanning.{HasNoLongSymbol, StandsToken, StandsFau
 use crate::fault::ScanFault;
 use crate::keyword::keyword;
 use crate::symbol::{symbol_of, symbol_with_equals};
-use crate::token::{Kind, Token};
-
-/// The most bytes that a name may have.
-const LONGEST_NAME: usize = 64;
-
-/// The largest number.
-const LARGEST_NUMBER: u64 = 2147483647;
+use crate::token::{Kind, LARGEST_NUMBER, LONGEST_NAME, Token};
 
 /// Whether this byte separates tokens.
 #[tactic(auto, using(crate::proofs::Spellings::blanks))]
@@ -46,7 +40,7 @@ fn count_digits(bytes: &[u8]) -> usize
 /// Whether digits spell a number over the largest.
 fn is_too_large(digits: &[u8]) -> bool
     requires { IsTrue (list_all is_ascii_digit digits.now) }
-    ensures { IsTrue result ↔ (2147483647 < number_value digits.now) }
+    ensures { IsTrue result ↔ (LARGEST_NUMBER < number_value digits.now) }
 {
     // counted no further than one above the largest, so that no digits are too many
     let mut value = 0;

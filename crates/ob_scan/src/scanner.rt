@@ -24,7 +24,7 @@ pub fn scan(alloc: Global, text: &[u8]) -> Result<Tokens<'_>, ScanFault>
 
     // A fault says what stands at its place, behind tokens of the text.
     ensures fault { IfErr result (λ e. IsScanFault text.now e) }
-    ensures too_long { 65536 < length text.now → result ≡ Err ScanFault.TooLong }
+    ensures too_long { LONGEST_TEXT < length text.now → result ≡ Err ScanFault.TooLong }
 {
     if text.len() > LONGEST_TEXT {
         return Err(ScanFault::TooLong);

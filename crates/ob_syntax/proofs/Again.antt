@@ -10,16 +10,20 @@ use Rattle.std.proofs.lemmas.Fmt.{digits_decimal, digits_value-decimal, decimal_
 use Rattle.std.proofs.lemmas.List.Elements.{All-nil, All-cons, All-head, All-tail}
 use Rattle.std.proofs.lemmas.Str.Parse.{IsDigitsTest, FoldsDigits, IsNumeralModel, numerals_by_fold}
 use Rattle.ob_scan.specs.declared.token.Kind.{Kind}
+use Rattle.ob_scan.specs.declared.token.TheConstants.{LARGEST_NUMBER}
 use Rattle.ob_scan.specs.declared.token.Token.{Token}
 use Rattle.ob_scan.specs.Spelling as Spelling
 use Rattle.ob_scan.specs.Spelling.{Spells, fixed_spelling, number_value}
 use Rattle.ob_scan.specs.Tokens.{spelling}
-use Rattle.ob_scan.specs.Lexemes.{Lexeme, lexeme, lexemes}
-use Rattle.ob_syntax.specs.Tree.{Module}
-use Rattle.ob_syntax.specs.Grammar.{Lexemes}
+use Rattle.ob_scan.specs.Lexemes.{Lexeme, lexeme, IsSpelled, spelled, lexemes}
+use Rattle.ob_grammar.specs.Tree.{Module}
+use Rattle.ob_grammar.specs.Grammar.{Lexemes}
+use Rattle.ob_grammar.specs.Conditions.{KeepsConditions}
+use Rattle.ob_grammar.specs.Texts.{HasText}
 use Rattle.ob_syntax.specs.Printing.{Word, fixed, words_behind, printed}
-use Rattle.ob_syntax.specs.PrintedAgain.{IsSpelled, spelled, HasText, LeadsTo}
+use Rattle.ob_syntax.specs.PrintedAgain.{LeadsTo}
 use Rattle.ob_syntax.proofs.Alike.{Alike, none, more, derives_alike}
+use Rattle.ob_syntax.proofs.BareConditions.{keeps_bare}
 use Rattle.ob_syntax.proofs.SpacedTokens.{IsWord, spaced_tokens}
 use Rattle.ob_syntax.proofs.Worded.{word_of, free_bytes, derived_words}
 
@@ -54,12 +58,12 @@ digits_spell : (ds : List ℕ) → AreDigits ds → 0 < length ds → Spells ds 
 digits_spell [] h some = absurd (omega arith)
 digits_spell (d ∷ ds) h some = Spelling.number h
 
-decimal_spells : (n : ℕ) → n ≤ 2147483647 → Spells (decimal n) Kind.Number
+decimal_spells : (n : ℕ) → n ≤ LARGEST_NUMBER → Spells (decimal n) Kind.Number
 decimal_spells n h =
     let small : n < 2 ^ 64 = omega arith in
     digits_spell (decimal n) (digits_decimal numerals n small) (decimal_nonempty n small)
 
-decimal_value : (n : ℕ) → n ≤ 2147483647 → number_value (decimal n) ≡ n
+decimal_value : (n : ℕ) → n ≤ LARGEST_NUMBER → number_value (decimal n) ≡ n
 decimal_value n h = digits_value-decimal numerals n (omega arith)
 
 -- each word is spelled within the limits
@@ -72,7 +76,7 @@ spelled_word (spelled {kind = kind} {bytes = bytes} (Spelling.fixed e) name numb
 spelled_word (spelled (Spelling.name l r k) name number) = record { spells = Spelling.name l r k; name = name; number = number }
 spelled_word (spelled (Spelling.number {first = first} {rest = rest} d) name number) =
     let n = number_value (first ∷ rest) in
-    let small : n ≤ 2147483647 = number refl in
+    let small : n ≤ LARGEST_NUMBER = number refl in
     let value = decimal_value n small in
     record { spells = decimal_spells n small; name = λ h. absurd (cc); number = λ h. omega arith }
 
@@ -114,10 +118,14 @@ alike_tokens text (u ∷ us) (lexeme kind place bytes ∷ ts) all e =
     (alike_tokens text us ts (All-tail IsSpelled (lexeme kind place bytes) ts all) rest)
 
 -- the printed text of a module that some text has leads to that module, but for places
-pub printed_leads : (m : Module) → HasText m → LeadsTo (printed m) m
-printed_leads m h =
+pub printed_leads : (m : Module) → HasText m → KeepsConditions m → LeadsTo (printed m) m
+printed_leads m h keeps =
     let words = derived_words h.derives in
     let all = subst (All IsWord) words (spelled_words h.tokens h.spelled) in
     let s = spaced_tokens (fixed Kind.Module) (words_behind m) all in
     let r = derives_alike h.derives (alike_tokens (printed m) s.0 h.tokens h.spelled (s.2 ∙ sym words)) in
-    record { tokens = s.0; scanned = s.1; tree = r.0; derives = r.1; same = r.2 }
+    record {
+      tree = r.0;
+      read = record { tokens = s.0; scanned = s.1; derives = r.1; keeps = keeps_bare r.0 m r.2 keeps };
+      same = r.2;
+    }

@@ -3,11 +3,11 @@ use Rattle.std.proofs.Common.{◌≡◌, ℕ, pos, Bool, true, false, List, [], 
 use Rattle.ob_scan.specs.declared.token.Kind.{Kind}
 use Rattle.ob_scan.specs.Spelling.{number_value}
 use Rattle.ob_scan.specs.Lexemes.{lexeme}
-use Rattle.ob_syntax.specs.declared.tree.Sign.{Sign}
-use Rattle.ob_syntax.specs.Tree
-use Rattle.ob_syntax.specs.Tree.{Name, Expr, Operands, no_operand, operand, Selectors, no_selector, TypeExpr, FieldLists, no_list, empty_list, Stmt, Stmts, no_stmt, stmt, Branches, no_branch, branch, Otherwise, no_else, else', ConstDecl, TypeDecl, VarDecl, DeclarationPart, Section, Heading, Declarations, Declared, Procedures, no_procedure, Module}
-use Rattle.ob_syntax.specs.Grammar
-use Rattle.ob_syntax.specs.Grammar.{Lexemes, Phrase, TakesAt, Takes, takes, TakesName, TakesWord, Each, Separated, Perhaps, Behind, PartBehind, TakesSign, Expression, SimpleExpression, Terms, Term, Factors, Factor, Selector, IdentList, IsType, FieldList, MoreFields, ActualParameters, Statement, StatementSequence, MoreStatements, Alternative, MoreAlternatives, ElsePart, ConstDeclaration, TypeDeclaration, VarDeclaration, FPSection, FormalParameters, ProcedureHeading, BodyPart, DeclarationsPart, ProcedureDeclarations, ModuleText, Derives}
+use Rattle.ob_grammar.specs.declared.tree.Sign.{Sign}
+use Rattle.ob_grammar.specs.Tree
+use Rattle.ob_grammar.specs.Tree.{Name, Expr, Operands, no_operand, operand, Selectors, no_selector, TypeExpr, FieldLists, no_list, empty_list, Stmt, Stmts, no_stmt, stmt, Branches, no_branch, branch, Otherwise, no_else, else', ConstDecl, TypeDecl, VarDecl, DeclarationPart, Section, Heading, Declarations, Declared, Procedures, no_procedure, Module}
+use Rattle.ob_grammar.specs.Grammar
+use Rattle.ob_grammar.specs.Grammar.{Lexemes, Phrase, TakesAt, Takes, takes, TakesName, TakesWord, Each, Separated, Perhaps, Behind, PartBehind, TakesSign, Expression, SimpleExpression, Terms, Term, Factors, Factor, Selector, IdentList, IsType, FieldListSequence, MoreFields, ActualParameters, Statement, StatementSequence, MoreStatements, Alternative, MoreAlternatives, ElsePart, ConstDeclaration, TypeDeclaration, VarDeclaration, FPSection, FormalParameters, ProcedureHeading, BodyPart, DeclarationsPart, ProcedureDeclarations, ModuleText, Derives}
 use Rattle.ob_syntax.specs.Places.{bare_name, bare_sign, bare_expr, bare_operands, bare_selectors, bare_type, bare_fields, bare_stmt, bare_stmts, bare_branches, bare_otherwise, bare_const, bare_type_decl, bare_variables, bare_part, bare_section, bare_heading, bare_declarations, bare_procedures, bare}
 
 -- tokens of the same kinds, each name with the same bytes, each number with the same value
@@ -318,13 +318,13 @@ names d l = separated (record { reads = λ n. name n }) d l
 
 mutual
   is_type : {a b c : Lexemes} {x : TypeExpr} → IsType a x b → Alike a c → LeadsAlike IsType bare_type x b c
-  is_type (Grammar.called n) l =
+  is_type (Grammar.named_type n) l =
       let p = name n l in
       record {
-        tree = Tree.Called p.tree;
+        tree = Tree.NamedType p.tree;
         rest = p.rest;
-        derives = Grammar.called p.derives;
-        same = λ i. Tree.Called (p.same i);
+        derives = Grammar.named_type p.derives;
+        same = λ i. Tree.NamedType (p.same i);
         alike = p.alike;
       }
   is_type (Grammar.array t d u e) l =
@@ -351,17 +351,17 @@ mutual
         alike = r.alike;
       }
 
-  field_list : {a b c : Lexemes} {x : FieldLists} → FieldList a x b → Alike a c → LeadsAlike FieldList bare_fields x b c
-  field_list (Grammar.empty d) l =
+  field_list : {a b c : Lexemes} {x : FieldLists} → FieldListSequence a x b → Alike a c → LeadsAlike FieldListSequence bare_fields x b c
+  field_list (Grammar.first_empty Grammar.empty d) l =
       let p = more_fields d l in
       record {
         tree = empty_list p.tree;
         rest = p.rest;
-        derives = Grammar.empty p.derives;
+        derives = Grammar.first_empty Grammar.empty p.derives;
         same = λ i. empty_list (p.same i);
         alike = p.alike;
       }
-  field_list (Grammar.fields n t d e) l =
+  field_list (Grammar.first_fields (Grammar.fields n t d) e) l =
       let p = names n l in
       let s = word t p.alike in
       let q = is_type d s.alike in
@@ -369,7 +369,7 @@ mutual
       record {
         tree = Tree.fields p.tree q.tree r.tree;
         rest = r.rest;
-        derives = Grammar.fields p.derives (takes_of s) q.derives r.derives;
+        derives = Grammar.first_fields (Grammar.fields p.derives (takes_of s) q.derives) r.derives;
         same = λ i. Tree.fields (p.same i) (q.same i) (r.same i);
         alike = r.alike;
       }
@@ -617,7 +617,7 @@ mutual
       LeadsAlike ProcedureDeclarations bare_procedures x b c
   procedures Grammar.no_more_procedures l =
       record { tree = no_procedure; rest = _; derives = Grammar.no_more_procedures; same = refl; alike = l }
-  procedures (Grammar.procedure h t d e u n v f) l =
+  procedures (Grammar.procedure (Grammar.declares h t d e u n) v f) l =
       let p = heading h l in
       let j = word t p.alike in
       let q = declarations d j.alike in
@@ -629,7 +629,8 @@ mutual
       record {
         tree = Tree.procedure p.tree q.tree r.tree s.tree o.tree;
         rest = o.rest;
-        derives = Grammar.procedure p.derives (takes_of j) q.derives r.derives (takes_of k) s.derives (takes_of m) o.derives;
+        derives =
+            Grammar.procedure (Grammar.declares p.derives (takes_of j) q.derives r.derives (takes_of k) s.derives) (takes_of m) o.derives;
         same = λ i. Tree.procedure (p.same i) (q.same i) (r.same i) (s.same i) (o.same i);
         alike = o.alike;
       }

@@ -5,15 +5,15 @@ use Rattle.std.specs.List.{flat_map}
 use Rattle.std.proofs.lemmas.List.{append-nil, drop_more, drop_all}
 use Rattle.std.proofs.lemmas.Grind.{flat_map-append}
 use Rattle.ob_scan.specs.declared.token.Kind.{Kind}
-use Rattle.ob_syntax.specs.declared.tree.Selector.{Selector}
-use Rattle.ob_syntax.specs.declared.tree.Selector.TheVariants.{Field, Index}
-use Rattle.ob_syntax.specs.declared.tree.FieldList.{FieldList}
-use Rattle.ob_syntax.specs.declared.tree.FieldList.TheVariants.{Empty, Fields}
-use Rattle.ob_syntax.specs.declared.tree.Stmt.{Stmt}
-use Rattle.ob_syntax.specs.declared.tree.Branch.{Branch}
-use Rattle.ob_syntax.specs.declared.tree.Procedure.{Procedure}
-use Rattle.ob_syntax.specs.Tree
-use Rattle.ob_syntax.specs.View.{name_of, expr_of, selectors_in, type_of, fields_in, stmts_in, branches_in, procedures_in}
+use Rattle.ob_grammar.specs.declared.tree.Selector.{Selector}
+use Rattle.ob_grammar.specs.declared.tree.Selector.TheVariants.{Field, Index}
+use Rattle.ob_grammar.specs.declared.tree.FieldList.{FieldList}
+use Rattle.ob_grammar.specs.declared.tree.FieldList.TheVariants.{Empty, Fields}
+use Rattle.ob_grammar.specs.declared.tree.Stmt.{Stmt}
+use Rattle.ob_grammar.specs.declared.tree.Branch.{Branch}
+use Rattle.ob_grammar.specs.declared.tree.Procedure.{Procedure}
+use Rattle.ob_grammar.specs.Tree
+use Rattle.ob_grammar.specs.View.{name_of, expr_of, selectors_in, type_of, fields_in, stmts_in, branches_in, procedures_in}
 use Rattle.ob_syntax.specs.Printing.{Word, fixed, between, spaced, name_words, expr_words, selector_words, type_words, field_words, more_field_words, stmts_words, more_stmts_words, branch_words, more_branch_words, procedure_words}
 
 -- the text now with what is left is the text before with all the words

@@ -3,29 +3,30 @@ use Rattle.std.proofs.Common.{◌≡◌, ◌≤◌, ℕ, suc, List, ◌++◌, dr
 use Rattle.std.specs.List.{Contains}
 use Rattle.std.specs.Result.{IsErrAnd, IfOk, IfErr}
 use Rattle.std.proofs.lemmas.List.{take-append-drop}
+use Rattle.ob_scan.specs.declared.scanner.TheConstants.{LONGEST_TEXT}
 use Rattle.ob_scan.specs.declared.token.Token.{Token}
 use Rattle.ob_scan.specs.declared.fault.ScanFault.{ScanFault}
 use Rattle.ob_scan.specs.declared.fault.ScanFault.TheVariants as ScanFaults
 use Rattle.ob_scan.specs.ScanFaults.{IsScanFault}
 use Rattle.ob_scan.specs.Tokens.{TokenizedText, HasTokens}
 use Rattle.ob_scan.specs.Lexemes.{lexemes}
-use Rattle.ob_syntax.specs.declared.parser.ParseFault.{ParseFault}
-use Rattle.ob_syntax.specs.declared.parser.ParseFault.TheVariants as ParseFaults
+use Rattle.ob_parser.specs.declared.parser.ParseFault.{ParseFault}
+use Rattle.ob_parser.specs.declared.parser.ParseFault.TheVariants as ParseFaults
 use Rattle.ob_syntax.specs.declared.reader.ReadFault.TheVariants.{Scan, Parse}
-use Rattle.ob_syntax.specs.Tree.{Module}
-use Rattle.ob_syntax.specs.Grammar.{Lexemes, Derives}
-use Rattle.ob_syntax.specs.Conditions.{Breach, KeepsConditions, breaches}
-use Rattle.ob_syntax.specs.ParseFaults.{lexemes_of, IsParseFault}
+use Rattle.ob_grammar.specs.Tree.{Module}
+use Rattle.ob_grammar.specs.Grammar.{Lexemes, Derives}
+use Rattle.ob_grammar.specs.Conditions.{Breach, KeepsConditions, breaches}
+use Rattle.ob_parser.specs.ParseFaults.{lexemes_of, IsParseFault}
 use Rattle.ob_syntax.specs.PrintedAgain.{LeadsTo}
 use Rattle.ob_syntax.specs.ReadFaults.{IsWant, of_scan, of_parse}
-use Rattle.ob_syntax.proofs.Exits.{exits}
+use Rattle.ob_grammar.proofs.Exits.{exits}
 
 pub raised_both : {X E : Type 0} (P : X → Type 0) (Q : E → Type 0) (r : Result X E) (e : E) → IsErrAnd r (λ d. d ≡ e) → Q e → IfOk r P × IfErr r Q
 raised_both P Q r e h bad = exits (λ v. IfOk v P × IfErr v Q) r e h (tt, bad)
 
 -- of a text that has tokens and is not too long, the scanner can only want memory
 pub scan_wants : {text : List ℕ} {tokens : List Token} (fault : ScanFault) → IsScanFault text fault → HasTokens text tokens →
-    length text ≤ 65536 → IsWant (Scan fault)
+    length text ≤ LONGEST_TEXT → IsWant (Scan fault)
 scan_wants {tokens = tokens} (ScanFaults.StrayByte at) f h k = absurd (f.none tt tokens h)
 scan_wants {tokens = tokens} (ScanFaults.NumberTooLarge at) f h k = absurd (f.none tt tokens h)
 scan_wants {tokens = tokens} (ScanFaults.OpenComment at) f h k = absurd (f.none tt tokens h)
@@ -62,7 +63,7 @@ pub leads_by : {text : List ℕ} {m : Module} (source : TokenizedText) → sourc
 leads_by {text = text} source e alone l =
     let P : List ℕ → Type 0 = λ t. Derives (lexemes t source.tokens) l.tree in
     let Q : List Token → Type 0 = λ ts. Derives (lexemes text ts) l.tree in
-    subst P (sym e) (subst Q (alone l.tokens l.scanned) l.derives)
+    subst P (sym e) (subst Q (alone l.read.tokens l.read.scanned) l.read.derives)
 
 -- a fault of the parser is one of the text's
 pub of_text : {text : List ℕ} (source : TokenizedText) (fault : ParseFault) → source.text ≡ text → IsParseFault source fault →

@@ -6,11 +6,11 @@ use Rattle.std.specs.Fmt.{signed_decimal}
 use Rattle.ob_scan.specs.declared.token.Kind.{Kind}
 use Rattle.ob_scan.specs.Spelling.{fixed_spelling, number_value}
 use Rattle.ob_scan.specs.Lexemes.{Lexeme, lexeme}
-use Rattle.ob_syntax.specs.declared.tree.Operator.{Operator}
-use Rattle.ob_syntax.specs.declared.tree.Sign.{Sign}
-use Rattle.ob_syntax.specs.Tree.{Name, Expr, Operands, Selectors, TypeExpr, FieldLists, Stmt, Stmts, Branches, Otherwise, ConstDecl, TypeDecl, VarDecl, DeclarationPart, Section, Heading, Declarations, Procedures, Module}
-use Rattle.ob_syntax.specs.Grammar
-use Rattle.ob_syntax.specs.Grammar.{Lexemes, Phrase, TakesAt, Takes, TakesName, TakesWord, Each, Separated, Perhaps, Behind, PartBehind, IsRelation, IsAddition, IsMultiplication, TakesSign, Expression, SimpleExpression, Terms, Term, Factors, Factor, Selector, IdentList, IsType, FieldList, MoreFields, ActualParameters, Statement, StatementSequence, MoreStatements, Alternative, MoreAlternatives, ElsePart, ConstDeclaration, TypeDeclaration, VarDeclaration, FPSection, FormalParameters, ProcedureHeading, BodyPart, DeclarationsPart, ProcedureDeclarations, ModuleText, Derives}
+use Rattle.ob_grammar.specs.declared.tree.Operator.{Operator}
+use Rattle.ob_grammar.specs.declared.tree.Sign.{Sign}
+use Rattle.ob_grammar.specs.Tree.{Name, Expr, Operands, Selectors, TypeExpr, FieldLists, Stmt, Stmts, Branches, Otherwise, ConstDecl, TypeDecl, VarDecl, DeclarationPart, Section, Heading, Declarations, Procedures, Module}
+use Rattle.ob_grammar.specs.Grammar
+use Rattle.ob_grammar.specs.Grammar.{Lexemes, Phrase, TakesAt, Takes, TakesName, TakesWord, Each, Separated, Perhaps, Behind, PartBehind, IsRelation, IsAddition, IsMultiplication, TakesSign, Expression, SimpleExpression, Terms, Term, Factors, Factor, Selector, IdentList, IsType, FieldListSequence, MoreFields, ActualParameters, Statement, StatementSequence, MoreStatements, Alternative, MoreAlternatives, ElsePart, ConstDeclaration, TypeDeclaration, VarDeclaration, FPSection, FormalParameters, ProcedureHeading, BodyPart, DeclarationsPart, ProcedureDeclarations, ModuleText, Derives}
 use Rattle.ob_syntax.specs.Printing.{Word, fixed, ident, operator_kind, sign_words, between, perhaps, name_words, expr_words, operand_words, selector_words, type_words, field_words, more_field_words, actual_words, stmt_words, stmts_words, more_stmts_words, branch_words, more_branch_words, else_words, body_words, const_words, type_decl_words, var_decl_words, section_words, parameter_words, heading_words, part_words, declaration_words, procedure_words, words_behind}
 
 -- the bytes of a token that has no fixed spelling, as they are printed
@@ -166,19 +166,19 @@ names : {a b : Lexemes} {ns : List Name} → IdentList a ns b → Worded a (name
 names d = separated (record { keeps = λ n. name n }) refl d
 
 -- lists behind a semicolon
-more_lists : {a b : Lexemes} {lists : FieldLists} → FieldList a lists b → more_field_words lists ≡ fixed Kind.Semicolon ∷ field_words lists
-more_lists (Grammar.empty d) = refl
-more_lists (Grammar.fields n t d f) = refl
+more_lists : {a b : Lexemes} {lists : FieldLists} → FieldListSequence a lists b → more_field_words lists ≡ fixed Kind.Semicolon ∷ field_words lists
+more_lists (Grammar.first_empty d f) = refl
+more_lists (Grammar.first_fields d f) = refl
 
 mutual
   is_type : {a b : Lexemes} {t : TypeExpr} → IsType a t b → Worded a (type_words t) b
-  is_type (Grammar.called n) = name n
+  is_type (Grammar.named_type n) = name n
   is_type (Grammar.array t d u f) = next (at refl t) (next (expression d) (next (word refl u) (is_type f)))
   is_type (Grammar.record' t d u) = next (at refl t) (next (field_list d) (word refl u))
 
-  field_list : {a b : Lexemes} {lists : FieldLists} → FieldList a lists b → Worded a (field_words lists) b
-  field_list (Grammar.empty d) = more_fields d
-  field_list (Grammar.fields n t d f) = next (names n) (next (word refl t) (next (is_type d) (more_fields f)))
+  field_list : {a b : Lexemes} {lists : FieldLists} → FieldListSequence a lists b → Worded a (field_words lists) b
+  field_list (Grammar.first_empty Grammar.empty f) = more_fields f
+  field_list (Grammar.first_fields (Grammar.fields n t d) f) = next (names n) (next (word refl t) (next (is_type d) (more_fields f)))
 
   more_fields : {a b : Lexemes} {lists : FieldLists} → MoreFields a lists b → Worded a (more_field_words lists) b
   more_fields Grammar.no_more_fields = nothing
@@ -263,7 +263,7 @@ mutual
 
   procedures : {a b : Lexemes} {x : Procedures} → ProcedureDeclarations a x b → Worded a (procedure_words x) b
   procedures Grammar.no_more_procedures = nothing
-  procedures (Grammar.procedure h t d b u n v p) =
+  procedures (Grammar.procedure (Grammar.declares h t d b u n) v p) =
       next (heading h)
       (next (word refl t)
       (next (declarations d) (next (body b) (next (word refl u) (next (name n) (next (word refl v) (procedures p)))))))

@@ -1,12 +1,4 @@
-pub mod Tree
-pub mod View
-pub mod Grammar
-pub mod Conditions
-pub mod ParseFaults
 pub mod Places
 pub mod Printing
 pub mod PrintedAgain
 pub mod ReadFaults
-pub mod Reading
-pub mod Forms
-pub mod Answers

@@ -1,7 +1,7 @@
 -- A tree without its places: each place is 0.
 use Rattle.std.specs.Prelude.{map, option_map}
-use Rattle.ob_syntax.specs.declared.tree.Sign.{Sign}
-use Rattle.ob_syntax.specs.Tree.{Name, Expr, Number, Named, Parens, Not, Product, Sum, Comparison, Operands, no_operand, operand, Selectors, no_selector, field, index, TypeExpr, Called, Array, Record, FieldLists, no_list, empty_list, fields, Stmt, Empty, Assign, Call, If, While, Stmts, no_stmt, stmt, Branches, no_branch, branch, Otherwise, no_else, else', ConstDecl, TypeDecl, VarDecl, DeclarationPart, Section, Heading, Declarations, Declared, Procedures, no_procedure, procedure, Module}
+use Rattle.ob_grammar.specs.declared.tree.Sign.{Sign}
+use Rattle.ob_grammar.specs.Tree.{Name, Expr, Number, Named, Parens, Not, Product, Sum, Comparison, Operands, no_operand, operand, Selectors, no_selector, field, index, TypeExpr, NamedType, Array, Record, FieldLists, no_list, empty_list, fields, Stmt, Empty, Assign, Call, If, While, Stmts, no_stmt, stmt, Branches, no_branch, branch, Otherwise, no_else, else', ConstDecl, TypeDecl, VarDecl, DeclarationPart, Section, Heading, Declarations, Declared, Procedures, no_procedure, procedure, Module}
 
 abbrev pub bare_name : Name → Name
 bare_name n = record { text = n.text; place = 0 }
@@ -30,7 +30,7 @@ abbrev mutual
 
 abbrev mutual
   pub bare_type : TypeExpr → TypeExpr
-  bare_type (Called name) = Called (bare_name name)
+  bare_type (NamedType name) = NamedType (bare_name name)
   bare_type (Array place length element) = Array 0 (bare_expr length) (bare_type element)
   bare_type (Record place lists) = Record 0 (bare_fields lists)
 

@@ -5,9 +5,9 @@ use Rattle.std.specs.Option.{option_map_or, unwrap_or}
 use Rattle.std.specs.Fmt.{signed_decimal}
 use Rattle.ob_scan.specs.declared.token.Kind.{Kind}
 use Rattle.ob_scan.specs.Spelling.{fixed_spelling}
-use Rattle.ob_syntax.specs.declared.tree.Operator.{Operator}
-use Rattle.ob_syntax.specs.declared.tree.Sign.{Sign}
-use Rattle.ob_syntax.specs.Tree.{Name, Expr, Number, Named, Parens, Not, Product, Sum, Comparison, Operands, no_operand, operand, Selectors, no_selector, field, index, TypeExpr, Called, Array, Record, FieldLists, no_list, empty_list, fields, Stmt, Empty, Assign, Call, If, While, Stmts, no_stmt, stmt, Branches, no_branch, branch, Otherwise, no_else, else', ConstDecl, TypeDecl, VarDecl, DeclarationPart, Section, Heading, Declarations, Declared, Procedures, no_procedure, procedure, Module}
+use Rattle.ob_grammar.specs.declared.tree.Operator.{Operator}
+use Rattle.ob_grammar.specs.declared.tree.Sign.{Sign}
+use Rattle.ob_grammar.specs.Tree.{Name, Expr, Number, Named, Parens, Not, Product, Sum, Comparison, Operands, no_operand, operand, Selectors, no_selector, field, index, TypeExpr, NamedType, Array, Record, FieldLists, no_list, empty_list, fields, Stmt, Empty, Assign, Call, If, While, Stmts, no_stmt, stmt, Branches, no_branch, branch, Otherwise, no_else, else', ConstDecl, TypeDecl, VarDecl, DeclarationPart, Section, Heading, Declarations, Declared, Procedures, no_procedure, procedure, Module}
 
 -- a token that is printed: its kind and its bytes
 pub record Word : Type 0 where
@@ -77,7 +77,7 @@ abbrev mutual
 
 abbrev mutual
   pub type_words : TypeExpr → List Word
-  type_words (Called name) = ident name ∷ []
+  type_words (NamedType name) = ident name ∷ []
   type_words (Array place length element) = fixed Kind.Array ∷ (expr_words length ++ fixed Kind.Of ∷ type_words element)
   type_words (Record place lists) = fixed Kind.Record ∷ (field_words lists ++ fixed Kind.End ∷ [])
 

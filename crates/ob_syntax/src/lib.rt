@@ -1,10 +1,8 @@
-//! The tree of a module: how it is read from its tokens, and how it is printed.
+//! From the bytes of a text to its tree, and from a tree to its printed text.
 #![tactic(auto)]
 
-pub mod no_memory;
-pub mod parser;
 pub mod printer;
 pub mod reader;
-pub mod tree;
 
-pub use no_memory::NoMemory;
+pub use ob_grammar::{NoMemory, tree as tree};
+pub use ob_parser::parser as parser;

@@ -3,26 +3,28 @@
 
 ghost use Rattle.std.specs.Prelude.{◌≡◌, [], ◌∷◌, ◌++◌, map, option_map, string_bytes, if◌then◌else◌, IfOk, OnOk};
 ghost use Rattle.ob_scan.specs.declared.token.Kind.{Kind};
-ghost use Rattle.ob_syntax.specs.View.{name_of, section_of, heading_of, constants_of, types_of, variables_of, declarations_of, procedures_in, module_of};
+ghost use Rattle.ob_grammar.specs.View.{name_of, section_of, heading_of, constants_of, types_of, variables_of, declarations_of, procedures_in, module_of};
 ghost use Rattle.ob_syntax.specs.Printing.{ident, fixed, name_words, spaced, section_words, heading_words, perhaps, parameter_words, part_words, const_words, type_decl_words, var_decl_words, declaration_words, procedure_words, words_behind, printed};
-ghost use Rattle.ob_syntax.specs.PrintedAgain.{HasText, LeadsTo};
+ghost use Rattle.ob_syntax.specs.PrintedAgain.{LeadsTo};
 
 mod expressions;
 mod statements;
 mod types;
 
-use crate::no_memory::NoMemory;
-use crate::tree::{Constants, Declarations, Module, Name, Procedure, Section, Types, Variables};
+use ob_grammar::NoMemory;
+use ob_grammar::tree::{Constants, Declarations, Name, Procedure, Section, Types, Variables};
+use ob_parser::module::Module;
 use std::alloc::Global;
 
 /// The text of a module: all its tokens, numbers without leading zeros, one space between two, and a line feed at the
-/// end. Read again it gives the same tree but for places.
-pub fn print(alloc: Global, tree: &Module) -> Result<String, NoMemory>
-    ensures text { IfOk result (λ text. string_bytes text ≡ printed (module_of tree.now)) }
+/// end.
+pub fn print(alloc: Global, module: &Module) -> Result<String, NoMemory>
+    ensures text { IfOk result (λ text. string_bytes text ≡ printed (module_of «module».now)) }
 
-    // Where tokens with spellings derive the module, its text leads to the same module but for places.
-    ensures again { IfOk result (λ text. HasText (module_of tree.now) → LeadsTo (string_bytes text) (module_of tree.now)) }
+    // The text leads to the same module but for places.
+    ensures again { IfOk result (λ text. LeadsTo (string_bytes text) (module_of «module».now)) }
 {
+    let tree = module.tree();
     let mut text = String::from_str(alloc, "MODULE")?;
     push_name(&mut text, &tree.name)?;
     push_word(&mut text, ";")?;

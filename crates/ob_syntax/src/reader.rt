@@ -1,15 +1,16 @@
 //! From the bytes of a text to its tree.
 
-ghost use Rattle.std.specs.Prelude.{◌≡◌, ◌≤◌, length, IfOk, IfErr};
-ghost use Rattle.ob_syntax.specs.Tree as trees;
-ghost use Rattle.ob_syntax.specs.Conditions.{KeepsConditions};
+ghost use Rattle.std.specs.Prelude.{◌≡◌, ◌<◌, ◌≤◌, length, Err, IfOk, IfErr};
+ghost use Rattle.ob_grammar.specs.Texts.{IsTextOf};
+ghost use Rattle.ob_grammar.specs.Tree as trees;
 ghost use Rattle.ob_syntax.specs.Places.{bare};
 ghost use Rattle.ob_syntax.specs.PrintedAgain.{LeadsTo};
-ghost use Rattle.ob_syntax.specs.ReadFaults.{IsTextOf, IsReadFault, IsWant};
-ghost use Rattle.ob_syntax.specs.View.{module_of};
+ghost use Rattle.ob_syntax.specs.ReadFaults.{IsReadFault, IsWant};
+ghost use Rattle.ob_grammar.specs.View.{module_of};
 
-use crate::parser::{ParseFault, parse};
-use crate::tree::Module;
+use ob_parser::module::Module;
+use ob_parser::parser::{ParseFault, parse};
+use ob_scan::scanner::LONGEST_TEXT;
 use ob_scan::{ScanFault, scan};
 use std::alloc::Global;
 use thiserror::Error;
@@ -17,10 +18,10 @@ use thiserror::Error;
 /// Why a text is no module.
 #[derive(Clone, Copy, Debug, PartialEq, Eq, Error)]
 pub enum ReadFault {
-    /// S1 to S6.
+    /// A fault of the scanner.
     #[error("{0}")]
     Scan(ScanFault),
-    /// P1 to P4.
+    /// A fault of the parser.
     #[error("{0}")]
     Parse(ParseFault),
 }
@@ -52,8 +53,11 @@ pub fn read(alloc: Global, text: &[u8]) -> Result<Module, ReadFault>
     ensures read { IfOk result (λ m. IsTextOf text.now (module_of m)) }
     ensures fault { IfErr result (λ e. IsReadFault text.now e) }
 
+    // A text over the scanner's bound is refused, whatever it says.
+    ensures too_long { LONGEST_TEXT < length text.now → result ≡ Err (ReadFault.Scan ScanFault.TooLong) }
+
     // A text that leads to a module but for places, as a printed one does, is read as that module or memory is wanted.
-    ensures again { (m : trees.Module) → LeadsTo text.now m → KeepsConditions m → length text.now ≤ 65536 →
+    ensures again { (m : trees.Module) → LeadsTo text.now m → length text.now ≤ LONGEST_TEXT →
         (IfOk result (λ x. bare (module_of x) ≡ bare m)) × (IfErr result IsWant) }
 {
     let tokens = scan(alloc, text)?;

@@ -1,10 +1,1 @@
-pub mod Script
-pub mod ReplyLines
-pub mod SequentialRun
-pub mod ScriptView
-pub mod ScriptLine
-pub mod SequentialParts
-pub mod CommandLine
-pub mod ClapCommand
-pub mod Commands
-pub mod Answers
+pub mod Refusals

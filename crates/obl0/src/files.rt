@@ -1,33 +1,13 @@
-//! Reading whole files.
+//! The files of the host.
 
-ghost use Rattle.std.specs.Prelude.{List, ℕ, Result};
-ghost use Rattle.std.specs.Result.{result_map_both};
-ghost use Rattle.obl0.specs.declared.files.FileFault.{FileFault};
+ghost use Rattle.std.specs.Prelude.{◌≡◌, ◌≤◌, length, IfOk};
+ghost use Rattle.std.specs.IoError.{error_kind};
+ghost use Rattle.obl0.specs.Refusals.{file_fault};
 
+use ob_program::files::{FileFault, Files};
+use std::io::Read;
 use std::rt::Files as HostRead;
 use std::{fs, io};
-use thiserror::Error;
-
-/// Why a file gives no bytes.
-#[derive(Clone, Copy, Debug, PartialEq, Eq, Error)]
-pub enum FileFault {
-    /// There is no such file, or it can't be read.
-    #[error("cannot read")]
-    Unreadable,
-    /// Want of memory.
-    #[error("NoMemory")]
-    NoMemory,
-}
-
-/// What reads files by name.
-pub trait Files {
-    /// Of a read: the state before, the file's name, what was answered, and the state after.
-    ghost reads: { Self → List ℕ → Result (List ℕ) FileFault → Self → Type 0 };
-
-    /// All the bytes of a file.
-    fn read(&mut self, name: &str) -> Result<Vec<u8>, FileFault>
-        ensures { reads self.old name.now (result_map_both (λ v. v.items) (λ e. e) result) self.new };
-}
 
 /// The files of the host, by paths from the current directory on. Nothing is claimed of their bytes.
 #[derive(Clone, Copy)]
@@ -39,9 +19,35 @@ impl<R: HostRead + AllocGlobal> Files for HostFiles<'_, R> {
     ghost reads = { λ _ _ _ _. Unit {0} };
 
     fn read(&mut self, name: &str) -> Result<Vec<u8>, FileFault> {
-        fs::read(self.rt, name).map_err(|error| match error.kind() {
-            io::ErrorKind::OutOfMemory => FileFault::NoMemory,
-            _ => FileFault::Unreadable,
-        })
+        fs::read(self.rt, name).map_err(fault_of)
+    }
+
+    /// No byte behind the beginning is read, so a file without end is fine.
+    fn read_beginning(&mut self, name: &str, most: usize) -> Result<Vec<u8>, FileFault> {
+        match beginning(self.rt, name, most) {
+            Ok(bytes) => Ok(bytes),
+            Err(error) => Err(fault_of(error)),
+        }
+    }
+}
+
+/// The first `most` bytes of a file, or all where it has fewer.
+fn beginning<R: HostRead + AllocGlobal>(rt: &R, name: &str, most: usize) -> io::Result<Vec<u8>>
+    ensures { IfOk result (λ bytes. length bytes.items ≤ most) }
+{
+    let mut bytes = Vec::new(rt.alloc());
+    let file = fs::open(rt, name)?;
+    file.take(most as u64).read_to_end(&mut bytes)?;
+    bytes.truncate(most);
+    Ok(bytes)
+}
+
+/// What a refusal of the host says of the file.
+fn fault_of(error: io::Error) -> FileFault
+    ensures { result ≡ file_fault (error_kind error) }
+{
+    match error.kind() {
+        io::ErrorKind::OutOfMemory => FileFault::NoMemory,
+        _ => FileFault::Unreadable,
     }
 }

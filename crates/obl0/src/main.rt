@@ -1,68 +1,66 @@
-//! The program: compiles a module of Oberon-0, and runs it.
+//! The program: runs a module of Oberon-0.
 #![tactic(auto)]
 
-mod answer;
-mod answered;
-mod command;
+ghost use Rattle.std.specs.Prelude.{◌≡◌, IfOk};
+ghost use Rattle.obl0.specs.Refusals.{refusal_status};
+
 mod files;
-mod reply_lines;
-mod script;
-mod sequential;
-#[cfg(test)]
-mod tests;
+mod refusal;
 
 use files::HostFiles;
-use ob_syntax::NoMemory;
-use std::alloc::AllocError;
+use ob_program::answer::answer;
+use ob_program::answered::Answer;
+use refusal::{Refusal, refusal_of_words};
 use std::process::ExitCode;
 use std::rt::{Env, Files};
-use std::{env, io};
-use thiserror::Error;
+use std::{env, thread};
 
-/// What the host refuses.
-#[derive(Clone, Copy, Debug, PartialEq, Eq, Error)]
-enum Refusal {
-    #[error("the words are not UTF-8")]
-    Words,
-    #[error("NoMemory")]
-    NoMemory,
-    #[error("cannot write")]
-    Output,
-}
+/// The bytes of stack that all the work is done on. A tree is walked by recursion, at most 100 constructs deep, which takes
+/// less than an eighth of this. The system gives memory only to the part that is used.
+const STACK: usize = 4 * 1024 * 1024;
 
-impl From<AllocError> for Refusal {
-    fn from(_: AllocError) -> Refusal {
-        Refusal::NoMemory
-    }
-}
-
-impl From<NoMemory> for Refusal {
-    fn from(_: NoMemory) -> Refusal {
-        Refusal::NoMemory
-    }
-}
-
+/// The work is done on a stack of its own, so that it doesn't matter how much the system grants for the first one.
 fn main(rt: HostRuntime) -> ExitCode {
-    match run(&rt) {
-        Ok(status) => ExitCode::from(status),
-        Err(refusal) => {
-            let _ = rt.eprintln(refusal);
-            ExitCode::from(if refusal == Refusal::Words { 2 } else { 3 })
-        }
+    let worker = thread::Builder::new()
+        .stack_size(STACK)
+        .spawn(&rt, move || end(&rt));
+    match worker {
+        Ok(worker) => ExitCode::from(worker.join(&rt)),
+        Err(_) => ExitCode::from(told(&rt, Refusal::NoMemory)),
     }
 }
 
 /// Answers the words of the command line, and gives the exit status.
-fn run<R: Env + Files + AllocGlobal + Print + Eprint>(rt: &R) -> Result<u8, Refusal> {
+fn end<R: Env + Files + AllocGlobal + Print + Eprint>(rt: &R) -> u8 {
+    match answered(rt) {
+        Ok(status) => status,
+        Err(refusal) => told(rt, refusal),
+    }
+}
+
+/// Tells a refusal, and gives the exit status.
+fn told<R: Eprint>(rt: &R, refusal: Refusal) -> u8
+    ensures { result ≡ refusal_status refusal }
+{
+    let _ = rt.eprint(refusal.line());
+    refusal.status()
+}
+
+/// Answers the words of the command line, and gives the exit status, where the host refuses nothing.
+fn answered<R: Env + Files + AllocGlobal + Print + Eprint>(rt: &R) -> Result<u8, Refusal> {
     let alloc = rt.alloc();
-    let arguments = env::args(rt).map_err(|error| match error.kind() {
-        io::ErrorKind::OutOfMemory => Refusal::NoMemory,
-        _ => Refusal::Words,
-    })?;
+    let arguments = env::args(rt).map_err(refusal_of_words)?;
     let given: Vec<String> = arguments.skip(1).collect(alloc)?;
     let words: Vec<&str> = given.iter().map(|word| word.as_str()).collect(alloc)?;
     let mut files = HostFiles { rt };
-    let answer = answer::answer(alloc, words.as_slice(), &mut files)?;
+    let answer = answer(alloc, words.as_slice(), &mut files)?;
+    printed(rt, &answer)
+}
+
+/// Prints an answer, and gives its exit status.
+fn printed<R: Print + Eprint>(rt: &R, answer: &Answer) -> Result<u8, Refusal>
+    ensures { IfOk result (λ status. status ≡ answer.now.status) }
+{
     rt.print(answer.out.as_str()).map_err(|_| Refusal::Output)?;
     let _ = rt.eprint(answer.err.as_str());
     Ok(answer.status)

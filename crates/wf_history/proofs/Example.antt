@@ -1,7 +1,7 @@
 -- A small history over a counter: a call adds its number to the state and answers the sum.
 use Rattle.std.proofs.Common.{◌≡◌, refl, ℕ, List, [], ◌∷◌}
 use Rattle.wf_history.specs.declared.event.CallId.{CallId}
-use Rattle.wf_history.specs.History.{Event, Begin, Applied, End, Before, before, own_events, Begins, Ends}
+use Rattle.wf_history.specs.History.{Event, Begin, Applied, End, Before, before, own_events, Begins, Ends, own_calls, own_answers}
 
 abbrev call_of : ℕ → ℕ → CallId
 call_of process number = record { process = process; number = number }
@@ -19,3 +19,10 @@ of_zero = refl
 
 of_one : own_events 1 history ≡ Begins 1 ∷ []
 of_one = refl
+
+-- their calls and answers
+calls_of_one : own_calls 1 history ≡ 2 ∷ []
+calls_of_one = refl
+
+answers_of_zero : own_answers 0 history ≡ (call_of 0 1, 5) ∷ []
+answers_of_zero = refl

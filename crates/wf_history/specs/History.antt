@@ -31,6 +31,26 @@ module _ {Call Reply : Type 0} where
   own_events process [] = []
   own_events process (event ∷ events) = own_event process event ++ own_events process events
 
+  abbrev pub own_call : ℕ → Event Call Reply → List Call
+  own_call process (Begin id call) = if nat_eq id.process process then call ∷ [] else []
+  own_call process (Applied ids) = []
+  own_call process (End id reply) = []
+
+  -- the calls that a process has begun, in order
+  abbrev pub own_calls : ℕ → List (Event Call Reply) → List Call
+  own_calls process [] = []
+  own_calls process (event ∷ events) = own_call process event ++ own_calls process events
+
+  abbrev pub own_answer : ℕ → Event Call Reply → List (CallId × Reply)
+  own_answer process (Begin id call) = []
+  own_answer process (Applied ids) = []
+  own_answer process (End id reply) = if nat_eq id.process process then (id, reply) ∷ [] else []
+
+  -- the answers to a process's calls, in order
+  abbrev pub own_answers : ℕ → List (Event Call Reply) → List (CallId × Reply)
+  own_answers process [] = []
+  own_answers process (event ∷ events) = own_answer process event ++ own_answers process events
+
   -- the Begin and End events of each process are Begin 1, End 1, Begin 2, End 2 and so on
   abbrev pub IsHistory : List (Event Call Reply) → Type 0
   IsHistory history = (process : ℕ) → own_events process history ≡ in_turn 1 (length (own_events process history))

@@ -10,5 +10,5 @@ use Rattle.wf_history.specs.Legal.{IsLegal}
 abbrev pub CallEnds : Program → ObjectCall → State → State → Reply → Type 0
 CallEnds program call before after reply = (turns : ℕ) × (effect program call turns before ≡ Ends after reply)
 
-abbrev pub IsLegalOrder : Program → State → List (Event ObjectCall Reply) → List CallId → Type 0
-IsLegalOrder program opening history order = IsLegal (CallEnds program) opening history order
+abbrev pub IsLegalOrder : Program → State → List (Event ObjectCall Reply) → List CallId → State → Type 0
+IsLegalOrder program opening history order last = IsLegal (CallEnds program) opening history order last

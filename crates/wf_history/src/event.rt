@@ -1,12 +1,20 @@
 //! Names of calls, and events.
 
 use ob_mean::call::{Call, Reply};
+use std::fmt;
 
 /// A call by its process and its number among the calls of that process, from 1.
-#[derive(Clone, Copy, Debug, PartialEq, Eq)]
+#[derive(Clone, Copy, Debug, PartialEq, Eq, Hash)]
 pub struct CallId {
     pub process: usize,
     pub number: u64,
+}
+
+/// As `0.2` for the second call of process 0.
+impl fmt::Display for CallId {
+    fn fmt<W: fmt::Write>(&self, f: &mut fmt::Formatter<W>) -> fmt::Result {
+        write!(f, "{}.{}", self.process, self.number)
+    }
 }
 
 /// What is seen of a run.

@@ -5,7 +5,7 @@ ghost use Rattle.wf_history.specs.View.{event_of};
 ghost use Rattle.wf_history.specs.History.{IsHistory};
 
 use crate::event::Event;
-use ob_syntax::NoMemory;
+use ob_grammar::NoMemory;
 use std::alloc::Global;
 use std::marker::Model;
 

@@ -3,8 +3,11 @@
 
 pub mod event;
 pub mod history;
+pub mod order;
+mod places;
 #[cfg(test)]
 mod tests;
 
 pub use event::{CallId, Event};
 pub use history::History;
+pub use order::{OrderFault, check_order};

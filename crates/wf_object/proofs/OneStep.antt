@@ -6,11 +6,11 @@ use Rattle.std.proofs.lemmas.Option.{slice_get_read}
 use Rattle.ll_cell.specs.Cell.{Cell, own_of}
 use Rattle.ob_mean.specs.Object.{ObjectCall, Reply}
 use Rattle.wf_history.specs.History.{Event}
-use Rattle.wf_object.specs.declared.process.Label.{Label}
-use Rattle.wf_object.specs.declared.process.Sizes.{Sizes}
-use Rattle.wf_object.specs.Meaning.{Meaning}
-use Rattle.wf_object.specs.Machine.{Process, cell_after, row}
-use Rattle.wf_object.specs.Object.{State, Records, Answer, noted, event_at, step_of, step_by, answer_by, answer_of, label_by, label_of, seen_by, script_by, script_of}
+use Rattle.wf_table.specs.declared.process.Label.{Label}
+use Rattle.wf_table.specs.declared.process.Sizes.{Sizes}
+use Rattle.wf_table.specs.Meaning.{Meaning}
+use Rattle.wf_table.specs.Table.{Process, cell_after, row}
+use Rattle.wf_table.specs.Object.{State, Records, Answer, noted, event_at, step_of, step_by, answer_by, answer_of, label_by, label_of, seen_by, script_by, script_of}
 
 -- what was read at a place stands there
 pub stands : {X : Type 0} (xs : List X) (n p : ℕ) (x : X) → length xs ≡ n → p < n → x ≡ get_or xs p x → slice_get xs p ≡ Some x

@@ -4,8 +4,8 @@ use Rattle.std.proofs.lemmas.List.{get_or-map, length-map}
 use Rattle.ob_mean.specs.declared.call.Call.{Call}
 use Rattle.ob_mean.specs.Object.{ObjectCall}
 use Rattle.ob_mean.specs.View.{call_of}
-use Rattle.wf_object.specs.Machine.{Process}
-use Rattle.wf_object.specs.Facts.{CallsFit}
+use Rattle.wf_table.specs.Table.{Process}
+use Rattle.wf_table.specs.Scripts.{CallsFit}
 
 module _ {Run : Type 0} where
   pub fits_at : (fits : ObjectCall → Type 0) (q : Process Run) (calls : List Call) (k : ℕ) (x : Call) → q.calls ≡ map call_of calls → k < length calls → x ≡ get_or calls k x → CallsFit fits q → fits (call_of x)

@@ -1,10 +1,3 @@
 pub mod Faults
-pub mod Meaning
-pub mod Machine
-pub mod Shape
-pub mod Object
-pub mod Linked
-pub mod Facts
-pub mod Sound
-pub mod Start
 pub mod View
+pub mod Kept

@@ -1,5 +1,5 @@
--- What events and answers stand for: no pointers, and vectors as lists.
-use Rattle.std.specs.Prelude.{Option, Some, None}
+-- What a machine, events and answers stand for: no pointers, and vectors as lists.
+use Rattle.std.specs.Prelude.{Option, Some, None, ℤ, List}
 use Rattle.ob_mean.specs.Object.{ObjectCall, Reply}
 use Rattle.ob_mean.specs.View.{reply_of}
 use Rattle.wf_history.specs.declared.event.Event as Rust
@@ -7,7 +7,17 @@ use Rattle.wf_history.specs.History.{Event}
 use Rattle.wf_history.specs.View.{event_of}
 use Rattle.wf_object.specs.declared.records.StepOut.{StepOut}
 use Rattle.wf_object.specs.declared.records.StepOut.TheVariants.{On, Began, Answered, Halted}
-use Rattle.wf_object.specs.Object.{Answer, GoesOn, Begins, Replies, Halts}
+use Rattle.wf_table.specs.declared.process.Sizes.{Sizes}
+use Rattle.wf_table.specs.Object.{State, Answer, GoesOn, Begins, Replies, Halts}
+use Rattle.wf_bound.specs.declared.spent.Spent.{Spent}
+
+-- an engine, the numbers of the object, the block that it began with, where it stands, and what each process has spent
+pub record Object (E : Type 0) (Run : Type 0) : Type 0 where
+  pub engine : E
+  pub sizes : Sizes
+  pub opening : List ℤ
+  pub state : State Run
+  pub spent : List Spent
 
 abbrev pub event_in : Option Rust.Event → Option (Event ObjectCall Reply)
 event_in None = None

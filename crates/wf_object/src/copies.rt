@@ -3,8 +3,8 @@
 ghost use Rattle.std.specs.Prelude.{◌≡◌, ◌≤◌, IfOk, IsOk, length};
 ghost use Rattle.ob_mean.specs.View.{call_of, reply_of};
 
+use ob_grammar::NoMemory;
 use ob_mean::call::{Call, Reply};
-use ob_syntax::NoMemory;
 use smallvec::SmallVec;
 use std::alloc::Global;
 

@@ -1,34 +1,22 @@
 //! What a machine asks of a sequential object: an engine, and the law that it meets.
 
+use ob_grammar::NoMemory;
 use ob_mean::call::{Call, Reply};
-use ob_syntax::NoMemory;
 use std::alloc::Global;
-
-/// What one step of a body answers.
-#[derive(Clone, Copy, Debug, PartialEq, Eq)]
-pub enum EngineTurn {
-    /// The body goes on.
-    On,
-    /// The body has ended; its results stand in the run.
-    Returned,
-    /// The body has ended with the trap of this number.
-    Trapped(u8),
-    /// Nothing can be done, as never from the start of a fitting call on a lawful block.
-    Stuck,
-}
+use wf_table::EngineTurn;
 
 /// A sequential object whose state is a block of words. A run holds what one body keeps between
 /// its steps.
 pub trait Engine: Drop {
     type Run: Drop;
 
-    ghost use Rattle.std.specs.Prelude.{◌≡◌, ◌<◌, ◌+◌, length, List, ℤ};
-    ghost use Rattle.ob_mean.specs.Object.{ObjectCall};
+    ghost use Rattle.std.specs.Prelude.{◌≡◌, ◌<◌, ◌+◌, length, List, ℤ, IfOk};
+    ghost use Rattle.ob_mean.specs.Object.{ObjectCall, Reply};
     ghost use Rattle.ob_mean.specs.View.{call_of, reply_of};
-    ghost use Rattle.wf_object.specs.Meaning.{Meaning, IsLawful};
+    ghost use Rattle.wf_table.specs.Meaning.{Meaning};
+    ghost use Rattle.wf_table.specs.Law.{IsLawful};
 
-    /// What the engine computes: numbers of words, what each of its calls does, and the effect of a
-    /// call on a block.
+    /// What the engine computes: numbers of words, and what the steps of a body do.
     ghost meaning: { Self → Meaning Self.Run };
 
     /// The blocks that it works on.
@@ -36,6 +24,13 @@ pub trait Engine: Drop {
 
     /// The calls that it takes.
     ghost fits: { Self → ObjectCall → Type 0 };
+
+    /// The runs that it can start and step without taking memory.
+    ghost ready: { Self → Self.Run → Type 0 };
+
+    /// What a call does, made alone: from this block it leads to that block, and has this reply. A
+    /// call that doesn't end has no effect.
+    ghost effect: { Self → ObjectCall → List ℤ → List ℤ → Reply → Type 0 };
 
     /// Words of a block.
     fn variable_words(&self) -> usize
@@ -50,7 +45,8 @@ pub trait Engine: Drop {
         ensures { result ≡ (meaning self.now).arguments };
 
     /// A run to be started; it may hold anything.
-    fn new_run(&self, alloc: Global) -> Result<Self::Run, NoMemory>;
+    fn new_run(&self, alloc: Global) -> Result<Self::Run, NoMemory>
+        ensures { IfOk result (ready self.now) };
 
     /// Writes a call as words.
     fn lay(&self, call: &Call, words: &mut [i64])
@@ -60,19 +56,22 @@ pub trait Engine: Drop {
 
     /// Starts the body of the call that the words hold; what the run held before is gone.
     fn start(&self, run: &mut Self::Run, words: &[i64])
-        requires { length words.now ≡ (meaning self.now).arguments }
+        requires ready { ready self.now run.old }
+        requires words { length words.now ≡ (meaning self.now).arguments }
         ensures { run.new ≡ (meaning self.now).start words.now };
 
     /// One step of the body on a block.
     fn step(&self, run: &mut Self::Run, block: &mut [i64]) -> EngineTurn
-        requires { length block.old ≡ (meaning self.now).variables }
+        requires ready { ready self.now run.old }
+        requires block { length block.old ≡ (meaning self.now).variables }
         ensures turn { result ≡ ((meaning self.now).step run.old block.old).turn }
         ensures run { run.new ≡ ((meaning self.now).step run.old block.old).run }
         ensures block { block.new ≡ ((meaning self.now).step run.old block.old).block };
 
     /// Result i of a body that has returned.
     fn result(&self, run: &Self::Run, i: usize) -> i64
-        requires { i < (meaning self.now).replies }
+        requires ready { ready self.now run.now }
+        requires place { i < (meaning self.now).replies }
         ensures { result ≡ (meaning self.now).result run.now i };
 
     /// The reply to a call that a status (0, or a trap's number) and results stand for.
@@ -82,5 +81,5 @@ pub trait Engine: Drop {
         ensures { reply_of result ≡ (meaning self.now).reply (call_of call.now) words.now };
 
     /// Its steps lead to the block and the reply of each call's effect.
-    ghost law: { (e : Self) → IsLawful (meaning e) (lawful e) (fits e) };
+    ghost law: { (e : Self) → IsLawful (meaning e) (lawful e) (fits e) (ready e) (effect e) };
 }

@@ -8,12 +8,14 @@ pub mod machine;
 mod process;
 mod records;
 mod seen;
+mod spent;
 mod start;
 mod steps;
 pub mod theorems;
 
-pub use engine::{Engine, EngineTurn};
+pub use engine::Engine;
 pub use fault::NewFault;
 pub use machine::Machine;
-pub use process::Label;
-pub use records::{StepOut, Turns};
+pub use records::StepOut;
+pub use wf_bound::Spent;
+pub use wf_table::{EngineTurn, Label, Turns};

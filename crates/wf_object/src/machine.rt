@@ -1,25 +1,28 @@
 //! The step machine.
 
-ghost use Rattle.std.specs.Prelude.{◌≡◌, ℕ, ◌+◌, ◌<◌, ◌⊎◌, ◌↔◌, List, [], ◌++◌, ◌∷◌, take, IfOk, OnOk, OnErr, length};
+ghost use Rattle.std.specs.Prelude.{◌≡◌, ◌+◌, ◌*◌, ◌<◌, ◌≤◌, ◌⊎◌, ◌↔◌, [], ◌++◌, ◌∷◌, List, Contains, take, replicate, IfOk, OnOk, OnErr, length};
 ghost use Rattle.ll_cell.specs.Cell.{block_of};
 ghost use Rattle.ob_mean.specs.View.{call_of};
 ghost use Rattle.wf_object.specs.declared.fault.NewFault.TheVariants as Faults;
-ghost use Rattle.wf_object.specs.Shape.{IsSized, IsShaped};
+ghost use Rattle.wf_table.specs.Ranges.{IsSized, IsShaped};
 ghost use Rattle.wf_object.specs.View.{answer_in};
 
 use crate::engine::Engine;
 use crate::fault::NewFault;
-use crate::process::{Label, Process, Sizes};
-use crate::records::{Records, StepOut, Turns, answer};
+use crate::process::Process;
+use crate::records::{Records, StepOut, answer};
 use crate::seen::seen;
+use crate::spent::count_step;
 use crate::start::{idle, opened};
 use crate::steps::act;
 use ll_cell::Shared;
+use ob_grammar::NoMemory;
 use ob_mean::call::Call;
-use ob_syntax::NoMemory;
 use std::alloc::Global;
 use std::marker::Model;
+use wf_bound::Spent;
 use wf_history::{CallId, History};
+use wf_table::{Label, Sizes, Turns};
 
 /// An object of n processes over an engine: its cell, its processes, and what was seen.
 #[derive(Drop)]
@@ -31,22 +34,34 @@ pub struct Machine<E: Engine> {
     shared: Shared,
     processes: Vec<Process<E::Run>>,
     records: Records,
+    spent: Vec<Spent>,
 }
 
 impl<E: Engine> Model for Machine<E> {
-    ghost use Rattle.wf_object.specs.Object.{Object};
-    ghost use Rattle.wf_object.specs.Sound.{IsSound};
+    ghost use Rattle.wf_table.specs.Object.{step_of, answer_of, submit_of, label_of, script_of};
+    ghost use Rattle.wf_object.specs.View.{Object};
+    ghost use Rattle.wf_object.specs.Kept.{IsKept};
 
     ghost Value = { Object E E.Run };
 
-    ghost view = { λ a. record { engine = a.engine; sizes = a.sizes; opening = a.opening.items; state = record { cell = a.shared; processes = a.processes.items; records = a.records } } };
+    ghost view = { λ a. record { engine = a.engine; sizes = a.sizes; opening = a.opening.items; state = record { cell = a.shared; processes = a.processes.items; records = a.records }; spent = a.spent.items } };
 
-    ghost invariant = { λ a. IsSound (E.meaning a.engine) (E.fits a.engine) a.sizes a.shared a.processes.items a.records };
+    ghost invariant = { λ a. IsKept (E.meaning a.engine) (E.lawful a.engine) (E.fits a.engine) (E.ready a.engine) a.sizes a.opening.items (record { cell = a.shared; processes = a.processes.items; records = a.records }) a.spent.items };
 }
 
 impl<E: Engine> Machine<E> {
-    ghost use Rattle.wf_object.specs.Object.{step_of, answer_of, submit_of, label_of, script_of};
-    ghost use Rattle.wf_object.specs.Start.{IsStart, sizes_of};
+    ghost use Rattle.wf_table.specs.Object.{step_of, answer_of, values_answered, submit_of, label_of, script_of};
+    ghost use Rattle.wf_table.specs.Schedule.{steps_of};
+    ghost use Rattle.wf_table.specs.Start.{IsStart, sizes_of};
+    ghost use Rattle.wf_table.specs.Sound.{IsSound};
+    ghost use Rattle.wf_commits.specs.Commits.{IsCommitted};
+    ghost use Rattle.wf_bound.specs.Spent.{unspent};
+    ghost use Rattle.wf_bound.specs.Counted.{spent_by_step, spent_of};
+    ghost use Rattle.wf_bound.specs.Bound.{sharp, bound};
+    ghost use Rattle.wf_history.specs.declared.event.CallId.{CallId};
+    ghost use Rattle.wf_history.specs.History.{End, Before};
+    ghost use Rattle.wf_history.specs.Legal.{NoRepeats};
+    ghost use Rattle.ob_mean.specs.Object.{Reply};
 
     /// An object of n processes with a lawful block of variable words; no process has a call yet.
     pub fn new(alloc: Global, engine: E, n: usize, block: &[i64]) -> Result<Self, NewFault>
@@ -55,7 +70,8 @@ impl<E: Engine> Machine<E> {
         ensures engine { IfOk result (λ m. m.engine ≡ engine) }
         ensures sizes { IfOk result (λ m. m.sizes ≡ sizes_of (E.meaning engine) n) }
         ensures opening { IfOk result (λ m. m.opening ≡ block.now) }
-        ensures state { IfOk result (λ m. IsStart (sizes_of (E.meaning engine) n) block.now m.state) }
+        ensures unspent { IfOk result (λ m. m.spent ≡ replicate n unspent) }
+        ensures state { IfOk result (λ m. IsStart (E.ready engine) (sizes_of (E.meaning engine) n) block.now m.state) }
     {
         if n == 0 || n > 16 {
             return Err(NewFault::Processes);
@@ -70,6 +86,12 @@ impl<E: Engine> Machine<E> {
         let shared = opened(alloc, sizes, block)?;
         let processes = idle(alloc, &engine, sizes)?;
         let records = Records::new(alloc, n)?;
+        let unspent = Spent {
+            bodies: 0,
+            inside: 0,
+            outside: 0,
+        };
+        let spent = vec![in alloc; unspent; n]?;
         Ok(Machine {
             alloc,
             engine,
@@ -78,6 +100,7 @@ impl<E: Engine> Machine<E> {
             shared,
             processes,
             records,
+            spent,
         })
     }
 
@@ -100,8 +123,10 @@ impl<E: Engine> Machine<E> {
     /// One step of the process: the row of its label. Where memory runs out nothing changes.
     pub fn step(&mut self, p: usize) -> Result<StepOut, NoMemory>
         requires { p < self.old.sizes.processes }
-        ensures stepped { OnOk result (self.new ≡ record self.old { state = step_of (E.meaning self.old.engine) self.old.sizes self.old.state p }) }
+        ensures stepped { OnOk result (self.new ≡ record self.old { state = step_of (E.meaning self.old.engine) self.old.sizes self.old.state p; spent = spent_by_step self.old.state self.old.spent p }) }
         ensures answer { IfOk result (λ out. answer_in out ≡ answer_of (E.meaning self.old.engine) self.old.sizes self.old.state p) }
+        ensures turn { OnOk result (steps_of self.new.state.records.schedule ≡ steps_of self.old.state.records.schedule ++ p ∷ []) }
+        ensures few { IfOk result (λ out. length (values_answered (answer_in out)) ≤ 8) }
         ensures err { OnErr result (self.new ≡ self.old) }
     {
         let process = &self.processes[p];
@@ -117,7 +142,11 @@ impl<E: Engine> Machine<E> {
         )?;
         let out = answer(self.alloc, label, &event)?;
         let block = self.shared.own_block(p);
+        let begins = process.has_more();
+        self.records.few_turns();
         self.records.note(p, label, block, event)?;
+        let spent = &mut self.spent[p];
+        count_step(spent, label, begins);
         act(
             &self.engine,
             self.sizes,
@@ -126,6 +155,14 @@ impl<E: Engine> Machine<E> {
             p,
         );
         Ok(out)
+    }
+
+    /// Nothing happens: what the machine keeps, for those who hold one.
+    pub fn keeps(&self)
+        ensures sound { IsSound (E.meaning self.now.engine) (E.lawful self.now.engine) (E.fits self.now.engine) (E.ready self.now.engine) self.now.sizes self.now.opening self.now.state }
+        ensures committed { IsCommitted self.now.sizes self.now.state }
+    {
+        let _ = &self.alloc;
     }
 
     pub fn engine(&self) -> &E
@@ -157,9 +194,13 @@ impl<E: Engine> Machine<E> {
         self.records.history()
     }
 
-    /// The calls that were applied so far, in order.
+    /// The calls that were applied so far, in order: no call twice, each that ended, and of two of them
+    /// the later one did not end before the earlier one began.
     pub fn order(&self) -> &[CallId]
-        ensures { result.now ≡ self.now.state.records.order }
+        ensures calls { result.now ≡ self.now.state.records.order }
+        ensures once { NoRepeats result.now }
+        ensures ended { (id : CallId) (reply : Reply) → Contains self.now.state.records.history (End id reply) → Contains result.now id }
+        ensures in_time { (first second third : List CallId) (a b : CallId) → result.now ≡ first ++ a ∷ (second ++ b ∷ third) → ¬ Before self.now.state.records.history b a }
     {
         self.records.order()
     }
@@ -169,6 +210,19 @@ impl<E: Engine> Machine<E> {
         ensures { result.now ≡ self.now.state.records.schedule }
     {
         self.records.schedule()
+    }
+
+    /// What the process has spent on its open call, or on its last one where none is open: never more than
+    /// two bodies for each process, and `bound` own steps outside bodies.
+    pub fn spent(&self, p: usize) -> Spent
+        requires { p < self.now.sizes.processes }
+        ensures counts { result ≡ spent_of self.now.spent p }
+        ensures bodies { result.bodies ≤ 2 * self.now.sizes.processes }
+        ensures sharp { result.outside ≤ sharp self.now.sizes }
+        ensures outside { result.outside ≤ bound self.now.sizes }
+    {
+        let spent = &self.spent[p];
+        *spent
     }
 
     /// A copy of the variable words of the root.
@@ -193,6 +247,7 @@ impl<E: Engine> Machine<E> {
             shared: _,
             processes: _,
             records,
+            spent: _,
         } = self;
         let (history, order, schedule) = records.into_parts();
         (engine, history, order, schedule)

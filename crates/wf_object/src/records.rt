@@ -1,24 +1,19 @@
 //! What was seen, in which order calls were applied, and who stepped.
 
-ghost use Rattle.std.specs.Prelude.{◌≡◌, ℕ, ◌+◌, ◌<◌, ◌^◌, ◌++◌, ◌∷◌, [], Some, OnOk, OnErr, IfOk, length, vec_len, vec_capacity, slice_set, if◌then◌else◌, replicate};
+ghost use Rattle.std.specs.Prelude.{◌≡◌, ◌+◌, ◌<◌, ◌^◌, ◌++◌, ◌∷◌, [], Some, OnOk, OnErr, IfOk, length, vec_len, vec_capacity, slice_set, if◌then◌else◌};
 ghost use Rattle.wf_history.specs.History.{IsHistory, Applied};
-ghost use Rattle.wf_object.specs.Object.{counted, answer_by, history_after, order_after, rooted_after, at_flip};
+ghost use Rattle.wf_table.specs.Schedule.{counted};
+ghost use Rattle.wf_table.specs.Object.{answer_by, history_after, order_after, root_marks_after};
+ghost use Rattle.wf_table.specs.Labels.{at_flip};
 ghost use Rattle.wf_object.specs.View.{event_in, answer_in};
 
 use crate::copies::copy_reply;
-use crate::process::Label;
+use ob_grammar::NoMemory;
 use ob_mean::call::Reply;
-use ob_syntax::NoMemory;
 use std::alloc::Global;
 use std::marker::Model;
 use wf_history::{CallId, Event, History};
-
-/// So many steps of one process in a row.
-#[derive(Clone, Copy, Debug, PartialEq, Eq)]
-pub struct Turns {
-    pub process: usize,
-    pub count: u64,
-}
+use wf_table::{Label, Turns};
 
 /// What a step answers.
 #[derive(Drop)]
@@ -40,21 +35,21 @@ pub struct Records {
     history: History,
     order: Vec<CallId>,
     schedule: Vec<Turns>,
-    flipped: Vec<usize>,
-    rooted: Vec<usize>,
+    flip_marks: Vec<usize>,
+    root_marks: Vec<usize>,
 }
 
 impl Model for Records {
-    ghost use Rattle.wf_object.specs.Object as object;
+    ghost use Rattle.wf_table.specs.Object as object;
 
     ghost Value = { object.Records };
 
-    ghost view = { λ r. record { history = r.history; order = r.order.items; schedule = r.schedule.items; flipped = r.flipped.items; rooted = r.rooted.items } };
+    ghost view = { λ r. record { history = r.history; order = r.order.items; schedule = r.schedule.items; flip_marks = r.flip_marks.items; root_marks = r.root_marks.items } };
 }
 
 impl Records {
-    ghost use Rattle.wf_object.specs.Object.{noted};
-    ghost use Rattle.wf_object.specs.Start.{records_at_start};
+    ghost use Rattle.wf_table.specs.Object.{noted};
+    ghost use Rattle.wf_table.specs.Start.{records_at_start};
 
     /// The records of n processes before any step.
     pub fn new(alloc: Global, n: usize) -> Result<Self, NoMemory>
@@ -65,8 +60,8 @@ impl Records {
             history: History::new(alloc),
             order: Vec::new(alloc),
             schedule: Vec::new(alloc),
-            flipped: vec![in alloc; 0; n]?,
-            rooted: vec![in alloc; 0; n + 1]?,
+            flip_marks: vec![in alloc; 0; n]?,
+            root_marks: vec![in alloc; 0; n + 1]?,
         })
     }
 
@@ -80,8 +75,8 @@ impl Records {
         event: Option<Event>,
     ) -> Result<(), NoMemory>
         requires in_turn { IsHistory (history_after self.old.history (event_in event)) }
-        requires process { p < length self.old.flipped }
-        requires block { block < length self.old.rooted }
+        requires process { p < length self.old.flip_marks }
+        requires block { block < length self.old.root_marks }
         ensures ok { OnOk result (self.new ≡ noted self.old p label block (event_in event)) }
         ensures err { OnErr result (self.new ≡ self.old) }
     {
@@ -90,11 +85,11 @@ impl Records {
         note_event(
             &mut self.history,
             &mut self.order,
-            &mut self.rooted,
+            &mut self.root_marks,
             block,
             event,
         )?;
-        note_flip(&mut self.flipped, p, label, seen);
+        note_flip(&mut self.flip_marks, p, label, seen);
         count_turn(&mut self.schedule, p);
         Ok(())
     }
@@ -117,6 +112,13 @@ impl Records {
         self.schedule.as_slice()
     }
 
+    /// Nothing happens: a vector has fewer items than numbers of its length.
+    pub fn few_turns(&self)
+        ensures { length self.now.schedule < 2 ^ 64 }
+    {
+        let _ = self.schedule.len();
+    }
+
     pub fn into_parts(self) -> (History, Vec<CallId>, Vec<Turns>)
         ensures history { result.0 ≡ self.history }
         ensures order { result.1.items ≡ self.order }
@@ -126,8 +128,8 @@ impl Records {
             history,
             order,
             schedule,
-            flipped: _,
-            rooted: _,
+            flip_marks: _,
+            root_marks: _,
         } = self;
         (history, order, schedule)
     }
@@ -138,25 +140,25 @@ impl Records {
 fn note_event(
     history: &mut History,
     order: &mut Vec<CallId>,
-    rooted: &mut Vec<usize>,
+    root_marks: &mut Vec<usize>,
     block: usize,
     event: Option<Event>,
 ) -> Result<(), NoMemory>
     requires in_turn { IsHistory (history_after history.old (event_in event)) }
-    requires block { block < length rooted.old.items }
+    requires block { block < length root_marks.old.items }
     ensures history { OnOk result (history.new ≡ history_after history.old (event_in event)) }
     ensures order { OnOk result (order.new.items ≡ order_after order.old.items (event_in event)) }
-    ensures rooted { OnOk result (rooted.new.items ≡ rooted_after rooted.old.items block (length history.old + 1) (event_in event)) }
+    ensures root_marks { OnOk result (root_marks.new.items ≡ root_marks_after root_marks.old.items block (length history.old + 1) (event_in event)) }
     ensures no_history { OnErr result (history.new ≡ history.old) }
     ensures no_order { OnErr result (order.new.items ≡ order.old.items) }
-    ensures no_rooted { OnErr result (rooted.new.items ≡ rooted.old.items) }
+    ensures no_root_marks { OnErr result (root_marks.new.items ≡ root_marks.old.items) }
 {
     match event {
         None => Ok(()),
         Some(Event::Begin(id, call)) => history.push(Event::Begin(id, call)),
         Some(Event::Applied(ids)) => {
             note_applied(history, order, ids)?;
-            rooted[block] = history.len();
+            root_marks[block] = history.len();
             Ok(())
         }
         Some(Event::End(id, reply)) => history.push(Event::End(id, reply)),
@@ -164,12 +166,12 @@ fn note_event(
 }
 
 /// At FLIP the history's length is marked for the process.
-fn note_flip(flipped: &mut Vec<usize>, p: usize, label: Label, seen: usize)
-    requires { p < length flipped.old.items }
-    ensures { flipped.new.items ≡ (if at_flip label then slice_set flipped.old.items p seen else flipped.old.items) }
+fn note_flip(flip_marks: &mut Vec<usize>, p: usize, label: Label, seen: usize)
+    requires { p < length flip_marks.old.items }
+    ensures { flip_marks.new.items ≡ (if at_flip label then slice_set flip_marks.old.items p seen else flip_marks.old.items) }
 {
     if label == Label::Flip {
-        flipped[p] = seen;
+        flip_marks[p] = seen;
     }
 }
 

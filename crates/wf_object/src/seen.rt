@@ -3,22 +3,23 @@
 ghost use Rattle.std.specs.Prelude.{◌≡◌, ◌+◌, ◌<◌, ◌++◌, ◌∷◌, [], IfOk, OnOk, length, not, Some, slice_index, if◌then◌else◌};
 ghost use Rattle.std.proofs.Common.{int_eq};
 ghost use Rattle.ll_cell.specs.Cell.{block_of};
-ghost use Rattle.wf_object.specs.declared.process.Label.TheVariants as At;
-ghost use Rattle.wf_object.specs.Machine.{own_block, toggle_in};
-ghost use Rattle.wf_object.specs.Shape.{IsSized, IsShaped, IsInRange};
-ghost use Rattle.wf_object.specs.Facts.{CallsFit};
-ghost use Rattle.wf_object.specs.Object.{event_at, ended, began, applied, begun_of};
+ghost use Rattle.wf_table.specs.declared.process.Label.TheVariants as At;
+ghost use Rattle.wf_table.specs.Table.{own_block, toggle_in};
+ghost use Rattle.wf_table.specs.Ranges.{IsSized, IsShaped, IsInRange};
+ghost use Rattle.wf_table.specs.Scripts.{CallsFit};
+ghost use Rattle.wf_table.specs.Object.{event_at, ended, began, applied, begun_of};
 ghost use Rattle.wf_object.specs.View.{event_in};
 ghost use Rattle.wf_history.specs.View.{event_of};
 
 use crate::copies::copy_call;
 use crate::engine::Engine;
-use crate::process::{Label, Process, Sizes};
+use crate::process::Process;
 use crate::steps::{own_toggle, part_of};
 use ll_cell::Shared;
-use ob_syntax::NoMemory;
+use ob_grammar::NoMemory;
 use std::alloc::Global;
 use wf_history::{CallId, Event};
+use wf_table::{Label, Sizes};
 
 /// What a step of the process is going to show.
 pub fn seen<E: Engine>(

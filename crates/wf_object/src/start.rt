@@ -2,17 +2,18 @@
 
 ghost use Rattle.std.specs.Prelude.{◌≡◌, ◌+◌, ◌<◌, ◌^◌, IfOk, IfErr, length};
 ghost use Rattle.wf_object.specs.declared.fault.NewFault.TheVariants as Faults;
-ghost use Rattle.wf_object.specs.Shape.{IsSized};
-ghost use Rattle.wf_object.specs.Start.{cell_at_start, IsIdle};
-ghost use Rattle.wf_object.specs.Linked.{Each};
+ghost use Rattle.wf_table.specs.Ranges.{IsSized};
+ghost use Rattle.wf_table.specs.Start.{cell_at_start, IsIdle};
+ghost use Rattle.wf_table.specs.Each.{Each};
 
 use crate::engine::Engine;
 use crate::fault::NewFault;
-use crate::process::{Label, Process, Registers, Sizes};
+use crate::process::Process;
 use crate::steps::block_length;
 use ll_cell::Shared;
-use ob_syntax::NoMemory;
+use ob_grammar::NoMemory;
 use std::alloc::Global;
+use wf_table::{Label, Registers, Sizes};
 
 /// The cell with these words in its root: they enter by process 0's own block and one exchange.
 pub fn opened(alloc: Global, z: Sizes, block: &[i64]) -> Result<Shared, NewFault>
@@ -30,7 +31,7 @@ pub fn opened(alloc: Global, z: Sizes, block: &[i64]) -> Result<Shared, NewFault
 
 fn idle_process<E: Engine>(alloc: Global, engine: &E, z: Sizes) -> Result<Process<E::Run>, NoMemory>
     requires { z.arguments + z.replies + z.variables < 2 ^ 62 }
-    ensures { IfOk result (IsIdle z) }
+    ensures { IfOk result (IsIdle (E.ready engine.now) z) }
 {
     Ok(Process {
         label: Label::Next,
@@ -59,7 +60,7 @@ pub fn idle<E: Engine>(
 ) -> Result<Vec<Process<E::Run>>, NoMemory>
     requires sized { IsSized z }
     ensures count { IfOk result (λ v. length v.items ≡ z.processes) }
-    ensures idle { IfOk result (λ v. Each (λ _ q. IsIdle z q) v.items) }
+    ensures idle { IfOk result (λ v. Each (λ _ q. IsIdle (E.ready engine.now) z q) v.items) }
 {
     let mut v = Vec::new(alloc);
     for _p in 0..z.processes {

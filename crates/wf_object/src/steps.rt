@@ -1,15 +1,15 @@
 //! The rows of the table, one function each. Each changes the cell in at most one way, and the record of its process.
 
-ghost use Rattle.std.specs.Prelude.{◌≡◌, ℕ, ◌+◌, ◌*◌, ◌<◌, ◌≤◌, length};
-ghost use Rattle.ll_cell.specs.Cell.{own_of, block_of, announcement_of, word_at, is_linked};
-ghost use Rattle.wf_object.specs.Machine.{next, mine, fetch, save, enter, undo, keep, commit, kept_word, row, or_past, part, toggle_place, cell_after, post, flip, try, links, load, store, check, seen, read, take_reply, give, body_step, toggle_in, announced_toggle, own_block, block_words, inverted};
-ghost use Rattle.wf_object.specs.Facts.{CallsFit};
-ghost use Rattle.wf_object.specs.Shape.{IsSized, IsShaped, IsInRange};
-ghost use Rattle.wf_object.specs.declared.process.Label.TheVariants.{Next, Post, Flip, Try, Link, Load, Store, Check1, Mine, Seen, Fetch, Check2, Save, Enter, Body, Undo, Keep, Commit, Read, Take, Give};
+ghost use Rattle.std.specs.Prelude.{◌≡◌, ◌+◌, ◌*◌, ◌<◌, ◌≤◌, length};
+ghost use Rattle.wf_table.specs.Table.{next, mine, fetch, save, enter, undo, keep, commit, kept_word, row, or_past, part, cell_after, post, flip, try, links, load, store, check, seen, read, take_reply, give, body_step, toggle_in, own_block, block_words, inverted};
+ghost use Rattle.wf_table.specs.Scripts.{CallsFit};
+ghost use Rattle.wf_table.specs.Ranges.{IsSized, IsShaped, IsInRange};
+ghost use Rattle.wf_table.specs.declared.process.Label.TheVariants.{Post, Load, Store, Fetch, Save, Undo, Keep, Take};
 
-use crate::engine::{Engine, EngineTurn};
-use crate::process::{Label, Process, Sizes};
+use crate::engine::Engine;
+use crate::process::Process;
 use ll_cell::Shared;
+use wf_table::{EngineTurn, Label, Sizes};
 
 pub fn part_of(z: Sizes, q: usize) -> usize
     requires sized { IsSized z }
@@ -132,6 +132,7 @@ pub fn body<E: Engine>(engine: &E, z: Sizes, shared: &mut Shared, q: &mut Proces
     requires shaped { IsShaped z shared.old }
     requires process { p < z.processes }
     requires variables { z.variables ≡ (E.meaning engine.now).variables }
+    requires ready { E.ready engine.now q.old.run }
     ensures cell { shared.new ≡ cell_after shared.old p (body_step (E.meaning engine.now) z shared.old p q.old).change }
     ensures process { q.new ≡ (body_step (E.meaning engine.now) z shared.old p q.old).process }
 {
@@ -244,7 +245,8 @@ pub fn save<R>(z: Sizes, shared: &Shared, q: &mut Process<R>, p: usize)
 }
 
 pub fn enter<E: Engine>(engine: &E, q: &mut Process<E::Run>)
-    requires { length q.old.list ≡ (E.meaning engine.now).arguments }
+    requires list { length q.old.list ≡ (E.meaning engine.now).arguments }
+    requires ready { E.ready engine.now q.old.run }
     ensures { q.new ≡ (enter (E.meaning engine.now) q.old).process }
 {
     engine.start(&mut q.run, &q.list);
@@ -278,6 +280,7 @@ fn word_kept<E: Engine>(engine: &E, z: Sizes, shared: &Shared, q: &Process<E::Ru
     requires in_range { IsInRange z q.now }
     requires label { q.now.label ≡ Keep }
     requires replies { z.replies ≡ (E.meaning engine.now).replies }
+    requires ready { E.ready engine.now q.now.run }
     ensures { result ≡ kept_word (E.meaning engine.now) z shared.now p q.now }
 {
     let i = q.registers.i;
@@ -299,6 +302,7 @@ pub fn keep<E: Engine>(engine: &E, z: Sizes, shared: &mut Shared, q: &mut Proces
     requires in_range { IsInRange z q.old }
     requires label { q.old.label ≡ Keep }
     requires replies { z.replies ≡ (E.meaning engine.now).replies }
+    requires ready { E.ready engine.now q.old.run }
     ensures cell { shared.new ≡ cell_after shared.old p (keep (E.meaning engine.now) z shared.old p q.old).change }
     ensures process { q.new ≡ (keep (E.meaning engine.now) z shared.old p q.old).process }
 {
@@ -373,6 +377,7 @@ pub fn act<E: Engine>(engine: &E, z: Sizes, shared: &mut Shared, q: &mut Process
     requires replies { z.replies ≡ (E.meaning engine.now).replies }
     requires arguments { z.arguments ≡ (E.meaning engine.now).arguments }
     requires fits { CallsFit (E.fits engine.now) q.old }
+    requires ready { E.ready engine.now q.old.run }
     ensures cell { shared.new ≡ cell_after shared.old p (row q.old.label (E.meaning engine.now) z shared.old p q.old).change }
     ensures process { q.new ≡ (row q.old.label (E.meaning engine.now) z shared.old p q.old).process }
 {

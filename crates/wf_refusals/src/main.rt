@@ -1,5 +1,5 @@
-//! A short run of the machine that goes on after a want of memory: what one can see of the machine is then as it was before
-//! the call, and the same call is made again. What was refused is told on standard error, the run is printed in the end.
+//! Two short runs of the machine that go on after a want of memory: what one can see of the machine is then as it was before
+//! the call, and the same call is made again. What was refused is told on standard error, the runs are printed in the end.
 #![tactic(auto)]
 
 ghost use Rattle.std.specs.Prelude.{◌≡◌, ◌<◌, IfOk};
@@ -16,7 +16,7 @@ use smallvec::SmallVec;
 use std::alloc::Global;
 use std::process::ExitCode;
 use trouble::Trouble;
-use wf_object::{Machine, StepOut};
+use wf_object::{Label, Machine, StepOut};
 use wf_samples::Adder;
 
 /// Status 4: the run itself got no memory. Status 5: the machine is at fault.
@@ -30,20 +30,48 @@ fn main(rt: HostRuntime) -> ExitCode {
     }
 }
 
-/// Two calls of each of three processes, with steps in a jumbled order until all are answered.
 fn run<R: Print + Eprint + AllocGlobal>(rt: &R) -> Result<(), Trouble> {
     let alloc = rt.alloc();
     let mut text = String::with_capacity(alloc, 65536)?;
     let mut watch = Watch::new(alloc)?;
+    lose(rt, &mut watch, &mut text)?;
+    jumble(rt, &mut watch, &mut text)?;
+    rt.print(text.as_str()).map_err(|_| Trouble::Own)
+}
+
+/// One call of each of two processes, which both come to COMMIT before one of them takes it: the
+/// other one's COMMIT is lost, and it goes on.
+fn lose<R: Eprint + AllocGlobal>(
+    rt: &R,
+    watch: &mut Watch,
+    text: &mut String,
+) -> Result<(), Trouble> {
+    let mut machine = made(rt)?;
+    submit(rt, watch, &mut machine, 0, 2)?;
+    submit(rt, watch, &mut machine, 1, 2)?;
+    until(rt, watch, &mut machine, text, 0, Some(Label::Commit))?;
+    until(rt, watch, &mut machine, text, 1, Some(Label::Commit))?;
+    until(rt, watch, &mut machine, text, 0, None)?;
+    until(rt, watch, &mut machine, text, 1, None)?;
+    print_machine(rt, text, &machine)?;
+    Ok(())
+}
+
+/// Two calls of each of three processes, with steps in a jumbled order until all are answered.
+fn jumble<R: Eprint + AllocGlobal>(
+    rt: &R,
+    watch: &mut Watch,
+    text: &mut String,
+) -> Result<(), Trouble> {
     let mut machine = made(rt)?;
     for value in [2, 30] {
         for p in 0..3 {
-            submit(rt, &mut watch, &mut machine, p, value)?;
+            submit(rt, watch, &mut machine, p, value)?;
         }
     }
-    play(rt, &mut watch, &mut machine, &mut text)?;
-    print_machine(rt, &mut text, &machine)?;
-    rt.print(text.as_str()).map_err(|_| Trouble::Own)
+    play(rt, watch, &mut machine, text)?;
+    print_machine(rt, text, &machine)?;
+    Ok(())
 }
 
 fn made<R: Eprint + AllocGlobal>(rt: &R) -> Result<Machine<Adder>, Trouble>
@@ -107,6 +135,31 @@ fn step<R: Eprint>(
             machine.step(p).map_err(|_| Trouble::Again)
         }
     }
+}
+
+/// Steps of one process until it stands at the label or its call is answered; the answer is printed.
+fn until<R: Eprint>(
+    rt: &R,
+    watch: &mut Watch,
+    machine: &mut Machine<Adder>,
+    text: &mut String,
+    p: usize,
+    label: Option<Label>,
+) -> Result<(), Trouble>
+    requires processes { machine.old.sizes.processes ≡ 3 }
+    requires process { p < 3 }
+    ensures { machine.new.sizes ≡ machine.old.sizes }
+{
+    for _ in 0..200 {
+        if let StepOut::Answered(id, reply) = step(rt, watch, machine, p)? {
+            print_answer(text, id, &reply)?;
+            return Ok(());
+        }
+        if label == Some(machine.label(p)) {
+            return Ok(());
+        }
+    }
+    Err(Trouble::Endless)
 }
 
 /// Steps of processes taken at random until six calls are answered; the answers are printed.

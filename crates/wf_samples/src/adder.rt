@@ -1,10 +1,8 @@
 //! One word, to which each call adds its argument.
 
-ghost use Rattle.std.specs.Prelude.{◌≡◌};
-
 use crate::words::{argument, scalar};
+use ob_grammar::NoMemory;
 use ob_mean::call::{Call, Reply};
-use ob_syntax::NoMemory;
 use smallvec::SmallVec;
 use std::alloc::Global;
 use wf_object::{Engine, EngineTurn};
@@ -22,7 +20,7 @@ pub struct Adder {
 }
 
 impl Engine for Adder {
-    ghost use Rattle.wf_samples.specs.Adder.{adder, IsOneWord};
+    ghost use Rattle.wf_samples.specs.Adder.{adder, Adds, IsOneWord};
     ghost use Rattle.wf_samples.specs.AdderLaw.{adder_lawful};
 
     type Run = AdderRun;
@@ -32,6 +30,10 @@ impl Engine for Adder {
     ghost lawful = { λ _. IsOneWord };
 
     ghost fits = { λ _ _. Unit {0} };
+
+    ghost ready = { λ _ _. Unit {0} };
+
+    ghost effect = { λ _. Adds };
 
     fn variable_words(&self) -> usize {
         1

@@ -2,10 +2,12 @@
 #![tactic(auto)]
 
 pub mod adder;
+pub mod spin;
 pub mod tally;
 #[cfg(test)]
 mod tests;
 pub mod words;
 
 pub use adder::Adder;
+pub use spin::Spin;
 pub use tally::Tally;

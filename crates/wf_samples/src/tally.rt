@@ -1,10 +1,8 @@
 //! Two words, the number of calls and a sum, with a body of three steps that may trap in the second.
 
-ghost use Rattle.std.specs.Prelude.{◌≡◌};
-
 use crate::words::{argument, scalar};
+use ob_grammar::NoMemory;
 use ob_mean::call::{Call, Reply};
-use ob_syntax::NoMemory;
 use smallvec::SmallVec;
 use std::alloc::Global;
 use wf_object::{Engine, EngineTurn};
@@ -32,7 +30,7 @@ pub struct Tally {
 }
 
 impl Engine for Tally {
-    ghost use Rattle.wf_samples.specs.Tally.{tally, IsTwoWords};
+    ghost use Rattle.wf_samples.specs.Tally.{tally, Tallies, IsTwoWords};
     ghost use Rattle.wf_samples.specs.TallyLaw.{tally_lawful};
 
     type Run = TallyRun;
@@ -42,6 +40,10 @@ impl Engine for Tally {
     ghost lawful = { λ _. IsTwoWords };
 
     ghost fits = { λ _ _. Unit {0} };
+
+    ghost ready = { λ _ _. Unit {0} };
+
+    ghost effect = { λ _. Tallies };
 
     fn variable_words(&self) -> usize {
         2

@@ -1,15 +1,15 @@
-ghost use Rattle.std.specs.Prelude.{◌≡◌, ◌<◌, ℕ};
+ghost use Rattle.std.specs.Prelude.{◌≡◌, ◌<◌};
 ghost use Rattle.ob_mean.specs.Object.{ObjectCall};
 
 use super::*;
 use ob_check::program::Scalar;
+use ob_grammar::NoMemory;
 use ob_mean::call::{Call, Reply};
-use ob_syntax::NoMemory;
 use smallvec::SmallVec;
 use std::alloc::Global;
 use std::test::Fail;
 use wf_history::CallId;
-use wf_object::{Engine, Label, Machine, NewFault, StepOut, Turns};
+use wf_object::{Engine, Label, Machine, NewFault, Spent, StepOut, Turns};
 
 /// Steps of one process, up to a label or up to its next answer.
 #[derive(Clone, Copy)]
@@ -136,6 +136,41 @@ fn one_process_alone(rt: HostRuntime) -> Result<(), Fail> {
     Ok(())
 }
 
+/// The other process exchanges the root in both rounds, and makes the call.
+#[test]
+fn a_call_that_loses_both_rounds(rt: HostRuntime) -> Result<(), Fail> {
+    let alloc = rt.alloc();
+    let mut machine = Machine::new(alloc, Adder { alloc }, 2, &[0])?;
+    submit_all(
+        alloc,
+        &mut machine,
+        2,
+        &[(0, 0), (1, 5), (1, 5), (1, 5), (1, 5)],
+    )?;
+    let items = [
+        Until(1, Label::Commit),
+        Until(0, Label::Load),
+        Answer(1),
+        Until(1, Label::Commit),
+        Until(0, Label::Try),
+        Until(0, Label::Load),
+        Answer(1),
+        Until(0, Label::Try),
+        Until(0, Label::Take),
+        Answer(1),
+        Answer(1),
+        Answer(0),
+    ];
+    let _ = play(alloc, &mut machine, 2, &items)?;
+    let spent = Spent {
+        bodies: 0,
+        inside: 0,
+        outside: 42,
+    };
+    assert_eq!(rt; machine.spent(0), spent);
+    Ok(())
+}
+
 #[test]
 fn a_stopped_process_is_helped(rt: HostRuntime) -> Result<(), Fail> {
     let alloc = rt.alloc();
@@ -233,5 +268,34 @@ fn sixteen_processes(rt: HostRuntime) -> Result<(), Fail> {
     let values = play(alloc, &mut machine, 16, &[Answer(9), Answer(15)])?;
     assert_eq!(rt; values.as_slice(), [103, 123].as_slice());
     assert_eq!(rt; machine.order(), [id(3, 1), id(9, 1), id(15, 1)].as_slice());
+    Ok(())
+}
+
+#[test]
+fn calls_of_many_words_on_no_variables(rt: HostRuntime) -> Result<(), Fail> {
+    let alloc = rt.alloc();
+    let mut machine = Machine::new(alloc, Spin { alloc, words: 3 }, 2, &[])?;
+    submit_all(alloc, &mut machine, 2, &[(0, 0), (1, -4)])?;
+    let values = play(
+        alloc,
+        &mut machine,
+        2,
+        &[Until(0, Label::Try), Answer(1), Answer(0)],
+    )?;
+    assert_eq!(rt; values.as_slice(), [-7, -1000].as_slice());
+    assert_eq!(rt; machine.order(), [id(0, 1), id(1, 1)].as_slice());
+    assert_eq!(rt; machine.state_words()?.len(), 0);
+    Ok(())
+}
+
+#[test]
+fn a_call_without_an_end_stays_open(rt: HostRuntime) -> Result<(), Fail> {
+    let alloc = rt.alloc();
+    let mut machine = Machine::new(alloc, Spin { alloc, words: 2 }, 2, &[])?;
+    submit_all(alloc, &mut machine, 2, &[(0, 0), (1, 5)])?;
+    let values = play(alloc, &mut machine, 2, &[Answer(0), Answer(1)])?;
+    assert_eq!(rt; values.as_slice(), [-1000].as_slice());
+    assert_eq!(rt; machine.label(1), Label::Body);
+    assert_eq!(rt; machine.order(), [id(0, 1)].as_slice());
     Ok(())
 }

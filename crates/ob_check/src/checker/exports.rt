@@ -2,7 +2,7 @@
 
 ghost use Rattle.std.specs.Prelude.{◌≡◌, map, filter, IfOk};
 ghost use Rattle.ob_check.specs.Program.{formal_of};
-ghost use Rattle.ob_check.specs.Exports.{export_of, heading_of};
+ghost use Rattle.ob_check.specs.Exports.{export_of, signature_of};
 ghost use Rattle.ob_check.specs.View.{parameter_of, procedure_of};
 
 use crate::program::{Export, Formal, Parameter, Procedure};
@@ -23,7 +23,7 @@ pub fn formals_of(alloc: Global, parameters: &[Parameter]) -> Result<Vec<Formal>
 
 /// The exported ones of these procedures, in their order.
 pub fn exports_of(alloc: Global, procedures: &[Procedure]) -> Result<Vec<Export>, AllocError>
-    ensures { IfOk result (λ v. map export_of v.items ≡ map heading_of (filter (λ p. p.is_exported) (map procedure_of procedures.now))) }
+    ensures { IfOk result (λ v. map export_of v.items ≡ map signature_of (filter (λ p. p.is_exported) (map procedure_of procedures.now))) }
 {
     let mut exports = Vec::new(alloc);
     for procedure in procedures {

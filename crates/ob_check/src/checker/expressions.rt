@@ -1,7 +1,7 @@
 //! Expressions. Their operands are taken one after another, so that a long sum is no deep recursion.
 
 ghost use Rattle.std.specs.Prelude.{◌≡◌, is_some, IfOk, IfErr, IfSome};
-ghost use Rattle.ob_syntax.specs.View.{expr_of, operands_in};
+ghost use Rattle.ob_grammar.specs.View.{expr_of, operands_in};
 ghost use Rattle.ob_check.specs.declared.program.DataType.TheVariants.{Integer};
 ghost use Rattle.ob_check.specs.Typing.{HasType, AreOperands, IsArithmetic, with_sign};
 ghost use Rattle.ob_check.specs.FirstPath.{is_arithmetic};
@@ -14,7 +14,7 @@ use super::first_path::first_place;
 use super::names::variable_named;
 use super::scopes::Scopes;
 use crate::program::{Arithmetic, Expression, Operation, Scalar};
-use ob_syntax::tree::{Expr, Operand, Operator, Sign};
+use ob_grammar::tree::{Expr, Operand, Operator, Sign};
 use std::alloc::{AllocError, Global};
 
 /// The checked expression of INTEGER, which is the only type.

@@ -2,18 +2,18 @@
 
 ghost use Rattle.std.specs.Prelude.{◌≡◌, IsTrue, map, option_map};
 ghost use Rattle.std.specs.List.{list_all};
-ghost use Rattle.ob_syntax.specs.View.{expr_of, operands_in, type_of, stmt_of, stmts_in, var_decl_of, section_of, constants_of, types_of, variables_of, procedures_in, declarations_of, heading_of, inner_of, body_of, module_of};
+ghost use Rattle.ob_grammar.specs.View.{expr_of, operands_in, type_of, stmt_of, stmts_in, var_decl_of, section_of, constants_of, types_of, variables_of, procedures_in, declarations_of, heading_of, inner_of, body_of, module_of};
 ghost use Rattle.ob_check.specs.FirstPath as rules;
 
 use super::expressions::arithmetic;
 use super::{declared_variables, listed};
-use ob_syntax::tree::{
-    Constants, Declarations, Expr, Module, Operand, Procedure, Section, Stmt, TypeExpr, Types,
+use ob_grammar::tree::{
+    Constants, Declarations, Expr, ModuleTree, Operand, Procedure, Section, Stmt, TypeExpr, Types,
     VarDecl, Variables,
 };
 
 /// Where the first construct stands that is not known, at its first token.
-pub fn outside(tree: &Module) -> Option<usize>
+pub fn outside(tree: &ModuleTree) -> Option<usize>
     ensures { result ≡ rules.outside (module_of tree.now) }
 {
     outside_declarations(&tree.declarations).or(outside_body(&tree.body))

@@ -1,8 +1,8 @@
 //! Names that are used, as variables and as types.
 
 ghost use Rattle.std.specs.Prelude.{IfOk, IfErr};
-ghost use Rattle.ob_syntax.specs.Tree.{Called};
-ghost use Rattle.ob_syntax.specs.View.{name_of, type_of};
+ghost use Rattle.ob_grammar.specs.Tree.{NamedType};
+ghost use Rattle.ob_grammar.specs.View.{name_of, type_of};
 ghost use Rattle.ob_check.specs.Typing.{IsVariable, Denotes};
 ghost use Rattle.ob_check.specs.Parts.{AVariable, AType};
 ghost use Rattle.ob_check.specs.Checking.{env_of, IsFaultIn};
@@ -11,7 +11,7 @@ ghost use Rattle.ob_check.specs.View.{designator_of};
 use super::CheckFault;
 use super::scopes::{Object, Scopes};
 use crate::program::{DataType, Designator};
-use ob_syntax::tree::{Name, TypeExpr};
+use ob_grammar::tree::{Name, TypeExpr};
 
 /// The variable that a name stands for, with its type.
 pub fn variable_named(scopes: &Scopes, name: &Name) -> Result<(DataType, Designator), CheckFault>
@@ -44,8 +44,8 @@ pub fn type_denoted(scopes: &Scopes, type_expr: &TypeExpr) -> Result<DataType, C
 }
 
 fn type_named(scopes: &Scopes, name: &Name) -> Result<DataType, CheckFault>
-    ensures found { IfOk result (λ t. Denotes (env_of scopes.now) (Called (name_of name.now)) t) }
-    ensures fault { IfErr result (λ e. IsFaultIn (env_of scopes.now) (AType (Called (name_of name.now))) e) }
+    ensures found { IfOk result (λ t. Denotes (env_of scopes.now) (NamedType (name_of name.now)) t) }
+    ensures fault { IfErr result (λ e. IsFaultIn (env_of scopes.now) (AType (NamedType (name_of name.now))) e) }
 {
     match scopes.find(&name.text) {
         None => Err(CheckFault::UnknownName(name.place)),

@@ -1,8 +1,8 @@
 //! The procedures of a module.
 
 ghost use Rattle.std.specs.Prelude.{◌≡◌, ◌≤◌, ℕ, suc, ◌∷◌, ◌++◌, List, map, filter, length, is_some, true, false, IfOk, OnOk, IfErr, vec_len, if◌then◌else◌};
-ghost use Rattle.ob_syntax.specs.Tree as trees;
-ghost use Rattle.ob_syntax.specs.View.{section_of, heading_of, procedure_before, procedures_in};
+ghost use Rattle.ob_grammar.specs.Tree as trees;
+ghost use Rattle.ob_grammar.specs.View.{section_of, heading_of, procedure_before, procedures_in};
 ghost use Rattle.ob_check.specs.Scopes.{Environment, IsNew};
 ghost use Rattle.ob_check.specs.Program as programs;
 ghost use Rattle.ob_check.specs.Typing.{Names, Parameters, DeclaresProcedures, section_parameters};
@@ -17,8 +17,8 @@ use super::scopes::Scopes;
 use super::statements::checked_body;
 use super::{CheckFault, listed};
 use crate::program::{DataType, Parameter, Procedure};
-use ob_syntax::tree;
-use ob_syntax::tree::Section;
+use ob_grammar::tree;
+use ob_grammar::tree::Section;
 use std::alloc::Global;
 
 /// How many parameters a procedure may have.

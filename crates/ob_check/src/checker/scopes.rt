@@ -1,7 +1,7 @@
 //! The names that are declared so far.
 
 ghost use Rattle.std.specs.Prelude.{◌≡◌, ◌↔◌, ◌∷◌, IsTrue, IfOk, IfSome, IfErr, OnOk, option_map, is_some, Bool, true, false, string_bytes};
-ghost use Rattle.ob_syntax.specs.View.{name_of};
+ghost use Rattle.ob_grammar.specs.View.{name_of};
 ghost use Rattle.ob_check.specs.Scopes.{ProcedureName, no_names, with_name, found, IsNew, declared, level, variable_in};
 ghost use Rattle.ob_check.specs.Typing.{opening_names, inner_scope};
 ghost use Rattle.ob_check.specs.Checking.{env_of, meaning_of, scope_of, outer, IsFault};
@@ -9,7 +9,7 @@ ghost use Rattle.ob_check.specs.Checking.{env_of, meaning_of, scope_of, outer, I
 use super::CheckFault;
 use crate::program::{DataType, Formal};
 use indexmap::IndexMap;
-use ob_syntax::tree::Name;
+use ob_grammar::tree::Name;
 use std::alloc::Global;
 
 /// What a name stands for. The scope that it stands in says whose variable it is.

@@ -1,7 +1,7 @@
 //! Statements.
 
 ghost use Rattle.std.specs.Prelude.{IfOk, IfErr, option_map};
-ghost use Rattle.ob_syntax.specs.View.{stmts_in};
+ghost use Rattle.ob_grammar.specs.View.{stmts_in};
 ghost use Rattle.ob_check.specs.Typing.{AreStatements, IsBody};
 ghost use Rattle.ob_check.specs.Parts.{SomeStatements};
 ghost use Rattle.ob_check.specs.Checking.{env_of, IsFaultIn, IsFaultInBody};
@@ -12,7 +12,7 @@ use super::expressions::expression;
 use super::names::variable_named;
 use super::scopes::Scopes;
 use crate::program::Statement;
-use ob_syntax::tree::Stmt;
+use ob_grammar::tree::Stmt;
 use std::alloc::Global;
 
 /// The statements of a body, which are none where BEGIN does not stand.

@@ -1,8 +1,8 @@
 //! The variables of a module.
 
 ghost use Rattle.std.specs.Prelude.{◌≡◌, ◌≤◌, ℕ, ◌∷◌, ◌++◌, List, map, is_some, IfOk, OnOk, IfErr};
-ghost use Rattle.ob_syntax.specs.Tree as trees;
-ghost use Rattle.ob_syntax.specs.View.{name_of, type_of, var_decl_of};
+ghost use Rattle.ob_grammar.specs.Tree as trees;
+ghost use Rattle.ob_grammar.specs.View.{name_of, type_of, var_decl_of};
 ghost use Rattle.ob_check.specs.Scopes.{Environment, words, variable_words};
 ghost use Rattle.ob_check.specs.Typing.{Denotes, Names, Variables};
 ghost use Rattle.ob_check.specs.Parts.{SomeVariables};
@@ -13,7 +13,7 @@ use super::CheckFault;
 use super::names::type_denoted;
 use super::scopes::Scopes;
 use crate::program::{DataType, Variable};
-use ob_syntax::tree::{Name, VarDecl};
+use ob_grammar::tree::{Name, VarDecl};
 use std::alloc::Global;
 
 /// How many words the variables of a module may take.

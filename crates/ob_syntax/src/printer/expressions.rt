@@ -1,13 +1,13 @@
 //! The printed text of expressions.
 
 ghost use Rattle.std.specs.Prelude.{◌≡◌, ◌∷◌, [], ◌++◌, ℤ, string_bytes, OnOk};
-ghost use Rattle.ob_syntax.specs.View.{expr_of, operands_in, selectors_in};
+ghost use Rattle.ob_grammar.specs.View.{expr_of, operands_in, selectors_in};
 ghost use Rattle.ob_syntax.specs.Printing.{spaced, number, fixed, operator_kind, sign_words, expr_words, operand_words, selector_words};
 
-use crate::no_memory::NoMemory;
 use crate::printer::{push_name, push_word};
-use crate::tree::{Expr, Operand, Operator, Selector, Sign};
 use itoa::Buffer;
+use ob_grammar::NoMemory;
+use ob_grammar::tree::{Expr, Operand, Operator, Selector, Sign};
 
 /// Appends an expression.
 #[cycle(expr)]

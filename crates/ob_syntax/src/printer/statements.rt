@@ -1,13 +1,13 @@
 //! The printed text of statements.
 
 ghost use Rattle.std.specs.Prelude.{◌≡◌, ◌++◌, map, option_map, string_bytes, OnOk};
-ghost use Rattle.ob_syntax.specs.View.{expr_of, stmt_of, stmts_in, branches_in};
+ghost use Rattle.ob_grammar.specs.View.{expr_of, stmt_of, stmts_in, branches_in};
 ghost use Rattle.ob_syntax.specs.Printing.{spaced, perhaps, actual_words, stmt_words, stmts_words, branch_words, body_words};
 
-use crate::no_memory::NoMemory;
 use crate::printer::expressions::{push_expr, push_selectors};
 use crate::printer::{push_name, push_separator, push_word};
-use crate::tree::{Branch, Expr, Stmt};
+use ob_grammar::NoMemory;
+use ob_grammar::tree::{Branch, Expr, Stmt};
 
 /// Appends `BEGIN` and the statements of a body, where they stand.
 pub(super) fn push_body(text: &mut String, body: &Option<Vec<Stmt>>) -> Result<(), NoMemory>

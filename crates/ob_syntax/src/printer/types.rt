@@ -1,13 +1,13 @@
 //! The printed text of types.
 
 ghost use Rattle.std.specs.Prelude.{◌≡◌, [], ◌∷◌, ◌++◌, string_bytes, OnOk};
-ghost use Rattle.ob_syntax.specs.View.{type_of, fields_in};
+ghost use Rattle.ob_grammar.specs.View.{type_of, fields_in};
 ghost use Rattle.ob_syntax.specs.Printing.{spaced, type_words, field_words};
 
-use crate::no_memory::NoMemory;
 use crate::printer::expressions::push_expr;
 use crate::printer::{push_name, push_names, push_separator, push_word};
-use crate::tree::{FieldList, TypeExpr};
+use ob_grammar::NoMemory;
+use ob_grammar::tree::{FieldList, TypeExpr};
 
 /// Appends a type.
 #[cycle(types)]

@@ -1,4 +1,4 @@
-use Rattle.ob_syntax.proofs.Exits.{passed_on}
+use Rattle.ob_grammar.proofs.Exits.{passed_on}
 use Rattle.ob_check.proofs.Modules.{variables_raised, procedures_raised, body_raised, module_typed}
 use Rattle.ob_check.proofs.checker.checked_program.Goals as goal
 

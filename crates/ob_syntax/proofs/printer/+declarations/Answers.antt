@@ -1,10 +1,10 @@
 use Rattle.std.proofs.Common.{◌≡◌, ◌∷◌, [], ◌++◌, string_bytes, option_map, refl, sym, ◌∙◌, ap}
 use Rattle.std.proofs.lemmas.Result.{on_ok_weaker}
 use Rattle.ob_scan.specs.declared.token.Kind.{Kind}
-use Rattle.ob_syntax.specs.declared.tree.Declarations.TheViews.{out-Declarations, out-Procedure}
-use Rattle.ob_syntax.specs.View.{name_of, constants_of, types_of, variables_of, declarations_of, heading_of, procedures_in, stmts_in}
+use Rattle.ob_grammar.specs.declared.tree.Declarations.TheViews.{out-Declarations, out-Procedure}
+use Rattle.ob_grammar.specs.View.{name_of, constants_of, types_of, variables_of, declarations_of, heading_of, procedures_in, stmts_in}
 use Rattle.ob_syntax.specs.Printing.{spaced, ident, fixed, part_words, const_words, type_decl_words, var_decl_words, heading_words, body_words, declaration_words, procedure_words}
-use Rattle.ob_syntax.proofs.Rows.{declarations_of-parts}
+use Rattle.ob_grammar.proofs.Rows.{declarations_of-parts}
 use Rattle.ob_syntax.proofs.PrintedLoops.{writes_all, writes_both, loop_writes, loop_wrote, procedure_first}
 use Rattle.ob_syntax.proofs.printer.+declarations.Goals as goal
 

@@ -1,5 +1,5 @@
 use Rattle.std.proofs.Common.{string_bytes, drop}
-use Rattle.ob_syntax.specs.View.{procedures_in}
+use Rattle.ob_grammar.specs.View.{procedures_in}
 use Rattle.ob_syntax.specs.Printing.{procedure_words}
 use Rattle.ob_syntax.proofs.PrintedLoops.{Written}
 use Rattle.ob_syntax.proofs.printer.+declarations.Given as goal

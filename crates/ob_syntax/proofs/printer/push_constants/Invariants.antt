@@ -1,6 +1,6 @@
 use Rattle.std.proofs.Common.{string_bytes, drop, map}
 use Rattle.std.specs.List.{flat_map}
-use Rattle.ob_syntax.specs.View.{const_decl_of}
+use Rattle.ob_grammar.specs.View.{const_decl_of}
 use Rattle.ob_syntax.specs.Printing.{const_words}
 use Rattle.ob_syntax.proofs.PrintedLoops.{Written}
 use Rattle.ob_syntax.proofs.printer.push_constants.Given as goal

@@ -2,8 +2,8 @@ use Rattle.std.proofs.Common.{◌≡◌, ◌∷◌, [], ◌++◌, string_bytes, 
 use Rattle.std.proofs.lemmas.List.{append-nil}
 use Rattle.std.proofs.lemmas.Result.{on_ok_weaker}
 use Rattle.ob_scan.specs.declared.token.Kind.{Kind}
-use Rattle.ob_syntax.specs.declared.tree.Declarations.TheViews.{out-Procedure}
-use Rattle.ob_syntax.specs.View.{name_of, section_of}
+use Rattle.ob_grammar.specs.declared.tree.Declarations.TheViews.{out-Procedure}
+use Rattle.ob_grammar.specs.View.{name_of, section_of}
 use Rattle.ob_syntax.specs.Printing.{spaced, ident, fixed, perhaps, parameter_words}
 use Rattle.ob_syntax.proofs.PrintedLoops.{writes_both}
 use Rattle.ob_syntax.proofs.printer.push_heading.Goals as goal

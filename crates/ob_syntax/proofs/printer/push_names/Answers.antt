@@ -1,7 +1,7 @@
 use Rattle.std.proofs.Common.{[], ◌∷◌, ◌++◌, false, map}
 use Rattle.ob_scan.specs.declared.token.Kind.{Kind}
-use Rattle.ob_syntax.specs.Tree
-use Rattle.ob_syntax.specs.View.{name_of}
+use Rattle.ob_grammar.specs.Tree
+use Rattle.ob_grammar.specs.View.{name_of}
 use Rattle.ob_syntax.specs.Printing.{ident}
 use Rattle.ob_syntax.proofs.PrintedLoops.{writes_all, separation, writes_part, parts_left, no_part_left, part_left, loop_writes, loop_wrote}
 use Rattle.ob_syntax.proofs.printer.push_names.Goals as goal

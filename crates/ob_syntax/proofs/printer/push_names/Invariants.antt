@@ -1,6 +1,6 @@
 use Rattle.std.proofs.Common.{[], ◌∷◌, string_bytes, drop, map}
 use Rattle.ob_scan.specs.declared.token.Kind.{Kind}
-use Rattle.ob_syntax.specs.View.{name_of}
+use Rattle.ob_grammar.specs.View.{name_of}
 use Rattle.ob_syntax.specs.Printing.{ident, name_words}
 use Rattle.ob_syntax.proofs.PrintedLoops.{Written, parts_left}
 use Rattle.ob_syntax.proofs.printer.push_names.Given as goal

@@ -1,6 +1,6 @@
 use Rattle.std.proofs.Common.{string_bytes, drop, map}
 use Rattle.ob_scan.specs.declared.token.Kind.{Kind}
-use Rattle.ob_syntax.specs.View.{section_of}
+use Rattle.ob_grammar.specs.View.{section_of}
 use Rattle.ob_syntax.specs.Printing.{between, section_words}
 use Rattle.ob_syntax.proofs.PrintedLoops.{Written, parts_left}
 use Rattle.ob_syntax.proofs.printer.push_parameters.Given as goal

@@ -1,7 +1,7 @@
 use Rattle.std.proofs.Common.{◌≡◌, ◌++◌, string_bytes, refl, map, arith}
 use Rattle.std.specs.List.{flat_map}
 use Rattle.std.proofs.lemmas.Grind.{common_steps}
-use Rattle.ob_syntax.specs.View.{var_decl_of}
+use Rattle.ob_grammar.specs.View.{var_decl_of}
 use Rattle.ob_syntax.specs.Printing.{var_decl_words, spaced}
 use Rattle.ob_syntax.proofs.PrintedLoops.{writes_all, loop_writes, loop_wrote}
 use Rattle.ob_syntax.proofs.printer.push_variables.Goals as goal

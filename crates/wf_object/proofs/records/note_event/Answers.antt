@@ -3,7 +3,7 @@ use Rattle.std.specs.Prelude.{Option, Some}
 use Rattle.wf_history.specs.declared.event.Event.{Event}
 use Rattle.wf_history.specs.History.{IsHistory}
 use Rattle.wf_history.specs.View.{event_of}
-use Rattle.wf_object.specs.Object.{history_after}
+use Rattle.wf_table.specs.Object.{history_after}
 use Rattle.wf_object.specs.View.{event_in}
 use Rattle.wf_object.proofs.records.note_event.Goals as goal
 

@@ -3,8 +3,8 @@ use Rattle.std.specs.Prelude.{slice_index, not}
 use Rattle.std.specs.List.{range_with_len, filter}
 use Rattle.std.proofs.Common.{int_eq}
 use Rattle.ll_cell.specs.Cell.{block_of}
-use Rattle.wf_object.specs.Machine.{own_block, toggle_in}
-use Rattle.wf_object.specs.Object.{begun_of}
+use Rattle.wf_table.specs.Table.{own_block, toggle_in}
+use Rattle.wf_table.specs.Object.{begun_of}
 use Rattle.wf_object.proofs.seen.committed.Given as goal
 
 abbrev pub invariant-loop-q : goal.invariant-loop-q

@@ -1,8 +1,8 @@
 use Rattle.std.proofs.Common.{◌<◌, ◌-◌, ap, sym, arith, length}
 use Rattle.std.proofs.lemmas.List.{length-map}
 use Rattle.ob_mean.specs.View.{call_of}
-use Rattle.wf_object.specs.Machine.{Process}
-use Rattle.wf_object.specs.Shape.{at_next}
+use Rattle.wf_table.specs.Table.{Process}
+use Rattle.wf_table.specs.Labels.{at_next}
 use Rattle.wf_object.proofs.Scripts.{fits_at}
 use Rattle.wf_object.proofs.seen.given.Goals as goal
 

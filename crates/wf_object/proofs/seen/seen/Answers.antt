@@ -1,12 +1,12 @@
 use Rattle.std.proofs.Common.{◌≡◌, ◌≢◌, ℕ, List, refl, sym}
 use Rattle.std.specs.Prelude.{None}
 use Rattle.ll_cell.specs.Cell.{Cell}
-use Rattle.wf_object.specs.Meaning.{Meaning}
-use Rattle.wf_object.specs.Machine.{Process}
-use Rattle.wf_object.specs.Object.{event_at}
-use Rattle.wf_object.specs.declared.process.Sizes.{Sizes}
-use Rattle.wf_object.specs.declared.process.Label.{Label}
-use Rattle.wf_object.specs.declared.process.Label.TheVariants.{Next, Commit, Give}
+use Rattle.wf_table.specs.Meaning.{Meaning}
+use Rattle.wf_table.specs.Table.{Process}
+use Rattle.wf_table.specs.Object.{event_at}
+use Rattle.wf_table.specs.declared.process.Sizes.{Sizes}
+use Rattle.wf_table.specs.declared.process.Label.{Label}
+use Rattle.wf_table.specs.declared.process.Label.TheVariants.{Next, Commit, Give}
 use Rattle.wf_object.proofs.seen.seen.Goals as goal
 
 nothing : {Run : Type 0} (l : Label) (m : Meaning Run) (z : Sizes) (c : Cell) (ps : List (Process Run)) (p : ℕ) (q : Process Run) → l ≢ Next → l ≢ Commit → l ≢ Give → event_at l m z c ps p q ≡ None

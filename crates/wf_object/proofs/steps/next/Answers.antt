@@ -1,5 +1,5 @@
 use Rattle.std.proofs.Common.{◌<◌, ap, sym, arith, length}
-use Rattle.wf_object.specs.Machine.{Process}
+use Rattle.wf_table.specs.Table.{Process}
 use Rattle.wf_object.proofs.Scripts.{fits_at}
 use Rattle.wf_object.proofs.steps.next.Goals as goal
 

@@ -1,5 +1,6 @@
-use Rattle.wf_object.proofs.Copied.{copied}
+use Rattle.wf_table.proofs.Copied.{copied}
 use Rattle.wf_object.proofs.theorems.every_copy.Goals as goal
 
 pub returns : goal.returns
-returns g c = λ e z s p sound is leads. copied (g.E.Engine.meaning e) (g.E.Engine.fits e) z s p sound is leads
+returns g c = λ e z opening s p sound is leads.
+    let i = g.E.Engine in copied (i.meaning e) (i.lawful e) (i.fits e) (i.ready e) z opening s p sound is leads

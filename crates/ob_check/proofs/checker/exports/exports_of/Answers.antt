@@ -3,7 +3,7 @@ use Rattle.std.specs.declared.alloc.Global.{Global}
 use Rattle.ob_check.specs.declared.program.Export.{Export}
 use Rattle.ob_check.specs.declared.program.Procedure.{Procedure}
 use Rattle.ob_check.specs.Program.{formal_of}
-use Rattle.ob_check.specs.Exports.{export_of, heading_of}
+use Rattle.ob_check.specs.Exports.{export_of, signature_of}
 use Rattle.ob_check.specs.View.{parameter_of}
 use Rattle.ob_check.proofs.Lists.{next_taken}
 use Rattle.ob_check.proofs.Exported.{exported_of, exported_of-hidden, headings_more, same_heading}
@@ -15,7 +15,7 @@ loop-procedure-preserved c =
     let p = c.procedure-item.result in
     let done = take c.loop-procedure.procedure-index c.args.procedures.now in
     let next = next_taken c.args.procedures.now c.loop-procedure.procedure-index p c.loop-procedure-test.true c.procedure-item.is in
-    let onward = ap (λ (ps : List Procedure). map heading_of (exported_of ps)) (sym next) in
+    let onward = ap (λ (ps : List Procedure). map signature_of (exported_of ps)) (sym next) in
     elim c.if-procedure.branch [
       | then-procedure+in_ok-name+in_ok-parameters+in_ok-push w ↦
           let formals = w.in_ok-parameters.ensures ∙ ap (map (λ q. formal_of (parameter_of q))) w.deref.ensures.value in
@@ -25,5 +25,5 @@ loop-procedure-preserved c =
           ∙ onward
       | else-procedure w ↦
           ap (λ (v : Vec Export Global). map export_of v.items) w.exports-is ∙ c.loop-procedure.invariant
-          ∙ ap (map heading_of) (sym (exported_of-hidden done p w.if-procedure.false)) ∙ onward
+          ∙ ap (map signature_of) (sym (exported_of-hidden done p w.if-procedure.false)) ∙ onward
     ]

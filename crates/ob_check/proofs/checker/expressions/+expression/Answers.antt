@@ -1,10 +1,10 @@
 use Rattle.std.proofs.Common.{arith, ap, sym, subst, ◌∙◌}
 use Rattle.std.proofs.lemmas.Int.{ints, to_z-of_z}
 use Rattle.std.proofs.lemmas.List.{at_drop_all}
-use Rattle.ob_syntax.specs.Tree.{Operands}
+use Rattle.ob_grammar.specs.Tree.{Operands}
 use Rattle.ob_check.specs.declared.checker.CheckFault.TheVariants.{NotSupported}
 use Rattle.ob_check.specs.Checking.{env_of}
-use Rattle.ob_syntax.specs.View.{operands_in}
+use Rattle.ob_grammar.specs.View.{operands_in}
 use Rattle.ob_check.specs.Program as Program
 use Rattle.ob_check.specs.Program.{Operations}
 use Rattle.ob_check.specs.Typing as Typing
@@ -12,7 +12,7 @@ use Rattle.ob_check.specs.Typing.{AreOperands}
 use Rattle.ob_check.specs.View.{expression_of}
 use Rattle.ob_check.proofs.Lists.{next_left}
 use Rattle.ob_check.proofs.Sums.{operations_before, operations_before-push, operations_before-end}
-use Rattle.ob_syntax.proofs.Exits.{passed_on}
+use Rattle.ob_grammar.proofs.Exits.{passed_on}
 use Rattle.ob_check.proofs.Outside.{is_bare, is_not_bare, selected_outside}
 use Rattle.ob_check.proofs.Exprs.{number_typed, named_typed, named_fault, first_fault, rest_fault, sum_typed, operand_fault, operands_fault, operands_typed, operator_fault}
 use Rattle.ob_check.proofs.checker.expressions.+expression.Goals as goal

@@ -4,7 +4,7 @@ use Rattle.ob_check.specs.Program.{Operations}
 use Rattle.ob_check.specs.Parts.{SomeOperands}
 use Rattle.ob_check.specs.Typing.{AreOperands}
 use Rattle.ob_check.specs.Checking.{env_of, IsFaultIn}
-use Rattle.ob_syntax.specs.View.{operands_in}
+use Rattle.ob_grammar.specs.View.{operands_in}
 use Rattle.ob_check.proofs.Sums.{operations_before}
 use Rattle.ob_check.proofs.checker.expressions.+expression.Given as goal
 

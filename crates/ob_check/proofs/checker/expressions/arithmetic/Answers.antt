@@ -1,5 +1,5 @@
 use Rattle.std.proofs.Common.{sym, subst}
-use Rattle.ob_syntax.specs.declared.tree.Operator.{Operator}
+use Rattle.ob_grammar.specs.declared.tree.Operator.{Operator}
 use Rattle.ob_check.specs.declared.program.Arithmetic.TheVariants as Arithmetics
 use Rattle.ob_check.specs.Typing.{IsArithmetic, plus, minus}
 use Rattle.ob_check.proofs.checker.expressions.arithmetic.Goals as goal

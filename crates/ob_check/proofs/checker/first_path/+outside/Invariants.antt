@@ -1,5 +1,5 @@
 use Rattle.std.proofs.Common.{◌≡◌, drop}
-use Rattle.ob_syntax.specs.View.{operands_in}
+use Rattle.ob_grammar.specs.View.{operands_in}
 use Rattle.ob_check.specs.FirstPath.{outside_operands}
 use Rattle.ob_check.proofs.checker.first_path.+outside.Given as goal
 

@@ -1,5 +1,5 @@
 use Rattle.std.proofs.Common.{◌≡◌, drop}
-use Rattle.ob_syntax.specs.View.{stmts_in}
+use Rattle.ob_grammar.specs.View.{stmts_in}
 use Rattle.ob_check.specs.FirstPath.{outside_stmts}
 use Rattle.ob_check.proofs.checker.first_path.outside_body.Given as goal
 

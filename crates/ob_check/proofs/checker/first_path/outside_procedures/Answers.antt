@@ -1,6 +1,6 @@
 use Rattle.std.proofs.Common.{ap, sym, ◌∙◌, arith}
 use Rattle.std.proofs.lemmas.List.{at_drop_all}
-use Rattle.ob_syntax.specs.View.{procedures_in}
+use Rattle.ob_grammar.specs.View.{procedures_in}
 use Rattle.ob_check.specs.FirstPath.{outside_procedures}
 use Rattle.ob_check.proofs.Lists.{next_left}
 use Rattle.ob_check.proofs.Outside.{first_found, first_behind}

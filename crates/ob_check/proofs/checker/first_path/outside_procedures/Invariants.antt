@@ -1,5 +1,5 @@
 use Rattle.std.proofs.Common.{◌≡◌, drop}
-use Rattle.ob_syntax.specs.View.{procedures_in}
+use Rattle.ob_grammar.specs.View.{procedures_in}
 use Rattle.ob_check.specs.FirstPath.{outside_procedures}
 use Rattle.ob_check.proofs.checker.first_path.outside_procedures.Given as goal
 

@@ -1,6 +1,6 @@
 use Rattle.std.proofs.Common.{ap, sym, ◌∙◌, map, arith}
 use Rattle.std.proofs.lemmas.List.{at_drop_all}
-use Rattle.ob_syntax.specs.View.{section_of}
+use Rattle.ob_grammar.specs.View.{section_of}
 use Rattle.ob_check.specs.FirstPath.{outside_sections}
 use Rattle.ob_check.proofs.Lists.{next_left}
 use Rattle.ob_check.proofs.Outside.{first_found, first_behind}

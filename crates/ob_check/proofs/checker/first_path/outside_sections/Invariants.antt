@@ -1,5 +1,5 @@
 use Rattle.std.proofs.Common.{◌≡◌, map, drop}
-use Rattle.ob_syntax.specs.View.{section_of}
+use Rattle.ob_grammar.specs.View.{section_of}
 use Rattle.ob_check.specs.FirstPath.{outside_sections}
 use Rattle.ob_check.proofs.checker.first_path.outside_sections.Given as goal
 

@@ -1,5 +1,5 @@
 use Rattle.std.proofs.Common.{◌≡◌, map, drop}
-use Rattle.ob_syntax.specs.View.{var_decl_of}
+use Rattle.ob_grammar.specs.View.{var_decl_of}
 use Rattle.ob_check.specs.FirstPath.{outside_variables}
 use Rattle.ob_check.proofs.checker.first_path.outside_variables.Given as goal
 

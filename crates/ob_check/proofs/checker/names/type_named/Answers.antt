@@ -1,5 +1,5 @@
 use Rattle.std.proofs.Common.{sym, ap, ◌∙◌, ⊎_elim}
-use Rattle.ob_syntax.specs.View.{name_of}
+use Rattle.ob_grammar.specs.View.{name_of}
 use Rattle.ob_check.specs.Checking.{env_of}
 use Rattle.ob_check.specs.Scopes.{found}
 use Rattle.ob_check.proofs.Uses.{is_type, unknown_type, variable_no_type, procedure_no_type}

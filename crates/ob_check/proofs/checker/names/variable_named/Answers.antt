@@ -1,5 +1,5 @@
 use Rattle.std.proofs.Common.{Some, sym, ap, ◌∙◌, ⊎_elim}
-use Rattle.ob_syntax.specs.View.{name_of}
+use Rattle.ob_grammar.specs.View.{name_of}
 use Rattle.ob_check.specs.Checking.{env_of, meaning_of}
 use Rattle.ob_check.specs.Scopes.{found}
 use Rattle.ob_check.proofs.Uses.{is_variable, unknown_variable, type_no_variable, procedure_no_variable}

@@ -1,11 +1,11 @@
 use Rattle.std.proofs.Common.{ℕ, List, refl, sym, ap, ◌∙◌, map, take, drop, ◌+◌, [], ◌∷◌, arith}
 use Rattle.std.proofs.lemmas.List.{append-nil, length-map, map-append}
-use Rattle.ob_syntax.specs.View.{name_of, section_of}
+use Rattle.ob_grammar.specs.View.{name_of, section_of}
 use Rattle.ob_check.specs.Typing as Typing
 use Rattle.ob_check.specs.Checking.{env_of}
 use Rattle.ob_check.specs.View.{parameter_of}
 use Rattle.ob_check.proofs.Declared.{names_more, twice_in_section, parameters_more, parameters_count, ninth}
-use Rattle.ob_syntax.proofs.Exits.{passed_on}
+use Rattle.ob_grammar.proofs.Exits.{passed_on}
 use Rattle.ob_check.proofs.Lists.{map_around_in, map_taken_in}
 use Rattle.ob_check.proofs.checker.procedures.add_parameters.Goals as goal
 

@@ -1,14 +1,14 @@
 use Rattle.std.proofs.Common.{List, [], map, drop, vec_len, ◌+◌, arith, sym, ap, subst, ◌∙◌}
 use Rattle.std.proofs.lemmas.List.{append-nil, drop_all, length-map}
-use Rattle.ob_syntax.specs.Tree.{Section}
-use Rattle.ob_syntax.specs.View.{section_of}
+use Rattle.ob_grammar.specs.Tree.{Section}
+use Rattle.ob_grammar.specs.View.{section_of}
 use Rattle.ob_check.specs.Parts.{SomeSections}
 use Rattle.ob_check.specs.Program.{Parameter}
 use Rattle.ob_check.specs.Typing as Typing
 use Rattle.ob_check.specs.Typing.{Parameters}
 use Rattle.ob_check.specs.Checking.{env_of, IsFaultIn}
 use Rattle.ob_check.specs.View.{parameter_of}
-use Rattle.ob_syntax.proofs.Exits.{passed_on}
+use Rattle.ob_grammar.proofs.Exits.{passed_on}
 use Rattle.ob_check.proofs.Lists.{next_left}
 use Rattle.ob_check.proofs.Rows.{parameters_typed, parameters_fault}
 use Rattle.ob_check.proofs.checker.procedures.declare_parameters.Goals as goal

@@ -1,5 +1,5 @@
 use Rattle.std.proofs.Common.{◌≡◌, ◌≤◌, List, ◌++◌, map, drop, is_some, vec_len}
-use Rattle.ob_syntax.specs.View.{section_of}
+use Rattle.ob_grammar.specs.View.{section_of}
 use Rattle.ob_check.specs.declared.checker.CheckFault.{CheckFault}
 use Rattle.ob_check.specs.Program.{Parameter}
 use Rattle.ob_check.specs.Scopes.{Environment}

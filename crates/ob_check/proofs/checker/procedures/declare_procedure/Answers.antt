@@ -1,12 +1,12 @@
 use Rattle.std.proofs.Common.{map, arith, sym, ap, ◌∙◌}
 use Rattle.std.proofs.lemmas.List.{length-map}
-use Rattle.ob_syntax.specs.declared.tree.Procedure.{out-Procedure}
-use Rattle.ob_syntax.specs.View.{name_of, inner_of, body_of}
+use Rattle.ob_grammar.specs.declared.tree.Procedure.{out-Procedure}
+use Rattle.ob_grammar.specs.View.{name_of, inner_of, body_of}
 use Rattle.ob_check.specs.Program.{formal_of}
 use Rattle.ob_check.specs.Checking.{env_of}
 use Rattle.ob_check.specs.View.{parameter_of, statements_in}
 use Rattle.ob_check.proofs.Exported.{formals_again}
-use Rattle.ob_syntax.proofs.Exits.{passed_on}
+use Rattle.ob_grammar.proofs.Exits.{passed_on}
 use Rattle.ob_check.proofs.Known.{declares_nothing}
 use Rattle.ob_check.proofs.Sections.{own_parameters, sections_fault, inner_fault, body_fault, behind_fault, procedure_typed}
 use Rattle.ob_check.proofs.checker.procedures.declare_procedure.Goals as goal

@@ -1,7 +1,7 @@
 use Rattle.std.proofs.Common.{◌≡◌, ℕ, suc, ◌+◌, List, [], ◌∷◌, ◌++◌, map, length, drop, vec_len, arith, sym, ap, subst, ◌∙◌, append_assoc, if◌then◌else◌}
 use Rattle.std.proofs.lemmas.List.{append-nil, drop_all, map-append}
-use Rattle.ob_syntax.specs.Tree.{Procedures}
-use Rattle.ob_syntax.specs.View.{heading_of, procedure_before, procedures_in}
+use Rattle.ob_grammar.specs.Tree.{Procedures}
+use Rattle.ob_grammar.specs.View.{heading_of, procedure_before, procedures_in}
 use Rattle.ob_check.specs.Parts.{SomeProcedures}
 use Rattle.ob_check.specs.Program.{Procedure}
 use Rattle.ob_check.specs.Typing as Typing
@@ -9,7 +9,7 @@ use Rattle.ob_check.specs.Typing.{DeclaresProcedures}
 use Rattle.ob_check.specs.Checking.{env_of, IsFaultIn}
 use Rattle.ob_check.specs.View.{procedure_of}
 use Rattle.ob_check.proofs.Exported.{exported_of, exported_count}
-use Rattle.ob_syntax.proofs.Exits.{passed_on}
+use Rattle.ob_grammar.proofs.Exits.{passed_on}
 use Rattle.ob_check.proofs.Lists.{next_left}
 use Rattle.ob_check.proofs.checker.procedures.declare_procedures.Goals as goal
 

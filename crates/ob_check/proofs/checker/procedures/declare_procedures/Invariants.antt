@@ -1,5 +1,5 @@
 use Rattle.std.proofs.Common.{◌≡◌, ◌≤◌, List, ◌++◌, map, drop, filter, length, is_some, false, vec_len}
-use Rattle.ob_syntax.specs.View.{procedures_in}
+use Rattle.ob_grammar.specs.View.{procedures_in}
 use Rattle.ob_check.specs.declared.checker.CheckFault.{CheckFault}
 use Rattle.ob_check.specs.Program.{Procedure}
 use Rattle.ob_check.specs.Scopes.{Environment}

@@ -1,5 +1,5 @@
 use Rattle.ob_check.specs.Parts as Parts
-use Rattle.ob_syntax.proofs.Exits.{passed_on}
+use Rattle.ob_grammar.proofs.Exits.{passed_on}
 use Rattle.ob_check.proofs.Faults.{further_in}
 use Rattle.ob_check.proofs.checker.procedures.declare_section.Goals as goal
 

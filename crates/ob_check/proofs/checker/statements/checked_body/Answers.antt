@@ -1,8 +1,8 @@
 use Rattle.std.proofs.Common.{List, Option, None, option_map, Vec, sym, ap, subst}
 use Rattle.std.specs.declared.alloc.Global.{Global}
 use Rattle.std.proofs.lemmas.Result.{IfOk-weaker}
-use Rattle.ob_syntax.specs.declared.tree.Stmt.{Stmt}
-use Rattle.ob_syntax.specs.View.{stmts_in}
+use Rattle.ob_grammar.specs.declared.tree.Stmt.{Stmt}
+use Rattle.ob_grammar.specs.View.{stmts_in}
 use Rattle.ob_check.specs.Program.{Statements}
 use Rattle.ob_check.specs.Typing as Typing
 use Rattle.ob_check.specs.Typing.{IsBody, AreStatements}

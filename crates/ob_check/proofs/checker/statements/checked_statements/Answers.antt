@@ -1,8 +1,8 @@
 use Rattle.std.proofs.Common.{◌≡◌, Vec, Some, arith, ap, sym, subst, ◌∙◌, ⊎_elim}
 use Rattle.std.specs.declared.alloc.Global.{Global}
 use Rattle.std.proofs.lemmas.List.{at_drop_all}
-use Rattle.ob_syntax.specs.Tree.{Stmts}
-use Rattle.ob_syntax.specs.View.{stmt_of, stmts_in}
+use Rattle.ob_grammar.specs.Tree.{Stmts}
+use Rattle.ob_grammar.specs.View.{stmt_of, stmts_in}
 use Rattle.ob_check.specs.declared.checker.CheckFault.TheVariants.{NotSupported}
 use Rattle.ob_check.specs.declared.program.Statement.{Statement}
 use Rattle.ob_check.specs.declared.program.Statement.TheVariants as Programs
@@ -12,7 +12,7 @@ use Rattle.ob_check.specs.Typing as Typing
 use Rattle.ob_check.specs.Typing.{AreStatements}
 use Rattle.ob_check.specs.Checking.{env_of}
 use Rattle.ob_check.specs.FirstPath.{outside_stmt}
-use Rattle.ob_syntax.proofs.Exits.{passed_on}
+use Rattle.ob_grammar.proofs.Exits.{passed_on}
 use Rattle.ob_check.proofs.Outside.{is_bare, is_not_bare, selected_assignment}
 use Rattle.ob_check.proofs.Lists.{next_left}
 use Rattle.ob_check.proofs.Bodies.{statements_before, statements_before-push, statements_before-end, statements_fault, empty_typed, target_fault, value_fault, assign_typed, outside_fault}

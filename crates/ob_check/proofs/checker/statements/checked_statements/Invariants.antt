@@ -1,5 +1,5 @@
 use Rattle.std.proofs.Common.{drop}
-use Rattle.ob_syntax.specs.View.{stmts_in}
+use Rattle.ob_grammar.specs.View.{stmts_in}
 use Rattle.ob_check.specs.declared.checker.CheckFault.{CheckFault}
 use Rattle.ob_check.specs.Program.{Statements}
 use Rattle.ob_check.specs.Parts.{SomeStatements}

@@ -1,5 +1,5 @@
 use Rattle.std.proofs.Common.{sym, ap, ◌∙◌, map, take, drop, ◌+◌, ◌*◌, length}
-use Rattle.ob_syntax.specs.View.{name_of}
+use Rattle.ob_grammar.specs.View.{name_of}
 use Rattle.ob_check.specs.Scopes.{words}
 use Rattle.ob_check.proofs.Declared.{words_added, words_too_many}
 use Rattle.ob_check.proofs.Lists.{map_around}

@@ -1,5 +1,5 @@
 use Rattle.std.proofs.Common.{◌≡◌, ◌++◌, map, take}
-use Rattle.ob_syntax.specs.View.{name_of}
+use Rattle.ob_grammar.specs.View.{name_of}
 use Rattle.ob_check.specs.Checking.{called}
 use Rattle.ob_check.specs.View.{variable_of}
 use Rattle.ob_check.proofs.checker.variables.add_variables.Given as goal

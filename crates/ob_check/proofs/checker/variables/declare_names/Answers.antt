@@ -1,9 +1,9 @@
 use Rattle.std.proofs.Common.{refl, ◌∙◌, map, take, drop, ◌+◌}
-use Rattle.ob_syntax.specs.View.{name_of}
+use Rattle.ob_grammar.specs.View.{name_of}
 use Rattle.ob_check.specs.Typing as Typing
 use Rattle.ob_check.specs.Checking.{env_of}
 use Rattle.ob_check.proofs.Declared.{names_more, twice_in_variables}
-use Rattle.ob_syntax.proofs.Exits.{passed_on}
+use Rattle.ob_grammar.proofs.Exits.{passed_on}
 use Rattle.ob_check.proofs.Lists.{map_around, map_taken}
 use Rattle.ob_check.proofs.checker.variables.declare_names.Goals as goal
 

@@ -1,5 +1,5 @@
 use Rattle.std.proofs.Common.{◌≡◌, map, take, is_some}
-use Rattle.ob_syntax.specs.View.{name_of}
+use Rattle.ob_grammar.specs.View.{name_of}
 use Rattle.ob_check.specs.Typing.{Names}
 use Rattle.ob_check.specs.Checking.{env_of, called}
 use Rattle.ob_check.proofs.checker.variables.declare_names.Given as goal

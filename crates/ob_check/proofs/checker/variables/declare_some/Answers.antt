@@ -1,7 +1,7 @@
 use Rattle.std.proofs.Common.{sym, ap, map}
-use Rattle.ob_syntax.specs.View.{name_of}
+use Rattle.ob_grammar.specs.View.{name_of}
 use Rattle.ob_check.specs.Parts as Parts
-use Rattle.ob_syntax.proofs.Exits.{passed_on}
+use Rattle.ob_grammar.proofs.Exits.{passed_on}
 use Rattle.ob_check.proofs.Faults.{further_in}
 use Rattle.ob_check.proofs.checker.variables.declare_some.Goals as goal
 

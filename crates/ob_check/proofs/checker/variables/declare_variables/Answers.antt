@@ -1,14 +1,14 @@
 use Rattle.std.proofs.Common.{List, [], map, drop, ◌+◌, arith, sym, ap, subst, ◌∙◌}
 use Rattle.std.proofs.lemmas.List.{append-nil, drop_all}
-use Rattle.ob_syntax.specs.Tree.{VarDecl}
-use Rattle.ob_syntax.specs.View.{var_decl_of}
+use Rattle.ob_grammar.specs.Tree.{VarDecl}
+use Rattle.ob_grammar.specs.View.{var_decl_of}
 use Rattle.ob_check.specs.Parts.{SomeVariables}
 use Rattle.ob_check.specs.Program.{Variable}
 use Rattle.ob_check.specs.Typing as Typing
 use Rattle.ob_check.specs.Typing.{Variables}
 use Rattle.ob_check.specs.Checking.{env_of, IsFaultIn}
 use Rattle.ob_check.specs.View.{variable_of}
-use Rattle.ob_syntax.proofs.Exits.{passed_on}
+use Rattle.ob_grammar.proofs.Exits.{passed_on}
 use Rattle.ob_check.proofs.Lists.{next_left}
 use Rattle.ob_check.proofs.Rows.{variables_typed, variables_fault}
 use Rattle.ob_check.proofs.checker.variables.declare_variables.Goals as goal

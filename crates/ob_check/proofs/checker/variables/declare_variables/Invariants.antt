@@ -1,5 +1,5 @@
 use Rattle.std.proofs.Common.{◌≡◌, List, ◌++◌, map, drop, is_some}
-use Rattle.ob_syntax.specs.View.{var_decl_of}
+use Rattle.ob_grammar.specs.View.{var_decl_of}
 use Rattle.ob_check.specs.declared.checker.CheckFault.{CheckFault}
 use Rattle.ob_check.specs.Program.{Variable}
 use Rattle.ob_check.specs.Scopes.{Environment}

@@ -1,8 +1,8 @@
 use Rattle.std.proofs.Common.{◌≡◌, ◌∷◌, [], ◌++◌, refl, sym, ◌∙◌, ap, append_assoc}
-use Rattle.ob_syntax.specs.Tree
-use Rattle.ob_syntax.specs.View.{name_of, expr_of, operands_in, selectors_in}
+use Rattle.ob_grammar.specs.Tree
+use Rattle.ob_grammar.specs.View.{name_of, expr_of, operands_in, selectors_in}
 use Rattle.ob_syntax.specs.Printing.{ident, fixed, operator_kind, sign_words, expr_words, operand_words, selector_words}
-use Rattle.ob_syntax.proofs.Rows.{expr_of-named, expr_of-product, expr_of-sum}
+use Rattle.ob_grammar.proofs.Rows.{expr_of-named, expr_of-product, expr_of-sum}
 use Rattle.ob_syntax.proofs.PrintedLoops.{writes_all, writes_both, writes_rest, loop_writes, loop_wrote, selector_first}
 use Rattle.ob_syntax.proofs.printer.expressions.+expr.Goals as goal
 

@@ -1,5 +1,5 @@
 use Rattle.std.proofs.Common.{string_bytes, drop}
-use Rattle.ob_syntax.specs.View.{operands_in, selectors_in}
+use Rattle.ob_grammar.specs.View.{operands_in, selectors_in}
 use Rattle.ob_syntax.specs.Printing.{operand_words, selector_words}
 use Rattle.ob_syntax.proofs.PrintedLoops.{Written}
 use Rattle.ob_syntax.proofs.printer.expressions.+expr.Given as goal

@@ -2,11 +2,11 @@ use Rattle.std.proofs.Common.{◌≡◌, ◌∷◌, [], ◌++◌, string_bytes, 
 use Rattle.std.proofs.lemmas.List.{append-nil}
 use Rattle.std.proofs.lemmas.Result.{on_ok_weaker}
 use Rattle.ob_scan.specs.declared.token.Kind.{Kind}
-use Rattle.ob_syntax.specs.Tree
-use Rattle.ob_syntax.specs.View.{expr_of, stmt_of, stmts_in, branches_in}
-use Rattle.ob_syntax.specs.Answers.{otherwise_of}
+use Rattle.ob_grammar.specs.Tree
+use Rattle.ob_grammar.specs.View.{expr_of, stmt_of, stmts_in, branches_in}
+use Rattle.ob_grammar.specs.View.{otherwise_of}
 use Rattle.ob_syntax.specs.Printing.{spaced, fixed, expr_words, stmt_words, stmts_words, branch_words, else_words}
-use Rattle.ob_syntax.proofs.Rows.{stmt_of-if, stmt_of-while}
+use Rattle.ob_grammar.proofs.Rows.{stmt_of-if, stmt_of-while}
 use Rattle.ob_syntax.proofs.PrintedLoops.{writes_both}
 use Rattle.ob_syntax.proofs.printer.statements.+statements.Goals as goal
 use Rattle.ob_syntax.proofs.printer.statements.+statements.Goals.{push_statement-in-Some+in_ok-push_word-in-If-2+in_ok-push_statements-in-If, push_statement-in_default}

@@ -1,5 +1,5 @@
 use Rattle.std.proofs.Common.{string_bytes, drop}
-use Rattle.ob_syntax.specs.View.{stmts_in, branches_in}
+use Rattle.ob_grammar.specs.View.{stmts_in, branches_in}
 use Rattle.ob_syntax.specs.Printing.{stmts_words, branch_words}
 use Rattle.ob_syntax.proofs.PrintedLoops.{Written, stmts_left, branches_left}
 use Rattle.ob_syntax.proofs.printer.statements.+statements.Given as goal

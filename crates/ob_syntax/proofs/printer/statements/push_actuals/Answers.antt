@@ -1,6 +1,6 @@
 use Rattle.std.proofs.Common.{[], ◌∷◌, ◌++◌, false, sym, ◌∙◌, ap, map, option_map}
 use Rattle.ob_scan.specs.declared.token.Kind.{Kind}
-use Rattle.ob_syntax.specs.View.{expr_of}
+use Rattle.ob_grammar.specs.View.{expr_of}
 use Rattle.ob_syntax.specs.Printing.{fixed, between, perhaps, expr_words, actual_words}
 use Rattle.ob_syntax.proofs.PrintedLoops.{writes_all, separation, writes_part, parts_left, no_part_left, part_left, loop_writes, loop_wrote, writes_rest, writes_both}
 use Rattle.ob_syntax.proofs.printer.statements.push_actuals.Goals as goal

@@ -1,6 +1,6 @@
 use Rattle.std.proofs.Common.{string_bytes, drop, map}
 use Rattle.ob_scan.specs.declared.token.Kind.{Kind}
-use Rattle.ob_syntax.specs.View.{expr_of}
+use Rattle.ob_grammar.specs.View.{expr_of}
 use Rattle.ob_syntax.specs.Printing.{between, expr_words}
 use Rattle.ob_syntax.proofs.PrintedLoops.{Written, parts_left}
 use Rattle.ob_syntax.proofs.printer.statements.push_actuals.Given as goal

@@ -1,9 +1,9 @@
 use Rattle.std.proofs.Common.{◌≡◌, ◌∷◌, [], ◌++◌, false, sym, ◌∙◌, ap}
 use Rattle.ob_scan.specs.declared.token.Kind.{Kind}
-use Rattle.ob_syntax.specs.Tree
-use Rattle.ob_syntax.specs.View.{type_of, fields_in}
+use Rattle.ob_grammar.specs.Tree
+use Rattle.ob_grammar.specs.View.{type_of, fields_in}
 use Rattle.ob_syntax.specs.Printing.{fixed, type_words, field_words}
-use Rattle.ob_syntax.proofs.Rows.{type_of-record}
+use Rattle.ob_grammar.proofs.Rows.{type_of-record}
 use Rattle.ob_syntax.proofs.PrintedLoops.{writes_all, writes_both, writes_rest, loop_writes, loop_wrote, separation, writes_part, fields_left, no_field_left, field_list_first}
 use Rattle.ob_syntax.proofs.printer.types.+types.Goals as goal
 

@@ -1,5 +1,5 @@
 use Rattle.std.proofs.Common.{string_bytes, drop}
-use Rattle.ob_syntax.specs.View.{fields_in}
+use Rattle.ob_grammar.specs.View.{fields_in}
 use Rattle.ob_syntax.specs.Printing.{field_words}
 use Rattle.ob_syntax.proofs.PrintedLoops.{Written, fields_left}
 use Rattle.ob_syntax.proofs.printer.types.+types.Given as goal

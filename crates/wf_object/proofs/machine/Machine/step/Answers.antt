@@ -1,13 +1,21 @@
-use Rattle.std.proofs.Common.{◌≡◌, ◌<◌, List, sym, ap, ◌∙◌, subst, refl}
-use Rattle.std.specs.Prelude.{Option}
-use Rattle.std.proofs.lemmas.Option.{same_Some}
+use Rattle.std.proofs.Common.{◌≡◌, ◌<◌, ◌≤◌, Bool, List, length, set, sym, ap, ◌∙◌, subst, refl, arith}
+use Rattle.std.specs.Prelude.{Option, Some}
+use Rattle.std.proofs.lemmas.Option.{same_Some, slice_get_read, get_or_from_slice_get}
 use Rattle.ob_mean.specs.Object.{ObjectCall, Reply}
 use Rattle.wf_history.specs.History.{Event, IsHistory}
-use Rattle.wf_object.specs.Object.{State, event_at, answer_by, history_after}
-use Rattle.wf_object.specs.Machine.{Process}
+use Rattle.wf_table.specs.Object.{State, Records, step_of, Answer, event_at, answer_by, values_answered, history_after}
+use Rattle.wf_table.specs.Schedule.{steps_of}
+use Rattle.wf_table.specs.Table.{Process}
 use Rattle.wf_object.specs.View.{event_in}
-use Rattle.wf_object.proofs.KeepsSound.{keeps_sound}
-use Rattle.wf_object.proofs.KeepsTurns.{event_in_turn}
+use Rattle.wf_table.proofs.Counted.{one_turn}
+use Rattle.wf_table.proofs.FewValues.{few_answered}
+use Rattle.wf_table.proofs.KeepsSound.{keeps_sound}
+use Rattle.wf_table.proofs.KeepsTurns.{event_in_turn}
+use Rattle.wf_commits.proofs.Runs.{step_committed}
+use Rattle.wf_bound.specs.declared.spent.Spent.{Spent}
+use Rattle.wf_bound.specs.Spent.{unspent, spent_after, has_more}
+use Rattle.wf_bound.specs.Counted.{spent_of, spent_by_step, count_by}
+use Rattle.wf_object.proofs.Spends.{bodies_room, inside_room, outside_room, later, spends_stay, among_stay}
 use Rattle.wf_object.proofs.OneStep.{stands, step_is, answer_is, noted_is}
 use Rattle.wf_object.proofs.machine.Machine.step.Goals as goal
 
@@ -15,13 +23,13 @@ pub seen-requires-clause-in_range : goal.seen-requires-clause-in_range
 seen-requires-clause-in_range g c =
     let s = c.self.inside in
     let within : c.args.p < s.sizes.processes = rw (← c.self.view_is) at c.requires in
-    c.self.invariant.in_range _ _ (stands s.processes.items s.sizes.processes c.args.p c.index-process.result.now c.self.invariant.count within c.index-process.ensures)
+    c.self.invariant.sound.in_range _ _ (stands s.processes.items s.sizes.processes c.args.p c.index-process.result.now c.self.invariant.sound.count within c.index-process.ensures)
 
 pub seen-requires-clause-fits : goal.seen-requires-clause-fits
 seen-requires-clause-fits g c =
     let s = c.self.inside in
     let within : c.args.p < s.sizes.processes = rw (← c.self.view_is) at c.requires in
-    c.self.invariant.calls_fit _ _ (stands s.processes.items s.sizes.processes c.args.p c.index-process.result.now c.self.invariant.count within c.index-process.ensures)
+    c.self.invariant.sound.calls_fit _ _ (stands s.processes.items s.sizes.processes c.args.p c.index-process.result.now c.self.invariant.sound.count within c.index-process.ensures)
 
 pub note-requires-clause-in_turn : goal.note-requires-clause-in_turn
 note-requires-clause-in_turn g c =
@@ -29,38 +37,94 @@ note-requires-clause-in_turn g c =
     let m = g.E.Engine.meaning s.engine in
     let within : c.args.p < s.sizes.processes = rw (← c.self.view_is) at c.requires in
     let y = c.index-process.result.now in
-    let also = stands s.processes.items s.sizes.processes c.args.p y c.self.invariant.count within c.index-process.ensures in
+    let also = stands s.processes.items s.sizes.processes c.args.p y c.self.invariant.sound.count within c.index-process.ensures in
     let is = c.in_ok-event.ensures ∙ ap (λ (ps : List (Process _)). event_at y.label m s.sizes s.shared ps c.args.p y) c.deref.ensures.value in
     subst (λ (e : Option (Event ObjectCall Reply)). IsHistory (history_after s.records.history e)) (sym is)
-    (event_in_turn y.label m s.sizes s.shared s.processes.items c.args.p y s.records.history refl (c.self.invariant.in_range _ _ also) (c.self.invariant.own_events _ _ also) c.self.invariant.in_turn)
+    (event_in_turn y.label m s.sizes s.shared s.processes.items c.args.p y s.records.history refl (c.self.invariant.sound.in_range _ _ also) (c.self.invariant.sound.own_events _ _ also) c.self.invariant.sound.in_turn)
+
+pub count_step-requires-clause-bodies : goal.count_step-requires-clause-bodies
+count_step-requires-clause-bodies g c =
+    let s = c.self.inside in
+    let kept = c.self.invariant in
+    let within : c.args.p < s.sizes.processes = rw (← c.self.view_is) at c.requires in
+    let y = c.index-process.result.now in
+    let also = stands s.processes.items s.sizes.processes c.args.p y kept.sound.count within c.index-process.ensures in
+    let x = c.index_mut-spent.result.now in
+    let count : c.args.p < length s.spent.items = omega (arith, within, kept.spends.count, kept.sound.count) in
+    let is : x ≡ spent_of s.spent.items c.args.p = sym (get_or_from_slice_get s.spent.items c.args.p x unspent (slice_get_read s.spent.items (length s.spent.items) c.args.p x refl count c.index_mut-spent.ensures.value)) in
+    rw is (bodies_room (g.E.Engine.meaning s.engine) s.sizes y _ kept.sound.sized (kept.sound.in_range _ _ also) (kept.spends.each _ _ also))
+
+pub count_step-requires-clause-inside : goal.count_step-requires-clause-inside
+count_step-requires-clause-inside g c =
+    let s = c.self.inside in
+    let kept = c.self.invariant in
+    let within : c.args.p < s.sizes.processes = rw (← c.self.view_is) at c.requires in
+    let y = c.index-process.result.now in
+    let also = stands s.processes.items s.sizes.processes c.args.p y kept.sound.count within c.index-process.ensures in
+    let x = c.index_mut-spent.result.now in
+    let count : c.args.p < length s.spent.items = omega (arith, within, kept.spends.count, kept.sound.count) in
+    let is : x ≡ spent_of s.spent.items c.args.p = sym (get_or_from_slice_get s.spent.items c.args.p x unspent (slice_get_read s.spent.items (length s.spent.items) c.args.p x refl count c.index_mut-spent.ensures.value)) in
+    rw is (inside_room s.sizes.processes s.records.schedule _ kept.sound.below.schedule c.few_turns.ensures (kept.among _ _ also))
+
+pub count_step-requires-clause-outside : goal.count_step-requires-clause-outside
+count_step-requires-clause-outside g c =
+    let s = c.self.inside in
+    let kept = c.self.invariant in
+    let within : c.args.p < s.sizes.processes = rw (← c.self.view_is) at c.requires in
+    let y = c.index-process.result.now in
+    let also = stands s.processes.items s.sizes.processes c.args.p y kept.sound.count within c.index-process.ensures in
+    let x = c.index_mut-spent.result.now in
+    let count : c.args.p < length s.spent.items = omega (arith, within, kept.spends.count, kept.sound.count) in
+    let is : x ≡ spent_of s.spent.items c.args.p = sym (get_or_from_slice_get s.spent.items c.args.p x unspent (slice_get_read s.spent.items (length s.spent.items) c.args.p x refl count c.index_mut-spent.ensures.value)) in
+    rw is (outside_room (g.E.Engine.meaning s.engine) s.sizes y _ kept.sound.sized (kept.sound.in_range _ _ also) (kept.spends.each _ _ also))
 
 pub act-requires-clause-in_range : goal.act-requires-clause-in_range
 act-requires-clause-in_range g c =
     let s = c.self.inside in
     let within : c.args.p < s.sizes.processes = rw (← c.self.view_is) at c.requires in
-    c.self.invariant.in_range _ _ (stands s.processes.items s.sizes.processes c.args.p c.index_mut.result.now c.self.invariant.count within c.index_mut.ensures.value)
+    c.self.invariant.sound.in_range _ _ (stands s.processes.items s.sizes.processes c.args.p c.index_mut.result.now c.self.invariant.sound.count within c.index_mut.ensures.value)
 
 pub act-requires-clause-fits : goal.act-requires-clause-fits
 act-requires-clause-fits g c =
     let s = c.self.inside in
     let within : c.args.p < s.sizes.processes = rw (← c.self.view_is) at c.requires in
-    c.self.invariant.calls_fit _ _ (stands s.processes.items s.sizes.processes c.args.p c.index_mut.result.now c.self.invariant.count within c.index_mut.ensures.value)
+    c.self.invariant.sound.calls_fit _ _ (stands s.processes.items s.sizes.processes c.args.p c.index_mut.result.now c.self.invariant.sound.count within c.index_mut.ensures.value)
+
+pub act-requires-clause-ready : goal.act-requires-clause-ready
+act-requires-clause-ready g c =
+    let s = c.self.inside in
+    let within : c.args.p < s.sizes.processes = rw (← c.self.view_is) at c.requires in
+    c.self.invariant.sound.runs_ready _ _ (stands s.processes.items s.sizes.processes c.args.p c.index_mut.result.now c.self.invariant.sound.count within c.index_mut.ensures.value)
 
 pub invariant_of-self-2 : goal.invariant_of-self-2
 invariant_of-self-2 g c =
     let s = c.self.inside in
-    let m = g.E.Engine.meaning s.engine in
+    let e = g.E.Engine in
+    let m = e.meaning s.engine in
     let within : c.args.p < s.sizes.processes = rw (← c.self.view_is) at c.requires in
     let x = c.index_mut.result.now in
     let y = c.index-process.result.now in
-    let at = stands s.processes.items s.sizes.processes c.args.p x c.self.invariant.count within c.index_mut.ensures.value in
-    let also = stands s.processes.items s.sizes.processes c.args.p y c.self.invariant.count within c.index-process.ensures in
+    let at = stands s.processes.items s.sizes.processes c.args.p x c.self.invariant.sound.count within c.index_mut.ensures.value in
+    let also = stands s.processes.items s.sizes.processes c.args.p y c.self.invariant.sound.count within c.index-process.ensures in
     let same : y ≡ x = same_Some y x (sym also ∙ at) in
     let state : State _ = record { cell = s.shared; processes = s.processes.items; records = s.records } in
     let records = noted_is m s.sizes state c.args.p x at c.note.new.self c.process.inside.label c.own_block-block.result (event_in c.in_ok-event.event) y c.in_ok-note.ensures.ok (ap (λ (k : Process _). k.label) c.process.view_is) c.own_block-block.ensures
     (c.in_ok-event.ensures ∙ ap (λ (ps : List (Process _)). event_at y.label m s.sizes s.shared ps c.args.p y) c.deref.ensures.value) same in
-    rw (c.act.ensures.cell, c.act.ensures.process, records)
-    (keeps_sound m (g.E.Engine.lawful s.engine) (g.E.Engine.fits s.engine) s.sizes s.shared s.processes.items s.records c.args.p x (g.met.E.Engine.law s.engine) at c.self.invariant)
+    let sp = c.index_mut-spent.result.now in
+    let count : c.args.p < length s.spent.items = omega (arith, within, c.self.invariant.spends.count, c.self.invariant.sound.count) in
+    let is : sp ≡ spent_of s.spent.items c.args.p = sym (get_or_from_slice_get s.spent.items c.args.p sp unspent (slice_get_read s.spent.items (length s.spent.items) c.args.p sp refl count c.index_mut-spent.ensures.value)) in
+    let spends : c.count_step.new.spent ≡ later m s.sizes state c.args.p x at s.spent.items =
+    c.count_step.ensures ∙ ap (λ (k : Spent). spent_after c.process.inside.label c.has_more-begins.result k) is
+    ∙ ap (λ (b : Bool). spent_after c.process.inside.label b (spent_of s.spent.items c.args.p)) c.has_more-begins.ensures
+    ∙ ap (λ (k : Process _). spent_after k.label (has_more y) (spent_of s.spent.items c.args.p)) c.process.view_is
+    ∙ ap (λ (k : Process _). spent_after k.label (has_more k) (spent_of s.spent.items c.args.p)) same in
+    rw (c.act.ensures.cell, c.act.ensures.process, records, spends)
+    (record {
+      sound = keeps_sound m (e.lawful s.engine) (e.fits s.engine) (e.ready s.engine) (e.effect s.engine) (g.met.E.Engine.law s.engine) s.sizes s.opening.items state c.args.p x at c.self.invariant.sound;
+      committed = step_committed m (e.lawful s.engine) (e.fits s.engine) (e.ready s.engine) (e.effect s.engine) (g.met.E.Engine.law s.engine) s.sizes s.opening.items state c.args.p (Some x) at c.self.invariant.sound c.self.invariant.committed;
+      spends = spends_stay m s.sizes state c.args.p x at s.spent.items c.self.invariant.sound.sized c.self.invariant.sound.in_range c.self.invariant.spends;
+      among = among_stay m s.sizes state c.args.p x at s.spent.items c.self.invariant.spends.count c.self.invariant.among;
+    })
 
 pub returns-clause-stepped : goal.returns-clause-stepped
 returns-clause-stepped g c =
@@ -69,13 +133,26 @@ returns-clause-stepped g c =
     let within : c.args.p < s.sizes.processes = rw (← c.self.view_is) at c.requires in
     let x = c.index_mut.result.now in
     let y = c.index-process.result.now in
-    let at = stands s.processes.items s.sizes.processes c.args.p x c.self.invariant.count within c.index_mut.ensures.value in
-    let also = stands s.processes.items s.sizes.processes c.args.p y c.self.invariant.count within c.index-process.ensures in
+    let at = stands s.processes.items s.sizes.processes c.args.p x c.self.invariant.sound.count within c.index_mut.ensures.value in
+    let also = stands s.processes.items s.sizes.processes c.args.p y c.self.invariant.sound.count within c.index-process.ensures in
     let same : y ≡ x = same_Some y x (sym also ∙ at) in
     let state : State _ = record { cell = s.shared; processes = s.processes.items; records = s.records } in
     let records = noted_is m s.sizes state c.args.p x at c.note.new.self c.process.inside.label c.own_block-block.result (event_in c.in_ok-event.event) y c.in_ok-note.ensures.ok (ap (λ (k : Process _). k.label) c.process.view_is) c.own_block-block.ensures
     (c.in_ok-event.ensures ∙ ap (λ (ps : List (Process _)). event_at y.label m s.sizes s.shared ps c.args.p y) c.deref.ensures.value) same in
-    rw (← c.self.view_is) (ap (λ (k : State _). record { engine = s.engine; sizes = s.sizes; opening = s.opening.items; state = k }) (step_is m s.sizes state c.args.p x at c.act.new.shared c.act.new.q c.note.new.self c.act.ensures.cell c.act.ensures.process records))
+    let sp = c.index_mut-spent.result.now in
+    let count : c.args.p < length s.spent.items = omega (arith, within, c.self.invariant.spends.count, c.self.invariant.sound.count) in
+    let is : sp ≡ spent_of s.spent.items c.args.p = sym (get_or_from_slice_get s.spent.items c.args.p sp unspent (slice_get_read s.spent.items (length s.spent.items) c.args.p sp refl count c.index_mut-spent.ensures.value)) in
+    let spends : c.count_step.new.spent ≡ later m s.sizes state c.args.p x at s.spent.items =
+    c.count_step.ensures ∙ ap (λ (k : Spent). spent_after c.process.inside.label c.has_more-begins.result k) is
+    ∙ ap (λ (b : Bool). spent_after c.process.inside.label b (spent_of s.spent.items c.args.p)) c.has_more-begins.ensures
+    ∙ ap (λ (k : Process _). spent_after k.label (has_more y) (spent_of s.spent.items c.args.p)) c.process.view_is
+    ∙ ap (λ (k : Process _). spent_after k.label (has_more k) (spent_of s.spent.items c.args.p)) same in
+    let moved = step_is m s.sizes state c.args.p x at c.act.new.shared c.act.new.q c.note.new.self c.act.ensures.cell c.act.ensures.process records in
+    let paid : set s.spent.items c.args.p c.count_step.new.spent ≡ spent_by_step state s.spent.items c.args.p =
+    ap (λ (k : Spent). set s.spent.items c.args.p k) spends ∙ sym (ap (count_by spent_after unspent s.spent.items c.args.p) at) in
+    rw (← c.self.view_is)
+    (ap (λ (k : State _). record { engine = s.engine; sizes = s.sizes; opening = s.opening.items; state = k; spent = set s.spent.items c.args.p c.count_step.new.spent }) moved
+    ∙ ap (λ (k : List Spent). record { engine = s.engine; sizes = s.sizes; opening = s.opening.items; state = step_of m s.sizes state c.args.p; spent = k }) paid)
 
 pub returns-clause-answer : goal.returns-clause-answer
 returns-clause-answer g c =
@@ -83,5 +160,22 @@ returns-clause-answer g c =
     let m = g.E.Engine.meaning s.engine in
     let within : c.args.p < s.sizes.processes = rw (← c.self.view_is) at c.requires in
     let y = c.index-process.result.now in
-    let also = stands s.processes.items s.sizes.processes c.args.p y c.self.invariant.count within c.index-process.ensures in
+    let also = stands s.processes.items s.sizes.processes c.args.p y c.self.invariant.sound.count within c.index-process.ensures in
     rw (← c.self.view_is) (answer_is m s.sizes (record { cell = s.shared; processes = s.processes.items; records = s.records }) c.args.p y also _ (event_in c.in_ok-event.event) (c.in_ok-out.ensures ∙ ap (λ (k : Process _). answer_by k.label (event_in c.in_ok-event.event)) c.process.view_is) (c.in_ok-event.ensures ∙ ap (λ (ps : List (Process _)). event_at y.label m s.sizes s.shared ps c.args.p y) c.deref.ensures.value))
+
+pub returns-clause-turn : goal.returns-clause-turn
+returns-clause-turn g c =
+    let s = c.self.inside in
+    rw (← c.self.view_is) (ap (λ (r : Records). steps_of r.schedule) c.in_ok-note.ensures.ok ∙ one_turn s.records.schedule c.args.p)
+
+pub returns-clause-few : goal.returns-clause-few
+returns-clause-few g c =
+    let s = c.self.inside in
+    let e = g.E.Engine in
+    let m = e.meaning s.engine in
+    let within : c.args.p < s.sizes.processes = rw (← c.self.view_is) at c.requires in
+    let y = c.index-process.result.now in
+    let also = stands s.processes.items s.sizes.processes c.args.p y c.self.invariant.sound.count within c.index-process.ensures in
+    let state : State _ = record { cell = s.shared; processes = s.processes.items; records = s.records } in
+    let answer = answer_is m s.sizes state c.args.p y also _ (event_in c.in_ok-event.event) (c.in_ok-out.ensures ∙ ap (λ (k : Process _). answer_by k.label (event_in c.in_ok-event.event)) c.process.view_is) (c.in_ok-event.ensures ∙ ap (λ (ps : List (Process _)). event_at y.label m s.sizes s.shared ps c.args.p y) c.deref.ensures.value) in
+    subst (λ (a : Answer). length (values_answered a) ≤ 8) (sym answer) (few_answered m (e.lawful s.engine) (e.fits s.engine) (e.ready s.engine) (e.effect s.engine) (g.met.E.Engine.law s.engine) s.sizes s.opening.items state c.args.p c.self.invariant.sound)

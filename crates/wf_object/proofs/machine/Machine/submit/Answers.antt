@@ -1,8 +1,14 @@
 use Rattle.std.proofs.Common.{◌<◌, ℕ, sym, ap}
 use Rattle.ob_mean.specs.View.{call_of}
-use Rattle.wf_object.specs.Object.{State, submit_by}
-use Rattle.wf_object.specs.Machine.{Process}
-use Rattle.wf_object.proofs.SubmitSound.{submit_sound}
+use Rattle.wf_table.specs.Object.{State, submit_by}
+use Rattle.wf_table.specs.Table.{Process}
+use Rattle.wf_table.proofs.SubmitSound.{submit_sound}
+use Rattle.wf_commits.proofs.Runs.{submit_committed}
+use Rattle.std.specs.Prelude.{Some}
+use Rattle.wf_table.proofs.Frame.{each_after}
+use Rattle.wf_bound.specs.Spent.{unspent, spent_after}
+use Rattle.wf_bound.specs.Bound.{StaysWithin}
+use Rattle.wf_bound.proofs.EachCounts.{submit_counts}
 use Rattle.wf_object.proofs.OneStep.{stands, number_is}
 use Rattle.wf_object.proofs.machine.Machine.submit.Goals as goal
 
@@ -12,23 +18,31 @@ invariant_of-self-2 g c =
     let within : c.args.p < s.sizes.processes = rw (← c.self.view_is) at c.requires.process in
     let fit = rw (← c.self.view_is) at c.requires.fits in
     let x = c.index_mut-process.result.now in
-    let at = stands s.processes.items s.sizes.processes c.args.p x c.self.invariant.count within c.index_mut-process.ensures.value in
-    rw (c.in_ok-number.ensures.submitted) (submit_sound (g.E.Engine.meaning s.engine) (g.E.Engine.fits s.engine) s.sizes s.shared s.processes.items s.records c.args.p x (call_of c.args.call) fit at c.self.invariant)
+    let at = stands s.processes.items s.sizes.processes c.args.p x c.self.invariant.sound.count within c.index_mut-process.ensures.value in
+    let e = g.E.Engine in
+    let state : State _ = record { cell = s.shared; processes = s.processes.items; records = s.records } in
+    rw (c.in_ok-number.ensures.submitted)
+    (record {
+      sound = submit_sound (e.meaning s.engine) (e.lawful s.engine) (e.fits s.engine) (e.ready s.engine) s.sizes s.opening.items state c.args.p x (call_of c.args.call) fit at c.self.invariant.sound;
+      committed = submit_committed s.sizes state c.args.p x (call_of c.args.call) at c.self.invariant.committed;
+      spends = submit_counts (e.meaning s.engine) s.sizes spent_after unspent (StaysWithin s.sizes) state s.spent.items c.args.p (call_of c.args.call) (Some x) (λ k q calls stays. record { outside = stays.outside; bodies = stays.bodies }) at c.self.invariant.spends;
+      among = each_after _ _ s.processes.items c.args.p _ c.self.invariant.among (c.self.invariant.among _ _ at) (λ k o apart old. old);
+    })
 
 pub returns-clause-submitted : goal.returns-clause-submitted
 returns-clause-submitted g c =
     let s = c.self.inside in
     let within : c.args.p < s.sizes.processes = rw (← c.self.view_is) at c.requires.process in
     let x = c.index_mut-process.result.now in
-    let at = stands s.processes.items s.sizes.processes c.args.p x c.self.invariant.count within c.index_mut-process.ensures.value in
+    let at = stands s.processes.items s.sizes.processes c.args.p x c.self.invariant.sound.count within c.index_mut-process.ensures.value in
     let state : State _ = record { cell = s.shared; processes = s.processes.items; records = s.records } in
-    rw (← c.self.view_is, c.in_ok-number.ensures.submitted) (ap (λ (k : State _). record { engine = s.engine; sizes = s.sizes; opening = s.opening.items; state = k }) (sym (ap (submit_by state c.args.p (call_of c.args.call)) at)))
+    rw (← c.self.view_is, c.in_ok-number.ensures.submitted) (ap (λ (k : State _). record { engine = s.engine; sizes = s.sizes; opening = s.opening.items; state = k; spent = s.spent.items }) (sym (ap (submit_by state c.args.p (call_of c.args.call)) at)))
 
 pub returns-clause-id : goal.returns-clause-id
 returns-clause-id g c =
     let s = c.self.inside in
     let within : c.args.p < s.sizes.processes = rw (← c.self.view_is) at c.requires.process in
     let x = c.index_mut-process.result.now in
-    let at = stands s.processes.items s.sizes.processes c.args.p x c.self.invariant.count within c.index_mut-process.ensures.value in
+    let at = stands s.processes.items s.sizes.processes c.args.p x c.self.invariant.sound.count within c.index_mut-process.ensures.value in
     let state : State _ = record { cell = s.shared; processes = s.processes.items; records = s.records } in
     rw (← c.self.view_is) (ap (λ (n : ℕ). record { process = c.args.p; number = n }) (number_is (g.E.Engine.meaning s.engine) s.sizes state c.args.p x at c.in_ok-number.number c.submit.new.self.calls (call_of c.args.call) c.in_ok-number.ensures.number (ap (λ (q : Process _). q.calls) c.in_ok-number.ensures.submitted)))

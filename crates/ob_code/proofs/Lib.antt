@@ -1,0 +1,8 @@
+mod Tops
+mod Variants
+mod Handed
+mod Listings
+mod Over
+mod Division
+mod Steps
+mod Memory

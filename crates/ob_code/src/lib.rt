@@ -1,0 +1,26 @@
+//! Compiled code: the instructions of a stack machine, and the body of one call that runs them.
+#![tactic(auto)]
+
+pub mod argument;
+pub mod body;
+pub mod code;
+mod effect;
+mod entering;
+pub mod fault;
+pub mod instr;
+pub mod laws;
+pub mod listing;
+mod operators;
+mod saved;
+mod stack;
+#[cfg(test)]
+mod tests;
+pub mod turn;
+
+pub use argument::Argument;
+pub use body::Body;
+pub use code::Code;
+pub use fault::CodeFault;
+pub use instr::Instr;
+pub use listing::list;
+pub use turn::BodyTurn;

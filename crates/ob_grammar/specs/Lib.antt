@@ -1,0 +1,5 @@
+pub mod Tree
+pub mod View
+pub mod Grammar
+pub mod Conditions
+pub mod Texts

@@ -1,0 +1,4 @@
+mod Rows
+pub mod MoreTurns
+pub mod Kept
+pub mod ConstantValues

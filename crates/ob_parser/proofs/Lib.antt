@@ -1,0 +1,17 @@
+pub mod DeclarationLoops
+pub mod Declarations
+pub mod ExpressionLoops
+pub mod Expressions
+pub mod Firsts
+pub mod Names
+pub mod Openings
+pub mod Operators
+pub mod Phrases
+pub mod Selectors
+pub mod StatementLoops
+pub mod Statements
+pub mod States
+pub mod Steps
+pub mod Texts
+pub mod Types
+pub mod Whole

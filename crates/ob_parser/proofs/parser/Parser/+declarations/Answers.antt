@@ -1,0 +1,127 @@
+use Rattle.std.proofs.Common.{length, refl, sym, ap, arith, ◌∙◌}
+use Rattle.ob_scan.specs.Tokens.{TokenizedText}
+use Rattle.ob_parser.specs.Answers.{state}
+use Rattle.ob_grammar.specs.View.{name_of}
+use Rattle.ob_parser.proofs.Steps.{closed, before, fill_token, fill_both}
+use Rattle.ob_parser.proofs.States.{starts, reaches, fails, fails_in, fails_in_linked, past, passed, path_on, path_as, stays, went_as, false_at, true_at}
+use Rattle.ob_parser.proofs.Openings.{fails_deep, went_within}
+use Rattle.ob_parser.proofs.Names.{fill_end_name}
+use Rattle.ob_parser.proofs.Declarations.{leads_procedure, heading_follows, fill_behind_heading, past_heading, fill_end, fill_declarations, declarations_follow, leads_procedures, leads_opened, fill_behind_keyword, reads_no_procedures, fill_procedures, leads_declarations, constants_follow, types_follow, variables_follow, fill_behind_constants, fill_behind_types, fill_last_procedures, leads_last_procedures}
+use Rattle.ob_parser.proofs.DeclarationLoops.{procedures_before, procedures_before-push, procedures_before-end, procedure_of-made, declarations_of-declared}
+use Rattle.ob_parser.proofs.parser.Parser.+declarations.Goals as goal
+
+pub declarations-returns-in_err-constants : goal.declarations-returns-in_err-constants
+declarations-returns-in_err-constants t c =
+    passed _ _ _ _ _ _ c.from_residual.ensures.1
+    (fails_in (starts leads_declarations) constants_follow fill_behind_constants _ c.in_err-constants.ensures)
+
+pub declarations-returns-in_err-types : goal.declarations-returns-in_err-types
+declarations-returns-in_err-types t c =
+    let way = past (starts leads_declarations) constants_follow c.in_ok-constants.ensures in
+    passed _ _ _ _ _ _ c.from_residual-in_err-types.ensures.1 (fails_in way types_follow fill_behind_types _ c.in_err-types.ensures)
+
+pub declarations-returns-in_err-variables : goal.declarations-returns-in_err-variables
+declarations-returns-in_err-variables t c =
+    let way = past (past (starts leads_declarations) constants_follow c.in_ok-constants.ensures) types_follow c.in_ok-types.ensures in
+    passed _ _ _ _ _ _ c.from_residual-in_err-variables.ensures.1 (fails_in way variables_follow fill_last_procedures _ c.in_err-variables.ensures)
+
+pub declarations-returns-in_err-procedures : goal.declarations-returns-in_err-procedures
+declarations-returns-in_err-procedures t c =
+    let way = past (past (starts leads_declarations) constants_follow c.in_ok-constants.ensures) types_follow c.in_ok-types.ensures in
+    let way = path_on (past way variables_follow c.in_ok-variables.ensures) (starts leads_last_procedures) in
+    passed _ _ _ _ _ _ c.from_residual-in_err-procedures.ensures.1 (fails way _ c.in_err-procedures.ensures)
+
+pub declarations-returns : goal.declarations-returns
+declarations-returns t c =
+    let way = past (past (starts leads_declarations) constants_follow c.in_ok-constants.ensures) types_follow c.in_ok-types.ensures in
+    let way = path_on (past way variables_follow c.in_ok-variables.ensures) (starts leads_last_procedures) in
+    went_as (sym (declarations_of-declared c.in_ok-constants.constants c.in_ok-types.types c.in_ok-variables.variables c.in_ok-procedures.procedures))
+    (reaches way c.in_ok-procedures.ensures)
+
+pub procedure-returns-in_err-heading : goal.procedure-returns-in_err-heading
+procedure-returns-in_err-heading t c =
+    passed _ _ _ _ _ _ c.from_residual.ensures.1
+    (fails_in_linked (starts (leads_procedure _)) (heading_follows _) (fill_behind_heading _) _ c.in_err-heading.ensures)
+
+pub procedure-returns-in_err-expect : goal.procedure-returns-in_err-expect
+procedure-returns-in_err-expect t c =
+    let name = name_of c.in_ok-heading.heading.name in
+    let way = past_heading _ (starts (leads_procedure _)) c.in_ok-heading.ensures in
+    passed _ _ _ _ _ _ c.from_residual-in_err-expect.ensures.1
+    (fails_in way (closed (λ k. refl)) (fill_both fill_declarations (fill_end _ name)) _ c.in_err-expect.ensures.answers)
+
+pub procedure-declarations-requires : goal.procedure-declarations-requires
+procedure-declarations-requires t c =
+    let many = λ (source : TokenizedText). length source.tokens in
+    let order = c.in_ok-heading.ensures.reads.order in
+    let same = ap many c.in_ok-heading.ensures.kept in
+    let same_too = ap many c.in_ok-expect.ensures.answers.kept in
+    let moved = c.in_ok-expect.ensures.moved in
+    let within = went_within c.in_ok-expect.ensures.answers in
+    (omega arith, tt)
+
+pub procedure-returns-in_err-declarations : goal.procedure-returns-in_err-declarations
+procedure-returns-in_err-declarations t c =
+    let name = name_of c.in_ok-heading.heading.name in
+    let way = past (past_heading _ (starts (leads_procedure _)) c.in_ok-heading.ensures) (closed (λ k. refl)) c.in_ok-expect.ensures.answers in
+    passed _ _ _ _ _ _ c.from_residual-in_err-declarations.ensures.1
+    (fails_in way (declarations_follow _) (fill_end _ name) _ c.in_err-declarations.ensures)
+
+pub procedure-returns-in_err-body : goal.procedure-returns-in_err-body
+procedure-returns-in_err-body t c =
+    let name = name_of c.in_ok-heading.heading.name in
+    let way = past (past_heading _ (starts (leads_procedure _)) c.in_ok-heading.ensures) (closed (λ k. refl)) c.in_ok-expect.ensures.answers in
+    let way = past way (declarations_follow _) c.in_ok-declarations.ensures in
+    passed _ _ _ _ _ _ c.from_residual-in_err-body.ensures.1 (fails_in way (before _ refl) (fill_both fill_token (fill_end_name name)) _ c.in_err-body.ensures)
+
+pub procedure-returns-in_err-expect-2 : goal.procedure-returns-in_err-expect-2
+procedure-returns-in_err-expect-2 t c =
+    let name = name_of c.in_ok-heading.heading.name in
+    let way = past (past_heading _ (starts (leads_procedure _)) c.in_ok-heading.ensures) (closed (λ k. refl)) c.in_ok-expect.ensures.answers in
+    let way = past (past way (declarations_follow _) c.in_ok-declarations.ensures) (before _ refl) c.in_ok-body.ensures in
+    passed _ _ _ _ _ _ c.from_residual-in_err-expect-2.ensures.1 (fails_in way (closed (λ k. refl)) (fill_end_name name) _ c.in_err-expect-2.ensures.answers)
+
+pub procedure-returns-in_err-end_name : goal.procedure-returns-in_err-end_name
+procedure-returns-in_err-end_name t c =
+    let way = past (past_heading _ (starts (leads_procedure _)) c.in_ok-heading.ensures) (closed (λ k. refl)) c.in_ok-expect.ensures.answers in
+    let way = past (past way (declarations_follow _) c.in_ok-declarations.ensures) (before _ refl) c.in_ok-body.ensures in
+    let way = past way (closed (λ k. refl)) c.in_ok-expect-2.ensures.answers in
+    passed _ _ _ _ _ _ c.from_residual-in_err-end_name.ensures.1 (fails way _ c.in_err-end_name.ensures)
+
+pub procedure-returns : goal.procedure-returns
+procedure-returns t c =
+    let way = past (past_heading _ (starts (leads_procedure _)) c.in_ok-heading.ensures) (closed (λ k. refl)) c.in_ok-expect.ensures.answers in
+    let way = past (past way (declarations_follow _) c.in_ok-declarations.ensures) (before _ refl) c.in_ok-body.ensures in
+    went_as (sym (procedure_of-made c.in_ok-heading.heading c.in_ok-declarations.declarations c.in_ok-body.body c.in_ok-end_name.end_name))
+    (reaches (past way (closed (λ k. refl)) c.in_ok-expect-2.ensures.answers) c.in_ok-end_name.ensures)
+
+pub procedures-returns-then-depth-ge-DEEPEST_NESTING : goal.procedures-returns-then-depth-ge-DEEPEST_NESTING
+procedures-returns-then-depth-ge-DEEPEST_NESTING t c =
+    let here = true_at c.loop-self-test.ensures.kind in
+    fails c.loop-self.invariant _
+    (fails_deep (state c.loop-self.self) c.too_deep.ensures (leads_opened here) fill_procedures (fill_behind_keyword _) (omega arith) here)
+
+pub procedures-returns-in_err-next : goal.procedures-returns-in_err-next
+procedures-returns-in_err-next t c =
+    let here = true_at c.loop-self-test.ensures.kind in
+    let way = path_on c.loop-self.invariant (starts (leads_procedures here)) in
+    passed _ _ _ _ _ _ c.from_residual.ensures.1
+    (fails_in way (closed (λ k. refl)) (fill_both fill_token fill_procedures) _ c.in_err-next.ensures)
+
+pub procedures-returns-in_err-expect : goal.procedures-returns-in_err-expect
+procedures-returns-in_err-expect t c =
+    let here = true_at c.loop-self-test.ensures.kind in
+    let way = past (path_on c.loop-self.invariant (starts (leads_procedures here))) (closed (λ k. refl)) c.in_ok-next.ensures in
+    passed _ _ _ _ _ _ c.from_residual-in_err-expect.ensures.1 (fails_in way (closed (λ k. refl)) fill_procedures _ c.in_err-expect.ensures.answers)
+
+pub procedures-loop-self-preserved : goal.procedures-loop-self-preserved
+procedures-loop-self-preserved t c =
+    let here = true_at c.loop-self-test.ensures.kind in
+    let way = past (path_on c.loop-self.invariant (starts (leads_procedures here))) (closed (λ k. refl)) c.in_ok-next.ensures in
+    let way = past way (closed (λ k. refl)) c.in_ok-expect.ensures.answers in
+    path_as (λ ps. procedures_before-push c.loop-self.all.items c.in_ok-next.next ps ∙ ap (λ all. procedures_before all ps) (sym c.in_ok-push.ensures.items)) way
+
+pub procedures-returns : goal.procedures-returns
+procedures-returns t c =
+    let end = reaches c.loop-self.invariant (stays (reads_no_procedures (false_at c.loop-self-test.ensures.kind))) in
+    went_as (procedures_before-end c.loop-self.all.items) end

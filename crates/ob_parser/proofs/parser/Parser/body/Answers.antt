@@ -1,0 +1,21 @@
+use Rattle.std.proofs.Common.{refl}
+use Rattle.ob_parser.proofs.Steps.{closed}
+use Rattle.ob_parser.proofs.Phrases.{leads_some, leads_behind, reads_none}
+use Rattle.ob_parser.proofs.States.{starts, reaches, fails, past, path_on, passed, stays, false_at, true_at}
+use Rattle.ob_parser.proofs.Statements.{optional_body}
+use Rattle.ob_parser.proofs.parser.Parser.body.Goals as goal
+
+pub returns-then-not-at : goal.returns-then-not-at
+returns-then-not-at c = stays (reads_none optional_body (false_at c.if-not-at.ensures.kind))
+
+pub returns-in_err-statements : goal.returns-in_err-statements
+returns-in_err-statements c =
+    let here = true_at c.if-not-at.ensures.kind in
+    let way = past (path_on (starts (leads_some optional_body here)) (starts leads_behind)) (closed (λ k. refl)) (c.take.ensures.took _ here) in
+    passed _ _ _ _ _ _ c.from_residual.ensures.1 (fails way _ c.in_err-statements.ensures)
+
+pub returns : goal.returns
+returns c =
+    let here = true_at c.if-not-at.ensures.kind in
+    let way = past (path_on (starts (leads_some optional_body here)) (starts leads_behind)) (closed (λ k. refl)) (c.take.ensures.took _ here) in
+    reaches way c.in_ok-statements.ensures

@@ -1,0 +1,4 @@
+pub mod ParseFaults
+pub mod Reading
+pub mod Forms
+pub mod Answers

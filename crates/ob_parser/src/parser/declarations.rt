@@ -1,0 +1,282 @@
+//! Declarations and the module.
+
+ghost use Rattle.std.specs.Prelude.{◌<◌, map, option_map, OnOk};
+ghost use Rattle.ob_grammar.specs.View.{const_decl_of, type_decl_of, var_decl_of, constants_of, types_of, variables_of, section_of, procedures_in, declarations_of, module_of};
+ghost use Rattle.ob_parser.specs.Forms as forms;
+ghost use Rattle.ob_parser.specs.Answers.{state, Answers, heading_in, procedure_of};
+
+use crate::parser::{ParseFault, Parser};
+use ob_grammar::tree::{
+    ConstDecl, Constants, DEEPEST_NESTING, Declarations, ModuleTree, Name, Procedure, Section,
+    TypeDecl, Types, VarDecl, Variables,
+};
+use ob_scan::Kind;
+
+/// The heading of a procedure, with the place of PROCEDURE.
+#[derive(Drop)]
+struct Heading {
+    place: usize,
+    name: Name,
+    is_exported: bool,
+    parameters: Option<Vec<Section>>,
+}
+
+impl<'a> Parser<'a> {
+    /// ident "=" expression ";"
+    fn const_declaration(&mut self, depth: usize) -> Result<ConstDecl, ParseFault>
+        ensures answers { Answers const_decl_of (forms.const_declaration depth) (state self.old) result (state self.new) }
+        ensures moved { OnOk result (self.old.position < self.new.position) }
+    {
+        let name = self.name()?;
+        self.expect(Kind::Equal)?;
+        let value = self.expression(depth)?;
+        self.expect(Kind::Semicolon)?;
+        Ok(ConstDecl { name, value })
+    }
+
+    /// {ident "=" expression ";"}
+    fn const_declarations(&mut self, depth: usize) -> Result<Vec<ConstDecl>, ParseFault>
+        ensures { Answers (λ xs. map const_decl_of xs.items) (forms.const_declarations depth) (state self.old) result (state self.new) }
+    {
+        let mut all = Vec::new(self.alloc);
+        while self.at(Kind::Ident) {
+            let next = self.const_declaration(depth)?;
+            all.push(next)?;
+        }
+        Ok(all)
+    }
+
+    /// ["CONST" {ident "=" expression ";"}]
+    fn constants(&mut self, depth: usize) -> Result<Option<Constants>, ParseFault>
+        ensures { Answers (λ x. option_map constants_of x) (forms.constants depth) (state self.old) result (state self.new) }
+    {
+        if !self.at(Kind::Const) {
+            return Ok(None);
+        }
+        let place = self.take();
+        let declared = self.const_declarations(depth)?;
+        Ok(Some(Constants { place, declared }))
+    }
+
+    /// ident "=" type ";"
+    fn type_declaration(&mut self, depth: usize) -> Result<TypeDecl, ParseFault>
+        ensures answers { Answers type_decl_of (forms.type_declaration depth) (state self.old) result (state self.new) }
+        ensures moved { OnOk result (self.old.position < self.new.position) }
+    {
+        let name = self.name()?;
+        self.expect(Kind::Equal)?;
+        let definition = self.type_expr(depth)?;
+        self.expect(Kind::Semicolon)?;
+        Ok(TypeDecl { name, definition })
+    }
+
+    /// {ident "=" type ";"}
+    fn type_declarations(&mut self, depth: usize) -> Result<Vec<TypeDecl>, ParseFault>
+        ensures { Answers (λ xs. map type_decl_of xs.items) (forms.type_declarations depth) (state self.old) result (state self.new) }
+    {
+        let mut all = Vec::new(self.alloc);
+        while self.at(Kind::Ident) {
+            let next = self.type_declaration(depth)?;
+            all.push(next)?;
+        }
+        Ok(all)
+    }
+
+    /// ["TYPE" {ident "=" type ";"}]
+    fn types(&mut self, depth: usize) -> Result<Option<Types>, ParseFault>
+        ensures { Answers (λ x. option_map types_of x) (forms.types depth) (state self.old) result (state self.new) }
+    {
+        if !self.at(Kind::Type) {
+            return Ok(None);
+        }
+        let place = self.take();
+        let declared = self.type_declarations(depth)?;
+        Ok(Some(Types { place, declared }))
+    }
+
+    /// IdentList ":" type ";"
+    fn var_declaration(&mut self, depth: usize) -> Result<VarDecl, ParseFault>
+        ensures answers { Answers var_decl_of (forms.var_declaration depth) (state self.old) result (state self.new) }
+        ensures moved { OnOk result (self.old.position < self.new.position) }
+    {
+        let names = self.ident_list()?;
+        self.expect(Kind::Colon)?;
+        let of_type = self.type_expr(depth)?;
+        self.expect(Kind::Semicolon)?;
+        Ok(VarDecl { names, of_type })
+    }
+
+    /// {IdentList ":" type ";"}
+    fn var_declarations(&mut self, depth: usize) -> Result<Vec<VarDecl>, ParseFault>
+        ensures { Answers (λ xs. map var_decl_of xs.items) (forms.var_declarations depth) (state self.old) result (state self.new) }
+    {
+        let mut all = Vec::new(self.alloc);
+        while self.at(Kind::Ident) {
+            let next = self.var_declaration(depth)?;
+            all.push(next)?;
+        }
+        Ok(all)
+    }
+
+    /// ["VAR" {IdentList ":" type ";"}]
+    fn variables(&mut self, depth: usize) -> Result<Option<Variables>, ParseFault>
+        ensures { Answers (λ x. option_map variables_of x) (forms.variables depth) (state self.old) result (state self.new) }
+    {
+        if !self.at(Kind::Var) {
+            return Ok(None);
+        }
+        let place = self.take();
+        let declared = self.var_declarations(depth)?;
+        Ok(Some(Variables { place, declared }))
+    }
+
+    /// FPSection = ["VAR"] IdentList ":" type
+    fn section(&mut self, depth: usize) -> Result<Section, ParseFault>
+        ensures { Answers section_of (forms.section depth) (state self.old) result (state self.new) }
+    {
+        let is_var = self.word(Kind::Var);
+        let names = self.ident_list()?;
+        self.expect(Kind::Colon)?;
+        let of_type = self.type_expr(depth)?;
+        Ok(Section {
+            is_var,
+            names,
+            of_type,
+        })
+    }
+
+    /// FPSection {";" FPSection}
+    fn sections(&mut self, depth: usize) -> Result<Vec<Section>, ParseFault>
+        ensures { Answers (λ ss. map section_of ss.items) (forms.sections depth) (state self.old) result (state self.new) }
+    {
+        let mut all = Vec::new(self.alloc);
+        let first = self.section(depth)?;
+        all.push(first)?;
+        while self.at(Kind::Semicolon) {
+            self.take();
+            let next = self.section(depth)?;
+            all.push(next)?;
+        }
+        Ok(all)
+    }
+
+    /// FormalParameters = "(" [FPSection {";" FPSection}] ")"
+    fn formal_parameters(&mut self, depth: usize) -> Result<Vec<Section>, ParseFault>
+        ensures { Answers (λ ss. map section_of ss.items) (forms.formal_parameters depth) (state self.old) result (state self.new) }
+    {
+        self.expect(Kind::LeftParen)?;
+        if self.at(Kind::RightParen) {
+            self.take();
+            return Ok(Vec::new(self.alloc));
+        }
+        let sections = self.sections(depth)?;
+        self.expect(Kind::RightParen)?;
+        Ok(sections)
+    }
+
+    /// [FormalParameters]
+    fn parameters(&mut self, depth: usize) -> Result<Option<Vec<Section>>, ParseFault>
+        ensures { Answers (λ p. option_map (λ ss. map section_of ss.items) p) (forms.parameters depth) (state self.old) result (state self.new) }
+    {
+        if !self.at(Kind::LeftParen) {
+            return Ok(None);
+        }
+        let sections = self.formal_parameters(depth)?;
+        Ok(Some(sections))
+    }
+
+    /// ProcedureHeading = "PROCEDURE" ident ["*"] [FormalParameters]; the parameters stand within the procedure.
+    fn heading(&mut self, depth: usize) -> Result<Heading, ParseFault>
+        requires { depth < DEEPEST_NESTING }
+        ensures { Answers heading_in (forms.heading depth) (state self.old) result (state self.new) }
+    {
+        let place = self.expect(Kind::Procedure)?;
+        let name = self.name()?;
+        let is_exported = self.word(Kind::Times);
+        let parameters = self.parameters(depth + 1)?;
+        Ok(Heading {
+            place,
+            name,
+            is_exported,
+            parameters,
+        })
+    }
+
+    /// ProcedureDeclaration = ProcedureHeading ";" declarations ["BEGIN" StatementSequence] "END" ident
+    #[cycle(declarations)]
+    fn procedure(&mut self, depth: usize) -> Result<Procedure, ParseFault>
+        requires { depth < DEEPEST_NESTING }
+        ensures { Answers procedure_of (forms.procedure_declaration depth) (state self.old) result (state self.new) }
+    {
+        let heading = self.heading(depth)?;
+        self.expect(Kind::Semicolon)?;
+        let declarations = self.declarations(depth + 1)?;
+        let body = self.body(depth + 1)?;
+        self.expect(Kind::End)?;
+        let end_name = self.end_name(&heading.name)?;
+        Ok(Procedure {
+            place: heading.place,
+            name: heading.name,
+            is_exported: heading.is_exported,
+            parameters: heading.parameters,
+            declarations,
+            body,
+            end_name,
+        })
+    }
+
+    /// {ProcedureDeclaration ";"}
+    #[cycle(declarations)]
+    fn procedures(&mut self, depth: usize) -> Result<Vec<Procedure>, ParseFault>
+        ensures { Answers (λ ps. procedures_in ps.items) (forms.procedures depth) (state self.old) result (state self.new) }
+    {
+        let mut all = Vec::new(self.alloc);
+        while self.at(Kind::Procedure) {
+            if depth >= DEEPEST_NESTING {
+                return Err(self.too_deep());
+            }
+            let next = self.procedure(depth)?;
+            self.expect(Kind::Semicolon)?;
+            all.push(next)?;
+        }
+        Ok(all)
+    }
+
+    /// declarations = ["CONST" {ident "=" expression ";"}] ["TYPE" {ident "=" type ";"}]
+    ///   ["VAR" {IdentList ":" type ";"}] {ProcedureDeclaration ";"}
+    #[cycle(declarations)]
+    fn declarations(&mut self, depth: usize) -> Result<Declarations, ParseFault>
+        ensures { Answers declarations_of (forms.declarations depth) (state self.old) result (state self.new) }
+    {
+        let constants = self.constants(depth)?;
+        let types = self.types(depth)?;
+        let variables = self.variables(depth)?;
+        let procedures = self.procedures(depth)?;
+        Ok(Declarations {
+            constants,
+            types,
+            variables,
+            procedures,
+        })
+    }
+
+    /// module = "MODULE" ident ";" declarations ["BEGIN" StatementSequence] "END" ident "."
+    pub(super) fn module_text(&mut self) -> Result<ModuleTree, ParseFault>
+        ensures { Answers module_of forms.module_text (state self.old) result (state self.new) }
+    {
+        self.expect(Kind::Module)?;
+        let name = self.name()?;
+        self.expect(Kind::Semicolon)?;
+        let declarations = self.declarations(0)?;
+        let body = self.body(0)?;
+        self.expect(Kind::End)?;
+        let end_name = self.end_name(&name)?;
+        self.expect(Kind::Dot)?;
+        Ok(ModuleTree {
+            name,
+            declarations,
+            body,
+            end_name,
+        })
+    }
+}

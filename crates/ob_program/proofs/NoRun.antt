@@ -1,0 +1,168 @@
+-- Faults rule out each output.
+use Rattle.std.proofs.Common.{◌≡◌, ◌∙◌, ℕ, ◌<◌, suc, zero, List, [], ◌∷◌, ◌++◌, length, map, take, drop, true, false, Option, Some, None, option_map, slice_get, refl, sym, ap, ap₂, subst, inl, inr, arith}
+use Rattle.std.proofs.lemmas.List.{take-append-drop}
+use Rattle.ob_scan.specs.declared.token.Token.{Token}
+use Rattle.ob_scan.specs.Lexemes.{lexemes}
+use Rattle.ob_scan.specs.Tokens.{HasTokens, TokenizedText}
+use Rattle.ob_parser.specs.declared.parser.ParseFault.{ParseFault}
+use Rattle.ob_parser.specs.declared.parser.ParseFault.TheVariants as Parse
+use Rattle.ob_grammar.specs.Conditions.{KeepsConditions, breaches}
+use Rattle.ob_grammar.specs.Grammar.{Derives, Lexemes}
+use Rattle.ob_parser.specs.ParseFaults.{BreaksCondition, IsParseFault, RefusesEnd, RefusesToken}
+use Rattle.ob_grammar.specs.Tree.{Module}
+use Rattle.ob_check.specs.Exports.{signatures}
+use Rattle.ob_check.specs.ModuleText.{IsModule}
+use Rattle.ob_check.specs.Program.{Program}
+use Rattle.ob_mean.specs.declared.opening.OpenFault.{OpenFault}
+use Rattle.ob_mean.specs.declared.opening.OpenFault.TheVariants as Open
+use Rattle.ob_mean.specs.Faults.{IsOpenFault, NeedsMoreAt}
+use Rattle.ob_mean.specs.Object.{AreReplies, Effect, Ends, IsOpening, NeedsMore, ObjectCall, Reply, State, effect, on_end, one_at_a_time, opening}
+use Rattle.ob_program.specs.Script.{IsScript, IsScriptFault, ScriptCall}
+use Rattle.ob_program.specs.declared.script.ScriptFault.{ScriptFault}
+use Rattle.ob_program.specs.declared.script.ScriptFault.TheVariants as ScriptFaults
+use Rattle.ob_program.specs.SequentialParts.{IsReplyFault, of_open, of_parse}
+use Rattle.ob_program.specs.SequentialRun.{HasNoRun, IsNumbered, IsSequentialRun, NeedsMoreTurnsIn, PrintsReplies, processes, turns}
+use Rattle.ob_program.specs.declared.sequential.SeqTextFault.{SeqTextFault}
+use Rattle.ob_program.specs.declared.sequential.SeqTextFault.TheVariants as Faults
+use Rattle.ob_program.proofs.OneScript.{one_script}
+
+-- ---- no module
+
+-- the tokens up to one and those behind it
+parted : (tokens : Lexemes) (m : Module) (n : ℕ) → Derives tokens m → Derives (take n tokens ++ drop n tokens) m
+parted tokens m n h = subst (λ (ts : Lexemes). Derives ts m) (sym (take-append-drop n tokens)) h
+
+breaks : {IsBroken : Module → ℕ → Type 0} (tokens : Lexemes) (place : ℕ) → BreaksCondition IsBroken tokens place → (m : Module) → Derives tokens m → IsBroken m place
+breaks tokens place b m h = b.broken (drop (suc b.index) tokens) m (parted tokens m (suc b.index) h)
+
+no_tree : (t : TokenizedText) (e : ParseFault) → IsParseFault t e → IsNumbered (of_parse e)
+    → (m : Module) → Derives (lexemes t.text t.tokens) m → KeepsConditions m → ⊥
+no_tree t (Parse.Unexpected place) (inl r) numbered m h keeps =
+    r.none (drop (suc r.index) (lexemes t.text t.tokens), m, parted (lexemes t.text t.tokens) m (suc r.index) h)
+no_tree t (Parse.Unexpected place) (inr r) numbered m h keeps = r.none m h
+no_tree t (Parse.TooDeep place) b numbered m h keeps =
+    let broken = breaks (lexemes t.text t.tokens) place b m h in
+    let within : broken.0 < length (breaches m) = broken.1 in
+    let none : length (breaches m) ≡ 0 = ap length keeps in
+    omega (arith, within, none)
+no_tree t (Parse.NameDiffers place) b numbered m h keeps =
+    let broken = breaks (lexemes t.text t.tokens) place b m h in
+    let within : broken.0 < length (breaches m) = broken.1 in
+    let none : length (breaches m) ≡ 0 = ap length keeps in
+    omega (arith, within, none)
+no_tree t Parse.NoMemory b numbered m h keeps = let bad : true ≡ false = numbered.0 in cc
+
+pub no_module_parse : (text : List ℕ) (t : TokenizedText) (e : ParseFault) → t.text ≡ text → ((others : List Token) → HasTokens text others → others ≡ t.tokens)
+    → IsParseFault t e → IsNumbered (of_parse e) → (program : Program) → IsModule text program → ⊥
+no_module_parse text t e is alone h numbered program m =
+    let of = m.text_of in
+    let derived : Derives (lexemes t.text of.tokens) m.tree = subst (λ (x : List ℕ). Derives (lexemes x of.tokens) m.tree) (sym is) of.derives in
+    no_tree t e h numbered m.tree (subst (λ (ts : List Token). Derives (lexemes t.text ts) m.tree) (alone of.tokens of.scanned) derived) of.keeps
+
+-- ---- no replies
+
+no_opening : (program : Program) (e : OpenFault) (state : State) → IsOpenFault program turns e → IsNumbered (of_open e) → IsOpening program turns state → ⊥
+no_opening program (Open.Trap k) state h numbered opens = let is = opens.1 in cc
+no_opening program Open.NeedsMore state h numbered opens = let is = opens.1 in cc
+no_opening program Open.NoMemory state h numbered opens = let bad : true ≡ false = numbered.0 in cc
+
+one_state : (program : Program) (state other : State) → IsOpening program turns state → IsOpening program turns other → state ≡ other
+one_state program state other h k = let is = h.1 in let is' = k.1 in cc
+
+last_same : (p q : List Reply × State) → Some p ≡ Some q → p.1 ≡ q.1
+last_same p q e = cc
+
+no_some : (p : List Reply × State) → None ≡ Some p → ⊥
+no_some p e = cc
+
+same_call_of : (c call : ObjectCall) → Some c ≡ Some call → c ≡ call
+same_call_of c call e = cc
+
+-- so many turns a call
+module _ (program : Program) (most : ℕ) where
+  -- calls up to one that needs more turns have replies, and all of them have none
+  no_replies_from : (state before last : State) (calls : List ObjectCall) (position : ℕ) (call : ObjectCall) (so_far replies : List Reply)
+      → one_at_a_time program most state (take position calls) ≡ Some (so_far, before) → slice_get calls position ≡ Some call
+      → effect program call most before ≡ NeedsMore → one_at_a_time program most state calls ≡ Some (replies, last) → ⊥
+  no_replies_from state before last [] position call so_far replies made here more all = cc
+  no_replies_from state before last (c ∷ calls) zero call so_far replies made here more all =
+      let same_call = same_call_of c call here in
+      let same_state : state ≡ before = last_same ([], state) (so_far, before) made in
+      let needs : effect program c most state ≡ NeedsMore = ap₂ (λ (x : ObjectCall) (s : State). effect program x most s) same_call same_state ∙ more in
+      none_from needs all
+    where
+      none_from : effect program c most state ≡ NeedsMore → one_at_a_time program most state (c ∷ calls) ≡ Some (replies, last) → ⊥
+      none_from needs all' =
+          no_some (replies, last)
+          (sym (ap (λ (e : Effect). on_end e (λ next reply. option_map (λ (rs, s). (reply ∷ rs, s)) (one_at_a_time program most next calls))) needs) ∙ all')
+  no_replies_from state before last (c ∷ calls) (suc position) call so_far replies made here more all =
+      behind (λ next so_far' replies' made' all'. no_replies_from next before last calls position call so_far' replies' made' here more all')
+      (effect program c most state) made all
+    where
+      goes : Reply → Option (List Reply × State) → Option (List Reply × State)
+      goes reply = option_map (λ (rs, s). (reply ∷ rs, s))
+
+      Again : Type 0
+      Again = (next : State) (so_far' replies' : List Reply) → one_at_a_time program most next (take position calls) ≡ Some (so_far', before)
+          → one_at_a_time program most next calls ≡ Some (replies', last) → ⊥
+
+      rest : Again → (next : State) (reply : Reply) (some many : Option (List Reply × State))
+          → one_at_a_time program most next (take position calls) ≡ some → one_at_a_time program most next calls ≡ many
+          → goes reply some ≡ Some (so_far, before) → goes reply many ≡ Some (replies, last) → ⊥
+      rest again next reply (Some some) (Some many) e f made' all' =
+          again next some.0 many.0
+          (e ∙ ap (λ (s : State). Some (some.0, s)) (last_same (reply ∷ some.0, some.1) (so_far, before) made'))
+          (f ∙ ap (λ (s : State). Some (many.0, s)) (last_same (reply ∷ many.0, many.1) (replies, last) all'))
+      rest again next reply None many e f made' all' = cc
+      rest again next reply (Some some) None e f made' all' = cc
+
+      behind : Again → (effect' : Effect)
+          → on_end effect' (λ next reply. goes reply (one_at_a_time program most next (take position calls))) ≡ Some (so_far, before)
+          → on_end effect' (λ next reply. goes reply (one_at_a_time program most next calls)) ≡ Some (replies, last) → ⊥
+      behind again (Ends next reply) made' all' = rest again next reply _ _ refl refl made' all'
+      behind again NeedsMore made' all' = cc
+
+module _ (program : Program) where
+  no_replies_more : (calls : List ObjectCall) (position : ℕ) (replies : List Reply) → NeedsMoreAt program turns calls position → AreReplies program turns calls replies → ⊥
+  no_replies_more calls position replies more are =
+      let same = one_state program are.state more.state are.opens more.opens in
+      no_replies_from program turns more.state more.before are.last calls position more.call more.replies replies more.made more.here more.more
+      (subst (λ (s : State). one_at_a_time program turns s calls ≡ Some (replies, are.last)) same are.made)
+
+  pub no_prints : (calls : List ScriptCall) (e : SeqTextFault) → IsReplyFault program calls e → IsNumbered e → (output : List ℕ) → PrintsReplies program calls output → ⊥
+  no_prints calls (Faults.Scan e) h numbered output prints = elim h [ ]
+  no_prints calls (Faults.Parse e) h numbered output prints = elim h [ ]
+  no_prints calls (Faults.Check e) h numbered output prints = elim h [ ]
+  no_prints calls (Faults.Script e) h numbered output prints = elim h [ ]
+  no_prints calls (Faults.Open Open.NoMemory) h numbered output prints = numbered.1 refl
+  no_prints calls (Faults.Open (Open.Trap k)) h numbered output prints = let is = prints.replied.opens.1 in cc
+  no_prints calls (Faults.Open Open.NeedsMore) h numbered output prints = let is = prints.replied.opens.1 in cc
+  no_prints calls (Faults.NeedsMore process number) h numbered output prints =
+      no_replies_more (map (λ c. c.call) calls) h.position prints.replies h.more prints.replied
+  no_prints calls Faults.NoMemory h numbered output prints = let bad : true ≡ false = numbered.0 in cc
+
+-- ---- no run of a module of this program
+
+module _ (text script : List ℕ) (program : Program) (alone : (other : Program) → IsModule text other → other ≡ program) where
+  -- a run of the texts, as one of the program
+  calls_of : {output : List ℕ} (run : IsSequentialRun text script output) → IsScript (signatures program) processes script run.calls
+  calls_of run = subst (λ (p : Program). IsScript (signatures p) processes script run.calls) (alone run.program run.is_module) run.read
+
+  prints_of : {output : List ℕ} (run : IsSequentialRun text script output) → PrintsReplies program run.calls output
+  prints_of {output} run = subst (λ (p : Program). PrintsReplies p run.calls output) (alone run.program run.is_module) run.prints
+
+  pub no_run_replies : (calls : List ScriptCall) (e : SeqTextFault) → IsScript (signatures program) processes script calls
+      → IsReplyFault program calls e → IsNumbered e → HasNoRun text script
+  no_run_replies calls e read h numbered output run =
+      no_prints program calls e h numbered output
+      (subst (λ (cs : List ScriptCall). PrintsReplies program cs output) (one_script (signatures program) processes script (calls_of run) read) (prints_of run))
+
+  pub no_run_opening : (e : OpenFault) → IsOpenFault program turns e → IsNumbered (of_open e) → HasNoRun text script
+  no_run_opening e h numbered output run = no_opening program e (prints_of run).replied.state h numbered (prints_of run).replied.opens
+
+  pub no_run_script : (e : ScriptFault) → IsScriptFault (signatures program) processes script e → IsNumbered (Faults.Script e) → HasNoRun text script
+  no_run_script (ScriptFaults.Form line) h numbered output run = h.none tt run.calls (calls_of run)
+  no_run_script (ScriptFaults.Procedure line) h numbered output run = h.none tt run.calls (calls_of run)
+  no_run_script (ScriptFaults.Arguments line) h numbered output run = h.none tt run.calls (calls_of run)
+  no_run_script (ScriptFaults.Process line) h numbered output run = h.none tt run.calls (calls_of run)
+  no_run_script ScriptFaults.NoMemory h numbered output run = numbered.1 refl

@@ -1,0 +1,42 @@
+//! What the program answers.
+
+use std::alloc::Global;
+
+/// What goes to the two outputs, and the exit status.
+#[derive(Debug, Drop)]
+pub struct Answer {
+    /// The exit status: 0 where it did what was asked, 1 at a fault of the module or the script, 2 at
+    /// a fault of the words, 3 where a file can't be read.
+    pub status: u8,
+    /// What goes to standard output.
+    pub out: String,
+    /// What goes to standard error.
+    pub err: String,
+}
+
+impl Answer {
+    ghost use Rattle.std.specs.Prelude.{string_bytes};
+    ghost use Rattle.ob_program.specs.Answers.{IsPrinted, IsRefused};
+
+    /// What was asked for.
+    pub fn printed(alloc: Global, out: String) -> Answer
+        ensures { IsPrinted result (string_bytes out) }
+    {
+        Answer {
+            status: 0,
+            out,
+            err: String::new(alloc),
+        }
+    }
+
+    /// What is wrong.
+    pub fn refused(alloc: Global, status: u8, err: String) -> Answer
+        ensures { IsRefused result status (string_bytes err) }
+    {
+        Answer {
+            status,
+            out: String::new(alloc),
+            err,
+        }
+    }
+}

@@ -1,0 +1,14 @@
+//! The program apart from the machine that it runs on: from the words of the command line and what files hold to what is
+//! printed.
+#![tactic(auto)]
+
+pub mod answer;
+pub mod answered;
+mod command;
+pub mod fault_line;
+pub mod files;
+mod numeral;
+pub mod reply_lines;
+pub mod script;
+pub mod sequential;
+pub mod shown_name;

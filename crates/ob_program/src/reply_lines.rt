@@ -1,0 +1,83 @@
+//! Reply lines: what is printed of the replies to calls.
+
+ghost use Rattle.std.specs.Prelude.{◌≡◌, ◌<◌, ◌++◌, [], map, codes, decimal, All, IfOk, OnOk, string_bytes};
+ghost use Rattle.std.specs.List.{flat_map};
+ghost use Rattle.ob_mean.specs.View.{reply_of};
+ghost use Rattle.ob_program.specs.ReplyLines.{scalar_text, reply_text, reply_line, reply_lines};
+
+use crate::numeral::push_number;
+use ob_check::program::Scalar;
+use ob_mean::call::Reply;
+use std::alloc::{AllocError, Global};
+
+/// The lines of replies to the calls of these callers, processes below `processes`.
+pub fn print_replies(
+    alloc: Global,
+    processes: usize,
+    callers: &[usize],
+    replies: &[Reply],
+) -> Result<String, AllocError>
+    requires { All (λ p. p < processes) callers.now }
+    ensures { IfOk result (λ text. string_bytes text ≡ reply_lines [] callers.now (map reply_of replies.now)) }
+{
+    let mut text = String::new(alloc);
+    let mut made = vec![in alloc; 0usize; processes]?;
+    for (caller, reply) in callers.iter().zip(replies) {
+        made[*caller] += 1;
+        push_line(&mut text, *caller, made[*caller], reply)?;
+    }
+    Ok(text)
+}
+
+/// Appends the line of a reply to a process's call of a number.
+fn push_line(
+    text: &mut String,
+    process: usize,
+    number: usize,
+    reply: &Reply,
+) -> Result<(), AllocError>
+    ensures { OnOk result (string_bytes text.new ≡ string_bytes text.old ++ reply_line process number (reply_of reply.now)) }
+{
+    text.push_str("E ")?;
+    push_number(text, process)?;
+    text.push_str(".")?;
+    push_number(text, number)?;
+    match reply {
+        Reply::Done(values) => push_values(text, values)?,
+        Reply::Trap(trap) => push_trap(text, *trap)?,
+    }
+    text.push_str("\n")
+}
+
+/// Appends what stands behind the id of a call that traps.
+fn push_trap(text: &mut String, trap: u8) -> Result<(), AllocError>
+    ensures { OnOk result (string_bytes text.new ≡ string_bytes text.old ++ (codes " trap " ++ decimal trap)) }
+{
+    text.push_str(" trap ")?;
+    push_number(text, trap)
+}
+
+/// Appends what stands behind the id of a call that is done.
+fn push_values(text: &mut String, values: &[Scalar]) -> Result<(), AllocError>
+    ensures { OnOk result (string_bytes text.new ≡ string_bytes text.old ++ (codes " done" ++ flat_map (λ v. codes " " ++ scalar_text v) values.now)) }
+{
+    text.push_str(" done")?;
+    for value in values {
+        push_value(text, *value)?;
+    }
+    Ok(())
+}
+
+/// Appends a space and a value.
+fn push_value(text: &mut String, value: Scalar) -> Result<(), AllocError>
+    ensures { OnOk result (string_bytes text.new ≡ string_bytes text.old ++ (codes " " ++ scalar_text value)) }
+{
+    match value {
+        Scalar::Int(integer) => {
+            text.push_str(" ")?;
+            push_number(text, integer)
+        }
+        Scalar::Bool(true) => text.push_str(" TRUE"),
+        Scalar::Bool(false) => text.push_str(" FALSE"),
+    }
+}

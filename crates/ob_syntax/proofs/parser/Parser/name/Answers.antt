@@ -1,9 +1,0 @@
-use Rattle.ob_syntax.specs.Answers.{state}
-use Rattle.ob_syntax.proofs.Names.{went_name}
-use Rattle.ob_syntax.proofs.States.{true_at}
-use Rattle.ob_syntax.proofs.parser.Parser.name.Goals as goal
-
-pub returns : goal.returns
-returns c =
-    went_name (state c.args.self.now) (state c.take-place.new.self) _ _ c.take-place.ensures.kept c.take-place.ensures.moved
-    (true_at c.if-not-at.ensures.kind) c.bytes.ensures.spelling c.in_ok-text.ensures c.take-place.ensures.place

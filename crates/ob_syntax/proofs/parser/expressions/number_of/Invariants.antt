@@ -1,6 +1,0 @@
-use Rattle.std.proofs.Common.{◌≡◌, take}
-use Rattle.ob_scan.specs.Spelling.{number_value}
-use Rattle.ob_syntax.proofs.parser.expressions.number_of.Given as goal
-
-abbrev pub invariant-loop-digit : goal.invariant-loop-digit
-invariant-loop-digit l = l.value ≡ number_value (take l.digit-index l.digits)

@@ -1,0 +1,14 @@
+//! Tests of what no row of the program shows: trees with their places, printed texts, and values that the program doesn't
+//! print. Nothing stands on this crate.
+#![tactic(auto)]
+
+#[cfg(test)]
+mod checking;
+#[cfg(test)]
+mod nesting;
+#[cfg(test)]
+mod printing;
+#[cfg(test)]
+mod replies;
+#[cfg(test)]
+mod trees;

@@ -1,0 +1,46 @@
+//! Printed replies and faults, also those that no module gives yet.
+
+use ob_check::program::Scalar;
+use ob_mean::call::Reply;
+use ob_mean::opening::OpenFault;
+use ob_program::fault_line::fault_line;
+use ob_program::reply_lines::print_replies;
+use ob_program::sequential::SeqTextFault;
+use smallvec::SmallVec;
+use std::test::Fail;
+
+#[test]
+fn prints_replies(rt: HostRuntime) -> Result<(), Fail> {
+    let alloc = rt.alloc();
+    let mut values = SmallVec::new(alloc);
+    values.push(Scalar::Int(i32::MIN))?;
+    values.push(Scalar::Bool(true))?;
+    values.push(Scalar::Bool(false))?;
+    let mut replies = Vec::new(alloc);
+    replies.push(Reply::Done(SmallVec::new(alloc)))?;
+    replies.push(Reply::Trap(4))?;
+    replies.push(Reply::Done(values))?;
+    let text = print_replies(alloc, 16, &[15, 0, 15], &replies)?;
+    let lines = "E 15.1 done\nE 0.1 trap 4\nE 15.2 done -2147483648 TRUE FALSE\n";
+    assert_eq!(rt; text.as_str(), lines);
+    Ok(())
+}
+
+#[test]
+fn prints_nothing_of_no_replies(rt: HostRuntime) -> Result<(), Fail> {
+    let text = print_replies(rt.alloc(), 16, &[], &[])?;
+    assert_eq!(rt; text.as_str(), "");
+    Ok(())
+}
+
+#[test]
+fn prints_faults(rt: HostRuntime) -> Result<(), Fail> {
+    let rows = [
+        (SeqTextFault::Open(OpenFault::NeedsMore), "O3"),
+        (SeqTextFault::NeedsMore(0, 2), "U1 0.2"),
+    ];
+    for (fault, line) in rows {
+        assert_eq!(rt; fault_line(rt.alloc(), fault)?.as_str(), line);
+    }
+    Ok(())
+}

@@ -1,0 +1,12 @@
+pub mod Program
+pub mod Arithmetic
+pub mod Scopes
+pub mod Expressions
+pub mod Types
+pub mod Statements
+pub mod Declarations
+pub mod ExpressionFaults
+pub mod TypeFaults
+pub mod StatementFaults
+pub mod DeclarationFaults
+pub mod Limits

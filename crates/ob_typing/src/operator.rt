@@ -1,0 +1,24 @@
+//! The operators of the checked program.
+
+/// An operator that takes two scalars of one type and gives one of it.
+#[derive(Clone, Copy, Debug, PartialEq, Eq)]
+pub enum BinaryOperator {
+    Plus,
+    Minus,
+    Times,
+    Div,
+    Mod,
+    And,
+    Or,
+}
+
+/// An operator that compares two scalars.
+#[derive(Clone, Copy, Debug, PartialEq, Eq)]
+pub enum Relation {
+    Equal,
+    NotEqual,
+    Less,
+    LessOrEqual,
+    Greater,
+    GreaterOrEqual,
+}

@@ -1,0 +1,11 @@
+pub mod Sums
+pub mod Lowers
+pub mod Bodies
+mod Places
+pub mod EachCounts
+pub mod Runs
+pub mod BodyEnds
+pub mod SumBodies
+pub mod Limits
+pub mod Calls
+mod Example

@@ -1,0 +1,7 @@
+pub mod Spent
+pub mod Left
+pub mod Counted
+pub mod Bound
+pub mod Limit
+pub mod Ends
+pub mod Calls

@@ -1,0 +1,4 @@
+pub mod Helping
+pub mod Order
+pub mod Fetched
+pub mod Commits

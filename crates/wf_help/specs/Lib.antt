@@ -1,0 +1,4 @@
+pub mod Alone
+pub mod Contents
+pub mod Helps
+pub mod Served

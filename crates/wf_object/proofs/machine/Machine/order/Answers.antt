@@ -1,0 +1,14 @@
+use Rattle.std.proofs.Common.{◌∙◌, sym}
+use Rattle.wf_commits.proofs.Laws.{order_once}
+use Rattle.wf_commits.proofs.Timed.{never_before}
+use Rattle.wf_object.proofs.machine.Machine.order.Goals as goal
+
+pub returns-clause-once : goal.returns-clause-once
+returns-clause-once g c = let s = c.self.inside in rw (c.order.ensures) (order_once s.sizes s.shared s.processes.items s.records c.self.invariant.committed.ordered)
+
+pub returns-clause-in_time : goal.returns-clause-in_time
+returns-clause-in_time g c =
+    let s = c.self.inside in
+    let kept = c.self.invariant.committed in
+    rw (← c.self.view_is)
+    (λ first second third a b split before. never_before s.records.history s.records.order first second third a b (order_once s.sizes s.shared s.processes.items s.records kept.ordered) kept.timed (sym c.order.ensures ∙ split) before)

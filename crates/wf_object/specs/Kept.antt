@@ -1,0 +1,21 @@
+-- What a machine keeps from step to step.
+use Rattle.std.specs.Prelude.{◌≤◌, ℤ, List, length}
+use Rattle.ob_mean.specs.Object.{ObjectCall}
+use Rattle.wf_table.specs.declared.process.Sizes.{Sizes}
+use Rattle.wf_table.specs.Meaning.{Meaning}
+use Rattle.wf_table.specs.Object.{State}
+use Rattle.wf_table.specs.Schedule.{steps_of}
+use Rattle.wf_table.specs.Each.{Each}
+use Rattle.wf_table.specs.Sound.{IsSound}
+use Rattle.wf_bound.specs.declared.spent.Spent.{Spent}
+use Rattle.wf_bound.specs.Spent.{unspent}
+use Rattle.wf_bound.specs.Counted.{EachCounts, spent_of}
+use Rattle.wf_bound.specs.Bound.{StaysWithin}
+use Rattle.wf_commits.specs.Commits.{IsCommitted}
+
+pub record IsKept {Run : Type 0} (m : Meaning Run) (lawful : List ℤ → Type 0) (fits : ObjectCall → Type 0) (ready : Run → Type 0) (z : Sizes) (opening : List ℤ) (s : State Run) (spent : List Spent) : Type 0 where
+  pub sound : IsSound m lawful fits ready z opening s
+  pub committed : IsCommitted z s
+  pub spends : EachCounts (StaysWithin z) unspent spent s.processes
+  -- steps in bodies are among all steps
+  pub among : Each (λ p _. (spent_of spent p).inside ≤ length (steps_of s.records.schedule)) s.processes

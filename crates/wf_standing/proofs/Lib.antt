@@ -1,0 +1,11 @@
+pub mod Since
+pub mod Places
+pub mod Carried
+pub mod Rows
+pub mod Keeps
+pub mod Runs
+pub mod Laws
+pub mod Unique
+pub mod Orders
+pub mod Answered
+pub mod Legal

@@ -1,0 +1,8 @@
+//! Who stepped.
+
+/// So many steps of one process in a row.
+#[derive(Clone, Copy, Debug, PartialEq, Eq)]
+pub struct Turns {
+    pub process: usize,
+    pub count: u64,
+}

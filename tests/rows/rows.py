@@ -1,0 +1,234 @@
+"""Rows of the program: how they are read, run and compared. README.md tells how a row is written."""
+import argparse
+import os
+import re
+import subprocess
+import sys
+import tempfile
+from concurrent.futures import ThreadPoolExecutor
+from dataclasses import dataclass, field, replace
+from pathlib import Path
+from typing import Dict, List, Optional
+
+HERE = Path(__file__).resolve().parent
+TOP = HERE.parent.parent
+HEADING = re.compile(r"--- (words|file|before|seconds|out has|out|err has|err|status|each|note)(?: (.*))?")
+REPETITION = re.compile(r"\\\{(\d+):(.*?)\}", re.DOTALL)
+ESCAPE = re.compile(r"\\(x[0-9A-Fa-f]{2}|[\n\\ntr])")
+ESCAPED = {"\n": b"", "\\": b"\\", "n": b"\n", "t": b"\t", "r": b"\r"}
+# stands for the mark | of a table's line
+MARK = "\ue000"
+# the line of a fault with a number, and that of what the machine refuses
+FAULT = re.compile(rb"[A-Z]\d+( (at|trap|line|item|process) \d+| \d+\.\d+| \w+)?\n")
+REFUSAL = re.compile(rb"(NoMemory|cannot [^\n]*)\n")
+NO_MEMORY = b"NoMemory\n"
+
+
+class BadRow(Exception):
+    """A row file out of form."""
+
+
+@dataclass
+class Row:
+    """A run of the program and what has to come of it. What is None is not looked at. Words and files are as they are written,
+    with escapes. A stream is empty where nothing is said of it."""
+
+    words: str = ""
+    files: Dict[str, str] = field(default_factory=dict)
+    before: str = ""
+    seconds: int = 20
+    status: Optional[int] = None
+    out: Optional[bytes] = b""
+    err: Optional[bytes] = b""
+    out_has: Optional[List[bytes]] = None
+    err_has: Optional[List[bytes]] = None
+    is_read: bool = False
+    place: str = ""
+
+
+def expand(text):
+    """The bytes that a text stands for: its repetitions are written out, and then its escapes."""
+    whole = REPETITION.sub(lambda it: "".join(it[2].replace("\\#", str(n)) for n in range(int(it[1]))), text)
+    parts = ESCAPE.split(whole)
+    parts[::2] = [it.encode() for it in parts[::2]]
+    parts[1::2] = [bytes.fromhex(it[1:]) if it[0] == "x" else ESCAPED[it] for it in parts[1::2]]
+    return b"".join(parts)
+
+
+def sections_of(path):
+    """The sections of a file: the number of the first line, the kind, what stands behind it, and the lines."""
+    sections = []
+    for number, line in enumerate(path.read_text(encoding="utf-8").split("\n")[:-1], 1):
+        heading = HEADING.fullmatch(line)
+        if heading:
+            sections.append((number, heading[1], heading[2] or "", []))
+        elif line.startswith("--- "):
+            raise BadRow(f"{path}: line {number} is no heading")
+        elif sections:
+            sections[-1][3].append(line)
+    return sections
+
+
+def rows_of(path):
+    """The rows of a file, which begin with what the file `common` of its folder says: one, or those of its tables."""
+    row, tables = Row(), []
+    common = path.with_name("common")
+    for number, kind, said, lines in (sections_of(common) if common.exists() else []) + sections_of(path):
+        if kind == "each":
+            tables.append((row, number, said, lines))
+        elif kind != "note":
+            row = with_section(row, kind, said, lines)
+    label = path.relative_to(HERE).with_suffix("")
+    if not tables:
+        return [replace(row, place=str(label))]
+    return [tabled(*it, f"{label}:{number}") for table in tables for number, *it in lines_of(*table)]
+
+
+def with_section(row, kind, said, lines):
+    """The row with what a section says."""
+    text = "".join(line + "\n" for line in lines)
+    if kind == "file":
+        return replace(row, files={**row.files, said: text})
+    if kind in ("words", "status", "seconds"):
+        return replace(row, **{kind: said if kind == "words" else int(said)})
+    stream, _, has = kind.partition(" ")
+    if has:
+        return replace(row, **{stream: None, f"{stream}_has": [expand(line) for line in lines]})
+    return replace(row, **{kind: text if kind == "before" else expand(text)})
+
+
+def lines_of(row, number, answer, lines):
+    """The lines of a table, each with its number, the row that it belongs to, its text and its answer."""
+    answer = answer[3:] if answer.startswith("=> ") else answer
+    for line in lines:
+        number += 1
+        text, arrow, own = (" " + line).rpartition(" => ")
+        if line.strip():
+            yield (number, row, line, answer) if answer or not arrow else (number, row, text[1:], own)
+
+
+def tabled(row, text, answer, place):
+    """The row of a line of a table."""
+    if "|" in answer:
+        text = text.replace("|", MARK, 1)
+    text = text.replace(" / ", "\n")
+    row = replace(row, place=place, words=row.words.replace("{}", text))
+    files = {name: it.replace("{}", text) for name, it in row.files.items()}
+    for name, file in files.items():
+        if MARK in file:
+            answer = answer.replace("|", str(expand(file).index(MARK.encode())))
+            files[name] = file.replace(MARK, "")
+    if "|" in answer:
+        raise BadRow(f"{place}: there is no mark")
+    return answered(replace(row, files=files), answer)
+
+
+def answered(row, answer):
+    """The row with the answer of a table: 'is read', 'nothing', the line of a fault, or what is printed."""
+    if not answer:
+        return row
+    if answer == "is read":
+        return replace(row, is_read=True, out=None, err=None)
+    if answer == "nothing":
+        return replace(row, out=b"", err=b"")
+    lines = expand(answer.replace(" / ", "\n") + "\n")
+    is_fault = FAULT.fullmatch(lines) or REFUSAL.fullmatch(lines)
+    return replace(row, out=b"", err=lines) if is_fault else replace(row, out=lines, err=b"")
+
+
+def contents_of(row):
+    """The row's files, with their bytes."""
+    return {os.fsdecode(expand(name)): expand(text) for name, text in row.files.items()}
+
+
+def run(row, program, files, env=None):
+    """What the program does with these files: its status, standard output and standard error."""
+    words = [b"" if it == '""' else expand(it) for it in row.words.split()]
+    with tempfile.TemporaryDirectory(prefix="row-") as room:
+        for name, content in files.items():
+            Path(room, name).write_bytes(content)
+        shell = ["bash", "-c", f'{row.before}\nexec "$0" "$@"', program, *words] if row.before else [program, *words]
+        how = {"cwd": room, "env": env, "stdin": subprocess.DEVNULL, "timeout": row.seconds}
+        ran = subprocess.run(shell, stdout=subprocess.PIPE, stderr=subprocess.PIPE, **how)
+    return ran.returncode, ran.stdout, ran.stderr
+
+
+def wanted_status(row):
+    """The status that the row names, or else the one that goes with its line on standard error."""
+    if row.status is not None or row.err is None:
+        return row.status
+    return 3 if REFUSAL.fullmatch(row.err) else 1 if row.err else 0
+
+
+def compared(row, status, out, err):
+    """What differs in these answers from what the row says."""
+    wanted = wanted_status(row)
+    told = [] if wanted in (None, status) else [f"status {status} in place of {wanted}"]
+    if row.is_read and (status not in (0, 1) or re.match(rb"[SP]\d", err)):
+        told.append(f"the text is not read: status {status}, {shown(err)}")
+    for stream, had, whole, parts in (("output", out, row.out, row.out_has), ("error", err, row.err, row.err_has)):
+        if whole not in (None, had):
+            told.append(f"standard {stream} is {shown(had)} in place of {shown(whole)}")
+        told += [f"standard {stream} has no {shown(it)}: {shown(had)}" for it in parts or [] if it not in had]
+        if parts == [] and not had:
+            told.append(f"standard {stream} is empty")
+    return told
+
+
+def differences(row, program):
+    """What differs from what the row says, in a run of it."""
+    return compared(row, *run(row, program, contents_of(row)))
+
+
+def shown(text):
+    """A text as a failure shows it."""
+    return repr(text)[1:] if len(text) <= 400 else f"{repr(text[:200])[1:]} .. {repr(text[-100:])[1:]} ({len(text)} bytes)"
+
+
+def found(names):
+    """The rows that names of files and folders mean."""
+    files = []
+    for name in names:
+        path = next((it for it in (Path(name), HERE / name, HERE / f"{name}.row") if it.exists()), None)
+        if path is None:
+            raise BadRow(f"there is no row {name}")
+        path = path.resolve()
+        files += sorted(path.rglob("*.row")) if path.is_dir() else [path]
+    return [row for path in files for row in rows_of(path)]
+
+
+def proved_program():
+    """The proved program, which is built where it isn't."""
+    if subprocess.run([TOP / "obl0", "--help"], stdout=subprocess.DEVNULL).returncode:
+        sys.exit("rows: there is no program to run")
+    return TOP / "crates/obl0/out/obl0"
+
+
+def main(about, look, names, read=found):
+    """Reads the command line, has `look` try each row that `read` finds under its names, or these, on the program, and prints what
+    `look` tells. The status is 1 where it tells anything."""
+    reader = argparse.ArgumentParser(description=about, formatter_class=argparse.RawDescriptionHelpFormatter)
+    reader.add_argument("--program", help="the program that is run", metavar="PATH")
+    reader.add_argument("names", nargs="*", default=names)
+    asked = reader.parse_args()
+    try:
+        rows = read(asked.names)
+    except (BadRow, OSError, ValueError) as why:
+        sys.exit(f"rows: {why}")
+    program = os.path.abspath(asked.program or proved_program())
+    failed = 0
+    with ThreadPoolExecutor(os.cpu_count()) as pool:
+        for row, told in zip(rows, pool.map(lambda it: tried(look, it, program), rows)):
+            failed += bool(told)
+            for line in told:
+                print(f"{row.place}: {line}")
+    print(f"{len(rows) - failed} passed, {failed} failed")
+    return 1 if failed else 0
+
+
+def tried(look, row, program):
+    """What `look` tells of a row, or that a run took too long."""
+    try:
+        return look(row, program)
+    except subprocess.TimeoutExpired:
+        return [f"no answer in {row.seconds} seconds"]
