@@ -7,6 +7,8 @@ mod checking;
 #[cfg(test)]
 mod nesting;
 #[cfg(test)]
+mod orders;
+#[cfg(test)]
 mod printing;
 #[cfg(test)]
 mod replies;
