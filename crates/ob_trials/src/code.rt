@@ -1,4 +1,4 @@
-use crate::{Argument, Body, BodyTurn, Code, CodeFault, Instr, list};
+use ob_code::{Argument, Body, BodyTurn, Code, CodeFault, Instr, list};
 use std::alloc::{AllocError, Global};
 use std::test::Fail;
 
