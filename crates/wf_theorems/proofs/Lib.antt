@@ -1,0 +1,3 @@
+mod Present
+mod Scripts
+mod Ends
