@@ -24,7 +24,7 @@ use Rattle.wf_table.specs.Sound.{IsSound}
 use Rattle.wf_table.proofs.Runs.{run_sound}
 use Rattle.wf_bound.specs.Spent.{at_body}
 use Rattle.wf_bound.specs.Counted.{Counted, EachCounts, uncounted, counts_after, counts_of, counted_from, counted_act}
-use Rattle.wf_bound.specs.Ends.{AllEndWithin, EndsWithin, IsCallOf, IsReachedWithout}
+use Rattle.wf_bound.specs.Ends.{AllEndWithin, EndsWithin, IsCallOf}
 use Rattle.wf_bound.specs.Limit.{StaysBelow}
 use Rattle.wf_bound.proofs.BodyEnds.{body_goes_on}
 use Rattle.wf_bound.proofs.EachCounts.{act_counts}

@@ -1,6 +1,6 @@
 -- A present body, over a counted run: the counted steps of the call that the list holds, made on the saved variables, lead to
 -- the run and to the variables of the own block.
-use Rattle.std.proofs.Common.{◌≡◌, ◌≢◌, ℕ, suc, ◌+◌, ◌<◌, ◌≤◌, Bool, true, false, List, [], ◌∷◌, ◌++◌, length, set, get_or, take, map, refl, sym, ap, ◌∙◌, arith, cond, subst, inl, inr, length-set, get_or-set_same, get_or-set_other}
+use Rattle.std.proofs.Common.{◌≡◌, ◌≢◌, ℕ, suc, ◌+◌, ◌<◌, true, false, List, [], ◌∷◌, ◌++◌, length, set, get_or, take, map, refl, sym, ap, ◌∙◌, arith, cond, subst, inl, inr, get_or-set_same, get_or-set_other}
 use Rattle.std.specs.Prelude.{ℤ, Option, Some, None, slice_get, ◌⊎◌}
 use Rattle.std.proofs.lemmas.Bool.Decides.{nat_tests}
 use Rattle.std.proofs.lemmas.List.{length-take-le}
@@ -14,7 +14,7 @@ use Rattle.wf_table.specs.declared.process.Label.TheVariants.{Enter, Body}
 use Rattle.wf_table.specs.declared.process.Sizes.{Sizes}
 use Rattle.wf_table.specs.Meaning.{Turned, Meaning, steps, body}
 use Rattle.wf_table.specs.Law.{Effects, IsLawful}
-use Rattle.wf_table.specs.Table.{Process, Change, Nothing, Own, Refill, Announce, Links, Exchanges, cell_after, row, own_block, block_words, body_turn, after_body, to}
+use Rattle.wf_table.specs.Table.{Process, Change, Refill, Exchanges, cell_after, row, own_block, block_words, body_turn, after_body, to}
 use Rattle.wf_table.specs.Object.{State, step_by, submit_by}
 use Rattle.wf_table.specs.Runs.{Act, Steps, Submits, act_of}
 use Rattle.wf_table.specs.Each.{Each}

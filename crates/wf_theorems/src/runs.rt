@@ -1,6 +1,6 @@
 //! What holds of the bodies of every engine, and of every run.
 
-ghost use Rattle.std.specs.Prelude.{◌≡◌, ℕ, ◌<◌, ℤ, List, Some, slice_get};
+ghost use Rattle.std.specs.Prelude.{◌≡◌, ℕ, ◌<◌, ◌≤◌, ℤ, List, Some, length, slice_get};
 ghost use Rattle.ob_check.specs.declared.program.Scalar.{Scalar};
 ghost use Rattle.ob_mean.specs.Object.{ObjectCall, Reply, Answers, Trapped};
 ghost use Rattle.ll_cell.specs.Cell.{block_of};
@@ -15,6 +15,7 @@ ghost use Rattle.wf_table.specs.Law.{Reaches, ReachesTrap};
 ghost use Rattle.wf_table.specs.Alone.{EndsAlone};
 ghost use Rattle.wf_table.specs.Table.{Process, own_block, body_turn};
 ghost use Rattle.wf_table.specs.Object.{State, step_of, stepped, label_of};
+ghost use Rattle.wf_table.specs.Schedule.{counted};
 ghost use Rattle.wf_table.specs.Start.{sizes_of};
 ghost use Rattle.wf_table.specs.Runs.{Act, IsRun, performed};
 ghost use Rattle.wf_table.specs.Sound.{IsSound};
@@ -46,6 +47,11 @@ pub fn every_copy<E: Engine>()
 /// A body that is stuck changes neither the cell nor a process.
 pub fn every_stuck_body<E: Engine>()
     ensures { (e : E) (z : Sizes) (opening : List ℤ) (s : State E.Run) (p : ℕ) (q : Process E.Run) → IsSound (E.meaning e) (E.lawful e) (E.fits e) (E.ready e) z opening s → slice_get s.processes p ≡ Some q → q.label ≡ At.Body → (body_turn (E.meaning e) z s.cell p q).turn ≡ Turn.Stuck → ((stepped (E.meaning e) z s p q).cell ≡ s.cell) × ((stepped (E.meaning e) z s p q).processes ≡ s.processes) }
+{}
+
+/// A step of a process that has no call left changes the schedule alone.
+pub fn every_halted_step<E: Engine>()
+    ensures { (e : E) (z : Sizes) (s : State E.Run) (p : ℕ) (q : Process E.Run) → slice_get s.processes p ≡ Some q → q.label ≡ At.Next → length q.calls ≤ q.begun → step_of (E.meaning e) z s p ≡ record s { records = record s.records { schedule = counted s.records.schedule p } } }
 {}
 
 /// A run by scripts, all submitted first, and its own schedule goes on with a step of one more process.
