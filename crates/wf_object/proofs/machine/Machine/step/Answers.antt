@@ -1,5 +1,5 @@
 use Rattle.std.proofs.Common.{◌≡◌, ◌<◌, ◌≤◌, Bool, List, length, set, sym, ap, ◌∙◌, subst, refl, arith}
-use Rattle.std.specs.Prelude.{Option, Some}
+use Rattle.std.specs.Prelude.{Option}
 use Rattle.std.proofs.lemmas.Option.{same_Some, slice_get_read, get_or_from_slice_get}
 use Rattle.ob_mean.specs.Object.{ObjectCall, Reply}
 use Rattle.wf_history.specs.History.{Event, IsHistory}
@@ -9,13 +9,12 @@ use Rattle.wf_table.specs.Table.{Process}
 use Rattle.wf_object.specs.View.{event_in}
 use Rattle.wf_table.proofs.Counted.{one_turn}
 use Rattle.wf_table.proofs.FewValues.{few_answered}
-use Rattle.wf_table.proofs.KeepsSound.{keeps_sound}
 use Rattle.wf_table.proofs.KeepsTurns.{event_in_turn}
-use Rattle.wf_commits.proofs.Runs.{step_committed}
 use Rattle.wf_bound.specs.declared.spent.Spent.{Spent}
 use Rattle.wf_bound.specs.Spent.{unspent, spent_after, has_more}
 use Rattle.wf_bound.specs.Counted.{spent_of, spent_by_step, count_by}
-use Rattle.wf_object.proofs.Spends.{bodies_room, inside_room, outside_room, later, spends_stay, among_stay}
+use Rattle.wf_object.proofs.Keeps.{step_kept}
+use Rattle.wf_object.proofs.Spends.{bodies_room, inside_room, outside_room, later}
 use Rattle.wf_object.proofs.OneStep.{stands, step_is, answer_is, noted_is}
 use Rattle.wf_object.proofs.machine.Machine.step.Goals as goal
 
@@ -119,12 +118,7 @@ invariant_of-self-2 g c =
     ∙ ap (λ (k : Process _). spent_after k.label (has_more y) (spent_of s.spent.items c.args.p)) c.process.view_is
     ∙ ap (λ (k : Process _). spent_after k.label (has_more k) (spent_of s.spent.items c.args.p)) same in
     rw (c.act.ensures.cell, c.act.ensures.process, records, spends)
-    (record {
-      sound = keeps_sound m (e.lawful s.engine) (e.fits s.engine) (e.ready s.engine) (e.effect s.engine) (g.met.E.Engine.law s.engine) s.sizes s.opening.items state c.args.p x at c.self.invariant.sound;
-      committed = step_committed m (e.lawful s.engine) (e.fits s.engine) (e.ready s.engine) (e.effect s.engine) (g.met.E.Engine.law s.engine) s.sizes s.opening.items state c.args.p (Some x) at c.self.invariant.sound c.self.invariant.committed;
-      spends = spends_stay m s.sizes state c.args.p x at s.spent.items c.self.invariant.sound.sized c.self.invariant.sound.in_range c.self.invariant.spends;
-      among = among_stay m s.sizes state c.args.p x at s.spent.items c.self.invariant.spends.count c.self.invariant.among;
-    })
+    (step_kept m (e.lawful s.engine) (e.fits s.engine) (e.ready s.engine) (e.effect s.engine) (g.met.E.Engine.law s.engine) s.sizes s.opening.items state c.args.p x at s.spent.items c.self.invariant)
 
 pub returns-clause-stepped : goal.returns-clause-stepped
 returns-clause-stepped g c =
