@@ -5,9 +5,6 @@ pub mod ArgumentReading
 pub mod ScriptReading
 pub mod Printing
 pub mod CallParts
-pub mod ClapWord
-pub mod ClapWalk
-pub mod Readings
 pub mod PlainNames
 pub mod Beginnings
 pub mod OneScript

@@ -4,9 +4,6 @@ pub mod SequentialRun
 pub mod ScriptView
 pub mod ScriptLine
 pub mod SequentialParts
-pub mod CommandLine
-pub mod ClapCommand
-pub mod Commands
 pub mod Answers
 pub mod FaultLines
 pub mod ShownNames

@@ -9,6 +9,8 @@ mod code;
 #[cfg(test)]
 mod nesting;
 #[cfg(test)]
+mod orders;
+#[cfg(test)]
 mod printing;
 #[cfg(test)]
 mod replies;

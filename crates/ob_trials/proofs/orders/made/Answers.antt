@@ -3,7 +3,7 @@ use Rattle.std.proofs.Common.{subst, sym, ap, ◌∙◌, List}
 use Rattle.ob_mean.specs.Object.{ObjectCall, Reply}
 use Rattle.ob_mean.specs.View.{call_of, reply_of}
 use Rattle.wf_history.proofs.Turns.{begun_whole, ended_whole, ended_turns}
-use Rattle.wf_history.proofs.tests.made.Goals as goal
+use Rattle.ob_trials.proofs.orders.made.Goals as goal
 use Rattle.wf_history.specs.History.{Event, IsHistory, own_events}
 
 pub push-requires : goal.push-requires

@@ -1,7 +1,7 @@
 use Rattle.std.proofs.Common.{map, codes}
 use Rattle.clap.specs.Words.{found_of}
-use Rattle.ob_program.proofs.Readings.{command_read, has_value, parsed_names, parsed_seq, parsed_stop}
-use Rattle.ob_program.proofs.command.read_words.Goals as goal
+use Rattle.ob_command.proofs.Readings.{command_read, has_value, parsed_names, parsed_seq, parsed_stop}
+use Rattle.ob_command.proofs.command.read_words.Goals as goal
 
 pub returns-in-Err : goal.returns-in-Err
 returns-in-Err c = parsed_stop _ c.in_ok-command_line.ensures (map (λ w. w.now) c.args.words.now) c.in-Err.error c.in-Err.ensures.kinds

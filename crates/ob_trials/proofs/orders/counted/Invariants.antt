@@ -1,6 +1,6 @@
 -- So many calls have been made.
 use Rattle.std.proofs.Common.{◌≡◌, ◌*◌}
-use Rattle.wf_history.proofs.tests.counted.Given as goal
+use Rattle.ob_trials.proofs.orders.counted.Given as goal
 use Rattle.wf_history.specs.History.{own_events, in_turn, IsHistory}
 
 abbrev pub invariant-loop-done : goal.invariant-loop-done

@@ -15,15 +15,15 @@ use Rattle.clap.specs.declared.parser.matches.ArgMatches.TheViews.{out-ArgMatche
 use Rattle.clap.specs.declared.parser.matches.Found.{Found}
 use Rattle.clap.proofs.WalkLemmas.{first_value-rows}
 use Rattle.clap.proofs.OnLiterals.{clap_on_literals}
-use Rattle.ob_program.specs.ClapCommand.{obl0_app}
-use Rattle.ob_program.specs.CommandLine.{Request, Seq, Help, Version, Unclear, command_request}
-use Rattle.ob_program.specs.Commands.{IsReading, IsSeqOf, IsStopOf, request_of}
-use Rattle.ob_program.specs.declared.command.Command as command
-use Rattle.ob_program.specs.declared.command.Command.TheVariants as commands
-use Rattle.ob_program.specs.declared.command.Stop.{Stop}
-use Rattle.ob_program.specs.declared.command.Stop.TheVariants as stops
-use Rattle.ob_program.proofs.ClapWalk.{clap_comes, ComesOf, seq_rows}
-use Rattle.ob_program.proofs.ClapWord.{is_mistake}
+use Rattle.ob_command.specs.ClapCommand.{obl0_app}
+use Rattle.ob_command.specs.CommandLine.{Request, Seq, Help, Version, Unclear, command_request}
+use Rattle.ob_command.specs.Commands.{IsReading, IsSeqOf, IsStopOf, request_of}
+use Rattle.ob_command.specs.declared.command.Command as command
+use Rattle.ob_command.specs.declared.command.Command.TheVariants as commands
+use Rattle.ob_command.specs.declared.command.Stop.{Stop}
+use Rattle.ob_command.specs.declared.command.Stop.TheVariants as stops
+use Rattle.ob_command.proofs.ClapWalk.{clap_comes, ComesOf, seq_rows}
+use Rattle.ob_command.proofs.ClapWord.{is_mistake}
 
 pub is_free : is_simple_and_free obl0_app ≡ true
 unfolding clap_on_literals

@@ -3,10 +3,10 @@
 ghost use Rattle.std.specs.Prelude.{◌≡◌, false, IfOk, IsSome, map, codes};
 ghost use Rattle.clap.specs.Words.{app_of, first_value, found_of, kind_of, rule_of};
 ghost use Rattle.clap.specs.declared.builder.command.Command.TheViews.{out-Command as fields_of};
-ghost use Rattle.ob_program.specs.ClapCommand.{name_rule, obl0_app, seq_app};
-ghost use Rattle.ob_program.specs.CommandLine.{command_request, is_alone, request};
-ghost use Rattle.ob_program.specs.Commands.{IsReading, IsSeqOf, IsStopOf};
-ghost use Rattle.ob_program.specs.declared.command.Stop.TheVariants.{NoMemory};
+ghost use Rattle.ob_command.specs.ClapCommand.{name_rule, obl0_app, seq_app};
+ghost use Rattle.ob_command.specs.CommandLine.{command_request, is_alone, request};
+ghost use Rattle.ob_command.specs.Commands.{IsReading, IsSeqOf, IsStopOf};
+ghost use Rattle.ob_command.specs.declared.command.Stop.TheVariants.{NoMemory};
 
 use clap::error::ErrorKind;
 use clap::{Arg, ArgMatches};

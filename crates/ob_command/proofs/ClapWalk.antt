@@ -16,10 +16,10 @@ use Rattle.clap.specs.declared.parser.matches.ValueSource.TheVariants.{CommandLi
 use Rattle.clap.proofs.FaultLemmas.{stopped_fault}
 use Rattle.clap.proofs.WalkLemmas.{walk_stopped}
 use Rattle.clap.proofs.OnLiterals.{clap_on_literals}
-use Rattle.ob_program.specs.ClapCommand.{obl0_app, name_rule, seq_app, top_shape}
-use Rattle.ob_program.specs.CommandLine.{Request, Seq, Help, Version, Unclear, command_request, seq_request, names_in, with_name, is_option, asks_help, flag_of}
-use Rattle.ob_program.specs.CommandLine as line
-use Rattle.ob_program.proofs.ClapWord.{asks, dashes, differ, errs, help_only, is_mistake, no_help, plain, word_does}
+use Rattle.ob_command.specs.ClapCommand.{obl0_app, name_rule, seq_app, top_shape}
+use Rattle.ob_command.specs.CommandLine.{Request, Seq, Help, Version, Unclear, command_request, seq_request, names_in, with_name, is_option, asks_help, flag_of}
+use Rattle.ob_command.specs.CommandLine as line
+use Rattle.ob_command.proofs.ClapWord.{asks, dashes, differ, errs, help_only, is_mistake, no_help, plain, word_does}
 
 -- ---- the command line as built
 

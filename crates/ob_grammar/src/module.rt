@@ -1,11 +1,11 @@
-//! A module that was parsed.
+//! A module that some text has.
 
-use ob_grammar::tree::ModuleTree;
+use crate::tree::ModuleTree;
 use std::marker::Model;
 
 /// The tree of a module. Tokens with spellings derive it, the names behind END agree, and nothing in it stands too deep:
-/// the parser alone makes one.
-#[derive(Debug, Drop)]
+/// whoever makes one has to show that, as the parser does.
+#[derive(Drop)]
 pub struct Module {
     tree: ModuleTree,
 }
@@ -35,8 +35,8 @@ impl Module {
     ghost use Rattle.ob_grammar.specs.Texts.{HasText};
     ghost use Rattle.ob_grammar.specs.View.{module_of};
 
-    /// A tree that was parsed.
-    pub(crate) fn new(tree: ModuleTree) -> Module
+    /// A tree of which that is known.
+    pub fn new(tree: ModuleTree) -> Module
         requires has_text { HasText (module_of tree) }
         requires keeps { KeepsConditions (module_of tree) }
         ensures { result ≡ tree }

@@ -15,7 +15,7 @@ use Rattle.clap.specs.declared.error.kind.ErrorKind.{ErrorKind}
 use Rattle.clap.specs.declared.error.kind.ErrorKind.TheVariants as kind
 use Rattle.clap.specs.declared.builder.value_parser.ValueParser.TheVariants as parser
 use Rattle.clap.proofs.OnLiterals.{clap_on_literals}
-use Rattle.ob_program.specs.CommandLine.{is_option, asks_help, flag_of}
+use Rattle.ob_command.specs.CommandLine.{is_option, asks_help, flag_of}
 
 -- the flag for help as built
 abbrev pub built_help : Rule

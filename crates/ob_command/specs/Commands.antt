@@ -4,11 +4,11 @@ use Rattle.clap.specs.Words.{first_value}
 use Rattle.clap.specs.declared.error.kind.ErrorKind.{ErrorKind}
 use Rattle.clap.specs.declared.error.kind.ErrorKind.TheVariants as kind
 use Rattle.clap.specs.declared.parser.matches.Found.{Found}
-use Rattle.ob_program.specs.declared.command.Command as command
-use Rattle.ob_program.specs.declared.command.Command.TheVariants as commands
-use Rattle.ob_program.specs.declared.command.Stop.{Stop}
-use Rattle.ob_program.specs.declared.command.Stop.TheVariants as stops
-use Rattle.ob_program.specs.CommandLine.{Request, Seq, Help, Version, Unclear}
+use Rattle.ob_command.specs.declared.command.Command as command
+use Rattle.ob_command.specs.declared.command.Command.TheVariants as commands
+use Rattle.ob_command.specs.declared.command.Stop.{Stop}
+use Rattle.ob_command.specs.declared.command.Stop.TheVariants as stops
+use Rattle.ob_command.specs.CommandLine.{Request, Seq, Help, Version, Unclear}
 
 abbrev pub request_of : command.Command → Request
 request_of (commands.Seq module_name script_name) = Seq module_name.now script_name.now

@@ -2,8 +2,8 @@ use Rattle.std.proofs.Common.{◌≡◌, ◌∙◌, ap, ap₂, true, []}
 use Rattle.std.proofs.lemmas.Result.{IfOk-weaker}
 use Rattle.clap.specs.Simple.{app_of_fields, on_top}
 use Rattle.clap.specs.Words.{App, app_of, with_subcommand}
-use Rattle.ob_program.specs.ClapCommand.{top_shape}
-use Rattle.ob_program.proofs.command.command_line.Goals as goal
+use Rattle.ob_command.specs.ClapCommand.{top_shape}
+use Rattle.ob_command.proofs.command.command_line.Goals as goal
 
 -- each step changes one field, and then the subcommand joins
 pub returns : goal.returns
