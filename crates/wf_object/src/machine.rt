@@ -10,8 +10,8 @@ ghost use Rattle.wf_object.specs.View.{answer_in};
 use crate::engine::Engine;
 use crate::fault::NewFault;
 use crate::process::Process;
-use crate::records::{Records, StepOut, answer};
-use crate::seen::seen;
+use crate::records::{Records, StepOut};
+use crate::seen::note_step;
 use crate::spent::{bound_of, count_step};
 use crate::start::{idle, opened};
 use crate::steps::act;
@@ -134,7 +134,9 @@ impl<E: Engine> Machine<E> {
     {
         let process = &self.processes[p];
         let label = process.label;
-        let event = seen(
+        let begins = process.has_more();
+        self.records.few_turns();
+        let out = note_step(
             self.alloc,
             &self.engine,
             self.sizes,
@@ -142,12 +144,8 @@ impl<E: Engine> Machine<E> {
             &self.processes,
             process,
             p,
+            &mut self.records,
         )?;
-        let out = answer(self.alloc, label, &event)?;
-        let block = self.shared.own_block(p);
-        let begins = process.has_more();
-        self.records.few_turns();
-        self.records.note(p, label, block, event)?;
         let spent = &mut self.spent[p];
         count_step(spent, label, begins);
         act(
