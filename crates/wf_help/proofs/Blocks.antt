@@ -1,11 +1,11 @@
 -- The words of a block behind a write: variables, replies and toggles.
-use Rattle.std.proofs.Common.{◌≡◌, ◌≢◌, ℕ, suc, ◌+◌, ◌*◌, ◌<◌, ◌≤◌, Bool, true, false, List, [], ◌∷◌, length, set, take, refl, sym, ap, ◌∙◌, arith, cond, inl, inr, int_eq, Decides}
+use Rattle.std.proofs.Common.{◌≡◌, ◌≢◌, ℕ, ◌+◌, ◌*◌, ◌<◌, ◌≤◌, Bool, true, false, List, [], ◌∷◌, length, set, take, refl, sym, ap, ◌∙◌, arith, cond, inl, inr, int_eq, Decides}
 use Rattle.std.specs.Prelude.{ℤ, pos}
 use Rattle.std.proofs.Math.Nat.{mul-le-mul_right}
 use Rattle.std.proofs.lemmas.Bool.{cases_lt}
 use Rattle.std.proofs.lemmas.Bool.Decides.{Decides-int_eq}
 use Rattle.std.proofs.lemmas.List.{get_or-set_same, get_or-set_other, take-set-le}
-use Rattle.ll_cell.specs.Cell.{word_at, refilled}
+use Rattle.ll_cell.specs.Cell.{refilled}
 use Rattle.wf_table.specs.declared.process.Sizes.{Sizes}
 use Rattle.wf_table.specs.Table.{part, toggle_place, toggle_in, inverted}
 use Rattle.wf_table.proofs.Words.{at_toggle, refilled_behind}
