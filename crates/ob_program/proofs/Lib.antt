@@ -1,8 +1,3 @@
-pub mod Numerals
-pub mod Names
-pub mod ExportSearch
-pub mod ArgumentReading
-pub mod ScriptReading
 pub mod Printing
 pub mod CallParts
 pub mod ClapWord
@@ -10,5 +5,4 @@ pub mod ClapWalk
 pub mod Readings
 pub mod PlainNames
 pub mod Beginnings
-pub mod OneScript
 pub mod NoRun

@@ -7,8 +7,6 @@ pub mod answered;
 mod command;
 pub mod fault_line;
 pub mod files;
-mod numeral;
 pub mod reply_lines;
-pub mod script;
 pub mod sequential;
 pub mod shown_name;
