@@ -8,8 +8,8 @@ ghost use Rattle.ob_check.specs.Exports.{export_of, signatures};
 ghost use Rattle.std.proofs.Props.{props};
 
 use crate::program::{Export, Program};
+use ob_grammar::module::Module;
 use ob_grammar::tree::ModuleTree;
-use ob_parser::module::Module;
 
 /// A module that is well typed, with its tree unchanged and the program that it is well typed as.
 #[derive(Drop)]

@@ -1,7 +1,9 @@
-//! The tree of a module, and the grammar that it is derived by.
+//! The tree of a module, the grammar that it is derived by, and the module whose type keeps that it is.
 #![tactic(auto)]
 
+pub mod module;
 pub mod no_memory;
 pub mod tree;
 
+pub use module::Module;
 pub use no_memory::NoMemory;

@@ -1,8 +1,7 @@
 //! From the tokens of a text to its module.
 #![tactic(auto)]
 
-pub mod module;
 pub mod parser;
 
-pub use module::Module;
+pub use ob_grammar::module::Module;
 pub use parser::{ParseFault, parse};

@@ -22,7 +22,7 @@ mod names;
 mod statements;
 mod types;
 
-use crate::module::Module;
+use ob_grammar::module::Module;
 use ob_scan::token::LARGEST_NUMBER;
 use ob_scan::{Kind, Token, Tokens};
 use std::alloc::{AllocError, AllocFailed, Global};

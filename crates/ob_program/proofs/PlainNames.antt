@@ -1,29 +1,10 @@
--- What the plainest words ask for.
-use Rattle.std.proofs.Common.{◌≡◌, ◌∙◌, ap, List, [], ◌∷◌, codes, true, false, Bool, Result, subst, ℕ, refl}
-use Rattle.std.specs.Str.{bytes_eq, chars}
-use Rattle.std.proofs.lemmas.Slice.Eq.{bytes_eq-Decides}
+-- What the program answers to the plainest words.
+use Rattle.std.proofs.Common.{◌≡◌, ◌∙◌, ap, List, [], ◌∷◌, codes, false, Result, subst, ℕ}
 use Rattle.ob_program.specs.Answers.{IsAnswer, IsSeqOutcome}
-use Rattle.ob_program.specs.CommandLine.{Request, Seq, Text, is_option, request}
+use Rattle.ob_command.specs.CommandLine.{Request, Text, is_option, request}
+use Rattle.ob_command.proofs.PlainWords.{two_names}
 use Rattle.ob_program.specs.declared.answered.Answer.{Answer}
 use Rattle.ob_program.specs.declared.files.FileFault.{FileFault}
-
--- a name is no `--`
-no_dashes : (word : Text) → is_option word ≡ false → bytes_eq word (codes "--") ≡ false
-unfolding chars
-no_dashes word h = go (bytes_eq word (codes "--")) refl
-  where
-    go : (t : Bool) → bytes_eq word (codes "--") ≡ t → bytes_eq word (codes "--") ≡ false
-    go false t = t
-    go true t =
-        let is : word ≡ codes "--" = (bytes_eq-Decides word (codes "--")).0 t in
-        let bad : true ≡ false = rw is at h in
-        cc
-
-two_names : (m s : Text) → is_option m ≡ false → is_option s ≡ false → request (codes "seq" ∷ m ∷ s ∷ []) ≡ Seq m s
-two_names m s no_m no_s =
-    let not_m = no_dashes m no_m in
-    let not_s = no_dashes s no_s in
-    rw (not_m, no_m, not_s, no_s) refl
 
 -- an answer to what words ask for, where they are `seq` and two names
 pub answers_names : {F : Type 0} (reads : F → Text → Result (List ℕ) FileFault → F → Type 0) (words : List Text) (answer : Answer) (before after : F)

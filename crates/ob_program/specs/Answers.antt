@@ -5,7 +5,7 @@ use Rattle.ob_program.specs.declared.files.FileFault.{FileFault}
 use Rattle.ob_program.specs.declared.files.FileFault.TheVariants.{Unreadable}
 use Rattle.ob_program.specs.declared.sequential.SeqTextFault.{SeqTextFault}
 use Rattle.ob_program.specs.SequentialRun.{IsSequentialRun, IsSeqTextFault, IsNumbered}
-use Rattle.ob_program.specs.CommandLine.{Text, Request, Seq, Help, Version, Unclear}
+use Rattle.ob_command.specs.CommandLine.{Text, Request, Seq, Help, Version, Unclear}
 use Rattle.ob_program.specs.FaultLines.{fault_line}
 use Rattle.ob_program.specs.ShownNames.{shown}
 

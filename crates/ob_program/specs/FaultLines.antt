@@ -12,7 +12,7 @@ use Rattle.ob_text.specs.declared.script.ScriptFault.{ScriptFault}
 use Rattle.ob_text.specs.declared.script.ScriptFault.TheVariants as Script
 use Rattle.ob_program.specs.declared.sequential.SeqTextFault.{SeqTextFault}
 use Rattle.ob_program.specs.declared.sequential.SeqTextFault.TheVariants as Faults
-use Rattle.ob_program.specs.CommandLine.{Text}
+use Rattle.ob_command.specs.CommandLine.{Text}
 
 -- at a byte offset of the module's text
 abbrev pub at_place : Text → ℕ → Text

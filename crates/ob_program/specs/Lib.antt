@@ -1,9 +1,6 @@
 pub mod ReplyLines
 pub mod SequentialRun
 pub mod SequentialParts
-pub mod CommandLine
-pub mod ClapCommand
-pub mod Commands
 pub mod Answers
 pub mod FaultLines
 pub mod ShownNames

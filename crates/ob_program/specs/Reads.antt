@@ -1,6 +1,6 @@
 -- Reads of the beginnings of files.
 use Rattle.std.specs.Prelude.{◌≡◌, ℕ, List, take, Result, Ok, Err}
-use Rattle.ob_program.specs.CommandLine.{Text}
+use Rattle.ob_command.specs.CommandLine.{Text}
 use Rattle.ob_program.specs.declared.files.FileFault.{FileFault}
 
 -- Of a read: the state before, the file's name, what was answered, and the state after.

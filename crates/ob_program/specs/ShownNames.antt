@@ -3,7 +3,7 @@ use Rattle.std.specs.Prelude.{ℕ, ◌/◌, ◌%◌, ◌==◌, ◌||◌, Bool, [
 use Rattle.std.specs.Char.{digit_char, encode_utf8, is_control}
 use Rattle.std.specs.List.{flat_map}
 use Rattle.std.specs.Str.{chars}
-use Rattle.ob_program.specs.CommandLine.{Text}
+use Rattle.ob_command.specs.CommandLine.{Text}
 
 -- a control character, or a backslash
 abbrev pub is_written_out : ℕ → Bool

@@ -2,12 +2,12 @@
 
 ghost use Rattle.std.specs.Prelude.{◌≡◌, ◌∷◌, [], ℕ, List, suc, false, take, IfOk, map, codes};
 ghost use Rattle.ob_program.specs.Answers.{IsAnswer, IsSeqAnswer, IsSeqOutcome, IsUnreadable};
-ghost use Rattle.ob_program.specs.CommandLine.{Text, is_option, request};
-ghost use Rattle.ob_program.specs.Commands.{request_of};
+ghost use Rattle.ob_command.specs.CommandLine.{Text, is_option, request};
+ghost use Rattle.ob_command.specs.Commands.{request_of};
 ghost use Rattle.ob_program.specs.SequentialRun.{is_want_of_memory};
 
 use crate::answered::Answer;
-use crate::command::{Command, Stop, read_command};
+use ob_command::command::{Command, Stop, read_command};
 use crate::fault_line::fault_line;
 use crate::files::{FileFault, Files};
 use crate::sequential::{SeqTextFault, seq_text};

@@ -4,7 +4,6 @@
 
 pub mod answer;
 pub mod answered;
-mod command;
 pub mod fault_line;
 pub mod files;
 pub mod reply_lines;

@@ -8,7 +8,7 @@ ghost use Rattle.ob_syntax.specs.PrintedAgain.{LeadsTo};
 ghost use Rattle.ob_syntax.specs.ReadFaults.{IsReadFault, IsWant};
 ghost use Rattle.ob_grammar.specs.View.{module_of};
 
-use ob_parser::module::Module;
+use ob_grammar::module::Module;
 use ob_parser::parser::{ParseFault, parse};
 use ob_scan::scanner::LONGEST_TEXT;
 use ob_scan::{ScanFault, scan};

@@ -81,7 +81,8 @@ fn expect_expression(rt: &impl Abort, alloc: Global, text: &str, value: Expr) ->
         value,
     };
     let want = module_with(alloc, vec![in alloc; statement]?, end_place)?;
-    assert_eq!(rt; module_of(alloc, whole.as_str())?, want);
+    let tree = module_of(alloc, whole.as_str())?;
+    assert!(rt; tree == want);
     Ok(())
 }
 
@@ -233,10 +234,9 @@ fn reads_statements(rt: HostRuntime) -> Result<(), Fail> {
     ]?;
     let text = "MODULE M; BEGIN IF a THEN x := 1 ELSIF b THEN P ELSE END; P(); P(1, d);; \
         WHILE c DO END; y.f[2] := 3 END M.";
-    assert_eq!(rt;
-        module_of(alloc, text)?,
-        module_with(alloc, statements, 105)?
-    );
+    let tree = module_of(alloc, text)?;
+    let want = module_with(alloc, statements, 105)?;
+    assert!(rt; tree == want);
     Ok(())
 }
 
@@ -330,6 +330,7 @@ fn reads_declarations(rt: HostRuntime) -> Result<(), Fail> {
     };
     let text = "MODULE M; CONST c = 1; TYPE T = ARRAY 2 OF RECORD ; a, b: U END; VAR x, y: T; \
         PROCEDURE P*(u: T; VAR v, w: T); PROCEDURE Q; END Q; BEGIN END P; END M.";
-    assert_eq!(rt; module_of(alloc, text)?, want);
+    let tree = module_of(alloc, text)?;
+    assert!(rt; tree == want);
     Ok(())
 }

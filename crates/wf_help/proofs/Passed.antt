@@ -24,7 +24,7 @@ use Rattle.wf_commits.proofs.Seen.{served_pending}
 use Rattle.wf_commits.proofs.Steps.{member, flips_is}
 use Rattle.wf_commits.proofs.Numbers.{order_below}
 use Rattle.wf_help.specs.Helps.{words_fetched, AllFetched}
-use Rattle.wf_help.proofs.Blocks.{same_words}
+use Rattle.wf_table.proofs.Words.{same_words}
 use Rattle.wf_help.proofs.Begun.{open_begun}
 
 -- a process that is not settled has announced its open call

@@ -1,6 +1,6 @@
 use Rattle.std.proofs.Common.{◌≡◌, List, ℕ, map, refl, sym, subst}
 use Rattle.ob_program.specs.Answers.{IsAnswer}
-use Rattle.ob_program.specs.CommandLine.{Request, Unclear, request}
+use Rattle.ob_command.specs.CommandLine.{Request, Unclear, request}
 use Rattle.ob_program.proofs.PlainNames.{answers_names}
 use Rattle.ob_program.proofs.answer.answer.Goals as goal
 

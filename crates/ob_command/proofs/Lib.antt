@@ -1,0 +1,4 @@
+pub mod ClapWord
+pub mod ClapWalk
+pub mod Readings
+pub mod PlainWords

@@ -1,0 +1,153 @@
+//! The command line.
+
+ghost use Rattle.std.specs.Prelude.{◌≡◌, false, IfOk, IsSome, map, codes};
+ghost use Rattle.clap.specs.Words.{app_of, first_value, found_of, kind_of, rule_of};
+ghost use Rattle.clap.specs.declared.builder.command.Command.TheViews.{out-Command as fields_of};
+ghost use Rattle.ob_command.specs.ClapCommand.{name_rule, obl0_app, seq_app};
+ghost use Rattle.ob_command.specs.CommandLine.{command_request, is_alone, request};
+ghost use Rattle.ob_command.specs.Commands.{IsReading, IsSeqOf, IsStopOf};
+ghost use Rattle.ob_command.specs.declared.command.Stop.TheVariants.{NoMemory};
+
+use clap::error::ErrorKind;
+use clap::{Arg, ArgMatches};
+use std::alloc::{AllocError, Global};
+
+/// What the words ask for.
+#[derive(Clone, Copy, Debug, PartialEq, Eq)]
+pub enum Command<'a> {
+    /// `seq MODULE SCRIPT`: the calls of a script on a module, one at a time. The names are of files.
+    Seq {
+        module_name: &'a str,
+        script_name: &'a str,
+    },
+}
+
+/// Why there is no command to obey.
+#[derive(Debug, Drop)]
+pub enum Stop {
+    /// Help was asked for: its text.
+    Help(String),
+    /// The version was asked for.
+    Version,
+    /// The words are no command: what is wrong with them.
+    Unclear(String),
+    /// Want of memory.
+    NoMemory,
+}
+
+impl From<AllocError> for Stop {
+    ghost from_gives = { λ _ e. e ≡ NoMemory };
+
+    fn from(_: AllocError) -> Stop {
+        Stop::NoMemory
+    }
+}
+
+/// What stands below the help.
+const AFTER_HELP: &str = "\
+`help` and `--version` are understood alone.
+Nothing is compiled yet: the module is run by an interpreter of its tree.
+docs/FAULTS.md lists the faults, such as S3 or C12.";
+
+/// Words that ask for help.
+const ASKING_HELP: &[&str] = &["--help"];
+
+/// The command that the words behind the program's name ask for.
+pub fn read_command<'a>(alloc: Global, words: &'a [&'a str]) -> Result<Command<'a>, Stop>
+    ensures { IsReading (request (map (λ word. word.now) words.entry.now)) result }
+{
+    if is_alone(words, "help") {
+        read_words(alloc, ASKING_HELP)
+    } else if is_alone(words, "--version") || is_alone(words, "-V") {
+        Err(Stop::Version)
+    } else {
+        read_words(alloc, words)
+    }
+}
+
+/// Whether there is this word alone.
+fn is_alone(words: &[&str], word: &str) -> bool
+    ensures { result ≡ is_alone word.now (map (λ w. w.now) words.now) }
+{
+    match words {
+        [other] => *other == word,
+        _ => false,
+    }
+}
+
+/// The command that words ask for, in the reading of `clap`.
+fn read_words<'a>(alloc: Global, words: &'a [&'a str]) -> Result<Command<'a>, Stop>
+    ensures { IsReading (command_request (map (λ word. word.now) words.entry.now)) result }
+{
+    let matches = match command_line(alloc)?.try_get_matches_from(words) {
+        Ok(matches) => matches,
+        Err(error) => return Err(stop_of(alloc, &error)?),
+    };
+    match matches.subcommand_matches("seq") {
+        Some(seq) => Ok(seq_command(seq)),
+        None => unreachable!(),
+    }
+}
+
+/// The command `seq`, of the matches of its words.
+fn seq_command<'a>(matches: &ArgMatches<'a>) -> Command<'a>
+    requires module { IsSome (first_value (found_of matches.now) (codes "MODULE")) }
+    requires script { IsSome (first_value (found_of matches.now) (codes "SCRIPT")) }
+    ensures { IsSeqOf (found_of matches.now) result }
+{
+    Command::Seq {
+        module_name: matches.get_str("MODULE").unwrap(),
+        script_name: matches.get_str("SCRIPT").unwrap(),
+    }
+}
+
+/// What a parse without matches stops for.
+fn stop_of(alloc: Global, error: &clap::Error) -> Result<Stop, AllocError>
+    ensures { IfOk result (IsStopOf (kind_of error.now)) }
+{
+    match error.kind() {
+        ErrorKind::OutOfMemory => Ok(Stop::NoMemory),
+        ErrorKind::DisplayHelp => Ok(Stop::Help(error.to_string(alloc)?)),
+        _ => Ok(Stop::Unclear(error.to_string(alloc)?)),
+    }
+}
+
+/// The command line as `clap` reads it.
+fn command_line<'a>(alloc: Global) -> Result<clap::Command<'a>, AllocError>
+    ensures { IfOk result (λ c. app_of c ≡ obl0_app) }
+{
+    clap::Command::new(alloc, "obl0")
+        .bin_name("obl0")?
+        .about("Runs a module of Oberon-0")
+        .after_help(AFTER_HELP)
+        .no_binary_name(true)
+        .disable_help_subcommand(true)
+        .subcommand_required(true)
+        .arg_required_else_help(true)
+        .subcommand(seq_line(alloc)?)
+}
+
+/// The words behind `seq`.
+fn seq_line<'a>(alloc: Global) -> Result<clap::Command<'a>, AllocError>
+    ensures app { IfOk result (λ c. app_of c ≡ seq_app) }
+    ensures local { IfOk result (λ c. (fields_of c).has_globals ≡ false) }
+{
+    let module = file_name(alloc, "MODULE", "The file of the module's text");
+    let script = file_name(
+        alloc,
+        "SCRIPT",
+        "The file of the calls, one a line: PROCESS PROCEDURE ARGUMENTS",
+    );
+    clap::Command::new(alloc, "seq")
+        .about("Makes the calls of a script one at a time and prints the reply to each")
+        .arg(module)?
+        .arg(script)
+}
+
+/// A word that has to be there, the name of a file.
+fn file_name<'a>(alloc: Global, id: &'a str, help: &'a str) -> Arg<'a>
+    ensures rule { rule_of result ≡ name_rule id.entry.now }
+    ensures local { result.global ≡ false }
+{
+    Arg::new(alloc, id).required(true).help(help)
+}

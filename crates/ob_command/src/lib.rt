@@ -1,0 +1,6 @@
+//! The command line of the program: what its words ask for.
+#![tactic(auto)]
+
+pub mod command;
+
+pub use command::{Command, Stop, read_command};

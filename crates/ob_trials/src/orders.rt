@@ -1,0 +1,170 @@
+//! Histories of a counter, with orders that are legal and others.
+
+ghost use Rattle.std.specs.Prelude.{◌≡◌, ◌+◌, ◌*◌, ◌<◌, ◌^◌, OnOk};
+ghost use Rattle.wf_history.specs.History.{own_events, in_turn, IsHistory};
+
+use ob_check::checker::check;
+use ob_check::program::Scalar;
+use ob_mean::call::{Call, Reply};
+use ob_mean::opening::opening;
+use ob_parser::parser::parse;
+use ob_scan::scan;
+use smallvec::SmallVec;
+use std::alloc::Global;
+use std::test::Fail;
+use wf_history::event::{CallId, Event};
+use wf_history::history::History;
+use wf_history::order::{OrderFault, check_order};
+
+const COUNTER: &str = "MODULE Counter; VAR x: INTEGER;
+PROCEDURE Inc*; BEGIN x := x + 1 END Inc;
+PROCEDURE Get*(VAR v: INTEGER); BEGIN v := x END Get;
+PROCEDURE Add*(k: INTEGER); BEGIN x := x + k END Add;
+END Counter.";
+
+const INC: usize = 0;
+
+const GET: usize = 1;
+
+const ADD: usize = 2;
+
+fn id(process: usize, number: u64) -> CallId
+    ensures { result ≡ record { process = process; number = number } }
+{
+    CallId { process, number }
+}
+
+fn call(alloc: Global, proc: usize) -> Call {
+    Call {
+        proc,
+        args: SmallVec::new(alloc),
+    }
+}
+
+fn answer(alloc: Global, value: i32) -> Result<Reply, Fail> {
+    let mut values = SmallVec::new(alloc);
+    values.push(Scalar::Int(value))?;
+    Ok(Reply::Done(values))
+}
+
+/// Process 0 has made so many calls; it makes one more.
+fn made(history: &mut History, done: u64, call: Call, reply: Reply) -> Result<(), Fail>
+    requires whole { IsHistory history.old }
+    requires turns { own_events 0 history.old ≡ in_turn 1 (2 * done) }
+    requires fits { done + 1 < 2 ^ 64 }
+    ensures whole { OnOk result (IsHistory history.new) }
+    ensures turns { OnOk result (own_events 0 history.new ≡ in_turn 1 (2 * (done + 1))) }
+{
+    let id = id(0, done + 1);
+    history.push(Event::Begin(id, call))?;
+    history.push(Event::End(id, reply))?;
+    Ok(())
+}
+
+/// One process: so many calls of Inc, and a Get that answers this value.
+fn counted(alloc: Global, times: u64, value: i32) -> Result<History, Fail>
+    requires { times + 1 < 2 ^ 64 }
+{
+    let mut history = History::new(alloc);
+    for done in 0..times {
+        made(
+            &mut history,
+            done,
+            call(alloc, INC),
+            Reply::Done(SmallVec::new(alloc)),
+        )?;
+    }
+    made(&mut history, times, call(alloc, GET), answer(alloc, value)?)?;
+    Ok(history)
+}
+
+/// The answer of the checker for the counter.
+fn verdict(
+    alloc: Global,
+    history: &History,
+    order: &[CallId],
+) -> Result<Result<(), OrderFault>, Fail> {
+    let tokens = scan(alloc, COUNTER.as_bytes())?;
+    let checked = check(alloc, parse(alloc, &tokens)?)?;
+    let start = opening(alloc, &checked, 1)?;
+    Ok(check_order(alloc, history, order, &checked, &start, 1))
+}
+
+#[test]
+fn an_order_is_legal_or_has_one_fault(rt: HostRuntime) -> Result<(), Fail> {
+    let alloc = rt.alloc();
+    let history = counted(alloc, 2, 2)?;
+    let legal = [id(0, 1), id(0, 2), id(0, 3)];
+    assert_eq!(rt; verdict(alloc, &history, &legal)?, Ok(()));
+    let swapped = [id(0, 2), id(0, 1), id(0, 3)];
+    assert_eq!(rt;
+        verdict(alloc, &history, &swapped)?,
+        Err(OrderFault::TooEarly(id(0, 2)))
+    );
+    let short = [id(0, 1), id(0, 3)];
+    assert_eq!(rt;
+        verdict(alloc, &history, &short)?,
+        Err(OrderFault::Missing(id(0, 2)))
+    );
+    let twice = [id(0, 1), id(0, 1), id(0, 2), id(0, 3)];
+    assert_eq!(rt;
+        verdict(alloc, &history, &twice)?,
+        Err(OrderFault::Unknown(id(0, 1)))
+    );
+    let strange = [id(0, 1), id(0, 2), id(1, 1)];
+    assert_eq!(rt;
+        verdict(alloc, &history, &strange)?,
+        Err(OrderFault::Unknown(id(1, 1)))
+    );
+    let other = counted(alloc, 2, 3)?;
+    assert_eq!(rt;
+        verdict(alloc, &other, &legal)?,
+        Err(OrderFault::OtherReply(id(0, 3)))
+    );
+    Ok(())
+}
+
+#[test]
+fn a_trap_leaves_the_state(rt: HostRuntime) -> Result<(), Fail> {
+    let alloc = rt.alloc();
+    let order = [id(0, 1), id(0, 2), id(0, 3)];
+    for trap in 1..3 {
+        let mut most = call(alloc, ADD);
+        most.args.push(Scalar::Int(i32::MAX))?;
+        let mut history = History::new(alloc);
+        made(
+            &mut history,
+            0,
+            call(alloc, INC),
+            Reply::Done(SmallVec::new(alloc)),
+        )?;
+        made(&mut history, 1, most, Reply::Trap(trap))?;
+        made(&mut history, 2, call(alloc, GET), answer(alloc, 1)?)?;
+        let wanted = if trap == 1 {
+            Ok(())
+        } else {
+            Err(OrderFault::OtherReply(id(0, 2)))
+        };
+        assert_eq!(rt; verdict(alloc, &history, &order)?, wanted);
+    }
+    Ok(())
+}
+
+#[test]
+fn a_long_history_is_checked(rt: HostRuntime) -> Result<(), Fail> {
+    let alloc = rt.alloc();
+    let history = counted(alloc, 10000, 10000)?;
+    let mut order = Vec::new(alloc);
+    for number in 1..10002 {
+        order.push(id(0, number))?;
+    }
+    assert_eq!(rt; verdict(alloc, &history, &order)?, Ok(()));
+    let mut late = Vec::new(alloc);
+    late.push(id(0, 10001))?;
+    for number in 1..10001 {
+        late.push(id(0, number))?;
+    }
+    let fault = OrderFault::TooEarly(id(0, 10001));
+    assert_eq!(rt; verdict(alloc, &history, &late)?, Err(fault));
+    Ok(())
+}
