@@ -5,8 +5,8 @@ ghost use Rattle.ob_typing.specs.Declarations.{WellTyped};
 ghost use Rattle.ob_checked.specs.View.{program_of};
 
 use crate::program::Program;
-use ob_grammar::tree::ModuleTree;
 use ob_grammar::module::Module;
+use ob_grammar::tree::ModuleTree;
 
 /// A module that is well typed, with its tree unchanged and the program that it is well typed as.
 #[derive(Drop)]
