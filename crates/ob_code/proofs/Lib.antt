@@ -1,8 +1,8 @@
-mod Tops
+pub mod Tops
 mod Variants
 mod Handed
 mod Listings
-mod Over
+pub mod Over
 mod Division
-mod Steps
-mod Memory
+pub mod Steps
+pub mod Memory

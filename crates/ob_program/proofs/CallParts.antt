@@ -8,21 +8,21 @@ use Rattle.ob_check.specs.Program.{Program}
 use Rattle.ob_check.specs.Exports.{Signature}
 use Rattle.ob_mean.specs.Object.{ObjectCall, Reply, AreReplies}
 use Rattle.ob_mean.specs.Faults.{NeedsMoreAt}
-use Rattle.ob_mean.specs.View.{call_of}
-use Rattle.ob_program.specs.declared.script.ScriptCall.{ScriptCall}
-use Rattle.ob_program.specs.Script
-use Rattle.ob_program.specs.Script.{Word, AreLines, none, skipped, call, Makes, makes}
-use Rattle.ob_program.specs.ScriptView.{script_call_of}
+use Rattle.ob_text.specs.declared.script.ScriptCall.{ScriptCall}
+use Rattle.ob_text.specs.Script
+use Rattle.ob_text.specs.Words.{Word}
+use Rattle.ob_text.specs.Script.{AreLines, none, skipped, call, Makes, makes}
+use Rattle.ob_text.specs.ScriptView.{script_call_of}
 use Rattle.ob_program.specs.ReplyLines.{reply_lines, count_of}
-use Rattle.ob_program.specs.SequentialRun.{NeedsMoreTurnsIn, PrintsReplies, turns}
+use Rattle.ob_program.specs.SequentialRun.{NeedsMoreTurnsIn, PrintsReplies, object_call, turns}
 
 callers_in : (xs : List ScriptCall) → map (λ c. c.process) (map script_call_of xs) ≡ map (λ c. c.process) xs
 callers_in [] = refl
 callers_in (x ∷ xs) = ap (λ ps. x.process ∷ ps) (callers_in xs)
 
-calls_in : (xs : List ScriptCall) → map (λ c. c.call) (map script_call_of xs) ≡ map (λ c. call_of c.call) xs
+calls_in : (xs : List ScriptCall) → map object_call (map script_call_of xs) ≡ map (λ c. object_call (script_call_of c)) xs
 calls_in [] = refl
-calls_in (x ∷ xs) = ap (λ cs. call_of x.call ∷ cs) (calls_in xs)
+calls_in (x ∷ xs) = ap (λ cs. object_call (script_call_of x) ∷ cs) (calls_in xs)
 
 -- each caller of a script's calls is one of the processes
 Makes-below : (signatures : List Signature) (processes : ℕ) (line : List Word) (c : Script.ScriptCall) → Makes signatures processes line c → c.process < processes
@@ -48,7 +48,7 @@ pub callers_all_below : (xs : List ScriptCall) (callers : List ℕ) → callers 
 callers_all_below xs callers apart processes h =
     rw apart (All-map (λ (p : ℕ). p < processes) (λ (c : ScriptCall). c.process) xs h)
 
-module _ (program : Program) (xs : List ScriptCall) (callers : List ℕ) (calls : List ObjectCall) (apart : callers ≡ map (λ c. c.process) xs) (apart' : calls ≡ map (λ c. call_of c.call) xs) where
+module _ (program : Program) (xs : List ScriptCall) (callers : List ℕ) (calls : List ObjectCall) (apart : callers ≡ map (λ c. c.process) xs) (apart' : calls ≡ map (λ c. object_call (script_call_of c)) xs) where
   pub prints : (replies : List Reply) (output : List ℕ) → AreReplies program turns calls replies → output ≡ reply_lines [] callers replies →
       PrintsReplies program (map script_call_of xs) output
   prints replies output replied printed =
@@ -62,7 +62,7 @@ module _ (program : Program) (xs : List ScriptCall) (callers : List ℕ) (calls 
   needs_more_within position more =
       let within = slice_get_within calls position more.call more.here in
       let as_many : length callers ≡ length xs = ap length apart ∙ length-map xs (λ (c : ScriptCall). c.process) in
-      let as_many' : length calls ≡ length xs = ap length apart' ∙ length-map xs (λ (c : ScriptCall). call_of c.call) in
+      let as_many' : length calls ≡ length xs = ap length apart' ∙ length-map xs (λ (c : ScriptCall). object_call (script_call_of c)) in
       omega arith
 
   pub needs_more : (position caller number : ℕ) → NeedsMoreAt program turns calls position → caller ≡ get_or callers position caller →

@@ -1,11 +1,5 @@
-pub mod Numerals
-pub mod Names
-pub mod ExportSearch
-pub mod ArgumentReading
-pub mod ScriptReading
 pub mod Printing
 pub mod CallParts
 pub mod PlainNames
 pub mod Beginnings
-pub mod OneScript
 pub mod NoRun

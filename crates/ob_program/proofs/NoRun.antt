@@ -17,14 +17,13 @@ use Rattle.ob_mean.specs.declared.opening.OpenFault.{OpenFault}
 use Rattle.ob_mean.specs.declared.opening.OpenFault.TheVariants as Open
 use Rattle.ob_mean.specs.Faults.{IsOpenFault, NeedsMoreAt}
 use Rattle.ob_mean.specs.Object.{AreReplies, Effect, Ends, IsOpening, NeedsMore, ObjectCall, Reply, State, effect, on_end, one_at_a_time, opening}
-use Rattle.ob_program.specs.Script.{IsScript, IsScriptFault, ScriptCall}
-use Rattle.ob_program.specs.declared.script.ScriptFault.{ScriptFault}
-use Rattle.ob_program.specs.declared.script.ScriptFault.TheVariants as ScriptFaults
+use Rattle.ob_text.specs.Script.{IsScript, IsScriptFault, ScriptCall}
+use Rattle.ob_text.specs.declared.script.ScriptFault.{ScriptFault}
+use Rattle.ob_text.specs.declared.script.ScriptFault.TheVariants as ScriptFaults
 use Rattle.ob_program.specs.SequentialParts.{IsReplyFault, of_open, of_parse}
-use Rattle.ob_program.specs.SequentialRun.{HasNoRun, IsNumbered, IsSequentialRun, NeedsMoreTurnsIn, PrintsReplies, processes, turns}
+use Rattle.ob_program.specs.SequentialRun.{HasNoRun, IsNumbered, IsSequentialRun, NeedsMoreTurnsIn, PrintsReplies, object_call, processes, turns}
 use Rattle.ob_program.specs.declared.sequential.SeqTextFault.{SeqTextFault}
 use Rattle.ob_program.specs.declared.sequential.SeqTextFault.TheVariants as Faults
-use Rattle.ob_program.proofs.OneScript.{one_script}
 
 -- ---- no module
 
@@ -138,7 +137,7 @@ module _ (program : Program) where
   no_prints calls (Faults.Open (Open.Trap k)) h numbered output prints = let is = prints.replied.opens.1 in cc
   no_prints calls (Faults.Open Open.NeedsMore) h numbered output prints = let is = prints.replied.opens.1 in cc
   no_prints calls (Faults.NeedsMore process number) h numbered output prints =
-      no_replies_more (map (λ c. c.call) calls) h.position prints.replies h.more prints.replied
+      no_replies_more (map object_call calls) h.position prints.replies h.more prints.replied
   no_prints calls Faults.NoMemory h numbered output prints = let bad : true ≡ false = numbered.0 in cc
 
 -- ---- no run of a module of this program
@@ -151,11 +150,11 @@ module _ (text script : List ℕ) (program : Program) (alone : (other : Program)
   prints_of : {output : List ℕ} (run : IsSequentialRun text script output) → PrintsReplies program run.calls output
   prints_of {output} run = subst (λ (p : Program). PrintsReplies p run.calls output) (alone run.program run.is_module) run.prints
 
-  pub no_run_replies : (calls : List ScriptCall) (e : SeqTextFault) → IsScript (signatures program) processes script calls
+  pub no_run_replies : (calls : List ScriptCall) (e : SeqTextFault) → ((others : List ScriptCall) → IsScript (signatures program) processes script others → others ≡ calls)
       → IsReplyFault program calls e → IsNumbered e → HasNoRun text script
-  no_run_replies calls e read h numbered output run =
+  no_run_replies calls e only h numbered output run =
       no_prints program calls e h numbered output
-      (subst (λ (cs : List ScriptCall). PrintsReplies program cs output) (one_script (signatures program) processes script (calls_of run) read) (prints_of run))
+      (subst (λ (cs : List ScriptCall). PrintsReplies program cs output) (only run.calls (calls_of run)) (prints_of run))
 
   pub no_run_opening : (e : OpenFault) → IsOpenFault program turns e → IsNumbered (of_open e) → HasNoRun text script
   no_run_opening e h numbered output run = no_opening program e (prints_of run).replied.state h numbered (prints_of run).replied.opens

@@ -8,8 +8,8 @@ use Rattle.ob_check.specs.declared.checker.CheckFault.{CheckFault}
 use Rattle.ob_check.specs.declared.checker.CheckFault.TheVariants as Check
 use Rattle.ob_mean.specs.declared.opening.OpenFault.{OpenFault}
 use Rattle.ob_mean.specs.declared.opening.OpenFault.TheVariants as Open
-use Rattle.ob_program.specs.declared.script.ScriptFault.{ScriptFault}
-use Rattle.ob_program.specs.declared.script.ScriptFault.TheVariants as Script
+use Rattle.ob_text.specs.declared.script.ScriptFault.{ScriptFault}
+use Rattle.ob_text.specs.declared.script.ScriptFault.TheVariants as Script
 use Rattle.ob_program.specs.declared.sequential.SeqTextFault.{SeqTextFault}
 use Rattle.ob_program.specs.declared.sequential.SeqTextFault.TheVariants as Faults
 use Rattle.ob_command.specs.CommandLine.{Text}

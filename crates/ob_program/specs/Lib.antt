@@ -1,8 +1,5 @@
-pub mod Script
 pub mod ReplyLines
 pub mod SequentialRun
-pub mod ScriptView
-pub mod ScriptLine
 pub mod SequentialParts
 pub mod Answers
 pub mod FaultLines

@@ -1,16 +1,8 @@
 -- The lines that replies are printed as.
-use Rattle.std.specs.Prelude.{ℕ, suc, ◌==◌, true, false, List, [], ◌∷◌, ◌++◌, length, filter, codes, decimal}
-use Rattle.std.specs.Fmt.{signed_decimal}
+use Rattle.std.specs.Prelude.{ℕ, suc, ◌==◌, List, [], ◌∷◌, ◌++◌, length, filter, codes, decimal}
 use Rattle.std.specs.List.{flat_map}
-use Rattle.ob_check.specs.declared.program.Scalar.{Scalar}
-use Rattle.ob_check.specs.declared.program.Scalar.TheVariants.{Int, Bool}
 use Rattle.ob_mean.specs.Object.{Reply, Answers, Trapped}
-
--- a number in decimal digits with a `-` below 0, TRUE or FALSE
-abbrev pub scalar_text : Scalar → List ℕ
-scalar_text (Int z) = signed_decimal z
-scalar_text (Bool true) = codes "TRUE"
-scalar_text (Bool false) = codes "FALSE"
+use Rattle.ob_text.specs.Values.{scalar_text}
 
 -- what stands behind the call's id
 abbrev pub reply_text : Reply → List ℕ

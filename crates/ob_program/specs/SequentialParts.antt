@@ -10,7 +10,7 @@ use Rattle.ob_check.specs.declared.checker.CheckFault.TheVariants as Check
 use Rattle.ob_mean.specs.declared.opening.OpenFault.{OpenFault}
 use Rattle.ob_mean.specs.declared.opening.OpenFault.TheVariants as Open
 use Rattle.ob_mean.specs.Faults.{IsOpenFault}
-use Rattle.ob_program.specs.Script.{ScriptCall}
+use Rattle.ob_text.specs.Script.{ScriptCall}
 use Rattle.ob_program.specs.SequentialRun.{NeedsMoreTurnsIn, turns}
 use Rattle.ob_program.specs.declared.sequential.SeqTextFault.{SeqTextFault}
 use Rattle.ob_program.specs.declared.sequential.SeqTextFault.TheVariants as Faults

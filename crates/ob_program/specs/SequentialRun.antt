@@ -5,15 +5,15 @@ use Rattle.ob_check.specs.Program.{Program}
 use Rattle.ob_parser.specs.ParseFaults.{IsParseFaultOf}
 use Rattle.ob_check.specs.ModuleText.{IsCheckFaultOf, IsModule}
 use Rattle.ob_check.specs.Exports.{signatures}
-use Rattle.ob_mean.specs.Object.{Reply, State, IsOpening, AreReplies}
+use Rattle.ob_mean.specs.Object.{ObjectCall, Reply, State, IsOpening, AreReplies}
 use Rattle.ob_mean.specs.Faults.{IsOpenFault, NeedsMoreAt}
-use Rattle.ob_program.specs.Script.{ScriptCall, IsScript, IsScriptFault}
+use Rattle.ob_text.specs.Script.{ScriptCall, IsScript, IsScriptFault}
 use Rattle.ob_program.specs.ReplyLines.{reply_lines, count_of}
 use Rattle.ob_scan.specs.declared.fault.ScanFault.TheVariants as Scan
 use Rattle.ob_parser.specs.declared.parser.ParseFault.TheVariants as Parse
 use Rattle.ob_check.specs.declared.checker.CheckFault.TheVariants as Check
 use Rattle.ob_mean.specs.declared.opening.OpenFault.TheVariants as Open
-use Rattle.ob_program.specs.declared.script.ScriptFault.TheVariants as Script
+use Rattle.ob_text.specs.declared.script.ScriptFault.TheVariants as Script
 use Rattle.ob_program.specs.declared.sequential.SeqTextFault.{SeqTextFault}
 use Rattle.ob_program.specs.declared.sequential.SeqTextFault.TheVariants as Faults
 
@@ -25,11 +25,15 @@ turns = 1000000
 abbrev pub processes : ℕ
 processes = 16
 
+-- what a script's call asks of the object
+abbrev pub object_call : ScriptCall → ObjectCall
+object_call c = record { export = c.export; arguments = c.arguments }
+
 -- the printed bytes are the E lines of the replies to a script's calls, made one at a time in line order from the opening
 -- state
 pub record PrintsReplies (program : Program) (calls : List ScriptCall) (output : List ℕ) : Type 0 where
   pub replies : List Reply
-  pub replied : AreReplies program turns (map (λ c. c.call) calls) replies
+  pub replied : AreReplies program turns (map object_call calls) replies
   pub printed : output ≡ reply_lines [] (map (λ c. c.process) calls) replies
 
 -- the printed bytes are the E lines of the replies that the meaning of the module gives to the script's calls
@@ -58,7 +62,7 @@ pub record IsScriptFaultOf (text script : List ℕ) (fault : _) : Type 0 where
 pub record NeedsMoreTurnsIn (program : Program) (calls : List ScriptCall) (process number : ℕ) : Type 0 where
   pub position : ℕ
   pub call : ScriptCall
-  pub more : NeedsMoreAt program turns (map (λ c. c.call) calls) position
+  pub more : NeedsMoreAt program turns (map object_call calls) position
   pub here : slice_get calls position ≡ Some call
   pub by : call.process ≡ process
   pub counted : number ≡ suc (count_of process (map (λ c. c.process) (take position calls)))

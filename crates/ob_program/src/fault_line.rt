@@ -3,14 +3,14 @@
 ghost use Rattle.std.specs.Prelude.{◌≡◌, ◌++◌, IfOk, OnOk, codes, decimal, string_bytes};
 ghost use Rattle.ob_program.specs.FaultLines.{at_line, at_place, check_line, fault_line, open_line, parse_line, scan_line, script_line};
 
-use crate::numeral::push_number;
-use crate::script::ScriptFault;
 use crate::sequential::SeqTextFault;
 use ob_check::checker::CheckFault;
 use ob_mean::opening::OpenFault;
 use ob_parser::parser::ParseFault;
 use ob_scan::ScanFault;
 use ob_scan::scanner::LONGEST_TEXT;
+use ob_text::numbers::push_number;
+use ob_text::script::ScriptFault;
 use std::alloc::{AllocError, Global};
 
 /// The line of a fault, without a line feed.

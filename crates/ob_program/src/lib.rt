@@ -6,8 +6,6 @@ pub mod answer;
 pub mod answered;
 pub mod fault_line;
 pub mod files;
-mod numeral;
 pub mod reply_lines;
-pub mod script;
 pub mod sequential;
 pub mod shown_name;

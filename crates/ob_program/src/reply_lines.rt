@@ -3,11 +3,13 @@
 ghost use Rattle.std.specs.Prelude.{◌≡◌, ◌<◌, ◌++◌, [], map, codes, decimal, All, IfOk, OnOk, string_bytes};
 ghost use Rattle.std.specs.List.{flat_map};
 ghost use Rattle.ob_mean.specs.View.{reply_of};
-ghost use Rattle.ob_program.specs.ReplyLines.{scalar_text, reply_text, reply_line, reply_lines};
+ghost use Rattle.ob_program.specs.ReplyLines.{reply_text, reply_line, reply_lines};
+ghost use Rattle.ob_text.specs.Values.{scalar_text};
 
-use crate::numeral::push_number;
 use ob_check::program::Scalar;
 use ob_mean::call::Reply;
+use ob_text::numbers::push_number;
+use ob_text::values::push_value;
 use std::alloc::{AllocError, Global};
 
 /// The lines of replies to the calls of these callers, processes below `processes`.
@@ -63,21 +65,8 @@ fn push_values(text: &mut String, values: &[Scalar]) -> Result<(), AllocError>
 {
     text.push_str(" done")?;
     for value in values {
+        text.push_str(" ")?;
         push_value(text, *value)?;
     }
     Ok(())
-}
-
-/// Appends a space and a value.
-fn push_value(text: &mut String, value: Scalar) -> Result<(), AllocError>
-    ensures { OnOk result (string_bytes text.new ≡ string_bytes text.old ++ (codes " " ++ scalar_text value)) }
-{
-    match value {
-        Scalar::Int(integer) => {
-            text.push_str(" ")?;
-            push_number(text, integer)
-        }
-        Scalar::Bool(true) => text.push_str(" TRUE"),
-        Scalar::Bool(false) => text.push_str(" FALSE"),
-    }
 }

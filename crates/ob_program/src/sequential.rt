@@ -6,12 +6,11 @@ ghost use Rattle.ob_check.specs.ModuleText.{IsModule};
 ghost use Rattle.ob_check.specs.Program.{Program};
 ghost use Rattle.ob_mean.specs.View.{call_of};
 ghost use Rattle.ob_program.specs.ReplyLines.{count_of};
-ghost use Rattle.ob_program.specs.ScriptView.{script_call_of};
 ghost use Rattle.ob_program.specs.SequentialParts.{IsReplyFault};
-ghost use Rattle.ob_program.specs.SequentialRun.{HasNoRun, IsNumbered, IsSequentialRun, IsSeqTextFault, PrintsReplies, TellsMemoryApart};
+ghost use Rattle.ob_program.specs.SequentialRun.{HasNoRun, IsNumbered, IsSequentialRun, IsSeqTextFault, PrintsReplies, TellsMemoryApart, object_call};
+ghost use Rattle.ob_text.specs.ScriptView.{script_call_of};
 
 use crate::reply_lines::print_replies;
-use crate::script::{ScriptCall, ScriptFault, read_script};
 use ob_check::checked::Checked;
 use ob_check::checker::{CheckFault, check};
 use ob_mean::call::Call;
@@ -20,6 +19,7 @@ use ob_mean::sequence::{SeqFault, sequence};
 use ob_parser::parser::{ParseFault, parse};
 use ob_scan::scanner::LONGEST_TEXT;
 use ob_scan::{ScanFault, scan};
+use ob_text::script::{ScriptCall, ScriptFault, read_scripts};
 use std::alloc::{AllocError, AllocFailed, Global};
 use thiserror::Error;
 
@@ -132,8 +132,8 @@ pub fn seq_text(alloc: Global, module: &[u8], script: &[u8]) -> Result<String, S
     ensures too_long { LONGEST_TEXT < length «module».now → result ≡ Err (SeqTextFault.Scan ScanFault.TooLong) }
 {
     let checked = checked_module(alloc, module)?;
-    match read_script(alloc, &checked, PROCESSES, script) {
-        Ok(calls) => replies_text(alloc, &checked, calls),
+    match read_scripts(alloc, &checked, PROCESSES, script) {
+        Ok(scripts) => replies_text(alloc, &checked, scripts.into_calls()),
         Err(ScriptFault::NoMemory) => Err(SeqTextFault::NoMemory),
         Err(fault) => {
             // A fault of the opening goes before one of the script.
@@ -184,13 +184,17 @@ fn replies_text(
 /// The callers and the calls, apart.
 fn split_calls(alloc: Global, calls: Vec<ScriptCall>) -> Result<(Vec<usize>, Vec<Call>), AllocError>
     ensures callers { IfOk result (λ parts. parts.0.items ≡ map (λ c. c.process) calls.items) }
-    ensures calls { IfOk result (λ parts. map call_of parts.1.items ≡ map (λ c. call_of c.call) calls.items) }
+    ensures calls { IfOk result (λ parts. map call_of parts.1.items ≡ map (λ c. object_call (script_call_of c)) calls.items) }
 {
     let mut callers = Vec::with_capacity(alloc, calls.len())?;
     let mut object_calls = Vec::with_capacity(alloc, calls.len())?;
-    for ScriptCall { process, call } in calls {
+    for ScriptCall {
+        process,
+        proc,
+        args,
+    } in calls {
         callers.push(process)?;
-        object_calls.push(call)?;
+        object_calls.push(Call { proc, args })?;
     }
     Ok((callers, object_calls))
 }

@@ -1,9 +1,11 @@
-//! Tests of what no row of the program shows: trees with their places, printed texts, and values that the program doesn't
-//! print. Nothing stands on this crate.
+//! Tests of what no row of the program shows: trees with their places, printed texts, values that the program doesn't
+//! print, and compiled code. Nothing stands on this crate.
 #![tactic(auto)]
 
 #[cfg(test)]
 mod checking;
+#[cfg(test)]
+mod code;
 #[cfg(test)]
 mod nesting;
 #[cfg(test)]

@@ -1,7 +1,7 @@
 pub mod Sums
 pub mod Lowers
 pub mod Bodies
-mod Places
+pub mod Places
 pub mod EachCounts
 pub mod Runs
 pub mod BodyEnds

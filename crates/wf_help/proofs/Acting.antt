@@ -19,7 +19,7 @@ use Rattle.wf_table.specs.Sound.{IsSound}
 use Rattle.wf_commits.specs.Helping.{has_copied, looked_at, IsHelping}
 use Rattle.wf_commits.specs.Commits.{phase, lost_rounds, standing, own_toggles, IsCommitted}
 use Rattle.wf_help.specs.Helps.{IsHelped}
-use Rattle.wf_help.proofs.Blocks.{same_words}
+use Rattle.wf_table.proofs.Words.{same_words}
 use Rattle.wf_help.proofs.Passed.{passed}
 use Rattle.wf_help.proofs.Rows.{Now, Then, own_written, own_refilled, at_check1, at_mine, at_seen, at_fetch, at_check2, at_save, at_enter, at_body, at_undo, at_keep}
 

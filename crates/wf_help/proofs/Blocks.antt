@@ -1,22 +1,15 @@
 -- The words of a block behind a write: variables, replies and toggles.
-use Rattle.std.proofs.Common.{◌≡◌, ◌≢◌, ℕ, suc, ◌+◌, ◌*◌, ◌<◌, ◌≤◌, Bool, true, false, List, [], ◌∷◌, length, set, take, refl, sym, ap, ◌∙◌, arith, cond, inl, inr, int_eq, Decides}
+use Rattle.std.proofs.Common.{◌≡◌, ◌≢◌, ℕ, ◌+◌, ◌*◌, ◌<◌, ◌≤◌, Bool, true, false, List, [], ◌∷◌, length, set, take, refl, sym, ap, ◌∙◌, arith, cond, inl, inr, int_eq, Decides}
 use Rattle.std.specs.Prelude.{ℤ, pos}
 use Rattle.std.proofs.Math.Nat.{mul-le-mul_right}
 use Rattle.std.proofs.lemmas.Bool.{cases_lt}
 use Rattle.std.proofs.lemmas.Bool.Decides.{Decides-int_eq}
 use Rattle.std.proofs.lemmas.List.{get_or-set_same, get_or-set_other, take-set-le}
-use Rattle.ll_cell.specs.Cell.{word_at, refilled}
+use Rattle.ll_cell.specs.Cell.{refilled}
 use Rattle.wf_table.specs.declared.process.Sizes.{Sizes}
 use Rattle.wf_table.specs.Table.{part, toggle_place, toggle_in, inverted}
 use Rattle.wf_table.proofs.Words.{at_toggle, refilled_behind}
 use Rattle.wf_help.specs.Contents.{reply_word}
-
--- words that are all the same
-pub same_words : (xs ys : List ℤ) → length xs ≡ length ys → ((k : ℕ) → k < length xs → word_at xs k ≡ word_at ys k) → xs ≡ ys
-same_words [] [] e h = refl
-same_words [] (y ∷ ys) e h = absurd (omega (arith, e))
-same_words (x ∷ xs) [] e h = absurd (omega (arith, e))
-same_words (x ∷ xs) (y ∷ ys) e h = let first = h 0 (omega arith) in let rest = same_words xs ys (omega (arith, e)) (λ k lt. h (suc k) (omega (arith, lt))) in cc
 
 -- the first words are written anew
 pub take_refilled : (block ws : List ℤ) → length ws ≤ length block → take (length ws) (refilled block ws) ≡ ws

@@ -2,9 +2,9 @@ pub mod Alones
 pub mod Orders
 pub mod Ids
 mod Others
-mod Blocks
+pub mod Blocks
 mod Looking
-mod Bodies
+pub mod Bodies
 mod Serving
 mod Making
 pub mod Begun
@@ -14,5 +14,5 @@ mod Acting
 mod Fetched
 mod Steps
 pub mod Runs
-mod Laws
-mod Effects
+pub mod Laws
+pub mod Effects

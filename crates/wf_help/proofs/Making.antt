@@ -26,7 +26,8 @@ use Rattle.wf_help.specs.Helps.{Witness, calls_of, served, made_below, kept_word
 use Rattle.wf_help.proofs.Alones.{alone_lawful}
 use Rattle.wf_help.proofs.Orders.{no_repeats_push, one_more, last_words-push, length_answers}
 use Rattle.wf_help.proofs.Ids.{made_below-same, made_below-push}
-use Rattle.wf_help.proofs.Blocks.{same_words, take_refilled, variables_reply, variables_toggle, variable_reply, variable_toggle, part_variables, other_reply, earlier_reply, this_reply, reply_toggle, other_toggle, inverted_differs}
+use Rattle.wf_table.proofs.Words.{same_words}
+use Rattle.wf_help.proofs.Blocks.{take_refilled, variables_reply, variables_toggle, variable_reply, variable_toggle, part_variables, other_reply, earlier_reply, this_reply, reply_toggle, other_toggle, inverted_differs}
 use Rattle.wf_help.proofs.Bodies.{steps_more, ended_alone}
 use Rattle.wf_help.proofs.Looking.{Packed, below_more}
 use Rattle.wf_help.proofs.Serving.{counts, serves_on}

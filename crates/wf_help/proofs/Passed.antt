@@ -17,14 +17,13 @@ use Rattle.wf_table.specs.Ranges.{index_in}
 use Rattle.wf_table.specs.Table.{Process, open_call}
 use Rattle.wf_table.specs.Object.{State}
 use Rattle.wf_table.specs.Sound.{IsSound}
-use Rattle.wf_commits.specs.Helping.{Settled, Serving, IsPending, IsHelping}
-use Rattle.wf_commits.specs.Order.{applied_count}
+use Rattle.wf_commits.specs.Helping.{Settled, IsPending, IsHelping}
 use Rattle.wf_commits.specs.Commits.{phase, lost_rounds, flips_at, standing, own_toggles, IsCommitted}
 use Rattle.wf_commits.proofs.Seen.{served_pending}
 use Rattle.wf_commits.proofs.Steps.{member, flips_is}
 use Rattle.wf_commits.proofs.Numbers.{order_below}
 use Rattle.wf_help.specs.Helps.{words_fetched, AllFetched}
-use Rattle.wf_help.proofs.Blocks.{same_words}
+use Rattle.wf_table.proofs.Words.{same_words}
 use Rattle.wf_help.proofs.Begun.{open_begun}
 
 -- a process that is not settled has announced its open call

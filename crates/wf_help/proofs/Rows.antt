@@ -25,7 +25,7 @@ use Rattle.wf_commits.specs.Order.{applied_count}
 use Rattle.wf_commits.proofs.Ids.{not_true}
 use Rattle.wf_help.specs.Contents.{RootHolds}
 use Rattle.wf_help.specs.Helps.{Witness, kept_words, Packs}
-use Rattle.wf_help.proofs.Blocks.{same_words}
+use Rattle.wf_table.proofs.Words.{same_words}
 use Rattle.wf_help.proofs.Bodies.{trap_some, not_stuck, length_last}
 use Rattle.wf_help.proofs.Looking.{Packed, moves, passes, copies}
 use Rattle.wf_help.proofs.Serving.{counts, renewed, serves_on, accepts, saves_more, enters}

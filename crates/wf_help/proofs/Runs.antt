@@ -51,7 +51,7 @@ first_root z block some =
 
 module _ {Run : Type 0} (m : Meaning Run) (lawful : List ℤ → Type 0) (fits : ObjectCall → Type 0) where
   -- an object that begins
-  start_helped : (ready : Run → Type 0) (z : Sizes) (block : List ℤ) (ps : List (Process Run)) → 0 < z.processes → length block ≡ z.variables → lawful block → Each (λ _ q. IsIdle ready z q) ps → IsHelped m lawful fits z block (record { cell = cell_at_start z block; processes = ps; records = records_at_start z.processes })
+  pub start_helped : (ready : Run → Type 0) (z : Sizes) (block : List ℤ) (ps : List (Process Run)) → 0 < z.processes → length block ≡ z.variables → lawful block → Each (λ _ q. IsIdle ready z q) ps → IsHelped m lawful fits z block (record { cell = cell_at_start z block; processes = ps; records = records_at_start z.processes })
   start_helped ready z block ps some long opens idle =
       let filled = refilled (replicate (block_words z) (pos 0)) block in
       let room : length block ≤ length (replicate (block_words z) (pos 0)) = omega (arith, long, length-replicate (block_words z) (pos 0)) in
@@ -103,11 +103,11 @@ module _ {Run : Type 0} (m : Meaning Run) (lawful : List ℤ → Type 0) (fits :
         }
 
 module _ {Run : Type 0} (m : Meaning Run) (lawful : List ℤ → Type 0) (fits : ObjectCall → Type 0) (ready : Run → Type 0) (Effect : Effects) (law : IsLawful m lawful fits ready Effect) where
-  step_helped : (z : Sizes) (opening : List ℤ) (s : State Run) (p : ℕ) (o : Option (Process Run)) → slice_get s.processes p ≡ o → IsSound m lawful fits ready z opening s → IsCommitted z s → IsSound m lawful fits ready z opening (step_by m z s p o) → IsHelped m lawful fits z opening s → IsHelped m lawful fits z opening (step_by m z s p o)
+  pub step_helped : (z : Sizes) (opening : List ℤ) (s : State Run) (p : ℕ) (o : Option (Process Run)) → slice_get s.processes p ≡ o → IsSound m lawful fits ready z opening s → IsCommitted z s → IsSound m lawful fits ready z opening (step_by m z s p o) → IsHelped m lawful fits z opening s → IsHelped m lawful fits z opening (step_by m z s p o)
   step_helped z opening s p None at sound committed next h = h
   step_helped z opening s p (Some q) at sound committed next h = step_helps m lawful fits ready Effect law z opening s sound committed h p q at next
 
-  submitted : (z : Sizes) (opening : List ℤ) (s : State Run) (p : ℕ) (call : ObjectCall) (o : Option (Process Run)) → slice_get s.processes p ≡ o → IsSound m lawful fits ready z opening s → IsHelped m lawful fits z opening s → IsHelped m lawful fits z opening (submit_by s p call o)
+  pub submitted : (z : Sizes) (opening : List ℤ) (s : State Run) (p : ℕ) (call : ObjectCall) (o : Option (Process Run)) → slice_get s.processes p ≡ o → IsSound m lawful fits ready z opening s → IsHelped m lawful fits z opening s → IsHelped m lawful fits z opening (submit_by s p call o)
   submitted z opening s p call None at sound h = h
   submitted z opening s p call (Some q) at sound h = submit_helped m lawful fits z opening s p q call at (λ k o e. looked_within z o.label o.registers (sound.in_range k o e).index) h
 

@@ -17,11 +17,9 @@ use Rattle.wf_table.specs.Meaning.{Meaning}
 use Rattle.wf_table.specs.Marks.{applied_in}
 use Rattle.wf_table.specs.Table.{Process, toggle_in}
 use Rattle.wf_commits.specs.Helping.{looked_at}
-use Rattle.wf_commits.specs.Order.{applied_count}
 use Rattle.wf_commits.specs.Commits.{phase}
-use Rattle.wf_help.specs.Alone.{Alone}
-use Rattle.wf_help.specs.Contents.{reply_word, last_words, no_words}
-use Rattle.wf_help.specs.Helps.{holding, holds_variables, at_keep, Witness, calls_of, served, kept_words, HasPassed, HoldsReplies, SavesFront, HasSaved, RunsBody, Undoes, Keeps, Works, IsPacked}
+use Rattle.wf_help.specs.Contents.{reply_word}
+use Rattle.wf_help.specs.Helps.{holding, holds_variables, at_keep, Witness, Works}
 use Rattle.wf_help.proofs.Orders.{upto_all}
 use Rattle.wf_help.proofs.Ids.{made_below-same}
 use Rattle.wf_help.proofs.Looking.{Packed}

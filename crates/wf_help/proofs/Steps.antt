@@ -21,9 +21,8 @@ use Rattle.wf_table.specs.Sound.{IsSound}
 use Rattle.wf_table.specs.Toggles.{flips}
 use Rattle.wf_table.specs.Each.{Each}
 use Rattle.wf_table.proofs.Frame.{each_after}
-use Rattle.wf_commits.specs.Helping.{Standing, IsPending, Phase, Settled, Serving, Looking, has_copied, looked_at, IsHelping}
-use Rattle.wf_commits.specs.Commits.{phase, lost_rounds, standing, own_toggles, flips_at, IsFounded, IsCommitted}
-use Rattle.wf_commits.proofs.Changes.{IsSame}
+use Rattle.wf_commits.specs.Helping.{Standing, IsPending, Settled, Serving, has_copied, looked_at, IsHelping}
+use Rattle.wf_commits.specs.Commits.{phase, lost_rounds, standing, own_toggles, IsFounded, IsCommitted}
 use Rattle.wf_commits.proofs.Seen.{served_pending, made_pending}
 use Rattle.wf_commits.proofs.Steps.{same_root, same_own, same_order, unlinked_stays, row_exchanges, row_applies, private_step, flips_other}
 use Rattle.wf_commits.proofs.Applied.{new_ids, note}

@@ -1,4 +1,3 @@
-//! Help with order: the calls that a process makes for others, and what each root holds.
+//! Help with order: the calls that a process makes for others, and what each root holds. What is defined and proved of it
+//! stands in `specs/` and `proofs/`.
 #![tactic(auto)]
-
-pub mod theorems;

@@ -1,3 +1,4 @@
 mod Scripts
 mod OneStep
 mod Spends
+mod Keeps

@@ -34,9 +34,7 @@ module _ {Run : Type 0} (m : Meaning Run) (z : Sizes) (s : State Run) (p : ℕ) 
   pub number_is : (number : ℕ) (calls : List ObjectCall) (call : ObjectCall) → number ≡ length calls → calls ≡ q.calls ++ call ∷ [] → number ≡ length (script_of s p) + 1
   number_is number calls call a b = a ∙ ap length b ∙ length_push q.calls call ∙ ap (λ (cs : List ObjectCall). length cs + 1) (sym (ap script_by at))
 
-  pub noted_is : (records : Records) (label : Label) (block : ℕ) (event : Option (Event ObjectCall Reply)) (y : Process Run) → records ≡ noted s.records p label block event → label ≡ y.label → block ≡ own_of s.cell p → event ≡ event_at y.label m z s.cell s.processes p y → y ≡ q → records ≡ noted s.records p q.label (own_of s.cell p) (event_at q.label m z s.cell s.processes p q)
-  noted_is records label block event y a b d e f =
-      a ∙ ap (λ (l : Label). noted s.records p l block event) b
-      ∙ ap (λ (k : ℕ). noted s.records p y.label k event) d
-      ∙ ap (λ (k : Option (Event ObjectCall Reply)). noted s.records p y.label (own_of s.cell p) k) e
-      ∙ ap (λ (k : Process Run). noted s.records p k.label (own_of s.cell p) (event_at k.label m z s.cell s.processes p k)) f
+  pub noted_is : (records : Records) (ps : List (Process Run)) (y : Process Run) → records ≡ noted s.records p y.label (own_of s.cell p) (event_at y.label m z s.cell ps p y) → ps ≡ s.processes → y ≡ q → records ≡ noted s.records p q.label (own_of s.cell p) (event_at q.label m z s.cell s.processes p q)
+  noted_is records ps y a b d =
+      a ∙ ap (λ (k : List (Process Run)). noted s.records p y.label (own_of s.cell p) (event_at y.label m z s.cell k p y)) b
+      ∙ ap (λ (k : Process Run). noted s.records p k.label (own_of s.cell p) (event_at k.label m z s.cell s.processes p k)) d

@@ -12,10 +12,16 @@ use Rattle.wf_bound.specs.Spent.{unspent}
 use Rattle.wf_bound.specs.Counted.{EachCounts, spent_of}
 use Rattle.wf_bound.specs.Bound.{StaysWithin}
 use Rattle.wf_commits.specs.Commits.{IsCommitted}
+use Rattle.wf_help.specs.Helps.{IsHelped}
+use Rattle.wf_standing.specs.Stands.{IsStanding}
+use Rattle.wf_standing.specs.Answers.{AreAnswered}
 
 pub record IsKept {Run : Type 0} (m : Meaning Run) (lawful : List ℤ → Type 0) (fits : ObjectCall → Type 0) (ready : Run → Type 0) (z : Sizes) (opening : List ℤ) (s : State Run) (spent : List Spent) : Type 0 where
   pub sound : IsSound m lawful fits ready z opening s
   pub committed : IsCommitted z s
+  pub helped : IsHelped m lawful fits z opening s
+  pub standing : IsStanding z s.cell s.processes s.records
+  pub answered : AreAnswered m opening s.records.history s.records.order
   pub spends : EachCounts (StaysWithin z) unspent spent s.processes
   -- steps in bodies are among all steps
   pub among : Each (λ p _. (spent_of spent p).inside ≤ length (steps_of s.records.schedule)) s.processes

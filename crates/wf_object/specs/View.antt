@@ -1,10 +1,6 @@
--- What a machine, events and answers stand for: no pointers, and vectors as lists.
-use Rattle.std.specs.Prelude.{Option, Some, None, ℤ, List}
-use Rattle.ob_mean.specs.Object.{ObjectCall, Reply}
+-- What a machine and answers stand for: no pointers, and vectors as lists.
+use Rattle.std.specs.Prelude.{ℤ, List}
 use Rattle.ob_mean.specs.View.{reply_of}
-use Rattle.wf_history.specs.declared.event.Event as Rust
-use Rattle.wf_history.specs.History.{Event}
-use Rattle.wf_history.specs.View.{event_of}
 use Rattle.wf_object.specs.declared.records.StepOut.{StepOut}
 use Rattle.wf_object.specs.declared.records.StepOut.TheVariants.{On, Began, Answered, Halted}
 use Rattle.wf_table.specs.declared.process.Sizes.{Sizes}
@@ -18,10 +14,6 @@ pub record Object (E : Type 0) (Run : Type 0) : Type 0 where
   pub opening : List ℤ
   pub state : State Run
   pub spent : List Spent
-
-abbrev pub event_in : Option Rust.Event → Option (Event ObjectCall Reply)
-event_in None = None
-event_in (Some event) = Some (event_of event)
 
 abbrev pub answer_in : StepOut → Answer
 answer_in On = GoesOn

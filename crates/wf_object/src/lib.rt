@@ -11,7 +11,6 @@ mod seen;
 mod spent;
 mod start;
 mod steps;
-pub mod theorems;
 
 pub use engine::Engine;
 pub use fault::NewFault;

@@ -10,9 +10,9 @@ ghost use Rattle.wf_object.specs.View.{answer_in};
 use crate::engine::Engine;
 use crate::fault::NewFault;
 use crate::process::Process;
-use crate::records::{Records, StepOut, answer};
-use crate::seen::seen;
-use crate::spent::count_step;
+use crate::records::{Records, StepOut};
+use crate::seen::note_step;
+use crate::spent::{bound_of, count_step};
 use crate::start::{idle, opened};
 use crate::steps::act;
 use ll_cell::Shared;
@@ -55,12 +55,15 @@ impl<E: Engine> Machine<E> {
     ghost use Rattle.wf_table.specs.Start.{IsStart, sizes_of};
     ghost use Rattle.wf_table.specs.Sound.{IsSound};
     ghost use Rattle.wf_commits.specs.Commits.{IsCommitted};
+    ghost use Rattle.wf_help.specs.Helps.{IsHelped};
+    ghost use Rattle.wf_standing.specs.Stands.{IsStanding};
+    ghost use Rattle.wf_standing.specs.Answers.{AreAnswered};
     ghost use Rattle.wf_bound.specs.Spent.{unspent};
     ghost use Rattle.wf_bound.specs.Counted.{spent_by_step, spent_of};
     ghost use Rattle.wf_bound.specs.Bound.{sharp, bound};
     ghost use Rattle.wf_history.specs.declared.event.CallId.{CallId};
     ghost use Rattle.wf_history.specs.History.{End, Before};
-    ghost use Rattle.wf_history.specs.Legal.{NoRepeats};
+    ghost use Rattle.wf_history.specs.Legal.{NoRepeats, IsLegal};
     ghost use Rattle.ob_mean.specs.Object.{Reply};
 
     /// An object of n processes with a lawful block of variable words; no process has a call yet.
@@ -131,7 +134,9 @@ impl<E: Engine> Machine<E> {
     {
         let process = &self.processes[p];
         let label = process.label;
-        let event = seen(
+        let begins = process.has_more();
+        self.records.few_turns();
+        let out = note_step(
             self.alloc,
             &self.engine,
             self.sizes,
@@ -139,12 +144,8 @@ impl<E: Engine> Machine<E> {
             &self.processes,
             process,
             p,
+            &mut self.records,
         )?;
-        let out = answer(self.alloc, label, &event)?;
-        let block = self.shared.own_block(p);
-        let begins = process.has_more();
-        self.records.few_turns();
-        self.records.note(p, label, block, event)?;
         let spent = &mut self.spent[p];
         count_step(spent, label, begins);
         act(
@@ -161,6 +162,9 @@ impl<E: Engine> Machine<E> {
     pub fn keeps(&self)
         ensures sound { IsSound (E.meaning self.now.engine) (E.lawful self.now.engine) (E.fits self.now.engine) (E.ready self.now.engine) self.now.sizes self.now.opening self.now.state }
         ensures committed { IsCommitted self.now.sizes self.now.state }
+        ensures helped { IsHelped (E.meaning self.now.engine) (E.lawful self.now.engine) (E.fits self.now.engine) self.now.sizes self.now.opening self.now.state }
+        ensures standing { IsStanding self.now.sizes self.now.state.cell self.now.state.processes self.now.state.records }
+        ensures answered { AreAnswered (E.meaning self.now.engine) self.now.opening self.now.state.records.history self.now.state.records.order }
     {
         let _ = &self.alloc;
     }
@@ -194,10 +198,12 @@ impl<E: Engine> Machine<E> {
         self.records.history()
     }
 
-    /// The calls that were applied so far, in order: no call twice, each that ended, and of two of them
-    /// the later one did not end before the earlier one began.
+    /// The calls that were applied so far, in an order that is legal for the history, from the opening to the
+    /// state's words: no call twice, each that ended, of two of them the later one did not end before the earlier
+    /// one began, and made one at a time they have the replies that the history gives.
     pub fn order(&self) -> &[CallId]
         ensures calls { result.now ≡ self.now.state.records.order }
+        ensures legal { ∥ IsLegal (E.effect self.now.engine) self.now.opening self.now.state.records.history result.now (take self.now.sizes.variables (block_of self.now.state.cell self.now.state.cell.root)) ∥₁ }
         ensures once { NoRepeats result.now }
         ensures ended { (id : CallId) (reply : Reply) → Contains self.now.state.records.history (End id reply) → Contains result.now id }
         ensures in_time { (first second third : List CallId) (a b : CallId) → result.now ≡ first ++ a ∷ (second ++ b ∷ third) → ¬ Before self.now.state.records.history b a }
@@ -223,6 +229,13 @@ impl<E: Engine> Machine<E> {
     {
         let spent = &self.spent[p];
         *spent
+    }
+
+    /// The own steps outside bodies that no call exceeds, whatever the other processes do.
+    pub fn bound(&self) -> u128
+        ensures { result ≡ bound self.now.sizes }
+    {
+        bound_of(self.sizes)
     }
 
     /// A copy of the variable words of the root.

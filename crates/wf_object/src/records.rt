@@ -1,15 +1,14 @@
 //! What was seen, in which order calls were applied, and who stepped.
 
-ghost use Rattle.std.specs.Prelude.{◌≡◌, ◌+◌, ◌<◌, ◌^◌, ◌++◌, ◌∷◌, [], Some, OnOk, OnErr, IfOk, length, vec_len, vec_capacity, slice_set, if◌then◌else◌};
-ghost use Rattle.wf_history.specs.History.{IsHistory, Applied};
+ghost use Rattle.std.specs.Prelude.{◌≡◌, ◌+◌, ◌<◌, ◌^◌, ◌++◌, ◌∷◌, [], Some, None, OnOk, OnErr, IfOk, IsOk, length, vec_len, vec_capacity, slice_set, if◌then◌else◌};
+ghost use Rattle.ob_mean.specs.View.{call_of, reply_of};
+ghost use Rattle.wf_history.specs.History.{IsHistory, Begin, Applied, End};
 ghost use Rattle.wf_table.specs.Schedule.{counted};
-ghost use Rattle.wf_table.specs.Object.{answer_by, history_after, order_after, root_marks_after};
 ghost use Rattle.wf_table.specs.Labels.{at_flip};
-ghost use Rattle.wf_object.specs.View.{event_in, answer_in};
+ghost use Rattle.wf_table.specs.declared.process.Label.TheVariants as At;
 
-use crate::copies::copy_reply;
 use ob_grammar::NoMemory;
-use ob_mean::call::Reply;
+use ob_mean::call::{Call, Reply};
 use std::alloc::Global;
 use std::marker::Model;
 use wf_history::{CallId, Event, History};
@@ -65,32 +64,52 @@ impl Records {
         })
     }
 
-    /// One more step of process p, which stands at the label and owns the block, with what is seen.
-    /// Nothing changes where memory runs out.
-    pub fn note(
-        &mut self,
-        p: usize,
-        label: Label,
-        block: usize,
-        event: Option<Event>,
-    ) -> Result<(), NoMemory>
-        requires in_turn { IsHistory (history_after self.old.history (event_in event)) }
-        requires process { p < length self.old.flip_marks }
-        requires block { block < length self.old.root_marks }
-        ensures ok { OnOk result (self.new ≡ noted self.old p label block (event_in event)) }
+    /// One more step of process p, at the label, which shows nothing. Nothing changes where memory runs out.
+    pub fn note_quiet(&mut self, p: usize, label: Label) -> Result<(), NoMemory>
+        requires { p < length self.old.flip_marks }
+        ensures ok { OnOk result (self.new ≡ noted self.old p label 0 None) }
+        ensures err { OnErr result (self.new ≡ self.old) }
+    {
+        count_turn(&mut self.schedule, p)?;
+        note_flip(&mut self.flip_marks, p, label, self.history.len());
+        Ok(())
+    }
+
+    /// Process p begins a call. Nothing changes where memory runs out.
+    pub fn note_begin(&mut self, p: usize, id: CallId, call: Call) -> Result<(), NoMemory>
+        requires { IsHistory (self.old.history ++ Begin id (call_of call) ∷ []) }
+        ensures ok { OnOk result (self.new ≡ noted self.old p At.Next 0 (Some (Begin id (call_of call)))) }
         ensures err { OnErr result (self.new ≡ self.old) }
     {
         self.schedule.try_reserve(1)?;
-        let seen = self.history.len();
-        note_event(
-            &mut self.history,
-            &mut self.order,
-            &mut self.root_marks,
-            block,
-            event,
-        )?;
-        note_flip(&mut self.flip_marks, p, label, seen);
-        count_turn(&mut self.schedule, p);
+        self.history.push(Event::Begin(id, call))?;
+        count_reserved(&mut self.schedule, p);
+        Ok(())
+    }
+
+    /// Process p makes its block the root, and these calls take effect. Nothing changes where memory runs out.
+    pub fn note_commit(&mut self, p: usize, block: usize, ids: Vec<CallId>) -> Result<(), NoMemory>
+        requires in_turn { IsHistory (self.old.history ++ Applied ids.items ∷ []) }
+        requires block { block < length self.old.root_marks }
+        ensures ok { OnOk result (self.new ≡ noted self.old p At.Commit block (Some (Applied ids.items))) }
+        ensures err { OnErr result (self.new ≡ self.old) }
+    {
+        self.schedule.try_reserve(1)?;
+        note_applied(&mut self.history, &mut self.order, ids)?;
+        self.root_marks[block] = self.history.len();
+        count_reserved(&mut self.schedule, p);
+        Ok(())
+    }
+
+    /// Process p's call ends. Nothing changes where memory runs out.
+    pub fn note_end(&mut self, p: usize, id: CallId, reply: Reply) -> Result<(), NoMemory>
+        requires { IsHistory (self.old.history ++ End id (reply_of reply) ∷ []) }
+        ensures ok { OnOk result (self.new ≡ noted self.old p At.Give 0 (Some (End id (reply_of reply)))) }
+        ensures err { OnErr result (self.new ≡ self.old) }
+    {
+        self.schedule.try_reserve(1)?;
+        self.history.push(Event::End(id, reply))?;
+        count_reserved(&mut self.schedule, p);
         Ok(())
     }
 
@@ -135,36 +154,6 @@ impl Records {
     }
 }
 
-/// What was seen, at the end of the history; calls that took effect in the order too, and the mark
-/// of the block that became the root. Nothing changes where memory runs out.
-fn note_event(
-    history: &mut History,
-    order: &mut Vec<CallId>,
-    root_marks: &mut Vec<usize>,
-    block: usize,
-    event: Option<Event>,
-) -> Result<(), NoMemory>
-    requires in_turn { IsHistory (history_after history.old (event_in event)) }
-    requires block { block < length root_marks.old.items }
-    ensures history { OnOk result (history.new ≡ history_after history.old (event_in event)) }
-    ensures order { OnOk result (order.new.items ≡ order_after order.old.items (event_in event)) }
-    ensures root_marks { OnOk result (root_marks.new.items ≡ root_marks_after root_marks.old.items block (length history.old + 1) (event_in event)) }
-    ensures no_history { OnErr result (history.new ≡ history.old) }
-    ensures no_order { OnErr result (order.new.items ≡ order.old.items) }
-    ensures no_root_marks { OnErr result (root_marks.new.items ≡ root_marks.old.items) }
-{
-    match event {
-        None => Ok(()),
-        Some(Event::Begin(id, call)) => history.push(Event::Begin(id, call)),
-        Some(Event::Applied(ids)) => {
-            note_applied(history, order, ids)?;
-            root_marks[block] = history.len();
-            Ok(())
-        }
-        Some(Event::End(id, reply)) => history.push(Event::End(id, reply)),
-    }
-}
-
 /// At FLIP the history's length is marked for the process.
 fn note_flip(flip_marks: &mut Vec<usize>, p: usize, label: Label, seen: usize)
     requires { p < length flip_marks.old.items }
@@ -198,42 +187,31 @@ fn note_applied(
     }
 }
 
-fn count_turn(schedule: &mut Vec<Turns>, p: usize)
-    requires { vec_len schedule.old < vec_capacity schedule.old }
-    ensures { schedule.new.items ≡ counted schedule.old.items p }
+/// One more turn of p: in the last run of turns, where that is p's and not full, else in a new one.
+fn count_turn(schedule: &mut Vec<Turns>, p: usize) -> Result<(), NoMemory>
+    ensures ok { OnOk result (schedule.new.items ≡ counted schedule.old.items p) }
+    ensures err { OnErr result (schedule.new.items ≡ schedule.old.items) }
+    ensures room { vec_len schedule.old < vec_capacity schedule.old → IsOk result }
 {
     let n = schedule.len();
     if n > 0 && schedule[n - 1].process == p && schedule[n - 1].count < u64::MAX {
         schedule[n - 1].count += 1;
     } else {
-        push_reserved(
-            schedule,
-            Turns {
-                process: p,
-                count: 1,
-            },
-        );
+        schedule.push(Turns {
+            process: p,
+            count: 1,
+        })?;
     }
+    Ok(())
 }
 
-fn push_reserved<T: Drop>(v: &mut Vec<T>, x: T)
-    requires { vec_len v.old < vec_capacity v.old }
-    ensures { v.new.items ≡ v.old.items ++ x ∷ [] }
+/// One more turn of p, for which there is room.
+fn count_reserved(schedule: &mut Vec<Turns>, p: usize)
+    requires { vec_len schedule.old < vec_capacity schedule.old }
+    ensures { schedule.new.items ≡ counted schedule.old.items p }
 {
-    match v.push(x) {
+    match count_turn(schedule, p) {
         Ok(()) => {}
         Err(_) => unreachable!(),
-    }
-}
-
-/// What a step at the label answers, where this is what is seen.
-pub fn answer(alloc: Global, label: Label, event: &Option<Event>) -> Result<StepOut, NoMemory>
-    ensures { IfOk result (λ out. answer_in out ≡ answer_by label (event_in event.now)) }
-{
-    match event {
-        None if label == Label::Next => Ok(StepOut::Halted),
-        None | Some(Event::Applied(_)) => Ok(StepOut::On),
-        Some(Event::Begin(id, _)) => Ok(StepOut::Began(*id)),
-        Some(Event::End(id, reply)) => Ok(StepOut::Answered(*id, copy_reply(alloc, reply)?)),
     }
 }

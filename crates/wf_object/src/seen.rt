@@ -1,28 +1,29 @@
-//! What a step is going to show: it depends on the state before the step alone.
+//! What a step shows: it depends on the state before the step alone.
 
-ghost use Rattle.std.specs.Prelude.{◌≡◌, ◌+◌, ◌<◌, ◌++◌, ◌∷◌, [], IfOk, OnOk, length, not, Some, slice_index, if◌then◌else◌};
+ghost use Rattle.std.specs.Prelude.{◌≡◌, ℕ, ◌+◌, ◌<◌, ◌++◌, ◌∷◌, [], IfOk, OnOk, OnErr, length, not, slice_index, if◌then◌else◌};
 ghost use Rattle.std.proofs.Common.{int_eq};
-ghost use Rattle.ll_cell.specs.Cell.{block_of};
+ghost use Rattle.ll_cell.specs.Cell.{block_of, own_of};
 ghost use Rattle.wf_table.specs.declared.process.Label.TheVariants as At;
 ghost use Rattle.wf_table.specs.Table.{own_block, toggle_in};
 ghost use Rattle.wf_table.specs.Ranges.{IsSized, IsShaped, IsInRange};
 ghost use Rattle.wf_table.specs.Scripts.{CallsFit};
-ghost use Rattle.wf_table.specs.Object.{event_at, ended, began, applied, begun_of};
-ghost use Rattle.wf_object.specs.View.{event_in};
-ghost use Rattle.wf_history.specs.View.{event_of};
+ghost use Rattle.wf_table.specs.Object.{event_at, ended, began, applied, applied_ids, begun_of, history_after, noted, answer_by};
+ghost use Rattle.wf_object.specs.View.{answer_in};
+ghost use Rattle.wf_history.specs.History.{IsHistory};
 
-use crate::copies::copy_call;
+use crate::copies::{copy_call, copy_reply};
 use crate::engine::Engine;
 use crate::process::Process;
+use crate::records::{Records, StepOut};
 use crate::steps::{own_toggle, part_of};
 use ll_cell::Shared;
 use ob_grammar::NoMemory;
 use std::alloc::Global;
-use wf_history::{CallId, Event};
+use wf_history::CallId;
 use wf_table::{Label, Sizes};
 
-/// What a step of the process is going to show.
-pub fn seen<E: Engine>(
+/// Notes what a step of the process shows, and answers it. Nothing changes where memory runs out.
+pub fn note_step<E: Engine>(
     alloc: Global,
     engine: &E,
     z: Sizes,
@@ -30,7 +31,8 @@ pub fn seen<E: Engine>(
     processes: &[Process<E::Run>],
     q: &Process<E::Run>,
     p: usize,
-) -> Result<Option<Event>, NoMemory>
+    records: &mut Records,
+) -> Result<StepOut, NoMemory>
     requires sized { IsSized z }
     requires shaped { IsShaped z shared.now }
     requires count { length processes.now ≡ z.processes }
@@ -38,64 +40,126 @@ pub fn seen<E: Engine>(
     requires in_range { IsInRange z q.now }
     requires replies { z.replies ≡ (E.meaning engine.now).replies }
     requires fits { CallsFit (E.fits engine.now) q.now }
-    ensures { IfOk result (λ event. event_in event ≡ event_at q.now.label (E.meaning engine.now) z shared.now processes.now p q.now) }
+    requires flip_mark { p < length records.old.flip_marks }
+    requires root_mark { own_of shared.now p < length records.old.root_marks }
+    requires in_turn { IsHistory (history_after records.old.history (event_at q.now.label (E.meaning engine.now) z shared.now processes.now p q.now)) }
+    ensures ok { OnOk result (records.new ≡ noted records.old p q.now.label (own_of shared.now p) (event_at q.now.label (E.meaning engine.now) z shared.now processes.now p q.now)) }
+    ensures answer { IfOk result (λ out. answer_in out ≡ answer_by q.now.label (event_at q.now.label (E.meaning engine.now) z shared.now processes.now p q.now)) }
+    ensures err { OnErr result (records.new ≡ records.old) }
 {
     match q.label {
-        Label::Next => begun(alloc, q, p),
-        Label::Commit => committed::<E::Run>(alloc, z, shared, processes, p),
-        Label::Give => Ok(Some(given(engine, z, q, p))),
-        _ => Ok(None),
+        Label::Next => begin(alloc, q, p, records),
+        Label::Commit => commit::<E::Run>(alloc, z, shared, processes, p, records),
+        Label::Give => give(alloc, engine, z, q, p, records),
+        label => {
+            records.note_quiet(p, label)?;
+            Ok(StepOut::On)
+        }
     }
 }
 
-fn given<E: Engine>(engine: &E, z: Sizes, q: &Process<E::Run>, p: usize) -> Event
-    requires in_range { IsInRange z q.now }
-    requires label { q.now.label ≡ At.Give }
-    requires replies { z.replies ≡ (E.meaning engine.now).replies }
-    requires fits { CallsFit (E.fits engine.now) q.now }
-    ensures { Some (event_of result) ≡ ended (E.meaning engine.now) p q.now }
-{
-    let id = CallId {
-        process: p,
-        number: q.begun as u64,
-    };
-    Event::End(id, engine.reply(&q.calls[q.begun - 1], &q.replies))
-}
-
-fn begun<R>(alloc: Global, q: &Process<R>, p: usize) -> Result<Option<Event>, NoMemory>
-    ensures { IfOk result (λ event. event_in event ≡ began p q.now) }
+/// The next call of the script begins, where there is one.
+fn begin<R>(
+    alloc: Global,
+    q: &Process<R>,
+    p: usize,
+    records: &mut Records,
+) -> Result<StepOut, NoMemory>
+    requires flip_mark { p < length records.old.flip_marks }
+    requires in_turn { IsHistory (history_after records.old.history (began p q.now)) }
+    ensures ok { OnOk result ((block : ℕ) → records.new ≡ noted records.old p At.Next block (began p q.now)) }
+    ensures answer { IfOk result (λ out. answer_in out ≡ answer_by At.Next (began p q.now)) }
+    ensures err { OnErr result (records.new ≡ records.old) }
 {
     if q.begun >= q.calls.len() {
-        return Ok(None);
+        records.note_quiet(p, Label::Next)?;
+        return Ok(StepOut::Halted);
     }
     let id = CallId {
         process: p,
         number: q.begun as u64 + 1,
     };
-    Ok(Some(Event::Begin(id, copy_call(alloc, &q.calls[q.begun])?)))
+    let call = copy_call(alloc, &q.calls[q.begun])?;
+    records.note_begin(p, id, call)?;
+    Ok(StepOut::Began(id))
 }
 
-fn committed<R>(
+/// The open calls are applied whose toggles differ between the root and the own block, where the process is linked.
+fn commit<R>(
     alloc: Global,
     z: Sizes,
     shared: &Shared,
     processes: &[Process<R>],
     p: usize,
-) -> Result<Option<Event>, NoMemory>
+    records: &mut Records,
+) -> Result<StepOut, NoMemory>
     requires sized { IsSized z }
     requires shaped { IsShaped z shared.now }
     requires count { length processes.now ≡ z.processes }
     requires process { p < z.processes }
-    ensures { IfOk result (λ event. event_in event ≡ applied z shared.now processes.now p) }
+    requires flip_mark { p < length records.old.flip_marks }
+    requires root_mark { own_of shared.now p < length records.old.root_marks }
+    requires in_turn { IsHistory (history_after records.old.history (applied z shared.now processes.now p)) }
+    ensures ok { OnOk result (records.new ≡ noted records.old p At.Commit (own_of shared.now p) (applied z shared.now processes.now p)) }
+    ensures answer { IfOk result (λ out. answer_in out ≡ answer_by At.Commit (applied z shared.now processes.now p)) }
+    ensures err { OnErr result (records.new ≡ records.old) }
 {
     if !shared.validate(p) {
-        return Ok(None);
+        records.note_quiet(p, Label::Commit)?;
+        return Ok(StepOut::On);
     }
-    let mut ids = Vec::new(alloc);
+    let ids = applied_ids(alloc, z, shared, processes, p)?;
+    records.note_commit(p, shared.own_block(p), ids)?;
+    Ok(StepOut::On)
+}
+
+/// The open call ends with the reply that the reply list stands for.
+fn give<E: Engine>(
+    alloc: Global,
+    engine: &E,
+    z: Sizes,
+    q: &Process<E::Run>,
+    p: usize,
+    records: &mut Records,
+) -> Result<StepOut, NoMemory>
+    requires in_range { IsInRange z q.now }
+    requires label { q.now.label ≡ At.Give }
+    requires replies { z.replies ≡ (E.meaning engine.now).replies }
+    requires fits { CallsFit (E.fits engine.now) q.now }
+    requires in_turn { IsHistory (history_after records.old.history (ended (E.meaning engine.now) p q.now)) }
+    ensures ok { OnOk result (records.new ≡ noted records.old p At.Give 0 (ended (E.meaning engine.now) p q.now)) }
+    ensures answer { IfOk result (λ out. answer_in out ≡ answer_by At.Give (ended (E.meaning engine.now) p q.now)) }
+    ensures err { OnErr result (records.new ≡ records.old) }
+{
+    let id = CallId {
+        process: p,
+        number: q.begun as u64,
+    };
+    let reply = engine.reply(&q.calls[q.begun - 1], &q.replies);
+    let answered = copy_reply(alloc, &reply)?;
+    records.note_end(p, id, reply)?;
+    Ok(StepOut::Answered(id, answered))
+}
+
+/// The processes whose toggles differ between the root and p's own block, with their open calls.
+fn applied_ids<R>(
+    alloc: Global,
+    z: Sizes,
+    shared: &Shared,
+    processes: &[Process<R>],
+    p: usize,
+) -> Result<Vec<CallId>, NoMemory>
+    requires sized { IsSized z }
+    requires shaped { IsShaped z shared.now }
+    requires count { length processes.now ≡ z.processes }
+    requires process { p < z.processes }
+    ensures { IfOk result (λ ids. ids.items ≡ applied_ids z (block_of shared.now shared.now.root) (own_block shared.now p) (begun_of processes.now)) }
+{
+    let mut ids = Vec::with_capacity(alloc, z.processes)?;
     for q in 0..z.processes {
         add_if(&mut ids, differs(z, shared, p, q), open_id(processes, q))?;
     }
-    Ok(Some(Event::Applied(ids)))
+    Ok(ids)
 }
 
 fn open_id<R>(processes: &[Process<R>], q: usize) -> CallId

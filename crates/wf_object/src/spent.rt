@@ -2,9 +2,11 @@
 
 ghost use Rattle.std.specs.Prelude.{◌≡◌, ◌+◌, ◌*◌, ◌<◌, ◌^◌};
 ghost use Rattle.wf_bound.specs.Spent.{spent_after};
+ghost use Rattle.wf_bound.specs.Bound.{bound};
+ghost use Rattle.wf_table.specs.Ranges.{IsSized};
 
 use wf_bound::Spent;
-use wf_table::Label;
+use wf_table::{Label, Sizes};
 
 /// A step at the label counts; at NEXT it begins a call or is halted.
 pub fn count_step(spent: &mut Spent, label: Label, begins: bool)
@@ -29,4 +31,18 @@ pub fn count_step(spent: &mut Spent, label: Label, begins: bool)
         Label::Body => spent.inside += 1,
         _ => spent.outside += 1,
     }
+}
+
+/// The own steps outside bodies that no call exceeds, in an object of these sizes.
+pub fn bound_of(z: Sizes) -> u128
+    requires { IsSized z }
+    ensures { result ≡ bound z }
+{
+    let processes = z.processes as u128;
+    let variables = z.variables as u128;
+    let replies = z.replies as u128;
+    let arguments = z.arguments as u128;
+    let block = variables + processes * (replies + 2);
+    let served = processes * (arguments + 2 * variables + replies + 10);
+    2 * (2 * block + served + 10) + arguments + replies + 20
 }

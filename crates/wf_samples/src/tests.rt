@@ -168,6 +168,7 @@ fn a_call_that_loses_both_rounds(rt: HostRuntime) -> Result<(), Fail> {
         outside: 42,
     };
     assert_eq!(rt; machine.spent(0), spent);
+    assert_eq!(rt; machine.bound(), 126);
     Ok(())
 }
 

@@ -20,6 +20,7 @@ use Rattle.wf_table.specs.Meaning.{Meaning, body}
 use Rattle.wf_table.specs.Table.{Process, open_call, call_at}
 use Rattle.wf_table.specs.Object.{Records, event_at, history_after, order_after}
 use Rattle.wf_table.specs.Labels.{unannounced}
+use Rattle.wf_table.proofs.Words.{same_words}
 use Rattle.wf_commits.specs.Order.{IsAt, applied_count}
 use Rattle.wf_commits.specs.Commits.{flips_at, announced_call, IsFounded, IsHelpful, IsOrdered}
 use Rattle.wf_commits.proofs.Applied.{new_ids}
@@ -31,7 +32,7 @@ use Rattle.wf_help.proofs.Orders.{more_made, length_answers, begun_more, same_en
 use Rattle.wf_standing.specs.Stands.{words_taken, IsStanding}
 use Rattle.wf_standing.specs.Answers.{IsReply, Agree, AreAnswered}
 use Rattle.wf_standing.proofs.Unique.{one_call, of_script}
-use Rattle.wf_standing.proofs.Orders.{same_words, front_of, made_at, last_is}
+use Rattle.wf_standing.proofs.Orders.{front_of, made_at, last_is}
 
 abbrev Events : Type 0
 Events = List (Event ObjectCall Reply)

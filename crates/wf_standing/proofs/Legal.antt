@@ -96,13 +96,13 @@ module _ {Run : Type 0} (m : Meaning Run) (lawful : List ℤ → Type 0) (fits :
         })
 
     -- what is said of the replies that were given
-    abbrev Answered : List ℤ → State Run → Type 0
+    abbrev pub Answered : List ℤ → State Run → Type 0
     Answered opening s = AreAnswered m opening s.records.history s.records.order
 
-    abbrev Holds : Sizes → List ℤ → State Run → Type 0
+    abbrev pub Holds : Sizes → List ℤ → State Run → Type 0
     Holds z opening s = RootHolds m lawful z opening s.records.history s.records.order (block_of s.cell s.cell.root)
 
-    step_answered : (z : Sizes) (opening : List ℤ) (s : State Run) (p : ℕ) (o : Option (Process Run)) → slice_get s.processes p ≡ o → IsSound m lawful fits ready z opening s → IsSound m lawful fits ready z opening (step_by m z s p o) → IsCommitted z s → IsCommitted z (step_by m z s p o) → AllStand z s → Holds z opening s → Holds z opening (step_by m z s p o) → Answered opening s → Answered opening (step_by m z s p o)
+    pub step_answered : (z : Sizes) (opening : List ℤ) (s : State Run) (p : ℕ) (o : Option (Process Run)) → slice_get s.processes p ≡ o → IsSound m lawful fits ready z opening s → IsSound m lawful fits ready z opening (step_by m z s p o) → IsCommitted z s → IsCommitted z (step_by m z s p o) → AllStand z s → Holds z opening s → Holds z opening (step_by m z s p o) → Answered opening s → Answered opening (step_by m z s p o)
     step_answered z opening s p None at sound sound' committed committed' h holds holds' answered = answered
     step_answered z opening s p (Some q) at sound sound' committed committed' h holds holds' answered =
         let c = s.cell in

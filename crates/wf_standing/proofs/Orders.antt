@@ -3,18 +3,10 @@ use Rattle.std.proofs.Common.{◌≡◌, ℕ, zero, suc, ◌+◌, ◌<◌, Bool,
 use Rattle.std.specs.Prelude.{ℤ}
 use Rattle.std.specs.List.{range_with_len}
 use Rattle.std.proofs.lemmas.Bool.{eq-eqb, false≢true}
-use Rattle.ll_cell.specs.Cell.{word_at}
 use Rattle.wf_history.specs.declared.event.CallId.{CallId}
 use Rattle.wf_history.specs.Legal.{OneAtATime, none, more}
 use Rattle.wf_commits.specs.Order.{IsAt, own_numbers}
 use Rattle.wf_help.specs.Contents.{last_words}
-
--- words that are all the same
-pub same_words : (xs ys : List ℤ) → length xs ≡ length ys → ((k : ℕ) → k < length xs → word_at xs k ≡ word_at ys k) → xs ≡ ys
-same_words [] [] e h = refl
-same_words [] (y ∷ ys) e h = absurd (omega (arith, e))
-same_words (x ∷ xs) [] e h = absurd (omega (arith, e))
-same_words (x ∷ xs) (y ∷ ys) e h = let first = h 0 (omega arith) in let rest = same_words xs ys (omega (arith, e)) (λ k lt. h (suc k) (omega (arith, lt))) in cc
 
 -- with one more in front
 same_behind : {X : Type 0} (v : X) (xs ys : List X) (n : ℕ) → ((i : ℕ) (d : X) → i < n → get_or xs i d ≡ get_or ys i d) → (i : ℕ) (d : X) → i < suc n → get_or (v ∷ xs) i d ≡ get_or (v ∷ ys) i d

@@ -32,7 +32,7 @@ use Rattle.wf_standing.proofs.Keeps.{keeps_standing}
 
 module _ {Run : Type 0} where
   -- an object that begins
-  start_standing : (ready : Run → Type 0) (z : Sizes) (c : Cell) (ps : List (Process Run)) → Each (λ _ q. IsIdle ready z q) ps → IsFounded z c ps (records_at_start z.processes) → IsStanding z c ps (records_at_start z.processes)
+  pub start_standing : (ready : Run → Type 0) (z : Sizes) (c : Cell) (ps : List (Process Run)) → Each (λ _ q. IsIdle ready z q) ps → IsFounded z c ps (records_at_start z.processes) → IsStanding z c ps (records_at_start z.processes)
   start_standing ready z c ps idle base =
       let r = records_at_start z.processes in
       record {
@@ -44,7 +44,7 @@ module _ {Run : Type 0} where
   longer z S w root own p linked q calls h = record { source = h.source; carried = h.carried; unwritten = h.unwritten; copied = h.copied; source_stands = h.source_stands; taken = h.taken }
 
   -- one more call at the end of a script
-  submit_standing : (z : Sizes) (s : State Run) (p : ℕ) (q : Process Run) (call : ObjectCall) → slice_get s.processes p ≡ Some q → IsStanding z s.cell s.processes s.records → IsStanding z s.cell (set s.processes p (record q { calls = q.calls ++ call ∷ [] })) s.records
+  pub submit_standing : (z : Sizes) (s : State Run) (p : ℕ) (q : Process Run) (call : ObjectCall) → slice_get s.processes p ≡ Some q → IsStanding z s.cell s.processes s.records → IsStanding z s.cell (set s.processes p (record q { calls = q.calls ++ call ∷ [] })) s.records
   submit_standing z s p q call at h =
       let c = s.cell in
       let ps = s.processes in
@@ -80,7 +80,7 @@ module _ {Run : Type 0} (m : Meaning Run) (lawful : List ℤ → Type 0) (fits :
       let variables : length (take z.variables (own_block c p)) ≡ z.variables = length-take-le z.variables (own_block c p) (omega (arith, long)) in
       omega (arith, variables, law.length_step q.run (take z.variables (own_block c p)) (sound.runs_ready p q at) (variables ∙ sound.variables))
 
-  step_standing : (z : Sizes) (opening : List ℤ) (s : State Run) (p : ℕ) (o : Option (Process Run)) → slice_get s.processes p ≡ o → IsSound m lawful fits ready z opening s → IsSound m lawful fits ready z opening (step_by m z s p o) → IsCommitted z s → AllStand z s → AllStand z (step_by m z s p o)
+  pub step_standing : (z : Sizes) (opening : List ℤ) (s : State Run) (p : ℕ) (o : Option (Process Run)) → slice_get s.processes p ≡ o → IsSound m lawful fits ready z opening s → IsSound m lawful fits ready z opening (step_by m z s p o) → IsCommitted z s → AllStand z s → AllStand z (step_by m z s p o)
   step_standing z opening s p None at sound after committed h = h
   step_standing z opening s p (Some q) at sound after committed h =
       keeps_standing m z s.cell s.processes s.records p q (few_words z opening s p q at sound) at after.marks (founded m lawful fits ready z opening s sound) committed.helpful committed.ordered h

@@ -2,7 +2,7 @@
 use Rattle.std.proofs.Common.{◌≡◌, ℕ, zero, suc, ◌<◌, Bool, true, false, List, [], ◌∷◌, length, set, cond, refl, sym, ap, ◌∙◌, arith, subst}
 use Rattle.std.specs.Prelude.{ℤ, Option, Some, None, slice_get}
 use Rattle.std.proofs.lemmas.Option.{slice_get_within}
-use Rattle.ll_cell.specs.Cell.{is_linked, own_of, block_of, word_at}
+use Rattle.ll_cell.specs.Cell.{is_linked, own_of, block_of}
 use Rattle.ob_mean.specs.Object.{ObjectCall}
 use Rattle.wf_table.specs.declared.process.Label.{Label}
 use Rattle.wf_table.specs.declared.process.Label.TheVariants.{Check1, Mine, Try}
@@ -13,13 +13,7 @@ use Rattle.wf_table.specs.Object.{State, step_of, step_by, label_of, label_by}
 use Rattle.wf_table.specs.Ranges.{index_in}
 use Rattle.wf_table.specs.Labels.{copying}
 use Rattle.wf_table.specs.Sound.{IsSound}
-
--- words that are all the same
-same_words : (xs ys : List ℤ) → length xs ≡ length ys → ((k : ℕ) → k < length xs → word_at xs k ≡ word_at ys k) → xs ≡ ys
-same_words [] [] e h = refl
-same_words [] (y ∷ ys) e h = absurd (omega (arith, e))
-same_words (x ∷ xs) [] e h = absurd (omega (arith, e))
-same_words (x ∷ xs) (y ∷ ys) e h = let first = h 0 (omega arith) in let rest = same_words xs ys (omega (arith, e)) (λ k lt. h (suc k) (omega (arith, lt))) in cc
+use Rattle.wf_table.proofs.Words.{same_words}
 
 slice_get-set : {X : Type 0} (xs : List X) (p : ℕ) (x : X) → p < length xs → slice_get (set xs p x) p ≡ Some x
 slice_get-set [] p x lt = absurd (omega (arith, lt))

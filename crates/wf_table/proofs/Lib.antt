@@ -13,7 +13,7 @@ mod KeepsReady
 mod KeepsScripts
 pub mod KeepsSound
 pub mod KeepsTurns
-mod Moves
+pub mod Moves
 pub mod Runs
 pub mod StartSound
 pub mod SubmitSound

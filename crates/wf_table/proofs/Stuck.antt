@@ -23,7 +23,7 @@ refilled_same block v le =
     ∙ ap (take (length block)) (take-append-drop v block)
     ∙ take_all (length block) block (omega arith)
 
-set_same : {X : Type 0} (xs : List X) (p : ℕ) (x : X) → slice_get xs p ≡ Some x → set xs p x ≡ xs
+pub set_same : {X : Type 0} (xs : List X) (p : ℕ) (x : X) → slice_get xs p ≡ Some x → set xs p x ≡ xs
 set_same [] p x at = refl
 set_same {X} (y ∷ xs) zero x at = ap (λ (a : X). a ∷ xs) (sym (same_Some y x at))
 set_same {X} (y ∷ xs) (suc p) x at = ap (λ (ys : List X). y ∷ ys) (set_same xs p x at)

@@ -10,6 +10,13 @@ use Rattle.wf_table.specs.declared.process.Sizes.{Sizes}
 use Rattle.wf_table.specs.Table.{toggle_place, block_words, part, inverted}
 use Rattle.wf_table.specs.Toggles.{IsBit}
 
+-- words that are all the same
+pub same_words : (xs ys : List ℤ) → length xs ≡ length ys → ((k : ℕ) → k < length xs → word_at xs k ≡ word_at ys k) → xs ≡ ys
+same_words [] [] e h = refl
+same_words [] (y ∷ ys) e h = absurd (omega (arith, e))
+same_words (x ∷ xs) [] e h = absurd (omega (arith, e))
+same_words (x ∷ xs) (y ∷ ys) e h = let first = h 0 (omega arith) in let rest = same_words xs ys (omega (arith, e)) (λ k lt. h (suc k) (omega (arith, lt))) in cc
+
 -- what holds of a word that is written where k is i, and of the old word, holds of the word behind
 pub set_or : {X : Type 0} (P : X → Type 0) (xs : List X) (i k : ℕ) (v d : X) → (k ≡ i → P v) → P (get_or xs k d) → P (get_or (set xs i v) k d)
 set_or P [] i k v d new old = old

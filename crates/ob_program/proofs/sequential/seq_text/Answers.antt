@@ -1,6 +1,6 @@
 use Rattle.std.proofs.Common.{map}
 use Rattle.std.proofs.lemmas.Result.{IfErr-weaker, err_from_is_err_and}
-use Rattle.ob_program.specs.ScriptView.{script_call_of}
+use Rattle.ob_text.specs.ScriptView.{script_call_of}
 use Rattle.ob_program.proofs.CallParts.{callers_below}
 use Rattle.ob_program.proofs.NoRun.{no_run_opening, no_run_replies, no_run_script}
 use Rattle.ob_program.proofs.sequential.seq_text.Goals as goal
@@ -16,12 +16,12 @@ returns-in_err-checked-clause-no_run c =
     rw (p.1, p.2) (λ numbered output run. c.in_err-checked.ensures.none numbered run.program run.is_module)
 
 pub replies_text-requires : goal.replies_text-requires
-replies_text-requires c = callers_below _ _ _ c.in-Ok.calls.items c.in-Ok.ensures.script
+replies_text-requires c = callers_below _ _ _ c.into_calls.result.items (rw (← c.into_calls.ensures) at c.in-Ok.ensures.script)
 
 pub returns-in-Ok-clause-no_run : goal.returns-in-Ok-clause-no_run
 returns-in-Ok-clause-no_run c =
     IfErr-weaker c.replies_text.result _ _
-    (λ e h. no_run_replies c.args.module.now c.args.script.now _ c.in_ok-checked.ensures.alone (map script_call_of c.in-Ok.calls.items) e c.in-Ok.ensures.script h)
+    (λ e h. no_run_replies c.args.module.now c.args.script.now _ c.in_ok-checked.ensures.alone (map script_call_of c.into_calls.result.items) e (rw (← c.into_calls.ensures) at c.in-Ok.ensures.alone) h)
     c.replies_text.ensures.fault
 
 pub returns-in_err-opening-in-Err-clause-no_run : goal.returns-in_err-opening-in-Err-clause-no_run

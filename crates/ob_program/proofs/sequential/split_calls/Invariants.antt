@@ -1,11 +1,13 @@
 -- The parts of the calls so far.
 use Rattle.std.proofs.Common.{◌≡◌, map}
 use Rattle.ob_mean.specs.View.{call_of}
+use Rattle.ob_program.specs.SequentialRun.{object_call}
+use Rattle.ob_text.specs.ScriptView.{script_call_of}
 use Rattle.ob_program.proofs.sequential.split_calls.Given as goal
 
 abbrev pub invariant-loop-process : goal.invariant-loop-process
 invariant-loop-process l =
     record {
       callers : l.callers.items ≡ map (λ c. c.process) l.yielded;
-      calls : map call_of l.object_calls.items ≡ map (λ c. call_of c.call) l.yielded;
+      calls : map call_of l.object_calls.items ≡ map (λ c. object_call (script_call_of c)) l.yielded;
     }

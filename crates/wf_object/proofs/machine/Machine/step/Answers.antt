@@ -1,45 +1,41 @@
 use Rattle.std.proofs.Common.{◌≡◌, ◌<◌, ◌≤◌, Bool, List, length, set, sym, ap, ◌∙◌, subst, refl, arith}
 use Rattle.std.specs.Prelude.{Option, Some}
 use Rattle.std.proofs.lemmas.Option.{same_Some, slice_get_read, get_or_from_slice_get}
-use Rattle.ob_mean.specs.Object.{ObjectCall, Reply}
-use Rattle.wf_history.specs.History.{Event, IsHistory}
-use Rattle.wf_table.specs.Object.{State, Records, step_of, Answer, event_at, answer_by, values_answered, history_after}
+use Rattle.wf_history.specs.History.{IsHistory}
+use Rattle.wf_table.specs.Object.{State, Records, step_of, Answer, event_at, values_answered, history_after}
 use Rattle.wf_table.specs.Schedule.{steps_of}
 use Rattle.wf_table.specs.Table.{Process}
-use Rattle.wf_object.specs.View.{event_in}
 use Rattle.wf_table.proofs.Counted.{one_turn}
 use Rattle.wf_table.proofs.FewValues.{few_answered}
-use Rattle.wf_table.proofs.KeepsSound.{keeps_sound}
 use Rattle.wf_table.proofs.KeepsTurns.{event_in_turn}
-use Rattle.wf_commits.proofs.Runs.{step_committed}
 use Rattle.wf_bound.specs.declared.spent.Spent.{Spent}
 use Rattle.wf_bound.specs.Spent.{unspent, spent_after, has_more}
 use Rattle.wf_bound.specs.Counted.{spent_of, spent_by_step, count_by}
-use Rattle.wf_object.proofs.Spends.{bodies_room, inside_room, outside_room, later, spends_stay, among_stay}
+use Rattle.wf_object.proofs.Keeps.{step_kept}
+use Rattle.wf_object.proofs.Spends.{bodies_room, inside_room, outside_room, later}
 use Rattle.wf_object.proofs.OneStep.{stands, step_is, answer_is, noted_is}
 use Rattle.wf_object.proofs.machine.Machine.step.Goals as goal
 
-pub seen-requires-clause-in_range : goal.seen-requires-clause-in_range
-seen-requires-clause-in_range g c =
+pub note_step-requires-clause-in_range : goal.note_step-requires-clause-in_range
+note_step-requires-clause-in_range g c =
     let s = c.self.inside in
     let within : c.args.p < s.sizes.processes = rw (← c.self.view_is) at c.requires in
     c.self.invariant.sound.in_range _ _ (stands s.processes.items s.sizes.processes c.args.p c.index-process.result.now c.self.invariant.sound.count within c.index-process.ensures)
 
-pub seen-requires-clause-fits : goal.seen-requires-clause-fits
-seen-requires-clause-fits g c =
+pub note_step-requires-clause-fits : goal.note_step-requires-clause-fits
+note_step-requires-clause-fits g c =
     let s = c.self.inside in
     let within : c.args.p < s.sizes.processes = rw (← c.self.view_is) at c.requires in
     c.self.invariant.sound.calls_fit _ _ (stands s.processes.items s.sizes.processes c.args.p c.index-process.result.now c.self.invariant.sound.count within c.index-process.ensures)
 
-pub note-requires-clause-in_turn : goal.note-requires-clause-in_turn
-note-requires-clause-in_turn g c =
+pub note_step-requires-clause-in_turn : goal.note_step-requires-clause-in_turn
+note_step-requires-clause-in_turn g c =
     let s = c.self.inside in
     let m = g.E.Engine.meaning s.engine in
     let within : c.args.p < s.sizes.processes = rw (← c.self.view_is) at c.requires in
     let y = c.index-process.result.now in
     let also = stands s.processes.items s.sizes.processes c.args.p y c.self.invariant.sound.count within c.index-process.ensures in
-    let is = c.in_ok-event.ensures ∙ ap (λ (ps : List (Process _)). event_at y.label m s.sizes s.shared ps c.args.p y) c.deref.ensures.value in
-    subst (λ (e : Option (Event ObjectCall Reply)). IsHistory (history_after s.records.history e)) (sym is)
+    subst (λ (ps : List (Process _)). IsHistory (history_after s.records.history (event_at y.label m s.sizes s.shared ps c.args.p y))) (sym c.deref.ensures.value)
     (event_in_turn y.label m s.sizes s.shared s.processes.items c.args.p y s.records.history refl (c.self.invariant.sound.in_range _ _ also) (c.self.invariant.sound.own_events _ _ also) c.self.invariant.sound.in_turn)
 
 pub count_step-requires-clause-bodies : goal.count_step-requires-clause-bodies
@@ -108,8 +104,7 @@ invariant_of-self-2 g c =
     let also = stands s.processes.items s.sizes.processes c.args.p y c.self.invariant.sound.count within c.index-process.ensures in
     let same : y ≡ x = same_Some y x (sym also ∙ at) in
     let state : State _ = record { cell = s.shared; processes = s.processes.items; records = s.records } in
-    let records = noted_is m s.sizes state c.args.p x at c.note.new.self c.process.inside.label c.own_block-block.result (event_in c.in_ok-event.event) y c.in_ok-note.ensures.ok (ap (λ (k : Process _). k.label) c.process.view_is) c.own_block-block.ensures
-    (c.in_ok-event.ensures ∙ ap (λ (ps : List (Process _)). event_at y.label m s.sizes s.shared ps c.args.p y) c.deref.ensures.value) same in
+    let records = noted_is m s.sizes state c.args.p x at c.note_step.new.records c.deref.result.now y c.in_ok-out.ensures.ok c.deref.ensures.value same in
     let sp = c.index_mut-spent.result.now in
     let count : c.args.p < length s.spent.items = omega (arith, within, c.self.invariant.spends.count, c.self.invariant.sound.count) in
     let is : sp ≡ spent_of s.spent.items c.args.p = sym (get_or_from_slice_get s.spent.items c.args.p sp unspent (slice_get_read s.spent.items (length s.spent.items) c.args.p sp refl count c.index_mut-spent.ensures.value)) in
@@ -119,12 +114,7 @@ invariant_of-self-2 g c =
     ∙ ap (λ (k : Process _). spent_after k.label (has_more y) (spent_of s.spent.items c.args.p)) c.process.view_is
     ∙ ap (λ (k : Process _). spent_after k.label (has_more k) (spent_of s.spent.items c.args.p)) same in
     rw (c.act.ensures.cell, c.act.ensures.process, records, spends)
-    (record {
-      sound = keeps_sound m (e.lawful s.engine) (e.fits s.engine) (e.ready s.engine) (e.effect s.engine) (g.met.E.Engine.law s.engine) s.sizes s.opening.items state c.args.p x at c.self.invariant.sound;
-      committed = step_committed m (e.lawful s.engine) (e.fits s.engine) (e.ready s.engine) (e.effect s.engine) (g.met.E.Engine.law s.engine) s.sizes s.opening.items state c.args.p (Some x) at c.self.invariant.sound c.self.invariant.committed;
-      spends = spends_stay m s.sizes state c.args.p x at s.spent.items c.self.invariant.sound.sized c.self.invariant.sound.in_range c.self.invariant.spends;
-      among = among_stay m s.sizes state c.args.p x at s.spent.items c.self.invariant.spends.count c.self.invariant.among;
-    })
+    (step_kept m (e.lawful s.engine) (e.fits s.engine) (e.ready s.engine) (e.effect s.engine) (g.met.E.Engine.law s.engine) s.sizes s.opening.items state c.args.p x at s.spent.items c.self.invariant)
 
 pub returns-clause-stepped : goal.returns-clause-stepped
 returns-clause-stepped g c =
@@ -137,8 +127,7 @@ returns-clause-stepped g c =
     let also = stands s.processes.items s.sizes.processes c.args.p y c.self.invariant.sound.count within c.index-process.ensures in
     let same : y ≡ x = same_Some y x (sym also ∙ at) in
     let state : State _ = record { cell = s.shared; processes = s.processes.items; records = s.records } in
-    let records = noted_is m s.sizes state c.args.p x at c.note.new.self c.process.inside.label c.own_block-block.result (event_in c.in_ok-event.event) y c.in_ok-note.ensures.ok (ap (λ (k : Process _). k.label) c.process.view_is) c.own_block-block.ensures
-    (c.in_ok-event.ensures ∙ ap (λ (ps : List (Process _)). event_at y.label m s.sizes s.shared ps c.args.p y) c.deref.ensures.value) same in
+    let records = noted_is m s.sizes state c.args.p x at c.note_step.new.records c.deref.result.now y c.in_ok-out.ensures.ok c.deref.ensures.value same in
     let sp = c.index_mut-spent.result.now in
     let count : c.args.p < length s.spent.items = omega (arith, within, c.self.invariant.spends.count, c.self.invariant.sound.count) in
     let is : sp ≡ spent_of s.spent.items c.args.p = sym (get_or_from_slice_get s.spent.items c.args.p sp unspent (slice_get_read s.spent.items (length s.spent.items) c.args.p sp refl count c.index_mut-spent.ensures.value)) in
@@ -147,7 +136,7 @@ returns-clause-stepped g c =
     ∙ ap (λ (b : Bool). spent_after c.process.inside.label b (spent_of s.spent.items c.args.p)) c.has_more-begins.ensures
     ∙ ap (λ (k : Process _). spent_after k.label (has_more y) (spent_of s.spent.items c.args.p)) c.process.view_is
     ∙ ap (λ (k : Process _). spent_after k.label (has_more k) (spent_of s.spent.items c.args.p)) same in
-    let moved = step_is m s.sizes state c.args.p x at c.act.new.shared c.act.new.q c.note.new.self c.act.ensures.cell c.act.ensures.process records in
+    let moved = step_is m s.sizes state c.args.p x at c.act.new.shared c.act.new.q c.note_step.new.records c.act.ensures.cell c.act.ensures.process records in
     let paid : set s.spent.items c.args.p c.count_step.new.spent ≡ spent_by_step state s.spent.items c.args.p =
     ap (λ (k : Spent). set s.spent.items c.args.p k) spends ∙ sym (ap (count_by spent_after unspent s.spent.items c.args.p) at) in
     rw (← c.self.view_is)
@@ -161,12 +150,12 @@ returns-clause-answer g c =
     let within : c.args.p < s.sizes.processes = rw (← c.self.view_is) at c.requires in
     let y = c.index-process.result.now in
     let also = stands s.processes.items s.sizes.processes c.args.p y c.self.invariant.sound.count within c.index-process.ensures in
-    rw (← c.self.view_is) (answer_is m s.sizes (record { cell = s.shared; processes = s.processes.items; records = s.records }) c.args.p y also _ (event_in c.in_ok-event.event) (c.in_ok-out.ensures ∙ ap (λ (k : Process _). answer_by k.label (event_in c.in_ok-event.event)) c.process.view_is) (c.in_ok-event.ensures ∙ ap (λ (ps : List (Process _)). event_at y.label m s.sizes s.shared ps c.args.p y) c.deref.ensures.value))
+    rw (← c.self.view_is) (answer_is m s.sizes (record { cell = s.shared; processes = s.processes.items; records = s.records }) c.args.p y also _ (event_at y.label m s.sizes s.shared c.deref.result.now c.args.p y) c.in_ok-out.ensures.answer (ap (λ (ps : List (Process _)). event_at y.label m s.sizes s.shared ps c.args.p y) c.deref.ensures.value))
 
 pub returns-clause-turn : goal.returns-clause-turn
 returns-clause-turn g c =
     let s = c.self.inside in
-    rw (← c.self.view_is) (ap (λ (r : Records). steps_of r.schedule) c.in_ok-note.ensures.ok ∙ one_turn s.records.schedule c.args.p)
+    rw (← c.self.view_is) (ap (λ (r : Records). steps_of r.schedule) c.in_ok-out.ensures.ok ∙ one_turn s.records.schedule c.args.p)
 
 pub returns-clause-few : goal.returns-clause-few
 returns-clause-few g c =
@@ -177,5 +166,5 @@ returns-clause-few g c =
     let y = c.index-process.result.now in
     let also = stands s.processes.items s.sizes.processes c.args.p y c.self.invariant.sound.count within c.index-process.ensures in
     let state : State _ = record { cell = s.shared; processes = s.processes.items; records = s.records } in
-    let answer = answer_is m s.sizes state c.args.p y also _ (event_in c.in_ok-event.event) (c.in_ok-out.ensures ∙ ap (λ (k : Process _). answer_by k.label (event_in c.in_ok-event.event)) c.process.view_is) (c.in_ok-event.ensures ∙ ap (λ (ps : List (Process _)). event_at y.label m s.sizes s.shared ps c.args.p y) c.deref.ensures.value) in
+    let answer = answer_is m s.sizes state c.args.p y also _ (event_at y.label m s.sizes s.shared c.deref.result.now c.args.p y) c.in_ok-out.ensures.answer (ap (λ (ps : List (Process _)). event_at y.label m s.sizes s.shared ps c.args.p y) c.deref.ensures.value) in
     subst (λ (a : Answer). length (values_answered a) ≤ 8) (sym answer) (few_answered m (e.lawful s.engine) (e.fits s.engine) (e.ready s.engine) (e.effect s.engine) (g.met.E.Engine.law s.engine) s.sizes s.opening.items state c.args.p c.self.invariant.sound)

@@ -2,13 +2,7 @@ use Rattle.std.proofs.Common.{◌<◌, ℕ, sym, ap}
 use Rattle.ob_mean.specs.View.{call_of}
 use Rattle.wf_table.specs.Object.{State, submit_by}
 use Rattle.wf_table.specs.Table.{Process}
-use Rattle.wf_table.proofs.SubmitSound.{submit_sound}
-use Rattle.wf_commits.proofs.Runs.{submit_committed}
-use Rattle.std.specs.Prelude.{Some}
-use Rattle.wf_table.proofs.Frame.{each_after}
-use Rattle.wf_bound.specs.Spent.{unspent, spent_after}
-use Rattle.wf_bound.specs.Bound.{StaysWithin}
-use Rattle.wf_bound.proofs.EachCounts.{submit_counts}
+use Rattle.wf_object.proofs.Keeps.{submit_kept}
 use Rattle.wf_object.proofs.OneStep.{stands, number_is}
 use Rattle.wf_object.proofs.machine.Machine.submit.Goals as goal
 
@@ -22,12 +16,7 @@ invariant_of-self-2 g c =
     let e = g.E.Engine in
     let state : State _ = record { cell = s.shared; processes = s.processes.items; records = s.records } in
     rw (c.in_ok-number.ensures.submitted)
-    (record {
-      sound = submit_sound (e.meaning s.engine) (e.lawful s.engine) (e.fits s.engine) (e.ready s.engine) s.sizes s.opening.items state c.args.p x (call_of c.args.call) fit at c.self.invariant.sound;
-      committed = submit_committed s.sizes state c.args.p x (call_of c.args.call) at c.self.invariant.committed;
-      spends = submit_counts (e.meaning s.engine) s.sizes spent_after unspent (StaysWithin s.sizes) state s.spent.items c.args.p (call_of c.args.call) (Some x) (λ k q calls stays. record { outside = stays.outside; bodies = stays.bodies }) at c.self.invariant.spends;
-      among = each_after _ _ s.processes.items c.args.p _ c.self.invariant.among (c.self.invariant.among _ _ at) (λ k o apart old. old);
-    })
+    (submit_kept (e.meaning s.engine) (e.lawful s.engine) (e.fits s.engine) (e.ready s.engine) (e.effect s.engine) (g.met.E.Engine.law s.engine) s.sizes s.opening.items state c.args.p x at s.spent.items c.self.invariant (call_of c.args.call) fit)
 
 pub returns-clause-submitted : goal.returns-clause-submitted
 returns-clause-submitted g c =

@@ -1,0 +1,1 @@
+//! Laws of layouts. What a function here ensures is proved; it does nothing.

@@ -1,0 +1,12 @@
+//! The words of a checked module: of its state in a block, and of its procedures' frames on a stack.
+#![tactic(auto)]
+
+pub mod decoding;
+pub mod encoding;
+mod frames;
+pub mod laws;
+pub mod layout;
+mod temporaries;
+
+pub use encoding::encode;
+pub use layout::Layout;

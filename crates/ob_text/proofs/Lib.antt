@@ -1,0 +1,7 @@
+pub mod Numerals
+pub mod DigitParts
+pub mod Names
+pub mod ExportSearch
+pub mod ValueReading
+pub mod ScriptReading
+pub mod OneScript

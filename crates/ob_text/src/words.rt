@@ -1,0 +1,34 @@
+//! Words, and those that are names.
+
+ghost use Rattle.std.specs.Prelude.{◌≡◌, ◌↔◌, map, IsTrue, IfOk};
+ghost use Rattle.ob_text.specs.Words.{words, is_blank, IsName};
+
+use ob_scan::keyword::keyword;
+use std::alloc::{AllocError, Global};
+
+/// What stands between the blanks of a line.
+pub fn words_of(alloc: Global, line: &[u8]) -> Result<Vec<&[u8]>, AllocError>
+    ensures { IfOk result (λ ws. map (λ w. w.now) ws.items ≡ words line.now) }
+{
+    line.split(|byte| is_blank(*byte))
+        .filter(|word| !word.is_empty())
+        .collect(alloc)
+}
+
+fn is_blank(byte: u8) -> bool
+    ensures { result ≡ is_blank byte }
+{
+    matches!(byte, b' ' | b'\t' | b'\r')
+}
+
+/// Whether a word is an ident, of whatever length.
+pub fn is_name(word: &[u8]) -> bool
+    ensures { IsTrue result ↔ IsName word.now }
+{
+    let Some((first, others)) = word.split_first() else {
+        return false;
+    };
+    first.is_ascii_alphabetic()
+        && others.iter().all(|byte| byte.is_ascii_alphanumeric())
+        && keyword(word).is_none()
+}

@@ -1,0 +1,4 @@
+mod Halted
+mod Present
+mod Scripts
+mod Ends

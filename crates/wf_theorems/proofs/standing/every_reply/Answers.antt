@@ -1,0 +1,6 @@
+use Rattle.wf_standing.proofs.Runs.{run_standing}
+use Rattle.wf_theorems.proofs.standing.every_reply.Goals as goal
+
+pub returns : goal.returns
+returns g c = λ e n opening acts s leads.
+    let i = g.E.Engine in run_standing (i.meaning e) (i.lawful e) (i.fits e) (i.ready e) (i.effect e) (g.met.E.Engine.law e) n opening acts s leads
