@@ -16,5 +16,9 @@ top_shape = record (new_app (codes "obl0")).top {
   subcommand_required = true;
 }
 
+-- before any command
+abbrev pub top_app : App
+top_app = record { top = top_shape; subs = [] }
+
 abbrev pub obl0_app : App
-obl0_app = with_subcommand (record { top = top_shape; subs = [] }) seq_app.top
+obl0_app = with_subcommand top_app seq_app.top

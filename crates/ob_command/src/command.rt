@@ -3,7 +3,7 @@
 ghost use Rattle.std.specs.Prelude.{◌≡◌, false, IfOk, IsSome, map, codes};
 ghost use Rattle.clap.specs.Words.{app_of, first_value, found_of, kind_of, rule_of};
 ghost use Rattle.clap.specs.declared.builder.command.Command.TheViews.{out-Command as fields_of};
-ghost use Rattle.ob_command.specs.ClapCommand.{name_rule, obl0_app, seq_app};
+ghost use Rattle.ob_command.specs.ClapCommand.{name_rule, obl0_app, seq_app, top_app};
 ghost use Rattle.ob_command.specs.CommandLine.{command_request, is_alone, request};
 ghost use Rattle.ob_command.specs.Commands.{IsReading, IsSeqOf, IsStopOf};
 ghost use Rattle.ob_command.specs.declared.command.Stop.TheVariants.{NoMemory};
@@ -116,15 +116,23 @@ fn stop_of(alloc: Global, error: &clap::Error) -> Result<Stop, AllocError>
 fn command_line<'a>(alloc: Global) -> Result<clap::Command<'a>, AllocError>
     ensures { IfOk result (λ c. app_of c ≡ obl0_app) }
 {
-    clap::Command::new(alloc, "obl0")
+    let seq = seq_line(alloc)?;
+    program_line(alloc)?.subcommand(seq)
+}
+
+/// The command line before any command.
+fn program_line<'a>(alloc: Global) -> Result<clap::Command<'a>, AllocError>
+    ensures { IfOk result (λ c. app_of c ≡ top_app) }
+{
+    let program = clap::Command::new(alloc, "obl0")
         .bin_name("obl0")?
         .about("Runs a module of Oberon-0")
         .after_help(AFTER_HELP)
         .no_binary_name(true)
         .disable_help_subcommand(true)
         .subcommand_required(true)
-        .arg_required_else_help(true)
-        .subcommand(seq_line(alloc)?)
+        .arg_required_else_help(true);
+    Ok(program)
 }
 
 /// The words behind `seq`.
