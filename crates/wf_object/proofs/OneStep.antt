@@ -6,7 +6,6 @@ use Rattle.std.proofs.lemmas.Option.{slice_get_read}
 use Rattle.ll_cell.specs.Cell.{Cell, own_of}
 use Rattle.ob_mean.specs.Object.{ObjectCall, Reply}
 use Rattle.wf_history.specs.History.{Event}
-use Rattle.wf_table.specs.declared.process.Label.{Label}
 use Rattle.wf_table.specs.declared.process.Sizes.{Sizes}
 use Rattle.wf_table.specs.Meaning.{Meaning}
 use Rattle.wf_table.specs.Table.{Process, cell_after, row}
