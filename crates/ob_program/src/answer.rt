@@ -7,11 +7,11 @@ ghost use Rattle.ob_command.specs.Commands.{request_of};
 ghost use Rattle.ob_program.specs.SequentialRun.{is_want_of_memory};
 
 use crate::answered::Answer;
-use ob_command::command::{Command, Stop, read_command};
 use crate::fault_line::fault_line;
 use crate::files::{FileFault, Files};
 use crate::sequential::{SeqTextFault, seq_text};
 use crate::shown_name::push_name;
+use ob_command::command::{Command, Stop, read_command};
 use ob_grammar::NoMemory;
 use ob_scan::scanner::LONGEST_TEXT;
 use std::alloc::{AllocError, Global};
