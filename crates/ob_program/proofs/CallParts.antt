@@ -13,7 +13,7 @@ use Rattle.ob_text.specs.Script
 use Rattle.ob_text.specs.Words.{Word}
 use Rattle.ob_text.specs.Script.{AreLines, none, skipped, call, Makes, makes}
 use Rattle.ob_text.specs.ScriptView.{script_call_of}
-use Rattle.ob_program.specs.ReplyLines.{reply_lines, count_of}
+use Rattle.ob_reply.specs.ReplyLines.{reply_lines, count_of}
 use Rattle.ob_program.specs.SequentialRun.{NeedsMoreTurnsIn, PrintsReplies, object_call, turns}
 
 callers_in : (xs : List ScriptCall) → map (λ c. c.process) (map script_call_of xs) ≡ map (λ c. c.process) xs

@@ -1,4 +1,3 @@
-pub mod Printing
 pub mod CallParts
 pub mod PlainNames
 pub mod Beginnings

@@ -1,4 +1,3 @@
-pub mod ReplyLines
 pub mod SequentialRun
 pub mod SequentialParts
 pub mod Answers

@@ -8,7 +8,7 @@ use Rattle.ob_check.specs.Exports.{signatures}
 use Rattle.ob_mean.specs.Object.{ObjectCall, Reply, State, IsOpening, AreReplies}
 use Rattle.ob_mean.specs.Faults.{IsOpenFault, NeedsMoreAt}
 use Rattle.ob_text.specs.Script.{ScriptCall, IsScript, IsScriptFault}
-use Rattle.ob_program.specs.ReplyLines.{reply_lines, count_of}
+use Rattle.ob_reply.specs.ReplyLines.{reply_lines, count_of}
 use Rattle.ob_scan.specs.declared.fault.ScanFault.TheVariants as Scan
 use Rattle.ob_parser.specs.declared.parser.ParseFault.TheVariants as Parse
 use Rattle.ob_check.specs.declared.checker.CheckFault.TheVariants as Check

@@ -6,6 +6,5 @@ pub mod answer;
 pub mod answered;
 pub mod fault_line;
 pub mod files;
-pub mod reply_lines;
 pub mod sequential;
 pub mod shown_name;

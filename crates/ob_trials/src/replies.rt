@@ -4,8 +4,8 @@ use ob_check::program::Scalar;
 use ob_mean::call::Reply;
 use ob_mean::opening::OpenFault;
 use ob_program::fault_line::fault_line;
-use ob_program::reply_lines::print_replies;
 use ob_program::sequential::SeqTextFault;
+use ob_reply::reply_lines::print_replies;
 use smallvec::SmallVec;
 use std::test::Fail;
 

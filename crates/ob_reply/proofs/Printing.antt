@@ -6,7 +6,7 @@ use Rattle.std.proofs.lemmas.List.Sums.{length-filter, count_by-le-length}
 use Rattle.std.proofs.lemmas.Bool.{eq-eqb, cases_lt}
 use Rattle.std.proofs.lemmas.Bool.Decides.{eqb_tells}
 use Rattle.ob_mean.specs.Object.{Reply}
-use Rattle.ob_program.specs.ReplyLines.{reply_line, reply_lines, count_of}
+use Rattle.ob_reply.specs.ReplyLines.{reply_line, reply_lines, count_of}
 
 -- so many of the callers, the last one first
 abbrev pub before : List ℕ → ℕ → List ℕ

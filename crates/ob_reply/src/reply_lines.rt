@@ -3,7 +3,7 @@
 ghost use Rattle.std.specs.Prelude.{◌≡◌, ◌<◌, ◌++◌, [], map, codes, decimal, All, IfOk, OnOk, string_bytes};
 ghost use Rattle.std.specs.List.{flat_map};
 ghost use Rattle.ob_mean.specs.View.{reply_of};
-ghost use Rattle.ob_program.specs.ReplyLines.{reply_text, reply_line, reply_lines};
+ghost use Rattle.ob_reply.specs.ReplyLines.{reply_text, reply_line, reply_lines};
 ghost use Rattle.ob_text.specs.Values.{scalar_text};
 
 use ob_check::program::Scalar;
@@ -23,19 +23,19 @@ pub fn print_replies(
     ensures { IfOk result (λ text. string_bytes text ≡ reply_lines [] callers.now (map reply_of replies.now)) }
 {
     let mut text = String::new(alloc);
-    let mut made = vec![in alloc; 0usize; processes]?;
+    let mut made = vec![in alloc; 0u64; processes]?;
     for (caller, reply) in callers.iter().zip(replies) {
         made[*caller] += 1;
-        push_line(&mut text, *caller, made[*caller], reply)?;
+        push_reply_line(&mut text, *caller, made[*caller], reply)?;
     }
     Ok(text)
 }
 
 /// Appends the line of a reply to a process's call of a number.
-fn push_line(
+pub fn push_reply_line(
     text: &mut String,
     process: usize,
-    number: usize,
+    number: u64,
     reply: &Reply,
 ) -> Result<(), AllocError>
     ensures { OnOk result (string_bytes text.new ≡ string_bytes text.old ++ reply_line process number (reply_of reply.now)) }

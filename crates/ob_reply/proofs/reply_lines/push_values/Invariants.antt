@@ -2,7 +2,7 @@
 use Rattle.std.proofs.Common.{◌≡◌, ◌++◌, take, codes, string_bytes}
 use Rattle.std.specs.List.{flat_map}
 use Rattle.ob_text.specs.Values.{scalar_text}
-use Rattle.ob_program.proofs.reply_lines.push_values.Given as goal
+use Rattle.ob_reply.proofs.reply_lines.push_values.Given as goal
 
 abbrev pub invariant-loop-value : goal.invariant-loop-value
 invariant-loop-value l =

@@ -1,8 +1,8 @@
 -- The lines so far, and a count of each process's calls.
 use Rattle.std.proofs.Common.{length, map, string_bytes}
 use Rattle.ob_mean.specs.View.{reply_of}
-use Rattle.ob_program.proofs.Printing.{HasPrinted}
-use Rattle.ob_program.proofs.reply_lines.print_replies.Given as goal
+use Rattle.ob_reply.proofs.Printing.{HasPrinted}
+use Rattle.ob_reply.proofs.reply_lines.print_replies.Given as goal
 
 abbrev pub invariant-loop-caller : goal.invariant-loop-caller
 invariant-loop-caller l =

@@ -1,0 +1,4 @@
+//! Replies as text: the lines that end with them.
+#![tactic(auto)]
+
+pub mod reply_lines;

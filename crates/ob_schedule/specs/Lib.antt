@@ -1,0 +1,2 @@
+pub mod LabelNames
+pub mod Schedule
