@@ -1,0 +1,5 @@
+pub mod Value
+pub mod Store
+pub mod Evaluation
+pub mod Statements
+pub mod Object

@@ -1,0 +1,56 @@
+-- What the interpreter's values stand for: no pointers, and vectors as lists.
+use Rattle.std.specs.Borrow.{Bor}
+use Rattle.std.specs.Prelude.{List, [], ◌∷◌, map, Option, Some, None, Vec, Result, Ok, Err}
+use Rattle.std.specs.Global.{Global}
+use Rattle.ob_store.specs.declared.value.Value.{Value, Row_of-Value, end_of-Value, more_of-Value}
+use Rattle.ob_store.specs.declared.value.Value.TheVariants.{Single, Parts'}
+use Rattle.ob_store.specs.declared.operators.Trap.{Trap}
+use Rattle.ob_typing.specs.Arithmetic.{Evaluated, Gives, Traps}
+use Rattle.ob_store.specs.declared.store.Place.{Place}
+use Rattle.ob_store.specs.declared.store.Held.{Held}
+use Rattle.ob_store.specs.declared.store.Held.TheVariants.{Holds, Refers}
+use Rattle.ob_store.specs.declared.store.Store.{Store}
+use Rattle.ob_positions.specs.Value as Values
+use Rattle.ob_positions.specs.Store as Stores
+
+abbrev mutual
+  pub value_in : Value → Values.Value
+  value_in (Single s) = Values.Single s
+  value_in (Parts' shape parts) = Values.Parts (parts_in parts)
+
+  pub parts_in : {m : _} → Row_of-Value m → Values.Values
+  parts_in end_of-Value = Values.no_part
+  parts_in (more_of-Value v rest) = Values.part (value_in v) (parts_in rest)
+
+-- values that stand outside another one
+abbrev pub values_in : List Value → Values.Values
+values_in [] = Values.no_part
+values_in (v ∷ rest) = Values.part (value_in v) (values_in rest)
+
+-- a part that is lent, or 0 where there is none, as never with a checked program
+abbrev pub value_or_zero : Option (Bor Value) → Values.Value
+value_or_zero None = Values.zero_value
+value_or_zero (Some v) = value_in v.now
+
+abbrev pub place_in : Place → Stores.Place
+place_in p = record { activation = p.activation; position = p.position; path = p.path.items }
+
+abbrev pub held_in : Held → Stores.Held
+held_in (Holds v) = Stores.Holds (value_in v)
+held_in (Refers p) = Stores.Refers (place_in p)
+
+-- what is held, or 0 where there is no such position
+abbrev pub held_or_zero : Option (Bor Held) → Stores.Held
+held_or_zero None = Stores.Holds Values.zero_value
+held_or_zero (Some h) = held_in h.now
+
+abbrev pub activation_in : Vec Held Global → Stores.Activation
+activation_in held = map held_in held.items
+
+abbrev pub store_in : Store → Stores.Store
+store_in s = map activation_in s.activations.items
+
+-- what an evaluation gave
+abbrev pub evaluated_in : {A : Type 0} → Result A Trap → Evaluated A
+evaluated_in (Ok a) = Gives a
+evaluated_in (Err t) = Traps t.0

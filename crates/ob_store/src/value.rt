@@ -1,0 +1,118 @@
+//! Values of variables.
+
+ghost use Rattle.std.specs.Prelude.{◌≡◌, ◌∷◌, IfOk};
+ghost use Rattle.ob_positions.specs.Value as Values;
+ghost use Rattle.ob_store.specs.View.{value_in, values_in, value_or_zero};
+
+use ob_typing::scalar::Scalar;
+use std::alloc::{AllocError, Global};
+use std::mem;
+
+/// A scalar, or parts in their order: the elements of an array, or the fields of a record.
+#[derive(Drop)]
+pub enum Value {
+    Single(Scalar),
+    Parts(Vec<Value>),
+}
+
+impl Value {
+    /// The scalar of a value that is one.
+    pub fn scalar(&self) -> Scalar
+        ensures { result ≡ Values.scalar_of (value_in self.now) }
+    {
+        match self {
+            Value::Single(scalar) => *scalar,
+            Value::Parts(_) => Scalar::Int(0),
+        }
+    }
+
+    /// The part at a position, if there is one.
+    pub fn inside(&self, position: usize) -> Option<&Value>
+        ensures { value_or_zero result ≡ Values.inside (value_in self.now) position }
+    {
+        match self {
+            Value::Single(_) => Some(self),
+            Value::Parts(parts) => part_at(parts.as_slice(), position),
+        }
+    }
+
+    /// The part behind positions, one within the other, if there is one.
+    pub fn selected(&self, path: &[usize]) -> Option<&Value>
+        ensures { value_or_zero result ≡ Values.selected (value_in self.now) path.now }
+    {
+        let mut value = self;
+        for position in path {
+            match value.inside(*position) {
+                Some(part) => value = part,
+                None => return None,
+            }
+        }
+        Some(value)
+    }
+}
+
+/// The part at a position, if there is one.
+fn part_at(parts: &[Value], position: usize) -> Option<&Value>
+    ensures { value_or_zero result ≡ Values.part_at (values_in parts.now) position }
+{
+    if position < parts.len() {
+        Some(&parts[position])
+    } else {
+        None
+    }
+}
+
+/// Puts a scalar in the place of the part behind positions.
+#[cycle(replace)]
+pub fn replace(value: &mut Value, path: &[usize], scalar: Scalar)
+    ensures { value_in value.new
+        ≡ Values.replaced (value_in value.old) path.now (Values.Single scalar) }
+{
+    match path.split_first() {
+        None => *value = Value::Single(scalar),
+        Some((first, rest)) => {
+            let whole = mem::replace(value, Value::Single(scalar));
+            *value = with_part(whole, *first, rest, scalar);
+        }
+    }
+}
+
+/// The value with a scalar in the place of the part behind a position and further ones.
+#[cycle(replace)]
+fn with_part(whole: Value, first: usize, rest: &[usize], scalar: Scalar) -> Value
+    ensures { value_in result
+        ≡ Values.replaced (value_in whole) (first ∷ rest.now) (Values.Single scalar) }
+{
+    match whole {
+        Value::Single(own) => Value::Single(own),
+        Value::Parts(mut parts) => {
+            if first < parts.len() {
+                replace(&mut parts[first], rest, scalar);
+            }
+            Value::Parts(parts)
+        }
+    }
+}
+
+/// An equal value.
+#[cycle(copies)]
+pub fn copy(alloc: Global, value: &Value) -> Result<Value, AllocError>
+    ensures { IfOk result (λ v. value_in v ≡ value_in value.now) }
+{
+    match value {
+        Value::Single(scalar) => Ok(Value::Single(*scalar)),
+        Value::Parts(parts) => Ok(Value::Parts(copy_all(alloc, parts.as_slice())?)),
+    }
+}
+
+/// Equal values.
+#[cycle(copies)]
+pub fn copy_all(alloc: Global, values: &[Value]) -> Result<Vec<Value>, AllocError>
+    ensures { IfOk result (λ vs. values_in vs.items ≡ values_in values.now) }
+{
+    let mut copies = Vec::with_capacity(alloc, values.len())?;
+    for value in values {
+        copies.push(copy(alloc, value)?)?;
+    }
+    Ok(copies)
+}
