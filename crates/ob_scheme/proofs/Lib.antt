@@ -1,0 +1,13 @@
+pub mod Image
+pub mod Located
+pub mod Stores
+pub mod Instructions
+pub mod Placed
+pub mod Fine
+pub mod Expressions
+pub mod Statements
+pub mod Calls
+pub mod Theorem
+pub mod Entries
+pub mod Typed
+pub mod Law

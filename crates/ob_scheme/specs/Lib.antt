@@ -1,0 +1,3 @@
+pub mod Scheme
+pub mod Literals
+pub mod Correct
