@@ -1,5 +1,5 @@
 -- Expressions, places and actuals by position and by name.
-use Rattle.std.proofs.Common.{◌≡◌, refl, ap, sym, subst, ◌∙◌, arith, ℕ, ℤ, pos, negsuc, zero, suc, pred, ◌<◌, Bool, true, false, List, [], ◌∷◌, ◌++◌, length, if◌then◌else◌, ltb-true}
+use Rattle.std.proofs.Common.{◌≡◌, refl, ap, sym, subst, ◌∙◌, arith, ℕ, ℤ, pos, negsuc, zero, suc, pred, ◌<◌, Bool, true, false, List, [], ◌∷◌, length, if◌then◌else◌, ltb-true}
 use Rattle.std.specs.Prelude.{nat_lt, ◌&&◌, int_le, int_lt, ◌+ℤ◌, ◌-ℤ◌, ◌*ℤ◌, neg_ℤ}
 use Rattle.std.specs.Int.{int_div_euclid, int_rem_euclid}
 use Rattle.ob_typing.specs.declared.scalar.Scalar.{Scalar}
@@ -11,12 +11,12 @@ use Rattle.ob_typing.specs.declared.scalar.ScalarType.TheVariants.{Integer, Bool
 use Rattle.ob_typing.specs.declared.operator.BinaryOperator.{BinaryOperator}
 use Rattle.ob_typing.specs.declared.operator.BinaryOperator.TheVariants.{Plus, Minus, Times, Div, Mod, And, Or}
 use Rattle.ob_typing.specs.Program.{Name, DataType, Simple, Array, Record, Owner, OfModule, Own, Slot, Expression, Literal, ValueOf, Negated, Complement, Computed, Compared, Operations, no_operation, operation, Designator, Designated, Selectors, no_selector, field_of, element_of, Actual, ByValue, ByPlace, Parameter}
-use Rattle.ob_typing.specs.Arithmetic.{Evaluated, Gives, Traps, ◌>>=◌, type_of, number_of, takes, computed, decides, applied, negated, complement, compared, in_range, divided}
+use Rattle.ob_typing.specs.Arithmetic.{Evaluated, Gives, Traps, ◌>>=◌, type_of, number_of, takes, computed, decides, applied, negated, complement, compared, in_range}
 use Rattle.ob_meaning.specs.Value as Named
 use Rattle.ob_meaning.specs.Store as Names
 use Rattle.ob_meaning.specs.Evaluation as Meanings
 use Rattle.ob_positions.specs.Value.{Value, Single, Parts, scalar_of}
-use Rattle.ob_positions.specs.Store.{Place, Held, Holds, Refers, Store, activation_at, held_at, place_held, place_owned, place_of_slot, further_in, value_at, running}
+use Rattle.ob_positions.specs.Store.{Place, Held, Holds, Refers, Store, place_held, place_owned, place_of_slot, further_in, value_at, running}
 use Rattle.ob_positions.specs.Evaluation
 use Rattle.ob_agreement.specs.Resolved.{IsAt, HasField, HasElements, declared_by, IsOf, AreOf, IsVariable, Lead, IsActual, Fit}
 use Rattle.ob_agreement.specs.Same.{SameScalar, SameSingle, SameValue, SameStep, SamePath, Scopes, scope_at, SamePlace, SameHeld, SameHanded, SameStore, SameEvaluated}

@@ -1,12 +1,12 @@
 -- Statements and calls by position and by name come to the same.
 use Rattle.std.proofs.Common.{◌≡◌, refl, ap, sym, subst, ◌∙◌, arith, ℕ, zero, suc, pred, ◌<◌, ◌≤◌, ◌+◌, Bool, true, false, List, [], ◌∷◌, ◌++◌, map, length, take, if◌then◌else◌}
-use Rattle.std.specs.Prelude.{slice_get, Option, Some, None}
+use Rattle.std.specs.Prelude.{slice_get, Some}
 use Rattle.std.proofs.lemmas.List.{length-append}
 use Rattle.ob_typing.specs.declared.scalar.ScalarType.{ScalarType}
 use Rattle.ob_typing.specs.declared.scalar.ScalarType.TheVariants as ScalarTypes
 use Rattle.ob_typing.specs.declared.scalar.ScalarType.TheVariants.{Boolean}
 use Rattle.ob_typing.specs.Program.{Name, DataType, Simple, Array, Record, Fields, no_field, field, Expression, Statement, Assign, Call, If, While, Statements, no_statement, statement, Branches, no_branch, otherwise, branch, Parameter, Variable, Procedure, Program}
-use Rattle.ob_typing.specs.Arithmetic.{Evaluated, Gives, Traps, type_of, truth_of, too_many_activations}
+use Rattle.ob_typing.specs.Arithmetic.{Evaluated, Gives, Traps, type_of, truth_of}
 use Rattle.ob_meaning.specs.Value as Named
 use Rattle.ob_meaning.specs.Store as Names
 use Rattle.ob_meaning.specs.Evaluation as Evaluations
@@ -14,12 +14,11 @@ use Rattle.ob_meaning.specs.Statements as Meanings
 use Rattle.ob_meaning.specs.Object as Objects
 use Rattle.ob_meaning.specs.Object.{most_activations}
 use Rattle.ob_positions.specs.Object.{opening}
-use Rattle.ob_positions.specs.Value.{Value, Values, Single, Parts, no_part, part, copies, initial, initial_fields}
-use Rattle.ob_positions.specs.Store.{Place, Held, Holds, Refers, Activation, Store, stored, running}
+use Rattle.ob_positions.specs.Value.{Value, Single, copies, initial, initial_fields}
+use Rattle.ob_positions.specs.Store.{Place, Held, Holds, Refers, Activation, Store, running}
 use Rattle.ob_positions.specs.Evaluation as Evaluation
-use Rattle.ob_positions.specs.Statements
 use Rattle.ob_positions.specs.Statements.{Outcome, Done, Trap, NotYet, Run, Calls, after, then_run, with_turn, loop_once, loop, meaning, meaning_of_all, meaning_of_branches, begun, activation_of, left, activated, calls}
-use Rattle.ob_agreement.specs.Resolved.{as_parameter, scope_of, module_scope, IsAt, NoneCalled, AreDistinct, IsOf, IsGood, AreGood, AreGoodBranches, IsProcedure, IsResolved}
+use Rattle.ob_agreement.specs.Resolved.{as_parameter, scope_of, module_scope, IsAt, AreDistinct, IsOf, IsGood, AreGood, AreGoodBranches, IsProcedure, IsResolved}
 use Rattle.ob_agreement.specs.Same.{SameScalar, SameElements, SameValue, SameFields, SamePlace, Scopes, scope_at, SameHeld, SameHanded, SameActivation, SameFrom, SameStore, SameEvaluated, SameOutcome}
 use Rattle.ob_agreement.proofs.SameStores.{stored_same, store_length}
 use Rattle.ob_agreement.proofs.SameExpressions.{value_same, place_same, all_handed_same}

@@ -1,5 +1,5 @@
 -- Activations and stores by position and by name: what a place has, and a write at a place.
-use Rattle.std.proofs.Common.{◌≡◌, refl, ap, sym, subst, ◌∙◌, arith, ℕ, zero, suc, ◌+◌, true, false, List, [], ◌∷◌, map, length, bytes_eq, if◌then◌else◌}
+use Rattle.std.proofs.Common.{◌≡◌, refl, ap, sym, subst, ◌∙◌, arith, ℕ, zero, suc, ◌+◌, false, List, [], ◌∷◌, map, length, bytes_eq}
 use Rattle.std.specs.Prelude.{slice_set}
 use Rattle.std.proofs.lemmas.Slice.Eq.{bytes_eq-Decides}
 use Rattle.ob_typing.specs.Program.{Name, DataType, Parameter}

@@ -1,9 +1,9 @@
 -- When a value, a place or a store by position is one by name: the names stand at their positions, and the values are
 -- of their types.
-use Rattle.std.specs.Prelude.{◌≡◌, ℕ, zero, suc, ◌<◌, true, false, bytes_eq, List, [], ◌∷◌, length, slice_get, Option, Some, None}
+use Rattle.std.specs.Prelude.{◌≡◌, ℕ, zero, suc, ◌<◌, true, false, List, [], ◌∷◌, length, slice_get, Option, Some, None}
 use Rattle.ob_typing.specs.declared.scalar.Scalar.{Scalar}
 use Rattle.ob_typing.specs.declared.scalar.ScalarType.{ScalarType}
-use Rattle.ob_typing.specs.Program.{Name, DataType, Simple, Array, Record, Fields, no_field, field, Parameter}
+use Rattle.ob_typing.specs.Program.{DataType, Simple, Array, Record, Fields, no_field, field, Parameter}
 use Rattle.ob_typing.specs.Arithmetic.{Evaluated, Gives, Traps, type_of}
 use Rattle.ob_meaning.specs.Value as Named
 use Rattle.ob_meaning.specs.Store as Names
