@@ -1,0 +1,4 @@
+pub mod SameValues
+pub mod SameStores
+pub mod SameExpressions
+pub mod SameStatements

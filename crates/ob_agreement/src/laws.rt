@@ -1,0 +1,24 @@
+//! What holds of the two meanings, as functions that do nothing: their contracts are the laws.
+
+ghost use Rattle.std.specs.Prelude.{◌≡◌, ℕ, ◌<◌, List, [], ◌∷◌, length, slice_get, Some};
+ghost use Rattle.ob_typing.specs.Program.{Procedure, Program};
+ghost use Rattle.ob_meaning.specs.Object as Objects;
+ghost use Rattle.ob_meaning.specs.Statements as Meanings;
+ghost use Rattle.ob_meaning.specs.Store as Names;
+ghost use Rattle.ob_positions.specs.Object as ObjectsByPosition;
+ghost use Rattle.ob_positions.specs.Statements as Positions;
+ghost use Rattle.ob_positions.specs.Store.{Store, Held};
+ghost use Rattle.ob_agreement.specs.Resolved.{IsResolved, module_scope};
+ghost use Rattle.ob_agreement.specs.Same.{Scopes, scope_at, SameStore, SameHanded, SameOutcome};
+
+/// A call in the text comes to the same by position as by name, and what variables have afterwards are values of
+/// their types.
+#[tactic(auto, using(crate::proofs::SameStatements::calls_same))]
+pub fn calls_agree()
+    ensures { (program : Program) → IsResolved program → (more : ℕ) (scopes : Scopes) → 0 < length scopes → scope_at scopes 0 ≡ module_scope program → (n : ℕ) (p : Procedure) (hs : List Names.Held) (gs : List Held) → slice_get program.procedures n ≡ Some p → (t : ℕ) (ms : Names.Store) (ss : Store) → SameStore scopes ms ss → SameHanded scopes p.parameters hs gs → SameOutcome scopes (Meanings.calls program more n hs t ms) (Positions.calls program more n gs t ss) }
+{}
+
+/// So does the opening.
+pub fn openings_agree()
+    ensures { (program : Program) → IsResolved program → (turns : ℕ) → SameOutcome (module_scope program ∷ []) (Objects.opening program turns) (ObjectsByPosition.opening program turns) }
+{}
