@@ -11,7 +11,7 @@ use Rattle.ob_text.specs.Values as Values
 use Rattle.ob_text.specs.Script as Script
 use Rattle.ob_text.specs.Words.{IsDigits, IsInteger, IsProcess, Word}
 use Rattle.ob_text.specs.Values.{AreValues, IsValue, value_formals}
-use Rattle.ob_text.specs.ExportNames.{Numbered, export_named}
+use Rattle.ob_text.specs.ExportNames.{Numbered}
 use Rattle.ob_text.specs.Script.{AreLines, IsSkipped, Makes, ScriptCall}
 
 one_number : {most : ℕ} {word : Word} {m n : ℕ} → IsDigits most word m → IsDigits most word n → m ≡ n
