@@ -1,5 +1,5 @@
 -- The expression of a text has a verdict, and in a constant expression a value: by recursion on its derivation.
-use Rattle.std.proofs.Common.{◌≡◌, refl, ℕ, ℤ, pos, Option, Some, None, is_some}
+use Rattle.std.proofs.Common.{◌≡◌, refl, ℕ, Option, Some, None}
 use Rattle.ob_scan.specs.declared.token.Kind.{Kind}
 use Rattle.ob_grammar.specs.declared.tree.Operator.{Operator}
 use Rattle.ob_grammar.specs.declared.tree.Sign.{Sign}
@@ -17,12 +17,12 @@ use Rattle.ob_typing.specs.declared.operator.Relation.{Relation}
 use Rattle.ob_typing.specs.declared.operator.Relation.TheVariants as Relations
 use Rattle.ob_typing.specs.declared.rule.Rule.TheVariants.{UnknownName, WrongKind, TypesDiffer}
 use Rattle.ob_typing.specs.Program.{DataType}
-use Rattle.ob_typing.specs.Arithmetic.{type_of, same_scalar_type, takes_both, compares, operator_of, relation_of}
+use Rattle.ob_typing.specs.Arithmetic.{same_scalar_type, takes_both, compares, operator_of, relation_of}
 use Rattle.ob_typing.specs.Scopes.{Environment, Meant, Nothing, AConstant, AType, AVariable, FarVariable, AProcedure, meant, type_meant, is_simple, fields_of, elements_of, field_from}
 use Rattle.ob_typing.specs.Expressions.{Use, InStatement, InConstant, NotComputed, known, behind, value_behind, sign_fits, value_signed}
 use Rattle.ob_typing.specs.ExpressionFaults.{first_place, value_broken}
-use Rattle.ob_typing.proofs.Verdict.{Verdict, Right, ◌>>=◌, need}
-use Rattle.ob_typing.proofs.CheckedExpressions.{Typed, Chain, Path, named_value, sign_place, expression, operands, selecting}
+use Rattle.ob_typing.proofs.Verdict.{◌>>=◌, need}
+use Rattle.ob_typing.proofs.CheckedExpressions.{Typed, Chain, named_value, sign_place, expression, operands, selecting}
 use Rattle.ob_typing.proofs.Decided.{Has, Any, has_step, has_need, has_or_wrong, has_test, has_unless, has_result, KnownIn, known_in, complement_known, signed_known, behind_known, compared_known}
 
 relation_is : {kind : Kind} {operator : Operator} → IsRelation kind operator → (o : Relation) × (relation_of operator ≡ Some o)

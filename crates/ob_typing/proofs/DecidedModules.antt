@@ -1,5 +1,5 @@
 -- The module of a text has a verdict: it is well typed, or it breaks a rule.
-use Rattle.std.proofs.Common.{◌≡◌, refl, ℕ, suc, ◌+◌, ◌-◌, List, [], ◌∷◌, length, Option, Some, None, ◌⊎◌, inl, inr}
+use Rattle.std.proofs.Common.{ℕ, suc, ◌+◌, ◌-◌, List, [], ◌∷◌, length, Option, ◌⊎◌, inl, inr}
 use Rattle.std.specs.Prelude.{not, ◌||◌}
 use Rattle.ob_scan.specs.declared.token.Kind.{Kind}
 use Rattle.ob_grammar.specs.Tree

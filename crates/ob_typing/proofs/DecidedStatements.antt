@@ -1,5 +1,5 @@
 -- The types and the statements of a text have a verdict.
-use Rattle.std.proofs.Common.{◌≡◌, refl, sym, ap, ◌∙◌, ℕ, ℤ, suc, arith, true, false, List, [], ◌∷◌, length, Option, Some, None, is_some}
+use Rattle.std.proofs.Common.{◌≡◌, refl, ℕ, arith, true, false, List, [], ◌∷◌, length, Option, Some, None, is_some}
 use Rattle.std.specs.Prelude.{nat_eq, if◌then◌else◌}
 use Rattle.std.specs.Prelude as Prelude
 use Rattle.std.proofs.lemmas.Bool.{eqb-true}
@@ -26,7 +26,7 @@ use Rattle.ob_typing.proofs.Verdict.{Verdict, Right, ◌>>=◌, need, test}
 use Rattle.ob_typing.proofs.CheckedExpressions.{Typed, expression, selecting}
 use Rattle.ob_typing.proofs.CheckedTypes.{type_named, number_at, constant, denoted, denoted_fields}
 use Rattle.ob_typing.proofs.CheckedStatements.{Designation, slot_meant, procedure_meant, is_empty, designated, value_actual, place_actual, actual, actuals, statement, statements, branches, otherwise, body_checked}
-use Rattle.ob_typing.proofs.Decided.{Has, Any, has_step, has_need, has_or_wrong, has_test, has_unless, has_unless_name, KnownIn}
+use Rattle.ob_typing.proofs.Decided.{Has, Any, has_step, has_or_wrong, has_test, has_unless, has_unless_name, KnownIn}
 use Rattle.ob_typing.proofs.DecidedExpressions.{IsDecided, SelectorsDecided, expression_decided, selector_decided}
 
 module _ (env : Environment) where
