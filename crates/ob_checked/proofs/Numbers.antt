@@ -1,6 +1,6 @@
 -- The types of a table: a number keeps its type, and stands for what its entry says.
-use Rattle.std.proofs.Common.{◌≡◌, ℕ, zero, suc, ◌+◌, ◌<◌, ◌≤◌, Bool, true, false, List, [], ◌∷◌, ◌++◌, length, Option, Some, None, get_or, refl, ap, sym, subst, ◌∙◌, arith, String, append_assoc, ltb-true}
-use Rattle.std.specs.Prelude.{◌&&◌, nat_lt, slice_get, string_bytes}
+use Rattle.std.proofs.Common.{◌≡◌, ℕ, zero, suc, ◌+◌, ◌<◌, ◌≤◌, Bool, true, false, List, [], ◌∷◌, ◌++◌, length, Some, get_or, refl, ap, sym, subst, ◌∙◌, arith, String, ltb-true}
+use Rattle.std.specs.Prelude.{◌&&◌, slice_get, string_bytes}
 use Rattle.std.specs.declared.alloc.Global.{Global}
 use Rattle.std.proofs.lemmas.Option.{slice_get_read}
 use Rattle.std.proofs.lemmas.List.{get_or_append_left, get_or_push, get_or_past, length-append}
@@ -11,7 +11,7 @@ use Rattle.ob_checked.specs.declared.types.DataType.{DataType}
 use Rattle.ob_checked.specs.declared.types.DataType.TheVariants.{Simple, Structured}
 use Rattle.ob_checked.specs.declared.types.Structure.{Structure}
 use Rattle.ob_checked.specs.declared.types.Structure.TheVariants.{Array, Record}
-use Rattle.ob_checked.specs.Types.{Entry, type_by, fields_by, structure_by, entry_by, types_behind, types_of, type_in, is_below, all_below, is_within, IsEntry, IsTable}
+use Rattle.ob_checked.specs.Types.{Entry, type_by, fields_by, structure_by, entry_by, types_behind, types_of, type_in, is_below, all_below, is_within, IsTable}
 
 abbrev pub none : Program.DataType
 none = Program.Simple Integer

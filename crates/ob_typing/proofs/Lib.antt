@@ -9,6 +9,10 @@ pub mod ToldExpressions
 pub mod ToldTypes
 pub mod ToldStatements
 pub mod ToldModules
+pub mod Decided
+pub mod DecidedExpressions
+pub mod DecidedStatements
+pub mod DecidedModules
 mod Rows
 pub mod Exports
 pub mod Within

@@ -1,7 +1,8 @@
 //! What holds of the rules, as functions that do nothing: their contracts are the laws.
 
-ghost use Rattle.std.specs.Prelude.{◌≡◌};
+ghost use Rattle.std.specs.Prelude.{◌≡◌, ◌⊎◌};
 ghost use Rattle.ob_grammar.specs.Tree.{Module};
+ghost use Rattle.ob_grammar.specs.Texts.{HasText};
 ghost use Rattle.ob_typing.specs.declared.rule.BrokenRule.{BrokenRule};
 ghost use Rattle.ob_typing.specs.Program.{Program};
 ghost use Rattle.ob_typing.specs.Declarations.{WellTyped};
@@ -30,4 +31,9 @@ pub fn one_fault()
 #[tactic(auto, using(crate::proofs::Within::keeps_limits))]
 pub fn well_typed_keeps_limits()
     ensures { (m : Module) (program : Program) → WellTyped m program → KeepsLimits program }
+{}
+
+/// The module of a text is well typed, or breaks a rule.
+pub fn one_or_other()
+    ensures { (m : Module) → HasText m → ((p : Program) × WellTyped m p) ⊎ ((fault : BrokenRule) × Breaks m fault) }
 {}

@@ -1,7 +1,6 @@
-use Rattle.std.proofs.Common.{◌≡◌, ℕ, ◌≤◌, ◌<◌, ◌*ℤ◌, ℤ, pos, negsuc, arith, w32, w64, lit<, FitsSigned, ap, sym, ◌∙◌}
+use Rattle.std.proofs.Common.{◌≤◌, ◌*ℤ◌, ℤ, pos, negsuc, arith, w32, w64, lit<, FitsSigned}
 use Rattle.std.specs.Prelude.{unsigned_abs}
 use Rattle.std.proofs.lemmas.Int.{ints, to_z-of_z, fits_signed_mul}
-use Rattle.ob_typing.specs.Arithmetic as Arithmetics
 use Rattle.ob_scalars.proofs.operators.product.Goals as goal
 
 abs_bound : (z : ℤ) → FitsSigned w32 z → unsigned_abs z ≤ 2147483648

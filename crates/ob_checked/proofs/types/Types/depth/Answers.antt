@@ -1,4 +1,4 @@
-use Rattle.std.proofs.Common.{sym, ap, ◌∙◌}
+use Rattle.std.proofs.Common.{sym, ap}
 use Rattle.ob_typing.specs.Scopes.{depth}
 use Rattle.ob_checked.proofs.Numbers.{depth_at, no_entry_type}
 use Rattle.ob_checked.proofs.types.Types.depth.Goals as goal

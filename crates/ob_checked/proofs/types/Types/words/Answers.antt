@@ -1,4 +1,4 @@
-use Rattle.std.proofs.Common.{sym, ap, ◌∙◌}
+use Rattle.std.proofs.Common.{sym, ap}
 use Rattle.ob_typing.specs.Scopes.{words}
 use Rattle.ob_checked.proofs.Numbers.{words_at, no_entry_type}
 use Rattle.ob_checked.proofs.types.Types.words.Goals as goal
