@@ -4,7 +4,6 @@
 pub mod decoding;
 pub mod encoding;
 mod frames;
-pub mod laws;
 pub mod layout;
 mod temporaries;
 

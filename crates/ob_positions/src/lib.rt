@@ -1,4 +1,3 @@
-//! The meaning by position: what the meaning of the whole language comes to where no name is looked up.
+//! The meaning by position: what the meaning of the whole language comes to where no name is looked up. What is defined of it
+//! stands in `specs/`.
 #![tactic(auto)]
-
-pub mod laws;
