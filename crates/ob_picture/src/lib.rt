@@ -1,0 +1,8 @@
+//! Pictures of runs.
+#![tactic(auto)]
+
+pub mod picture;
+mod places;
+mod svg;
+
+pub use picture::draw;
