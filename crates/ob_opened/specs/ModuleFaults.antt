@@ -1,0 +1,71 @@
+-- What each fault of a module's text says.
+use Rattle.std.specs.Prelude.{◌≡◌, ◌≢◌, ℕ, Bool, true, false, List}
+use Rattle.ob_scan.specs.ScanFaults.{IsScanFault}
+use Rattle.ob_scan.specs.declared.fault.ScanFault.{ScanFault}
+use Rattle.ob_scan.specs.declared.fault.ScanFault.TheVariants as Scan
+use Rattle.ob_parser.specs.ParseFaults.{IsParseFaultOf}
+use Rattle.ob_parser.specs.declared.parser.ParseFault.{ParseFault}
+use Rattle.ob_parser.specs.declared.parser.ParseFault.TheVariants as Parse
+use Rattle.ob_check.specs.ModuleText.{IsCheckFaultOf, IsModule}
+use Rattle.ob_check.specs.Program.{Program}
+use Rattle.ob_check.specs.declared.checker.CheckFault.{CheckFault}
+use Rattle.ob_check.specs.declared.checker.CheckFault.TheVariants as Check
+use Rattle.ob_mean.specs.Faults.{IsOpenFault}
+use Rattle.ob_mean.specs.Object.{State, IsOpening}
+use Rattle.ob_mean.specs.declared.opening.OpenFault.{OpenFault}
+use Rattle.ob_mean.specs.declared.opening.OpenFault.TheVariants as Open
+use Rattle.ob_opened.specs.declared.opened.ModuleFault.{ModuleFault}
+use Rattle.ob_opened.specs.declared.opened.ModuleFault.TheVariants as Faults
+use Rattle.ob_opened.specs.declared.opened.TheConstants.{TURNS}
+
+-- the opening of a text's program fails
+pub record IsOpenFaultOf (text : List ℕ) (fault : OpenFault) : Type 0 where
+  pub program : Program
+  pub is_module : IsModule text program
+  pub fails : IsOpenFault program TURNS fault
+
+-- what each fault says of a text
+abbrev pub IsModuleFault : List ℕ → ModuleFault → Type 0
+IsModuleFault text (Faults.Scan e) = IsScanFault text e
+IsModuleFault text (Faults.Parse e) = IsParseFaultOf text e
+IsModuleFault text (Faults.Check e) = IsCheckFaultOf text e
+IsModuleFault text (Faults.Open e) = IsOpenFaultOf text e
+IsModuleFault text Faults.NoMemory = Unit {0}
+
+-- the text is of no module whose opening ends
+abbrev pub HasNoOpening : List ℕ → Type 0
+HasNoOpening text = (program : Program) (state : State) → IsModule text program → IsOpening program TURNS state → ⊥
+
+-- want of memory is told in one place
+
+abbrev pub of_scan : ScanFault → ModuleFault
+of_scan Scan.NoMemory = Faults.NoMemory
+of_scan e = Faults.Scan e
+
+abbrev pub of_parse : ParseFault → ModuleFault
+of_parse Parse.NoMemory = Faults.NoMemory
+of_parse e = Faults.Parse e
+
+abbrev pub of_check : CheckFault → ModuleFault
+of_check Check.NoMemory = Faults.NoMemory
+of_check e = Faults.Check e
+
+abbrev pub of_open : OpenFault → ModuleFault
+of_open Open.NoMemory = Faults.NoMemory
+of_open e = Faults.Open e
+
+-- want of memory is told by its own variant alone
+abbrev pub TellsMemoryApart : ModuleFault → Type 0
+TellsMemoryApart (Faults.Scan e) = e ≢ Scan.NoMemory
+TellsMemoryApart (Faults.Parse e) = e ≢ Parse.NoMemory
+TellsMemoryApart (Faults.Check e) = e ≢ Check.NoMemory
+TellsMemoryApart (Faults.Open e) = e ≢ Open.NoMemory
+TellsMemoryApart Faults.NoMemory = Unit {0}
+
+abbrev pub is_want_of_memory : ModuleFault → Bool
+is_want_of_memory Faults.NoMemory = true
+is_want_of_memory _ = false
+
+-- a fault with a number, so no want of memory
+abbrev pub IsNumbered : ModuleFault → Type 0
+IsNumbered fault = (is_want_of_memory fault ≡ false) × TellsMemoryApart fault

@@ -1,0 +1,6 @@
+//! From the text of a module to the checked module and its opening state.
+#![tactic(auto)]
+
+pub mod opened;
+
+pub use opened::{ModuleFault, TURNS, checked_module, opened_module};
