@@ -12,8 +12,8 @@ use Rattle.wf_table.specs.Schedule.{steps_of}
 use Rattle.wf_table.specs.Start.{IsStart, sizes_of}
 use Rattle.wf_object.specs.declared.fault.NewFault.{NewFault}
 use Rattle.wf_object.specs.declared.fault.NewFault.TheVariants as New
-use Rattle.wf_play.specs.declared.play.PlayFault.{PlayFault}
-use Rattle.wf_play.specs.declared.play.PlayFault.TheVariants as Faults
+use Rattle.wf_play.specs.declared.playing.PlayFault.{PlayFault}
+use Rattle.wf_play.specs.declared.playing.PlayFault.TheVariants as Faults
 use Rattle.wf_play.specs.ItemSteps.{AreItemSteps, IsFirstBeyond}
 
 -- the most steps of an item
@@ -34,13 +34,13 @@ pub record IsSameObject {E Run : Type 0} (a b : Object E Run) : Type 0 where
   pub sizes : a.sizes ≡ b.sizes
   pub opening : a.opening ≡ b.opening
 
--- an object of n processes that begins with this block, over an engine's meaning; the scripts are submitted to it first
-module _ {Run : Type 0} (m : Meaning Run) (lawful : List ℤ → Type 0) (fits : ObjectCall → Type 0) (ready : Run → Type 0) (n : ℕ) (opening : List ℤ) (scripts : List (ℕ × ObjectCall)) where
-  -- the state behind the scripts and the state's own schedule, whose steps are exactly those that the items stand for
-  pub record IsPlayed (items : List Item) (s : State Run) : Type 0 where
-    pub runs : IsRun m lawful fits ready n opening (performed scripts s.records.schedule) s
-    pub plays : AreItemSteps m (sizes_of m n) most_steps items (run m (sizes_of m n) (submissions scripts) runs.start) (steps_of s.records.schedule) s
+-- the state behind the scripts, which are submitted first, and the state's own schedule, whose steps are exactly those that
+-- the items stand for: of an object of n processes that begins with this block, over an engine's meaning
+pub record IsPlayed {Run : Type 0} (m : Meaning Run) (lawful : List ℤ → Type 0) (fits : ObjectCall → Type 0) (ready : Run → Type 0) (n : ℕ) (opening : List ℤ) (scripts : List (ℕ × ObjectCall)) (items : List Item) (s : State Run) : Type 0 where
+  pub runs : IsRun m lawful fits ready n opening (performed scripts s.records.schedule) s
+  pub plays : AreItemSteps m (sizes_of m n) most_steps items (run m (sizes_of m n) (submissions scripts) runs.start) (steps_of s.records.schedule) s
 
+module _ {Run : Type 0} (m : Meaning Run) (ready : Run → Type 0) (n : ℕ) (opening : List ℤ) (scripts : List (ℕ × ObjectCall)) where
   -- the item of this number, from 1, is the first one that stands for more steps than an item may take; so the items are no
   -- run within the limit
   pub record IsTooLong (items : List Item) (number : ℕ) : Type 0 where

@@ -3,6 +3,6 @@
 
 mod item;
 pub mod laws;
-pub mod play;
+pub mod playing;
 
-pub use play::{PlayFault, play};
+pub use playing::{PlayFault, play};

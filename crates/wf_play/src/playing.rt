@@ -5,7 +5,7 @@ ghost use Rattle.ob_schedule.specs.Schedule.{process_of};
 ghost use Rattle.ob_text.specs.ScriptView.{script_call_of};
 ghost use Rattle.wf_play.specs.Played.{IsItemFault, IsPlayed, IsPlayFault, IsSameObject, object_call, scripts_of};
 ghost use Rattle.wf_play.specs.ItemSteps.{HasPlayed};
-ghost use Rattle.wf_play.specs.declared.play.PlayFault.TheVariants as Faults;
+ghost use Rattle.wf_play.specs.declared.playing.PlayFault.TheVariants as Faults;
 ghost use Rattle.wf_table.specs.Runs.{run, submissions};
 ghost use Rattle.wf_table.specs.Start.{sizes_of};
 
@@ -51,7 +51,7 @@ impl From<NewFault> for PlayFault {
 
 impl From<NoMemory> for PlayFault {
     ghost use Rattle.std.specs.Prelude.{◌≡◌};
-    ghost use Rattle.wf_play.specs.declared.play.PlayFault.TheVariants as Faults;
+    ghost use Rattle.wf_play.specs.declared.playing.PlayFault.TheVariants as Faults;
 
     ghost from_gives = { λ _ f. f ≡ Faults.NoMemory };
 
