@@ -1,3 +1,4 @@
 pub mod Faults
 pub mod View
 pub mod Kept
+pub mod Halted

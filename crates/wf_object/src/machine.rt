@@ -52,6 +52,7 @@ impl<E: Engine> Model for Machine<E> {
 impl<E: Engine> Machine<E> {
     ghost use Rattle.wf_table.specs.Object.{step_of, answer_of, values_answered, submit_of, label_of, script_of};
     ghost use Rattle.wf_table.specs.Schedule.{steps_of};
+    ghost use Rattle.wf_object.specs.Halted.{is_halted};
     ghost use Rattle.wf_table.specs.Start.{IsStart, sizes_of};
     ghost use Rattle.wf_table.specs.Sound.{IsSound};
     ghost use Rattle.wf_commits.specs.Commits.{IsCommitted};
@@ -189,6 +190,15 @@ impl<E: Engine> Machine<E> {
     {
         let process = &self.processes[p];
         process.label
+    }
+
+    /// Whether the process stands at NEXT and its script has no call left.
+    pub fn is_halted(&self, p: usize) -> bool
+        requires { p < self.now.sizes.processes }
+        ensures { result ≡ is_halted self.now.state p }
+    {
+        let process = &self.processes[p];
+        process.label == Label::Next && !process.has_more()
     }
 
     /// What was seen so far.

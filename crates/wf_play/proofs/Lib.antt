@@ -1,0 +1,3 @@
+mod Items
+mod Ends
+mod Plays

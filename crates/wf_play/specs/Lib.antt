@@ -1,0 +1,2 @@
+pub mod ItemSteps
+pub mod Played

@@ -1,0 +1,99 @@
+//! One item of a schedule.
+
+ghost use Rattle.std.specs.Prelude.{◌≡◌, ◌<◌, ◌⊎◌, ◌↔◌, true, IsTrue, IfOk, OnOk};
+ghost use Rattle.ob_schedule.specs.Schedule.{process_of};
+ghost use Rattle.ob_schedule.specs.declared.item.Item.TheVariants as Items;
+ghost use Rattle.wf_object.specs.Halted.{is_halted};
+ghost use Rattle.wf_play.specs.ItemSteps.{IsItemPlayed};
+ghost use Rattle.wf_play.specs.Played.{IsSameObject};
+ghost use Rattle.wf_table.specs.Object.{label_of};
+
+use ob_grammar::NoMemory;
+use ob_schedule::Item;
+use wf_object::{Engine, Label, Machine, StepOut};
+
+/// Plays an item; false where it stands for more steps than the limit.
+pub fn play_item<E: Engine>(
+    machine: &mut Machine<E>,
+    item: Item,
+    limit: u64,
+) -> Result<bool, NoMemory>
+    requires { process_of item < machine.old.sizes.processes }
+    ensures object { OnOk result (IsSameObject machine.new machine.old) }
+    ensures played { IfOk result (λ ended. IsItemPlayed (E.meaning machine.old.engine) machine.old.sizes limit item machine.old.state ended machine.new.state) }
+{
+    match item {
+        Item::Steps { process, count } => step_times(machine, process, count, limit),
+        Item::Until { process, label } => step_until(machine, process, label, limit),
+        Item::ToAnswer { process } => step_to_answer(machine, process, limit),
+    }
+}
+
+/// So many steps of the process, where they are within the limit.
+fn step_times<E: Engine>(
+    machine: &mut Machine<E>,
+    p: usize,
+    count: u64,
+    limit: u64,
+) -> Result<bool, NoMemory>
+    requires { p < machine.old.sizes.processes }
+    ensures object { OnOk result (IsSameObject machine.new machine.old) }
+    ensures played { IfOk result (λ ended. IsItemPlayed (E.meaning machine.old.engine) machine.old.sizes limit (Items.Steps p count) machine.old.state ended machine.new.state) }
+{
+    if count > limit {
+        return Ok(false);
+    }
+    for _step in 0..count {
+        machine.step(p)?;
+    }
+    Ok(true)
+}
+
+/// Steps of the process until it stands at the label, or is halted.
+fn step_until<E: Engine>(
+    machine: &mut Machine<E>,
+    p: usize,
+    label: Label,
+    limit: u64,
+) -> Result<bool, NoMemory>
+    requires { p < machine.old.sizes.processes }
+    ensures object { OnOk result (IsSameObject machine.new machine.old) }
+    ensures played { IfOk result (λ ended. IsItemPlayed (E.meaning machine.old.engine) machine.old.sizes limit (Items.Until p label) machine.old.state ended machine.new.state) }
+{
+    for _step in 0..limit {
+        if is_there(machine, p, label) {
+            return Ok(true);
+        }
+        machine.step(p)?;
+    }
+    Ok(is_there(machine, p, label))
+}
+
+/// Whether the process stands at the label, or is halted.
+fn is_there<E: Engine>(machine: &Machine<E>, p: usize, label: Label) -> bool
+    requires { p < machine.now.sizes.processes }
+    ensures { IsTrue result ↔ ((label_of machine.now.state p ≡ label) ⊎ (is_halted machine.now.state p ≡ true)) }
+{
+    machine.label(p) == label || machine.is_halted(p)
+}
+
+/// Steps of the process until one answers, or it is halted.
+fn step_to_answer<E: Engine>(
+    machine: &mut Machine<E>,
+    p: usize,
+    limit: u64,
+) -> Result<bool, NoMemory>
+    requires { p < machine.old.sizes.processes }
+    ensures object { OnOk result (IsSameObject machine.new machine.old) }
+    ensures played { IfOk result (λ ended. IsItemPlayed (E.meaning machine.old.engine) machine.old.sizes limit (Items.ToAnswer p) machine.old.state ended machine.new.state) }
+{
+    for _step in 0..limit {
+        if machine.is_halted(p) {
+            return Ok(true);
+        }
+        if let StepOut::Answered(_, _) = machine.step(p)? {
+            return Ok(true);
+        }
+    }
+    Ok(machine.is_halted(p))
+}

@@ -1,0 +1,8 @@
+//! The calls of scripts and the items of a schedule, played on a machine.
+#![tactic(auto)]
+
+mod item;
+pub mod laws;
+pub mod playing;
+
+pub use playing::{PlayFault, play};
