@@ -1,4 +1,5 @@
-pub mod ClapWord
-pub mod ClapWalk
+pub mod OneSort
+pub mod Given
+pub mod ClapWords
+pub mod Required
 pub mod Readings
-pub mod PlainWords

@@ -1,149 +1,128 @@
 -- From what clap answers to a request.
-use Rattle.std.proofs.Common.{◌≡◌, ◌∙◌, ◌⊎◌, refl, sym, ap, ap₂, subst, List, [], ◌∷◌, codes, true, false, Bool, Option, Some, None, Err, option_map, inl, inr, IsSome}
-use Rattle.std.specs.List.{list_all}
-use Rattle.clap.specs.Words.{App, Row, Text, first_of, first_value, rows_of, subcommand_rows_of, IsAmong, HasKind, HasMatchesOf, Kinds, fault_of, is_simple, is_simple_and_free, kind_of, subcommand_of}
+use Rattle.std.proofs.Common.{◌≡◌, ◌≢◌, ◌∙◌, ◌⊎◌, refl, sym, ap, ap₂, subst, List, [], ◌∷◌, true, false, Option, Some, None, Err, Result, IsSome, Box, box_value, option_map, is_some, codes, inl, inr}
+use Rattle.clap.specs.Words.{App, Row, Text, rows_of, subcommand_rows_of, IsAmong, HasKind, HasMatchesOf, Kinds, fault_of, is_simple, is_simple_and_free, kind_of, subcommand_of}
 use Rattle.clap.specs.declared.error.Error.{Error}
-use Rattle.std.specs.Prelude.{Box}
-use Rattle.std.specs.Box.{box_value}
-use Rattle.clap.specs.declared.parser.matches.SubCommand.{SubCommand}
-use Rattle.clap.specs.Matches.{subcommand_name_of}
-use Rattle.clap.specs.Simple.{subcommand_rows}
 use Rattle.clap.specs.declared.error.kind.ErrorKind.{ErrorKind}
 use Rattle.clap.specs.declared.error.kind.ErrorKind.TheVariants as kind
 use Rattle.clap.specs.declared.parser.matches.ArgMatches.{ArgMatches}
 use Rattle.clap.specs.declared.parser.matches.ArgMatches.TheViews.{out-ArgMatches, out-SubCommand}
-use Rattle.clap.specs.declared.parser.matches.Found.{Found}
-use Rattle.clap.proofs.WalkLemmas.{first_value-rows}
+use Rattle.clap.specs.declared.parser.matches.SubCommand.{SubCommand}
+use Rattle.clap.specs.Matches.{subcommand_name_of}
+use Rattle.clap.specs.Simple.{subcommand_rows}
+use Rattle.std.specs.Prelude.{unwrap_or}
+use Rattle.ob_command.specs.declared.command.Command as command
+use Rattle.ob_command.proofs.ClapWords.{help_asked}
+use Rattle.ob_command.proofs.Required.{has_command}
+use Rattle.clap.specs.Simple.{built}
+use Rattle.clap.specs.Walk.{nothing_held}
 use Rattle.clap.proofs.OnLiterals.{clap_on_literals}
 use Rattle.ob_command.specs.ClapCommand.{obl0_app}
-use Rattle.ob_command.specs.CommandLine.{Request, Seq, Help, Version, Unclear, command_request}
-use Rattle.ob_command.specs.Commands.{IsReading, IsSeqOf, IsStopOf, request_of}
-use Rattle.ob_command.specs.declared.command.Command as command
-use Rattle.ob_command.specs.declared.command.Command.TheVariants as commands
+use Rattle.std.specs.Borrow.{Bor}
+use Rattle.clap.specs.Words.{first_of, first_value}
+use Rattle.clap.specs.declared.parser.matches.Found.{Found}
+use Rattle.clap.proofs.WalkLemmas.{first_value-rows}
+use Rattle.ob_command.specs.CommandLine.{Request, Check, Help, Listing, Seq, Unclear, clap_request, command_of, is_alone, request, request_by}
+use Rattle.ob_command.specs.Commands.{IsReading, IsStopOf, request_of}
 use Rattle.ob_command.specs.declared.command.Stop.{Stop}
 use Rattle.ob_command.specs.declared.command.Stop.TheVariants as stops
-use Rattle.ob_command.proofs.ClapWalk.{clap_comes, ComesOf, seq_rows}
-use Rattle.ob_command.proofs.ClapWord.{is_mistake}
+use Rattle.ob_command.proofs.OneSort.{OneSort, is_help, of_first, one_sort}
 
 pub is_free : is_simple_and_free obl0_app ≡ true
 unfolding clap_on_literals
 is_free = refl
 
--- ---- no matches
+the_kinds : (words : List Text) → OneSort (fault_of obl0_app words)
+the_kinds words = one_sort (built obl0_app) nothing_held words refl refl
 
-among_mistakes : (k : ErrorKind) (kinds : Kinds) → list_all is_mistake kinds ≡ true → IsAmong k kinds → is_mistake k ≡ true
-among_mistakes k [] all h = absurd h
-among_mistakes k (x ∷ xs) all (inl is) = go (is_mistake x) refl
-  where
-    go : (t : Bool) → is_mistake x ≡ t → is_mistake k ≡ true
-    go true t = ap is_mistake is ∙ t
-    go false t =
-        let bad : false ≡ true = rw t at all in
-        cc
-among_mistakes k (x ∷ xs) all (inr h) = go (is_mistake x) refl (among_mistakes k xs)
-  where
-    go : (t : Bool) → is_mistake x ≡ t → (list_all is_mistake xs ≡ true → IsAmong k xs → is_mistake k ≡ true) → is_mistake k ≡ true
-    go true t more = more (rw t at all) h
-    go false t more =
-        let bad : false ≡ true = rw t at all in
-        cc
+helps : (k : ErrorKind) (others : Kinds) (met : Option (Text × List Row)) → is_help k ≡ true → request_by (k ∷ others) met ≡ Help
+helps kind.DisplayHelp others met h = refl
+helps _ others met h = cc
 
-among_none : (k : ErrorKind) (kinds : Kinds) → kinds ≡ [] → IsAmong k kinds → ⊥
-among_none k kinds none h = subst (IsAmong k) none h
+mistakes : (k : ErrorKind) (others : Kinds) (met : Option (Text × List Row)) → is_help k ≡ false → request_by (k ∷ others) met ≡ Unclear
+mistakes kind.DisplayHelp others met h = cc
+mistakes _ others met h = refl
 
-among_one : (k x : ErrorKind) (kinds : Kinds) → kinds ≡ x ∷ [] → IsAmong k kinds → k ≡ x
-among_one k x kinds one h = elim (let g : IsAmong k (x ∷ []) = subst (IsAmong k) one h in g) [ inl is ↦ is | inr none ↦ absurd none ]
+no_help : (k : ErrorKind) → k ≢ kind.DisplayHelp → is_help k ≡ false
+no_help kind.DisplayHelp h = absurd (h refl)
+no_help _ h = refl
 
-pub stop_read : (r : Request) (kinds : Kinds) (rows : Option (Text × List Row)) → ComesOf r kinds rows → (k : ErrorKind)
-    → (k ≡ kind.OutOfMemory) ⊎ IsAmong k kinds → (stop : Stop) → IsStopOf k stop → IsReading r (Err stop)
-stop_read r kinds rows h k any stops.NoMemory is = tt
-stop_read Version kinds rows h k any stop is = absurd h
-stop_read r kinds rows h k any stops.Version is = absurd is
-stop_read (Seq m s) kinds rows h k (inl any) (stops.Help text) is = cc
-stop_read (Seq m s) kinds rows h k (inr any) (stops.Help text) is = absurd (among_none k kinds h.0 any)
-stop_read (Seq m s) kinds rows h k (inl any) (stops.Unclear text) is = absurd (is.1 any)
-stop_read (Seq m s) kinds rows h k (inr any) (stops.Unclear text) is = absurd (among_none k kinds h.0 any)
-stop_read Help kinds rows h k any (stops.Help text) is = refl
-stop_read Help kinds rows h k (inl any) (stops.Unclear text) is = absurd (is.1 any)
-stop_read Help kinds rows h k (inr any) (stops.Unclear text) is = absurd (is.0 (among_one k kind.DisplayHelp kinds h any))
-stop_read Unclear kinds rows h k any (stops.Unclear text) is = refl
-stop_read Unclear kinds rows h k (inl any) (stops.Help text) is = cc
-stop_read Unclear kinds rows h k (inr any) (stops.Help text) is =
-    let mistake : is_mistake k ≡ true = among_mistakes k (h.0 ∷ h.1) h.3 (subst (IsAmong k) h.2 any) in
-    let bad : false ≡ true = rw is at mistake in
-    cc
+stop_read : (kinds : Kinds) (met : Option (Text × List Row)) → OneSort kinds → (k : ErrorKind)
+    → (k ≡ kind.OutOfMemory) ⊎ IsAmong k kinds → (stop : Stop) → IsStopOf k stop → IsReading (request_by kinds met) (Err stop)
+stop_read kinds met one k any stops.NoMemory is = tt
+stop_read kinds met one k any stops.Version is = absurd is
+stop_read kinds met one k (inl any) (stops.Help text) is = cc
+stop_read [] met one k (inr any) (stops.Help text) is = absurd any
+stop_read (x ∷ xs) met one k (inr any) (stops.Help text) is = helps x xs met (sym (of_first x k xs one any) ∙ ap is_help is)
+stop_read kinds met one k (inl any) (stops.Unclear text) is = absurd (is.1 any)
+stop_read [] met one k (inr any) (stops.Unclear text) is = absurd any
+stop_read (x ∷ xs) met one k (inr any) (stops.Unclear text) is = mistakes x xs met (sym (of_first x k xs one any) ∙ no_help k is.0)
 
--- ---- matches
-
--- the values of the two arguments
-pub record HasNames (r : Request) (f : Found) : Type 0 where
-  pub m : Text
-  pub s : Text
-  pub asks : r ≡ Seq m s
-  pub first : first_value f (codes "MODULE") ≡ Some m
-  pub second : first_value f (codes "SCRIPT") ≡ Some s
-
-same_rows : (a b : List Row) → Some a ≡ Some b → a ≡ b
-same_rows a b e = cc
-
-pub names_read : (r : Request) (kinds : Kinds) (rows : Option (Text × List Row)) → ComesOf r kinds rows → kinds ≡ []
-    → (f : Found) → option_map (λ p. p.1) rows ≡ Some (rows_of f) → HasNames r f
-names_read (Seq m s) kinds rows h none f is =
-    let same : seq_rows m s ≡ rows_of f = same_rows _ _ (ap (option_map (λ (p : Text × List Row). p.1)) (sym h.1) ∙ is) in
-    record {
-      m = m;
-      s = s;
-      asks = refl;
-      first = first_value-rows f (codes "MODULE") ∙ ap (first_of (codes "MODULE")) (sym same);
-      second = first_value-rows f (codes "SCRIPT") ∙ ap (first_of (codes "SCRIPT")) (sym same);
-    }
-names_read Help kinds rows h none f is = let bad : [] ≡ kind.DisplayHelp ∷ [] = sym none ∙ h in cc
-names_read Version kinds rows h none f is = absurd h
-names_read Unclear kinds rows h none f is = let bad : [] ≡ h.0 ∷ h.1 = sym none ∙ h.2 in cc
-
-pub has_value : (f : Found) (id value : Text) → first_value f id ≡ Some value → IsSome (first_value f id)
-has_value f id value e = rw e refl
-
-pub command_read : (r : Request) (f : Found) (c : command.Command) → HasNames r f → IsSeqOf f c → request_of c ≡ r
-command_read r f (commands.Seq x y) h is =
-    let first : x.now ≡ h.m = same (sym is.0 ∙ h.first) in
-    let second : y.now ≡ h.s = same (sym is.1 ∙ h.second) in
-    ap₂ Seq first second ∙ sym h.asks
-  where
-    same : {a b : Text} → Some a ≡ Some b → a ≡ b
-    same e = cc
-
-name_read : {Z : Type 0} (o : Option (Box SubCommand Z)) (rows : List Row) → subcommand_rows o ≡ Some (codes "seq", rows)
-    → option_map (λ b. (out-SubCommand (box_value b)).name.now) o ≡ Some (codes "seq")
-name_read None rows e = cc
-name_read (Some b) rows e = ap (option_map (λ (p : Text × List Row). p.0)) e
-
--- the subcommand that was met has the name
-pub met_seq : (m : ArgMatches) (r : Request) (kinds : Kinds) (rows : Option (Text × List Row)) → ComesOf r kinds rows → kinds ≡ []
-    → subcommand_rows_of m ≡ rows → subcommand_name_of m ≡ Some (codes "seq")
-met_seq m (Seq a b) kinds rows h none is = name_read (out-ArgMatches m).subcommand (seq_rows a b) (is ∙ h.1)
-met_seq m Help kinds rows h none is = let bad : [] ≡ kind.DisplayHelp ∷ [] = sym none ∙ h in cc
-met_seq m Version kinds rows h none is = absurd h
-met_seq m Unclear kinds rows h none is = let bad : [] ≡ h.0 ∷ h.1 = sym none ∙ h.2 in cc
+pub parsed_stop : (a : App) → a ≡ obl0_app → (words : List Text) (e : Error) → (is_simple_and_free a ≡ true → HasKind (fault_of a words) e)
+    → (stop : Stop) → IsStopOf (kind_of e) stop → IsReading (clap_request words) (Err stop)
+unfolding clap_request
+parsed_stop a is words e kinds stop h =
+    stop_read (fault_of obl0_app words) (subcommand_of obl0_app words) (the_kinds words) (kind_of e)
+    (subst (λ (x : App). HasKind (fault_of x words) e) is (kinds (ap is_simple_and_free is ∙ is_free))) stop h
 
 -- ---- the same of a parse
 
 module _ (a : App) (is : a ≡ obl0_app) (words : List Text) (m : ArgMatches)
     (kinds : is_simple_and_free a ≡ true → fault_of a words ≡ []) (matches : HasMatchesOf a words m) where
-  no_fault : fault_of obl0_app words ≡ []
+  pub no_fault : fault_of obl0_app words ≡ []
   no_fault = subst (λ (x : App). fault_of x words ≡ []) is (kinds (ap is_simple_and_free is ∙ is_free))
 
-  the_rows : subcommand_rows_of m ≡ subcommand_of obl0_app words
+  pub the_rows : subcommand_rows_of m ≡ subcommand_of obl0_app words
   the_rows = (matches (ap is_simple is ∙ refl)).1 ∙ ap (λ (x : App). subcommand_of x words) is
 
-  pub parsed_names : (f : Found) → option_map (λ p. p.1) (subcommand_rows_of m) ≡ Some (rows_of f) → HasNames (command_request words) f
-  parsed_names f e = names_read (command_request words) (fault_of obl0_app words) (subcommand_of obl0_app words) (clap_comes words) no_fault f
-      (ap (option_map (λ (p : Text × List Row). p.1)) (sym the_rows) ∙ e)
+-- ---- the command of a name
 
-  pub parsed_seq : subcommand_name_of m ≡ Some (codes "seq")
-  parsed_seq = met_seq m (command_request words) (fault_of obl0_app words) (subcommand_of obl0_app words) (clap_comes words) no_fault the_rows
+pub first_row : (f : Found) (id : Text) (o : Option (Bor Text)) (v : Option Text) → option_map (λ s. s.now) o ≡ first_value f id
+    → option_map (λ s. s.now) o ≡ v → first_of id (rows_of f) ≡ v
+first_row f id o v e h = sym (first_value-rows f id) ∙ (sym e ∙ h)
 
-pub parsed_stop : (a : App) → a ≡ obl0_app → (words : List Text) (e : Error) → (is_simple_and_free a ≡ true → HasKind (fault_of a words) e)
-    → (stop : Stop) → IsStopOf (kind_of e) stop → IsReading (command_request words) (Err stop)
-parsed_stop a is words e kinds stop h = stop_read (command_request words) (fault_of obl0_app words) (subcommand_of obl0_app words) (clap_comes words) (kind_of e)
-    (subst (λ (x : App). HasKind (fault_of x words) e) is (kinds (ap is_simple_and_free is ∙ is_free))) stop h
+pub no_module : (name : Text) (rows : List Row) → first_of (codes "MODULE") rows ≡ None → command_of name rows ≡ None
+no_module name rows h = rw h refl
+
+pub a_check : (name m : Text) (rows : List Row) → name ≡ codes "check" → first_of (codes "MODULE") rows ≡ Some m → command_of name rows ≡ Some (Check m)
+a_check name m rows is h = rw (is, h) refl
+
+pub a_list : (name m : Text) (rows : List Row) → name ≡ codes "list" → first_of (codes "MODULE") rows ≡ Some m → command_of name rows ≡ Some (Listing m)
+a_list name m rows is h = rw (is, h) refl
+
+pub a_seq : (name m : Text) (rows : List Row) (script : Option Text) → name ≡ codes "seq" → first_of (codes "MODULE") rows ≡ Some m
+    → first_of (codes "SCRIPT") rows ≡ script → command_of name rows ≡ option_map (Seq m) script
+a_seq name m rows script is h s = rw (is, h, s) refl
+
+-- ---- the command that was met
+
+met_is : {Z : Type 0} (o : Option (Box SubCommand Z)) (name : Text) (rows : List Row) → Some name ≡ option_map (λ b. (out-SubCommand (box_value b)).name.now) o
+    → Some rows ≡ option_map (λ p. p.1) (subcommand_rows o) → subcommand_rows o ≡ Some (name, rows)
+met_is None name rows e h = cc
+met_is (Some b) name rows e h = ap₂ (λ (n : Text) (r : List Row). Some (n, r)) (inside e) (inside h)
+  where
+    inside : {A : Type 0} {x y : A} → Some x ≡ Some y → y ≡ x
+    inside e = cc
+
+pub mapped : (o : Option command.Command) (r : Option Request) → option_map request_of o ≡ r → is_some r ≡ true → IsSome o
+mapped None r e h = let bad : false ≡ true = rw (← e) at h in cc
+mapped (Some c) r e h = refl
+
+module _ (a : App) (is : a ≡ obl0_app) (words : List Text) (m : ArgMatches)
+    (kinds : is_simple_and_free a ≡ true → fault_of a words ≡ []) (matches : HasMatchesOf a words m)
+    (name : Text) (rows : List Row) (named : Some name ≡ subcommand_name_of m)
+    (left : Some rows ≡ option_map (λ p. p.1) (subcommand_rows (out-ArgMatches m).subcommand)) where
+  met : subcommand_of obl0_app words ≡ Some (name, rows)
+  met = sym (the_rows a is words m kinds matches) ∙ met_is (out-ArgMatches m).subcommand name rows named left
+
+  pub asked_some : is_some (command_of name rows) ≡ true
+  asked_some = has_command words (no_fault a is words m kinds matches) (name, rows) met
+
+  pub asked_is : (r : Request) → command_of name rows ≡ Some r → clap_request words ≡ r
+  unfolding clap_request
+  asked_is r h = ap₂ request_by (no_fault a is words m kinds matches) met ∙ ap (λ o. unwrap_or o Unclear) h
+
+pub help_read : (words : List Text) (result : Result command.Command Stop) → true ≡ is_alone (codes "help") words
+    → IsReading (clap_request (codes "--help" ∷ [])) result → IsReading (request words) result
+help_read words result alone h =
+    let asks : request words ≡ Help = rw (← alone) refl in
+    subst (λ (r : Request). IsReading r result) (help_asked ∙ sym asks) h

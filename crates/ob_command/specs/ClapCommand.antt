@@ -5,8 +5,13 @@ use Rattle.clap.specs.Words.{App, Rule, Shape, Text, new_app, new_rule, with_rul
 abbrev pub name_rule : Text → Rule
 name_rule id = record (new_rule id) { required = true }
 
+-- `check MODULE`, `list MODULE`
+abbrev pub module_app : Text → App
+module_app command = with_rule (new_app command) (name_rule (codes "MODULE"))
+
+-- `seq MODULE SCRIPT`
 abbrev pub seq_app : App
-seq_app = with_rule (with_rule (new_app (codes "seq")) (name_rule (codes "MODULE"))) (name_rule (codes "SCRIPT"))
+seq_app = with_rule (module_app (codes "seq")) (name_rule (codes "SCRIPT"))
 
 abbrev pub top_shape : Shape
 top_shape = record (new_app (codes "obl0")).top {
@@ -21,4 +26,5 @@ abbrev pub top_app : App
 top_app = record { top = top_shape; subs = [] }
 
 abbrev pub obl0_app : App
-obl0_app = with_subcommand top_app seq_app.top
+obl0_app = with_subcommand (with_subcommand (with_subcommand top_app (module_app (codes "check")).top)
+    (module_app (codes "list")).top) seq_app.top

@@ -1,67 +1,39 @@
--- What the words of the command line ask for.
-use Rattle.std.specs.Prelude.{ℕ, ◌-◌, ◌==◌, Bool, true, false, List, [], ◌∷◌, Option, None, is_some, slice_get, codes, if◌then◌else◌}
-use Rattle.std.specs.Option.{option_map_or}
-use Rattle.std.specs.Str.{bytes_eq, chars}
+-- What the words of the command line ask for, by what clap makes of them.
+use Rattle.std.specs.Prelude.{ℕ, ◌==◌, Bool, false, List, [], ◌∷◌, Option, Some, None, option_and_then, option_map, unwrap_or, codes, if◌then◌else◌}
+use Rattle.std.specs.Str.{bytes_eq}
+use Rattle.clap.specs.Words.{Kinds, Row, fault_of, first_of, subcommand_of}
+use Rattle.clap.specs.declared.error.kind.ErrorKind.TheVariants as kind
+use Rattle.ob_command.specs.ClapCommand.{obl0_app}
 
 abbrev pub Text : Type 0
 Text = List ℕ
 
--- what they ask for: the calls of a script on a module, of which they give the names of the files; help; the version; or
--- nothing that there is
+-- What they ask for: the rules of a module checked; its code listed; the calls of a script made on it; help; the version;
+-- or nothing that there is. A command has the names of its files.
 pub data Request : Type 0 where
+  Check : (module_name : Text) → Request
+  Listing : (module_name : Text) → Request
   Seq : (module_name script_name : Text) → Request
   Help : Request
   Version : Request
   Unclear : Request
 
--- the character behind a first `-`
-abbrev pub flag_of : Text → Option ℕ
-flag_of [] = None
-flag_of (b ∷ rest) = if b == 45 then slice_get (chars rest) 0 else None
+-- the command of a name, of the rows in which clap keeps what stood behind it
+abbrev pub command_of : Text → List Row → Option Request
+command_of name rows = option_and_then (λ module_name.
+    if bytes_eq name (codes "check") then Some (Check module_name)
+    else if bytes_eq name (codes "list") then Some (Listing module_name)
+    else if bytes_eq name (codes "seq") then option_map (Seq module_name) (first_of (codes "SCRIPT") rows)
+    else None) (first_of (codes "MODULE") rows)
 
--- a `-` with something behind it
-abbrev pub is_option : Text → Bool
-is_option word = is_some (flag_of word)
+-- Where clap finds no fault, the command that it met. Else its first fault decides: it is a call for help, or a mistake.
+abbrev pub request_by : Kinds → Option (Text × List Row) → Request
+request_by [] met = unwrap_or (option_and_then (λ m. command_of m.0 m.1) met) Unclear
+request_by (kind.DisplayHelp ∷ others) met = Help
+request_by (k ∷ others) met = Unclear
 
--- `--help`, or `-h` whatever is behind it
-abbrev pub asks_help : Text → Bool
-asks_help word =
-    if bytes_eq word (codes "--help") then true else option_map_or (λ c. c == 104) (flag_of word) false
-
--- the names of files that words give
-pub data Names : Type 0 where
-  names : List Text → Names
-  help : Names
-  unclear : Names
-
-abbrev pub with_name : Text → Names → Names
-with_name word (names more) = names (word ∷ more)
-with_name word help = help
-with_name word unclear = unclear
-
--- A word that is no option is a name, and so is each word behind a `--`. The first word that is an option, or a name more
--- than there is room for, decides.
-abbrev pub names_in : (room : ℕ) → List Text → Names
-names_in room [] = names []
-names_in room (word ∷ words) =
-    if bytes_eq word (codes "--") then names words
-    else if is_option word then (if asks_help word then help else unclear)
-    else if room == 0 then unclear
-    else with_name word (names_in (room - 1) words)
-
--- `seq` wants two names
-abbrev pub seq_request : Names → Request
-seq_request (names (module_name ∷ script_name ∷ [])) = Seq module_name script_name
-seq_request help = Help
-seq_request _ = Unclear
-
--- the first word is the command's name
-abbrev pub command_request : List Text → Request
-command_request [] = Unclear
-command_request (word ∷ words) =
-    if bytes_eq word (codes "seq") then seq_request (names_in 2 words)
-    else if asks_help word then Help
-    else Unclear
+unfoldable pub clap_request : List Text → Request
+clap_request words = request_by (fault_of obl0_app words) (subcommand_of obl0_app words)
 
 -- this word alone
 abbrev pub is_alone : Text → List Text → Bool
@@ -75,4 +47,9 @@ request words =
     if is_alone (codes "help") words then Help
     else if is_alone (codes "--version") words then Version
     else if is_alone (codes "-V") words then Version
-    else command_request words
+    else clap_request words
+
+-- a `-` with something behind it
+abbrev pub is_option : Text → Bool
+is_option (b ∷ c ∷ rest) = b == 45
+is_option _ = false

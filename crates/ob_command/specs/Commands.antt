@@ -1,16 +1,16 @@
 -- What `read_command` answers to a request.
-use Rattle.std.specs.Prelude.{◌≡◌, ◌≢◌, Some, Result, Ok, Err, codes}
-use Rattle.clap.specs.Words.{first_value}
+use Rattle.std.specs.Prelude.{◌≡◌, ◌≢◌, Result, Ok, Err}
 use Rattle.clap.specs.declared.error.kind.ErrorKind.{ErrorKind}
 use Rattle.clap.specs.declared.error.kind.ErrorKind.TheVariants as kind
-use Rattle.clap.specs.declared.parser.matches.Found.{Found}
 use Rattle.ob_command.specs.declared.command.Command as command
 use Rattle.ob_command.specs.declared.command.Command.TheVariants as commands
 use Rattle.ob_command.specs.declared.command.Stop.{Stop}
 use Rattle.ob_command.specs.declared.command.Stop.TheVariants as stops
-use Rattle.ob_command.specs.CommandLine.{Request, Seq, Help, Version, Unclear}
+use Rattle.ob_command.specs.CommandLine.{Request, Check, Listing, Seq, Help, Version, Unclear}
 
 abbrev pub request_of : command.Command → Request
+request_of (commands.Check module_name) = Check module_name.now
+request_of (commands.List module_name) = Listing module_name.now
 request_of (commands.Seq module_name script_name) = Seq module_name.now script_name.now
 
 -- the command that is asked for, or why there is none
@@ -20,11 +20,6 @@ IsReading request (Err (stops.Help text)) = request ≡ Help
 IsReading request (Err stops.Version) = request ≡ Version
 IsReading request (Err (stops.Unclear text)) = request ≡ Unclear
 IsReading request (Err stops.NoMemory) = Unit {0}
-
--- the command's names are the values of its two arguments
-abbrev pub IsSeqOf : Found → command.Command → Type 0
-IsSeqOf found (commands.Seq module_name script_name) =
-    (first_value found (codes "MODULE") ≡ Some module_name.now) × (first_value found (codes "SCRIPT") ≡ Some script_name.now)
 
 -- what a kind of error stops for
 abbrev pub IsStopOf : ErrorKind → Stop → Type 0

@@ -1,21 +1,29 @@
 //! The command line.
 
-ghost use Rattle.std.specs.Prelude.{◌≡◌, false, IfOk, IsSome, map, codes};
-ghost use Rattle.clap.specs.Words.{app_of, first_value, found_of, kind_of, rule_of};
+ghost use Rattle.std.specs.Prelude.{◌≡◌, false, true, IfOk, is_some, map, option_map};
+ghost use Rattle.clap.specs.Words.{app_of, found_of, kind_of, rows_of, rule_of};
 ghost use Rattle.clap.specs.declared.builder.command.Command.TheViews.{out-Command as fields_of};
-ghost use Rattle.ob_command.specs.ClapCommand.{name_rule, obl0_app, seq_app, top_app};
-ghost use Rattle.ob_command.specs.CommandLine.{command_request, is_alone, request};
-ghost use Rattle.ob_command.specs.Commands.{IsReading, IsSeqOf, IsStopOf};
+ghost use Rattle.ob_command.specs.ClapCommand.{module_app, name_rule, obl0_app, seq_app, top_app};
+ghost use Rattle.ob_command.specs.CommandLine.{clap_request, command_of, is_alone, request};
+ghost use Rattle.ob_command.specs.Commands.{IsReading, IsStopOf, request_of};
 ghost use Rattle.ob_command.specs.declared.command.Stop.TheVariants.{NoMemory};
 
 use clap::error::ErrorKind;
 use clap::{Arg, ArgMatches};
 use std::alloc::{AllocError, Global};
 
-/// What the words ask for.
+/// What the words ask for. The names are of files.
 #[derive(Clone, Copy, Debug, PartialEq, Eq)]
 pub enum Command<'a> {
-    /// `seq MODULE SCRIPT`: the calls of a script on a module, one at a time. The names are of files.
+    /// `check MODULE`: whether a module is one.
+    Check {
+        module_name: &'a str,
+    },
+    /// `list MODULE`: the code of a module.
+    List {
+        module_name: &'a str,
+    },
+    /// `seq MODULE SCRIPT`: the calls of a script on a module, one at a time.
     Seq {
         module_name: &'a str,
         script_name: &'a str,
@@ -46,7 +54,6 @@ impl From<AllocError> for Stop {
 /// What stands below the help.
 const AFTER_HELP: &str = "\
 `help` and `--version` are understood alone.
-Nothing is compiled yet: the module is run by an interpreter of its tree.
 docs/FAULTS.md lists the faults, such as S3 or C12.";
 
 /// Words that ask for help.
@@ -77,27 +84,31 @@ fn is_alone(words: &[&str], word: &str) -> bool
 
 /// The command that words ask for, in the reading of `clap`.
 fn read_words<'a>(alloc: Global, words: &'a [&'a str]) -> Result<Command<'a>, Stop>
-    ensures { IsReading (command_request (map (λ word. word.now) words.entry.now)) result }
+    ensures { IsReading (clap_request (map (λ word. word.now) words.entry.now)) result }
 {
     let matches = match command_line(alloc)?.try_get_matches_from(words) {
         Ok(matches) => matches,
         Err(error) => return Err(stop_of(alloc, &error)?),
     };
-    match matches.subcommand_matches("seq") {
-        Some(seq) => Ok(seq_command(seq)),
+    match matches.subcommand() {
+        Some((name, matches)) => Ok(command_of(name, matches).unwrap()),
         None => unreachable!(),
     }
 }
 
-/// The command `seq`, of the matches of its words.
-fn seq_command<'a>(matches: &ArgMatches<'a>) -> Command<'a>
-    requires module { IsSome (first_value (found_of matches.now) (codes "MODULE")) }
-    requires script { IsSome (first_value (found_of matches.now) (codes "SCRIPT")) }
-    ensures { IsSeqOf (found_of matches.now) result }
+/// The command of a name, of the matches of the words behind it.
+fn command_of<'a>(name: &str, matches: &ArgMatches<'a>) -> Option<Command<'a>>
+    ensures { option_map request_of result ≡ command_of name.now (rows_of (found_of matches.now)) }
 {
-    Command::Seq {
-        module_name: matches.get_str("MODULE").unwrap(),
-        script_name: matches.get_str("SCRIPT").unwrap(),
+    let module_name = matches.get_str("MODULE")?;
+    match name {
+        "check" => Some(Command::Check { module_name }),
+        "list" => Some(Command::List { module_name }),
+        "seq" => Some(Command::Seq {
+            module_name,
+            script_name: matches.get_str("SCRIPT")?,
+        }),
+        _ => None,
     }
 }
 
@@ -116,8 +127,13 @@ fn stop_of(alloc: Global, error: &clap::Error) -> Result<Stop, AllocError>
 fn command_line<'a>(alloc: Global) -> Result<clap::Command<'a>, AllocError>
     ensures { IfOk result (λ c. app_of c ≡ obl0_app) }
 {
+    let check = module_line(alloc, "check", "Tells whether a module keeps the rules")?;
+    let list = module_line(alloc, "list", "Prints the code of a module")?;
     let seq = seq_line(alloc)?;
-    program_line(alloc)?.subcommand(seq)
+    program_line(alloc)?
+        .subcommand(check)?
+        .subcommand(list)?
+        .subcommand(seq)
 }
 
 /// The command line before any command.
@@ -126,7 +142,7 @@ fn program_line<'a>(alloc: Global) -> Result<clap::Command<'a>, AllocError>
 {
     let program = clap::Command::new(alloc, "obl0")
         .bin_name("obl0")?
-        .about("Runs a module of Oberon-0")
+        .about("Checks, compiles and runs a module of Oberon-0")
         .after_help(AFTER_HELP)
         .no_binary_name(true)
         .disable_help_subcommand(true)
@@ -140,16 +156,26 @@ fn seq_line<'a>(alloc: Global) -> Result<clap::Command<'a>, AllocError>
     ensures app { IfOk result (λ c. app_of c ≡ seq_app) }
     ensures local { IfOk result (λ c. (fields_of c).has_globals ≡ false) }
 {
-    let module = file_name(alloc, "MODULE", "The file of the module's text");
+    let about = "Makes the calls of a script one at a time and prints the reply to each";
     let script = file_name(
         alloc,
         "SCRIPT",
         "The file of the calls, one a line: PROCESS PROCEDURE ARGUMENTS",
     );
-    clap::Command::new(alloc, "seq")
-        .about("Makes the calls of a script one at a time and prints the reply to each")
-        .arg(module)?
-        .arg(script)
+    module_line(alloc, "seq", about)?.arg(script)
+}
+
+/// The words behind a command on a module: the module's name.
+fn module_line<'a>(
+    alloc: Global,
+    command: &'a str,
+    about: &'a str,
+) -> Result<clap::Command<'a>, AllocError>
+    ensures app { IfOk result (λ c. app_of c ≡ module_app command.entry.now) }
+    ensures local { IfOk result (λ c. (fields_of c).has_globals ≡ false) }
+{
+    let module = file_name(alloc, "MODULE", "The file of the module's text");
+    clap::Command::new(alloc, command).about(about).arg(module)
 }
 
 /// A word that has to be there, the name of a file.

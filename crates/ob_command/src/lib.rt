@@ -2,5 +2,6 @@
 #![tactic(auto)]
 
 pub mod command;
+pub mod laws;
 
 pub use command::{Command, Stop, read_command};

@@ -11,7 +11,7 @@ use Rattle.ob_mean.specs.Store.{Held, Holds, Refers, Binding}
 use Rattle.ob_mean.specs.Object.{State}
 use Rattle.ob_mean.specs.View.{state_of}
 use Rattle.ob_mean.specs.declared.state.State as Code
-use Rattle.ob_layout.specs.Encoding.{word, flat, encoded, IsInteger, IsValueOf, HoldsValueOf, IsStateOf, IsEncoding}
+use Rattle.ob_layout.specs.Encoding.{flat, encoded, IsInteger, IsValueOf, HoldsValueOf, IsStateOf, IsEncoding}
 use Rattle.ob_layout.specs.Decoding.{◌>>=◌, integer_in, value_in, decoded}
 
 abbrev low : ℤ → Bool

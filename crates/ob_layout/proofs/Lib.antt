@@ -1,3 +1,4 @@
 pub mod Decoded
 pub mod Limits
 mod Most
+mod Shallow

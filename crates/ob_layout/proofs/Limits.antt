@@ -1,8 +1,8 @@
 -- The limits that a well-typed module keeps, in words.
-use Rattle.std.proofs.Common.{◌≡◌, ℕ, zero, suc, ◌+◌, ◌^◌, ◌<◌, ◌≤◌, max, Bool, true, false, List, [], ◌∷◌, map, length, get_or, All, drop, min, ⊎_elim, refl, sym, ap, ◌∙◌, subst, arith}
+use Rattle.std.proofs.Common.{◌≡◌, ℕ, zero, suc, ◌+◌, ◌^◌, ◌<◌, ◌≤◌, Bool, true, false, List, [], ◌∷◌, map, length, get_or, All, drop, ⊎_elim, refl, sym, ap, ◌∙◌, arith}
 use Rattle.std.proofs.lemmas.Grind.{not_there}
 use Rattle.std.proofs.lemmas.Bool.{cases_lt}
-use Rattle.std.proofs.lemmas.List.Sums.{sum_by-cons, sum_by-drop_more}
+use Rattle.std.proofs.lemmas.List.Sums.{sum_by-drop_more}
 use Rattle.std.proofs.lemmas.List.{drop-map, get_or-map, length-map}
 use Rattle.std.specs.Prelude.{if◌then◌else◌}
 use Rattle.ob_grammar.specs.Tree
@@ -15,8 +15,8 @@ use Rattle.ob_check.specs.Scopes.{Environment, words, variable_words}
 use Rattle.ob_check.specs.Typing as Typing
 use Rattle.ob_check.specs.Typing.{DeclaresProcedures, Declares, WellTyped}
 use Rattle.ob_check.specs.View.{procedure_of, variable_of}
-use Rattle.ob_layout.specs.Scopes.{Slot, Own, Reference, width, extent, parameter_slot, frame_scope, frame_words}
-use Rattle.ob_layout.specs.Temporaries.{largest, largest_frame, stack_words}
+use Rattle.ob_layout.specs.Scopes.{Own, Reference, width, extent, parameter_slot, frame_scope, frame_words}
+use Rattle.ob_layout.specs.Temporaries.{largest_frame, stack_words}
 use Rattle.ob_layout.specs.Layout.{layout_of}
 
 slot_width : (b : Bool) (t : DataType) → width (if b then Reference t else Own t) ≤ 1
@@ -73,10 +73,6 @@ layout_is program vs fs w v f s =
     ap (λ (x : List Variable). record { variables = x; frames = fs; stack_words = w }) v
     ∙ ap (λ (x : List ℕ). record { variables = program.variables; frames = x; stack_words = w }) f
     ∙ ap (λ (x : ℕ). record { variables = program.variables; frames = map frame_words program.procedures; stack_words = x }) s
-
--- a number that is below the most that is counted was counted whole
-pub whole : (n m k : ℕ) → n ≡ min m k → n < k → n ≡ m
-whole n m k e h = omega (arith, e, h)
 
 -- the words that are left when a variable is counted
 pub words_left : (vs : List CodeVariable.Variable) (i : ℕ) (d : CodeVariable.Variable) → i < length vs →

@@ -1,5 +1,5 @@
 -- The words of values and states.
-use Rattle.std.specs.Prelude.{◌≡◌, ℕ, ◌^◌, ℤ, pos, neg_ℤ, ◌≤ℤ◌, Bool, true, false, List, [], ◌∷◌, ◌++◌}
+use Rattle.std.specs.Prelude.{◌≡◌, ℤ, pos, neg_ℤ, ◌≤ℤ◌, true, false, List, [], ◌∷◌}
 use Rattle.std.specs.List.{flat_map}
 use Rattle.ob_check.specs.declared.program.DataType.{DataType}
 use Rattle.ob_check.specs.declared.program.DataType.TheVariants.{Integer}
@@ -7,7 +7,7 @@ use Rattle.ob_check.specs.declared.program.Scalar.{Scalar}
 use Rattle.ob_check.specs.declared.program.Scalar.TheVariants.{Int, Bool as Truth}
 use Rattle.ob_check.specs.Program.{Variable}
 use Rattle.ob_mean.specs.Value.{Value, Single}
-use Rattle.ob_mean.specs.Store.{Held, Holds, Refers, Binding, value_held}
+use Rattle.ob_mean.specs.Store.{Held, Holds, Refers, value_held}
 use Rattle.ob_mean.specs.Object.{State}
 
 -- TRUE is 1 and FALSE is 0

@@ -8,6 +8,7 @@ ghost use Rattle.ob_mean.specs.Object as Objects;
 ghost use Rattle.ob_mean.specs.View.{state_of};
 ghost use Rattle.ob_layout.specs.Encoding.{IsEncoding, IsStateOf, encoded};
 ghost use Rattle.ob_layout.specs.Layout as Layouts;
+ghost use Rattle.ob_layout.specs.Temporaries as Temporaries;
 
 use crate::decoding::decoded;
 use crate::frames::{frames, largest, variable_words, words};
@@ -56,16 +57,23 @@ fn copied(alloc: Global, variables: &[Variable]) -> Result<Vec<Variable>, AllocE
     Ok(copies)
 }
 
-/// Room for 8 results, and for 64 activations. No text within the limits of the language asks for
-/// more than a `u32` counts: so much memory is not there.
-fn stack_words(frame: u32, temporaries: u32) -> Result<u32, NoMemory>
-    ensures { IfOk result (λ w. (w ≡ 8 + 64 * (frame + temporaries)) × (temporaries < u32.MAX)) }
+/// The most words that the code of a checked module's procedures holds above a frame. Its text makes them few:
+/// a sum within a sum would stand in parentheses.
+fn temporaries_of(checked: &Checked) -> u32
+    ensures most { result ≡ Temporaries.most_temporaries (program_in checked.now).procedures }
+    ensures few { result ≤ 3 }
 {
-    let words = 8 + 64 * (u64::from(frame) + u64::from(temporaries));
-    match u32::try_from(words) {
-        Ok(words) => Ok(words),
-        Err(_) => Err(NoMemory),
-    }
+    let _tree = checked.module().tree();
+    most_temporaries(checked.program().procedures.as_slice())
+}
+
+/// Room for 8 results, and for 64 activations.
+fn stack_words(frame: u32, temporaries: u32) -> u32
+    requires frame { frame ≤ 8 }
+    requires temporaries { temporaries ≤ 3 }
+    ensures { result ≡ 8 + 64 * (frame + temporaries) }
+{
+    8 + 64 * (frame + temporaries)
 }
 
 impl Layout {
@@ -77,10 +85,7 @@ impl Layout {
         let variables = copied(alloc, program.variables.as_slice())?;
         let variable_words = variable_words(program.variables.as_slice());
         let frames = frames(alloc, program.procedures.as_slice())?;
-        let stack_words = stack_words(
-            largest(frames.as_slice()),
-            most_temporaries(program.procedures.as_slice()),
-        )?;
+        let stack_words = stack_words(largest(frames.as_slice()), temporaries_of(checked));
         Ok(Layout {
             variables,
             frames,

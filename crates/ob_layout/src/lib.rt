@@ -1,7 +1,7 @@
 //! The words of a checked module: of its state in a block, and of its procedures' frames on a stack.
 #![tactic(auto)]
 
-pub mod decoding;
+mod decoding;
 pub mod encoding;
 mod frames;
 pub mod layout;

@@ -1,7 +1,6 @@
-use Rattle.std.proofs.Common.{◌≡◌, ◌∙◌, ap, sym, map, Some, option_map}
+use Rattle.std.proofs.Common.{◌≡◌, ◌∙◌, ap, map}
 use Rattle.std.proofs.lemmas.Result.{IfOk-weaker}
 use Rattle.ob_check.specs.View.{variable_of}
-use Rattle.ob_mean.specs.View.{state_of}
 use Rattle.ob_layout.specs.Layout.{LayoutParts}
 use Rattle.ob_layout.specs.Decoding.{decoded}
 use Rattle.ob_layout.proofs.Decoded.{answer_is, back_is}

@@ -1,4 +1,4 @@
-use Rattle.std.proofs.Common.{◌≡◌, ◌+◌, ℕ, ap, sym, ◌∙◌, map, drop, get_or, arith}
+use Rattle.std.proofs.Common.{◌≡◌, ap, map, get_or, arith}
 use Rattle.ob_check.specs.Scopes.{words, variable_words}
 use Rattle.ob_check.specs.View.{variable_of}
 use Rattle.ob_layout.proofs.Limits.{words_left}

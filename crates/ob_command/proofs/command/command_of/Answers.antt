@@ -1,0 +1,40 @@
+use Rattle.std.proofs.Common.{◌∙◌, ap, codes, option_map, sym}
+use Rattle.clap.specs.Words.{found_of, rows_of}
+use Rattle.ob_command.specs.Commands.{request_of}
+use Rattle.ob_command.proofs.Readings.{a_check, a_list, a_seq, first_row, no_module}
+use Rattle.ob_command.proofs.command.command_of.Goals as goal
+
+pub returns-in_err-module_name : goal.returns-in_err-module_name
+returns-in_err-module_name c =
+    let none = first_row (found_of c.args.matches.now) (codes "MODULE") c.get_str.result _ c.get_str.ensures
+    (ap (option_map (λ s. s.now)) c.in_err-module_name.was) in
+    ap (option_map request_of) c.from_residual.ensures ∙ sym (no_module c.args.name.now (rows_of (found_of c.args.matches.now)) none)
+
+pub returns-in_err-get_str-in-seq : goal.returns-in_err-get_str-in-seq
+returns-in_err-get_str-in-seq c =
+    let m = first_row (found_of c.args.matches.now) (codes "MODULE") c.get_str.result _ c.get_str.ensures
+    (ap (option_map (λ s. s.now)) c.in_ok-module_name.was) in
+    let s = first_row (found_of c.args.matches.now) (codes "SCRIPT") c.get_str-in-seq.result _ c.get_str-in-seq.ensures
+    (ap (option_map (λ s. s.now)) c.in_err-get_str-in-seq.was) in
+    ap (option_map request_of) c.from_residual-in_err-get_str-in-seq.ensures
+    ∙ sym (a_seq c.args.name.now _ (rows_of (found_of c.args.matches.now)) _ c.in-seq.is m s)
+
+pub returns-in-check : goal.returns-in-check
+returns-in-check c =
+    let m = first_row (found_of c.args.matches.now) (codes "MODULE") c.get_str.result _ c.get_str.ensures
+    (ap (option_map (λ s. s.now)) c.in_ok-module_name.was) in
+    sym (a_check c.args.name.now _ (rows_of (found_of c.args.matches.now)) c.in-check.is m)
+
+pub returns-in-list : goal.returns-in-list
+returns-in-list c =
+    let m = first_row (found_of c.args.matches.now) (codes "MODULE") c.get_str.result _ c.get_str.ensures
+    (ap (option_map (λ s. s.now)) c.in_ok-module_name.was) in
+    sym (a_list c.args.name.now _ (rows_of (found_of c.args.matches.now)) c.in-list.is m)
+
+pub returns-in_ok-get_str-in-seq : goal.returns-in_ok-get_str-in-seq
+returns-in_ok-get_str-in-seq c =
+    let m = first_row (found_of c.args.matches.now) (codes "MODULE") c.get_str.result _ c.get_str.ensures
+    (ap (option_map (λ s. s.now)) c.in_ok-module_name.was) in
+    let s = first_row (found_of c.args.matches.now) (codes "SCRIPT") c.get_str-in-seq.result _ c.get_str-in-seq.ensures
+    (ap (option_map (λ s. s.now)) c.in_ok-get_str-in-seq.was) in
+    sym (a_seq c.args.name.now _ (rows_of (found_of c.args.matches.now)) _ c.in-seq.is m s)

@@ -1,0 +1,5 @@
+use Rattle.ob_command.proofs.ClapWords.{check_asked}
+use Rattle.ob_command.proofs.laws.check_is_asked.Goals as goal
+
+pub returns : goal.returns
+returns c = check_asked

@@ -1,0 +1,8 @@
+use Rattle.ob_command.proofs.ClapWords.{help_asked, short_help_asked}
+use Rattle.ob_command.proofs.laws.help_is_asked.Goals as goal
+
+pub returns-clause-long : goal.returns-clause-long
+returns-clause-long c = help_asked
+
+pub returns-clause-short : goal.returns-clause-short
+returns-clause-short c = short_help_asked
