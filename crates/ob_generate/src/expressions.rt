@@ -5,6 +5,7 @@ ghost use Rattle.ob_check.specs.View.{designator_of, expression_of, statement_of
 ghost use Rattle.ob_layout.specs.Encoding.{word};
 ghost use Rattle.ob_layout.specs.Layout.{word_of};
 ghost use Rattle.ob_layout.specs.Scopes.{frame_scope, slot_of, word_in};
+ghost use Rattle.ob_scheme.specs.Literals.{LiteralFits, LiteralsFit, StatementLiteralsFit, StatementsLiteralsFit};
 ghost use Rattle.ob_scheme.specs.Scheme as Scheme;
 
 use crate::names::local_of;
@@ -23,7 +24,8 @@ pub fn put(code: &mut Vec<Instr>, instr: Instr) -> Result<(), AllocError>
 
 /// The number of a literal: TRUE is 1 and FALSE is 0.
 fn literal(scalar: Scalar) -> i32
-    ensures { result ≡ word scalar }
+    ensures word { result ≡ word scalar }
+    ensures range { LiteralFits scalar }
 {
     match scalar {
         Scalar::Int(number) => number,
@@ -91,7 +93,8 @@ fn put_expression(
     expression: &Expression,
 ) -> Result<(), AllocError>
     requires { length parameters.now ≤ 8 }
-    ensures { OnOk result (code.new.items ≡ code.old.items ++ Scheme.expression_code layout.now.variables (map parameter_of parameters.now) (expression_of expression.now)) }
+    ensures code { OnOk result (code.new.items ≡ code.old.items ++ Scheme.expression_code layout.now.variables (map parameter_of parameters.now) (expression_of expression.now)) }
+    ensures literals { OnOk result (LiteralsFit (expression_of expression.now)) }
 {
     match expression {
         Expression::Literal(scalar) => put(
@@ -126,7 +129,8 @@ fn put_statement(
     statement: &Statement,
 ) -> Result<(), AllocError>
     requires { length parameters.now ≤ 8 }
-    ensures { OnOk result (code.new.items ≡ code.old.items ++ Scheme.statement_code layout.now.variables (map parameter_of parameters.now) (statement_of statement.now)) }
+    ensures code { OnOk result (code.new.items ≡ code.old.items ++ Scheme.statement_code layout.now.variables (map parameter_of parameters.now) (statement_of statement.now)) }
+    ensures literals { OnOk result (StatementLiteralsFit (statement_of statement.now)) }
 {
     match statement {
         Statement::Assign { target, value } => {
@@ -145,7 +149,8 @@ pub fn put_statements(
     statements: &[Statement],
 ) -> Result<(), AllocError>
     requires { length parameters.now ≤ 8 }
-    ensures { OnOk result (code.new.items ≡ code.old.items ++ Scheme.statements_code layout.now.variables (map parameter_of parameters.now) (statements_in statements.now)) }
+    ensures code { OnOk result (code.new.items ≡ code.old.items ++ Scheme.statements_code layout.now.variables (map parameter_of parameters.now) (statements_in statements.now)) }
+    ensures literals { OnOk result (StatementsLiteralsFit (statements_in statements.now)) }
 {
     for statement in statements {
         put_statement(code, layout, parameters, statement)?;

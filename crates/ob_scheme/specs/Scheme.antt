@@ -68,9 +68,13 @@ entries_from variables place [] = []
 entries_from variables place (p ∷ procedures) =
     place ∷ entries_from variables (place + length (procedure_code variables p)) procedures
 
--- the code of a program; the module's body is none of it
-abbrev pub code_of : Program → CodeParts
-code_of program = record {
-  instructions = procedures_code program.variables program.procedures;
-  entries = entries_from program.variables 0 program.procedures;
+-- the code of a program's procedures where these are the variables of the block; the module's body is none of it
+abbrev pub code_by : List Variable → Program → CodeParts
+code_by variables program = record {
+  instructions = procedures_code variables program.procedures;
+  entries = entries_from variables 0 program.procedures;
 }
+
+-- the code of a program: the block has its variables
+abbrev pub code_of : Program → CodeParts
+code_of program = code_by program.variables program

@@ -1,11 +1,9 @@
 -- What the interpreter's values stand for: no pointers, and vectors as lists.
 use Rattle.std.specs.Borrow.{Bor}
-use Rattle.std.specs.Prelude.{List, [], ◌∷◌, map, Option, Some, None, Vec, Result, Ok, Err}
+use Rattle.std.specs.Prelude.{List, [], ◌∷◌, map, Option, Some, None, Vec}
 use Rattle.std.specs.Global.{Global}
 use Rattle.ob_store.specs.declared.value.Value.{Value, Row_of-Value, end_of-Value, more_of-Value}
 use Rattle.ob_store.specs.declared.value.Value.TheVariants.{Single, Parts'}
-use Rattle.ob_store.specs.declared.operators.Trap.{Trap}
-use Rattle.ob_typing.specs.Arithmetic.{Evaluated, Gives, Traps}
 use Rattle.ob_store.specs.declared.store.Place.{Place}
 use Rattle.ob_store.specs.declared.store.Held.{Held}
 use Rattle.ob_store.specs.declared.store.Held.TheVariants.{Holds, Refers}
@@ -49,8 +47,3 @@ activation_in held = map held_in held.items
 
 abbrev pub store_in : Store → Stores.Store
 store_in s = map activation_in s.activations.items
-
--- what an evaluation gave
-abbrev pub evaluated_in : {A : Type 0} → Result A Trap → Evaluated A
-evaluated_in (Ok a) = Gives a
-evaluated_in (Err t) = Traps t.0

@@ -1,6 +1,6 @@
-//! The interpreter of the whole language, by position: values and stores, expressions, statements and calls.
+//! Values and stores of the whole language, by position.
 #![tactic(auto)]
 
-pub mod operators;
+pub mod index;
 pub mod store;
 pub mod value;
