@@ -6,3 +6,4 @@ pub mod Over
 mod Division
 pub mod Steps
 pub mod Memory
+pub mod Sizes

@@ -31,6 +31,15 @@ TrapEndsBody = (code : List Instr) (run : Run) (block : List ℤ) (k : ℕ) → 
 abbrev pub ReturnEndsBody : Type 0
 ReturnEndsBody = (code : List Instr) (run : Run) (block : List ℤ) → (step_of code run block).turn ≡ Answer.Returned → (step_of code (step_of code run block).run (step_of code run block).block).turn ≡ Answer.Stuck
 
+-- a step leaves a block of as many words and a stack of the same reserve, and a trap is from 1 to 4
+pub record KeepsSizes (code : List Instr) (run : Run) (block : List ℤ) : Type 0 where
+  pub long : length (step_of code run block).block ≡ length block
+  pub reserve : (step_of code run block).run.reserve ≡ run.reserve
+  pub traps : (k : ℕ) → (step_of code run block).turn ≡ Answer.Trapped k → (0 < k) × (k ≤ 4)
+
+abbrev pub StepsKeepSizes : Type 0
+StepsKeepSizes = (code : List Instr) (run : Run) (block : List ℤ) → KeepsSizes code run block
+
 -- DIV and MOD by y: x is the quotient times y and the rest, which is from 0 to y - 1
 pub record DividesDown (x y : ℤ) : Type 0 where
   pub quotient : ℤ

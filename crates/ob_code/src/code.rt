@@ -1,9 +1,10 @@
 //! Code: instructions, and of each procedure the place where it begins.
 
-ghost use Rattle.std.specs.Prelude.{◌≡◌, ◌<◌, ◌≤◌, ◌↔◌, [], ◌∷◌, ◌++◌, length, slice_get, slice_set, OnOk, OnErr, OnSome};
+ghost use Rattle.std.specs.Prelude.{◌≡◌, ◌<◌, ◌≤◌, ◌↔◌, [], ◌∷◌, ◌++◌, length, slice_get, slice_set, IfOk, OnOk, OnErr, OnSome};
 
 use crate::fault::CodeFault;
 use crate::instr::Instr;
+use ob_grammar::NoMemory;
 use std::alloc::Global;
 use std::marker::Model;
 
@@ -28,6 +29,16 @@ impl Model for Code {
 
 impl Code {
     ghost use Rattle.ob_code.specs.declared.fault.CodeFault as CodeFault;
+
+    /// Equal code.
+    pub fn copy(&self, alloc: Global) -> Result<Code, NoMemory>
+        ensures { IfOk result (λ c. c ≡ self.now) }
+    {
+        Ok(Code {
+            instructions: Vec::from_slice(alloc, self.instructions.as_slice())?,
+            entries: Vec::from_slice(alloc, self.entries.as_slice())?,
+        })
+    }
 
     /// The most instructions.
     pub const LIMIT: usize = 65535;

@@ -1,6 +1,6 @@
 //! Laws of the machine. What a function here ensures is proved; it does nothing.
 
-ghost use Rattle.ob_code.specs.Laws.{StaysOver, StuckChangesNothing, TrapEndsBody, ReturnEndsBody, DividesAll, MemoryIsOneList, StepsAreInstructions};
+ghost use Rattle.ob_code.specs.Laws.{StaysOver, StuckChangesNothing, TrapEndsBody, ReturnEndsBody, StepsKeepSizes, DividesAll, MemoryIsOneList, StepsAreInstructions};
 
 /// A run of instructions that is over stays over: more of them change nothing.
 pub fn stays_over()
@@ -20,6 +20,12 @@ pub fn trap_ends_body()
 /// A body that has returned is stuck.
 pub fn return_ends_body()
     ensures { ReturnEndsBody }
+{}
+
+/// A step keeps the number of words in the block and the words reserved for the stack, and its trap
+/// is from 1 to 4.
+pub fn steps_keep_sizes()
+    ensures { StepsKeepSizes }
 {}
 
 /// A quotient is rounded down, and the rest is from 0 to the divisor less one.

@@ -20,7 +20,7 @@ use Rattle.ob_layout.specs.Encoding.{word, flat, encoded, IsScalarOf, IsValueOf,
 use Rattle.ob_code.specs.declared.argument.Argument.{Argument}
 use Rattle.ob_code.specs.declared.argument.Argument.TheVariants as Arguments
 use Rattle.ob_code.specs.Body.{result_count, handed, enter}
-use Rattle.ob_scheme.specs.Correct.{arguments_of, ArgumentsFit, words_of}
+use Rattle.ob_scheme.specs.Correct.{arguments_of, ArgumentsFit, AreValuesOf, words_of}
 use Rattle.ob_scheme.proofs.Image.{base, scope_at, address, held_words, position_words, store_words, IsPlace, FitsHeld, FitsActivation, IsDistinct, FitsFrom, Fits}
 use Rattle.ob_scheme.proofs.Located.{same_name}
 
@@ -83,6 +83,17 @@ result_words all k (p ∷ results) (b ∷ a) h =
   where
     held : (x : Held) → FitsHeld all k (Own p.type) x → held_words all x ≡ word (scalar_of (value_held x)) ∷ []
     held (Holds (Single s)) t = refl
+    held (Refers place) t = absurd t
+
+-- the values of results are of their types
+pub result_values : (all : List Scope) (k : ℕ) (results : List Parameter) (a : Activation) → FitsActivation all k (map result_slot results) a → AreValuesOf results (values_of a)
+result_values all k [] [] h = tt
+result_values all k [] (b ∷ a) h = absurd h
+result_values all k (p ∷ results) [] h = absurd h
+result_values all k (p ∷ results) (b ∷ a) h = (held b.held h.1, result_values all k results a h.2)
+  where
+    held : (x : Held) → FitsHeld all k (Own p.type) x → IsScalarOf p.type (scalar_of (value_held x))
+    held (Holds (Single s)) t = t
     held (Refers place) t = absurd t
 
 -- ---- the results

@@ -29,7 +29,7 @@ use Rattle.ob_scheme.proofs.Instructions.{cleared_none, Leads, steps_to, at}
 use Rattle.ob_scheme.proofs.Placed.{HasAt, has_front, has_back}
 use Rattle.ob_scheme.proofs.Expressions.{Setting}
 use Rattle.ob_scheme.proofs.Statements.{Arrives, Runs, between, stack_length, statements_run}
-use Rattle.ob_scheme.proofs.Calls.{scopes_of, store_of, begins_fit, results_count, stack_is, block_is, module_words, result_words, state_typed}
+use Rattle.ob_scheme.proofs.Calls.{scopes_of, store_of, begins_fit, results_count, stack_is, block_is, module_words, result_words, result_values, state_typed}
 
 -- what the proof needs of a procedure, of its place in the code and of the stack
 pub record IsCallable (code : List Instr) (reserve entry : ℕ) (variables : List Variable) (p : Procedure) : Type 0 where
@@ -149,8 +149,14 @@ module _ (code : List Instr) (reserve entry : ℕ) (variables : List Variable) (
   follows turns (Done left store) a =
       let j = a.pays.by 1 in
       let last = j.2 ∙ ap (λ (o : Machine.Outcome). carried o (exec code reserve 0)) (returns store a.fits) in
-      let n = from_frame j.0 (Returned (encoded (activation_at store 0)) (words_of (values_of (activation_at store 1)))) last in
-      (n.0, record { returned = n.2; typed = state_typed all variables (activation_at store 0) (module_fits store a.fits) })
+      let n = from_frame j.0 (Returned (encoded (activation_at store 0)) (words_of (values_of (activation_at store 1)))) last in (
+        n.0,
+        record {
+          returned = n.2;
+          typed = state_typed all variables (activation_at store 0) (module_fits store a.fits);
+          fitting = result_values all 1 (filter (λ (q : Parameter). q.is_var) p.parameters) (activation_at store 1) (results_fit store a.fits);
+        },
+      )
   follows turns (Trap k) s = let n = from_frame s.count (Trapped k) s.trapped in (n.0, n.2)
   follows turns NotYet l = let n = from_frame l.count (Unfinished l.state) l.unfinished in (n.0, omega (arith, n.1, l.long), l.state, n.2)
 

@@ -1,5 +1,5 @@
 -- What it means that compiled code does what its procedure means.
-use Rattle.std.specs.Prelude.{◌≡◌, ◌≢◌, ℕ, Bool, true, false, ℤ, List, [], ◌∷◌, map, slice_get, Some, MatchBool, if◌then◌else◌}
+use Rattle.std.specs.Prelude.{◌≡◌, ◌≢◌, ℕ, Bool, true, false, ℤ, List, [], ◌∷◌, map, filter, slice_get, Some, MatchBool, if◌then◌else◌}
 use Rattle.ob_check.specs.declared.program.Scalar.{Scalar}
 use Rattle.ob_check.specs.declared.program.DataType.{DataType}
 use Rattle.ob_grammar.specs.Tree.{Module}
@@ -31,6 +31,13 @@ ArgumentsFit [] arguments = arguments ≡ []
 ArgumentsFit (p ∷ parameters) arguments =
     MatchBool p.is_var (ArgumentsFit parameters arguments) (IsScalarOf p.type (first_argument arguments) × ArgumentsFit parameters (other_arguments arguments))
 
+-- a value for each of these parameters, of its type
+abbrev pub AreValuesOf : List Parameter → List Scalar → Type 0
+AreValuesOf [] [] = Unit {0}
+AreValuesOf (p ∷ parameters) (s ∷ values) = IsScalarOf p.type s × AreValuesOf parameters values
+AreValuesOf [] (s ∷ values) = ⊥
+AreValuesOf (p ∷ parameters) [] = ⊥
+
 -- the machine where a call from outside begins, on the words of a state
 abbrev pub beginning : ℕ → List Variable → List Parameter → State → List Scalar → Configuration
 beginning entry variables parameters state arguments = record {
@@ -52,6 +59,8 @@ module _ (code : List Instr) (reserve entry : ℕ) (variables : List Variable) (
   pub record IsAnswered (count : ℕ) (next : State) (values : List Scalar) : Type 0 where
     pub returned : after count ≡ Returned (encoded next) (words_of values)
     pub typed : IsStateOf variables next
+    -- an answer for each VAR parameter
+    pub fitting : AreValuesOf (filter (λ q. q.is_var) p.parameters) values
 
   pub record Answer (block stack : List ℤ) : Type 0 where
     pub turns : ℕ
