@@ -1,4 +1,5 @@
 pub mod Decoded
 pub mod Limits
 mod Most
+mod Noted
 mod Shallow

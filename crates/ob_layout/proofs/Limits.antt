@@ -1,20 +1,17 @@
 -- The limits that a well-typed module keeps, in words.
-use Rattle.std.proofs.Common.{◌≡◌, ℕ, zero, suc, ◌+◌, ◌^◌, ◌<◌, ◌≤◌, Bool, true, false, List, [], ◌∷◌, map, length, get_or, All, drop, ⊎_elim, refl, sym, ap, ◌∙◌, arith}
+use Rattle.std.proofs.Common.{◌≡◌, ℕ, zero, suc, ◌+◌, ◌^◌, ◌<◌, ◌≤◌, Bool, true, false, List, [], ◌∷◌, map, length, All, ⊎_elim, refl, ap, ◌∙◌, arith}
 use Rattle.std.proofs.lemmas.Grind.{not_there}
 use Rattle.std.proofs.lemmas.Bool.{cases_lt}
-use Rattle.std.proofs.lemmas.List.Sums.{sum_by-drop_more}
-use Rattle.std.proofs.lemmas.List.{drop-map, get_or-map, length-map}
 use Rattle.std.specs.Prelude.{if◌then◌else◌}
 use Rattle.ob_grammar.specs.Tree
 use Rattle.ob_check.specs.declared.program.DataType.{DataType}
 use Rattle.ob_check.specs.declared.program.DataType.TheVariants.{Integer}
 use Rattle.ob_check.specs.declared.program.Procedure as Code
-use Rattle.ob_check.specs.declared.program.Variable as CodeVariable
 use Rattle.ob_check.specs.Program.{Program, Parameter, Procedure, Variable}
 use Rattle.ob_check.specs.Scopes.{Environment, words, variable_words}
 use Rattle.ob_check.specs.Typing as Typing
 use Rattle.ob_check.specs.Typing.{DeclaresProcedures, Declares, WellTyped}
-use Rattle.ob_check.specs.View.{procedure_of, variable_of}
+use Rattle.ob_check.specs.View.{procedure_of}
 use Rattle.ob_layout.specs.Scopes.{Own, Reference, width, extent, parameter_slot, frame_scope, frame_words}
 use Rattle.ob_layout.specs.Temporaries.{largest_frame, stack_words}
 use Rattle.ob_layout.specs.Layout.{layout_of}
@@ -73,14 +70,3 @@ layout_is program vs fs w v f s =
     ap (λ (x : List Variable). record { variables = x; frames = fs; stack_words = w }) v
     ∙ ap (λ (x : List ℕ). record { variables = program.variables; frames = x; stack_words = w }) f
     ∙ ap (λ (x : ℕ). record { variables = program.variables; frames = map frame_words program.procedures; stack_words = x }) s
-
--- the words that are left when a variable is counted
-pub words_left : (vs : List CodeVariable.Variable) (i : ℕ) (d : CodeVariable.Variable) → i < length vs →
-    variable_words (map variable_of (drop i vs)) ≡ words (get_or vs i d).data_type + variable_words (map variable_of (drop (i + 1) vs))
-words_left vs i d h =
-    let P = λ (l : List Variable). variable_words l in
-    let w = λ (v : Variable). words v.type in
-    ap P (sym (drop-map variable_of i vs))
-    ∙ sum_by-drop_more w (map variable_of vs) i (variable_of d) (omega (arith, h, length-map vs variable_of))
-    ∙ ap (λ (v : Variable). words v.type + variable_words (drop (i + 1) (map variable_of vs))) (get_or-map variable_of vs i d (variable_of d) h)
-    ∙ ap (λ l. words (get_or vs i d).data_type + P l) (drop-map variable_of (i + 1) vs)

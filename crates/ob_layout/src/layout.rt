@@ -11,7 +11,8 @@ ghost use Rattle.ob_layout.specs.Layout as Layouts;
 ghost use Rattle.ob_layout.specs.Temporaries as Temporaries;
 
 use crate::decoding::decoded;
-use crate::frames::{frames, largest, variable_words, words};
+use crate::frames::{frames, largest, variable_words};
+use crate::places::{Places, places};
 use crate::temporaries::most_temporaries;
 use ob_check::checked::Checked;
 use ob_check::program::Variable;
@@ -25,6 +26,7 @@ use std::marker::Model;
 #[derive(Drop)]
 pub struct Layout {
     variables: Vec<Variable>,
+    places: Places,
     frames: Vec<u32>,
     variable_words: u32,
     stack_words: u32,
@@ -34,13 +36,13 @@ impl Model for Layout {
     ghost use Rattle.std.specs.Prelude.{◌≡◌, ◌≤◌, map};
     ghost use Rattle.ob_check.specs.Scopes as Declared;
     ghost use Rattle.ob_check.specs.View.{variable_of};
-    ghost use Rattle.ob_layout.specs.Layout.{LayoutParts};
+    ghost use Rattle.ob_layout.specs.Layout.{LayoutParts, HasWords};
 
     ghost Value = { LayoutParts };
 
     ghost view = { λ l. record { variables = map variable_of l.variables.items; frames = l.frames.items; stack_words = l.stack_words } };
 
-    ghost invariant = { λ l. (l.variable_words ≡ Declared.variable_words (map variable_of l.variables.items)) × (l.variable_words ≤ 4096) };
+    ghost invariant = { λ l. (l.variable_words ≡ Declared.variable_words (map variable_of l.variables.items)) × (l.variable_words ≤ 4096) × HasWords (map variable_of l.variables.items) l.places };
 }
 
 /// Equal variables.
@@ -81,13 +83,16 @@ impl Layout {
     pub fn of(alloc: Global, checked: &Checked) -> Result<Layout, NoMemory>
         ensures { IfOk result (λ l. l ≡ Layouts.layout_of (program_in checked.now)) }
     {
-        let program = checked.program();
-        let variables = copied(alloc, program.variables.as_slice())?;
-        let variable_words = variable_words(program.variables.as_slice());
-        let frames = frames(alloc, program.procedures.as_slice())?;
+        let declared = checked.program().variables.as_slice();
+        let procedures = checked.program().procedures.as_slice();
+        let variables = copied(alloc, declared)?;
+        let places = places(alloc, declared)?;
+        let variable_words = variable_words(declared);
+        let frames = frames(alloc, procedures)?;
         let stack_words = stack_words(largest(frames.as_slice()), temporaries_of(checked));
         Ok(Layout {
             variables,
+            places,
             frames,
             variable_words,
             stack_words,
@@ -100,14 +105,7 @@ impl Layout {
         ensures word { result ≡ Layouts.word_of self.now.variables variable.now }
         ensures within { IfSome result (λ w. w ≤ 4096) }
     {
-        let mut word = 0;
-        for declared in &self.variables {
-            if declared.name.as_str() == variable {
-                return Some(word);
-            }
-            word += words(declared.data_type);
-        }
-        None
+        self.places.get(variable).copied()
     }
 
     /// The words of the module's variables.

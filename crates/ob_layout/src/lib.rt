@@ -5,6 +5,7 @@ mod decoding;
 pub mod encoding;
 mod frames;
 pub mod layout;
+mod places;
 mod temporaries;
 
 pub use encoding::encode;
