@@ -1,0 +1,4 @@
+mod Laid
+mod Found
+mod Exports
+mod Made

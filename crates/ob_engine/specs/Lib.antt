@@ -1,0 +1,9 @@
+pub mod CodeMeaning
+pub mod Compiled
+pub mod View
+pub mod Parts
+pub mod ExportLaw
+pub mod WordLaw
+pub mod StepLaw
+pub mod CallLaw
+pub mod CodeLaw

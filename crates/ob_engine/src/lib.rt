@@ -1,0 +1,9 @@
+//! The engine over compiled code: calls on a checked module's object, an instruction a step.
+#![tactic(auto)]
+
+pub mod engine;
+pub mod entrance;
+mod turns;
+mod words;
+
+pub use engine::CodeEngine;

@@ -1,0 +1,101 @@
+//! Calls and replies as words.
+
+ghost use Rattle.std.specs.Prelude.{◌≡◌, ◌<◌, ◌≤◌, ◌^◌, length, replicate, pos};
+ghost use Rattle.ob_mean.specs.View.{call_of};
+ghost use Rattle.ob_engine.specs.CodeMeaning as Words;
+
+use ob_check::program::{DataType, Formal, Scalar};
+use ob_code::Argument;
+use ob_layout::encoding::word_of_scalar;
+use ob_mean::call::Call;
+use smallvec::SmallVec;
+use std::alloc::Global;
+
+/// Zeros in place of the words.
+fn clear(words: &mut [i64])
+    ensures { words.new ≡ replicate (length words.old) (pos 0) }
+{
+    words.fill(0);
+}
+
+/// Writes a call as words: the number of its export, its arguments, and zeros.
+pub fn lay(call: &Call, words: &mut [i64])
+    requires number { call.now.proc < 2 ^ 63 }
+    requires room { length call.now.args.items < length words.old }
+    ensures { words.new ≡ Words.laid (length words.old) (call_of call.now) }
+{
+    clear(words);
+    words[0] = call.proc as i64;
+    let mut place = 1;
+    for argument in call.args.as_slice() {
+        words[place] = word_of_scalar(*argument);
+        place += 1;
+    }
+}
+
+/// The first word and the words behind it; 0 where there is none.
+pub fn split(words: &[i64]) -> (i64, &[i64])
+    ensures first { result.0 ≡ Words.first_word words.now }
+    ensures others { result.1.now ≡ Words.other_words words.now }
+{
+    match words.split_first() {
+        Some((word, others)) => (*word, others),
+        None => (0, words),
+    }
+}
+
+/// What words hand over for each parameter.
+pub fn arguments_in(alloc: Global, parameters: &[Formal], words: &[i64]) -> SmallVec<Argument, 8>
+    requires { length parameters.now ≤ 8 }
+    ensures { result.items ≡ Words.arguments_in parameters.now words.now }
+{
+    let mut arguments = SmallVec::new(alloc);
+    let mut rest = words;
+    for parameter in parameters {
+        if parameter.is_var {
+            arguments.push_reserved(Argument::Var);
+        } else {
+            let (word, others) = split(rest);
+            arguments.push_reserved(Argument::Value(word));
+            rest = others;
+        }
+    }
+    arguments
+}
+
+/// The value of a type that a word stands for; an INTEGER is 0 where the word is none.
+fn scalar_in(data_type: DataType, word: i64) -> Scalar
+    ensures { result ≡ Words.scalar_in data_type word }
+{
+    match data_type {
+        DataType::Integer if word >= -2147483648 && word <= 2147483647 => Scalar::Int(word as i32),
+        DataType::Integer => Scalar::Int(0),
+    }
+}
+
+/// The values that words stand for, one for each VAR parameter.
+pub fn values_of(alloc: Global, parameters: &[Formal], words: &[i64]) -> SmallVec<Scalar, 8>
+    requires { length parameters.now ≤ 8 }
+    ensures { result.items ≡ Words.values_of parameters.now words.now }
+{
+    let mut values = SmallVec::new(alloc);
+    let mut rest = words;
+    for parameter in parameters {
+        if parameter.is_var {
+            let (word, others) = split(rest);
+            values.push_reserved(scalar_in(parameter.data_type, word));
+            rest = others;
+        }
+    }
+    values
+}
+
+/// The trap that a status stands for; 0 where it is no byte.
+pub fn trap_in(status: i64) -> u8
+    ensures { result ≡ Words.trap_in status }
+{
+    match u8::try_from(status) {
+        Ok(number) => number,
+        Err(_) => 0,
+    }
+}
