@@ -1,0 +1,2 @@
+pub mod Computes
+pub mod Recorded

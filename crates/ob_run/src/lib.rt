@@ -1,0 +1,6 @@
+//! Runs of a program's object over any engine that computes it, and their records.
+#![tactic(auto)]
+
+pub mod recording;
+
+pub use recording::record_run;
