@@ -2,3 +2,4 @@ mod Laid
 mod Found
 mod Exports
 mod Made
+mod Effects

@@ -264,6 +264,46 @@ module _ (program : Program) (parts : EngineParts) (compiled : IsCompiled progra
       subst (λ (t : Turned Run). HasReturned m (IsEffect parts) (encoded state) call t) (sym (body_is n))
       (returned_by n (reached n) refl (stands n) (was_returned (stood n).turn (sym (turn_is n) ∙ h)))
 
+  -- what a body that returned says of the program itself
+  pub record Done (n : ℕ) : Type 0 where
+    pub turns : ℕ
+    pub next : State
+    pub values : List Scalar
+    pub ends : effect program call turns state ≡ Ends next (Answers values)
+    pub next_typed : IsStateOf program.variables next
+    pub block : (body m n (encoded state) call).block ≡ encoded next
+    pub reply : m.reply call (kept m (body m n (encoded state) call).run) ≡ Answers values
+
+  done_by : (n : ℕ) (o : Machine.Outcome) → reached n ≡ o → StandsAt reserve o (stood n) → (stood n).turn ≡ Answer.Returned → Done n
+  done_by n (Machine.Unfinished c) e s h = let on = ap (λ (t : Step). t.turn) s in absurd (cc)
+  done_by n (Machine.Returned block stack) e s h =
+      let a = behaves.answers_only n block stack e in
+      record {
+        turns = a.turns;
+        next = a.next;
+        values = a.values;
+        ends = effect_is a.turns ∙ a.done;
+        next_typed = (behaves.answers a.turns a.next a.values a.done).1.typed;
+        block = ap (λ (t : Turned Run). t.block) (body_is n) ∙ s.1 ∙ a.block_is;
+        reply = ap (λ (t : Turned Run). m.reply call (kept m t.run)) (body_is n) ∙ reply_is a.turns a.next a.values a.done (stood n).run (s.2 ∙ a.stack_is);
+      }
+  done_by n (Machine.Trapped k) e s h = absurd (cc)
+  done_by n Machine.Stuck e s h = absurd (cc)
+
+  pub done : (n : ℕ) → (body m n (encoded state) call).turn ≡ Turn.Returned → Done n
+  done n h = done_by n (reached n) refl (stands n) (was_returned (stood n).turn (sym (turn_is n) ∙ h))
+
+  trap_done_by : (n k : ℕ) (o : Machine.Outcome) → reached n ≡ o → StandsAt reserve o (stood n) → (stood n).turn ≡ Answer.Trapped k → (turns : ℕ) × (effect program call turns state ≡ Ends state (TrapReply k))
+  trap_done_by n k (Machine.Unfinished c) e s h = let on = ap (λ (t : Step). t.turn) s in absurd (cc)
+  trap_done_by n k (Machine.Returned block stack) e s h = let on = s.0 in absurd (cc)
+  trap_done_by n k (Machine.Trapped j) e s h =
+      let same : j ≡ k = cc in
+      let t = behaves.traps_only n k (e ∙ ap Machine.Trapped same) in (t.0, effect_is t.0 ∙ t.1)
+  trap_done_by n k Machine.Stuck e s h = absurd (cc)
+
+  pub trap_done : (n k : ℕ) → (body m n (encoded state) call).turn ≡ Turn.Trapped k → (turns : ℕ) × (effect program call turns state ≡ Ends state (TrapReply k))
+  trap_done n k h = trap_done_by n k (reached n) refl (stands n) (was_trapped (stood n).turn k (sym (turn_is n) ∙ h))
+
   trap_reply : (k : ℕ) → 0 < k → k ≤ 4 → m.reply call (kept_trap m k) ≡ TrapReply k
   trap_reply k some small =
       ap (λ (b : Bool). cond b (Answers (values_of (parameters_of (slice_get parts.exports call.export)) (replicate m.replies (pos 0)))) (TrapReply (trap_in (pos k)))) (above_0 k some)

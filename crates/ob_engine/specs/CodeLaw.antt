@@ -68,13 +68,13 @@ module _ (parts : EngineParts) (there : ∥ HasProgram parts ∥₁) where
   never_at : (b : List ℤ) (c : ObjectCall) (n : ℕ) → IsLawfulBlock parts b → IsFitting parts c → (body m n b c).turn ≡ Turn.Stuck → ⊥
   never_at b c n l fits h = never_stuck l.program parts l.compiled c fits l.state l.encodes.typed n (ap (λ (x : List ℤ). (body m n x c).turn) (sym l.encodes.words_are) ∙ h)
 
-  returns_at : (b : List ℤ) (c : ObjectCall) (b' : List ℤ) (values : List Scalar) → IsFitting parts c → IsEffect parts c b b' (Answers values) → Reaches m b c b' values
+  pub returns_at : (b : List ℤ) (c : ObjectCall) (b' : List ℤ) (values : List Scalar) → IsFitting parts c → IsEffect parts c b b' (Answers values) → Reaches m b c b' values
   returns_at b c b' values fits e =
       subst (λ (x : List ℤ). Reaches m x c b' values) (sym e.block_is.words_are)
       (subst (λ (y : List ℤ). Reaches m (encoded e.before) c y values) (sym e.after_is.words_are)
       (returns e.program parts e.compiled c fits e.before e.block_is.typed e.ends.0 e.next values e.ends.1))
 
-  traps_at : (b : List ℤ) (c : ObjectCall) (b' : List ℤ) (k : ℕ) → IsFitting parts c → IsEffect parts c b b' (TrapReply k) → ReachesTrap m b c b' k
+  pub traps_at : (b : List ℤ) (c : ObjectCall) (b' : List ℤ) (k : ℕ) → IsFitting parts c → IsEffect parts c b b' (TrapReply k) → ReachesTrap m b c b' k
   traps_at b c b' k fits e =
       subst (λ (x : List ℤ). ReachesTrap m x c b' k) (sym e.block_is.words_are)
       (subst (λ (y : List ℤ). ReachesTrap m (encoded e.before) c y k) (sym e.after_is.words_are)

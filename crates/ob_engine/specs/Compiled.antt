@@ -74,3 +74,24 @@ pub record IsEffect (parts : EngineParts) (call : ObjectCall) (block after : Lis
   pub ends : CallEnds program call before next reply
   pub block_is : IsEncoding program.variables before block
   pub after_is : IsEncoding program.variables next after
+
+-- what the engine's effect says of the program that it was made for: from the state that the block encodes, its call leads to a state
+-- that the other block encodes, with this reply
+pub record IsCalled (program : Program) (call : ObjectCall) (before : State) (after : List ℤ) (reply : Reply) : Type 0 where
+  pub next : State
+  pub ends : CallEnds program call before next reply
+  pub after_is : IsEncoding program.variables next after
+
+-- an engine's effect is the call of each program that it is compiled of; so a program may be put in the place of its engine
+abbrev pub EffectIsCalled : Type 0
+EffectIsCalled =
+    (program : Program) (parts : EngineParts) (call : ObjectCall) (before : State) (block after : List ℤ) (reply : Reply) →
+    IsCompiled program parts → IsFitting parts call → IsEncoding program.variables before block →
+    IsEffect parts call block after reply → IsCalled program call before after reply
+
+-- and each call of the program is an effect of the engine
+abbrev pub CalledIsEffect : Type 0
+CalledIsEffect =
+    (program : Program) (parts : EngineParts) (call : ObjectCall) (before : State) (block after : List ℤ) (reply : Reply) →
+    IsCompiled program parts → IsEncoding program.variables before block →
+    IsCalled program call before after reply → IsEffect parts call block after reply

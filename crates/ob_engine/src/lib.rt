@@ -3,6 +3,7 @@
 
 pub mod engine;
 pub mod entrance;
+pub mod laws;
 mod turns;
 mod words;
 
