@@ -1,5 +1,5 @@
 -- The code of expressions leaves their values on the stack, or traps as they do.
-use Rattle.std.proofs.Common.{◌≡◌, ℕ, zero, suc, pred, ◌+◌, ◌-◌, ◌*◌, ◌^◌, ◌<◌, ◌≤◌, ◌⊎◌, inl, inr, max, ℤ, pos, neg_ℤ, ◌+ℤ◌, ◌-ℤ◌, List, [], ◌∷◌, ◌++◌, length, take, drop, get_or, Some, None, Option, option_map, refl, sym, ap, ◌∙◌, subst, ⊎_elim, append_assoc, length-append, append-nil, arith}
+use Rattle.std.proofs.Common.{◌≡◌, ℕ, pred, ◌+◌, ◌^◌, ◌<◌, ◌≤◌, ℤ, pos, neg_ℤ, ◌+ℤ◌, ◌-ℤ◌, List, [], ◌∷◌, ◌++◌, length, drop, get_or, Some, Option, option_map, refl, sym, ap, ◌∙◌, subst, ⊎_elim, append_assoc, length-append, arith}
 use Rattle.std.specs.Prelude.{slice_get}
 use Rattle.std.proofs.lemmas.List.{get_or_append_left}
 use Rattle.ob_check.specs.declared.program.DataType.{DataType}
@@ -10,24 +10,23 @@ use Rattle.ob_check.specs.declared.program.Scalar.{Scalar}
 use Rattle.ob_check.specs.declared.program.Scalar.TheVariants.{Int, Bool as Truth}
 use Rattle.ob_check.specs.Program.{Name, Variable, Parameter, Expression, Literal, ValueOf, Negated, Computed, Operations, no_operation, operation, Designator, OfModule, Own as OwnName}
 use Rattle.ob_check.specs.Arithmetic.{Evaluated, Gives as Evaluates, Traps as Fails, ◌>>=◌, in_range, computed, number_of}
-use Rattle.ob_mean.specs.Value.{Value, Single, scalar_of}
-use Rattle.ob_mean.specs.Store.{Place, Held, Holds, Refers, Store, activation_at, own, held_by, place_held, own_place, value_held, value_at}
+use Rattle.ob_mean.specs.Value.{Single, scalar_of}
+use Rattle.ob_mean.specs.Store.{Place, Held, Holds, Refers, Store, activation_at, own, held_by, place_held, value_held, value_at}
 use Rattle.ob_mean.specs.Evaluation.{place_of, value_of, value_behind}
 use Rattle.ob_layout.specs.Scopes.{Slot, Own, Reference, Scope, extent, slot_of, word_in, module_scope, frame_scope}
-use Rattle.ob_layout.specs.Layout.{word_of}
-use Rattle.ob_layout.specs.Encoding.{word, IsScalarOf, IsValueOf}
+use Rattle.ob_layout.specs.Encoding.{word, IsScalarOf}
 use Rattle.ob_layout.specs.Temporaries.{temporaries, temporaries_behind}
 use Rattle.ob_scheme.specs.Scheme.{global_code, local_code, instruction_of, address_code, expression_code, operations_code}
 use Rattle.ob_code.specs.declared.instr.Instr.{Instr}
 use Rattle.ob_code.specs.declared.instr.Instr.TheVariants as Instrs
 use Rattle.ob_code.specs.declared.saved.Saved.{Saved}
-use Rattle.ob_code.specs.Words.{Made, Gives, Traps, Sticks, made_of_one, made_of_two}
+use Rattle.ob_code.specs.Words.{Gives, Traps, made_of_one, made_of_two}
 use Rattle.ob_code.specs.Effect.{word_at}
 use Rattle.ob_code.specs.Machine.{Configuration}
 use Rattle.ob_code.proofs.Memory.{one_list}
 use Rattle.ob_scheme.proofs.Image.{base, scope_at, address, position_words, store_words, IsPlace, FitsHeld, FitsFrom, Fits}
 use Rattle.ob_scheme.proofs.Located.{length-position, first_word}
-use Rattle.ob_scheme.proofs.Stores.{total, length-store_words, same_count, Reads, reads, store_words-first}
+use Rattle.ob_scheme.proofs.Stores.{total, length-store_words, same_count, reads, store_words-first}
 use Rattle.ob_scheme.proofs.Fine.{IsNamed, IsFine, AreFine}
 use Rattle.ob_scheme.proofs.Instructions.{pushed_room, of_one_top, of_two_top, loaded_top, local_effect, Ranged, inside, outside, ranged, Leads, Stops, leads_on, stops_on, at, steps_to, traps_at}
 use Rattle.ob_scheme.proofs.Placed.{HasAt, has_front, has_back}

@@ -1,10 +1,10 @@
 -- A store written out word by word: what the machine's block and stack hold while a construct runs.
-use Rattle.std.proofs.Common.{◌≡◌, ℕ, zero, suc, pred, ◌+◌, ◌<◌, ℤ, pos, List, [], ◌∷◌, ◌++◌, length, map, drop, Some, None, Option}
+use Rattle.std.proofs.Common.{◌≡◌, ℕ, zero, suc, ◌+◌, ◌<◌, ℤ, pos, List, [], ◌∷◌, ◌++◌, drop, Some, None}
 use Rattle.ob_check.specs.declared.program.DataType.{DataType}
 use Rattle.ob_code.specs.declared.saved.Saved.{Saved}
 use Rattle.ob_code.specs.Machine.{Configuration}
-use Rattle.ob_mean.specs.Store.{Place, Held, Holds, Refers, Binding, Activation, Store, activation_at}
-use Rattle.ob_layout.specs.Scopes.{Slot, Own, Reference, Named, Scope, extent, slot_of, word_in}
+use Rattle.ob_mean.specs.Store.{Place, Held, Holds, Refers, Activation, Store, activation_at}
+use Rattle.ob_layout.specs.Scopes.{Slot, Own, Reference, Scope, extent, slot_of, word_in}
 use Rattle.ob_layout.specs.Encoding.{flat, IsValueOf}
 
 -- the words before a position

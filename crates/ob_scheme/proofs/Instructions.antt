@@ -1,20 +1,19 @@
 -- One instruction on a stack whose topmost words are known.
-use Rattle.std.proofs.Common.{◌≡◌, ℕ, zero, suc, ◌+◌, ◌-◌, ◌*◌, ◌^◌, ◌<◌, ◌≤◌, ltb, leb, ℤ, pos, negsuc, neg_ℤ, ◌+ℤ◌, ◌-ℤ◌, ◌≤ℤ◌, Bool, true, false, ◌&&◌, cond, List, [], ◌∷◌, ◌++◌, length, take, drop, get_or, replicate, Some, None, Option, refl, sym, ap, ◌∙◌, subst, ⊎_elim, append_assoc, length-append, append-nil, arith}
-use Rattle.std.specs.Prelude.{slice_get, slice_set, int_le, nat_lt, nat_le}
+use Rattle.std.proofs.Common.{◌≡◌, ℕ, suc, ◌+◌, ◌-◌, ◌^◌, ◌<◌, ◌≤◌, ltb, leb, ℤ, pos, negsuc, Bool, true, false, ◌&&◌, cond, List, [], ◌∷◌, ◌++◌, length, take, get_or, replicate, Some, Option, refl, ap, ◌∙◌, ⊎_elim, length-append, append-nil, arith}
+use Rattle.std.specs.Prelude.{slice_get, int_le}
 use Rattle.std.proofs.lemmas.Bool.{cases_lt}
 use Rattle.std.proofs.lemmas.Bool.Decides.{nat_tests}
 use Rattle.std.proofs.lemmas.Int.{ints}
 use Rattle.std.proofs.lemmas.List.{get_or_at, take_at}
-use Rattle.ob_check.specs.declared.program.Scalar.{Scalar}
-use Rattle.ob_check.specs.declared.program.Scalar.TheVariants.{Int, Bool as Truth}
-use Rattle.ob_check.specs.Arithmetic.{Evaluated, Gives as Evaluates, Traps as Fails, in_range}
+use Rattle.ob_check.specs.declared.program.Scalar.TheVariants.{Int}
+use Rattle.ob_check.specs.Arithmetic.{Gives as Evaluates, Traps as Fails, in_range}
 use Rattle.ob_layout.specs.Encoding.{IsInteger}
 use Rattle.ob_code.specs.declared.instr.Instr.{Instr}
 use Rattle.ob_code.specs.declared.instr.Instr.TheVariants as Instrs
 use Rattle.ob_code.specs.declared.saved.Saved.{Saved}
-use Rattle.ob_code.specs.Words.{Made, Gives, Traps, Sticks, ◌>>=◌, is_integer, is_word, integer, address}
+use Rattle.ob_code.specs.Words.{Made, Gives, Traps, Sticks, ◌>>=◌, is_integer, integer, address}
 use Rattle.ob_code.specs.Effect.{popped, pushed, of_one, of_two, loaded, stored, cleared, word_at, put_at, effect, stack_effect}
-use Rattle.ob_code.specs.Machine.{BodyState, Configuration, Outcome, Unfinished, Returned, Trapped, Stuck, made_then, goes_on, act, act_at, turn, carried, exec}
+use Rattle.ob_code.specs.Machine.{Configuration, Outcome, Unfinished, Trapped, made_then, goes_on, act, act_at, turn, carried, exec}
 use Rattle.ob_code.proofs.Tops.{popped_some}
 
 -- the test of a range that holds, and one that fails

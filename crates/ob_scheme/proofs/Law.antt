@@ -1,7 +1,7 @@
 -- The code of the scheme is correct for each well-typed module.
-use Rattle.std.proofs.Common.{◌≡◌, ℕ, zero, suc, List, [], ◌∷◌, Some, sym, ap, subst}
+use Rattle.std.proofs.Common.{◌≡◌, ℕ, zero, suc, List, [], ◌∷◌, Some, subst}
 use Rattle.std.specs.Prelude.{slice_get}
-use Rattle.ob_check.specs.Program.{Variable, Procedure, Program}
+use Rattle.ob_check.specs.Program.{Variable, Procedure}
 use Rattle.ob_layout.specs.Scopes.{module_scope, frame_scope}
 use Rattle.ob_layout.specs.Temporaries.{stack_words}
 use Rattle.ob_layout.proofs.Limits.{frames_small, words_small}

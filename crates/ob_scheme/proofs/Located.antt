@@ -1,5 +1,5 @@
 -- The words of one name among those of an activation.
-use Rattle.std.proofs.Common.{◌≡◌, ℕ, suc, ◌+◌, ◌<◌, ℤ, pos, Bool, true, false, List, [], ◌∷◌, ◌++◌, length, map, Some, None, Option, refl, sym, ap, ◌∙◌, subst, append_assoc, length-append, arith}
+use Rattle.std.proofs.Common.{◌≡◌, ℕ, ◌+◌, ℤ, pos, Bool, true, false, List, [], ◌∷◌, ◌++◌, length, map, Some, None, Option, refl, sym, ap, ◌∙◌, subst, append_assoc, length-append}
 use Rattle.std.specs.Prelude.{bytes_eq, if◌then◌else◌}
 use Rattle.std.proofs.lemmas.Slice.Eq.{bytes_eq-Decides}
 use Rattle.ob_check.specs.declared.program.DataType.{DataType}
@@ -8,7 +8,7 @@ use Rattle.ob_check.specs.declared.program.Scalar.TheVariants.{Int, Bool as Trut
 use Rattle.ob_check.specs.Program.{Name}
 use Rattle.ob_check.specs.Scopes.{words}
 use Rattle.ob_mean.specs.Value.{Value, Single, scalar_of}
-use Rattle.ob_mean.specs.Store.{Held, Holds, Refers, Binding, Activation, held_by, rebound, value_held}
+use Rattle.ob_mean.specs.Store.{Held, Holds, Refers, Binding, Activation, held_by, rebound}
 use Rattle.ob_layout.specs.Scopes.{Slot, Own, Reference, Named, Scope, width, extent, slot_of, word_in}
 use Rattle.ob_layout.specs.Encoding.{word, flat, IsValueOf}
 use Rattle.ob_scheme.proofs.Image.{address, held_words, position_words, FitsHeld, FitsActivation, IsDistinct}

@@ -1,5 +1,5 @@
 -- The code of statements does what they mean, turn for turn.
-use Rattle.std.proofs.Common.{◌≡◌, ℕ, zero, suc, ◌+◌, ◌<◌, ◌≤◌, max, ℤ, pos, List, [], ◌∷◌, ◌++◌, length, drop, set, Some, Option, refl, sym, ap, ◌∙◌, subst, append-nil, length-append, arith}
+use Rattle.std.proofs.Common.{◌≡◌, ℕ, ◌+◌, ◌<◌, ◌≤◌, ℤ, pos, List, [], ◌∷◌, ◌++◌, length, drop, set, Some, refl, sym, ap, ◌∙◌, subst, append-nil, length-append, arith}
 use Rattle.std.specs.Prelude.{slice_get}
 use Rattle.ob_check.specs.declared.program.DataType.TheVariants.{Integer}
 use Rattle.ob_check.specs.declared.program.Scalar.{Scalar}
@@ -7,7 +7,7 @@ use Rattle.ob_check.specs.Program.{Variable, Parameter, Expression, Designator, 
 use Rattle.ob_check.specs.Arithmetic.{Evaluated, Gives as Evaluates, Traps as Fails}
 use Rattle.ob_mean.specs.Value.{Single}
 use Rattle.ob_mean.specs.Store.{Place, Store, activation_at, stored}
-use Rattle.ob_mean.specs.Evaluation.{place_of, value_of}
+use Rattle.ob_mean.specs.Evaluation.{value_of}
 use Rattle.ob_mean.specs.Statements.{Outcome, Done, Trap, NotYet, Run, after, then_run, meaning, meaning_of_all}
 use Rattle.ob_layout.specs.Scopes.{Own, Scope, extent, module_scope, frame_scope}
 use Rattle.ob_layout.specs.Encoding.{word, IsScalarOf}
@@ -16,15 +16,15 @@ use Rattle.ob_scheme.specs.Scheme.{address_code, expression_code, statement_code
 use Rattle.ob_code.specs.declared.instr.Instr.{Instr}
 use Rattle.ob_code.specs.declared.instr.Instr.TheVariants as Instrs
 use Rattle.ob_code.specs.declared.saved.Saved.{Saved}
-use Rattle.ob_code.specs.Words.{Made, Gives}
-use Rattle.ob_code.specs.Machine.{Configuration, Unfinished, Trapped, exec, turn}
+use Rattle.ob_code.specs.Words.{Gives}
+use Rattle.ob_code.specs.Machine.{Configuration, Unfinished, exec}
 use Rattle.ob_code.proofs.Memory.{one_list}
 use Rattle.ob_scheme.proofs.Image.{scope_at, address, position_words, store_words, IsPlace, Fits}
 use Rattle.ob_scheme.proofs.Stores.{total, length-store_words, reads, writes, store_words-first, cut_equal}
-use Rattle.ob_scheme.proofs.Fine.{IsFine, IsFineStatement, AreFineStatements}
-use Rattle.ob_scheme.proofs.Instructions.{stored_top, Leads, Stops, leads_one, leads_on, stops_on, at, acts}
+use Rattle.ob_scheme.proofs.Fine.{IsFineStatement, AreFineStatements}
+use Rattle.ob_scheme.proofs.Instructions.{stored_top, Leads, Stops, leads_one, leads_on, at, acts}
 use Rattle.ob_scheme.proofs.Placed.{HasAt, has_front, has_back}
-use Rattle.ob_scheme.proofs.Expressions.{Setting, length_block, Above, Placed, place_runs, Ends, ends_after, value_runs, above_push}
+use Rattle.ob_scheme.proofs.Expressions.{Setting, length_block, Above, place_runs, Ends, ends_after, value_runs, above_push}
 
 module _ (code : List Instr) (reserve : ℕ) where
   -- from c the machine comes to c', and each turn that was used was paid by an instruction

@@ -1,17 +1,15 @@
 -- The words of one place among those of a store: what is read there, and what a store of a value changes.
-use Rattle.std.proofs.Common.{◌≡◌, ℕ, zero, suc, pred, ◌+◌, ◌<◌, ℤ, pos, Bool, true, false, List, [], ◌∷◌, ◌++◌, length, get_or, set, take, drop, map, Some, None, Option, refl, sym, ap, ◌∙◌, subst, append_assoc, length-append, arith}
+use Rattle.std.proofs.Common.{◌≡◌, ℕ, zero, suc, ◌+◌, ◌<◌, ℤ, pos, List, [], ◌∷◌, ◌++◌, length, get_or, set, take, drop, map, Some, refl, sym, ap, ◌∙◌, subst, append_assoc, length-append, arith}
 use Rattle.std.specs.Prelude.{slice_set}
-use Rattle.std.proofs.lemmas.List.{get_or_at, set_at, length-set, take_at, drop_at, set-append_left}
+use Rattle.std.proofs.lemmas.List.{get_or_at, set_at, take_at, drop_at}
 use Rattle.ob_check.specs.declared.program.DataType.{DataType}
-use Rattle.ob_check.specs.declared.program.DataType.TheVariants.{Integer}
 use Rattle.ob_check.specs.declared.program.Scalar.{Scalar}
-use Rattle.ob_check.specs.declared.program.Scalar.TheVariants.{Int, Bool as Truth}
 use Rattle.ob_check.specs.Program.{Name}
-use Rattle.ob_mean.specs.Value.{Value, Single, scalar_of}
-use Rattle.ob_mean.specs.Store.{Place, Held, Holds, Refers, Activation, Store, activation_at, held_by, value_held, value_at, rebound, stored}
-use Rattle.ob_layout.specs.Scopes.{Slot, Own, Reference, Scope, extent, slot_of, word_in}
+use Rattle.ob_mean.specs.Value.{Value, Single}
+use Rattle.ob_mean.specs.Store.{Place, Activation, Store, activation_at, held_by, rebound, stored}
+use Rattle.ob_layout.specs.Scopes.{Slot, Own, Scope, extent, slot_of, word_in}
 use Rattle.ob_layout.specs.Encoding.{word, flat, IsScalarOf, IsValueOf}
-use Rattle.ob_scheme.proofs.Image.{base, scope_at, address, held_words, position_words, store_words, IsPlace, FitsHeld, FitsActivation, IsDistinct, FitsFrom, Fits}
+use Rattle.ob_scheme.proofs.Image.{base, scope_at, address, held_words, position_words, store_words, FitsHeld, FitsFrom, Fits}
 use Rattle.ob_scheme.proofs.Located.{Located, located, length-position, first_word, one_word}
 
 -- the words of all scopes

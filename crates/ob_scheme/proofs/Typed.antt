@@ -1,6 +1,6 @@
 -- A well-typed program has what the proof of its code needs.
-use Rattle.std.proofs.Common.{◌≡◌, ℕ, suc, ◌⊎◌, inl, inr, Bool, true, false, ◌&&◌, cond, List, [], ◌∷◌, ◌++◌, map, Some, None, Option, is_some, refl, sym, ap, ◌∙◌, subst, append_assoc, append-nil}
-use Rattle.std.specs.Prelude.{bytes_eq, codes, not, slice_get, if◌then◌else◌}
+use Rattle.std.proofs.Common.{◌≡◌, ℕ, ◌⊎◌, inl, inr, Bool, true, false, List, [], ◌∷◌, ◌++◌, map, Some, None, Option, refl, sym, ap, ◌∙◌, subst, append_assoc, append-nil}
+use Rattle.std.specs.Prelude.{bytes_eq, codes, if◌then◌else◌}
 use Rattle.std.proofs.lemmas.List.{map-append}
 use Rattle.std.proofs.lemmas.Slice.Eq.{bytes_eq-Decides}
 use Rattle.ob_grammar.specs.declared.tree.Sign.{Sign}
@@ -8,8 +8,7 @@ use Rattle.ob_grammar.specs.Tree
 use Rattle.ob_check.specs.declared.program.DataType.{DataType}
 use Rattle.ob_check.specs.declared.program.DataType.TheVariants.{Integer}
 use Rattle.ob_check.specs.declared.program.Formal.{Formal}
-use Rattle.ob_check.specs.declared.program.Scalar.TheVariants.{Int, Bool as Truth}
-use Rattle.ob_check.specs.Program.{Name, Variable, Parameter, Procedure, Program, formal_of, Expression, Literal, ValueOf, Negated, Computed, Operations, no_operation, operation, Designator, OfModule, Own as OwnName, Statement, Assign, Statements, no_statement, statement}
+use Rattle.ob_check.specs.Program.{Name, Variable, Parameter, Procedure, Program, formal_of, Expression, Negated, Operations, Designator, Statement, Statements}
 use Rattle.ob_check.specs.Scopes as Declared
 use Rattle.ob_check.specs.Scopes.{Environment, Object, TypeName, ModuleVariable, LocalVariable, ProcedureName, no_names, with_name, or_else, found, IsNew, declared, outermost}
 use Rattle.ob_check.specs.Typing as Typing

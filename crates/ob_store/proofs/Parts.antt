@@ -1,5 +1,5 @@
 -- The parts of a value: a vector within a value as a list, and one of them read or replaced.
-use Rattle.std.proofs.Common.{◌≡◌, List, [], ◌∷◌, ◌++◌, refl, ap, sym, ◌∙◌, ℕ, zero, suc, Box, Vec, get_or, set, take, drop, length, ◌+◌, ◌<◌, ◌≤◌, arith}
+use Rattle.std.proofs.Common.{◌≡◌, List, [], ◌∷◌, ◌++◌, refl, ap, sym, ◌∙◌, ℕ, zero, suc, Vec, get_or, set, take, drop, length, ◌+◌, ◌<◌, ◌≤◌, arith}
 use Rattle.std.specs.declared.alloc.Global.{Global}
 use Rattle.std.proofs.lemmas.List.{take_more}
 use mathlib.Core.Former.{Count}

@@ -1,7 +1,5 @@
-use Rattle.std.proofs.Common.{ap, ◌∙◌, arith}
+use Rattle.std.proofs.Common.{arith}
 use Rattle.ob_positions.specs.Value.{Single}
-use Rattle.ob_positions.specs.Store as Stores
-use Rattle.ob_store.specs.View.{held_in}
 use Rattle.ob_store.proofs.Stored.{with_held-set, with_held-beyond}
 use Rattle.ob_store.proofs.store.put_at.Goals as goal
 

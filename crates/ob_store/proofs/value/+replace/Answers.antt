@@ -1,4 +1,4 @@
-use Rattle.std.proofs.Common.{ap, sym, ◌∙◌, arith}
+use Rattle.std.proofs.Common.{ap, arith}
 use Rattle.ob_store.proofs.Parts.{replaced_here, replaced_nowhere}
 use Rattle.ob_store.proofs.value.+replace.Goals.{with_part-then-first-len, with_part-else-first-len}
 use Rattle.ob_store.proofs.value.+replace.Goals as goal

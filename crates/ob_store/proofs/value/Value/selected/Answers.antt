@@ -1,4 +1,4 @@
-use Rattle.std.proofs.Common.{sym, ◌∙◌}
+use Rattle.std.proofs.Common.{◌∙◌}
 use Rattle.ob_store.specs.View.{value_in}
 use Rattle.ob_store.proofs.Parts.{selected-none}
 use Rattle.ob_store.proofs.value.Value.selected.Goals as goal

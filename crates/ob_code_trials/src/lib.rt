@@ -1,0 +1,18 @@
+//! Tests of what no row of the program shows: layouts and code, schedules and records, and the values and stores of the
+//! whole language. Nothing stands on this crate.
+#![tactic(auto)]
+
+#[cfg(test)]
+mod code;
+#[cfg(test)]
+mod counter;
+#[cfg(test)]
+mod layouts;
+#[cfg(test)]
+mod records;
+#[cfg(test)]
+mod scalars;
+#[cfg(test)]
+mod schedules;
+#[cfg(test)]
+mod stores;
