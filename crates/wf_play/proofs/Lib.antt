@@ -1,3 +1,4 @@
 mod Items
 mod Ends
 mod Plays
+mod Makings

@@ -38,7 +38,7 @@ module _ {Run : Type 0} (m : Meaning Run) (z : Sizes) where
   submitted_by s p call (Some q) = refl
 
   -- calls that are submitted show nothing
-  submitted_records : (scripts : List (ℕ × ObjectCall)) (s : State Run) → (run m z (submissions scripts) s).records ≡ s.records
+  pub submitted_records : (scripts : List (ℕ × ObjectCall)) (s : State Run) → (run m z (submissions scripts) s).records ≡ s.records
   submitted_records [] s = refl
   submitted_records (x ∷ xs) s = submitted_records xs (submit_of s x.0 x.1) ∙ submitted_by s x.0 x.1 (slice_get s.processes x.0)
 

@@ -3,6 +3,8 @@
 
 mod item;
 pub mod laws;
+pub mod making;
 pub mod playing;
 
+pub use making::makers;
 pub use playing::{PlayFault, play};

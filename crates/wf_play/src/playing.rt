@@ -88,7 +88,10 @@ pub fn play<E: Engine>(
 }
 
 /// Submits the calls, in order.
-fn submit_all<E: Engine>(machine: &mut Machine<E>, calls: Vec<ScriptCall>) -> Result<(), NoMemory>
+pub(crate) fn submit_all<E: Engine>(
+    machine: &mut Machine<E>,
+    calls: Vec<ScriptCall>,
+) -> Result<(), NoMemory>
     requires callers { All (λ c. c.process < machine.old.sizes.processes) calls.items }
     requires fits { All (λ c. E.fits machine.old.engine (object_call (script_call_of c))) calls.items }
     ensures object { OnOk result (IsSameObject machine.new machine.old) }
