@@ -66,8 +66,8 @@ fn prints_the_deepest_trees(rt: HostRuntime) -> Result<(), Fail> {
         (TARGETS, ""),
         (NEGATIONS, "1"),
     ];
-    for (nest, within) in rows {
-        let text = nested(rt.alloc(), &nest, 100, within)?;
+    for (nest, within) in &rows {
+        let text = nested(rt.alloc(), nest, 100, within)?;
         assert!(rt; is_printed_again(rt.alloc(), text.as_bytes())?, "{text}");
     }
     Ok(())

@@ -143,8 +143,9 @@ fn faults_have_their_lines(rt: HostRuntime) -> Result<(), Fail> {
 
 /// Inc, an Add of the greatest number that traps with this number, and a Get that answers 1.
 fn trapped(alloc: Global, trap: u8) -> Result<History, Fail> {
-    let mut most = call(alloc, ADD);
-    most.args.push_reserved(Scalar::Int(i32::MAX));
+    let mut args = SmallVec::new(alloc);
+    args.push_reserved(Scalar::Int(i32::MAX));
+    let most = Call { proc: ADD, args };
     let mut history = History::new(alloc);
     let done = Reply::Done(SmallVec::new(alloc));
     made(&mut history, 0, call(alloc, INC), done)?;

@@ -40,17 +40,18 @@ fn is_type_named(of_type: &TypeExpr, text: &str, place: usize) -> bool {
     }
 }
 
-/// `.f[NUMBER]`, from this place.
-fn is_field_and_index(selectors: &[Selector], at: usize, number: i32) -> bool {
+/// `.f[NUMBER]`, whose four parts stand at these places.
+fn is_field_and_index(selectors: &[Selector], places: [usize; 4], number: i32) -> bool {
+    let [dot, field, bracket, within] = places;
     match selectors {
         [
-            Selector::Field { place: dot, name },
+            Selector::Field { place: first, name },
             Selector::Index { place, index },
         ] => {
-            *dot == at
-                && is_name(name, "f", at + 1)
-                && *place == at + 2
-                && is_number(index, number, at + 3)
+            *first == dot
+                && is_name(name, "f", field)
+                && *place == bracket
+                && is_number(index, number, within)
         }
         _ => false,
     }
@@ -141,7 +142,8 @@ fn reads_sums(rt: HostRuntime) -> Result<(), Fail> {
 fn is_selected(value: &Expr) -> bool {
     match value {
         Expr::Named(designator) => {
-            is_name(&designator.name, "a", 21) && is_field_and_index(&designator.selectors, 22, 1)
+            is_name(&designator.name, "a", 21)
+                && is_field_and_index(&designator.selectors, [22, 23, 24, 25], 1)
         }
         _ => false,
     }
@@ -276,7 +278,7 @@ fn is_assignment(statement: &Stmt) -> bool {
     match statement {
         Stmt::Assign { target, value } => {
             is_name(&target.name, "y", 89)
-                && is_field_and_index(&target.selectors, 90, 2)
+                && is_field_and_index(&target.selectors, [90, 91, 92, 93], 2)
                 && is_number(value, 3, 99)
         }
         _ => false,
