@@ -3,8 +3,6 @@
 
 pub mod fault;
 pub mod shared;
-#[cfg(test)]
-mod tests;
 
 pub use fault::CellFault;
 pub use shared::Shared;

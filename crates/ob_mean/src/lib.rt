@@ -7,6 +7,4 @@ pub mod opening;
 pub mod sequence;
 pub mod state;
 mod store;
-#[cfg(test)]
-mod tests;
 pub mod value;

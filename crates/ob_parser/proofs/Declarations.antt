@@ -343,9 +343,7 @@ leads_open shallow = record {
 
 -- what stands behind the heading of a procedure
 abbrev pub behind_procedure : ℕ → Heading → Form (ℕ × (Declarations × (Option Stmts × (ℕ × Name))))
-behind_procedure n h =
-    both (token Kind.Semicolon)
-    (both (forms.declarations (n + 1)) (both (forms.body (n + 1)) (both (token Kind.End) (forms.end_name h.name))))
+behind_procedure n h = forms.block (n + 1) h.name
 
 abbrev pub behind_heading : ℕ → Sequel Heading (ℕ × (Declarations × (Option Stmts × (ℕ × Name))))
 behind_heading n = record {
@@ -390,8 +388,11 @@ fill_declarations = record {
   kept = refl;
 }
 
+pub fill_block : (n : ℕ) (name : Name) → Fills (forms.block n name)
+fill_block n name = fill_both fill_token (fill_both fill_declarations (fill_end n name))
+
 pub fill_behind_heading : (n : ℕ) (h : Heading) → Fills (behind_part (behind_heading n) h)
-fill_behind_heading n h = fill_both fill_token (fill_both fill_declarations (fill_end (n + 1) h.name))
+fill_behind_heading n h = fill_block (n + 1) h.name
 
 -- behind the heading
 pub past_heading : {A : Type 0} {F : Form A} (n : ℕ) {s t u : State} {f : Heading × (ℕ × (Declarations × (Option Stmts × (ℕ × Name)))) → A} {x : Heading} →
@@ -590,53 +591,46 @@ fill_behind_constants = fill_both (fill_perhaps optional_types) fill_behind_type
 -- module = "MODULE" ident ";" declarations ["BEGIN" StatementSequence] "END" ident "."
 
 -- what stands behind the name of a module
-abbrev pub in_module : Name → Form (ℕ × (Declarations × (Option Stmts × (ℕ × (Name × ℕ)))))
-in_module n =
-    both (token Kind.Semicolon)
-    (both (forms.declarations 0) (both (forms.body 0) (both (token Kind.End) (both (forms.end_name n) (token Kind.Dot)))))
+abbrev pub in_module : Name → Form ((ℕ × (Declarations × (Option Stmts × (ℕ × Name)))) × ℕ)
+in_module n = both (forms.block 0 n) (token Kind.Dot)
 
-abbrev pub behind_name : Sequel Name (ℕ × (Declarations × (Option Stmts × (ℕ × (Name × ℕ)))))
+abbrev pub behind_name : Sequel Name ((ℕ × (Declarations × (Option Stmts × (ℕ × Name)))) × ℕ)
 behind_name = record {
-  relation = Both (One Kind.Semicolon) (Both DeclarationsPart (Both BodyPart (Both (One Kind.End) (Both TakesName (One Kind.Dot)))));
+  relation = Both (Both (One Kind.Semicolon) (Both DeclarationsPart (Both BodyPart (Both (One Kind.End) TakesName)))) (One Kind.Dot);
   continues = forms.nothing;
   breaches = λ n. (in_module n).breaches;
 }
 
 module_only : {a rest : Lexemes} {y : Module} → ModuleText a y rest →
-    (x : ℕ × (Name × (ℕ × (Declarations × (Option Stmts × (ℕ × (Name × ℕ)))))))
-    × (y ≡ record { name = x.1.0; declarations = x.1.1.1.0; body = x.1.1.1.1.0; end_name = x.1.1.1.1.1.1.0 })
+    (x : ℕ × (Name × ((ℕ × (Declarations × (Option Stmts × (ℕ × Name)))) × ℕ)))
+    × (y ≡ record { name = x.1.0; declarations = x.1.1.0.1.0; body = x.1.1.0.1.1.0; end_name = x.1.1.0.1.1.1.1 })
     × Both (One Kind.Module) (Both TakesName behind_name.relation) a x rest
 module_only (Grammar.module' {m = m} t d u e f v g w) = (
-  (t.0, (m.name, (u.0, (m.declarations, (m.body, (v.0, (m.end_name, w.0))))))),
+  (t.0, (m.name, ((u.0, (m.declarations, (m.body, (v.0, m.end_name)))), w.0))),
   refl,
-  (_, t.1, (_, d, (_, u.1, (_, e, (_, f, (_, v.1, (_, g, w.1))))))),
+  (_, t.1, (_, d, (_, (_, u.1, (_, e, (_, f, (_, v.1, g)))), w.1))),
 )
 
 pub leads_module : {tokens : Lexemes} {p : ℕ} →
     Leads forms.module_text tokens p (both (token Kind.Module) (linked forms.name behind_name)) p
-    (λ x. record { name = x.1.0; declarations = x.1.1.1.0; body = x.1.1.1.1.0; end_name = x.1.1.1.1.1.1.0 })
+    (λ x. record { name = x.1.0; declarations = x.1.1.0.1.0; body = x.1.1.0.1.1.0; end_name = x.1.1.0.1.1.1.1 })
 leads_module = record {
   order = omega arith;
   within = λ h. h;
   into = λ other same x rest d.
-      Grammar.module' (x.0, d.1) d.2.1 (x.1.1.0, d.2.2.1) d.2.2.2.1 d.2.2.2.2.1 (x.1.1.1.1.1.0, d.2.2.2.2.2.1) d.2.2.2.2.2.2.1
-      (x.1.1.1.1.1.1.1, d.2.2.2.2.2.2.2);
+      (let block = d.2.2.1 in
+      Grammar.module' (x.0, d.1) d.2.1 (x.1.1.0.0, block.1) block.2.1 block.2.2.1 (x.1.1.0.1.1.1.0, block.2.2.2.1) block.2.2.2.2 (x.1.1.1, d.2.2.2));
   onto = λ other same y rest d stops. (let m = module_only d in (m.0, m.1, m.2, nothing_stops rest));
-  breaches = λ x.
-      ap (λ ds. in_declarations 0 x.1.1.1.0 ++ (in_body 0 x.1.1.1.1.0 ++ ds)) (sym (append-nil (differing x.1.0 x.1.1.1.1.1.1.0)));
+  breaches = λ x. sym (append-nil (in_declarations 0 x.1.1.0.1.0 ++ (in_body 0 x.1.1.0.1.1.0 ++ differing x.1.0 x.1.1.0.1.1.1.1)));
 }
 
 pub name_follows : (n : Name) → Follows forms.name (behind_part behind_name n)
 name_follows n = closed (λ k. refl)
 
--- what stands behind the declarations of a module with this name
-pub fill_module_end : (n : Name) → Fills (both (forms.body 0) (both (token Kind.End) (both (forms.end_name n) (token Kind.Dot))))
-fill_module_end n = fill_both fill_body (fill_both fill_token (fill_both (fill_end_name n) fill_token))
-
 pub fill_behind_name : (n : Name) → Fills (behind_part behind_name n)
-fill_behind_name n = fill_both fill_token (fill_both fill_declarations (fill_module_end n))
+fill_behind_name n = fill_both (fill_block 0 n) fill_token
 
 -- behind the name
-pub past_name : {A : Type 0} {F : Form A} {s t u : State} {f : Name × (ℕ × (Declarations × (Option Stmts × (ℕ × (Name × ℕ))))) → A} {x : Name} →
+pub past_name : {A : Type 0} {F : Form A} {s t u : State} {f : Name × ((ℕ × (Declarations × (Option Stmts × (ℕ × Name)))) × ℕ) → A} {x : Name} →
     Path F s (linked forms.name behind_name) t f → Went forms.name t x u → Path F s (in_module x) u (λ y. f (x, y))
 past_name way went = past_linked way name_follows went

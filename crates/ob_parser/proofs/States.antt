@@ -1,5 +1,5 @@
 -- The lemmas of Steps over states of the parser, so that a method's answer is a path of its calls.
-use Rattle.std.proofs.Common.{◌≡◌, ℕ, suc, ◌+◌, length, Some, true, false, IsTrue, ◌↔◌, Result, refl, sym, ◌∙◌, ap, subst, arith}
+use Rattle.std.proofs.Common.{◌≡◌, ℕ, suc, ◌+◌, length, Some, true, false, IsTrue, ◌↔◌, Result, Ok, Err, refl, sym, ◌∙◌, ap, subst, arith}
 use Rattle.std.specs.Result.{IsErrAnd}
 use Rattle.ob_scan.specs.declared.token.Kind.{Kind}
 use Rattle.ob_parser.specs.declared.parser.ParseFault.{ParseFault}
@@ -9,7 +9,7 @@ use Rattle.ob_parser.specs.ParseFaults.{lexemes_of, HasPlace}
 use Rattle.ob_parser.specs.Reading.{Form, Sequel, behind_part, Reads, Refuses, unexpected, breaks, kind_at, place_at}
 use Rattle.ob_grammar.specs.Conditions.{name_differs, too_deep}
 use Rattle.ob_parser.specs.Forms.{token, both, linked}
-use Rattle.ob_parser.specs.Answers.{State, tokens_of, Went, Fails, FailsHere, Answers}
+use Rattle.ob_parser.specs.Answers.{State, tokens_of, Went, Fails, FailsHere, Answers, AnswersPart}
 use Rattle.ob_parser.proofs.Steps.{Leads, Fills, leads_on, leads_itself, leads_as, leads_reads, leads_refuses, Follows, leads_second, first_refuses, always, reads_token, Begins, refuses_beginning}
 use Rattle.ob_grammar.proofs.Exits.{exits}
 
@@ -139,6 +139,16 @@ went_as {A = A} {F = F} {s = s} {t = t} e a = let P : A → Type 0 = λ z. Went 
 pub passed : {X A : Type 0} (view : X → A) (F : Form A) (s t : State) (r : Result X ParseFault) (e : ParseFault) →
     IsErrAnd r (λ d. d ≡ e) → Fails F s e → Answers view F s r t
 passed view F s t r e h bad = exits (λ v. Answers view F s v t) r e h bad
+
+pub passed_part : {X P A : Type 0} (whole : X → P → A) (F : Form A) (s t : State) (r : Result X ParseFault) (e : ParseFault) →
+    IsErrAnd r (λ d. d ≡ e) → Fails F s e → AnswersPart whole F s r t
+passed_part whole F s t r e h bad = exits (λ v. AnswersPart whole F s v t) r e h bad
+
+-- what the last call of a method answers, behind what the method has read
+pub ends_part : {X P A B : Type 0} (view : X → B) (whole : X → P → A) {F : Form A} {G : Form B} {s t : State} (u : State) {f : B → A} (p : P)
+    (r : Result X ParseFault) → ((x : X) → f (view x) ≡ whole x p) → Path F s G t f → Answers view G t r u → AnswersPart whole F s r u
+ends_part view whole u p (Ok x) e way h = (p, went_as (e x) (reaches way h))
+ends_part view whole u p (Err fault) e way h = fails way fault h
 
 pub false_at : {P : Type 0} → (IsTrue false ↔ P) → P → ⊥
 false_at h p = let e : false ≡ true = h.1 p in cc

@@ -1,9 +1,10 @@
 -- What a method of the parser answers.
-use Rattle.std.specs.Prelude.{◌≡◌, ℕ, true, List, length, slice_get, Some, Result, Ok, Err, map}
+use Rattle.std.specs.Prelude.{◌≡◌, ℕ, true, List, length, slice_get, Some, Option, option_map, Result, Ok, Err, map}
 use Rattle.ob_parser.specs.declared.parser.ParseFault.{ParseFault}
 use Rattle.ob_parser.specs.declared.parser.ParseFault.TheVariants.{Unexpected, TooDeep, NameDiffers, NoMemory}
 use Rattle.ob_parser.specs.declared.parser.Parser.{Parser}
 use Rattle.ob_parser.specs.declared.parser.declarations.Heading.{Heading}
+use Rattle.ob_parser.specs.declared.parser.declarations.Block.{Block}
 use Rattle.ob_grammar.specs.declared.tree.Selector.{Selector}
 use Rattle.ob_grammar.specs.declared.tree.Selector.TheVariants as Selectors
 use Rattle.ob_grammar.specs.declared.tree.FieldList.{FieldList}
@@ -15,7 +16,7 @@ use Rattle.ob_scan.specs.declared.token.Kind.{Kind}
 use Rattle.ob_scan.specs.Lexemes.{lexeme}
 use Rattle.ob_scan.specs.Tokens.{TokenizedText}
 use Rattle.ob_grammar.specs.Tree
-use Rattle.ob_grammar.specs.View.{name_of, expr_of, type_of, stmts_in, heading_with, heading_of, inner_of, body_of}
+use Rattle.ob_grammar.specs.View.{name_of, expr_of, type_of, stmts_in, declarations_of, heading_with, heading_of, inner_of, body_of}
 use Rattle.ob_parser.specs.Forms as forms
 use Rattle.ob_grammar.specs.Tree.{OneFieldList, ProcedureTree}
 use Rattle.ob_grammar.specs.Grammar.{Lexemes}
@@ -79,6 +80,15 @@ abbrev pub Answers : {X A : Type 0} → (X → A) → Form A → State → Resul
 Answers view F s (Ok x) t = Went F s (view x) t
 Answers view F s (Err e) t = Fails F s e
 
+-- The same of a method that leaves out where the tokens of its phrase stand: with those places its value is what was read.
+abbrev pub AnswersPart : {X P A : Type 0} → (X → P → A) → Form A → State → Result X ParseFault → State → Type 0
+AnswersPart {P = P} whole F s (Ok x) t = (places : P) × Went F s (whole x places) t
+AnswersPart whole F s (Err e) t = Fails F s e
+
+-- what stands between tokens at these places
+abbrev pub between : {A : Type 0} → A → ℕ × ℕ → ℕ × (A × ℕ)
+between x p = (p.0, (x, p.1))
+
 -- a name, or a fault at the token that stands here
 abbrev pub AnswersName : State → Result Name ParseFault → State → Type 0
 AnswersName s (Ok n) t = Went forms.name s (name_of n) t
@@ -87,6 +97,11 @@ AnswersName s (Err e) t = FailsHere Kind.Ident s e
 -- a heading that stands outside its procedure
 abbrev pub heading_in : Heading → Tree.Heading
 heading_in h = heading_with h.place h.name h.is_exported h.parameters
+
+-- a block, with the places of its semicolon and its END
+abbrev pub block_in : Block → ℕ × ℕ → ℕ × (Tree.Declarations × (Option Tree.Stmts × (ℕ × Tree.Name)))
+block_in b p =
+    (p.0, (declarations_of b.declarations, (option_map (λ ss. stmts_in ss.items) b.body, (p.1, name_of b.end_name))))
 
 abbrev pub procedure_of : Procedure → ProcedureTree
 procedure_of p =

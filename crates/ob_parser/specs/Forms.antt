@@ -257,6 +257,10 @@ expression n = record { relation = Expression; continues = expression_goes_on; b
 abbrev pub type_expr : ℕ → Form TypeExpr
 type_expr n = record { relation = IsType; continues = nothing; breaches = in_type n }
 
+-- "OF" type
+abbrev pub element : ℕ → Form (ℕ × TypeExpr)
+element n = both (token Kind.Of) (type_expr n)
+
 -- a field list in front of others
 abbrev pub list_in_front : OneFieldList → FieldLists → FieldLists
 list_in_front OneFieldList.empty rest = Tree.empty_list rest
@@ -293,6 +297,10 @@ statements n = record { relation = StatementSequence; continues = statements_go_
 abbrev pub more_statements : ℕ → Form Stmts
 more_statements n = record { relation = MoreStatements; continues = statements_go_on; breaches = in_stmts n }
 
+-- "DO" StatementSequence "END"
+abbrev pub repeated : ℕ → Form (ℕ × (Stmts × ℕ))
+repeated n = both (token Kind.Do) (both (statements n) (token Kind.End))
+
 -- a condition with the statements behind THEN
 pub record OneBranch : Type 0 where
   pub condition : Expr
@@ -321,6 +329,14 @@ abbrev pub body : ℕ → Form (Option Stmts)
 body n = perhaps body_goes_on (in_body n) (behind Kind.Begin (statements n))
 
 -- declarations
+
+-- "=" expression ";"
+abbrev pub constant_value : ℕ → Form (ℕ × (Expr × ℕ))
+constant_value n = both (token Kind.Equal) (both (expression n) (token Kind.Semicolon))
+
+-- a token of this kind, and then type ";"
+abbrev pub declared_type : Kind → ℕ → Form (ℕ × (TypeExpr × ℕ))
+declared_type kind n = both (token kind) (both (type_expr n) (token Kind.Semicolon))
 
 abbrev pub const_declaration : ℕ → Form ConstDecl
 const_declaration n = record { relation = ConstDeclaration; continues = nothing; breaches = λ c. in_expr n c.value }
@@ -381,6 +397,14 @@ procedures n = record { relation = ProcedureDeclarations; continues = procedures
 
 abbrev pub declarations : ℕ → Form Declarations
 declarations n = record { relation = DeclarationsPart; continues = declarations_go_on; breaches = in_declarations n }
+
+-- "END" ident
+abbrev pub ending : Name → Form (ℕ × Name)
+ending n = both (token Kind.End) (end_name n)
+
+-- ";" declarations ["BEGIN" StatementSequence] "END" ident
+abbrev pub block : ℕ → Name → Form (ℕ × (Declarations × (Option Stmts × (ℕ × Name))))
+block n x = both (token Kind.Semicolon) (both (declarations n) (both (body n) (ending x)))
 
 abbrev pub module_text : Form Module
 module_text = record { relation = ModuleText; continues = nothing; breaches = breaches }

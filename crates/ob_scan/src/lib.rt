@@ -7,8 +7,6 @@ pub mod keyword;
 mod lexeme;
 pub mod scanner;
 mod symbol;
-#[cfg(test)]
-mod tests;
 pub mod token;
 pub mod tokens;
 

@@ -1,35 +1,50 @@
 //! What a checked module shows.
 
 use ob_check::checker::check;
-use ob_check::program::{Arithmetic, DataType, Expression, Scalar, Statement};
+use ob_check::program::{Arithmetic, DataType, Expression, Operation, Scalar, Statement, Variable};
 use ob_syntax::reader::read;
 use std::test::Fail;
 
 const COUNTER: &[u8] =
     b"MODULE M; VAR x: INTEGER; PROCEDURE Inc*; BEGIN ; x := x + 1 END Inc; END M.";
 
+/// `x: INTEGER`
+fn is_number_x(variables: &[Variable]) -> bool {
+    match variables {
+        [x] => x.name.as_str() == "x" && x.data_type == DataType::Integer,
+        _ => false,
+    }
+}
+
+/// `+ 1`
+fn adds_one(rest: &[Operation]) -> bool {
+    match rest {
+        [one] => {
+            one.operator == Arithmetic::Plus
+                && matches!(&one.operand, Expression::Literal(Scalar::Int(1)))
+        }
+        _ => false,
+    }
+}
+
+/// `x := x + 1`, where x is the module's.
+fn counts(body: &[Statement]) -> bool {
+    match body {
+        [Statement::Assign { target, value }] => match value {
+            Expression::Computed { rest, .. } => !target.is_own && adds_one(rest),
+            _ => false,
+        },
+        _ => false,
+    }
+}
+
 #[test]
 fn a_module_is_checked(rt: HostRuntime) -> Result<(), Fail> {
-    let alloc = rt.alloc();
-    let checked = check(alloc, read(alloc, COUNTER)?)?;
-    assert_eq!(rt; checked.tree().name.text.as_str(), "M");
+    let checked = check(rt.alloc(), read(rt.alloc(), COUNTER)?)?;
+    assert!(rt; checked.tree().name.text.as_str() == "M");
     let program = checked.program();
-    assert_eq!(rt; program.variables.len(), 1);
-    assert_eq!(rt; program.variables[0].name.as_str(), "x");
-    assert_eq!(rt; program.variables[0].data_type, DataType::Integer);
-    assert_eq!(rt; program.procedures.len(), 1);
-    let body = &program.procedures[0].body;
-    assert_eq!(rt; body.len(), 1);
-    let Statement::Assign { target, value } = &body[0];
-    assert!(rt; !target.is_own);
-    let Expression::Computed { rest, .. } = value else {
-        panic!(rt; "a sum is expected");
-    };
-    assert_eq!(rt; rest.len(), 1);
-    assert_eq!(rt; rest[0].operator, Arithmetic::Plus);
-    assert!(rt; matches!(&rest[0].operand, Expression::Literal(Scalar::Int(1))));
-    let exports = checked.exports();
-    assert_eq!(rt; exports.len(), 1);
-    assert_eq!(rt; exports[0].name.as_str(), "Inc");
+    assert!(rt; is_number_x(&program.variables));
+    assert!(rt; matches!(program.procedures.as_slice(), [inc] if counts(&inc.body)));
+    assert!(rt; matches!(checked.exports(), [inc] if inc.name.as_str() == "Inc"));
     Ok(())
 }

@@ -41,10 +41,10 @@ fn call(alloc: Global, proc: usize) -> Call {
     }
 }
 
-fn answer(alloc: Global, value: i32) -> Result<Reply, Fail> {
+fn answer(alloc: Global, value: i32) -> Reply {
     let mut values = SmallVec::new(alloc);
-    values.push(Scalar::Int(value))?;
-    Ok(Reply::Done(values))
+    values.push_reserved(Scalar::Int(value));
+    Reply::Done(values)
 }
 
 /// Process 0 has made so many calls; it makes one more.
@@ -74,7 +74,7 @@ fn counted(alloc: Global, times: u64, value: i32) -> Result<History, Fail>
             Reply::Done(SmallVec::new(alloc)),
         )?;
     }
-    made(&mut history, times, call(alloc, GET), answer(alloc, value)?)?;
+    made(&mut history, times, call(alloc, GET), answer(alloc, value))?;
     Ok(history)
 }
 
@@ -92,79 +92,103 @@ fn verdict(
 
 #[test]
 fn an_order_is_legal_or_has_one_fault(rt: HostRuntime) -> Result<(), Fail> {
-    let alloc = rt.alloc();
-    let history = counted(alloc, 2, 2)?;
-    let legal = [id(0, 1), id(0, 2), id(0, 3)];
-    assert_eq!(rt; verdict(alloc, &history, &legal)?, Ok(()));
-    let swapped = [id(0, 2), id(0, 1), id(0, 3)];
-    assert_eq!(rt;
-        verdict(alloc, &history, &swapped)?,
-        Err(OrderFault::TooEarly(id(0, 2)))
-    );
-    let short = [id(0, 1), id(0, 3)];
-    assert_eq!(rt;
-        verdict(alloc, &history, &short)?,
-        Err(OrderFault::Missing(id(0, 2)))
-    );
-    let twice = [id(0, 1), id(0, 1), id(0, 2), id(0, 3)];
-    assert_eq!(rt;
-        verdict(alloc, &history, &twice)?,
-        Err(OrderFault::Unknown(id(0, 1)))
-    );
-    let strange = [id(0, 1), id(0, 2), id(1, 1)];
-    assert_eq!(rt;
-        verdict(alloc, &history, &strange)?,
-        Err(OrderFault::Unknown(id(1, 1)))
-    );
-    let other = counted(alloc, 2, 3)?;
-    assert_eq!(rt;
-        verdict(alloc, &other, &legal)?,
-        Err(OrderFault::OtherReply(id(0, 3)))
-    );
+    let history = counted(rt.alloc(), 2, 2)?;
+    assert!(rt; history.len() == 6 && history.events().len() == 6);
+    let orders: [(&[CallId], Result<(), OrderFault>); 5] = [
+        (&[id(0, 1), id(0, 2), id(0, 3)], Ok(())),
+        (
+            &[id(0, 2), id(0, 1), id(0, 3)],
+            Err(OrderFault::TooEarly(id(0, 2))),
+        ),
+        (&[id(0, 1), id(0, 3)], Err(OrderFault::Missing(id(0, 2)))),
+        (
+            &[id(0, 1), id(0, 1), id(0, 2), id(0, 3)],
+            Err(OrderFault::Unknown(id(0, 1))),
+        ),
+        (
+            &[id(0, 1), id(0, 2), id(1, 1)],
+            Err(OrderFault::Unknown(id(1, 1))),
+        ),
+    ];
+    for (order, wanted) in orders {
+        assert!(rt; verdict(rt.alloc(), &history, order)? == wanted);
+    }
     Ok(())
 }
 
 #[test]
-fn a_trap_leaves_the_state(rt: HostRuntime) -> Result<(), Fail> {
-    let alloc = rt.alloc();
+fn a_reply_is_that_of_the_order(rt: HostRuntime) -> Result<(), Fail> {
+    let history = counted(rt.alloc(), 2, 3)?;
     let order = [id(0, 1), id(0, 2), id(0, 3)];
-    for trap in 1..3 {
-        let mut most = call(alloc, ADD);
-        most.args.push(Scalar::Int(i32::MAX))?;
-        let mut history = History::new(alloc);
-        made(
-            &mut history,
-            0,
-            call(alloc, INC),
-            Reply::Done(SmallVec::new(alloc)),
-        )?;
-        made(&mut history, 1, most, Reply::Trap(trap))?;
-        made(&mut history, 2, call(alloc, GET), answer(alloc, 1)?)?;
-        let wanted = if trap == 1 {
-            Ok(())
-        } else {
-            Err(OrderFault::OtherReply(id(0, 2)))
-        };
-        assert_eq!(rt; verdict(alloc, &history, &order)?, wanted);
+    let fault = OrderFault::OtherReply(id(0, 3));
+    assert!(rt; verdict(rt.alloc(), &history, &order)? == Err(fault));
+    Ok(())
+}
+
+#[test]
+fn faults_have_their_lines(rt: HostRuntime) -> Result<(), Fail> {
+    let lines = [
+        (OrderFault::Missing(id(0, 2)), "H1 0.2"),
+        (OrderFault::Unknown(id(0, 1)), "H2 0.1"),
+        (OrderFault::TooEarly(id(15, 1)), "H3 15.1"),
+        (OrderFault::OtherReply(id(0, 3)), "H4 0.3"),
+        (OrderFault::NeedsMore(id(2, 30)), "H5 2.30"),
+        (OrderFault::NoMemory, "NoMemory"),
+    ];
+    for (fault, line) in lines {
+        assert!(rt; fault.to_string(rt.alloc())?.as_str() == line, "{line}");
+    }
+    Ok(())
+}
+
+/// Inc, an Add of the greatest number that traps with this number, and a Get that answers 1.
+fn trapped(alloc: Global, trap: u8) -> Result<History, Fail> {
+    let mut args = SmallVec::new(alloc);
+    args.push_reserved(Scalar::Int(i32::MAX));
+    let most = Call { proc: ADD, args };
+    let mut history = History::new(alloc);
+    let done = Reply::Done(SmallVec::new(alloc));
+    made(&mut history, 0, call(alloc, INC), done)?;
+    made(&mut history, 1, most, Reply::Trap(trap))?;
+    made(&mut history, 2, call(alloc, GET), answer(alloc, 1))?;
+    Ok(history)
+}
+
+#[test]
+fn a_trap_leaves_the_state(rt: HostRuntime) -> Result<(), Fail> {
+    let order = [id(0, 1), id(0, 2), id(0, 3)];
+    let fault = OrderFault::OtherReply(id(0, 2));
+    for (trap, wanted) in [(1, Ok(())), (2, Err(fault))] {
+        let history = trapped(rt.alloc(), trap)?;
+        assert!(rt; verdict(rt.alloc(), &history, &order)? == wanted);
+    }
+    Ok(())
+}
+
+/// The calls of process 0 with these numbers, behind those that stand there.
+fn push_ids(order: &mut Vec<CallId>, first: u64, last: u64) -> Result<(), Fail> {
+    for number in first..=last {
+        order.push(id(0, number))?;
     }
     Ok(())
 }
 
 #[test]
 fn a_long_history_is_checked(rt: HostRuntime) -> Result<(), Fail> {
-    let alloc = rt.alloc();
-    let history = counted(alloc, 10000, 10000)?;
-    let mut order = Vec::new(alloc);
-    for number in 1..10002 {
-        order.push(id(0, number))?;
-    }
-    assert_eq!(rt; verdict(alloc, &history, &order)?, Ok(()));
-    let mut late = Vec::new(alloc);
-    late.push(id(0, 10001))?;
-    for number in 1..10001 {
-        late.push(id(0, number))?;
-    }
+    let history = counted(rt.alloc(), 10000, 10000)?;
+    let mut order = Vec::new(rt.alloc());
+    push_ids(&mut order, 1, 10001)?;
+    assert!(rt; verdict(rt.alloc(), &history, &order)? == Ok(()));
+    Ok(())
+}
+
+#[test]
+fn a_long_history_has_a_fault(rt: HostRuntime) -> Result<(), Fail> {
+    let history = counted(rt.alloc(), 10000, 10000)?;
+    let mut order = Vec::new(rt.alloc());
+    push_ids(&mut order, 10001, 10001)?;
+    push_ids(&mut order, 1, 10000)?;
     let fault = OrderFault::TooEarly(id(0, 10001));
-    assert_eq!(rt; verdict(alloc, &history, &late)?, Err(fault));
+    assert!(rt; verdict(rt.alloc(), &history, &order)? == Err(fault));
     Ok(())
 }

@@ -2,7 +2,14 @@
 
 use ob_syntax::printer::print;
 use ob_syntax::reader::read;
+use std::alloc::Global;
 use std::test::Fail;
+
+/// The printed text of a text's module.
+pub fn printed(alloc: Global, text: &[u8]) -> Result<String, Fail> {
+    let module = read(alloc, text)?;
+    Ok(print(alloc, &module)?)
+}
 
 #[test]
 fn prints_texts(rt: HostRuntime) -> Result<(), Fail> {
@@ -27,11 +34,11 @@ fn prints_texts(rt: HostRuntime) -> Result<(), Fail> {
         ),
     ];
     for (text, want) in texts {
-        let printed = print(rt.alloc(), &read(rt.alloc(), text)?)?;
-        assert_eq!(rt; printed.as_str(), want);
+        let once = printed(rt.alloc(), text)?;
+        assert!(rt; once.as_str() == want);
 
-        let again = print(rt.alloc(), &read(rt.alloc(), printed.as_bytes())?)?;
-        assert_eq!(rt; again.as_str(), want);
+        let again = printed(rt.alloc(), once.as_bytes())?;
+        assert!(rt; again.as_str() == want);
     }
     Ok(())
 }

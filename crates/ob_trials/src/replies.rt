@@ -35,12 +35,9 @@ fn prints_nothing_of_no_replies(rt: HostRuntime) -> Result<(), Fail> {
 
 #[test]
 fn prints_faults(rt: HostRuntime) -> Result<(), Fail> {
-    let rows = [
-        (SeqTextFault::Open(OpenFault::NeedsMore), "O3"),
-        (SeqTextFault::NeedsMore(0, 2), "U1 0.2"),
-    ];
-    for (fault, line) in rows {
-        assert_eq!(rt; fault_line(rt.alloc(), fault)?.as_str(), line);
-    }
+    let opening = fault_line(rt.alloc(), SeqTextFault::Open(OpenFault::NeedsMore))?;
+    assert!(rt; opening.as_str() == "O3");
+    let call = fault_line(rt.alloc(), SeqTextFault::NeedsMore(0, 2))?;
+    assert!(rt; call.as_str() == "U1 0.2");
     Ok(())
 }

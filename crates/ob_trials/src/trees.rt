@@ -1,336 +1,436 @@
-//! Small texts with their trees.
+//! Small texts with their trees: what stands where, part by part.
 
 use ob_grammar::tree::{
-    Branch, ConstDecl, Constants, Declarations, Designator, Expr, FieldList, ModuleTree, Name,
-    Operand, Operator, Procedure, Section, Selector, Sign, Stmt, TypeDecl, TypeExpr, Types,
-    VarDecl, Variables,
+    Branch, ConstDecl, Declarations, Designator, Expr, FieldList, ModuleTree, Name, Operand,
+    Operator, Procedure, Section, Selector, Sign, Stmt, TypeDecl, TypeExpr, VarDecl,
 };
-use ob_parser::parser::parse;
-use ob_scan::scan;
-use std::alloc::{AllocError, Global};
-use std::process::Abort;
+use ob_syntax::reader::read;
 use std::test::Fail;
 
-fn module_of(alloc: Global, text: &str) -> Result<ModuleTree, Fail> {
-    let tokens = scan(alloc, text.as_bytes())?;
-    Ok(parse(alloc, &tokens)?.into_tree())
+fn is_name(name: &Name, text: &str, place: usize) -> bool {
+    name.place == place && name.text.as_str() == text
 }
 
-fn name(alloc: Global, text: &str, place: usize) -> Result<Name, AllocError> {
-    let text = String::from_str(alloc, text)?;
-    Ok(Name { text, place })
+fn is_alone(designator: &Designator, text: &str, place: usize) -> bool {
+    designator.selectors.is_empty() && is_name(&designator.name, text, place)
 }
 
-fn alone(alloc: Global, text: &str, place: usize) -> Result<Designator, AllocError> {
-    Ok(Designator {
-        name: name(alloc, text, place)?,
-        selectors: Vec::new(alloc),
-    })
-}
-
-fn named(alloc: Global, text: &str, place: usize) -> Result<Expr, AllocError> {
-    Ok(Expr::Named(alone(alloc, text, place)?))
-}
-
-fn number(value: i32, place: usize) -> Expr {
-    Expr::Number { value, place }
-}
-
-fn operand(operator: Operator, place: usize, value: Expr) -> Operand {
-    Operand {
-        operator,
-        place,
-        value,
+fn is_named(expr: &Expr, text: &str, place: usize) -> bool {
+    match expr {
+        Expr::Named(designator) => is_alone(designator, text, place),
+        _ => false,
     }
 }
 
-fn type_named(alloc: Global, text: &str, place: usize) -> Result<TypeExpr, AllocError> {
-    Ok(TypeExpr::Named(name(alloc, text, place)?))
-}
-
-fn no_declarations(alloc: Global) -> Declarations {
-    Declarations {
-        constants: None,
-        types: None,
-        variables: None,
-        procedures: Vec::new(alloc),
+fn is_number(expr: &Expr, number: i32, at: usize) -> bool {
+    match expr {
+        Expr::Number { value, place } => *value == number && *place == at,
+        _ => false,
     }
 }
 
-/// A module without declarations.
-fn module_with(
-    alloc: Global,
-    statements: Vec<Stmt>,
-    end_place: usize,
-) -> Result<ModuleTree, AllocError> {
-    Ok(ModuleTree {
-        name: name(alloc, "M", 7)?,
-        declarations: no_declarations(alloc),
-        body: Some(statements),
-        end_name: name(alloc, "M", end_place)?,
-    })
+fn is_operator(operand: &Operand, operator: Operator, place: usize) -> bool {
+    operand.operator == operator && operand.place == place
 }
 
-/// Requires that this text, which begins at the place 21, is this expression.
-fn expect_expression(rt: &impl Abort, alloc: Global, text: &str, value: Expr) -> Result<(), Fail> {
-    let mut whole = format!(in alloc; "MODULE M; BEGIN x := {text} END ")?;
-    let end_place = whole.len();
-    whole.push_str("M.")?;
-    let statement = Stmt::Assign {
-        target: alone(alloc, "x", 16)?,
-        value,
+fn is_type_named(of_type: &TypeExpr, text: &str, place: usize) -> bool {
+    match of_type {
+        TypeExpr::Named(name) => is_name(name, text, place),
+        _ => false,
+    }
+}
+
+/// `.f[NUMBER]`, whose four parts stand at these places.
+fn is_field_and_index(selectors: &[Selector], places: [usize; 4], number: i32) -> bool {
+    let [dot, field, bracket, within] = places;
+    match selectors {
+        [
+            Selector::Field { place: first, name },
+            Selector::Index { place, index },
+        ] => {
+            *first == dot
+                && is_name(name, "f", field)
+                && *place == bracket
+                && is_number(index, number, within)
+        }
+        _ => false,
+    }
+}
+
+/// The value of the assignment that is the module's body.
+fn value_of(tree: &ModuleTree) -> Option<&Expr> {
+    match &tree.body {
+        Some(statements) => match statements.as_slice() {
+            [Stmt::Assign { value, .. }] => Some(value),
+            _ => None,
+        },
+        None => None,
+    }
+}
+
+/// `a + b - c`, from the place 21.
+fn is_three_terms(value: &Expr) -> bool {
+    let Expr::Sum {
+        sign: None,
+        first,
+        rest,
+    } = value
+    else {
+        return false;
     };
-    let want = module_with(alloc, vec![in alloc; statement]?, end_place)?;
-    let tree = module_of(alloc, whole.as_str())?;
-    assert!(rt; tree == want);
-    Ok(())
+    let [b, c] = rest.as_slice() else {
+        return false;
+    };
+    is_named(first, "a", 21)
+        && is_operator(b, Operator::Plus, 23)
+        && is_named(&b.value, "b", 25)
+        && is_operator(c, Operator::Minus, 27)
+        && is_named(&c.value, "c", 29)
+}
+
+/// `a * b DIV 007`, from the place 23.
+fn is_three_factors(value: &Expr) -> bool {
+    let Expr::Product { first, rest } = value else {
+        return false;
+    };
+    let [b, seven] = rest.as_slice() else {
+        return false;
+    };
+    is_named(first, "a", 23)
+        && is_operator(b, Operator::Times, 25)
+        && is_named(&b.value, "b", 27)
+        && is_operator(seven, Operator::Div, 29)
+        && is_number(&seven.value, 7, 33)
+}
+
+/// `- a * b DIV 007 OR c`, from the place 21.
+fn is_negated(value: &Expr) -> bool {
+    let Expr::Sum {
+        sign: Some(sign),
+        first,
+        rest,
+    } = value
+    else {
+        return false;
+    };
+    let [c] = rest.as_slice() else {
+        return false;
+    };
+    let minus = Sign {
+        is_minus: true,
+        place: 21,
+    };
+    *sign == minus
+        && is_three_factors(first)
+        && is_operator(c, Operator::Or, 37)
+        && is_named(&c.value, "c", 40)
 }
 
 #[test]
 fn reads_sums(rt: HostRuntime) -> Result<(), Fail> {
-    let alloc = rt.alloc();
-    let three_terms = Expr::Sum {
-        sign: None,
-        first: Box::new(alloc, named(alloc, "a", 21)?)?,
-        rest: vec![in alloc;
-            operand(Operator::Plus, 23, named(alloc, "b", 25)?),
-            operand(Operator::Minus, 27, named(alloc, "c", 29)?),
-        ]?,
-    };
-    expect_expression(&rt, alloc, "a + b - c", three_terms)?;
-
-    let product = Expr::Product {
-        first: Box::new(alloc, named(alloc, "a", 23)?)?,
-        rest: vec![in alloc;
-            operand(Operator::Times, 25, named(alloc, "b", 27)?),
-            operand(Operator::Div, 29, number(7, 33)),
-        ]?,
-    };
-    let negated = Expr::Sum {
-        sign: Some(Sign {
-            is_minus: true,
-            place: 21,
-        }),
-        first: Box::new(alloc, product)?,
-        rest: vec![in alloc; operand(Operator::Or, 37, named(alloc, "c", 40)?)]?,
-    };
-    expect_expression(&rt, alloc, "- a * b DIV 007 OR c", negated)?;
+    let sum = read(rt.alloc(), b"MODULE M; BEGIN x := a + b - c END M.")?;
+    assert!(rt; matches!(value_of(sum.tree()), Some(value) if is_three_terms(value)));
+    let negated = read(
+        rt.alloc(),
+        b"MODULE M; BEGIN x := - a * b DIV 007 OR c END M.",
+    )?;
+    assert!(rt; matches!(value_of(negated.tree()), Some(value) if is_negated(value)));
     Ok(())
+}
+
+/// `a.f[1]`, from the place 21.
+fn is_selected(value: &Expr) -> bool {
+    match value {
+        Expr::Named(designator) => {
+            is_name(&designator.name, "a", 21)
+                && is_field_and_index(&designator.selectors, [22, 23, 24, 25], 1)
+        }
+        _ => false,
+    }
+}
+
+/// `(+2)`, from the place 30.
+fn is_in_parentheses(value: &Expr) -> bool {
+    let Expr::Parens { place: 30, inner } = value else {
+        return false;
+    };
+    let plus = Sign {
+        is_minus: false,
+        place: 31,
+    };
+    match &**inner {
+        Expr::Sum { sign, first, rest } => {
+            *sign == Some(plus) && is_number(first, 2, 32) && rest.is_empty()
+        }
+        _ => false,
+    }
+}
+
+/// `a.f[1] #~(+2)`, from the place 21.
+fn is_comparison(value: &Expr) -> bool {
+    let Expr::Comparison {
+        left,
+        operator: Operator::NotEqual,
+        place: 28,
+        right,
+    } = value
+    else {
+        return false;
+    };
+    match &**right {
+        Expr::Not { place, operand } => {
+            is_selected(left) && *place == 29 && is_in_parentheses(operand)
+        }
+        _ => false,
+    }
 }
 
 #[test]
 fn reads_factors(rt: HostRuntime) -> Result<(), Fail> {
-    let alloc = rt.alloc();
-    let selected = Expr::Named(Designator {
-        name: name(alloc, "a", 21)?,
-        selectors: vec![in alloc;
-            Selector::Field {
-                place: 22,
-                name: name(alloc, "f", 23)?
-            },
-            Selector::Index {
-                place: 24,
-                index: number(1, 25)
-            },
-        ]?,
-    });
-    let inner = Expr::Sum {
-        sign: Some(Sign {
-            is_minus: false,
-            place: 31,
-        }),
-        first: Box::new(alloc, number(2, 32))?,
-        rest: Vec::new(alloc),
-    };
-    let parentheses = Expr::Parens {
-        place: 30,
-        inner: Box::new(alloc, inner)?,
-    };
-    let not = Expr::Not {
-        place: 29,
-        operand: Box::new(alloc, parentheses)?,
-    };
-    let comparison = Expr::Comparison {
-        left: Box::new(alloc, selected)?,
-        operator: Operator::NotEqual,
-        place: 28,
-        right: Box::new(alloc, not)?,
-    };
-    expect_expression(&rt, alloc, "a.f[1] #~(+2)", comparison)?;
+    let module = read(rt.alloc(), b"MODULE M; BEGIN x := a.f[1] #~(+2) END M.")?;
+    assert!(rt; matches!(value_of(module.tree()), Some(value) if is_comparison(value)));
     Ok(())
 }
 
-fn call(
-    alloc: Global,
-    procedure: &str,
-    place: usize,
-    actuals: Option<Vec<Expr>>,
-) -> Result<Stmt, AllocError> {
-    Ok(Stmt::Call {
-        procedure: name(alloc, procedure, place)?,
-        actuals,
-    })
+/// `P`, `P()` or `P(1, d)`, from this place.
+fn is_call(statement: &Stmt, at: usize, arguments: Option<usize>) -> bool {
+    let Stmt::Call { procedure, actuals } = statement else {
+        return false;
+    };
+    let count = match actuals {
+        Some(actuals) => Some(actuals.len()),
+        None => None,
+    };
+    is_name(procedure, "P", at) && count == arguments
+}
+
+/// `1, d`, from the place 65.
+fn has_arguments(statement: &Stmt) -> bool {
+    let Stmt::Call {
+        actuals: Some(actuals),
+        ..
+    } = statement
+    else {
+        return false;
+    };
+    match actuals.as_slice() {
+        [one, d] => is_number(one, 1, 65) && is_named(d, "d", 68),
+        _ => false,
+    }
+}
+
+/// `a THEN x := 1`, from the place 19.
+fn is_first_branch(branch: &Branch) -> bool {
+    match branch.body.as_slice() {
+        [Stmt::Assign { target, value }] => {
+            is_named(&branch.condition, "a", 19)
+                && is_alone(target, "x", 26)
+                && is_number(value, 1, 31)
+        }
+        _ => false,
+    }
+}
+
+/// `b THEN P`, from the place 39.
+fn is_second_branch(branch: &Branch) -> bool {
+    match branch.body.as_slice() {
+        [statement] => is_named(&branch.condition, "b", 39) && is_call(statement, 46, None),
+        _ => false,
+    }
 }
 
 /// `IF a THEN x := 1 ELSIF b THEN P ELSE END`, from the place 16.
-fn choice(alloc: Global) -> Result<Stmt, AllocError> {
-    let first = Stmt::Assign {
-        target: alone(alloc, "x", 26)?,
-        value: number(1, 31),
-    };
-    let branches = vec![in alloc;
-        Branch {
-            condition: named(alloc, "a", 19)?,
-            body: vec![in alloc; first]?
-        },
-        Branch {
-            condition: named(alloc, "b", 39)?,
-            body: vec![in alloc; call(alloc, "P", 46, None)?]?
-        },
-    ]?;
-    Ok(Stmt::If {
+fn is_choice(statement: &Stmt) -> bool {
+    let Stmt::If {
         place: 16,
         branches,
-        otherwise: Some(vec![in alloc; Stmt::Empty]?),
-    })
+        otherwise: Some(otherwise),
+    } = statement
+    else {
+        return false;
+    };
+    match branches.as_slice() {
+        [first, second] => {
+            is_first_branch(first)
+                && is_second_branch(second)
+                && matches!(otherwise.as_slice(), [Stmt::Empty])
+        }
+        _ => false,
+    }
+}
+
+/// `WHILE c DO END`, from the place 73.
+fn is_repetition(statement: &Stmt) -> bool {
+    match statement {
+        Stmt::While {
+            place,
+            condition,
+            body,
+        } => {
+            *place == 73 && is_named(condition, "c", 79) && matches!(body.as_slice(), [Stmt::Empty])
+        }
+        _ => false,
+    }
+}
+
+/// `y.f[2] := 3`, from the place 89.
+fn is_assignment(statement: &Stmt) -> bool {
+    match statement {
+        Stmt::Assign { target, value } => {
+            is_name(&target.name, "y", 89)
+                && is_field_and_index(&target.selectors, [90, 91, 92, 93], 2)
+                && is_number(value, 3, 99)
+        }
+        _ => false,
+    }
+}
+
+fn has_statements(tree: &ModuleTree) -> bool {
+    let Some(body) = &tree.body else {
+        return false;
+    };
+    let [choice, none, two, Stmt::Empty, repetition, assignment] = body.as_slice() else {
+        return false;
+    };
+    is_choice(choice)
+        && is_call(none, 58, Some(0))
+        && is_call(two, 63, Some(2))
+        && has_arguments(two)
+        && is_repetition(repetition)
+        && is_assignment(assignment)
 }
 
 #[test]
 fn reads_statements(rt: HostRuntime) -> Result<(), Fail> {
-    let alloc = rt.alloc();
-    let repetition = Stmt::While {
-        place: 73,
-        condition: named(alloc, "c", 79)?,
-        body: vec![in alloc; Stmt::Empty]?,
-    };
-    let target = Designator {
-        name: name(alloc, "y", 89)?,
-        selectors: vec![in alloc;
-            Selector::Field {
-                place: 90,
-                name: name(alloc, "f", 91)?
-            },
-            Selector::Index {
-                place: 92,
-                index: number(2, 93)
-            },
-        ]?,
-    };
-    let statements = vec![in alloc;
-        choice(alloc)?,
-        call(alloc, "P", 58, Some(Vec::new(alloc)))?,
-        call(
-            alloc,
-            "P",
-            63,
-            Some(vec![in alloc; number(1, 65), named(alloc, "d", 68)?]?)
-        )?,
-        Stmt::Empty,
-        repetition,
-        Stmt::Assign {
-            target,
-            value: number(3, 99)
-        },
-    ]?;
-    let text = "MODULE M; BEGIN IF a THEN x := 1 ELSIF b THEN P ELSE END; P(); P(1, d);; \
+    let text = b"MODULE M; BEGIN IF a THEN x := 1 ELSIF b THEN P ELSE END; P(); P(1, d);; \
         WHILE c DO END; y.f[2] := 3 END M.";
-    let tree = module_of(alloc, text)?;
-    let want = module_with(alloc, statements, 105)?;
-    assert!(rt; tree == want);
+    let module = read(rt.alloc(), text)?;
+    assert!(rt; has_statements(module.tree()));
+    assert!(rt; is_name(&module.tree().end_name, "M", 105));
     Ok(())
 }
 
-/// `PROCEDURE P*(u: T; VAR v, w: T); PROCEDURE Q; END Q; BEGIN END P`, from the place 78.
-fn procedure(alloc: Global) -> Result<Procedure, AllocError> {
-    let inner = Procedure {
-        place: 111,
-        name: name(alloc, "Q", 121)?,
-        is_exported: false,
-        parameters: None,
-        declarations: no_declarations(alloc),
-        body: None,
-        end_name: name(alloc, "Q", 128)?,
+/// `c = 1`, from the place 16.
+fn is_constant(declared: &[ConstDecl]) -> bool {
+    match declared {
+        [constant] => is_name(&constant.name, "c", 16) && is_number(&constant.value, 1, 20),
+        _ => false,
+    }
+}
+
+/// `RECORD ; a, b: U END`, from the place 43.
+fn is_record(of_type: &TypeExpr) -> bool {
+    let TypeExpr::Record { place: 43, fields } = of_type else {
+        return false;
     };
-    let sections = vec![in alloc;
-        Section {
-            is_var: false,
-            names: vec![in alloc; name(alloc, "u", 91)?]?,
-            of_type: type_named(alloc, "T", 94)?
-        },
-        Section {
-            is_var: true,
-            names: vec![in alloc; name(alloc, "v", 101)?, name(alloc, "w", 104)?]?,
-            of_type: type_named(alloc, "T", 107)?,
-        },
-    ]?;
-    Ok(Procedure {
-        place: 78,
-        name: name(alloc, "P", 88)?,
-        is_exported: true,
-        parameters: Some(sections),
-        declarations: Declarations {
-            procedures: vec![in alloc; inner]?,
-            ..no_declarations(alloc)
-        },
-        body: Some(vec![in alloc; Stmt::Empty]?),
-        end_name: name(alloc, "P", 141)?,
-    })
+    let [FieldList::Empty, FieldList::Fields { names, of_type }] = fields.as_slice() else {
+        return false;
+    };
+    match names.as_slice() {
+        [a, b] => is_name(a, "a", 52) && is_name(b, "b", 55) && is_type_named(of_type, "U", 58),
+        _ => false,
+    }
 }
 
 /// `T = ARRAY 2 OF RECORD ; a, b: U END`, from the place 28.
-fn type_declaration(alloc: Global) -> Result<TypeDecl, AllocError> {
-    let fields = FieldList::Fields {
-        names: vec![in alloc; name(alloc, "a", 52)?, name(alloc, "b", 55)?]?,
-        of_type: type_named(alloc, "U", 58)?,
+fn is_array(declared: &[TypeDecl]) -> bool {
+    let [TypeDecl { name, definition }] = declared else {
+        return false;
     };
-    let element = TypeExpr::Record {
-        place: 43,
-        fields: vec![in alloc; FieldList::Empty, fields]?,
+    match definition {
+        TypeExpr::Array {
+            place,
+            length,
+            element,
+        } => {
+            is_name(name, "T", 28) && *place == 32 && is_number(length, 2, 38) && is_record(element)
+        }
+        _ => false,
+    }
+}
+
+/// `x, y: T`, from the place 69.
+fn is_two_variables(declared: &[VarDecl]) -> bool {
+    let [VarDecl { names, of_type }] = declared else {
+        return false;
     };
-    Ok(TypeDecl {
-        name: name(alloc, "T", 28)?,
-        definition: TypeExpr::Array {
-            place: 32,
-            length: number(2, 38),
-            element: Box::new(alloc, element)?,
-        },
-    })
+    match names.as_slice() {
+        [x, y] => is_name(x, "x", 69) && is_name(y, "y", 72) && is_type_named(of_type, "T", 75),
+        _ => false,
+    }
+}
+
+/// `u: T; VAR v, w: T`, from the place 91.
+fn has_sections(sections: &[Section]) -> bool {
+    let [first, second] = sections else {
+        return false;
+    };
+    let ([u], [v, w]) = (first.names.as_slice(), second.names.as_slice()) else {
+        return false;
+    };
+    !first.is_var
+        && is_name(u, "u", 91)
+        && is_type_named(&first.of_type, "T", 94)
+        && second.is_var
+        && is_name(v, "v", 101)
+        && is_name(w, "w", 104)
+        && is_type_named(&second.of_type, "T", 107)
+}
+
+/// `PROCEDURE Q; END Q`, from the place 111.
+fn is_inner(procedures: &[Procedure]) -> bool {
+    let [inner] = procedures else {
+        return false;
+    };
+    inner.place == 111
+        && is_name(&inner.name, "Q", 121)
+        && !inner.is_exported
+        && inner.parameters.is_none()
+        && inner.body.is_none()
+        && is_name(&inner.end_name, "Q", 128)
+}
+
+/// `PROCEDURE P*(u: T; VAR v, w: T); PROCEDURE Q; END Q; BEGIN END P`, from the place 78.
+fn is_outer(procedures: &[Procedure]) -> bool {
+    let [outer] = procedures else {
+        return false;
+    };
+    let (Some(sections), Some(body)) = (&outer.parameters, &outer.body) else {
+        return false;
+    };
+    outer.place == 78
+        && is_name(&outer.name, "P", 88)
+        && outer.is_exported
+        && has_sections(sections)
+        && is_inner(&outer.declarations.procedures)
+        && matches!(body.as_slice(), [Stmt::Empty])
+        && is_name(&outer.end_name, "P", 141)
+}
+
+fn has_declarations(declarations: &Declarations) -> bool {
+    let (Some(constants), Some(types), Some(variables)) = (
+        &declarations.constants,
+        &declarations.types,
+        &declarations.variables,
+    ) else {
+        return false;
+    };
+    constants.place == 10
+        && is_constant(&constants.declared)
+        && types.place == 23
+        && is_array(&types.declared)
+        && variables.place == 65
+        && is_two_variables(&variables.declared)
+        && is_outer(&declarations.procedures)
 }
 
 #[test]
 fn reads_declarations(rt: HostRuntime) -> Result<(), Fail> {
-    let alloc = rt.alloc();
-    let constant = ConstDecl {
-        name: name(alloc, "c", 16)?,
-        value: number(1, 20),
-    };
-    let variables = VarDecl {
-        names: vec![in alloc; name(alloc, "x", 69)?, name(alloc, "y", 72)?]?,
-        of_type: type_named(alloc, "T", 75)?,
-    };
-    let want = ModuleTree {
-        name: name(alloc, "M", 7)?,
-        declarations: Declarations {
-            constants: Some(Constants {
-                place: 10,
-                declared: vec![in alloc; constant]?,
-            }),
-            types: Some(Types {
-                place: 23,
-                declared: vec![in alloc; type_declaration(alloc)?]?,
-            }),
-            variables: Some(Variables {
-                place: 65,
-                declared: vec![in alloc; variables]?,
-            }),
-            procedures: vec![in alloc; procedure(alloc)?]?,
-        },
-        body: None,
-        end_name: name(alloc, "M", 148)?,
-    };
-    let text = "MODULE M; CONST c = 1; TYPE T = ARRAY 2 OF RECORD ; a, b: U END; VAR x, y: T; \
+    let text = b"MODULE M; CONST c = 1; TYPE T = ARRAY 2 OF RECORD ; a, b: U END; VAR x, y: T; \
         PROCEDURE P*(u: T; VAR v, w: T); PROCEDURE Q; END Q; BEGIN END P; END M.";
-    let tree = module_of(alloc, text)?;
-    assert!(rt; tree == want);
+    let module = read(rt.alloc(), text)?;
+    let tree = module.tree();
+    assert!(rt; has_declarations(&tree.declarations) && tree.body.is_none());
+    assert!(rt; is_name(&tree.name, "M", 7) && is_name(&tree.end_name, "M", 148));
     Ok(())
 }

@@ -5,8 +5,6 @@ pub mod event;
 pub mod history;
 pub mod order;
 mod places;
-#[cfg(test)]
-mod tests;
 
 pub use event::{CallId, Event};
 pub use history::History;

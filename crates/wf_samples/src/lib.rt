@@ -4,8 +4,6 @@
 pub mod adder;
 pub mod spin;
 pub mod tally;
-#[cfg(test)]
-mod tests;
 pub mod words;
 
 pub use adder::Adder;

@@ -2,17 +2,15 @@
 
 ghost use Rattle.std.specs.Prelude.{◌≡◌};
 
+use crate::runs::adds;
 use ob_check::checker::check;
-use ob_check::program::Scalar;
 use ob_grammar::NoMemory;
-use ob_mean::call::Call;
 use ob_mean::opening::opening;
 use ob_parser::parser::parse;
 use ob_scan::scan;
-use smallvec::SmallVec;
 use std::alloc::Global;
 use std::test::Fail;
-use wf_history::check_order;
+use wf_history::{CallId, History, OrderFault, check_order};
 use wf_object::Machine;
 use wf_samples::Adder;
 
@@ -22,12 +20,6 @@ VAR x: INTEGER;
 PROCEDURE Add*(k: INTEGER; VAR sum: INTEGER);
 BEGIN x := x + k; sum := x END Add;
 END Adder.";
-
-fn adds(alloc: Global, value: i32) -> Call {
-    let mut args = SmallVec::new(alloc);
-    args.push_reserved(Scalar::Int(value));
-    Call { proc: 0, args }
-}
 
 /// 1000 calls of each process, whose arguments differ.
 fn submit_all(alloc: Global, machine: &mut Machine<Adder>) -> Result<(), NoMemory>
@@ -59,20 +51,31 @@ fn play(machine: &mut Machine<Adder>, steps: u32) -> Result<(), NoMemory>
     Ok(())
 }
 
-#[test]
-fn a_million_steps_of_sixteen_processes(rt: HostRuntime) -> Result<(), Fail> {
-    let alloc = rt.alloc();
+/// The events and the order of a million steps.
+fn played(alloc: Global) -> Result<(History, Vec<CallId>), Fail> {
     let mut machine = Machine::new(alloc, Adder { alloc }, 16, &[0])?;
     submit_all(alloc, &mut machine)?;
     play(&mut machine, 1000000)?;
     let (_, history, order, _) = machine.into_parts();
-    assert!(rt; order.len() > 3000, "some thousand calls are made");
+    Ok((history, order))
+}
+
+/// The answer of the checker of orders.
+fn verdict(
+    alloc: Global,
+    history: &History,
+    order: &[CallId],
+) -> Result<Result<(), OrderFault>, Fail> {
     let tokens = scan(alloc, ADDER.as_bytes())?;
     let checked = check(alloc, parse(alloc, &tokens)?)?;
     let state = opening(alloc, &checked, 1)?;
-    assert_eq!(rt;
-        check_order(alloc, &history, &order, &checked, &state, 1),
-        Ok(())
-    );
+    Ok(check_order(alloc, history, order, &checked, &state, 1))
+}
+
+#[test]
+fn a_million_steps_of_sixteen_processes(rt: HostRuntime) -> Result<(), Fail> {
+    let (history, order) = played(rt.alloc())?;
+    assert!(rt; order.len() > 3000, "some thousand calls are made");
+    assert_eq!(rt; verdict(rt.alloc(), &history, &order)?, Ok(()));
     Ok(())
 }

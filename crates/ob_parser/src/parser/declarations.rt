@@ -1,14 +1,14 @@
 //! Declarations and the module.
 
 ghost use Rattle.std.specs.Prelude.{◌<◌, map, option_map, OnOk};
-ghost use Rattle.ob_grammar.specs.View.{const_decl_of, type_decl_of, var_decl_of, constants_of, types_of, variables_of, section_of, procedures_in, declarations_of, module_of};
+ghost use Rattle.ob_grammar.specs.View.{const_decl_of, type_decl_of, var_decl_of, constants_of, types_of, variables_of, section_of, procedures_in, declarations_of, module_of, name_of, expr_of, type_of};
 ghost use Rattle.ob_parser.specs.Forms as forms;
-ghost use Rattle.ob_parser.specs.Answers.{state, Answers, heading_in, procedure_of};
+ghost use Rattle.ob_parser.specs.Answers.{state, Answers, AnswersPart, between, heading_in, block_in, procedure_of};
 
 use crate::parser::{ParseFault, Parser};
 use ob_grammar::tree::{
-    ConstDecl, Constants, DEEPEST_NESTING, Declarations, ModuleTree, Name, Procedure, Section,
-    TypeDecl, Types, VarDecl, Variables,
+    ConstDecl, Constants, DEEPEST_NESTING, Declarations, Expr, ModuleTree, Name, Procedure,
+    Section, Stmt, TypeDecl, TypeExpr, Types, VarDecl, Variables,
 };
 use ob_scan::Kind;
 
@@ -21,16 +21,44 @@ struct Heading {
     parameters: Option<Vec<Section>>,
 }
 
+/// What stands behind the heading of a procedure, or behind the name of a module up to the dot.
+#[derive(Drop)]
+struct Block {
+    declarations: Declarations,
+    body: Option<Vec<Stmt>>,
+    end_name: Name,
+}
+
 impl<'a> Parser<'a> {
+    /// "=" expression ";"
+    fn constant_value(&mut self, depth: usize) -> Result<Expr, ParseFault>
+        ensures answers { AnswersPart (λ e p. between (expr_of e) p) (forms.constant_value depth) (state self.old) result (state self.new) }
+        ensures moved { OnOk result (self.old.position < self.new.position) }
+    {
+        self.expect(Kind::Equal)?;
+        let value = self.expression(depth)?;
+        self.expect(Kind::Semicolon)?;
+        Ok(value)
+    }
+
+    /// A token of this kind, and then type ";"
+    fn declared_type(&mut self, kind: Kind, depth: usize) -> Result<TypeExpr, ParseFault>
+        ensures answers { AnswersPart (λ t p. between (type_of t) p) (forms.declared_type kind depth) (state self.old) result (state self.new) }
+        ensures moved { OnOk result (self.old.position < self.new.position) }
+    {
+        self.expect(kind)?;
+        let of_type = self.type_expr(depth)?;
+        self.expect(Kind::Semicolon)?;
+        Ok(of_type)
+    }
+
     /// ident "=" expression ";"
     fn const_declaration(&mut self, depth: usize) -> Result<ConstDecl, ParseFault>
         ensures answers { Answers const_decl_of (forms.const_declaration depth) (state self.old) result (state self.new) }
         ensures moved { OnOk result (self.old.position < self.new.position) }
     {
         let name = self.name()?;
-        self.expect(Kind::Equal)?;
-        let value = self.expression(depth)?;
-        self.expect(Kind::Semicolon)?;
+        let value = self.constant_value(depth)?;
         Ok(ConstDecl { name, value })
     }
 
@@ -64,9 +92,7 @@ impl<'a> Parser<'a> {
         ensures moved { OnOk result (self.old.position < self.new.position) }
     {
         let name = self.name()?;
-        self.expect(Kind::Equal)?;
-        let definition = self.type_expr(depth)?;
-        self.expect(Kind::Semicolon)?;
+        let definition = self.declared_type(Kind::Equal, depth)?;
         Ok(TypeDecl { name, definition })
     }
 
@@ -100,9 +126,7 @@ impl<'a> Parser<'a> {
         ensures moved { OnOk result (self.old.position < self.new.position) }
     {
         let names = self.ident_list()?;
-        self.expect(Kind::Colon)?;
-        let of_type = self.type_expr(depth)?;
-        self.expect(Kind::Semicolon)?;
+        let of_type = self.declared_type(Kind::Colon, depth)?;
         Ok(VarDecl { names, of_type })
     }
 
@@ -209,16 +233,36 @@ impl<'a> Parser<'a> {
         ensures { Answers procedure_of (forms.procedure_declaration depth) (state self.old) result (state self.new) }
     {
         let heading = self.heading(depth)?;
-        self.expect(Kind::Semicolon)?;
-        let declarations = self.declarations(depth + 1)?;
-        let body = self.body(depth + 1)?;
-        self.expect(Kind::End)?;
-        let end_name = self.end_name(&heading.name)?;
+        let block = self.block(depth + 1, &heading.name)?;
         Ok(Procedure {
             place: heading.place,
             name: heading.name,
             is_exported: heading.is_exported,
             parameters: heading.parameters,
+            declarations: block.declarations,
+            body: block.body,
+            end_name: block.end_name,
+        })
+    }
+
+    /// "END" ident
+    fn ending(&mut self, name: &Name) -> Result<Name, ParseFault>
+        ensures { AnswersPart (λ n p. (p, name_of n)) (forms.ending (name_of name.now)) (state self.old) result (state self.new) }
+    {
+        self.expect(Kind::End)?;
+        self.end_name(name)
+    }
+
+    /// ";" declarations ["BEGIN" StatementSequence] "END" ident
+    #[cycle(declarations)]
+    fn block(&mut self, depth: usize, name: &Name) -> Result<Block, ParseFault>
+        ensures { AnswersPart block_in (forms.block depth (name_of name.now)) (state self.old) result (state self.new) }
+    {
+        self.expect(Kind::Semicolon)?;
+        let declarations = self.declarations(depth)?;
+        let body = self.body(depth)?;
+        let end_name = self.ending(name)?;
+        Ok(Block {
             declarations,
             body,
             end_name,
@@ -266,17 +310,13 @@ impl<'a> Parser<'a> {
     {
         self.expect(Kind::Module)?;
         let name = self.name()?;
-        self.expect(Kind::Semicolon)?;
-        let declarations = self.declarations(0)?;
-        let body = self.body(0)?;
-        self.expect(Kind::End)?;
-        let end_name = self.end_name(&name)?;
+        let block = self.block(0, &name)?;
         self.expect(Kind::Dot)?;
         Ok(ModuleTree {
             name,
-            declarations,
-            body,
-            end_name,
+            declarations: block.declarations,
+            body: block.body,
+            end_name: block.end_name,
         })
     }
 }

@@ -4,7 +4,7 @@ ghost use Rattle.std.specs.Prelude.{◌↔◌, IsTrue, map, option_map};
 ghost use Rattle.ob_scan.specs.declared.token.Kind.{Kind};
 ghost use Rattle.ob_grammar.specs.View.{expr_of, stmt_of, stmts_in, branches_in, otherwise_of};
 ghost use Rattle.ob_parser.specs.Forms as forms;
-ghost use Rattle.ob_parser.specs.Answers.{state, IsAt, GoesOnAsAssignment, Answers, branch_of};
+ghost use Rattle.ob_parser.specs.Answers.{state, IsAt, GoesOnAsAssignment, Answers, AnswersPart, between, branch_of};
 
 use crate::parser::{ParseFault, Parser};
 use ob_grammar::tree::{Branch, DEEPEST_NESTING, Designator, Expr, Stmt};
@@ -179,14 +179,23 @@ impl<'a> Parser<'a> {
         }
         let place = self.take();
         let condition = self.expression(depth + 1)?;
-        self.expect(Kind::Do)?;
-        let body = self.statements(depth + 1)?;
-        self.expect(Kind::End)?;
+        let body = self.repeated(depth + 1)?;
         Ok(Stmt::While {
             place,
             condition,
             body,
         })
+    }
+
+    /// "DO" StatementSequence "END"
+    #[cycle(statements)]
+    fn repeated(&mut self, depth: usize) -> Result<Vec<Stmt>, ParseFault>
+        ensures { AnswersPart (λ ss p. between (stmts_in ss.items) p) (forms.repeated depth) (state self.old) result (state self.new) }
+    {
+        self.expect(Kind::Do)?;
+        let body = self.statements(depth)?;
+        self.expect(Kind::End)?;
+        Ok(body)
     }
 
     /// ["BEGIN" StatementSequence]

@@ -3,7 +3,7 @@
 ghost use Rattle.ob_scan.specs.declared.token.Kind.{Kind};
 ghost use Rattle.ob_grammar.specs.View.{type_of, fields_in};
 ghost use Rattle.ob_parser.specs.Forms as forms;
-ghost use Rattle.ob_parser.specs.Answers.{state, IsAt, Answers, field_list_of};
+ghost use Rattle.ob_parser.specs.Answers.{state, IsAt, Answers, AnswersPart, field_list_of};
 
 use crate::parser::{ParseFault, Parser};
 use ob_grammar::tree::{DEEPEST_NESTING, FieldList, TypeExpr};
@@ -36,14 +36,22 @@ impl<'a> Parser<'a> {
         }
         let place = self.take();
         let length = self.expression(depth + 1)?;
-        self.expect(Kind::Of)?;
-        let element = self.type_expr(depth + 1)?;
+        let element = self.element(depth + 1)?;
         let element = Box::new(self.alloc, element)?;
         Ok(TypeExpr::Array {
             place,
             length,
             element,
         })
+    }
+
+    /// "OF" type
+    #[cycle(types)]
+    fn element(&mut self, depth: usize) -> Result<TypeExpr, ParseFault>
+        ensures { AnswersPart (λ t p. (p, type_of t)) (forms.element depth) (state self.old) result (state self.new) }
+    {
+        self.expect(Kind::Of)?;
+        self.type_expr(depth)
     }
 
     /// RecordType = "RECORD" FieldList {";" FieldList} "END"

@@ -3,7 +3,7 @@ use Rattle.ob_scan.specs.Tokens.{TokenizedText}
 use Rattle.ob_parser.specs.Answers.{state}
 use Rattle.ob_grammar.specs.View.{name_of}
 use Rattle.ob_parser.proofs.Steps.{closed, before, fill_token, fill_both}
-use Rattle.ob_parser.proofs.States.{starts, reaches, fails, fails_in, fails_in_linked, past, passed, path_on, path_as, stays, went_as, false_at, true_at}
+use Rattle.ob_parser.proofs.States.{starts, no_way, reaches, fails, fails_in, fails_in_linked, past, passed, passed_part, path_on, path_as, stays, went_as, false_at, true_at}
 use Rattle.ob_parser.proofs.Openings.{fails_deep, went_within}
 use Rattle.ob_parser.proofs.Names.{fill_end_name}
 use Rattle.ob_parser.proofs.Declarations.{leads_procedure, heading_follows, fill_behind_heading, past_heading, fill_end, fill_declarations, declarations_follow, leads_procedures, leads_opened, fill_behind_keyword, reads_no_procedures, fill_procedures, leads_declarations, constants_follow, types_follow, variables_follow, fill_behind_constants, fill_behind_types, fill_last_procedures, leads_last_procedures}
@@ -43,57 +43,63 @@ procedure-returns-in_err-heading t c =
     passed _ _ _ _ _ _ c.from_residual.ensures.1
     (fails_in_linked (starts (leads_procedure _)) (heading_follows _) (fill_behind_heading _) _ c.in_err-heading.ensures)
 
-pub procedure-returns-in_err-expect : goal.procedure-returns-in_err-expect
-procedure-returns-in_err-expect t c =
-    let name = name_of c.in_ok-heading.heading.name in
-    let way = past_heading _ (starts (leads_procedure _)) c.in_ok-heading.ensures in
-    passed _ _ _ _ _ _ c.from_residual-in_err-expect.ensures.1
-    (fails_in way (closed (λ k. refl)) (fill_both fill_declarations (fill_end _ name)) _ c.in_err-expect.ensures.answers)
-
-pub procedure-declarations-requires : goal.procedure-declarations-requires
-procedure-declarations-requires t c =
+pub procedure-block-requires : goal.procedure-block-requires
+procedure-block-requires t c =
     let many = λ (source : TokenizedText). length source.tokens in
     let order = c.in_ok-heading.ensures.reads.order in
     let same = ap many c.in_ok-heading.ensures.kept in
-    let same_too = ap many c.in_ok-expect.ensures.answers.kept in
+    (omega arith, tt)
+
+pub procedure-returns-in_err-block : goal.procedure-returns-in_err-block
+procedure-returns-in_err-block t c =
+    let way = past_heading _ (starts (leads_procedure _)) c.in_ok-heading.ensures in
+    passed _ _ _ _ _ _ c.from_residual-in_err-block.ensures.1 (fails way _ c.in_err-block.ensures)
+
+pub procedure-returns : goal.procedure-returns
+procedure-returns t c =
+    let way = past_heading _ (starts (leads_procedure _)) c.in_ok-heading.ensures in
+    let block = c.in_ok-block.block in
+    went_as (sym (procedure_of-made c.in_ok-heading.heading block.declarations block.body block.end_name)) (reaches way c.in_ok-block.ensures.1)
+
+pub block-returns-in_err-expect : goal.block-returns-in_err-expect
+block-returns-in_err-expect t c =
+    let name = name_of c.args.name.now in
+    passed_part _ _ _ _ _ _ c.from_residual.ensures.1
+    (fails_in (no_way (state c.args.self.now)) (closed (λ k. refl)) (fill_both fill_declarations (fill_end _ name)) _ c.in_err-expect.ensures.answers)
+
+pub block-declarations-requires : goal.block-declarations-requires
+block-declarations-requires t c =
+    let many = λ (source : TokenizedText). length source.tokens in
+    let same = ap many c.in_ok-expect.ensures.answers.kept in
     let moved = c.in_ok-expect.ensures.moved in
     let within = went_within c.in_ok-expect.ensures.answers in
     (omega arith, tt)
 
-pub procedure-returns-in_err-declarations : goal.procedure-returns-in_err-declarations
-procedure-returns-in_err-declarations t c =
-    let name = name_of c.in_ok-heading.heading.name in
-    let way = past (past_heading _ (starts (leads_procedure _)) c.in_ok-heading.ensures) (closed (λ k. refl)) c.in_ok-expect.ensures.answers in
-    passed _ _ _ _ _ _ c.from_residual-in_err-declarations.ensures.1
+pub block-returns-in_err-declarations : goal.block-returns-in_err-declarations
+block-returns-in_err-declarations t c =
+    let name = name_of c.args.name.now in
+    let way = past (no_way (state c.args.self.now)) (closed (λ k. refl)) c.in_ok-expect.ensures.answers in
+    passed_part _ _ _ _ _ _ c.from_residual-in_err-declarations.ensures.1
     (fails_in way (declarations_follow _) (fill_end _ name) _ c.in_err-declarations.ensures)
 
-pub procedure-returns-in_err-body : goal.procedure-returns-in_err-body
-procedure-returns-in_err-body t c =
-    let name = name_of c.in_ok-heading.heading.name in
-    let way = past (past_heading _ (starts (leads_procedure _)) c.in_ok-heading.ensures) (closed (λ k. refl)) c.in_ok-expect.ensures.answers in
+pub block-returns-in_err-body : goal.block-returns-in_err-body
+block-returns-in_err-body t c =
+    let name = name_of c.args.name.now in
+    let way = past (no_way (state c.args.self.now)) (closed (λ k. refl)) c.in_ok-expect.ensures.answers in
     let way = past way (declarations_follow _) c.in_ok-declarations.ensures in
-    passed _ _ _ _ _ _ c.from_residual-in_err-body.ensures.1 (fails_in way (before _ refl) (fill_both fill_token (fill_end_name name)) _ c.in_err-body.ensures)
+    passed_part _ _ _ _ _ _ c.from_residual-in_err-body.ensures.1 (fails_in way (before _ refl) (fill_both fill_token (fill_end_name name)) _ c.in_err-body.ensures)
 
-pub procedure-returns-in_err-expect-2 : goal.procedure-returns-in_err-expect-2
-procedure-returns-in_err-expect-2 t c =
-    let name = name_of c.in_ok-heading.heading.name in
-    let way = past (past_heading _ (starts (leads_procedure _)) c.in_ok-heading.ensures) (closed (λ k. refl)) c.in_ok-expect.ensures.answers in
+pub block-returns-in_err-end_name : goal.block-returns-in_err-end_name
+block-returns-in_err-end_name t c =
+    let way = past (no_way (state c.args.self.now)) (closed (λ k. refl)) c.in_ok-expect.ensures.answers in
     let way = past (past way (declarations_follow _) c.in_ok-declarations.ensures) (before _ refl) c.in_ok-body.ensures in
-    passed _ _ _ _ _ _ c.from_residual-in_err-expect-2.ensures.1 (fails_in way (closed (λ k. refl)) (fill_end_name name) _ c.in_err-expect-2.ensures.answers)
+    passed_part _ _ _ _ _ _ c.from_residual-in_err-end_name.ensures.1 (fails way _ c.in_err-end_name.ensures)
 
-pub procedure-returns-in_err-end_name : goal.procedure-returns-in_err-end_name
-procedure-returns-in_err-end_name t c =
-    let way = past (past_heading _ (starts (leads_procedure _)) c.in_ok-heading.ensures) (closed (λ k. refl)) c.in_ok-expect.ensures.answers in
+pub block-returns : goal.block-returns
+block-returns t c =
+    let way = past (no_way (state c.args.self.now)) (closed (λ k. refl)) c.in_ok-expect.ensures.answers in
     let way = past (past way (declarations_follow _) c.in_ok-declarations.ensures) (before _ refl) c.in_ok-body.ensures in
-    let way = past way (closed (λ k. refl)) c.in_ok-expect-2.ensures.answers in
-    passed _ _ _ _ _ _ c.from_residual-in_err-end_name.ensures.1 (fails way _ c.in_err-end_name.ensures)
-
-pub procedure-returns : goal.procedure-returns
-procedure-returns t c =
-    let way = past (past_heading _ (starts (leads_procedure _)) c.in_ok-heading.ensures) (closed (λ k. refl)) c.in_ok-expect.ensures.answers in
-    let way = past (past way (declarations_follow _) c.in_ok-declarations.ensures) (before _ refl) c.in_ok-body.ensures in
-    went_as (sym (procedure_of-made c.in_ok-heading.heading c.in_ok-declarations.declarations c.in_ok-body.body c.in_ok-end_name.end_name))
-    (reaches (past way (closed (λ k. refl)) c.in_ok-expect-2.ensures.answers) c.in_ok-end_name.ensures)
+    ((_, c.in_ok-end_name.ensures.0), reaches way c.in_ok-end_name.ensures.1)
 
 pub procedures-returns-then-depth-ge-DEEPEST_NESTING : goal.procedures-returns-then-depth-ge-DEEPEST_NESTING
 procedures-returns-then-depth-ge-DEEPEST_NESTING t c =

@@ -5,14 +5,17 @@ use Rattle.ob_parser.proofs.States.{Path}
 use Rattle.ob_parser.proofs.DeclarationLoops.{procedures_before}
 use Rattle.ob_parser.proofs.parser.Parser.+declarations.Given as goal
 
+abbrev pub decreases-block : goal.decreases-block
+decreases-block l = 4 * (length l.self.now.tokens.now.tokens - l.self.now.position)
+
 abbrev pub decreases-procedure : goal.decreases-procedure
-decreases-procedure l = 3 * (length l.self.now.tokens.now.tokens - l.self.now.position)
+decreases-procedure l = 4 * (length l.self.now.tokens.now.tokens - l.self.now.position) + 1
 
 abbrev pub decreases-procedures : goal.decreases-procedures
-decreases-procedures l = 3 * (length l.self.now.tokens.now.tokens - l.self.now.position) + 1
+decreases-procedures l = 4 * (length l.self.now.tokens.now.tokens - l.self.now.position) + 2
 
 abbrev pub decreases-declarations : goal.decreases-declarations
-decreases-declarations l = 3 * (length l.self.now.tokens.now.tokens - l.self.now.position) + 2
+decreases-declarations l = 4 * (length l.self.now.tokens.now.tokens - l.self.now.position) + 3
 
 -- the procedures that are read, in front of those behind them
 abbrev pub invariant-procedures-loop-self : goal.invariant-procedures-loop-self

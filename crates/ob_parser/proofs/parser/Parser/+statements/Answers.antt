@@ -4,7 +4,7 @@ use Rattle.ob_parser.specs.Forms as forms
 use Rattle.ob_parser.specs.Forms.{token, both}
 use Rattle.ob_parser.specs.Answers.{state}
 use Rattle.ob_parser.proofs.Steps.{fill_token, fill_both, closed, before, before_last}
-use Rattle.ob_parser.proofs.States.{starts, reaches, fails, past, fails_in, passed, path_on, path_as, stays, went_as, false_at, true_at}
+use Rattle.ob_parser.proofs.States.{starts, no_way, reaches, fails, past, fails_in, passed, passed_part, path_on, path_as, stays, went_as, false_at, true_at}
 use Rattle.ob_parser.proofs.Openings.{went_opens, token_there, fails_deep}
 use Rattle.ob_parser.proofs.Firsts.{fill_expression}
 use Rattle.ob_parser.proofs.Statements.{token_read, fill_statement, fill_more_statements, fill_statements, fill_more_branches, fill_branches, fill_otherwise, leads_if, leads_while, reads_empty, leads_statements, statement_follows, leads_more_statements, reads_no_statements, leads_branch, leads_branches, branch_follows, leads_elsif, reads_no_elsif, leads_else, reads_no_else, branches_follow}
@@ -179,30 +179,47 @@ while_statement-returns-in_err-condition t c =
     passed _ _ _ _ _ _ c.from_residual.ensures.1
     (fails_in way (before (both (forms.statements (c.args.depth + 1)) (token Kind.End)) refl) (fill_both fill_token (fill_both fill_statements fill_token)) _ c.in_err-condition.ensures)
 
-pub while_statement-returns-in_err-expect : goal.while_statement-returns-in_err-expect
-while_statement-returns-in_err-expect t c =
-    let way = past (starts (leads_while c.requires)) (closed (λ k. refl)) (went_opens (omega arith) (c.take-place.ensures.took _ c.requires)) in
-    let way = past way (before (both (forms.statements (c.args.depth + 1)) (token Kind.End)) refl) c.in_ok-condition.ensures in
-    passed _ _ _ _ _ _ c.from_residual-in_err-expect.ensures.1 (fails_in way (closed (λ k. refl)) (fill_both fill_statements fill_token) _ c.in_err-expect.ensures.answers)
-
 pub while_statement-returns-in_err-body : goal.while_statement-returns-in_err-body
 while_statement-returns-in_err-body t c =
     let way = past (starts (leads_while c.requires)) (closed (λ k. refl)) (went_opens (omega arith) (c.take-place.ensures.took _ c.requires)) in
     let way = past way (before (both (forms.statements (c.args.depth + 1)) (token Kind.End)) refl) c.in_ok-condition.ensures in
-    let way = past way (closed (λ k. refl)) c.in_ok-expect.ensures.answers in
-    passed _ _ _ _ _ _ c.from_residual-in_err-body.ensures.1 (fails_in way (before_last refl) fill_token _ c.in_err-body.ensures)
-
-pub while_statement-returns-in_err-expect-2 : goal.while_statement-returns-in_err-expect-2
-while_statement-returns-in_err-expect-2 t c =
-    let way = past (starts (leads_while c.requires)) (closed (λ k. refl)) (went_opens (omega arith) (c.take-place.ensures.took _ c.requires)) in
-    let way = past way (before (both (forms.statements (c.args.depth + 1)) (token Kind.End)) refl) c.in_ok-condition.ensures in
-    let way = past (past way (closed (λ k. refl)) c.in_ok-expect.ensures.answers) (before_last refl) c.in_ok-body.ensures in
-    passed _ _ _ _ _ _ c.from_residual-in_err-expect-2.ensures.1 (fails way _ c.in_err-expect-2.ensures.answers)
+    passed _ _ _ _ _ _ c.from_residual-in_err-body.ensures.1 (fails way _ c.in_err-body.ensures)
 
 pub while_statement-returns : goal.while_statement-returns
 while_statement-returns t c =
     let way = past (starts (leads_while c.requires)) (closed (λ k. refl)) (went_opens (omega arith) (c.take-place.ensures.took _ c.requires)) in
     let way = past way (before (both (forms.statements (c.args.depth + 1)) (token Kind.End)) refl) c.in_ok-condition.ensures in
-    let way = past (past way (closed (λ k. refl)) c.in_ok-expect.ensures.answers) (before_last refl) c.in_ok-body.ensures in
-    went_as (sym (stmt_of-while c.take-place.result c.in_ok-condition.condition c.in_ok-body.body))
-    (reaches way c.in_ok-expect-2.ensures.answers)
+    went_as (sym (stmt_of-while c.take-place.result c.in_ok-condition.condition c.in_ok-body.body)) (reaches way c.in_ok-body.ensures.1)
+
+-- "DO" StatementSequence "END"
+
+pub repeated-returns-in_err-expect : goal.repeated-returns-in_err-expect
+repeated-returns-in_err-expect t c =
+    passed_part _ _ _ _ _ _ c.from_residual.ensures.1
+    (fails_in (no_way (state c.args.self.now)) (closed (λ k. refl)) (fill_both fill_statements fill_token) _ c.in_err-expect.ensures.answers)
+
+pub repeated-statements-requires : goal.repeated-statements-requires
+repeated-statements-requires t c =
+    let here : c.args.self.now.position < length c.args.self.now.tokens.now.tokens =
+    token_there (state c.args.self.now) (token_read c.in_ok-expect.ensures.answers) in
+    let still : length c.expect.new.self.tokens.now.tokens ≡ length c.args.self.now.tokens.now.tokens =
+    ap (λ source. length source.tokens) c.in_ok-expect.ensures.answers.kept in
+    let moved : c.args.self.now.position < c.expect.new.self.position = c.in_ok-expect.ensures.moved in
+    omega arith
+
+pub repeated-returns-in_err-body : goal.repeated-returns-in_err-body
+repeated-returns-in_err-body t c =
+    let way = past (no_way (state c.args.self.now)) (closed (λ k. refl)) c.in_ok-expect.ensures.answers in
+    passed_part _ _ _ _ _ _ c.from_residual-in_err-body.ensures.1 (fails_in way (before_last refl) fill_token _ c.in_err-body.ensures)
+
+pub repeated-returns-in_err-expect-2 : goal.repeated-returns-in_err-expect-2
+repeated-returns-in_err-expect-2 t c =
+    let way = past (no_way (state c.args.self.now)) (closed (λ k. refl)) c.in_ok-expect.ensures.answers in
+    let way = past way (before_last refl) c.in_ok-body.ensures in
+    passed_part _ _ _ _ _ _ c.from_residual-in_err-expect-2.ensures.1 (fails way _ c.in_err-expect-2.ensures.answers)
+
+pub repeated-returns : goal.repeated-returns
+repeated-returns t c =
+    let way = past (no_way (state c.args.self.now)) (closed (λ k. refl)) c.in_ok-expect.ensures.answers in
+    let way = past way (before_last refl) c.in_ok-body.ensures in
+    ((_, _), reaches way c.in_ok-expect-2.ensures.answers)

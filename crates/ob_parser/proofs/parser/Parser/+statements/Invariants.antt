@@ -11,6 +11,9 @@ decreases-if_statement l = 3 * (length l.self.now.tokens.now.tokens - l.self.now
 abbrev pub decreases-while_statement : goal.decreases-while_statement
 decreases-while_statement l = 3 * (length l.self.now.tokens.now.tokens - l.self.now.position)
 
+abbrev pub decreases-repeated : goal.decreases-repeated
+decreases-repeated l = 3 * (length l.self.now.tokens.now.tokens - l.self.now.position)
+
 abbrev pub decreases-statement : goal.decreases-statement
 decreases-statement l = 3 * (length l.self.now.tokens.now.tokens - l.self.now.position) + 1
 

@@ -1,10 +1,11 @@
-use Rattle.std.proofs.Common.{[], ◌∷◌, ◌++◌, refl, arith, ap, sym, ◌∙◌}
+use Rattle.std.proofs.Common.{length, [], ◌∷◌, ◌++◌, refl, arith, ap, sym, ◌∙◌}
+use Rattle.ob_scan.specs.Tokens.{TokenizedText}
 use Rattle.ob_parser.specs.Answers.{state}
 use Rattle.ob_grammar.specs.Tree
 use Rattle.ob_grammar.specs.View.{expr_of, type_of}
 use Rattle.ob_parser.proofs.Steps.{fill_token, fill_both, closed, before, before_last}
-use Rattle.ob_parser.proofs.States.{starts, reaches, fails, past, fails_in, fails_here, passed, path_on, path_as, stays, went_as, false_at, true_at}
-use Rattle.ob_parser.proofs.Openings.{went_opens, fails_deep, token_there}
+use Rattle.ob_parser.proofs.States.{starts, no_way, reaches, fails, past, fails_in, fails_here, passed, passed_part, ends_part, path_on, path_as, stays, went_as, false_at, true_at}
+use Rattle.ob_parser.proofs.Openings.{went_opens, went_within, fails_deep, token_there}
 use Rattle.ob_parser.proofs.Names.{begins_name, fill_name}
 use Rattle.ob_parser.proofs.Types.{fill_type, leads_array, fill_behind_array, leads_fields, reads_no_fields, leads_field_lists, fill_more_fields, more_fields_follow, leads_more_fields, reads_no_more_fields, leads_record, fill_behind_record, leads_called}
 use Rattle.ob_parser.proofs.DeclarationLoops.{fields_before, fields_before-push, fields_before-end}
@@ -24,27 +25,37 @@ array_type-returns-in_err-length t c =
     let way = past (starts (leads_array c.requires)) (closed (λ k. refl)) opened in
     passed _ _ _ _ _ _ c.from_residual.ensures.1 (fails_in way (before _ refl) (fill_both fill_token fill_type) _ c.in_err-length.ensures)
 
-pub array_type-returns-in_err-expect : goal.array_type-returns-in_err-expect
-array_type-returns-in_err-expect t c =
-    let opened = went_opens (omega arith) (c.take-place.ensures.took _ c.requires) in
-    let way = past (starts (leads_array c.requires)) (closed (λ k. refl)) opened in
-    let way = past way (before _ refl) c.in_ok-length.ensures in
-    passed _ _ _ _ _ _ c.from_residual-in_err-expect.ensures.1 (fails_in way (closed (λ k. refl)) fill_type _ c.in_err-expect.ensures.answers)
-
 pub array_type-returns-in_err-element : goal.array_type-returns-in_err-element
 array_type-returns-in_err-element t c =
     let opened = went_opens (omega arith) (c.take-place.ensures.took _ c.requires) in
     let way = past (starts (leads_array c.requires)) (closed (λ k. refl)) opened in
-    let way = past (past way (before _ refl) c.in_ok-length.ensures) (closed (λ k. refl)) c.in_ok-expect.ensures.answers in
+    let way = past way (before _ refl) c.in_ok-length.ensures in
     passed _ _ _ _ _ _ c.from_residual-in_err-element.ensures.1 (fails way _ c.in_err-element.ensures)
 
 pub array_type-returns : goal.array_type-returns
 array_type-returns t c =
     let opened = went_opens (omega arith) (c.take-place.ensures.took _ c.requires) in
     let way = past (starts (leads_array c.requires)) (closed (λ k. refl)) opened in
-    let way = past (past way (before _ refl) c.in_ok-length.ensures) (closed (λ k. refl)) c.in_ok-expect.ensures.answers in
     went_as (ap (λ e. Tree.Array c.take-place.result (expr_of c.in_ok-length.length) (type_of e)) (sym c.in_ok-element-2.ensures.ok))
-    (reaches way c.in_ok-element.ensures)
+    (reaches (past way (before _ refl) c.in_ok-length.ensures) c.in_ok-element.ensures.1)
+
+pub element-returns-in_err-expect : goal.element-returns-in_err-expect
+element-returns-in_err-expect t c =
+    passed_part _ _ _ _ _ _ c.from_residual.ensures.1
+    (fails_in (no_way (state c.args.self.now)) (closed (λ k. refl)) fill_type _ c.in_err-expect.ensures.answers)
+
+pub element-type_expr-requires : goal.element-type_expr-requires
+element-type_expr-requires t c =
+    let many = λ (source : TokenizedText). length source.tokens in
+    let same = ap many c.in_ok-expect.ensures.answers.kept in
+    let moved = c.in_ok-expect.ensures.moved in
+    let within = went_within c.in_ok-expect.ensures.answers in
+    omega arith
+
+pub element-returns : goal.element-returns
+element-returns t c =
+    let way = past (no_way (state c.args.self.now)) (closed (λ k. refl)) c.in_ok-expect.ensures.answers in
+    ends_part _ _ _ _ c.type_expr.result (λ t. refl) way c.type_expr.ensures
 
 pub field_list-returns-then-not-at : goal.field_list-returns-then-not-at
 field_list-returns-then-not-at t c = stays (reads_no_fields (false_at c.if-not-at.ensures.kind))

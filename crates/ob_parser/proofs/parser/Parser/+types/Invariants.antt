@@ -8,6 +8,9 @@ use Rattle.ob_parser.proofs.parser.Parser.+types.Given as goal
 abbrev pub decreases-array_type : goal.decreases-array_type
 decreases-array_type l = 4 * (length l.self.now.tokens.now.tokens - l.self.now.position)
 
+abbrev pub decreases-element : goal.decreases-element
+decreases-element l = 4 * (length l.self.now.tokens.now.tokens - l.self.now.position)
+
 abbrev pub decreases-record_type : goal.decreases-record_type
 decreases-record_type l = 4 * (length l.self.now.tokens.now.tokens - l.self.now.position)
 

@@ -1,10 +1,10 @@
 use Rattle.std.proofs.Common.{refl}
 use Rattle.ob_parser.specs.Answers.{state}
 use Rattle.ob_grammar.specs.View.{name_of}
-use Rattle.ob_parser.proofs.Steps.{closed, before, fill_token, fill_linked, fill_both}
+use Rattle.ob_parser.proofs.Steps.{closed, fill_token, fill_linked}
 use Rattle.ob_parser.proofs.States.{starts, reaches, fails, fails_in, fails_in_linked, fails_here, past, passed}
-use Rattle.ob_parser.proofs.Names.{begins_name, fill_name, fill_end_name}
-use Rattle.ob_parser.proofs.Declarations.{leads_module, name_follows, fill_declarations, fill_module_end, fill_behind_name, past_name, declarations_follow}
+use Rattle.ob_parser.proofs.Names.{begins_name, fill_name}
+use Rattle.ob_parser.proofs.Declarations.{leads_module, name_follows, fill_behind_name, past_name}
 use Rattle.ob_parser.proofs.parser.Parser.module_text.Goals as goal
 
 pub returns-in_err-expect : goal.returns-in_err-expect
@@ -18,55 +18,19 @@ returns-in_err-name c =
     passed _ _ _ _ _ _ c.from_residual-in_err-name.ensures.1
     (fails_in_linked way name_follows fill_behind_name _ (fails_here (state c.expect.new.self) begins_name fill_name _ c.in_err-name.ensures))
 
+pub returns-in_err-block : goal.returns-in_err-block
+returns-in_err-block c =
+    let way = past_name (past (starts leads_module) (closed (λ k. refl)) c.in_ok-expect.ensures.answers) c.in_ok-name.ensures in
+    passed _ _ _ _ _ _ c.from_residual-in_err-block.ensures.1 (fails_in way (closed (λ k. refl)) fill_token _ c.in_err-block.ensures)
+
 pub returns-in_err-expect-2 : goal.returns-in_err-expect-2
 returns-in_err-expect-2 c =
     let way = past_name (past (starts leads_module) (closed (λ k. refl)) c.in_ok-expect.ensures.answers) c.in_ok-name.ensures in
-    passed _ _ _ _ _ _ c.from_residual-in_err-expect-2.ensures.1
-    (fails_in way (closed (λ k. refl)) (fill_both fill_declarations (fill_module_end (name_of c.in_ok-name.name))) _ c.in_err-expect-2.ensures.answers)
-
-pub returns-in_err-declarations : goal.returns-in_err-declarations
-returns-in_err-declarations c =
-    let way = past_name (past (starts leads_module) (closed (λ k. refl)) c.in_ok-expect.ensures.answers) c.in_ok-name.ensures in
-    let way = past way (closed (λ k. refl)) c.in_ok-expect-2.ensures.answers in
-    passed _ _ _ _ _ _ c.from_residual-in_err-declarations.ensures.1
-    (fails_in way (declarations_follow _) (fill_module_end (name_of c.in_ok-name.name)) _
-    c.in_err-declarations.ensures)
-
-pub returns-in_err-body : goal.returns-in_err-body
-returns-in_err-body c =
-    let way = past_name (past (starts leads_module) (closed (λ k. refl)) c.in_ok-expect.ensures.answers) c.in_ok-name.ensures in
-    let way = past (past way (closed (λ k. refl)) c.in_ok-expect-2.ensures.answers) (declarations_follow _) c.in_ok-declarations.ensures in
-    passed _ _ _ _ _ _ c.from_residual-in_err-body.ensures.1
-    (fails_in way (before _ refl) (fill_both fill_token (fill_both (fill_end_name (name_of c.in_ok-name.name)) fill_token)) _ c.in_err-body.ensures)
-
-pub returns-in_err-expect-3 : goal.returns-in_err-expect-3
-returns-in_err-expect-3 c =
-    let way = past_name (past (starts leads_module) (closed (λ k. refl)) c.in_ok-expect.ensures.answers) c.in_ok-name.ensures in
-    let way = past (past way (closed (λ k. refl)) c.in_ok-expect-2.ensures.answers) (declarations_follow _) c.in_ok-declarations.ensures in
-    let way = past way (before _ refl) c.in_ok-body.ensures in
-    passed _ _ _ _ _ _ c.from_residual-in_err-expect-3.ensures.1
-    (fails_in way (closed (λ k. refl)) (fill_both (fill_end_name (name_of c.in_ok-name.name)) fill_token) _ c.in_err-expect-3.ensures.answers)
-
-pub returns-in_err-end_name : goal.returns-in_err-end_name
-returns-in_err-end_name c =
-    let way = past_name (past (starts leads_module) (closed (λ k. refl)) c.in_ok-expect.ensures.answers) c.in_ok-name.ensures in
-    let way = past (past way (closed (λ k. refl)) c.in_ok-expect-2.ensures.answers) (declarations_follow _) c.in_ok-declarations.ensures in
-    let way = past (past way (before _ refl) c.in_ok-body.ensures) (closed (λ k. refl)) c.in_ok-expect-3.ensures.answers in
-    passed _ _ _ _ _ _ c.from_residual-in_err-end_name.ensures.1
-    (fails_in way (closed (λ k. refl)) fill_token _ c.in_err-end_name.ensures)
-
-pub returns-in_err-expect-4 : goal.returns-in_err-expect-4
-returns-in_err-expect-4 c =
-    let way = past_name (past (starts leads_module) (closed (λ k. refl)) c.in_ok-expect.ensures.answers) c.in_ok-name.ensures in
-    let way = past (past way (closed (λ k. refl)) c.in_ok-expect-2.ensures.answers) (declarations_follow _) c.in_ok-declarations.ensures in
-    let way = past (past way (before _ refl) c.in_ok-body.ensures) (closed (λ k. refl)) c.in_ok-expect-3.ensures.answers in
-    let way = past way (closed (λ k. refl)) c.in_ok-end_name.ensures in
-    passed _ _ _ _ _ _ c.from_residual-in_err-expect-4.ensures.1 (fails way _ c.in_err-expect-4.ensures.answers)
+    let way = past way (closed (λ k. refl)) c.in_ok-block.ensures.1 in
+    passed _ _ _ _ _ _ c.from_residual-in_err-expect-2.ensures.1 (fails way _ c.in_err-expect-2.ensures.answers)
 
 pub returns : goal.returns
 returns c =
     let way = past_name (past (starts leads_module) (closed (λ k. refl)) c.in_ok-expect.ensures.answers) c.in_ok-name.ensures in
-    let way = past (past way (closed (λ k. refl)) c.in_ok-expect-2.ensures.answers) (declarations_follow _) c.in_ok-declarations.ensures in
-    let way = past (past way (before _ refl) c.in_ok-body.ensures) (closed (λ k. refl)) c.in_ok-expect-3.ensures.answers in
-    let way = past way (closed (λ k. refl)) c.in_ok-end_name.ensures in
-    reaches way c.in_ok-expect-4.ensures.answers
+    let way = past way (closed (λ k. refl)) c.in_ok-block.ensures.1 in
+    reaches way c.in_ok-expect-2.ensures.answers

@@ -1,6 +1,6 @@
 use Rattle.std.proofs.Common.{refl}
 use Rattle.ob_parser.specs.Answers.{state}
-use Rattle.ob_parser.proofs.Steps.{closed, before_last, fill_token, fill_both}
+use Rattle.ob_parser.proofs.Steps.{closed, fill_token, fill_both}
 use Rattle.ob_parser.proofs.States.{starts, reaches, fails, fails_in, fails_here, past, passed}
 use Rattle.ob_parser.proofs.Names.{begins_name, fill_name}
 use Rattle.ob_parser.proofs.Types.{fill_type}
@@ -13,27 +13,12 @@ returns-in_err-name-clause-answers c =
     (fails_in (starts leads_type_declaration) (closed (λ k. refl)) (fill_both fill_token (fill_both fill_type fill_token)) _
     (fails_here (state c.args.self.now) begins_name fill_name _ c.in_err-name.ensures))
 
-pub returns-in_err-expect-clause-answers : goal.returns-in_err-expect-clause-answers
-returns-in_err-expect-clause-answers c =
-    let way = past (starts leads_type_declaration) (closed (λ k. refl)) c.in_ok-name.ensures in
-    passed _ _ _ _ _ _ c.from_residual-in_err-expect.ensures.1
-    (fails_in way (closed (λ k. refl)) (fill_both fill_type fill_token) _ c.in_err-expect.ensures.answers)
-
 pub returns-in_err-definition-clause-answers : goal.returns-in_err-definition-clause-answers
 returns-in_err-definition-clause-answers c =
     let way = past (starts leads_type_declaration) (closed (λ k. refl)) c.in_ok-name.ensures in
-    let way = past way (closed (λ k. refl)) c.in_ok-expect.ensures.answers in
-    passed _ _ _ _ _ _ c.from_residual-in_err-definition.ensures.1
-    (fails_in way (before_last refl) fill_token _ c.in_err-definition.ensures)
-
-pub returns-in_err-expect-2-clause-answers : goal.returns-in_err-expect-2-clause-answers
-returns-in_err-expect-2-clause-answers c =
-    let way = past (starts leads_type_declaration) (closed (λ k. refl)) c.in_ok-name.ensures in
-    let way = past (past way (closed (λ k. refl)) c.in_ok-expect.ensures.answers) (before_last refl) c.in_ok-definition.ensures in
-    passed _ _ _ _ _ _ c.from_residual-in_err-expect-2.ensures.1 (fails way _ c.in_err-expect-2.ensures.answers)
+    passed _ _ _ _ _ _ c.from_residual-in_err-definition.ensures.1 (fails way _ c.in_err-definition.ensures.answers)
 
 pub returns-clause-answers : goal.returns-clause-answers
 returns-clause-answers c =
     let way = past (starts leads_type_declaration) (closed (λ k. refl)) c.in_ok-name.ensures in
-    let way = past (past way (closed (λ k. refl)) c.in_ok-expect.ensures.answers) (before_last refl) c.in_ok-definition.ensures in
-    reaches way c.in_ok-expect-2.ensures.answers
+    reaches way c.in_ok-definition.ensures.answers.1

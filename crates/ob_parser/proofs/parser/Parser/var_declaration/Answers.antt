@@ -1,5 +1,5 @@
 use Rattle.std.proofs.Common.{refl}
-use Rattle.ob_parser.proofs.Steps.{closed, before, fill_token, fill_both}
+use Rattle.ob_parser.proofs.Steps.{before, fill_token, fill_both}
 use Rattle.ob_parser.proofs.States.{starts, reaches, fails, fails_in, past, passed}
 use Rattle.ob_parser.proofs.Types.{fill_type}
 use Rattle.ob_parser.proofs.Declarations.{leads_var_declaration}
@@ -10,29 +10,12 @@ returns-in_err-names-clause-answers c =
     passed _ _ _ _ _ _ c.from_residual.ensures.1
     (fails_in (starts leads_var_declaration) (before _ refl) (fill_both fill_token (fill_both fill_type fill_token)) _ c.in_err-names.ensures)
 
-pub returns-in_err-expect-clause-answers : goal.returns-in_err-expect-clause-answers
-returns-in_err-expect-clause-answers c =
-    let way = past (starts leads_var_declaration) (before _ refl) c.in_ok-names.ensures in
-    passed _ _ _ _ _ _ c.from_residual-in_err-expect.ensures.1
-    (fails_in way (closed (λ k. refl)) (fill_both fill_type fill_token) _ c.in_err-expect.ensures.answers)
-
 pub returns-in_err-of_type-clause-answers : goal.returns-in_err-of_type-clause-answers
 returns-in_err-of_type-clause-answers c =
     let way = past (starts leads_var_declaration) (before _ refl) c.in_ok-names.ensures in
-    let way = past way (closed (λ k. refl)) c.in_ok-expect.ensures.answers in
-    passed _ _ _ _ _ _ c.from_residual-in_err-of_type.ensures.1
-    (fails_in way (closed (λ k. refl)) fill_token _ c.in_err-of_type.ensures)
-
-pub returns-in_err-expect-2-clause-answers : goal.returns-in_err-expect-2-clause-answers
-returns-in_err-expect-2-clause-answers c =
-    let way = past (starts leads_var_declaration) (before _ refl) c.in_ok-names.ensures in
-    let way = past way (closed (λ k. refl)) c.in_ok-expect.ensures.answers in
-    let way = past way (closed (λ k. refl)) c.in_ok-of_type.ensures in
-    passed _ _ _ _ _ _ c.from_residual-in_err-expect-2.ensures.1 (fails way _ c.in_err-expect-2.ensures.answers)
+    passed _ _ _ _ _ _ c.from_residual-in_err-of_type.ensures.1 (fails way _ c.in_err-of_type.ensures.answers)
 
 pub returns-clause-answers : goal.returns-clause-answers
 returns-clause-answers c =
     let way = past (starts leads_var_declaration) (before _ refl) c.in_ok-names.ensures in
-    let way = past way (closed (λ k. refl)) c.in_ok-expect.ensures.answers in
-    let way = past way (closed (λ k. refl)) c.in_ok-of_type.ensures in
-    reaches way c.in_ok-expect-2.ensures.answers
+    reaches way c.in_ok-of_type.ensures.answers.1

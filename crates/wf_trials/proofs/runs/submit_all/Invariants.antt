@@ -1,5 +1,5 @@
 use Rattle.std.proofs.Common.{◌≡◌}
-use Rattle.wf_samples.proofs.tests.submit_all.Given as goal
+use Rattle.wf_trials.proofs.runs.submit_all.Given as goal
 
 abbrev pub invariant-loop-p : goal.invariant-loop-p
 invariant-loop-p g l = record {
