@@ -8,8 +8,8 @@ mod files;
 mod refusal;
 
 use files::HostFiles;
-use ob_program::answer::answer;
-use ob_program::answered::Answer;
+use ob_answer::answer::answer;
+use ob_answer::answered::Answer;
 use refusal::{Refusal, refusal_of_words};
 use std::process::ExitCode;
 use std::rt::{Env, Files};
