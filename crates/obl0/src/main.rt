@@ -1,4 +1,4 @@
-//! The program: runs a module of Oberon-0.
+//! The program: checks, lists and runs a module of Oberon-0.
 #![tactic(auto)]
 
 ghost use Rattle.std.specs.Prelude.{◌≡◌, IfOk};
