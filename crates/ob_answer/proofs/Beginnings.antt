@@ -3,7 +3,10 @@ use Rattle.std.proofs.Common.{◌≡◌, ℕ, ◌<◌, ◌≤◌, List, length, 
 use Rattle.std.proofs.lemmas.Bool.{cases_lt}
 use Rattle.std.proofs.lemmas.List.{length-take, take_all}
 use Rattle.ob_scan.specs.declared.fault.ScanFault.TheVariants as Scan
-use Rattle.ob_program.specs.SequentialRun.{IsSeqTextFault, IsSequentialRun}
+use Rattle.ob_program.specs.ModuleCode.{IsModuleTextFault}
+use Rattle.ob_program.specs.SequentialRun.{IsSeqTextFault}
+use Rattle.ob_program.specs.declared.module_code.ModuleTextFault.{ModuleTextFault}
+use Rattle.ob_program.specs.declared.module_code.ModuleTextFault.TheVariants as Modules
 use Rattle.ob_program.specs.declared.sequential.SeqTextFault.{SeqTextFault}
 use Rattle.ob_program.specs.declared.sequential.SeqTextFault.TheVariants as Faults
 
@@ -21,11 +24,11 @@ is_longer part whole is long =
     let taken : 65536 < length (beginning whole) = rw is at long in
     omega (arith, taken, length-take 65537 whole)
 
-pub run_of_whole : (part whole script lines : List ℕ) → part ≡ beginning whole → (65536 < length part → ⊥) →
-    IsSequentialRun part script lines → IsSequentialRun whole script lines
-run_of_whole part whole script lines is no_longer run = elim (cases_lt 65536 (length part)) [
+-- what holds of a beginning that isn't too long holds of the whole text
+pub of_whole : (P : List ℕ → Type 0) (part whole : List ℕ) → part ≡ beginning whole → (65536 < length part → ⊥) → P part → P whole
+of_whole P part whole is no_longer h = elim (cases_lt 65536 (length part)) [
   | inl long ↦ absurd (no_longer long)
-  | inr short ↦ subst (λ (text : List ℕ). IsSequentialRun text script lines) (is_whole part whole is short) run
+  | inr short ↦ subst P (is_whole part whole is short) h
 ]
 
 pub fault_of_whole : (part whole script : List ℕ) (fault : SeqTextFault) → part ≡ beginning whole →
@@ -35,4 +38,13 @@ fault_of_whole part whole script fault is too_long stands = elim (cases_lt 65536
       subst (λ (e : SeqTextFault). IsSeqTextFault whole script e) (sym (too_long long))
       (record { stands = is_longer part whole is long; none = λ says. absurd says })
   | inr short ↦ subst (λ (text : List ℕ). IsSeqTextFault text script fault) (is_whole part whole is short) stands
+]
+
+pub module_fault_of_whole : (part whole : List ℕ) (fault : ModuleTextFault) → part ≡ beginning whole →
+    (65536 < length part → fault ≡ Modules.Scan Scan.TooLong) → IsModuleTextFault part fault → IsModuleTextFault whole fault
+module_fault_of_whole part whole fault is too_long stands = elim (cases_lt 65536 (length part)) [
+  | inl long ↦
+      subst (λ (e : ModuleTextFault). IsModuleTextFault whole e) (sym (too_long long))
+      (record { stands = is_longer part whole is long; none = λ says. absurd says })
+  | inr short ↦ subst (λ (text : List ℕ). IsModuleTextFault text fault) (is_whole part whole is short) stands
 ]

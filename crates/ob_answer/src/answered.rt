@@ -16,7 +16,7 @@ pub struct Answer {
 
 impl Answer {
     ghost use Rattle.std.specs.Prelude.{string_bytes};
-    ghost use Rattle.ob_program.specs.Answers.{IsPrinted, IsRefused};
+    ghost use Rattle.ob_answer.specs.Printed.{IsPrinted, IsRefused};
 
     /// What was asked for.
     pub fn printed(alloc: Global, out: String) -> Answer

@@ -2,8 +2,8 @@
 
 ghost use Rattle.std.specs.Prelude.{List, ℕ, Result};
 ghost use Rattle.std.specs.Result.{result_map_both};
-ghost use Rattle.ob_program.specs.declared.files.FileFault.{FileFault};
-ghost use Rattle.ob_program.specs.Reads.{ReadsBeginning};
+ghost use Rattle.ob_answer.specs.declared.files.FileFault.{FileFault};
+ghost use Rattle.ob_answer.specs.Reads.{ReadsBeginning};
 
 use thiserror::Error;
 

@@ -1,4 +1,3 @@
 pub mod CallParts
-pub mod PlainNames
-pub mod Beginnings
 pub mod NoRun
+pub mod Texts

@@ -20,7 +20,8 @@ use Rattle.ob_mean.specs.Object.{AreReplies, Effect, Ends, IsOpening, NeedsMore,
 use Rattle.ob_text.specs.Script.{IsScript, IsScriptFault, ScriptCall}
 use Rattle.ob_text.specs.declared.script.ScriptFault.{ScriptFault}
 use Rattle.ob_text.specs.declared.script.ScriptFault.TheVariants as ScriptFaults
-use Rattle.ob_program.specs.SequentialParts.{IsReplyFault, of_open, of_parse}
+use Rattle.ob_program.specs.CheckedText.{IsNumberedText, of_parse}
+use Rattle.ob_program.specs.SequentialParts.{IsReplyFault, of_open}
 use Rattle.ob_program.specs.SequentialRun.{HasNoRun, IsNumbered, IsSequentialRun, NeedsMoreTurnsIn, PrintsReplies, object_call, processes, turns}
 use Rattle.ob_program.specs.declared.sequential.SeqTextFault.{SeqTextFault}
 use Rattle.ob_program.specs.declared.sequential.SeqTextFault.TheVariants as Faults
@@ -34,7 +35,7 @@ parted tokens m n h = subst (λ (ts : Lexemes). Derives ts m) (sym (take-append-
 breaks : {IsBroken : Module → ℕ → Type 0} (tokens : Lexemes) (place : ℕ) → BreaksCondition IsBroken tokens place → (m : Module) → Derives tokens m → IsBroken m place
 breaks tokens place b m h = b.broken (drop (suc b.index) tokens) m (parted tokens m (suc b.index) h)
 
-no_tree : (t : TokenizedText) (e : ParseFault) → IsParseFault t e → IsNumbered (of_parse e)
+no_tree : (t : TokenizedText) (e : ParseFault) → IsParseFault t e → IsNumberedText (of_parse e)
     → (m : Module) → Derives (lexemes t.text t.tokens) m → KeepsConditions m → ⊥
 no_tree t (Parse.Unexpected place) (inl r) numbered m h keeps =
     r.none (drop (suc r.index) (lexemes t.text t.tokens), m, parted (lexemes t.text t.tokens) m (suc r.index) h)
@@ -52,7 +53,7 @@ no_tree t (Parse.NameDiffers place) b numbered m h keeps =
 no_tree t Parse.NoMemory b numbered m h keeps = let bad : true ≡ false = numbered.0 in cc
 
 pub no_module_parse : (text : List ℕ) (t : TokenizedText) (e : ParseFault) → t.text ≡ text → ((others : List Token) → HasTokens text others → others ≡ t.tokens)
-    → IsParseFault t e → IsNumbered (of_parse e) → (program : Program) → IsModule text program → ⊥
+    → IsParseFault t e → IsNumberedText (of_parse e) → (program : Program) → IsModule text program → ⊥
 no_module_parse text t e is alone h numbered program m =
     let of = m.text_of in
     let derived : Derives (lexemes t.text of.tokens) m.tree = subst (λ (x : List ℕ). Derives (lexemes x of.tokens) m.tree) (sym is) of.derives in

@@ -1,5 +1,5 @@
 -- The line that tells each fault.
-use Rattle.std.specs.Prelude.{ℕ, ◌++◌, codes, decimal}
+use Rattle.std.specs.Prelude.{ℕ, List, ◌++◌, codes, decimal}
 use Rattle.ob_scan.specs.declared.fault.ScanFault.{ScanFault}
 use Rattle.ob_scan.specs.declared.fault.ScanFault.TheVariants as Scan
 use Rattle.ob_parser.specs.declared.parser.ParseFault.{ParseFault}
@@ -10,9 +10,13 @@ use Rattle.ob_mean.specs.declared.opening.OpenFault.{OpenFault}
 use Rattle.ob_mean.specs.declared.opening.OpenFault.TheVariants as Open
 use Rattle.ob_text.specs.declared.script.ScriptFault.{ScriptFault}
 use Rattle.ob_text.specs.declared.script.ScriptFault.TheVariants as Script
+use Rattle.ob_program.specs.declared.module_code.ModuleTextFault.{ModuleTextFault}
+use Rattle.ob_program.specs.declared.module_code.ModuleTextFault.TheVariants as Modules
 use Rattle.ob_program.specs.declared.sequential.SeqTextFault.{SeqTextFault}
 use Rattle.ob_program.specs.declared.sequential.SeqTextFault.TheVariants as Faults
-use Rattle.ob_command.specs.CommandLine.{Text}
+
+abbrev pub Text : Type 0
+Text = List ℕ
 
 -- at a byte offset of the module's text
 abbrev pub at_place : Text → ℕ → Text
@@ -68,3 +72,11 @@ fault_line (Faults.Open e) = open_line e
 fault_line (Faults.Script e) = script_line e
 fault_line (Faults.NeedsMore process number) = codes "U1 " ++ decimal process ++ codes "." ++ decimal number
 fault_line Faults.NoMemory = no_memory_line
+
+abbrev pub module_fault_line : ModuleTextFault → Text
+module_fault_line (Modules.Scan e) = scan_line e
+module_fault_line (Modules.Parse e) = parse_line e
+module_fault_line (Modules.Check e) = check_line e
+module_fault_line Modules.TooLong = codes "G1"
+module_fault_line (Modules.Open e) = open_line e
+module_fault_line Modules.NoMemory = no_memory_line

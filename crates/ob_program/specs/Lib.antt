@@ -1,6 +1,6 @@
+pub mod CheckedText
 pub mod SequentialRun
 pub mod SequentialParts
-pub mod Answers
+pub mod ModuleCode
+pub mod ModuleCodeParts
 pub mod FaultLines
-pub mod ShownNames
-pub mod Reads

@@ -1,8 +1,9 @@
 //! The line that tells a fault.
 
 ghost use Rattle.std.specs.Prelude.{◌≡◌, ◌++◌, IfOk, OnOk, codes, decimal, string_bytes};
-ghost use Rattle.ob_program.specs.FaultLines.{at_line, at_place, check_line, fault_line, open_line, parse_line, scan_line, script_line};
+ghost use Rattle.ob_program.specs.FaultLines.{at_line, at_place, check_line, fault_line, module_fault_line, open_line, parse_line, scan_line, script_line};
 
+use crate::module_code::ModuleTextFault;
 use crate::sequential::SeqTextFault;
 use ob_check::checker::CheckFault;
 use ob_mean::opening::OpenFault;
@@ -26,6 +27,22 @@ pub fn fault_line(alloc: Global, fault: SeqTextFault) -> Result<String, AllocErr
         SeqTextFault::Script(fault) => push_script_fault(&mut line, fault)?,
         SeqTextFault::NeedsMore(process, number) => push_needs_more(&mut line, process, number)?,
         SeqTextFault::NoMemory => line.push_str("NoMemory")?,
+    }
+    Ok(line)
+}
+
+/// The line of a fault of a module by itself, without a line feed.
+pub fn module_fault_line(alloc: Global, fault: ModuleTextFault) -> Result<String, AllocError>
+    ensures { IfOk result (λ line. string_bytes line ≡ module_fault_line fault) }
+{
+    let mut line = String::new(alloc);
+    match fault {
+        ModuleTextFault::Scan(fault) => push_scan_fault(&mut line, fault)?,
+        ModuleTextFault::Parse(fault) => push_parse_fault(&mut line, fault)?,
+        ModuleTextFault::Check(fault) => push_check_fault(&mut line, fault)?,
+        ModuleTextFault::TooLong => line.push_str("G1")?,
+        ModuleTextFault::Open(fault) => push_open_fault(&mut line, fault)?,
+        ModuleTextFault::NoMemory => line.push_str("NoMemory")?,
     }
     Ok(line)
 }

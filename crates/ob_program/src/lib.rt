@@ -1,10 +1,7 @@
-//! The program apart from the machine that it runs on: from the words of the command line and what files hold to what is
-//! printed.
+//! What the program makes of the bytes of files: the calls of a script made on a module, and a module checked and listed.
 #![tactic(auto)]
 
-pub mod answer;
-pub mod answered;
+pub mod checked_text;
 pub mod fault_line;
-pub mod files;
+pub mod module_code;
 pub mod sequential;
-pub mod shown_name;

@@ -10,21 +10,22 @@ ghost use Rattle.ob_program.specs.SequentialRun.{HasNoRun, IsNumbered, IsSequent
 ghost use Rattle.ob_reply.specs.ReplyLines.{count_of};
 ghost use Rattle.ob_text.specs.ScriptView.{script_call_of};
 
+use crate::checked_text::{TextFault, checked_text};
 use ob_check::checked::Checked;
-use ob_check::checker::{CheckFault, check};
+use ob_check::checker::CheckFault;
 use ob_mean::call::Call;
 use ob_mean::opening::{OpenFault, opening};
 use ob_mean::sequence::{SeqFault, sequence};
-use ob_parser::parser::{ParseFault, parse};
+use ob_parser::parser::ParseFault;
 use ob_reply::reply_lines::print_replies;
+use ob_scan::ScanFault;
 use ob_scan::scanner::LONGEST_TEXT;
-use ob_scan::{ScanFault, scan};
 use ob_text::script::{ScriptCall, ScriptFault, read_scripts};
 use std::alloc::{AllocError, AllocFailed, Global};
 use thiserror::Error;
 
 /// The turns of an opening, and of each call.
-const TURNS: u64 = 1_000_000;
+pub(crate) const TURNS: u64 = 1_000_000;
 
 /// How many processes a script may name: 0 to 15.
 const PROCESSES: usize = 16;
@@ -50,44 +51,18 @@ pub enum SeqTextFault {
     NoMemory,
 }
 
-impl From<ScanFault> for SeqTextFault {
+impl From<TextFault> for SeqTextFault {
     ghost use Rattle.std.specs.Prelude.{◌≡◌};
-    ghost use Rattle.ob_program.specs.SequentialParts.{of_scan};
+    ghost use Rattle.ob_program.specs.SequentialParts.{of_text};
 
-    ghost from_gives = { λ e f. f ≡ of_scan e };
+    ghost from_gives = { λ e f. f ≡ of_text e };
 
-    fn from(fault: ScanFault) -> SeqTextFault {
+    fn from(fault: TextFault) -> SeqTextFault {
         match fault {
-            ScanFault::NoMemory => SeqTextFault::NoMemory,
-            other => SeqTextFault::Scan(other),
-        }
-    }
-}
-
-impl From<ParseFault> for SeqTextFault {
-    ghost use Rattle.std.specs.Prelude.{◌≡◌};
-    ghost use Rattle.ob_program.specs.SequentialParts.{of_parse};
-
-    ghost from_gives = { λ e f. f ≡ of_parse e };
-
-    fn from(fault: ParseFault) -> SeqTextFault {
-        match fault {
-            ParseFault::NoMemory => SeqTextFault::NoMemory,
-            other => SeqTextFault::Parse(other),
-        }
-    }
-}
-
-impl From<CheckFault> for SeqTextFault {
-    ghost use Rattle.std.specs.Prelude.{◌≡◌};
-    ghost use Rattle.ob_program.specs.SequentialParts.{of_check};
-
-    ghost from_gives = { λ e f. f ≡ of_check e };
-
-    fn from(fault: CheckFault) -> SeqTextFault {
-        match fault {
-            CheckFault::NoMemory => SeqTextFault::NoMemory,
-            other => SeqTextFault::Check(other),
+            TextFault::Scan(fault) => SeqTextFault::Scan(fault),
+            TextFault::Parse(fault) => SeqTextFault::Parse(fault),
+            TextFault::Check(fault) => SeqTextFault::Check(fault),
+            TextFault::NoMemory => SeqTextFault::NoMemory,
         }
     }
 }
@@ -131,7 +106,7 @@ pub fn seq_text(alloc: Global, module: &[u8], script: &[u8]) -> Result<String, S
     // A text over the scanner's bound is refused, whatever it says.
     ensures too_long { LONGEST_TEXT < length «module».now → result ≡ Err (SeqTextFault.Scan ScanFault.TooLong) }
 {
-    let checked = checked_module(alloc, module)?;
+    let checked = checked_text(alloc, module)?;
     match read_scripts(alloc, &checked, PROCESSES, script) {
         Ok(scripts) => replies_text(alloc, &checked, scripts.into_calls()),
         Err(ScriptFault::NoMemory) => Err(SeqTextFault::NoMemory),
@@ -141,20 +116,6 @@ pub fn seq_text(alloc: Global, module: &[u8], script: &[u8]) -> Result<String, S
             Err(SeqTextFault::Script(fault))
         }
     }
-}
-
-/// The checked module of a text.
-fn checked_module(alloc: Global, text: &[u8]) -> Result<Checked, SeqTextFault>
-    ensures program { IfOk result (λ c. IsModule text.now (program_in c)) }
-    ensures alone { IfOk result (λ c. (other : Program) → IsModule text.now other → other ≡ program_in c) }
-    ensures none { IfErr result (λ e. IsNumbered e → (program : Program) → IsModule text.now program → ⊥) }
-    ensures fault { IfErr result (λ e. (script : List ℕ) → IsSeqTextFault text.now script e) }
-    ensures memory { IfErr result TellsMemoryApart }
-    ensures too_long { LONGEST_TEXT < length text.now → result ≡ Err (SeqTextFault.Scan ScanFault.TooLong) }
-{
-    let tokens = scan(alloc, text)?;
-    let tree = parse(alloc, &tokens)?;
-    Ok(check(alloc, tree)?)
 }
 
 /// The E lines of the replies to the calls of a script.

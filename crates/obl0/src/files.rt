@@ -4,7 +4,7 @@ ghost use Rattle.std.specs.Prelude.{◌≡◌, ◌≤◌, length, IfOk};
 ghost use Rattle.std.specs.IoError.{error_kind};
 ghost use Rattle.obl0.specs.Refusals.{file_fault};
 
-use ob_program::files::{FileFault, Files};
+use ob_answer::files::{FileFault, Files};
 use std::io::Read;
 use std::rt::Files as HostRead;
 use std::{fs, io};

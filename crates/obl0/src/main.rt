@@ -1,4 +1,4 @@
-//! The program: runs a module of Oberon-0.
+//! The program: checks, lists and runs a module of Oberon-0.
 #![tactic(auto)]
 
 ghost use Rattle.std.specs.Prelude.{◌≡◌, IfOk};
@@ -8,8 +8,8 @@ mod files;
 mod refusal;
 
 use files::HostFiles;
-use ob_program::answer::answer;
-use ob_program::answered::Answer;
+use ob_answer::answer::answer;
+use ob_answer::answered::Answer;
 use refusal::{Refusal, refusal_of_words};
 use std::process::ExitCode;
 use std::rt::{Env, Files};

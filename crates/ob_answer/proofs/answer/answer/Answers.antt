@@ -1,13 +1,13 @@
-use Rattle.std.proofs.Common.{◌≡◌, List, ℕ, map, refl, sym, subst}
-use Rattle.ob_program.specs.Answers.{IsAnswer}
-use Rattle.ob_command.specs.CommandLine.{Request, Unclear, request}
-use Rattle.ob_program.proofs.PlainNames.{answers_names}
-use Rattle.ob_program.proofs.answer.answer.Goals as goal
+use Rattle.std.proofs.Common.{map}
+use Rattle.ob_command.proofs.ClapWords.{check_asked, list_asked, seq_asked}
+use Rattle.ob_answer.proofs.PlainWords.{answered_as}
+use Rattle.ob_answer.proofs.answer.answer.Goals as goal
 
-pub returns-in-Err-Unclear-clause-seq : goal.returns-in-Err-Unclear-clause-seq
-returns-in-Err-Unclear-clause-seq g c =
-    let words : List (List ℕ) = map (λ word. word.now) c.args.words.now in
-    let unclear : request words ≡ Unclear = rw c.in-Err-Unclear.field-0-is at c.in-Err-Unclear.ensures in
-    answers_names g.F.Files.reads words c.refused.result c.args.files.now c.args.files.now
-    (subst (λ (r : Request). IsAnswer g.F.Files.reads r c.args.files.now c.refused.result c.args.files.now) (sym unclear)
-    (_, c.refused.ensures, refl))
+pub returns-clause-check : goal.returns-clause-check
+returns-clause-check g c m is no_m = answered_as g.F.Files.reads (map (λ word. word.now) c.args.words.now) _ _ _ _ c.obey_words.result is (check_asked m no_m) c.obey_words.ensures
+
+pub returns-clause-list : goal.returns-clause-list
+returns-clause-list g c m is no_m = answered_as g.F.Files.reads (map (λ word. word.now) c.args.words.now) _ _ _ _ c.obey_words.result is (list_asked m no_m) c.obey_words.ensures
+
+pub returns-clause-seq : goal.returns-clause-seq
+returns-clause-seq g c m s is no_m no_s = answered_as g.F.Files.reads (map (λ word. word.now) c.args.words.now) _ _ _ _ c.obey_words.result is (seq_asked m s no_m no_s) c.obey_words.ensures

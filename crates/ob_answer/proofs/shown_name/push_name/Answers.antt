@@ -2,8 +2,8 @@ use Rattle.std.proofs.Common.{◌++◌, sym, ap, ◌∙◌, map-id, string_bytes
 use Rattle.std.specs.List.{flat_map}
 use Rattle.std.proofs.lemmas.Iterator.{YieldsList-from_chars}
 use Rattle.std.proofs.lemmas.Iterator.Consumers.{YieldsList-end}
-use Rattle.ob_program.specs.ShownNames.{shown_character}
-use Rattle.ob_program.proofs.shown_name.push_name.Goals as goal
+use Rattle.ob_answer.specs.ShownNames.{shown_character}
+use Rattle.ob_answer.proofs.shown_name.push_name.Goals as goal
 
 pub returns : goal.returns
 returns c =

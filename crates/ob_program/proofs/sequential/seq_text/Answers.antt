@@ -3,17 +3,18 @@ use Rattle.std.proofs.lemmas.Result.{IfErr-weaker, err_from_is_err_and}
 use Rattle.ob_text.specs.ScriptView.{script_call_of}
 use Rattle.ob_program.proofs.CallParts.{callers_below}
 use Rattle.ob_program.proofs.NoRun.{no_run_opening, no_run_replies, no_run_script}
+use Rattle.ob_program.proofs.Texts.{seq_fault, seq_numbered}
 use Rattle.ob_program.proofs.sequential.seq_text.Goals as goal
 
 pub returns-in_err-checked-clause-fault : goal.returns-in_err-checked-clause-fault
 returns-in_err-checked-clause-fault c =
     let p = err_from_is_err_and c.from_residual.result c.from_residual.ensures.1 in
-    rw (p.1, p.2) (c.in_err-checked.ensures.fault c.args.script.now)
+    rw (p.1, p.2) (seq_fault c.args.module.now c.args.script.now c.in_err-checked.field-0.0 c.in_err-checked.ensures.fault)
 
 pub returns-in_err-checked-clause-no_run : goal.returns-in_err-checked-clause-no_run
 returns-in_err-checked-clause-no_run c =
     let p = err_from_is_err_and c.from_residual.result c.from_residual.ensures.1 in
-    rw (p.1, p.2) (λ numbered output run. c.in_err-checked.ensures.none numbered run.program run.is_module)
+    rw (p.1, p.2) (λ numbered output run. c.in_err-checked.ensures.none (seq_numbered c.in_err-checked.field-0.0 numbered) run.program run.is_module)
 
 pub replies_text-requires : goal.replies_text-requires
 replies_text-requires c = callers_below _ _ _ c.into_calls.result.items (rw (← c.into_calls.ensures) at c.in-Ok.ensures.script)

@@ -1,0 +1,3 @@
+pub mod Beginnings
+pub mod Made
+pub mod PlainWords

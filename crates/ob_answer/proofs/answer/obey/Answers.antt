@@ -1,0 +1,10 @@
+use Rattle.ob_answer.proofs.answer.obey.Goals as goal
+
+pub returns-in-Check : goal.returns-in-Check
+returns-in-Check g c = rw c.in-Check.is c.obey_check.ensures
+
+pub returns-in-List : goal.returns-in-List
+returns-in-List g c = rw c.in-List.is c.obey_list.ensures
+
+pub returns-in-Seq : goal.returns-in-Seq
+returns-in-Seq g c = rw c.in-Seq.is c.obey_seq.ensures

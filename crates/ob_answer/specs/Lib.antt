@@ -1,0 +1,4 @@
+pub mod Printed
+pub mod Answers
+pub mod ShownNames
+pub mod Reads

@@ -1,0 +1,8 @@
+//! The program apart from the machine that it runs on: from the words of the command line and what files hold to what is
+//! printed.
+#![tactic(auto)]
+
+pub mod answer;
+pub mod answered;
+pub mod files;
+pub mod shown_name;

@@ -1,0 +1,90 @@
+-- The faults of a text as those of what is made of it.
+use Rattle.std.proofs.Common.{◌≡◌, ◌<◌, ◌≤◌, ℕ, List, [], ◌∷◌, ap, map, length, true, false, arith, refl, sym, subst}
+use Rattle.ob_code.specs.declared.fault.CodeFault.{CodeFault}
+use Rattle.ob_code.specs.declared.fault.CodeFault.TheVariants as Code
+use Rattle.ob_check.specs.ModuleText.{IsModule}
+use Rattle.ob_check.specs.View.{procedure_of}
+use Rattle.ob_check.specs.declared.program.Procedure.{Procedure}
+use Rattle.ob_check.specs.Program.{Program}
+use Rattle.ob_mean.specs.declared.opening.OpenFault.{OpenFault}
+use Rattle.ob_mean.specs.declared.opening.OpenFault.TheVariants as Open
+use Rattle.ob_mean.specs.Faults.{IsOpenFault}
+use Rattle.ob_scheme.specs.Scheme.{code_of}
+use Rattle.ob_program.specs.CheckedText.{IsNumberedText, IsTextFault, TellsTextMemoryApart}
+use Rattle.ob_program.specs.ModuleCode.{Compiles, HasNoCode, IsModuleTextFault, IsNumberedModule, TellsModuleMemoryApart}
+use Rattle.ob_program.specs.ModuleCodeParts.{of_code_fault, of_open_fault, of_text_fault}
+use Rattle.ob_program.specs.SequentialParts.{of_text}
+use Rattle.ob_program.specs.SequentialRun.{IsNumbered, IsSeqTextFault, TellsMemoryApart, turns}
+use Rattle.ob_program.specs.declared.checked_text.TextFault.{TextFault}
+use Rattle.ob_program.specs.declared.checked_text.TextFault.TheVariants as Texts
+
+-- ---- of a sequential run
+
+pub seq_fault : (text script : List ℕ) (e : TextFault) → IsTextFault text e → IsSeqTextFault text script (of_text e)
+seq_fault text script (Texts.Scan e) h = h
+seq_fault text script (Texts.Parse e) h = h
+seq_fault text script (Texts.Check e) h = h
+seq_fault text script Texts.NoMemory h = tt
+
+pub seq_apart : (e : TextFault) → TellsTextMemoryApart e → TellsMemoryApart (of_text e)
+seq_apart (Texts.Scan e) h = h
+seq_apart (Texts.Parse e) h = h
+seq_apart (Texts.Check e) h = h
+seq_apart Texts.NoMemory h = tt
+
+pub seq_numbered : (e : TextFault) → IsNumbered (of_text e) → IsNumberedText e
+seq_numbered (Texts.Scan e) h = h
+seq_numbered (Texts.Parse e) h = h
+seq_numbered (Texts.Check e) h = h
+seq_numbered Texts.NoMemory h = let bad : true ≡ false = h.0 in cc
+
+-- ---- of a module by itself
+
+pub module_fault : (text : List ℕ) (e : TextFault) → IsTextFault text e → IsModuleTextFault text (of_text_fault e)
+module_fault text (Texts.Scan e) h = h
+module_fault text (Texts.Parse e) h = h
+module_fault text (Texts.Check e) h = h
+module_fault text Texts.NoMemory h = tt
+
+pub module_apart : (e : TextFault) → TellsTextMemoryApart e → TellsModuleMemoryApart (of_text_fault e)
+module_apart (Texts.Scan e) h = h
+module_apart (Texts.Parse e) h = h
+module_apart (Texts.Check e) h = h
+module_apart Texts.NoMemory h = tt
+
+module_numbered : (e : TextFault) → IsNumberedModule (of_text_fault e) → IsNumberedText e
+module_numbered (Texts.Scan e) h = h
+module_numbered (Texts.Parse e) h = h
+module_numbered (Texts.Check e) h = h
+module_numbered Texts.NoMemory h = let bad : true ≡ false = h.0 in cc
+
+pub no_code : (text : List ℕ) (e : TextFault) → (IsNumberedText e → (program : Program) → IsModule text program → ⊥)
+    → IsNumberedModule (of_text_fault e) → HasNoCode text
+no_code text e none numbered program compiles = none (module_numbered e numbered) program compiles.is_module
+
+module _ (text : List ℕ) (program : Program) (alone : (other : Program) → IsModule text other → other ≡ program) where
+  no_long_code : 65535 < length (code_of program).instructions → HasNoCode text
+  no_long_code longer other compiles =
+      let fits : length (code_of program).instructions ≤ 65535 =
+      subst (λ (p : Program). length (code_of p).instructions ≤ 65535) (alone other compiles.is_module) compiles.fits in
+      omega (arith, fits, longer)
+
+  pub no_code_fault : (e : CodeFault) → (e ≡ Code.TooLong → 65535 < length (code_of program).instructions) → IsNumberedModule (of_code_fault e) → HasNoCode text
+  no_code_fault Code.TooLong longer numbered other compiles = no_long_code (longer refl) other compiles
+  no_code_fault Code.NoMemory longer numbered other compiles = let bad : true ≡ false = numbered.0 in cc
+
+  pub no_opening_code : (e : OpenFault) → IsOpenFault program turns e → IsNumberedModule (of_open_fault e) → HasNoCode text
+  no_opening_code (Open.Trap k) h numbered other compiles =
+      let same = alone other compiles.is_module in
+      let is = compiles.opens.1 in
+      cc
+  no_opening_code Open.NeedsMore h numbered other compiles =
+      let same = alone other compiles.is_module in
+      let is = compiles.opens.1 in
+      cc
+  no_opening_code Open.NoMemory h numbered other compiles = let bad : true ≡ false = numbered.0 in cc
+
+-- the names of a view's procedures
+pub names_map : (procedures : List Procedure) → map (λ p. p.name) (map procedure_of procedures) ≡ map (λ p. (procedure_of p).name) procedures
+names_map [] = refl
+names_map (p ∷ procedures) = ap (λ names. (procedure_of p).name ∷ names) (names_map procedures)

@@ -1,0 +1,18 @@
+use Rattle.std.proofs.Common.{◌∙◌, List, ap, ap₂, map, string_bytes, sym}
+use Rattle.ob_check.specs.CheckedModule.{program_in}
+use Rattle.ob_check.specs.Program.{Program}
+use Rattle.ob_check.specs.View.{procedure_of}
+use Rattle.ob_code.specs.Code.{CodeParts}
+use Rattle.ob_code.specs.Listing.{listing}
+use Rattle.ob_program.proofs.Texts.{names_map}
+use Rattle.ob_program.proofs.module_code.list_text.Goals as goal
+
+pub returns-clause-listing : goal.returns-clause-listing
+returns-clause-listing c =
+    let names = ap (map string_bytes) c.as_slice-2.ensures.value ∙ (c.in_ok-names.ensures ∙ (ap (map (λ p. (procedure_of p).name)) c.as_slice.ensures.value
+    ∙ (sym (names_map c.program.result.now.procedures.items) ∙ ap (λ (p : Program). map (λ q. q.name) p.procedures) c.program.ensures))) in
+    record {
+      program = program_in c.in_ok-checked.checked;
+      compiles = c.in_ok-checked.ensures.module;
+      printed = c.in_ok-list.ensures ∙ ap₂ (λ (k : CodeParts) ns. listing k.instructions k.entries ns) c.in_ok-checked.ensures.code names;
+    }
