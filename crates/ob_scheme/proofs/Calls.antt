@@ -1,16 +1,19 @@
 -- A call from outside: where it begins, and where it ends.
-use Rattle.std.proofs.Common.{◌≡◌, ℕ, suc, ◌+◌, Bool, true, false, ℤ, pos, List, [], ◌∷◌, ◌++◌, length, map, filter, drop, replicate, Some, None, Option, refl, sym, ap, ◌∙◌, append-nil, arith}
-use Rattle.std.specs.Prelude.{bytes_eq, if◌then◌else◌}
+use Rattle.std.proofs.Common.{◌≡◌, ◌≢◌, ℕ, zero, suc, ◌+◌, ◌*◌, ◌^◌, ◌<◌, ◌≤◌, max, leb, ltb, Bool, true, false, cond, MatchBool, ℤ, pos, List, [], ◌∷◌, ◌++◌, length, map, filter, take, drop, replicate, Some, None, Option, refl, sym, ap, ◌∙◌, subst, append-nil, append_assoc, length-append, arith}
+use Rattle.std.specs.Prelude.{slice_get, bytes_eq, if◌then◌else◌, sum_by}
+use Rattle.std.proofs.lemmas.List.{take_at}
 use Rattle.std.proofs.lemmas.List.Sums.{sum_by-cons}
+use Rattle.std.proofs.lemmas.Bool.Decides.{nat_tests}
 use Rattle.std.proofs.lemmas.Int.{ints}
 use Rattle.std.proofs.lemmas.Slice.Eq.{bytes_eq-Decides}
 use Rattle.ob_check.specs.declared.program.DataType.{DataType}
 use Rattle.ob_check.specs.declared.program.DataType.TheVariants.{Integer}
 use Rattle.ob_check.specs.declared.program.Scalar.{Scalar}
-use Rattle.ob_check.specs.Program.{Name, Variable, Parameter}
+use Rattle.ob_check.specs.declared.program.Scalar.TheVariants.{Int, Bool as Truth}
+use Rattle.ob_check.specs.Program.{Name, Variable, Parameter, Procedure, Statements}
 use Rattle.ob_check.specs.Scopes.{words, variable_words}
-use Rattle.ob_mean.specs.Value.{Single, scalar_of, initial}
-use Rattle.ob_mean.specs.Store.{Place, Held, Holds, Refers, Binding, Activation, Store, value_held}
+use Rattle.ob_mean.specs.Value.{Value, Single, scalar_of, initial}
+use Rattle.ob_mean.specs.Store.{Place, Held, Holds, Refers, Binding, Activation, Store, activation_at, value_held}
 use Rattle.ob_mean.specs.Object.{State, first_argument, other_arguments, results_begun, bound, values_of}
 use Rattle.ob_layout.specs.Scopes.{Slot, Own, Reference, Named, Scope, width, extent, slot_of, word_in, module_scope, variable_slot, result_slot, results_scope, parameter_slot, frame_scope}
 use Rattle.ob_layout.specs.Encoding.{word, flat, encoded, IsScalarOf, IsValueOf, IsStateOf, HoldsValueOf, IsInteger}
@@ -19,11 +22,6 @@ use Rattle.ob_code.specs.declared.argument.Argument.TheVariants as Arguments
 use Rattle.ob_code.specs.Body.{result_count, handed, enter}
 use Rattle.ob_scheme.specs.Correct.{arguments_of, ArgumentsFit, AreValuesOf, words_of}
 use Rattle.ob_scheme.proofs.Image.{base, scope_at, address, held_words, position_words, store_words, IsPlace, FitsHeld, FitsActivation, IsDistinct, FitsFrom, Fits}
-use Rattle.ob_layout.specs.Scopes.{Slot, Own, Reference, Scope, extent, slot_of, word_in, module_scope, result_slot, results_scope, parameter_slot, frame_scope}
-use Rattle.ob_layout.specs.Encoding.{word, flat, encoded, IsValueOf, IsStateOf, HoldsValueOf}
-use Rattle.ob_code.specs.Body.{result_count, handed}
-use Rattle.ob_scheme.specs.Correct.{arguments_of, ArgumentsFit, words_of}
-use Rattle.ob_scheme.proofs.Image.{address, held_words, position_words, store_words, IsPlace, FitsHeld, FitsActivation, IsDistinct, Fits}
 use Rattle.ob_scheme.proofs.Located.{same_name}
 
 -- the words of the module's scope

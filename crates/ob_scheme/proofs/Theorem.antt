@@ -1,12 +1,13 @@
 -- The code of a procedure does what the procedure means, in both directions.
-use Rattle.std.proofs.Common.{◌≡◌, ℕ, ◌+◌, ◌^◌, ◌<◌, ◌≤◌, ltb, Bool, false, cond, ℤ, pos, List, [], ◌∷◌, ◌++◌, length, take, drop, replicate, filter, Some, Option, refl, sym, ap, ◌∙◌, subst, length-append, arith}
+use Rattle.std.proofs.Common.{◌≡◌, ◌≢◌, ℕ, zero, suc, ◌+◌, ◌^◌, ◌<◌, ◌≤◌, ltb, Bool, true, false, cond, ℤ, pos, List, [], ◌∷◌, ◌++◌, length, take, drop, replicate, filter, Some, Option, refl, sym, ap, ◌∙◌, subst, length-append, arith}
+use Rattle.std.specs.Prelude.{slice_get}
 use Rattle.std.proofs.lemmas.List.{take_at}
 use Rattle.std.proofs.lemmas.Bool.Decides.{nat_tests}
 use Rattle.ob_check.specs.declared.program.Scalar.{Scalar}
 use Rattle.ob_check.specs.Program.{Variable, Parameter, Procedure}
-use Rattle.ob_mean.specs.Store.{Store, activation_at}
+use Rattle.ob_mean.specs.Store.{Activation, Store, activation_at}
 use Rattle.ob_mean.specs.Statements.{Outcome, Done, Trap, NotYet, meaning_of_all}
-use Rattle.ob_mean.specs.Object.{State, Effect, Ends, NeedsMore, Answers, Trapped as TrappedReply, effect_of, effect_of_procedure, values_of}
+use Rattle.ob_mean.specs.Object.{State, Effect, Ends, NeedsMore, Reply, Answers, Trapped as TrappedReply, effect_of, effect_of_procedure, values_of, results_begun, bound}
 use Rattle.ob_layout.specs.Scopes.{Scope, extent, module_scope, results_scope, frame_scope}
 use Rattle.ob_layout.specs.Encoding.{encoded, IsStateOf}
 use Rattle.ob_layout.specs.Temporaries.{statements_temporaries}
@@ -20,7 +21,7 @@ use Rattle.ob_code.specs.Laws.{IsOver}
 use Rattle.ob_check.specs.Scopes.{variable_words}
 use Rattle.ob_code.proofs.Over.{over_stays}
 use Rattle.ob_scheme.specs.Correct.{arguments_of, ArgumentsFit, beginning, words_of, after, IsAnswered, Answer, Behaves}
-use Rattle.ob_scheme.proofs.Image.{position_words, store_words, FitsActivation, FitsFrom, IsDistinct, Fits}
+use Rattle.ob_scheme.proofs.Image.{position_words, store_words, scope_at, FitsActivation, FitsFrom, IsDistinct, Fits}
 use Rattle.ob_scheme.proofs.Located.{length-position}
 use Rattle.ob_scheme.proofs.Stores.{total}
 use Rattle.ob_scheme.proofs.Fine.{AreFineStatements}
@@ -29,8 +30,6 @@ use Rattle.ob_scheme.proofs.Placed.{HasAt, has_front, has_back}
 use Rattle.ob_scheme.proofs.Expressions.{Setting}
 use Rattle.ob_scheme.proofs.Statements.{Arrives, Runs, between, stack_length, statements_run}
 use Rattle.ob_scheme.proofs.Calls.{scopes_of, store_of, begins_fit, results_count, stack_is, block_is, module_words, result_words, result_values, state_typed}
-use Rattle.ob_scheme.proofs.Statements.{Runs, between, stack_length, statements_run}
-use Rattle.ob_scheme.proofs.Calls.{scopes_of, store_of, begins_fit, results_count, stack_is, block_is, module_words, result_words, state_typed}
 
 -- what the proof needs of a procedure, of its place in the code and of the stack
 pub record IsCallable (code : List Instr) (reserve entry : ℕ) (variables : List Variable) (p : Procedure) : Type 0 where

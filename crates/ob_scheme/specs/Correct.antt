@@ -1,7 +1,7 @@
 -- What it means that compiled code does what its procedure means.
 use Rattle.std.specs.Prelude.{◌≡◌, ◌≢◌, ℕ, Bool, true, false, ℤ, List, [], ◌∷◌, map, filter, slice_get, Some, MatchBool, if◌then◌else◌}
-use Rattle.std.specs.Prelude.{◌≡◌, ◌≢◌, ℕ, ℤ, List, [], ◌∷◌, map, slice_get, Some, MatchBool, if◌then◌else◌}
 use Rattle.ob_check.specs.declared.program.Scalar.{Scalar}
+use Rattle.ob_check.specs.declared.program.DataType.{DataType}
 use Rattle.ob_grammar.specs.Tree.{Module}
 use Rattle.ob_check.specs.Program.{Variable, Parameter, Procedure, Program}
 use Rattle.ob_check.specs.Typing.{WellTyped}

@@ -197,8 +197,8 @@ impl<E: Engine> Machine<E> {
         requires { p < self.now.sizes.processes }
         ensures { result ≡ is_halted self.now.state p }
     {
-        let process = &self.processes[p];
-        process.label == Label::Next && !process.has_more()
+        let own = &self.processes[p];
+        own.label == Label::Next && !own.has_more()
     }
 
     /// What was seen so far.
