@@ -1,0 +1,4 @@
+pub mod RecordLines
+pub mod Told
+pub mod Seats
+pub mod LineReading
