@@ -59,7 +59,7 @@ pub record Trap (ws : List Word) (reply : Reply) : Type 0 where
   reply_is : reply ≡ Trapped k
   number : IsNumeral word k
   low : 1 ≤ k
-  high : k ≤ 5
+  high : k ≤ 4
 
 pub reply_parts : {signatures : List Signature} {export : ℕ} {ws : List Word} {reply : Reply} → IsReply signatures export ws reply → Done signatures export ws reply ⊎ Trap ws reply
 reply_parts (Lines.done {ws = ws} {signature = signature} {values = values} of fit) =
@@ -354,7 +354,7 @@ module _ (signatures : List Signature) (export : ℕ) where
         | inr x ↦ absurd (let e = ap first_byte x.words_are in omega (arith, e))
       ]
 
-  pub no_trap : (ws : List Word) (reply : Reply) → ((word : Word) (k : ℕ) → ws ≡ word ∷ [] → IsNumeral word k → 1 ≤ k → k ≤ 5 → ⊥) → IsReply signatures export (codes "trap" ∷ ws) reply → ⊥
+  pub no_trap : (ws : List Word) (reply : Reply) → ((word : Word) (k : ℕ) → ws ≡ word ∷ [] → IsNumeral word k → 1 ≤ k → k ≤ 4 → ⊥) → IsReply signatures export (codes "trap" ∷ ws) reply → ⊥
   no_trap ws reply misfit h =
       elim (reply_parts h) [
         | inl x ↦ absurd (let e = ap first_byte x.words_are in omega (arith, e))
@@ -362,8 +362,8 @@ module _ (signatures : List Signature) (export : ℕ) where
       ]
 
   pub trap_read : (ws : List Word) (r : Option Replied.Reply) →
-      MatchOption r ((word : Word) (k : ℕ) → ws ≡ word ∷ [] → IsNumeral word k → 1 ≤ k → k ≤ 5 → ⊥)
-      (λ reply. (word : Word) × (k : ℕ) × (ws ≡ word ∷ []) × IsNumeral word k × (1 ≤ k) × (k ≤ 5) × (View.reply_of reply ≡ Trapped k)) →
+      MatchOption r ((word : Word) (k : ℕ) → ws ≡ word ∷ [] → IsNumeral word k → 1 ≤ k → k ≤ 4 → ⊥)
+      (λ reply. (word : Word) × (k : ℕ) × (ws ≡ word ∷ []) × IsNumeral word k × (1 ≤ k) × (k ≤ 4) × (View.reply_of reply ≡ Trapped k)) →
       MatchOption r ((reply : Reply) → IsReply signatures export (codes "trap" ∷ ws) reply → ⊥) (λ reply. IsReply signatures export (codes "trap" ∷ ws) (View.reply_of reply))
   trap_read ws None h = λ reply k. no_trap ws reply h k
   trap_read ws (Some reply) h =

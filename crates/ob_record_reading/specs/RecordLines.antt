@@ -41,12 +41,12 @@ pub data IsTail : Line → Type 0 where
 
 -- the exports of the module
 module _ (signatures : List Signature) where
-  -- the reply to a call of the export of a number: done and the values of its VAR parameters, or trap and 1 to 5
+  -- the reply to a call of the export of a number: done and the values of its VAR parameters, or trap and 1 to 4
   pub data IsReply (export : ℕ) : List Word → Reply → Type 0 where
     done : {ws : List Word} {signature : Signature} {values : List Scalar} →
         slice_get signatures export ≡ Some signature → AreValues (formals_of true signature.parameters) ws values →
         IsReply export (codes "done" ∷ ws) (Answers values)
-    trap : {word : Word} {k : ℕ} → IsNumeral word k → 1 ≤ k → k ≤ 5 → IsReply export (codes "trap" ∷ word ∷ []) (Trapped k)
+    trap : {word : Word} {k : ℕ} → IsNumeral word k → 1 ≤ k → k ≤ 4 → IsReply export (codes "trap" ∷ word ∷ []) (Trapped k)
 
 -- there are so many processes
 module _ (processes : ℕ) where

@@ -21,7 +21,7 @@ use std::alloc::{AllocError, Global};
 use wf_history::CallId;
 
 /// The greatest number of a trap.
-const LAST_TRAP: u64 = 5;
+const LAST_TRAP: u64 = 4;
 
 /// What a line says.
 #[derive(Drop)]
