@@ -3,6 +3,8 @@
 
 mod expressions;
 pub mod generation;
+pub mod literals;
 mod names;
 
 pub use generation::generate;
+pub use literals::literals_fit;

@@ -84,6 +84,17 @@ module _ (text : List ℕ) (program : Program) (alone : (other : Program) → Is
       cc
   no_opening_code Open.NoMemory h numbered other compiles = let bad : true ≡ false = numbered.0 in cc
 
+-- what a text has that is a module of this program
+module _ (text : List ℕ) (program : Program) (is : IsModule text program) where
+  pub long_code : (e : CodeFault) → (e ≡ Code.TooLong → 65535 < length (code_of program).instructions) → IsModuleTextFault text (of_code_fault e)
+  long_code Code.TooLong longer = record { program = program; is_module = is; longer = longer refl }
+  long_code Code.NoMemory longer = tt
+
+  pub fails_to_open : length (code_of program).instructions ≤ 65535 → (e : OpenFault) → IsOpenFault program turns e → IsModuleTextFault text (of_open_fault e)
+  fails_to_open fits (Open.Trap k) h = record { program = program; is_module = is; fits = fits; fails = h }
+  fails_to_open fits Open.NeedsMore h = record { program = program; is_module = is; fits = fits; fails = h }
+  fails_to_open fits Open.NoMemory h = tt
+
 -- the names of a view's procedures
 pub names_map : (procedures : List Procedure) → map (λ p. p.name) (map procedure_of procedures) ≡ map (λ p. (procedure_of p).name) procedures
 names_map [] = refl

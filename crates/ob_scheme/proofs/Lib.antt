@@ -11,3 +11,4 @@ pub mod Theorem
 pub mod Entries
 pub mod Typed
 pub mod Law
+pub mod Opened

@@ -275,29 +275,47 @@ module _ (vs : List Variable) (ps : List Parameter) (env : Environment) (b : Bod
   named (Typing.of_module {name = name} {t = t} h) = global_found name.text t h
   named (Typing.own {name = name} {t = t} h) = local_found name.text _ t h
 
+-- expressions and statements under names of which each variable is named
+module _ (globals frame : Scope) (env : Environment) (names : (name : Tree.Name) (t : DataType) (d : Designator) → IsVariable env name t d → IsNamed globals frame t d) where
   mutual
-    expression_named : {e : Tree.Expr} {t : DataType} {c : Expression} → HasType env e t c → AreNamed (module_scope vs) (frame_scope ps) c
+    expression_named : {e : Tree.Expr} {t : DataType} {c : Expression} → HasType env e t c → AreNamed globals frame c
     expression_named Typing.number = tt
-    expression_named (Typing.variable v) = named v
-    expression_named (Typing.sum {sign = sign} {c = c} h rest) = (signed (module_scope vs) (frame_scope ps) sign c (expression_named h), operands_named rest)
+    expression_named (Typing.variable {name = name} {t = t} {d = d} v) = names name t d v
+    expression_named (Typing.sum {sign = sign} {c = c} h rest) = (signed globals frame sign c (expression_named h), operands_named rest)
 
-    operands_named : {xs : Tree.Operands} {cs : Operations} → AreOperands env xs cs → AreNamedBehind (module_scope vs) (frame_scope ps) cs
+    operands_named : {xs : Tree.Operands} {cs : Operations} → AreOperands env xs cs → AreNamedBehind globals frame cs
     operands_named Typing.none = tt
     operands_named (Typing.more o h rest) = (expression_named h, operands_named rest)
 
-  statements_named : {ss : Tree.Stmts} {cs : Statements} → AreStatements env ss cs → StatementsNamed (module_scope vs) (frame_scope ps) cs
+  statements_named : {ss : Tree.Stmts} {cs : Statements} → AreStatements env ss cs → StatementsNamed globals frame cs
   statements_named Typing.none = tt
   statements_named (Typing.empty h) = statements_named h
   statements_named (Typing.more s h) = (statement_named s, statements_named h)
     where
-      statement_named : {s : Tree.Stmt} {c : Statement} → IsStatement env s c → StatementNamed (module_scope vs) (frame_scope ps) c
-      statement_named (Typing.assign {t = t} {d = d} v h) = (as_integer (module_scope vs) (frame_scope ps) t d (named v), expression_named h)
+      statement_named : {s : Tree.Stmt} {c : Statement} → IsStatement env s c → StatementNamed globals frame c
+      statement_named (Typing.assign {name = name} {t = t} {d = d} v h) = (as_integer globals frame t d (names name t d v), expression_named h)
+
+  body_named : {body : Option Tree.Stmts} {cs : Statements} → IsBody env body cs → StatementsNamed globals frame cs
+  body_named Typing.none = tt
+  body_named (Typing.some h) = statements_named h
+
+-- a variable of the module, where its body stands
+module_named : (vs : List Variable) (env : Environment) → GlobalEnv vs env → (name : Tree.Name) (t : DataType) (d : Designator) → IsVariable env name t d → IsNamed (module_scope vs) [] t d
+module_named vs env g name t d (Typing.of_module h) = outer (or_some (g.scope name.text) _ (ModuleVariable t) (sym (ap (λ (e : Environment). found e name.text) g.is) ∙ h))
+  where
+    outer : (g.scope name.text ≡ Some (ModuleVariable t)) ⊎ ((g.scope name.text ≡ None) × (or_else (outermost name.text) None ≡ Some (ModuleVariable t))) → slot_of (module_scope vs) name.text ≡ Some (Own t)
+    outer (inl e) = g.covers.known name.text t e
+    outer (inr e) = let type' = no_variable name.text (ModuleVariable t) e.1 in absurd (cc)
+module_named vs env g name t d (Typing.own h) = absurd (outer (or_some (g.scope name.text) _ (LocalVariable (Declared.level env) t) (sym (ap (λ (e : Environment). found e name.text) g.is) ∙ h)))
+  where
+    outer : (g.scope name.text ≡ Some (LocalVariable (Declared.level env) t)) ⊎ ((g.scope name.text ≡ None) × (or_else (outermost name.text) None ≡ Some (LocalVariable (Declared.level env) t))) → ⊥
+    outer (inl e) = g.covers.none_local name.text _ t e
+    outer (inr e) = let type' = no_variable name.text (LocalVariable (Declared.level env) t) e.1 in absurd (cc)
 
 -- ---- procedures and modules
 
-body_named : {vs : List Variable} {ps : List Parameter} {env : Environment} {body : Option Tree.Stmts} {cs : Statements} → BodyEnv vs ps env → IsBody env body cs → StatementsNamed (module_scope vs) (frame_scope ps) cs
-body_named b Typing.none = tt
-body_named {vs = vs} {ps = ps} {env = env} b (Typing.some h) = statements_named vs ps env b h
+procedure_body_named : {vs : List Variable} {ps : List Parameter} {env : Environment} {body : Option Tree.Stmts} {cs : Statements} → BodyEnv vs ps env → IsBody env body cs → StatementsNamed (module_scope vs) (frame_scope ps) cs
+procedure_body_named {vs = vs} {ps = ps} {env = env} b h = body_named (module_scope vs) (frame_scope ps) env (λ name t d v. named vs ps env b v) h
 
 nothing_local : CoversOwn no_names (frame_scope [])
 nothing_local = record { known = λ name l t h. absurd (cc); new = λ name h. refl; none_global = λ name t h. absurd (cc); distinct = tt }
@@ -321,12 +339,27 @@ procedures_named {env = env} {n = n} vs (Typing.procedure {within = within} {hea
       is = ap (λ (w : Environment). inner_scope w (declared env name object)) l.is ∙ ap (λ (e : Environment). l.scope ∷ e) further.is;
       covers = l.covers;
     } in
-    ((l.covers.distinct, body_named (record { around = around; local = local; covers = further.covers }) body), procedures_named vs others further)
+    ((l.covers.distinct, procedure_body_named (record { around = around; local = local; covers = further.covers }) body), procedures_named vs others further)
+
+-- procedures add no variable
+procedures_global : {env after : Environment} {n : ℕ} {xs : Tree.Procedures} {qs : List Procedure} (vs : List Variable) → DeclaresProcedures env n xs after qs → GlobalEnv vs env → GlobalEnv vs after
+procedures_global vs Typing.none g = g
+procedures_global {env = env} {n = n} vs (Typing.procedure {heading = heading} {parameters = ps} new parameters limit nothing body others) g =
+    let name = heading.name.text in
+    let object : Object = ProcedureName n (map formal_of ps) in
+    let fresh : g.scope name ≡ None = subst (λ (e : Environment). IsNew e name) g.is new in
+    procedures_global vs others
+    (record { scope = with_name g.scope name object; is = ap (λ (e : Environment). declared e name object) g.is; covers = procedure_more g.scope (module_scope vs) name fresh g.covers n (map formal_of ps) })
+
+declared_global : {after : Environment} {d : Tree.Declarations} {vs : List Variable} {ps : List Procedure} → Declares opening_names d after vs ps → GlobalEnv vs after
+declared_global (Typing.declarations {vs = vs} c t v p) =
+    procedures_global vs p (variables_global [] v (record { scope = no_names; is = refl; covers = nothing_global }))
 
 -- a well-typed program has distinct names, each of them in its scope
 pub record IsNamedProgram (program : Program) : Type 0 where
   pub distinct : IsDistinct (module_scope program.variables)
   pub procedures : ProceduresNamed program.variables program.procedures
+  pub body : StatementsNamed (module_scope program.variables) [] program.body
 
 declared_named : {after : Environment} {d : Tree.Declarations} {vs : List Variable} {ps : List Procedure} → Declares opening_names d after vs ps → IsDistinct (module_scope vs) × ProceduresNamed vs ps
 declared_named (Typing.declarations {vs = vs} c t v p) =
@@ -334,4 +367,10 @@ declared_named (Typing.declarations {vs = vs} c t v p) =
     (g.covers.distinct, procedures_named vs p g)
 
 pub typed_named : (m : Tree.Module) (program : Program) → WellTyped m program → IsNamedProgram program
-typed_named m program (Typing.well_typed d words limit body) = let named = declared_named d in record { distinct = named.0; procedures = named.1 }
+typed_named m program (Typing.well_typed {env = env} d words limit body) =
+    let named = declared_named d in
+    record {
+      distinct = named.0;
+      procedures = named.1;
+      body = body_named (module_scope program.variables) [] env (module_named program.variables env (declared_global d)) body;
+    }

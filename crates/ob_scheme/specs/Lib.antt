@@ -1,3 +1,4 @@
 pub mod Scheme
 pub mod Literals
 pub mod Correct
+pub mod Openings
