@@ -2,8 +2,9 @@
 use Rattle.std.specs.Prelude.{◌≡◌, ◌≢◌, ℕ, Bool, true, false, List}
 use Rattle.ob_check.specs.Exports.{signatures}
 use Rattle.ob_engine.specs.CodeMeaning.{EngineParts, code_meaning}
-use Rattle.ob_engine.specs.Compiled.{IsFitting, HasReserve, IsLawfulBlock}
-use Rattle.ob_layout.specs.Encoding.{encoded}
+use Rattle.ob_engine.specs.Compiled.{IsCompiled, IsFitting, HasReserve, IsLawfulBlock}
+use Rattle.ob_layout.specs.Encoding.{IsStateOf, encoded}
+use Rattle.ob_layout.specs.Layout.{layout_of}
 use Rattle.ob_object.specs.Compilation as Compilation
 use Rattle.ob_object.specs.Compilation.{ObjectParts, IsCompilation, IsCompileFault}
 use Rattle.ob_object.specs.declared.compiling.CompileFault.{CompileFault}
@@ -20,9 +21,19 @@ use Rattle.ob_text.specs.Script.{ScriptCall, IsScript, IsScriptFault}
 use Rattle.ob_text.specs.declared.script.ScriptFault.{ScriptFault}
 use Rattle.ob_text.specs.declared.script.ScriptFault.TheVariants as Script
 use Rattle.wf_history.specs.OfModule.{IsLegalOrder}
-use Rattle.wf_play.specs.Played.{IsTooLong, scripts_of}
-use Rattle.wf_play.specs.Played.{IsPlayFault}
+use Rattle.wf_play.specs.Played.{IsPlayFault, scripts_of}
+use Rattle.wf_play.specs.declared.playing.PlayFault.{PlayFault}
 use Rattle.wf_play.specs.declared.playing.PlayFault.TheVariants as Play
+
+-- what a run needs of an object: the layout and the engine are those of its program, and it opens with values of its variables
+pub record IsSoundObject (o : ObjectParts) : Type 0 where
+  pub layout_is : o.layout ≡ layout_of o.program
+  pub compiled : IsCompiled o.program o.engine
+  pub typed : IsStateOf o.program.variables o.opening
+
+-- why there is no run of these calls and items on an object
+abbrev pub IsRunFault : ObjectParts → List ScriptCall → List Item → PlayFault → Type 0
+IsRunFault o calls items fault = IsPlayFault (code_meaning o.engine) (HasReserve o.engine) o.processes (encoded o.opening) (scripts_of calls) items fault
 
 -- a record shows a run of these calls and items on an object
 abbrev pub Shows : ObjectParts → List ScriptCall → List Item → Record → Type 0
@@ -55,7 +66,7 @@ pub record PassesLimit (text : List ℕ) (n : ℕ) (scripts schedule : List ℕ)
   pub calls_are : IsScript (signatures object.program) n scripts calls
   pub items : List Item
   pub items_are : IsSchedule n schedule items
-  pub long : IsPlayFault (code_meaning object.engine) (HasReserve object.engine) n (encoded object.opening) (scripts_of calls) items (Play.TooLong number)
+  pub long : IsRunFault object calls items (Play.TooLong number)
 
 -- what each fault says
 abbrev pub IsPerformFault : (text : List ℕ) (n : ℕ) (scripts schedule : List ℕ) → PerformFault → Type 0
@@ -78,6 +89,11 @@ of_script e = Faults.Script e
 abbrev pub of_schedule : ScheduleFault → PerformFault
 of_schedule Schedule.NoMemory = Faults.NoMemory
 of_schedule e = Faults.Schedule e
+
+abbrev pub of_play : PlayFault → PerformFault
+of_play Play.Processes = Faults.Compile Compile.Processes
+of_play (Play.TooLong number) = Faults.TooLong number
+of_play Play.NoMemory = Faults.NoMemory
 
 -- want of memory is told by its own variant alone
 abbrev pub TellsMemoryApart : PerformFault → Type 0

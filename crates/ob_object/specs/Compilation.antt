@@ -6,6 +6,7 @@ use Rattle.ob_code.specs.declared.fault.CodeFault.{CodeFault}
 use Rattle.ob_code.specs.declared.fault.CodeFault.TheVariants as Code
 use Rattle.ob_engine.specs.CodeMeaning.{EngineParts}
 use Rattle.ob_engine.specs.Compiled.{IsCompiled}
+use Rattle.ob_layout.specs.Encoding.{IsStateOf}
 use Rattle.ob_layout.specs.Layout.{LayoutParts, layout_of}
 use Rattle.ob_mean.specs.Faults.{IsOpenFault}
 use Rattle.ob_mean.specs.Object.{State, IsOpening}
@@ -45,8 +46,9 @@ pub record IsCompilation (text : List ℕ) (n : ℕ) (o : ObjectParts) : Type 0 
   pub is_module : IsModule text o.program
   pub layout_is : o.layout ≡ layout_of o.program
   pub short : IsShort o.program
-  pub compiled : ∥ IsCompiled o.program o.engine ∥₁
+  pub compiled : IsCompiled o.program o.engine
   pub opens : IsOpening o.program TURNS o.opening
+  pub typed : IsStateOf o.program.variables o.opening
 
 abbrev pub HasNoObject : List ℕ → ℕ → Type 0
 HasNoObject text n = (o : ObjectParts) → IsCompilation text n o → ⊥

@@ -1,17 +1,26 @@
 //! Runs from texts.
 
-ghost use Rattle.std.specs.Prelude.{◌≡◌, IfOk, IfErr};
+ghost use Rattle.std.specs.Prelude.{◌≡◌, ◌<◌, All, IfOk, IfErr, map};
 ghost use Rattle.ob_check.specs.CheckedModule.{program_in};
+ghost use Rattle.ob_check.specs.Exports.{signatures};
 ghost use Rattle.ob_check.specs.ModuleText.{IsModule};
-ghost use Rattle.ob_object.specs.Performance.{IsPerformance, IsPerformFault, TellsMemoryApart};
-ghost use Rattle.ob_record.specs.Record.{record_of};
+ghost use Rattle.ob_engine.specs.Compiled.{IsFitting};
+ghost use Rattle.ob_mean.specs.View.{state_of};
+ghost use Rattle.ob_object.specs.Performance.{IsPerformance, IsPerformFault, IsRunFault, IsSoundObject, Shows, TellsMemoryApart};
+ghost use Rattle.ob_object.specs.View.{object_in};
+ghost use Rattle.ob_record.specs.Record.{AreOfExports, record_of};
+ghost use Rattle.ob_schedule.specs.Schedule.{process_of};
+ghost use Rattle.ob_text.specs.ScriptView.{script_call_of};
+ghost use Rattle.wf_history.specs.OfModule.{IsLegalOrder};
+ghost use Rattle.wf_play.specs.Played.{object_call};
 
-use crate::compiling::{CompileFault, compile};
+use crate::compiling::{CompileFault, Object, compile};
 use ob_check::checked::Checked;
+use ob_engine::laws::effect_is_called;
 use ob_record::Record;
 use ob_run::record_run;
-use ob_schedule::{ScheduleFault, read_schedule};
-use ob_text::script::{ScriptFault, read_scripts};
+use ob_schedule::{Item, ScheduleFault, read_schedule};
+use ob_text::script::{ScriptCall, ScriptFault, read_scripts};
 use std::alloc::Global;
 use thiserror::Error;
 use wf_play::PlayFault;
@@ -34,6 +43,7 @@ pub enum PerformFault {
 }
 
 impl From<CompileFault> for PerformFault {
+    ghost use Rattle.std.specs.Prelude.{◌≡◌};
     ghost use Rattle.ob_object.specs.Performance.{of_compile};
 
     ghost from_gives = { λ e f. f ≡ of_compile e };
@@ -47,6 +57,7 @@ impl From<CompileFault> for PerformFault {
 }
 
 impl From<ScriptFault> for PerformFault {
+    ghost use Rattle.std.specs.Prelude.{◌≡◌};
     ghost use Rattle.ob_object.specs.Performance.{of_script};
 
     ghost from_gives = { λ e f. f ≡ of_script e };
@@ -60,6 +71,7 @@ impl From<ScriptFault> for PerformFault {
 }
 
 impl From<ScheduleFault> for PerformFault {
+    ghost use Rattle.std.specs.Prelude.{◌≡◌};
     ghost use Rattle.ob_object.specs.Performance.{of_schedule};
 
     ghost from_gives = { λ e f. f ≡ of_schedule e };
@@ -68,6 +80,21 @@ impl From<ScheduleFault> for PerformFault {
         match fault {
             ScheduleFault::NoMemory => PerformFault::NoMemory,
             other => PerformFault::Schedule(other),
+        }
+    }
+}
+
+impl From<PlayFault> for PerformFault {
+    ghost use Rattle.std.specs.Prelude.{◌≡◌};
+    ghost use Rattle.ob_object.specs.Performance.{of_play};
+
+    ghost from_gives = { λ e f. f ≡ of_play e };
+
+    fn from(fault: PlayFault) -> PerformFault {
+        match fault {
+            PlayFault::Processes => PerformFault::Compile(CompileFault::Processes),
+            PlayFault::TooLong(number) => PerformFault::TooLong(number),
+            PlayFault::NoMemory => PerformFault::NoMemory,
         }
     }
 }
@@ -98,17 +125,35 @@ pub fn performed(
 ) -> Result<(Checked, Record), PerformFault>
     ensures module { IfOk result (λ r. IsModule text.now (program_in r.0)) }
     ensures performance { IfOk result (λ r. IsPerformance text.now n scripts.now schedule.now (record_of r.1)) }
+    ensures exports { IfOk result (λ r. AreOfExports (signatures (program_in r.0)) r.1.history) }
     ensures fault { IfErr result (IsPerformFault text.now n scripts.now schedule.now) }
     ensures memory { IfErr result TellsMemoryApart }
 {
     let object = compile(alloc, text, n)?;
     let calls = read_scripts(alloc, object.checked(), n, scripts)?.into_calls();
     let items = read_schedule(alloc, n, schedule)?;
-    let (_, checked, layout, engine, opening) = object.into_parts();
-    match record_run(alloc, engine, n, &layout, &opening, calls, items.as_slice()) {
-        Ok(record) => Ok((checked, record)),
-        Err(PlayFault::Processes) => Err(PerformFault::Compile(CompileFault::Processes)),
-        Err(PlayFault::TooLong(number)) => Err(PerformFault::TooLong(number)),
-        Err(PlayFault::NoMemory) => Err(PerformFault::NoMemory),
-    }
+    Ok(run_on(alloc, object, calls, items.as_slice())?)
+}
+
+/// A run of calls and items on an object: its checked module, and the record.
+fn run_on(
+    alloc: Global,
+    object: Object,
+    calls: Vec<ScriptCall>,
+    items: &[Item],
+) -> Result<(Checked, Record), PlayFault>
+    requires sound { IsSoundObject (object_in object) }
+    requires callers { All (λ c. c.process < (object_in object).processes) calls.items }
+    requires fits { All (λ c. IsFitting (object_in object).engine (object_call (script_call_of c))) calls.items }
+    requires items { All (λ item. process_of item < (object_in object).processes) items.now }
+    ensures program { IfOk result (λ r. program_in r.0 ≡ (object_in object).program) }
+    ensures shows { IfOk result (λ r. Shows (object_in object) (map script_call_of calls.items) items.now (record_of r.1)) }
+    ensures legal { IfOk result (λ r. ∥ IsLegalOrder (object_in object).program (object_in object).opening r.1.history r.1.order.items (state_of r.1.state) ∥₁) }
+    ensures exports { IfOk result (λ r. AreOfExports (signatures (object_in object).program) r.1.history) }
+    ensures fault { IfErr result (IsRunFault (object_in object) (map script_call_of calls.items) items.now) }
+{
+    effect_is_called();
+    let (processes, checked, layout, engine, opening) = object.into_parts();
+    let record = record_run(alloc, engine, processes, &layout, &opening, calls, items)?;
+    Ok((checked, record))
 }

@@ -1,0 +1,5 @@
+pub mod CompileFaults
+pub mod ScriptFits
+pub mod Objects
+pub mod Runs
+pub mod PerformFaults
