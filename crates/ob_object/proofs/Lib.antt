@@ -3,3 +3,4 @@ pub mod ScriptFits
 pub mod Objects
 pub mod Runs
 pub mod PerformFaults
+pub mod NoPerformance

@@ -40,6 +40,11 @@ abbrev pub Shows : ObjectParts → List ScriptCall → List Item → Record → 
 Shows o calls items r =
     IsRecorded (code_meaning o.engine) (IsLawfulBlock o.engine) (IsFitting o.engine) (HasReserve o.engine) o.processes (encoded o.opening) (scripts_of calls) items r
 
+-- where an item is too long, no record shows a run
+abbrev pub ShowsNone : ObjectParts → List ScriptCall → List Item → PlayFault → Type 0
+ShowsNone o calls items (Play.TooLong number) = (r : Record) → Shows o calls items r → ⊥
+ShowsNone o calls items _ = Unit {0}
+
 -- Of the texts of a module, of scripts and of a schedule, for n processes: the record shows a run of the module's object, and
 -- its order is a legal order of its history by the meaning of the module, from the opening state to the record's state.
 pub record IsPerformance (text : List ℕ) (n : ℕ) (scripts schedule : List ℕ) (r : Record) : Type 0 where
@@ -76,6 +81,14 @@ IsPerformFault text n scripts schedule (Faults.Schedule e) = IsScheduleFault n s
 IsPerformFault text n scripts schedule (Faults.TooLong number) = PassesLimit text n scripts schedule number
 IsPerformFault text n scripts schedule Faults.NoMemory = Unit {0}
 
+-- the texts have no run
+abbrev pub HasNoPerformance : (text : List ℕ) (n : ℕ) (scripts schedule : List ℕ) → Type 0
+HasNoPerformance text n scripts schedule = (r : Record) → IsPerformance text n scripts schedule r → ⊥
+
+abbrev pub is_want_of_memory : PerformFault → Bool
+is_want_of_memory Faults.NoMemory = true
+is_want_of_memory _ = false
+
 -- want of memory is told in one place
 
 abbrev pub of_compile : CompileFault → PerformFault
@@ -101,3 +114,7 @@ TellsMemoryApart (Faults.Compile e) = Compilation.TellsMemoryApart e × (e ≢ C
 TellsMemoryApart (Faults.Script e) = e ≢ Script.NoMemory
 TellsMemoryApart (Faults.Schedule e) = e ≢ Schedule.NoMemory
 TellsMemoryApart _ = Unit {0}
+
+-- a fault with a number, so no want of memory
+abbrev pub IsNumbered : PerformFault → Type 0
+IsNumbered fault = (is_want_of_memory fault ≡ false) × TellsMemoryApart fault

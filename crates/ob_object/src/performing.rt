@@ -6,7 +6,7 @@ ghost use Rattle.ob_check.specs.Exports.{signatures};
 ghost use Rattle.ob_check.specs.ModuleText.{IsModule};
 ghost use Rattle.ob_engine.specs.Compiled.{IsFitting};
 ghost use Rattle.ob_mean.specs.View.{state_of};
-ghost use Rattle.ob_object.specs.Performance.{IsPerformance, IsPerformFault, IsRunFault, IsSoundObject, Shows, TellsMemoryApart};
+ghost use Rattle.ob_object.specs.Performance.{HasNoPerformance, IsNumbered, IsPerformance, IsPerformFault, IsRunFault, IsSoundObject, Shows, ShowsNone, TellsMemoryApart};
 ghost use Rattle.ob_object.specs.View.{object_in};
 ghost use Rattle.ob_record.specs.Record.{AreOfExports, record_of};
 ghost use Rattle.ob_schedule.specs.Schedule.{process_of};
@@ -16,6 +16,7 @@ ghost use Rattle.wf_play.specs.Played.{object_call};
 
 use crate::compiling::{CompileFault, Object, compile};
 use ob_check::checked::Checked;
+use ob_engine::CodeEngine;
 use ob_engine::laws::effect_is_called;
 use ob_record::Record;
 use ob_run::record_run;
@@ -24,6 +25,7 @@ use ob_text::script::{ScriptCall, ScriptFault, read_scripts};
 use std::alloc::Global;
 use thiserror::Error;
 use wf_play::PlayFault;
+use wf_play::laws::too_long_items_are_no_run;
 
 /// Why there is no run: the first fault, in the order of the variants.
 #[derive(Clone, Copy, Debug, PartialEq, Eq, Error)]
@@ -109,6 +111,11 @@ pub fn perform(
 ) -> Result<Record, PerformFault>
     ensures performance { IfOk result (λ r. IsPerformance text.now n scripts.now schedule.now (record_of r)) }
     ensures fault { IfErr result (IsPerformFault text.now n scripts.now schedule.now) }
+
+    // With a fault that has a number the texts have no run.
+    ensures none { IfErr result (λ e. IsNumbered e → HasNoPerformance text.now n scripts.now schedule.now) }
+
+    // Want of memory is told by its own variant alone.
     ensures memory { IfErr result TellsMemoryApart }
 {
     let (_, record) = performed(alloc, text, n, scripts, schedule)?;
@@ -127,6 +134,11 @@ pub fn performed(
     ensures performance { IfOk result (λ r. IsPerformance text.now n scripts.now schedule.now (record_of r.1)) }
     ensures exports { IfOk result (λ r. AreOfExports (signatures (program_in r.0)) r.1.history) }
     ensures fault { IfErr result (IsPerformFault text.now n scripts.now schedule.now) }
+
+    // With a fault that has a number the texts have no run.
+    ensures none { IfErr result (λ e. IsNumbered e → HasNoPerformance text.now n scripts.now schedule.now) }
+
+    // Want of memory is told by its own variant alone.
     ensures memory { IfErr result TellsMemoryApart }
 {
     let object = compile(alloc, text, n)?;
@@ -151,8 +163,10 @@ fn run_on(
     ensures legal { IfOk result (λ r. ∥ IsLegalOrder (object_in object).program (object_in object).opening r.1.history r.1.order.items (state_of r.1.state) ∥₁) }
     ensures exports { IfOk result (λ r. AreOfExports (signatures (object_in object).program) r.1.history) }
     ensures fault { IfErr result (IsRunFault (object_in object) (map script_call_of calls.items) items.now) }
+    ensures none { IfErr result (ShowsNone (object_in object) (map script_call_of calls.items) items.now) }
 {
     effect_is_called();
+    too_long_items_are_no_run::<CodeEngine>();
     let (processes, checked, layout, engine, opening) = object.into_parts();
     let record = record_run(alloc, engine, processes, &layout, &opening, calls, items)?;
     Ok((checked, record))
