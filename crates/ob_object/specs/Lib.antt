@@ -1,3 +1,3 @@
 pub mod Compilation
-pub mod Performance
+pub mod CompilationParts
 pub mod View

@@ -1,2 +1,2 @@
 pub mod CompileFaults
-pub mod ScriptFits
+pub mod TypedOpenings
