@@ -4,7 +4,6 @@ ghost use Rattle.std.specs.Prelude.{◌≡◌, ◌<◌, ◌≤◌, ◌⊎◌, �
 ghost use Rattle.ob_check.specs.CheckedModule.{program_in};
 ghost use Rattle.ob_check.specs.ModuleText.{IsModule};
 ghost use Rattle.ob_check.specs.Program.{Program};
-ghost use Rattle.ob_object.specs.View.{object_in};
 ghost use Rattle.ob_engine.specs.Compiled.{parts_of};
 ghost use Rattle.ob_engine.specs.Parts.{parts_in};
 ghost use Rattle.ob_layout.specs.Encoding.{IsStateOf};
@@ -13,6 +12,7 @@ ghost use Rattle.ob_mean.specs.Object.{IsOpening};
 ghost use Rattle.ob_mean.specs.View.{state_of};
 ghost use Rattle.ob_object.specs.Compilation.{IsCompilation, IsCompileFault, IsNumbered, IsShort, HasNoObject, TellsMemoryApart};
 ghost use Rattle.ob_object.specs.CompilationParts.{IsEngineFault, IsOpeningFault};
+ghost use Rattle.ob_object.specs.View.{object_in};
 ghost use Rattle.ob_scheme.specs.Literals.{ProceduresLiteralsFit};
 
 use ob_check::checked::Checked;
@@ -227,6 +227,7 @@ fn opening_of(alloc: Global, checked: &Checked) -> Result<State, CompileFault>
     ensures fault { IfErr result (IsOpeningFault (program_in checked.now)) }
 {
     let state = opening(alloc, checked, TURNS)?;
+    // Both do nothing: since the body's literals are in the range of INTEGER, its variables are.
     literals_fit(checked.program().body.as_slice());
     opening_is_typed();
     Ok(state)
