@@ -36,18 +36,23 @@ pub struct CodeEngine {
 }
 
 impl CodeEngine {
-    ghost use Rattle.std.specs.Prelude.{◌<◌, IfOk, length, option_map, slice_get};
+    ghost use Rattle.std.specs.Prelude.{◌<◌, ◌≤◌, IfOk, OnOk, length, option_map, slice_get};
     ghost use Rattle.ob_check.specs.CheckedModule.{program_in};
     ghost use Rattle.ob_layout.specs.Layout.{layout_of};
+    ghost use Rattle.ob_scheme.specs.Literals.{ProceduresLiteralsFit};
     ghost use Rattle.ob_scheme.specs.Scheme.{code_of};
     ghost use Rattle.ob_code.specs.declared.fault.CodeFault as CodeFault;
     ghost use Rattle.ob_engine.specs.CodeMeaning as Words;
+    ghost use Rattle.ob_engine.specs.Compiled.{parts_of};
     ghost use Rattle.ob_engine.specs.Parts.{parts_in};
 
     /// The engine of a checked module, by its layout.
     pub fn of(alloc: Global, checked: &Checked, layout: &Layout) -> Result<CodeEngine, CodeFault>
         requires { layout.now ≡ layout_of (program_in checked.now) }
         ensures compiled { IfOk result (λ e. ∥ IsCompiled (program_in checked.now) (parts_in e) ∥₁) }
+        ensures parts { IfOk result (λ e. parts_in e ≡ parts_of (program_in checked.now)) }
+        ensures literals { OnOk result (ProceduresLiteralsFit (program_in checked.now).procedures) }
+        ensures fits { OnOk result (length (code_of (program_in checked.now)).instructions ≤ 65535) }
         ensures too_long { result ≡ Err CodeFault.TooLong → 65535 < length (code_of (program_in checked.now)).instructions }
     {
         let code = generate(alloc, checked, layout)?;

@@ -1,4 +1,5 @@
 pub mod CompileFaults
+pub mod TypedOpenings
 pub mod ScriptFits
 pub mod Objects
 pub mod Runs

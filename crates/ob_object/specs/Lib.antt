@@ -1,3 +1,4 @@
 pub mod Compilation
-pub mod Performance
+pub mod CompilationParts
 pub mod View
+pub mod Performance

@@ -1,25 +1,33 @@
 //! The object of a module's text.
 
-ghost use Rattle.std.specs.Prelude.{◌≡◌, IfOk, IfErr, OnOk};
+ghost use Rattle.std.specs.Prelude.{◌≡◌, ◌<◌, ◌≤◌, ◌⊎◌, ◌↔◌, Err, IfOk, IfErr, OnOk, length};
 ghost use Rattle.ob_check.specs.CheckedModule.{program_in};
 ghost use Rattle.ob_check.specs.ModuleText.{IsModule};
 ghost use Rattle.ob_check.specs.Program.{Program};
-ghost use Rattle.ob_object.specs.View.{object_in};
-ghost use Rattle.ob_engine.specs.Compiled.{IsCompiled};
+ghost use Rattle.ob_engine.specs.Compiled.{parts_of};
 ghost use Rattle.ob_engine.specs.Parts.{parts_in};
+ghost use Rattle.ob_layout.specs.Encoding.{IsStateOf};
 ghost use Rattle.ob_layout.specs.Layout.{layout_of};
 ghost use Rattle.ob_mean.specs.Object.{IsOpening};
 ghost use Rattle.ob_mean.specs.View.{state_of};
-ghost use Rattle.ob_object.specs.Compilation.{IsCompilation, IsCompileFault, IsEngineFault, IsOpeningFault, IsShort, IsNumbered, HasNoObject, TellsMemoryApart};
+ghost use Rattle.ob_object.specs.Compilation.{IsCompilation, IsCompileFault, IsNumbered, IsShort, HasNoObject, TellsMemoryApart};
+ghost use Rattle.ob_object.specs.CompilationParts.{IsEngineFault, IsOpeningFault};
+ghost use Rattle.ob_object.specs.View.{object_in};
+ghost use Rattle.ob_scheme.specs.Literals.{ProceduresLiteralsFit};
 
 use ob_check::checked::Checked;
 use ob_code::CodeFault;
 use ob_engine::CodeEngine;
+use ob_generate::literals_fit;
 use ob_grammar::NoMemory;
 use ob_layout::Layout;
 use ob_mean::opening::{OpenFault, opening};
 use ob_mean::state::State;
-use ob_opened::{ModuleFault, TURNS, checked_module};
+use ob_opened::checked_text::{TextFault, checked_text};
+use ob_opened::opened::TURNS;
+use ob_scan::ScanFault;
+use ob_scan::scanner::LONGEST_TEXT;
+use ob_scheme::laws::opening_is_typed;
 use std::alloc::Global;
 use thiserror::Error;
 
@@ -32,12 +40,13 @@ pub enum CompileFault {
     /// N1: the number of processes is not 1 to 16.
     #[error("N1")]
     Processes,
-    /// A fault of the text, but none of its opening.
+    /// The text is no module.
     #[error("{0}")]
-    Module(ModuleFault),
+    Text(TextFault),
     /// G1: the code has over 65,535 instructions.
     #[error("G1")]
     TooLong,
+    /// O2, O3: the module has no opening state.
     #[error("{0}")]
     Open(OpenFault),
     /// Want of memory.
@@ -45,25 +54,23 @@ pub enum CompileFault {
     NoMemory,
 }
 
-impl From<ModuleFault> for CompileFault {
+impl From<TextFault> for CompileFault {
     ghost use Rattle.std.specs.Prelude.{◌≡◌};
-    ghost use Rattle.ob_object.specs.View.{object_in};
-    ghost use Rattle.ob_object.specs.Compilation.{of_module};
+    ghost use Rattle.ob_object.specs.CompilationParts.{of_text};
 
-    ghost from_gives = { λ e f. f ≡ of_module e };
+    ghost from_gives = { λ e f. f ≡ of_text e };
 
-    fn from(fault: ModuleFault) -> CompileFault {
+    fn from(fault: TextFault) -> CompileFault {
         match fault {
-            ModuleFault::NoMemory => CompileFault::NoMemory,
-            other => CompileFault::Module(other),
+            TextFault::NoMemory => CompileFault::NoMemory,
+            other => CompileFault::Text(other),
         }
     }
 }
 
 impl From<CodeFault> for CompileFault {
     ghost use Rattle.std.specs.Prelude.{◌≡◌};
-    ghost use Rattle.ob_object.specs.View.{object_in};
-    ghost use Rattle.ob_object.specs.Compilation.{of_code};
+    ghost use Rattle.ob_object.specs.CompilationParts.{of_code};
 
     ghost from_gives = { λ e f. f ≡ of_code e };
 
@@ -77,8 +84,7 @@ impl From<CodeFault> for CompileFault {
 
 impl From<OpenFault> for CompileFault {
     ghost use Rattle.std.specs.Prelude.{◌≡◌};
-    ghost use Rattle.ob_object.specs.View.{object_in};
-    ghost use Rattle.ob_object.specs.Compilation.{of_open};
+    ghost use Rattle.ob_object.specs.CompilationParts.{of_open};
 
     ghost from_gives = { λ e f. f ≡ of_open e };
 
@@ -174,6 +180,7 @@ impl Object {
 pub fn compile(alloc: Global, text: &[u8], n: usize) -> Result<Object, CompileFault>
     ensures object { IfOk result (λ o. IsCompilation text.now n (object_in o)) }
     ensures alone { IfOk result (λ o. (other : Program) → IsModule text.now other → other ≡ (object_in o).program) }
+    ensures processes { (result ≡ Err CompileFault.Processes) ↔ ((n ≡ 0) ⊎ (MOST_PROCESSES < n)) }
     ensures fault { IfErr result (IsCompileFault text.now n) }
 
     // With a fault that has a number there is no object of this text for so many processes.
@@ -181,40 +188,47 @@ pub fn compile(alloc: Global, text: &[u8], n: usize) -> Result<Object, CompileFa
 
     // Want of memory is told by its own variant alone.
     ensures memory { IfErr result TellsMemoryApart }
+
+    // A text over the scanner's bound is refused, whatever it says.
+    ensures too_long { 0 < n → n ≤ MOST_PROCESSES → LONGEST_TEXT < length text.now → result ≡ Err (CompileFault.Text (TextFault.Scan ScanFault.TooLong)) }
 {
     if n == 0 || n > MOST_PROCESSES {
         return Err(CompileFault::Processes);
     }
-    let checked = checked_module(alloc, text)?;
-    let code = engine_of(alloc, &checked)?;
-    let state = opening_of(alloc, &checked)?;
+    let checked = checked_text(alloc, text)?;
+    let (layout, engine) = engine_of(alloc, &checked)?;
+    let opening = opening_of(alloc, &checked)?;
     Ok(Object {
         processes: n,
         checked,
-        layout: code.0,
-        engine: code.1,
-        opening: state,
+        layout,
+        engine,
+        opening,
     })
 }
 
 /// The layout of a checked module, and the engine over its code.
 fn engine_of(alloc: Global, checked: &Checked) -> Result<(Layout, CodeEngine), CompileFault>
     ensures layout { IfOk result (λ r. r.0 ≡ layout_of (program_in checked.now)) }
-    ensures compiled { IfOk result (λ r. ∥ IsCompiled (program_in checked.now) (parts_in r.1) ∥₁) }
+    ensures parts { IfOk result (λ r. parts_in r.1 ≡ parts_of (program_in checked.now)) }
+    ensures literals { OnOk result (ProceduresLiteralsFit (program_in checked.now).procedures) }
     ensures short { OnOk result (IsShort (program_in checked.now)) }
     ensures fault { IfErr result (IsEngineFault (program_in checked.now)) }
 {
     let layout = Layout::of(alloc, checked)?;
     let engine = CodeEngine::of(alloc, checked, &layout)?;
-    // Code is never longer than a place can count.
-    let _ = engine.code().instructions();
     Ok((layout, engine))
 }
 
 /// The opening state of a checked module.
 fn opening_of(alloc: Global, checked: &Checked) -> Result<State, CompileFault>
     ensures state { IfOk result (λ s. IsOpening (program_in checked.now) TURNS (state_of s)) }
+    ensures typed { IfOk result (λ s. IsStateOf (program_in checked.now).variables (state_of s)) }
     ensures fault { IfErr result (IsOpeningFault (program_in checked.now)) }
 {
-    Ok(opening(alloc, checked, TURNS)?)
+    let state = opening(alloc, checked, TURNS)?;
+    // Both do nothing: since the body's literals are in the range of INTEGER, its variables are.
+    literals_fit(checked.program().body.as_slice());
+    opening_is_typed();
+    Ok(state)
 }

@@ -1,1 +1,2 @@
 pub mod NoModule
+pub mod NoText
