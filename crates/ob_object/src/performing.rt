@@ -1,6 +1,6 @@
 //! Runs from texts.
 
-ghost use Rattle.std.specs.Prelude.{◌≡◌, ◌<◌, All, IfOk, IfErr, map};
+ghost use Rattle.std.specs.Prelude.{◌≡◌, ◌<◌, ◌≤◌, All, Err, IfOk, IfErr, length, map};
 ghost use Rattle.ob_check.specs.CheckedModule.{program_in};
 ghost use Rattle.ob_check.specs.Exports.{signatures};
 ghost use Rattle.ob_check.specs.ModuleText.{IsModule};
@@ -14,12 +14,15 @@ ghost use Rattle.ob_text.specs.ScriptView.{script_call_of};
 ghost use Rattle.wf_history.specs.OfModule.{IsLegalOrder};
 ghost use Rattle.wf_play.specs.Played.{object_call};
 
-use crate::compiling::{CompileFault, Object, compile};
+use crate::compiling::{CompileFault, MOST_PROCESSES, Object, compile};
 use ob_check::checked::Checked;
 use ob_engine::CodeEngine;
 use ob_engine::laws::effect_is_called;
+use ob_opened::checked_text::TextFault;
 use ob_record::Record;
 use ob_run::record_run;
+use ob_scan::ScanFault;
+use ob_scan::scanner::LONGEST_TEXT;
 use ob_schedule::{Item, ScheduleFault, read_schedule};
 use ob_text::script::{ScriptCall, ScriptFault, read_scripts};
 use std::alloc::Global;
@@ -117,6 +120,9 @@ pub fn perform(
 
     // Want of memory is told by its own variant alone.
     ensures memory { IfErr result TellsMemoryApart }
+
+    // A text over the scanner's bound is refused, whatever it says.
+    ensures too_long { 0 < n → n ≤ MOST_PROCESSES → LONGEST_TEXT < length text.now → result ≡ Err (PerformFault.Compile (CompileFault.Text (TextFault.Scan ScanFault.TooLong))) }
 {
     let (_, record) = performed(alloc, text, n, scripts, schedule)?;
     Ok(record)
@@ -140,6 +146,9 @@ pub fn performed(
 
     // Want of memory is told by its own variant alone.
     ensures memory { IfErr result TellsMemoryApart }
+
+    // A text over the scanner's bound is refused, whatever it says.
+    ensures too_long { 0 < n → n ≤ MOST_PROCESSES → LONGEST_TEXT < length text.now → result ≡ Err (PerformFault.Compile (CompileFault.Text (TextFault.Scan ScanFault.TooLong))) }
 {
     let object = compile(alloc, text, n)?;
     let calls = read_scripts(alloc, object.checked(), n, scripts)?.into_calls();
