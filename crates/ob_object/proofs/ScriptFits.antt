@@ -20,12 +20,11 @@ use Rattle.ob_text.specs.ExportNames.{Numbered, export_named, one_further}
 use Rattle.ob_text.specs.declared.script.ScriptCall.{ScriptCall}
 use Rattle.ob_text.specs.Script.{AreLines, IsScript, Makes, call, makes, none, skipped}
 use Rattle.ob_text.specs.Script as Script
-use Rattle.ob_text.specs.ScriptView.{script_call_of}
+use Rattle.ob_text.specs.ScriptView.{object_call, script_call_of}
 use Rattle.ob_text.specs.Values.{AreValues, IsValue, formals_of, is_of_mode}
 use Rattle.ob_text.specs.Values as Values
 use Rattle.ob_text.specs.Words.{Word, lines, words}
 use Rattle.ob_text.specs.Words as Words
-use Rattle.wf_play.specs.Played.{object_call}
 
 -- ---- the export of a name
 

@@ -10,9 +10,8 @@ ghost use Rattle.ob_object.specs.Performance.{HasNoPerformance, IsNumbered, IsPe
 ghost use Rattle.ob_object.specs.View.{object_in};
 ghost use Rattle.ob_record.specs.Record.{AreOfExports, record_of};
 ghost use Rattle.ob_schedule.specs.Schedule.{process_of};
-ghost use Rattle.ob_text.specs.ScriptView.{script_call_of};
+ghost use Rattle.ob_text.specs.ScriptView.{object_call, script_call_of};
 ghost use Rattle.wf_history.specs.OfModule.{IsLegalOrder};
-ghost use Rattle.wf_play.specs.Played.{object_call};
 
 use crate::compiling::{CompileFault, MOST_PROCESSES, Object, compile};
 use ob_check::checked::Checked;

@@ -11,8 +11,7 @@ use Rattle.ob_object.proofs.ScriptFits.{callers_below, calls_fit}
 use Rattle.ob_object.specs.View.{object_in}
 use Rattle.ob_schedule.specs.Schedule.{process_of}
 use Rattle.ob_text.specs.Script.{IsScript, IsScriptFault, ScriptCall}
-use Rattle.ob_text.specs.ScriptView.{script_call_of}
-use Rattle.wf_play.specs.Played.{object_call}
+use Rattle.ob_text.specs.ScriptView.{object_call, script_call_of}
 use Rattle.ob_object.proofs.performing.performed.Goals as goal
 
 pub returns-in_err-read_scripts-clause-fault : goal.returns-in_err-read_scripts-clause-fault
