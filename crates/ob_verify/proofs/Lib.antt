@@ -1,0 +1,3 @@
+pub mod OneLine
+pub mod Records
+pub mod Texts
