@@ -1,2 +1,3 @@
 pub mod Computes
+pub mod Lawful
 pub mod Recorded
