@@ -1,5 +1,5 @@
-//! Tests of what no row of the program shows: layouts and code, schedules and records, and the values and stores of the
-//! whole language. Nothing stands on this crate.
+//! Tests of what no row of the program shows: layouts and code, schedules and records, verified records, and the values
+//! and stores of the whole language. Nothing stands on this crate.
 #![tactic(auto)]
 
 #[cfg(test)]
@@ -16,3 +16,5 @@ mod scalars;
 mod schedules;
 #[cfg(test)]
 mod stores;
+#[cfg(test)]
+mod verifying;
