@@ -5,3 +5,4 @@ pub mod Objects
 pub mod Runs
 pub mod PerformFaults
 pub mod NoPerformance
+pub mod Readings

@@ -2,3 +2,4 @@ pub mod Compilation
 pub mod CompilationParts
 pub mod View
 pub mod Performance
+pub mod Printed

@@ -1,6 +1,8 @@
 -- A run from the texts of a module, of scripts and of a schedule: what its record is, and why there is none.
 use Rattle.std.specs.Prelude.{◌≡◌, ◌≢◌, ℕ, Bool, true, false, List}
 use Rattle.ob_check.specs.Exports.{signatures}
+use Rattle.ob_check.specs.ModuleText.{IsModule}
+use Rattle.ob_check.specs.Program.{Program}
 use Rattle.ob_engine.specs.CodeMeaning.{EngineParts, code_meaning}
 use Rattle.ob_engine.specs.Compiled.{IsCompiled, IsFitting, HasReserve, IsLawfulBlock}
 use Rattle.ob_layout.specs.Encoding.{IsStateOf, encoded}
@@ -80,6 +82,15 @@ IsPerformFault text n scripts schedule (Faults.Script e) = IsScriptFaultOf text 
 IsPerformFault text n scripts schedule (Faults.Schedule e) = IsScheduleFault n schedule e
 IsPerformFault text n scripts schedule (Faults.TooLong number) = PassesLimit text n scripts schedule number
 IsPerformFault text n scripts schedule Faults.NoMemory = Unit {0}
+
+-- the object of a module's text, the calls of scripts and the items of a schedule, which each text has one of
+pub record AreRead (text : List ℕ) (n : ℕ) (scripts schedule : List ℕ) (o : ObjectParts) (calls : List ScriptCall) (items : List Item) : Type 0 where
+  pub compiled : IsCompilation text n o
+  pub alone : (other : Program) → IsModule text other → other ≡ o.program
+  pub calls_are : IsScript (signatures o.program) n scripts calls
+  pub only_calls : (others : List ScriptCall) → IsScript (signatures o.program) n scripts others → others ≡ calls
+  pub items_are : IsSchedule n schedule items
+  pub only_items : (others : List Item) → IsSchedule n schedule others → others ≡ items
 
 -- the texts have no run
 abbrev pub HasNoPerformance : (text : List ℕ) (n : ℕ) (scripts schedule : List ℕ) → Type 0

@@ -3,6 +3,8 @@
 
 pub mod compiling;
 pub mod performing;
+pub mod printing;
 
 pub use compiling::{CompileFault, Object, compile};
 pub use performing::{PerformFault, perform, performed};
+pub use printing::{draw_text, run_text};

@@ -4,9 +4,10 @@ ghost use Rattle.std.specs.Prelude.{◌≡◌, ◌<◌, ◌≤◌, All, Err, IfO
 ghost use Rattle.ob_check.specs.CheckedModule.{program_in};
 ghost use Rattle.ob_check.specs.Exports.{signatures};
 ghost use Rattle.ob_check.specs.ModuleText.{IsModule};
+ghost use Rattle.ob_check.specs.Program.{Program};
 ghost use Rattle.ob_engine.specs.Compiled.{IsFitting};
 ghost use Rattle.ob_mean.specs.View.{state_of};
-ghost use Rattle.ob_object.specs.Performance.{HasNoPerformance, IsNumbered, IsPerformance, IsPerformFault, IsRunFault, IsSoundObject, Shows, ShowsNone, TellsMemoryApart};
+ghost use Rattle.ob_object.specs.Performance.{AreRead, HasNoPerformance, IsNumbered, IsPerformance, IsPerformFault, IsRunFault, IsSoundObject, Shows, ShowsNone, TellsMemoryApart};
 ghost use Rattle.ob_object.specs.View.{object_in};
 ghost use Rattle.ob_record.specs.Record.{AreOfExports, record_of};
 ghost use Rattle.ob_schedule.specs.Schedule.{process_of};
@@ -17,6 +18,7 @@ use crate::compiling::{CompileFault, MOST_PROCESSES, Object, compile};
 use ob_check::checked::Checked;
 use ob_engine::CodeEngine;
 use ob_engine::laws::effect_is_called;
+use ob_grammar::NoMemory;
 use ob_opened::checked_text::TextFault;
 use ob_record::Record;
 use ob_run::record_run;
@@ -24,7 +26,7 @@ use ob_scan::ScanFault;
 use ob_scan::scanner::LONGEST_TEXT;
 use ob_schedule::{Item, ScheduleFault, read_schedule};
 use ob_text::script::{ScriptCall, ScriptFault, read_scripts};
-use std::alloc::Global;
+use std::alloc::{AllocError, Global};
 use thiserror::Error;
 use wf_play::PlayFault;
 use wf_play::laws::too_long_items_are_no_run;
@@ -88,6 +90,28 @@ impl From<ScheduleFault> for PerformFault {
     }
 }
 
+impl From<NoMemory> for PerformFault {
+    ghost use Rattle.std.specs.Prelude.{◌≡◌};
+    ghost use Rattle.ob_object.specs.declared.performing.PerformFault.TheVariants as Faults;
+
+    ghost from_gives = { λ _ f. f ≡ Faults.NoMemory };
+
+    fn from(_: NoMemory) -> PerformFault {
+        PerformFault::NoMemory
+    }
+}
+
+impl From<AllocError> for PerformFault {
+    ghost use Rattle.std.specs.Prelude.{◌≡◌};
+    ghost use Rattle.ob_object.specs.declared.performing.PerformFault.TheVariants as Faults;
+
+    ghost from_gives = { λ _ f. f ≡ Faults.NoMemory };
+
+    fn from(_: AllocError) -> PerformFault {
+        PerformFault::NoMemory
+    }
+}
+
 impl From<PlayFault> for PerformFault {
     ghost use Rattle.std.specs.Prelude.{◌≡◌};
     ghost use Rattle.ob_object.specs.Performance.{of_play};
@@ -135,9 +159,10 @@ pub fn performed(
     scripts: &[u8],
     schedule: &[u8],
 ) -> Result<(Checked, Record), PerformFault>
-    ensures module { IfOk result (λ r. IsModule text.now (program_in r.0)) }
+    ensures alone { IfOk result (λ r. (other : Program) → IsModule text.now other → other ≡ program_in r.0) }
     ensures performance { IfOk result (λ r. IsPerformance text.now n scripts.now schedule.now (record_of r.1)) }
     ensures exports { IfOk result (λ r. AreOfExports (signatures (program_in r.0)) r.1.history) }
+    ensures turns { IfOk result (λ r. All (λ t. t.process < n) r.1.schedule.items) }
     ensures fault { IfErr result (IsPerformFault text.now n scripts.now schedule.now) }
 
     // With a fault that has a number the texts have no run.
@@ -149,14 +174,32 @@ pub fn performed(
     // A text over the scanner's bound is refused, whatever it says.
     ensures too_long { 0 < n → n ≤ MOST_PROCESSES → LONGEST_TEXT < length text.now → result ≡ Err (PerformFault.Compile (CompileFault.Text (TextFault.Scan ScanFault.TooLong))) }
 {
-    let object = compile(alloc, text, n)?;
-    let calls = read_scripts(alloc, object.checked(), n, scripts)?.into_calls();
-    let items = read_schedule(alloc, n, schedule)?;
+    let (object, calls, items) = read_texts(alloc, text, n, scripts, schedule)?;
     Ok(run_on(alloc, object, calls, items.as_slice())?)
 }
 
+/// What a run is made of: the object of the module's text, the calls of the scripts and the items of the schedule.
+pub(crate) fn read_texts(
+    alloc: Global,
+    text: &[u8],
+    n: usize,
+    scripts: &[u8],
+    schedule: &[u8],
+) -> Result<(Object, Vec<ScriptCall>, Vec<Item>), PerformFault>
+    ensures ready { IfOk result (λ r. AreRead text.now n scripts.now schedule.now (object_in r.0) (map script_call_of r.1.items) r.2.items) }
+    ensures fault { IfErr result (IsPerformFault text.now n scripts.now schedule.now) }
+    ensures none { IfErr result (λ e. IsNumbered e → HasNoPerformance text.now n scripts.now schedule.now) }
+    ensures memory { IfErr result TellsMemoryApart }
+    ensures too_long { 0 < n → n ≤ MOST_PROCESSES → LONGEST_TEXT < length text.now → result ≡ Err (PerformFault.Compile (CompileFault.Text (TextFault.Scan ScanFault.TooLong))) }
+{
+    let object = compile(alloc, text, n)?;
+    let calls = read_scripts(alloc, object.checked(), n, scripts)?.into_calls();
+    let items = read_schedule(alloc, n, schedule)?;
+    Ok((object, calls, items))
+}
+
 /// A run of calls and items on an object: its checked module, and the record.
-fn run_on(
+pub(crate) fn run_on(
     alloc: Global,
     object: Object,
     calls: Vec<ScriptCall>,
@@ -170,6 +213,7 @@ fn run_on(
     ensures shows { IfOk result (λ r. Shows (object_in object) (map script_call_of calls.items) items.now (record_of r.1)) }
     ensures legal { IfOk result (λ r. ∥ IsLegalOrder (object_in object).program (object_in object).opening r.1.history r.1.order.items (state_of r.1.state) ∥₁) }
     ensures exports { IfOk result (λ r. AreOfExports (signatures (object_in object).program) r.1.history) }
+    ensures turns { IfOk result (λ r. All (λ t. t.process < (object_in object).processes) r.1.schedule.items) }
     ensures fault { IfErr result (IsRunFault (object_in object) (map script_call_of calls.items) items.now) }
     ensures none { IfErr result (ShowsNone (object_in object) (map script_call_of calls.items) items.now) }
 {

@@ -39,6 +39,7 @@ pub fn record_run<E: Engine>(
     ensures recorded { IfOk result (λ r. IsRecorded (E.meaning engine) (E.lawful engine) (E.fits engine) (E.ready engine) n (encoded (state_of opening.now)) (scripts_of (map script_call_of calls.items)) items.now (record_of r)) }
     ensures legal { IfOk result (λ r. IsLegalFor layout.now.variables (E.fits engine) (E.effect engine) (encoded (state_of opening.now)) (record_of r)) }
     ensures begun { IfOk result (λ r. DoFit (E.fits engine) r.history) }
+    ensures turns { IfOk result (λ r. All (λ t. t.process < n) r.schedule.items) }
     ensures fault { IfErr result (λ e. IsPlayFault (E.meaning engine) (E.ready engine) n (encoded (state_of opening.now)) (scripts_of (map script_call_of calls.items)) items.now e) }
 {
     let words = encode(alloc, opening)?;
@@ -59,6 +60,7 @@ fn recorded<E: Engine>(
     ensures order { IfOk result (λ r. r.order.items ≡ machine.state.records.order) }
     ensures schedule { IfOk result (λ r. r.schedule.items ≡ machine.state.records.schedule) }
     ensures begun { IfOk result (λ r. DoFit (E.fits machine.engine) r.history) }
+    ensures turns { IfOk result (λ r. All (λ t. t.process < machine.sizes.processes) r.schedule.items) }
     ensures legal { IfOk result (λ r. IsLegalFor layout.now.variables (E.fits machine.engine) (E.effect machine.engine) machine.opening (record_of r)) }
 {
     machine.keeps();

@@ -26,6 +26,10 @@ returns-clause-begun g c =
     rw c.into_parts-history.ensures.history
     (begun_fits (e.meaning a.engine) (e.lawful a.engine) (e.fits a.engine) (e.ready a.engine) a.sizes a.opening a.state c.keeps.ensures.sound)
 
+pub returns-clause-turns : goal.returns-clause-turns
+returns-clause-turns g c =
+    rw c.into_parts-history.ensures.schedule (λ k d below. (c.keeps.ensures.sound.below.schedule k d below).process)
+
 pub returns-clause-legal : goal.returns-clause-legal
 returns-clause-legal g c =
     let e = g.E.Engine in
