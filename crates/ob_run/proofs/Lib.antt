@@ -2,3 +2,4 @@ mod Chain
 mod Submissions
 mod Checks
 mod Sequential
+mod Limits

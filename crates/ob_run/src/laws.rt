@@ -6,17 +6,18 @@ ghost use Rattle.ob_layout.specs.Encoding.{IsEncoding};
 ghost use Rattle.ob_mean.specs.Object.{ObjectCall, Reply, State, one_at_a_time};
 ghost use Rattle.ob_record.specs.Record.{Record};
 ghost use Rattle.ob_run.specs.Computes.{Computes};
-ghost use Rattle.ob_run.specs.KeepsBound.{CallsKeepBound, KeepsBound};
+ghost use Rattle.ob_run.specs.KeepsBound.{CallsKeepBound, KeepsBound, KeepsLimit};
 ghost use Rattle.ob_run.specs.OwnCalls.{HasReplies, calls_by};
 ghost use Rattle.ob_run.specs.Recorded.{IsRecorded};
 ghost use Rattle.ob_schedule.specs.declared.item.Item.{Item};
+ghost use Rattle.wf_bound.specs.Ends.{AllEndWithin};
 ghost use Rattle.wf_history.specs.OrderFaults.{IsOfMeans, IsOrderFault};
 ghost use Rattle.wf_history.specs.declared.order.OrderFault.{OrderFault};
 ghost use Rattle.wf_theorems.specs.FirstCalls.{AreFirstCalls, own_ids};
 
 use wf_object::Engine;
 use wf_theorems::alone::{every_process, process_alone};
-use wf_theorems::bound::{every_bound, every_call};
+use wf_theorems::bound::{every_bound, every_call, every_end};
 use wf_theorems::runs::every_run;
 use wf_theorems::standing::legal_order;
 
@@ -53,6 +54,16 @@ pub fn runs_keep_bound<E: Engine>()
 {
     every_bound::<E>();
     every_call::<E>();
+}
+
+/// Where each call of the scripts ends within a limit of steps, on each block that calls other than it lead to, no call of a
+/// recorded run has taken more in all, at any moment, than the promised number of own steps and that limit for each body.
+pub fn runs_keep_limit<E: Engine>()
+    ensures { (e : E) (n limit : ℕ) (opening : List ℤ) (scripts : List (ℕ × ObjectCall)) (items : List Item) (r : Record) → (h : IsRecorded (E.meaning e) (E.lawful e) (E.fits e) (E.ready e) n opening scripts items r) → AllEndWithin (E.meaning e) (E.effect e) (λ p. calls_by p scripts) opening limit → KeepsLimit (E.meaning e) n scripts h.played.runs.start limit r.schedule }
+{
+    every_run::<E>();
+    every_process::<E>();
+    every_end::<E>();
 }
 
 /// Let an engine compute a program. By what the calls mean to the program, from the state that a recorded run began with, a
