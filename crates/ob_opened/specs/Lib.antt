@@ -1,1 +1,2 @@
+pub mod CheckedText
 pub mod ModuleFaults

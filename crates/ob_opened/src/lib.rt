@@ -1,6 +1,7 @@
 //! From the text of a module to the checked module and its opening state.
 #![tactic(auto)]
 
+pub mod checked_text;
 pub mod opened;
 
-pub use opened::{ModuleFault, TURNS, checked_module, opened_module};
+pub use opened::{ModuleFault, TURNS, opened_module};

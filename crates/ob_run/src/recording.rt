@@ -7,8 +7,8 @@ ghost use Rattle.ob_record.specs.Record.{record_of};
 ghost use Rattle.ob_run.specs.Computes.{IsComputed};
 ghost use Rattle.ob_run.specs.Recorded.{IsLegalFor, IsRecorded};
 ghost use Rattle.ob_schedule.specs.Schedule.{process_of};
-ghost use Rattle.ob_text.specs.ScriptView.{script_call_of};
-ghost use Rattle.wf_play.specs.Played.{IsPlayFault, object_call, scripts_of};
+ghost use Rattle.ob_text.specs.ScriptView.{object_call, script_call_of};
+ghost use Rattle.wf_play.specs.Played.{IsPlayFault, scripts_of};
 
 use ob_grammar::NoMemory;
 use ob_layout::{Layout, encode};

@@ -7,11 +7,11 @@ use Rattle.ob_mean.specs.Object.{ObjectCall}
 use Rattle.ob_schedule.specs.declared.item.Item.{Item}
 use Rattle.ob_schedule.specs.Schedule.{process_of}
 use Rattle.ob_text.specs.declared.script.ScriptCall.{ScriptCall}
-use Rattle.ob_text.specs.ScriptView.{script_call_of}
+use Rattle.ob_text.specs.ScriptView.{object_call, script_call_of}
 use Rattle.wf_history.proofs.Positions.{take_next}
 use Rattle.wf_object.specs.View.{Object}
 use Rattle.wf_play.specs.ItemSteps.{AreItemSteps, HasPlayed, IsBeyond, IsFirstBeyond, IsItemRun, none}
-use Rattle.wf_play.specs.Played.{IsPlayed, IsItemFault, IsPlayFault, IsSameObject, IsTooLong, most_steps, object_call, scripts_of}
+use Rattle.wf_play.specs.Played.{IsPlayed, IsItemFault, IsPlayFault, IsSameObject, IsTooLong, most_steps, scripts_of}
 use Rattle.wf_play.specs.declared.playing.PlayFault.{PlayFault}
 use Rattle.wf_play.specs.declared.playing.PlayFault.TheVariants as Faults
 use Rattle.wf_play.proofs.Items.{items-push, items_run, none_beyond}

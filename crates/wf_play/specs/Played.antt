@@ -3,6 +3,7 @@ use Rattle.std.specs.Prelude.{◌≡◌, ℕ, ◌<◌, ◌⊎◌, ℤ, List, map
 use Rattle.ob_mean.specs.Object.{ObjectCall}
 use Rattle.ob_schedule.specs.declared.item.Item.{Item}
 use Rattle.ob_text.specs.Script.{ScriptCall}
+use Rattle.ob_text.specs.ScriptView.{object_call}
 use Rattle.wf_object.specs.View.{Object}
 use Rattle.wf_table.specs.declared.process.Sizes.{Sizes}
 use Rattle.wf_table.specs.Meaning.{Meaning}
@@ -19,10 +20,6 @@ use Rattle.wf_play.specs.ItemSteps.{AreItemSteps, IsFirstBeyond}
 -- the most steps of an item
 abbrev pub most_steps : ℕ
 most_steps = 1000000
-
--- what a script's call asks of the object
-abbrev pub object_call : ScriptCall → ObjectCall
-object_call c = record { export = c.export; arguments = c.arguments }
 
 -- the calls of a script, each with its process
 abbrev pub scripts_of : List ScriptCall → List (ℕ × ObjectCall)

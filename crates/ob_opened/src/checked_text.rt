@@ -4,7 +4,7 @@ ghost use Rattle.std.specs.Prelude.{◌≡◌, Err, ◌<◌, length, IfOk, IfErr
 ghost use Rattle.ob_check.specs.CheckedModule.{program_in};
 ghost use Rattle.ob_check.specs.ModuleText.{IsModule};
 ghost use Rattle.ob_check.specs.Program.{Program};
-ghost use Rattle.ob_program.specs.CheckedText.{IsTextFault, IsNumberedText, TellsTextMemoryApart};
+ghost use Rattle.ob_opened.specs.CheckedText.{IsTextFault, IsNumberedText, TellsTextMemoryApart};
 
 use ob_check::checked::Checked;
 use ob_check::checker::{CheckFault, check};
@@ -30,7 +30,7 @@ pub enum TextFault {
 
 impl From<ScanFault> for TextFault {
     ghost use Rattle.std.specs.Prelude.{◌≡◌};
-    ghost use Rattle.ob_program.specs.CheckedText.{of_scan};
+    ghost use Rattle.ob_opened.specs.CheckedText.{of_scan};
 
     ghost from_gives = { λ e f. f ≡ of_scan e };
 
@@ -44,7 +44,7 @@ impl From<ScanFault> for TextFault {
 
 impl From<ParseFault> for TextFault {
     ghost use Rattle.std.specs.Prelude.{◌≡◌};
-    ghost use Rattle.ob_program.specs.CheckedText.{of_parse};
+    ghost use Rattle.ob_opened.specs.CheckedText.{of_parse};
 
     ghost from_gives = { λ e f. f ≡ of_parse e };
 
@@ -58,7 +58,7 @@ impl From<ParseFault> for TextFault {
 
 impl From<CheckFault> for TextFault {
     ghost use Rattle.std.specs.Prelude.{◌≡◌};
-    ghost use Rattle.ob_program.specs.CheckedText.{of_check};
+    ghost use Rattle.ob_opened.specs.CheckedText.{of_check};
 
     ghost from_gives = { λ e f. f ≡ of_check e };
 

@@ -9,8 +9,8 @@ use Rattle.ob_parser.specs.declared.parser.ParseFault.TheVariants as Parse
 use Rattle.ob_check.specs.ModuleText.{IsCheckFaultOf}
 use Rattle.ob_check.specs.declared.checker.CheckFault.{CheckFault}
 use Rattle.ob_check.specs.declared.checker.CheckFault.TheVariants as Check
-use Rattle.ob_program.specs.declared.checked_text.TextFault.{TextFault}
-use Rattle.ob_program.specs.declared.checked_text.TextFault.TheVariants as Faults
+use Rattle.ob_opened.specs.declared.checked_text.TextFault.{TextFault}
+use Rattle.ob_opened.specs.declared.checked_text.TextFault.TheVariants as Faults
 
 -- what each fault says of a text
 abbrev pub IsTextFault : List ℕ → TextFault → Type 0
