@@ -6,6 +6,7 @@ use Rattle.ob_check.specs.ModuleText.{IsModule}
 use Rattle.ob_check.specs.Program.{Program}
 use Rattle.ob_mean.specs.Object.{IsOpening, State}
 use Rattle.ob_opened.specs.ModuleFaults as Modules
+use Rattle.ob_opened.specs.declared.checked_text.TextFault.TheVariants as Text
 use Rattle.ob_opened.specs.declared.opened.ModuleFault.{ModuleFault}
 use Rattle.ob_opened.specs.declared.opened.ModuleFault.TheVariants as Module
 use Rattle.ob_opened.specs.declared.opened.TheConstants.{TURNS}
@@ -81,4 +82,4 @@ IsOfMeans Faults.NoMemory = Unit {0}
 
 -- what is said of a module's text over the scanner's bound
 abbrev pub too_long : VerifyFault
-too_long = Faults.Module (Module.Scan Scan.TooLong)
+too_long = Faults.Module (Module.Text (Text.Scan Scan.TooLong))
