@@ -1,21 +1,24 @@
 -- What clap makes of the plain forms of the commands, whose words are no options.
-use Rattle.std.proofs.Common.{◌≡◌, ◌∙◌, ℕ, refl, sym, ap, ap₂, List, [], ◌∷◌, fold, find, codes, true, false, Bool, if◌then◌else◌, ◌==◌, Option, Some, None, is_some, option_map, option_and_then}
+use Rattle.std.proofs.Common.{◌≡◌, ◌∙◌, ℕ, refl, sym, ap, ap₂, List, [], ◌∷◌, fold, find, codes, true, false, Bool, if◌then◌else◌, ◌==◌, Option, Some, None, is_some, option_map, option_and_then, pos, unwrap_or}
 use Rattle.std.specs.Option.{option_map_or}
 use Rattle.std.specs.Str.{bytes_eq}
 use Rattle.std.proofs.lemmas.Slice.Eq.{bytes_eq-Decides}
 use Rattle.clap.specs.Lexer.{long_of, long_of_rest, short_of, short_of_rest, strip_byte}
-use Rattle.clap.specs.Walk.{Held, Walk, Step, walk_from, nothing_held, Row, Rule, Text, Names, answers_to, walked, idle, value, finished, settled, reading_by, word_met, to_positional, arg_by_index, after_step}
+use Rattle.clap.specs.Walk.{Held, Walk, Step, walk_from, nothing_held, Row, Rule, Text, Names, answers_to, walked, idle, option, value, plain_word, finished, settled, reading_by, word_met, to_positional, arg_by_index, after_step}
 use Rattle.clap.specs.Kinds.{Kinds, or_else}
 use Rattle.clap.specs.Faults.{fault_of, walk_fault, settle_fault, defaults_fault, check_fault, entered_fault, level_fault, turn_fault, step_fault}
-use Rattle.clap.specs.Simple.{App, Shape, entered, help_rule, label_of, rows_at, subcommand_of}
+use Rattle.clap.specs.Simple.{App, Shape, entered, help_rule, label_of, rows_at, subcommand_of, with_rule}
 use Rattle.clap.specs.declared.builder.action.ArgAction.TheVariants.{Set}
+use Rattle.clap.specs.declared.builder.value_parser.ValueParser.{ValueParser}
 use Rattle.clap.specs.declared.builder.value_parser.ValueParser.TheVariants as parser
+use Rattle.clap.specs.declared.error.kind.ErrorKind.TheVariants as kind
 use Rattle.clap.specs.declared.parser.matches.ValueSource.TheVariants.{CommandLine}
 use Rattle.clap.proofs.FaultLemmas.{stopped_fault}
 use Rattle.clap.proofs.WalkLemmas.{walk_stopped}
 use Rattle.clap.proofs.OnLiterals.{clap_on_literals}
-use Rattle.ob_command.specs.ClapCommand.{module_app, name_rule, obl0_app, seq_app, top_shape}
-use Rattle.ob_command.specs.CommandLine.{Check, Help, Listing, Seq, Unclear, clap_request, is_option, request, request_by}
+use Rattle.ob_command.specs.ClapCommand.{module_app, name_rule, obl0_app, run_app, top_shape}
+use Rattle.ob_command.specs.CommandLine.{Check, Draw, Help, Listing, Request, Run, RunRequest, Seq, Unclear, Verify, clap_request, is_option, number, request, request_by, run_of}
+use Rattle.ob_command.proofs.Numbers.{PlainNumber, plain_number}
 
 -- ---- a word that is no option
 
@@ -58,6 +61,14 @@ pub record Goes (s : Shape) (w : Walk) (words : List Text) (rows : List Row) : T
   pub no_fault : or_else (walk_fault s [] w words) (ending s (fold (walked s.rules []) w words).held) ≡ []
   pub leaves : finished s.rules (fold (walked s.rules []) w words).held ≡ rows
 
+stepped : (s : Shape) (w : Walk) (word : Text) → turn_fault s [] w word ≡ [] → (next : Walk) → walked s.rules [] w word ≡ next
+    → (words : List Text) (rows : List Row) → Goes s next words rows → Goes s w (word ∷ words) rows
+unfolding walk_fault
+stepped s w word none next is words rows goes = record {
+  no_fault = ap₂ (λ ks (w' : Walk). or_else (or_else ks (walk_fault s [] w' words)) (ending s (fold (walked s.rules []) w' words).held)) none is ∙ goes.no_fault;
+  leaves = ap (λ (w' : Walk). finished s.rules (fold (walked s.rules []) w' words).held) is ∙ goes.leaves;
+}
+
 -- between two words, where no option waits for its value
 module _ (s : Shape) (held : List Row) (pending : Option (Text × List Text)) (position : ℕ) where
   abbrev here : Held
@@ -87,22 +98,54 @@ module _ (s : Shape) (held : List Row) (pending : Option (Text × List Text)) (p
   named : (word : Text) → is_option word ≡ false → step_fault s position here value ≡ []
       → (next : Walk) → to_positional s.rules (arg_by_index s.rules position) word state here ≡ next
       → (words : List Text) (rows : List Row) → Goes s next words rows → Goes s state (word ∷ words) rows
-  unfolding walk_fault
-  named word h none next is words rows goes = record {
-    no_fault = ap₂ (λ ks (w : Walk). or_else (or_else ks (walk_fault s [] w words)) (ending s (fold (walked s.rules []) w words).held))
-        (turn_name word h ∙ none) (after_name word h ∙ is) ∙ goes.no_fault;
-    leaves = ap (λ (w : Walk). finished s.rules (fold (walked s.rules []) w words).held) (after_name word h ∙ is) ∙ goes.leaves;
-  }
+  named word h none next is = stepped s state word (turn_name word h ∙ none) next (after_name word h ∙ is)
+
+  -- where the option of this id waits for its value
+  module _ (id : Text) where
+    abbrev waits : Walk
+    waits = record state { waiting = option id }
+
+    turn_value : (word : Text) → is_option word ≡ false → turn_fault s [] waits word ≡ []
+    turn_value word h =
+        let dashes = no_dashes word h in
+        let long = no_long word h in
+        let short = no_short word h in
+        rw (dashes, long, short) refl
+
+    met_value : (word : Text) → is_option word ≡ false → word_met s.rules [] false (option id) position word here ≡ plain_word s.rules (option id) word here
+    met_value word h =
+        let dashes = no_dashes word h in
+        let long = no_long word h in
+        let short = no_short word h in
+        rw (dashes, long, short) refl
+
+    after_value : (word : Text) → is_option word ≡ false
+        → walked s.rules [] waits word ≡ after_step s.rules word waits (plain_word s.rules (option id) word here).0 (plain_word s.rules (option id) word here).1
+    unfolding walked
+    after_value word h = ap (λ (m : Held × Step). after_step s.rules word waits m.0 m.1) (met_value word h)
+
+    valued : (word : Text) → is_option word ≡ false → (next : Walk)
+        → after_step s.rules word waits (plain_word s.rules (option id) word here).0 (plain_word s.rules (option id) word here).1 ≡ next
+        → (words : List Text) (rows : List Row) → Goes s next words rows → Goes s waits (word ∷ words) rows
+    valued word h next is = stepped s waits word (turn_value word h) next (after_value word h ∙ is)
 
 -- ---- the command line as built
 
-abbrev pub built_name : ℕ → Text → Rule
-built_name place id = record (name_rule id) {
-  index = Some place;
+-- a rule whose argument takes one value
+abbrev pub built_one : Text → Option ℕ → Option ℕ → ValueParser → Rule
+built_one id place short p = record (name_rule id) {
+  index = place;
+  short = short;
   action = Some Set;
   range = Some (record { start_inclusive = 1; end_inclusive = 1 });
-  parser = Some parser.String;
+  parser = Some p;
 }
+
+abbrev pub built_name : ℕ → Text → Rule
+built_name place id = built_one id (Some place) None parser.String
+
+abbrev pub built_number : Rule
+built_number = built_one (codes "N") None (Some 110) (parser.Signed (pos 0) (pos 65535))
 
 abbrev pub built_help : Rule
 built_help = record help_rule {
@@ -116,17 +159,26 @@ built_leaf s rules = record s { rules = rules; no_binary_name = true; disable_he
 abbrev pub module_leaf : Text → Shape
 module_leaf command = built_leaf (module_app command).top (built_name 1 (codes "MODULE") ∷ built_help ∷ [])
 
-abbrev pub seq_leaf : Shape
-seq_leaf = built_leaf seq_app.top (built_name 1 (codes "MODULE") ∷ built_name 2 (codes "SCRIPT") ∷ built_help ∷ [])
+-- one of a second file
+abbrev pub second_leaf : Text → Text → Shape
+second_leaf command id = built_leaf (with_rule (module_app command) (name_rule id)).top (built_name 1 (codes "MODULE") ∷ built_name 2 id ∷ built_help ∷ [])
+
+abbrev pub run_leaf : Text → Shape
+run_leaf command = built_leaf (run_app command).top
+    (built_name 1 (codes "MODULE") ∷ built_name 2 (codes "SCRIPT") ∷ built_name 3 (codes "SCHEDULE") ∷ built_number ∷ built_help ∷ [])
 
 abbrev pub built_top : Shape
 built_top = record top_shape { rules = built_help ∷ []; is_leaf = false; is_built = true }
 
 abbrev pub built_app : App
-built_app = record { top = built_top; subs = module_leaf (codes "check") ∷ module_leaf (codes "list") ∷ seq_leaf ∷ [] }
+built_app = record {
+  top = built_top;
+  subs = module_leaf (codes "check") ∷ module_leaf (codes "list") ∷ second_leaf (codes "seq") (codes "SCRIPT")
+      ∷ run_leaf (codes "run") ∷ run_leaf (codes "draw") ∷ second_leaf (codes "verify") (codes "RECORD") ∷ [];
+}
 
 abbrev pub names : Names
-names = (codes "check", []) ∷ (codes "list", []) ∷ (codes "seq", []) ∷ []
+names = (codes "check", []) ∷ (codes "list", []) ∷ (codes "seq", []) ∷ (codes "run", []) ∷ (codes "draw", []) ∷ (codes "verify", []) ∷ []
 
 abbrev top_rules : List Rule
 top_rules = built_help ∷ []
@@ -184,12 +236,63 @@ one_name : (command m : Text) → is_option m ≡ false → Goes (module_leaf co
 unfolding clap_on_literals
 one_name command m no_m = named (module_leaf command) [] None 1 m no_m refl _ refl [] _ (record { no_fault = refl; leaves = refl })
 
-two_names : (m s : Text) → is_option m ≡ false → is_option s ≡ false
-    → Goes seq_leaf start (m ∷ s ∷ []) (name_row (codes "MODULE") m ∷ name_row (codes "SCRIPT") s ∷ [])
+-- the module's name and a script's
+with_script : (command m s : Text) → is_option m ≡ false → is_option s ≡ false
+    → Goes (second_leaf command (codes "SCRIPT")) start (m ∷ s ∷ []) (name_row (codes "MODULE") m ∷ name_row (codes "SCRIPT") s ∷ [])
 unfolding clap_on_literals
-two_names m s no_m no_s =
-    named seq_leaf [] None 1 m no_m refl _ refl (s ∷ []) _
-    (named seq_leaf [] (Some (codes "MODULE", m ∷ [])) 2 s no_s refl _ refl [] _ (record { no_fault = refl; leaves = refl }))
+with_script command m s no_m no_s =
+    named (second_leaf command (codes "SCRIPT")) [] None 1 m no_m refl _ refl (s ∷ []) _
+    (named (second_leaf command (codes "SCRIPT")) [] (Some (codes "MODULE", m ∷ [])) 2 s no_s refl _ refl [] _ (record { no_fault = refl; leaves = refl }))
+
+-- and a record's
+with_record : (command m r : Text) → is_option m ≡ false → is_option r ≡ false
+    → Goes (second_leaf command (codes "RECORD")) start (m ∷ r ∷ []) (name_row (codes "MODULE") m ∷ name_row (codes "RECORD") r ∷ [])
+unfolding clap_on_literals
+with_record command m r no_m no_r =
+    named (second_leaf command (codes "RECORD")) [] None 1 m no_m refl _ refl (r ∷ []) _
+    (named (second_leaf command (codes "RECORD")) [] (Some (codes "MODULE", m ∷ [])) 2 r no_r refl _ refl [] _ (record { no_fault = refl; leaves = refl }))
+
+abbrev number_row : Text → Row
+number_row n = record { id = codes "N"; values = n ∷ []; count = None; source = Some CommandLine; reading = reading_by built_number }
+
+-- the rows of a run
+abbrev run_rows : Text → Text → Text → Text → List Row
+run_rows m s d n = name_row (codes "MODULE") m ∷ name_row (codes "SCRIPT") s ∷ name_row (codes "SCHEDULE") d ∷ number_row n ∷ []
+
+abbrev run_words : Text → Text → Text → Text → List Text
+run_words m s d n = m ∷ s ∷ d ∷ codes "-n" ∷ n ∷ []
+
+-- after the three names the option, and its value
+number_given : (command m s d n : Text) → PlainNumber n
+    → Goes (run_leaf command) (record {
+      held = record { rows = name_row (codes "MODULE") m ∷ name_row (codes "SCRIPT") s ∷ []; pending = Some (codes "SCHEDULE", d ∷ []); skip = 0 };
+      waiting = idle;
+      position = 4;
+      is_trailing = false;
+      stopped = None;
+    }) (codes "-n" ∷ n ∷ []) (run_rows m s d n)
+unfolding clap_on_literals
+number_given command m s d n plain =
+    stepped (run_leaf command) _ (codes "-n") refl _ refl (n ∷ []) _
+    (valued (run_leaf command) (name_row (codes "MODULE") m ∷ name_row (codes "SCRIPT") s ∷ name_row (codes "SCHEDULE") d ∷ []) (Some (codes "N", [])) 4 (codes "N")
+    n plain.no_option _ refl [] _ (record { no_fault = ap (λ (t : Bool). or_else (or_else (if t then [] else kind.ValueValidation ∷ []) []) []) plain.passes; leaves = refl }))
+
+run_given : (command m s d n : Text) → is_option m ≡ false → is_option s ≡ false → is_option d ≡ false → PlainNumber n
+    → Goes (run_leaf command) start (run_words m s d n) (run_rows m s d n)
+unfolding clap_on_literals
+run_given command m s d n no_m no_s no_d plain =
+    named (run_leaf command) [] None 1 m no_m refl _ refl (s ∷ d ∷ codes "-n" ∷ n ∷ []) _
+    (named (run_leaf command) [] (Some (codes "MODULE", m ∷ [])) 2 s no_s refl _ refl (d ∷ codes "-n" ∷ n ∷ []) _
+    (named (run_leaf command) (name_row (codes "MODULE") m ∷ []) (Some (codes "SCRIPT", s ∷ [])) 3 d no_d refl _ refl (codes "-n" ∷ n ∷ []) _
+    (number_given command m s d n plain)))
+
+abbrev the_run : Text → Text → Text → ℕ → RunRequest
+the_run m s d k = record { module_name = m; script_name = s; schedule_name = d; processes = k }
+
+run_is : (m s d n : Text) (k : ℕ) → number n ≡ Some k → run_of m (run_rows m s d n) ≡ Some (the_run m s d k)
+run_is m s d n k is =
+    let plain = plain_number n k is in
+    ap (λ (o : Option ℕ). option_map (the_run m s d) o) (ap number plain.as_is ∙ is)
 
 pub check_asked : (m : Text) → is_option m ≡ false → request (codes "check" ∷ m ∷ []) ≡ Check m
 unfolding clap_on_literals
@@ -201,7 +304,30 @@ list_asked m no_m = asked (codes "list") (module_leaf (codes "list")) refl refl 
 
 pub seq_asked : (m s : Text) → is_option m ≡ false → is_option s ≡ false → request (codes "seq" ∷ m ∷ s ∷ []) ≡ Seq m s
 unfolding clap_on_literals
-seq_asked m s no_m no_s = asked (codes "seq") seq_leaf refl refl refl (m ∷ s ∷ []) _ (two_names m s no_m no_s)
+seq_asked m s no_m no_s =
+    asked (codes "seq") (second_leaf (codes "seq") (codes "SCRIPT")) refl refl refl (m ∷ s ∷ []) _ (with_script (codes "seq") m s no_m no_s)
+
+pub verify_asked : (m r : Text) → is_option m ≡ false → is_option r ≡ false → request (codes "verify" ∷ m ∷ r ∷ []) ≡ Verify m r
+unfolding clap_on_literals
+verify_asked m r no_m no_r =
+    asked (codes "verify") (second_leaf (codes "verify") (codes "RECORD")) refl refl refl (m ∷ r ∷ []) _ (with_record (codes "verify") m r no_m no_r)
+
+-- the words of a run behind a command
+abbrev RunAsked : Text → (RunRequest → Request) → Type 0
+RunAsked command asks = (m s d n : Text) (k : ℕ) → is_option m ≡ false → is_option s ≡ false → is_option d ≡ false → number n ≡ Some k
+    → request (command ∷ m ∷ s ∷ d ∷ codes "-n" ∷ n ∷ []) ≡ asks (record { module_name = m; script_name = s; schedule_name = d; processes = k })
+
+pub run_asked : RunAsked (codes "run") Run
+unfolding clap_on_literals
+run_asked m s d n k no_m no_s no_d is =
+    asked (codes "run") (run_leaf (codes "run")) refl refl refl (run_words m s d n) _ (run_given (codes "run") m s d n no_m no_s no_d (plain_number n k is))
+    ∙ ap (λ (o : Option RunRequest). unwrap_or (option_map Run o) Unclear) (run_is m s d n k is)
+
+pub draw_asked : RunAsked (codes "draw") Draw
+unfolding clap_on_literals
+draw_asked m s d n k no_m no_s no_d is =
+    asked (codes "draw") (run_leaf (codes "draw")) refl refl refl (run_words m s d n) _ (run_given (codes "draw") m s d n no_m no_s no_d (plain_number n k is))
+    ∙ ap (λ (o : Option RunRequest). unwrap_or (option_map Draw o) Unclear) (run_is m s d n k is)
 
 pub help_asked : clap_request (codes "--help" ∷ []) ≡ Help
 unfolding clap_on_literals clap_request

@@ -1,11 +1,13 @@
--- Where a level of the command line has no fault, each argument that has to be there has its value.
-use Rattle.std.proofs.Common.{◌≡◌, ◌∙◌, ℕ, zero, suc, refl, ap, List, [], ◌∷◌, ◌++◌, length, fold, drop, true, false, Bool, if◌then◌else◌, ◌&&◌, Option, Some, None, is_some, chars, encode_utf8, slice_get, find}
+-- Where a level of the command line has no fault, each argument that has to be there has its value, and N has a number.
+use Rattle.std.proofs.Common.{◌≡◌, ◌∙◌, ℕ, zero, suc, refl, ap, List, [], ◌∷◌, ◌++◌, length, fold, drop, true, false, Bool, if◌then◌else◌, ◌&&◌, Option, Some, None, is_some, chars, encode_utf8, slice_get, find, codes, option_and_then, option_map, subst}
 use Rattle.std.specs.List.{list_all}
 use Rattle.std.specs.Option.{option_map_or}
 use Rattle.std.specs.Str.{bytes_eq}
+use Rattle.std.proofs.lemmas.Slice.Eq.{bytes_eq-Decides}
+use Rattle.clap.specs.Values.{read_as}
 use Rattle.clap.specs.Lexer.{long_of, short_of}
 use Rattle.clap.specs.Takes.{is_given}
-use Rattle.clap.specs.Walk.{Held, Names, Outcome, done, waits, plain, refused, Row, Rule, Step, Text, Waiting, idle, option, positional, Walk, next, trailing, subcommand, value, after_flag, after_step, arg_by_id, arg_by_long, arg_by_short, arg_by_index, attached_value, bundle_met, bundle_step, first_of, flag_met, is_pending, long_met, long_or_other, more_values, option_met, option_word, plain_word, positional_held, pushed, reacted, settled, short_met, short_or_plain, subcommand_met, subcommand_or_other, takes_several, takes_values, to_positional, used, walked, with_default, with_values, without, word_met, bundle, nothing_held, rows_after, settled_rows, used_by_id, walk, walk_from, walked_from}
+use Rattle.clap.specs.Walk.{Held, Names, Outcome, done, waits, plain, refused, Row, Rule, Step, Text, Waiting, idle, option, positional, Walk, next, trailing, subcommand, value, after_flag, after_step, arg_by_id, arg_by_long, arg_by_short, arg_by_index, attached_value, bundle_met, bundle_step, first_of, row_text, flag_met, is_pending, long_met, long_or_other, more_values, option_met, option_word, plain_word, positional_held, pushed, reacted, settled, short_met, short_or_plain, subcommand_met, subcommand_or_other, takes_several, takes_values, to_positional, used, walked, with_default, with_values, without, word_met, bundle, nothing_held, rows_after, settled_rows, used_by_id, walk, walk_from, walked_from}
 use Rattle.clap.specs.Kinds.{Kinds, or_else}
 use Rattle.clap.specs.Faults.{use_fault, settle_fault, react_fault, option_fault, long_fault, short_fault, bundle_step_fault, flags_fault, bundle_fault, flag_word_fault, other_fault, word_fault, positional_fault, step_fault, stray_fault, turn_fault, walk_fault}
 use Rattle.clap.specs.Simple.{Shape}
@@ -13,10 +15,15 @@ use Rattle.clap.specs.declared.parser.matches.ValueSource.TheVariants.{CommandLi
 use Rattle.clap.specs.declared.builder.value_parser.Reading.{Reading}
 use Rattle.clap.specs.declared.error.kind.ErrorKind.TheVariants.{TooManyValues}
 use Rattle.clap.proofs.WalkLemmas.{both}
+use Rattle.ob_command.specs.CommandLine.{number, processes_of}
 
--- each row has a value
+-- what a value is read as can stand for the argument of this id: a number for N
+abbrev pub suits : Text → Text → Bool
+suits id text = if bytes_eq id (codes "N") then is_some (number text) else true
+
+-- each row has a value, which can stand for its argument
 abbrev has_value : Row → Bool
-has_value r = is_some (slice_get r.values 0)
+has_value r = option_map_or (suits r.id) (row_text r) false
 
 pub record Filled (rows : List Row) : Type 0 where
   pub each : list_all has_value rows ≡ true
@@ -41,16 +48,18 @@ without_filled id (r ∷ rows) f = go (bytes_eq r.id id) (without_filled id rows
     go true rest = others r rows f
     go false rest = more r (without id rows) (first_has r rows f) rest
 
-has_more : (values : List Text) (v : Text) → is_some (slice_get (values ++ v ∷ []) 0) ≡ true
-has_more [] v = refl
-has_more (x ∷ xs) v = refl
+has_more : (id : Text) (how : Reading) (values : List Text) (v : Text) → option_map_or (suits id) (option_map (read_as how) (slice_get values 0)) false ≡ true
+    → option_map_or (suits id) (option_map (read_as how) (slice_get (values ++ v ∷ []) 0)) false ≡ true
+has_more id how [] v h = cc
+has_more id how (x ∷ xs) v h = h
 
-pub with_filled : (id : Text) (how : Reading) (v : Text) (rows : List Row) → Filled rows → Filled (with_values id how CommandLine (v ∷ []) rows)
-with_filled id how v [] f = record { each = refl }
-with_filled id how v (r ∷ rows) f = go (bytes_eq r.id id) (with_filled id how v rows (others r rows f))
+pub with_filled : (id : Text) (how : Reading) (v : Text) (rows : List Row) → suits id (read_as how v) ≡ true → Filled rows
+    → Filled (with_values id how CommandLine (v ∷ []) rows)
+with_filled id how v [] h f = more _ [] h none_filled
+with_filled id how v (r ∷ rows) h f = go (bytes_eq r.id id) (with_filled id how v rows h (others r rows f))
   where
     go : (t : Bool) → Filled (with_values id how CommandLine (v ∷ []) rows) → Filled (if t then more_values CommandLine (v ∷ []) r ++ rows else r ∷ with_values id how CommandLine (v ∷ []) rows)
-    go true rest = record { each = rw (has_more r.values v, (others r rows f).each) refl }
+    go true rest = more _ rows (has_more r.id r.reading r.values v (first_has r rows f)) (others r rows f)
     go false rest = more r (with_values id how CommandLine (v ∷ []) rows) (first_has r rows f) rest
 
 -- a use without a fault leaves each row a value, and no default is a row
@@ -237,17 +246,46 @@ no_defaults (a ∷ rules) rows each = ap (λ (r : List Row). fold with_default r
 
 -- ---- a level
 
--- what was given has a value
-pub given_first : (id : Text) (rows : List Row) → Filled rows → is_given id rows ≡ true → is_some (first_of id rows) ≡ true
-given_first id [] f given = cc
-given_first id (r ∷ rows) f given = go (bytes_eq r.id id) refl (given_first id rows (others r rows f))
+-- the row of what was given
+record GivenRow (id : Text) (rows : List Row) : Type 0 where
+  row : Row
+  is : find (λ r. bytes_eq r.id id) rows ≡ Some row
+  id_is : row.id ≡ id
+  valued : has_value row ≡ true
+
+given_row : (id : Text) (rows : List Row) → Filled rows → is_given id rows ≡ true → GivenRow id rows
+given_row id [] f given = cc
+given_row id (r ∷ rows) f given = go (bytes_eq r.id id) refl (given_row id rows (others r rows f))
   where
-    go : (t : Bool) → bytes_eq r.id id ≡ t → (is_given id rows ≡ true → is_some (first_of id rows) ≡ true) → is_some (first_of id (r ∷ rows)) ≡ true
-    go true t rest = let has = first_has r rows f in rw t has
+    go : (t : Bool) → bytes_eq r.id id ≡ t → (is_given id rows ≡ true → GivenRow id rows) → GivenRow id (r ∷ rows)
+    go true t rest = record { row = r; is = rw t refl; id_is = (bytes_eq-Decides r.id id).0 t; valued = first_has r rows f }
     go false t rest =
         let given' : is_given id rows ≡ true = rw t at given in
-        let is = rest given' in
-        rw t is
+        let g = rest given' in
+        record { row = g.row; is = rw t g.is; id_is = g.id_is; valued = g.valued }
+
+has_first : (id : Text) (how : Reading) (o : Option Text) → option_map_or (suits id) (option_map (read_as how) o) false ≡ true → is_some o ≡ true
+has_first id how None h = cc
+has_first id how (Some t) h = refl
+
+-- what was given has a value
+pub given_first : (id : Text) (rows : List Row) → Filled rows → is_given id rows ≡ true → is_some (first_of id rows) ≡ true
+given_first id rows f given =
+    let g = given_row id rows f given in
+    let some = has_first g.row.id g.row.reading (slice_get g.row.values 0) g.valued in
+    rw (g.is) some
+
+has_number : (o : Option Text) → option_map_or (suits (codes "N")) o false ≡ true → is_some (option_and_then number o) ≡ true
+has_number None h = cc
+has_number (Some t) h = h
+
+-- and that of N is a number
+pub given_number : (rows : List Row) → Filled rows → is_given (codes "N") rows ≡ true → is_some (processes_of rows) ≡ true
+given_number rows f given =
+    let g = given_row (codes "N") rows f given in
+    let suited = subst (λ (id : Text). option_map_or (suits id) (row_text g.row) false ≡ true) g.id_is g.valued in
+    let some = has_number (row_text g.row) suited in
+    rw (g.is) some
 
 pub level_filled : (s : Shape) → EachFills s.rules → (words : List Text)
     → walk_fault s [] (walk_from nothing_held) words ≡ []

@@ -1,5 +1,5 @@
 -- From what clap answers to a request.
-use Rattle.std.proofs.Common.{◌≡◌, ◌≢◌, ◌∙◌, ◌⊎◌, refl, sym, ap, ap₂, subst, List, [], ◌∷◌, true, false, Option, Some, None, Err, Result, IsSome, Box, box_value, option_map, is_some, codes, inl, inr}
+use Rattle.std.proofs.Common.{◌≡◌, ◌≢◌, ◌∙◌, ◌⊎◌, ℕ, refl, sym, ap, ap₂, subst, List, [], ◌∷◌, true, false, Option, Some, None, Err, Result, IsSome, Box, box_value, option_map, option_and_then, is_some, codes, inl, inr}
 use Rattle.clap.specs.Words.{App, Row, Text, rows_of, subcommand_rows_of, IsAmong, HasKind, HasMatchesOf, Kinds, fault_of, is_simple, is_simple_and_free, kind_of, subcommand_of}
 use Rattle.clap.specs.declared.error.Error.{Error}
 use Rattle.clap.specs.declared.error.kind.ErrorKind.{ErrorKind}
@@ -21,7 +21,7 @@ use Rattle.std.specs.Borrow.{Bor}
 use Rattle.clap.specs.Words.{first_of, first_value}
 use Rattle.clap.specs.declared.parser.matches.Found.{Found}
 use Rattle.clap.proofs.WalkLemmas.{first_value-rows}
-use Rattle.ob_command.specs.CommandLine.{Request, Check, Help, Listing, Seq, Unclear, clap_request, command_of, is_alone, request, request_by}
+use Rattle.ob_command.specs.CommandLine.{Request, Check, Draw, Help, Listing, Run, RunRequest, Seq, Unclear, Verify, clap_request, command_of, is_alone, processes_of, request, request_by, run_of}
 use Rattle.ob_command.specs.Commands.{IsReading, IsStopOf, request_of}
 use Rattle.ob_command.specs.declared.command.Stop.{Stop}
 use Rattle.ob_command.specs.declared.command.Stop.TheVariants as stops
@@ -92,6 +92,26 @@ a_list name m rows is h = rw (is, h) refl
 pub a_seq : (name m : Text) (rows : List Row) (script : Option Text) → name ≡ codes "seq" → first_of (codes "MODULE") rows ≡ Some m
     → first_of (codes "SCRIPT") rows ≡ script → command_of name rows ≡ option_map (Seq m) script
 a_seq name m rows script is h s = rw (is, h, s) refl
+
+pub a_run : (name m : Text) (rows : List Row) (run : Option RunRequest) → name ≡ codes "run" → first_of (codes "MODULE") rows ≡ Some m
+    → run_of m rows ≡ run → command_of name rows ≡ option_map Run run
+a_run name m rows run is h e = rw (is, h) (ap (option_map Run) e)
+
+pub a_draw : (name m : Text) (rows : List Row) (run : Option RunRequest) → name ≡ codes "draw" → first_of (codes "MODULE") rows ≡ Some m
+    → run_of m rows ≡ run → command_of name rows ≡ option_map Draw run
+a_draw name m rows run is h e = rw (is, h) (ap (option_map Draw) e)
+
+pub a_verify : (name m : Text) (rows : List Row) (record_name : Option Text) → name ≡ codes "verify" → first_of (codes "MODULE") rows ≡ Some m
+    → first_of (codes "RECORD") rows ≡ record_name → command_of name rows ≡ option_map (Verify m) record_name
+a_verify name m rows record_name is h r = rw (is, h, r) refl
+
+pub no_script : (m : Text) (rows : List Row) → first_of (codes "SCRIPT") rows ≡ None → run_of m rows ≡ None
+no_script m rows h = rw h refl
+
+pub run_by : (m s : Text) (rows : List Row) (schedule_name : Option Text) (processes : Option ℕ) → first_of (codes "SCRIPT") rows ≡ Some s
+    → first_of (codes "SCHEDULE") rows ≡ schedule_name → processes_of rows ≡ processes
+    → run_of m rows ≡ option_and_then (λ d. option_map (λ k. record { module_name = m; script_name = s; schedule_name = d; processes = k }) processes) schedule_name
+run_by m s rows schedule_name processes h d k = rw (h, d, k) refl
 
 -- ---- the command that was met
 

@@ -1,17 +1,24 @@
 -- Where clap finds no fault, the words ask for a command.
-use Rattle.std.proofs.Common.{◌≡◌, ◌∙◌, ◌==◌, ℕ, suc, arith, length, ne_eqb, refl, sym, List, [], ◌∷◌, codes, true, false, Bool, if◌then◌else◌, Option, Some, None, is_some, option_map, option_and_then}
+use Rattle.std.proofs.Common.{◌≡◌, ◌∙◌, ◌==◌, ◌&&◌, ◌||◌, ℕ, suc, arith, length, ne_eqb, refl, sym, subst, List, [], ◌∷◌, codes, true, false, Bool, not, if◌then◌else◌, Option, Some, None, find, is_some, option_map, option_and_then, pos}
+use Rattle.std.specs.List.{list_any}
 use Rattle.std.specs.Option.{option_map_or}
-use Rattle.clap.specs.Walk.{Row, Text, action_of, answers_to, first_of, has_row, nothing_held, reading_by, rows_after, used, values_or_missing, walk, walk_from, without, finished, settled}
-use Rattle.clap.specs.Kinds.{Kinds, or_else, range_kinds}
-use Rattle.clap.specs.Faults.{action_fault, check_fault, defaults_fault, entered_fault, fault_of, level_fault, settle_fault, use_fault, walk_fault}
+use Rattle.clap.specs.Facts.{explicit_source}
+use Rattle.clap.specs.Values.{read_as, reading_of, refused_kind}
+use Rattle.clap.specs.ValueTests.{accepts}
+use Rattle.clap.specs.declared.builder.value_parser.ValueParser.{ValueParser}
+use Rattle.clap.specs.declared.builder.value_parser.ValueParser.TheVariants as parser
+use Rattle.clap.specs.Walk.{Row, Rule, Text, action_of, answers_to, first_of, has_row, nothing_held, rows_after, used, values_or_missing, walk, walk_from, without, finished, settled}
+use Rattle.clap.specs.Kinds.{Kinds, check_kinds, or_else, range_kinds, value_kinds, values_kinds}
+use Rattle.clap.specs.Faults.{action_fault, check_fault, defaults_fault, entered_fault, fault_of, level_fault, repeat_fault, settle_fault, use_fault, walk_fault}
 use Rattle.clap.specs.Simple.{Shape, entered, label_of, rows_at, subcommand_of}
 use Rattle.clap.specs.Takes.{is_given}
 use Rattle.clap.specs.declared.error.kind.ErrorKind.{ErrorKind}
 use Rattle.clap.specs.declared.error.kind.ErrorKind.TheVariants as kind
 use Rattle.ob_command.specs.ClapCommand.{obl0_app}
-use Rattle.ob_command.specs.CommandLine.{Request, Check, Listing, Seq, command_of}
-use Rattle.ob_command.proofs.ClapWords.{built_app, built_help, built_name, built_top, module_leaf, names, seq_leaf}
-use Rattle.ob_command.proofs.Given.{EachFills, Filled, Fills, given_first, level_filled, neither, with_filled, without_filled}
+use Rattle.ob_command.specs.CommandLine.{Request, Check, Draw, Listing, Run, RunRequest, Seq, Verify, command_of, processes_of, run_of}
+use Rattle.ob_command.proofs.ClapWords.{built_app, built_help, built_name, built_number, built_one, built_top, module_leaf, names, run_leaf, second_leaf}
+use Rattle.ob_command.proofs.Given.{EachFills, Filled, Fills, given_first, given_number, level_filled, neither, suits, with_filled, without_filled}
+use Rattle.ob_command.proofs.Numbers.{number_accepted}
 
 kept : (t : Bool) (rows : List Row) → (if t then rows else rows) ≡ rows
 kept true rows = refl
@@ -26,86 +33,137 @@ too_many n =
     let other : (1 == suc (suc n)) ≡ false = ne_eqb 1 (suc (suc n)) (λ e. omega arith) in
     rw (some, other) refl
 
-name_uses : (place : ℕ) (id : Text) (again : Bool) (values : List Text) (rows : List Row) → use_fault again (built_name place id) values rows ≡ []
-    → Filled rows → Filled (used (built_name place id) values rows)
-name_uses place id again [] rows none f = absurd (no_kinds kind.InvalidValue [] none)
-name_uses place id again (v ∷ []) rows none f = with_filled id (reading_by (built_name place id)) v (without id rows) (without_filled id rows f)
-name_uses place id again (v ∷ w ∷ rest) rows none f =
-    let a = built_name place id in
-    let ranged = neither (range_kinds 1 1 (suc (suc (length rest)))) (action_fault (action_of a) again a (values_or_missing a (v ∷ w ∷ rest)) rows) none in
-    absurd (no_kinds kind.WrongNumberOfValues [] (sym (too_many (length rest)) ∙ ranged.0))
+passed : (t : Bool) (k : ErrorKind) → (if t then [] else k ∷ []) ≡ [] → t ≡ true
+passed true k none = refl
+passed false k none = absurd (no_kinds k [] none)
 
-fills_name : (place : ℕ) (id : Text) → Fills (built_name place id)
-fills_name place id = record { uses = name_uses place id; no_default = λ rows. kept (has_row id rows) rows }
+-- the parser lets through only what can stand for the argument
+abbrev LetsThrough : Text → ValueParser → Type 0
+LetsThrough id p = (v : Text) → accepts false p v ≡ true → suits id (read_as (reading_of p) v) ≡ true
+
+module _ (id : Text) (place short : Option ℕ) (p : ValueParser) (lets : LetsThrough id p) where
+  abbrev one : Rule
+  one = built_one id place short p
+
+  one_uses : (again : Bool) (values : List Text) (rows : List Row) → use_fault again one values rows ≡ [] → Filled rows → Filled (used one values rows)
+  one_uses again [] rows none f = absurd (no_kinds kind.InvalidValue [] none)
+  one_uses again (v ∷ []) rows none f =
+      let set = neither (repeat_fault again id rows) (values_kinds false p (v ∷ [])) none in
+      let value = neither (value_kinds false p v) [] set.1 in
+      with_filled id (reading_of p) v (without id rows) (lets v (passed (accepts false p v) (refused_kind p) value.0)) (without_filled id rows f)
+  one_uses again (v ∷ w ∷ rest) rows none f =
+      let ranged = neither (range_kinds 1 1 (suc (suc (length rest)))) (action_fault (action_of one) again one (values_or_missing one (v ∷ w ∷ rest)) rows) none in
+      absurd (no_kinds kind.WrongNumberOfValues [] (sym (too_many (length rest)) ∙ ranged.0))
+
+  fills_one : Fills one
+  fills_one = record { uses = one_uses; no_default = λ rows. kept (has_row id rows) rows }
+
+fills_name : (place : ℕ) (id : Text) → LetsThrough id parser.String → Fills (built_name place id)
+fills_name place id lets = fills_one id (Some place) None parser.String lets
+
+fills_number : Fills built_number
+fills_number = fills_one (codes "N") None (Some 110) (parser.Signed (pos 0) (pos 65535)) number_accepted
 
 fills_help : Fills built_help
 fills_help = record { uses = λ again values rows none f. f; no_default = λ rows. kept (has_row (codes "help") rows) rows }
 
 -- ---- a level
 
-record Passes (s : Shape) (words : List Text) : Type 0 where
-  filled : Filled (rows_after s.rules [] words)
-  checks : check_fault s (rows_after s.rules [] words) false ≡ []
+-- what has to be there is given
+abbrev EachGiven : List Rule → List Row → Type 0
+EachGiven [] rows = Unit {0}
+EachGiven (a ∷ rules) rows = (a.required ≡ true → is_given a.id rows ≡ true) × EachGiven rules rows
 
-passes : (s : Shape) → EachFills s.rules → (words : List Text) → level_fault s [] nothing_held words false [] ≡ [] → Passes s words
-passes s each words none =
+no_other : (a b : Bool) → (a || b) ≡ false → (a ≡ false) × (b ≡ false)
+no_other false b h = (refl, h)
+no_other true b h = cc
+
+wanted : (a g : Bool) → (a && not g) ≡ false → a ≡ true → g ≡ true
+wanted a true h is = refl
+wanted true false h is = cc
+wanted false false h is = cc
+
+each_given : (rules : List Rule) (rows : List Row) → list_any (λ a. a.required && not (is_given a.id rows)) rules ≡ false → EachGiven rules rows
+each_given [] rows h = tt
+each_given (a ∷ rules) rows h =
+    let parts = no_other (a.required && not (is_given a.id rows)) (list_any (λ a. a.required && not (is_given a.id rows)) rules) h in
+    (wanted a.required (is_given a.id rows) parts.0, each_given rules rows parts.1)
+
+checked : (a b c : Bool) → check_kinds a b c ≡ [] → c ≡ false
+checked true b c none = cc
+checked false true c none = cc
+checked false false true none = cc
+checked false false false none = refl
+
+record Passes (s : Shape) (rows : List Row) : Type 0 where
+  filled : Filled rows
+  given : EachGiven s.rules rows
+
+passes : (s : Shape) → EachFills s.rules → s.subcommand_negates_reqs ≡ false → (words : List Text) → level_fault s [] nothing_held words false [] ≡ []
+    → Passes s (rows_after s.rules [] words)
+passes s each no_negation words none =
     let end = (walk s.rules [] nothing_held words).held in
+    let rows = rows_after s.rules [] words in
     let walks = neither (walk_fault s [] (walk_from nothing_held) words)
     (or_else (settle_fault s.rules s.args_override_self end) (or_else (defaults_fault (settled s.rules end).rows s.rules) (check_fault s (finished s.rules end) false))) none in
     let settles = neither (settle_fault s.rules s.args_override_self end)
     (or_else (defaults_fault (settled s.rules end).rows s.rules) (check_fault s (finished s.rules end) false)) walks.1 in
     let defaults = neither (defaults_fault (settled s.rules end).rows s.rules) (check_fault s (finished s.rules end) false) settles.1 in
-    record { filled = level_filled s each words walks.0 settles.0; checks = defaults.1 }
+    let lacks = list_any (λ a. a.required && not (is_given a.id rows)) s.rules in
+    let last = checked (s.arg_required_else_help && not (list_any (λ r. explicit_source r.source) rows)) s.subcommand_required
+    (not (s.subcommand_negates_reqs && false) && lacks) defaults.1 in
+    let none_lacks = subst (λ (n : Bool). (not (n && false) && lacks) ≡ false) no_negation last in
+    record { filled = level_filled s each words walks.0 settles.0; given = each_given s.rules rows none_lacks }
 
-some_then : (o : Option Text) (f : Text → Option Request) → is_some o ≡ true → ((m : Text) → is_some (f m) ≡ true) → is_some (option_and_then f o) ≡ true
+-- ---- the commands
+
+some_then : {A B : Type 0} (o : Option A) (f : A → Option B) → is_some o ≡ true → ((x : A) → is_some (f x) ≡ true) → is_some (option_and_then f o) ≡ true
 some_then None f h each = cc
-some_then (Some m) f h each = each m
+some_then (Some x) f h each = each x
 
-some_map : (o : Option Text) (f : Text → Request) → is_some o ≡ true → is_some (option_map f o) ≡ true
+some_map : {A B : Type 0} (o : Option A) (f : A → B) → is_some o ≡ true → is_some (option_map f o) ≡ true
 some_map None f h = cc
-some_map (Some m) f h = refl
+some_map (Some x) f h = refl
 
-module_given : (command : Text) (rows : List Row) → check_fault (module_leaf command) rows false ≡ [] → is_given (codes "MODULE") rows ≡ true
-module_given command rows none = go (is_given (codes "MODULE") rows) refl
-  where
-    go : (t : Bool) → is_given (codes "MODULE") rows ≡ t → is_given (codes "MODULE") rows ≡ true
-    go true t = t
-    go false t = let bad = rw t at none in cc
+abbrev IsPassed : Shape → List Text → Type 0
+IsPassed s words = level_fault s [] nothing_held words false [] ≡ []
 
-seq_given : (rows : List Row) → check_fault seq_leaf rows false ≡ [] → (is_given (codes "MODULE") rows ≡ true) × (is_given (codes "SCRIPT") rows ≡ true)
-seq_given rows none = go (is_given (codes "MODULE") rows) refl (is_given (codes "SCRIPT") rows) refl
-  where
-    go : (t : Bool) → is_given (codes "MODULE") rows ≡ t → (u : Bool) → is_given (codes "SCRIPT") rows ≡ u
-        → (is_given (codes "MODULE") rows ≡ true) × (is_given (codes "SCRIPT") rows ≡ true)
-    go true t true u = (t, u)
-    go false t u e = let bad = rw t at none in cc
-    go true t false u = let bad = rw (t, u) at none in cc
+abbrev rows_of_leaf : Shape → List Text → List Row
+rows_of_leaf s words = rows_after s.rules [] words
 
-of_module : (command : Text) (words : List Text) → level_fault (module_leaf command) [] nothing_held words false [] ≡ []
-    → is_some (first_of (codes "MODULE") (rows_after (module_leaf command).rules [] words)) ≡ true
-of_module command words none =
-    let p = passes (module_leaf command) (fills_name 1 (codes "MODULE"), (fills_help, tt)) words none in
-    let rows = rows_after (module_leaf command).rules [] words in
-    given_first (codes "MODULE") rows p.filled (module_given command rows p.checks)
+-- the command of a leaf, by its rows
+abbrev AsksBy : Shape → (List Row → Text → Option Request) → Type 0
+AsksBy s asked = (words : List Text) → IsPassed s words → is_some (option_and_then (asked (rows_of_leaf s words)) (first_of (codes "MODULE") (rows_of_leaf s words))) ≡ true
 
-check_leaf_asks : (words : List Text) → level_fault (module_leaf (codes "check")) [] nothing_held words false [] ≡ []
-    → is_some (command_of (codes "check") (rows_after (module_leaf (codes "check")).rules [] words)) ≡ true
-check_leaf_asks words none =
-    some_then (first_of (codes "MODULE") (rows_after (module_leaf (codes "check")).rules [] words)) (λ m. Some (Check m)) (of_module (codes "check") words none) (λ m. refl)
+any_text : (v : Text) → true ≡ true → true ≡ true
+any_text v h = h
 
-list_leaf_asks : (words : List Text) → level_fault (module_leaf (codes "list")) [] nothing_held words false [] ≡ []
-    → is_some (command_of (codes "list") (rows_after (module_leaf (codes "list")).rules [] words)) ≡ true
-list_leaf_asks words none =
-    some_then (first_of (codes "MODULE") (rows_after (module_leaf (codes "list")).rules [] words)) (λ m. Some (Listing m)) (of_module (codes "list") words none) (λ m. refl)
+module_asks : (command : Text) (asks : Text → Request) → AsksBy (module_leaf command) (λ rows m. Some (asks m))
+module_asks command asks words none =
+    let p = passes (module_leaf command) (fills_name 1 (codes "MODULE") any_text, (fills_help, tt)) refl words none in
+    let rows = rows_of_leaf (module_leaf command) words in
+    some_then (first_of (codes "MODULE") rows) (λ m. Some (asks m)) (given_first (codes "MODULE") rows p.filled (p.given.0 refl)) (λ m. refl)
 
-seq_leaf_asks : (words : List Text) → level_fault seq_leaf [] nothing_held words false [] ≡ []
-    → is_some (command_of (codes "seq") (rows_after seq_leaf.rules [] words)) ≡ true
-seq_leaf_asks words none =
-    let p = passes seq_leaf (fills_name 1 (codes "MODULE"), (fills_name 2 (codes "SCRIPT"), (fills_help, tt))) words none in
-    let rows = rows_after seq_leaf.rules [] words in
-    let given = seq_given rows p.checks in
-    some_then (first_of (codes "MODULE") rows) (λ m. option_map (Seq m) (first_of (codes "SCRIPT") rows)) (given_first (codes "MODULE") rows p.filled given.0)
-    (λ m. some_map (first_of (codes "SCRIPT") rows) (Seq m) (given_first (codes "SCRIPT") rows p.filled given.1))
+second_asks : (command id : Text) → LetsThrough id parser.String → (asks : Text → Text → Request)
+    → AsksBy (second_leaf command id) (λ rows m. option_map (asks m) (first_of id rows))
+second_asks command id lets asks words none =
+    let s = second_leaf command id in
+    let p = passes s (fills_name 1 (codes "MODULE") any_text, (fills_name 2 id lets, (fills_help, tt))) refl words none in
+    let rows = rows_of_leaf s words in
+    some_then (first_of (codes "MODULE") rows) (λ m. option_map (asks m) (first_of id rows)) (given_first (codes "MODULE") rows p.filled (p.given.0 refl))
+    (λ m. some_map (first_of id rows) (asks m) (given_first id rows p.filled (p.given.1.0 refl)))
+
+run_asks : (command : Text) (asks : RunRequest → Request) → AsksBy (run_leaf command) (λ rows m. option_map asks (run_of m rows))
+run_asks command asks words none =
+    let s = run_leaf command in
+    let p = passes s (fills_name 1 (codes "MODULE") any_text, (fills_name 2 (codes "SCRIPT") any_text, (fills_name 3 (codes "SCHEDULE") any_text, (fills_number, (fills_help, tt)))))
+    refl words none in
+    let rows = rows_of_leaf s words in
+    some_then (first_of (codes "MODULE") rows) (λ m. option_map asks (run_of m rows)) (given_first (codes "MODULE") rows p.filled (p.given.0 refl))
+    (λ m. some_map (run_of m rows) asks
+    (some_then (first_of (codes "SCRIPT") rows) _ (given_first (codes "SCRIPT") rows p.filled (p.given.1.0 refl))
+    (λ script. some_then (first_of (codes "SCHEDULE") rows) _ (given_first (codes "SCHEDULE") rows p.filled (p.given.1.1.0 refl))
+    (λ schedule. some_map (processes_of rows) _ (given_number rows p.filled (p.given.1.1.1.0 refl))))))
 
 -- ---- all the words
 
@@ -124,16 +182,32 @@ asks_if : (t : Bool) (s : Shape) (words : List Text) (rest : Option Shape) → A
 asks_if true s words rest h g = h
 asks_if false s words rest h g = g
 
+abbrev EachAsks : List Shape → Type 0
+EachAsks [] = Unit {0}
+EachAsks (s ∷ leaves) = ((words : List Text) → IsPassed s words → is_some (command_of s.name (rows_of_leaf s words)) ≡ true) × EachAsks leaves
+
+found_asks : (name : Text) (leaves : List Shape) → EachAsks leaves → (words : List Text) → Asks words (find (λ s. answers_to name (label_of s)) leaves)
+found_asks name [] each words = λ none met e. cc
+found_asks name (s ∷ leaves) each words =
+    asks_if (answers_to name (label_of s)) s words (find (λ s. answers_to name (label_of s)) leaves) (leaf_asks s words (each.0 words))
+    (found_asks name leaves each.1 words)
+
+each_asks : EachAsks built_app.subs
+each_asks = (
+  module_asks (codes "check") Check,
+  (
+    module_asks (codes "list") Listing,
+    (
+      second_asks (codes "seq") (codes "SCRIPT") any_text Seq,
+      (run_asks (codes "run") Run, (run_asks (codes "draw") Draw, (second_asks (codes "verify") (codes "RECORD") any_text Verify, tt))),
+    ),
+  ),
+)
+
 met_asks : (o : Option (Text × List Text)) → entered_fault built_app o ≡ [] → (met : Text × List Row) → entered built_app o ≡ Some met
     → is_some (command_of met.0 met.1) ≡ true
 met_asks None none met e = cc
-met_asks (Some p) none met e =
-    asks_if (answers_to p.0 (label_of (module_leaf (codes "check")))) (module_leaf (codes "check")) p.1 (if answers_to p.0 (label_of (module_leaf (codes "list"))) then Some (module_leaf (codes "list")) else if answers_to p.0 (label_of seq_leaf) then Some seq_leaf else None)
-    (leaf_asks (module_leaf (codes "check")) p.1 (check_leaf_asks p.1))
-    (asks_if (answers_to p.0 (label_of (module_leaf (codes "list")))) (module_leaf (codes "list")) p.1 (if answers_to p.0 (label_of seq_leaf) then Some seq_leaf else None)
-    (leaf_asks (module_leaf (codes "list")) p.1 (list_leaf_asks p.1))
-    (asks_if (answers_to p.0 (label_of seq_leaf)) seq_leaf p.1 None (leaf_asks seq_leaf p.1 (seq_leaf_asks p.1)) (λ none' met' e'. cc)))
-    none met e
+met_asks (Some p) none met e = found_asks p.0 built_app.subs each_asks p.1 none met e
 
 pub has_command : (words : List Text) → fault_of obl0_app words ≡ [] → (met : Text × List Row) → subcommand_of obl0_app words ≡ Some met
     → is_some (command_of met.0 met.1) ≡ true

@@ -1,17 +1,31 @@
 -- The command line in the words of clap.
-use Rattle.std.specs.Prelude.{true, [], codes}
+use Rattle.std.specs.Prelude.{Some, pos, true, [], ◌∷◌, codes, fold}
 use Rattle.clap.specs.Words.{App, Rule, Shape, Text, new_app, new_rule, with_rule, with_subcommand}
+use Rattle.clap.specs.declared.builder.value_parser.ValueParser.TheVariants.{Signed}
 
+-- a word that has to be there
 abbrev pub name_rule : Text → Rule
 name_rule id = record (new_rule id) { required = true }
+
+-- `-n N`, with a number of 16 bits, which has to be there
+abbrev pub number_rule : Rule
+number_rule = record (name_rule (codes "N")) { short = Some 110; parser = Some (Signed (pos 0) (pos 65535)) }
 
 -- `check MODULE`, `list MODULE`
 abbrev pub module_app : Text → App
 module_app command = with_rule (new_app command) (name_rule (codes "MODULE"))
 
 -- `seq MODULE SCRIPT`
-abbrev pub seq_app : App
-seq_app = with_rule (module_app (codes "seq")) (name_rule (codes "SCRIPT"))
+abbrev pub script_app : Text → App
+script_app command = with_rule (module_app command) (name_rule (codes "SCRIPT"))
+
+-- `run MODULE SCRIPT SCHEDULE -n N`, `draw MODULE SCRIPT SCHEDULE -n N`
+abbrev pub run_app : Text → App
+run_app command = with_rule (with_rule (script_app command) (name_rule (codes "SCHEDULE"))) number_rule
+
+-- `verify MODULE RECORD`
+abbrev pub record_app : Text → App
+record_app command = with_rule (module_app command) (name_rule (codes "RECORD"))
 
 abbrev pub top_shape : Shape
 top_shape = record (new_app (codes "obl0")).top {
@@ -25,6 +39,10 @@ top_shape = record (new_app (codes "obl0")).top {
 abbrev pub top_app : App
 top_app = record { top = top_shape; subs = [] }
 
+-- a command beside those that are there
+abbrev pub with_command : App → App → App
+with_command app command = with_subcommand app command.top
+
 abbrev pub obl0_app : App
-obl0_app = with_subcommand (with_subcommand (with_subcommand top_app (module_app (codes "check")).top)
-    (module_app (codes "list")).top) seq_app.top
+obl0_app = fold with_command top_app (module_app (codes "check") ∷ module_app (codes "list") ∷ script_app (codes "seq")
+    ∷ run_app (codes "run") ∷ run_app (codes "draw") ∷ record_app (codes "verify") ∷ [])

@@ -1,29 +1,63 @@
 -- What the words of the command line ask for, by what clap makes of them.
 use Rattle.std.specs.Prelude.{ℕ, ◌==◌, Bool, false, List, [], ◌∷◌, Option, Some, None, option_and_then, option_map, unwrap_or, codes, if◌then◌else◌}
 use Rattle.std.specs.Str.{bytes_eq}
-use Rattle.clap.specs.Words.{Kinds, Row, fault_of, first_of, subcommand_of}
+use Rattle.std.specs.Str.Parse.{digits_value, without_leading_plus}
+use Rattle.clap.specs.ValueTests.{is_unsigned_in}
+use Rattle.clap.specs.Words.{Kinds, Row, fault_of, first_of, one_of, subcommand_of}
 use Rattle.clap.specs.declared.error.kind.ErrorKind.TheVariants as kind
 use Rattle.ob_command.specs.ClapCommand.{obl0_app}
 
 abbrev pub Text : Type 0
 Text = List ℕ
 
--- What they ask for: the rules of a module checked; its code listed; the calls of a script made on it; help; the version;
--- or nothing that there is. A command has the names of its files.
+-- What a run is made of: the names of its files, and how many processes there are.
+pub record RunRequest : Type 0 where
+  pub module_name : Text
+  pub script_name : Text
+  pub schedule_name : Text
+  pub processes : ℕ
+
+-- What they ask for: the rules of a module checked; its code listed; the calls of a script made on it; a run's record;
+-- a run's picture; the order of a record checked; help; the version; or nothing that there is. A command has the names of
+-- its files.
 pub data Request : Type 0 where
   Check : (module_name : Text) → Request
   Listing : (module_name : Text) → Request
   Seq : (module_name script_name : Text) → Request
+  Run : (run : RunRequest) → Request
+  Draw : (run : RunRequest) → Request
+  Verify : (module_name record_name : Text) → Request
   Help : Request
   Version : Request
   Unclear : Request
 
--- the command of a name, of the rows in which clap keeps what stood behind it
+-- The number that a text writes: decimal digits, a `+` before them or not, below 65,536.
+abbrev pub number : Text → Option ℕ
+number text = if is_unsigned_in 0 65535 text then Some (digits_value 10 (without_leading_plus text)) else None
+
+-- the number that stands behind `-n`, of the rows in which clap keeps what stood behind the command
+abbrev pub processes_of : List Row → Option ℕ
+processes_of rows = option_and_then number (one_of (codes "N") rows)
+
+-- what a run is made of, of the same rows
+abbrev pub run_of : Text → List Row → Option RunRequest
+run_of module_name rows =
+    option_and_then (λ script_name. option_and_then (λ schedule_name. option_map (λ processes. record {
+      module_name = module_name;
+      script_name = script_name;
+      schedule_name = schedule_name;
+      processes = processes;
+    }) (processes_of rows)) (first_of (codes "SCHEDULE") rows)) (first_of (codes "SCRIPT") rows)
+
+-- the command of a name, of the same rows
 abbrev pub command_of : Text → List Row → Option Request
 command_of name rows = option_and_then (λ module_name.
     if bytes_eq name (codes "check") then Some (Check module_name)
     else if bytes_eq name (codes "list") then Some (Listing module_name)
     else if bytes_eq name (codes "seq") then option_map (Seq module_name) (first_of (codes "SCRIPT") rows)
+    else if bytes_eq name (codes "run") then option_map Run (run_of module_name rows)
+    else if bytes_eq name (codes "draw") then option_map Draw (run_of module_name rows)
+    else if bytes_eq name (codes "verify") then option_map (Verify module_name) (first_of (codes "RECORD") rows)
     else None) (first_of (codes "MODULE") rows)
 
 -- Where clap finds no fault, the command that it met. Else its first fault decides: it is a call for help, or a mistake.

@@ -4,14 +4,27 @@ use Rattle.clap.specs.declared.error.kind.ErrorKind.{ErrorKind}
 use Rattle.clap.specs.declared.error.kind.ErrorKind.TheVariants as kind
 use Rattle.ob_command.specs.declared.command.Command as command
 use Rattle.ob_command.specs.declared.command.Command.TheVariants as commands
+use Rattle.ob_command.specs.declared.command.RunCommand.{RunCommand}
 use Rattle.ob_command.specs.declared.command.Stop.{Stop}
 use Rattle.ob_command.specs.declared.command.Stop.TheVariants as stops
-use Rattle.ob_command.specs.CommandLine.{Request, Check, Listing, Seq, Help, Version, Unclear}
+use Rattle.ob_command.specs.CommandLine.{Request, RunRequest, Check, Listing, Seq, Run, Draw, Verify, Help, Version, Unclear}
+
+-- what a command asks for
+abbrev pub run_request_of : RunCommand → RunRequest
+run_request_of run = record {
+  module_name = run.module_name.now;
+  script_name = run.script_name.now;
+  schedule_name = run.schedule_name.now;
+  processes = run.processes;
+}
 
 abbrev pub request_of : command.Command → Request
 request_of (commands.Check module_name) = Check module_name.now
 request_of (commands.List module_name) = Listing module_name.now
 request_of (commands.Seq module_name script_name) = Seq module_name.now script_name.now
+request_of (commands.Run run) = Run (run_request_of run)
+request_of (commands.Draw run) = Draw (run_request_of run)
+request_of (commands.Verify module_name record_name) = Verify module_name.now record_name.now
 
 -- the command that is asked for, or why there is none
 abbrev pub IsReading : Request → Result command.Command Stop → Type 0

@@ -3,9 +3,9 @@
 ghost use Rattle.std.specs.Prelude.{◌≡◌, false, true, IfOk, is_some, map, option_map};
 ghost use Rattle.clap.specs.Words.{app_of, found_of, kind_of, rows_of, rule_of};
 ghost use Rattle.clap.specs.declared.builder.command.Command.TheViews.{out-Command as fields_of};
-ghost use Rattle.ob_command.specs.ClapCommand.{module_app, name_rule, obl0_app, seq_app, top_app};
-ghost use Rattle.ob_command.specs.CommandLine.{clap_request, command_of, is_alone, request};
-ghost use Rattle.ob_command.specs.Commands.{IsReading, IsStopOf, request_of};
+ghost use Rattle.ob_command.specs.ClapCommand.{module_app, name_rule, number_rule, obl0_app, record_app, run_app, script_app, top_app};
+ghost use Rattle.ob_command.specs.CommandLine.{clap_request, command_of, is_alone, request, run_of};
+ghost use Rattle.ob_command.specs.Commands.{IsReading, IsStopOf, request_of, run_request_of};
 ghost use Rattle.ob_command.specs.declared.command.Stop.TheVariants.{NoMemory};
 
 use clap::error::ErrorKind;
@@ -28,6 +28,24 @@ pub enum Command<'a> {
         module_name: &'a str,
         script_name: &'a str,
     },
+    /// `run MODULE SCRIPT SCHEDULE -n N`: the record of a run.
+    Run(RunCommand<'a>),
+    /// `draw MODULE SCRIPT SCHEDULE -n N`: the same run as a picture.
+    Draw(RunCommand<'a>),
+    /// `verify MODULE RECORD`: whether the order of a record is a legal order of its calls.
+    Verify {
+        module_name: &'a str,
+        record_name: &'a str,
+    },
+}
+
+/// What a run is made of: the names of its files, and how many processes there are.
+#[derive(Clone, Copy, Debug, PartialEq, Eq)]
+pub struct RunCommand<'a> {
+    pub module_name: &'a str,
+    pub script_name: &'a str,
+    pub schedule_name: &'a str,
+    pub processes: usize,
 }
 
 /// Why there is no command to obey.
@@ -50,6 +68,15 @@ impl From<AllocError> for Stop {
         Stop::NoMemory
     }
 }
+
+const ABOUT_SEQ: &str = "Makes the calls of a script one at a time and prints the reply to each";
+
+const ABOUT_RUN: &str =
+    "Makes the calls of a script by the steps of a schedule and prints the record of the run";
+
+const ABOUT_DRAW: &str = "Makes the same run as `run` and prints a picture of it in SVG";
+
+const ABOUT_VERIFY: &str = "Tells whether the order of a record is a legal order of its calls";
 
 /// What stands below the help.
 const AFTER_HELP: &str = "\
@@ -108,8 +135,29 @@ fn command_of<'a>(name: &str, matches: &ArgMatches<'a>) -> Option<Command<'a>>
             module_name,
             script_name: matches.get_str("SCRIPT")?,
         }),
+        "run" => Some(Command::Run(run_of(module_name, matches)?)),
+        "draw" => Some(Command::Draw(run_of(module_name, matches)?)),
+        "verify" => Some(Command::Verify {
+            module_name,
+            record_name: matches.get_str("RECORD")?,
+        }),
         _ => None,
     }
+}
+
+/// What a run is made of, of the matches of the words behind `run` or `draw`.
+fn run_of<'a>(module_name: &'a str, matches: &ArgMatches<'a>) -> Option<RunCommand<'a>>
+    ensures { option_map run_request_of result ≡ run_of module_name.entry.now (rows_of (found_of matches.now)) }
+{
+    let script_name = matches.get_str("SCRIPT")?;
+    let schedule_name = matches.get_str("SCHEDULE")?;
+    let processes = matches.get_one::<u16>("N")?;
+    Some(RunCommand {
+        module_name,
+        script_name,
+        schedule_name,
+        processes: usize::from(processes),
+    })
 }
 
 /// What a parse without matches stops for.
@@ -129,11 +177,17 @@ fn command_line<'a>(alloc: Global) -> Result<clap::Command<'a>, AllocError>
 {
     let check = module_line(alloc, "check", "Tells whether a module keeps the rules")?;
     let list = module_line(alloc, "list", "Prints the code of a module")?;
-    let seq = seq_line(alloc)?;
+    let seq = script_line(alloc, "seq", ABOUT_SEQ)?;
+    let run = run_line(alloc, "run", ABOUT_RUN)?;
+    let draw = run_line(alloc, "draw", ABOUT_DRAW)?;
+    let verify = record_line(alloc, "verify", ABOUT_VERIFY)?;
     program_line(alloc)?
         .subcommand(check)?
         .subcommand(list)?
-        .subcommand(seq)
+        .subcommand(seq)?
+        .subcommand(run)?
+        .subcommand(draw)?
+        .subcommand(verify)
 }
 
 /// The command line before any command.
@@ -151,18 +205,57 @@ fn program_line<'a>(alloc: Global) -> Result<clap::Command<'a>, AllocError>
     Ok(program)
 }
 
-/// The words behind `seq`.
-fn seq_line<'a>(alloc: Global) -> Result<clap::Command<'a>, AllocError>
-    ensures app { IfOk result (λ c. app_of c ≡ seq_app) }
+/// The words behind a command on a module, a script and a schedule, for a number of processes.
+fn run_line<'a>(
+    alloc: Global,
+    command: &'a str,
+    about: &'a str,
+) -> Result<clap::Command<'a>, AllocError>
+    ensures app { IfOk result (λ c. app_of c ≡ run_app command.entry.now) }
     ensures local { IfOk result (λ c. (fields_of c).has_globals ≡ false) }
 {
-    let about = "Makes the calls of a script one at a time and prints the reply to each";
+    let schedule = file_name(
+        alloc,
+        "SCHEDULE",
+        "The file of the items that say which process steps: PROCESS*STEPS, PROCESS:LABEL or PROCESS!",
+    );
+    script_line(alloc, command, about)?
+        .arg(schedule)?
+        .arg(process_count(alloc))
+}
+
+/// The words behind a command on a module and a script.
+fn script_line<'a>(
+    alloc: Global,
+    command: &'a str,
+    about: &'a str,
+) -> Result<clap::Command<'a>, AllocError>
+    ensures app { IfOk result (λ c. app_of c ≡ script_app command.entry.now) }
+    ensures local { IfOk result (λ c. (fields_of c).has_globals ≡ false) }
+{
     let script = file_name(
         alloc,
         "SCRIPT",
         "The file of the calls, one a line: PROCESS PROCEDURE ARGUMENTS",
     );
-    module_line(alloc, "seq", about)?.arg(script)
+    module_line(alloc, command, about)?.arg(script)
+}
+
+/// The words behind a command on a module and the record of a run.
+fn record_line<'a>(
+    alloc: Global,
+    command: &'a str,
+    about: &'a str,
+) -> Result<clap::Command<'a>, AllocError>
+    ensures app { IfOk result (λ c. app_of c ≡ record_app command.entry.now) }
+    ensures local { IfOk result (λ c. (fields_of c).has_globals ≡ false) }
+{
+    let record = file_name(
+        alloc,
+        "RECORD",
+        "The file of the record, as `run` prints it",
+    );
+    module_line(alloc, command, about)?.arg(record)
 }
 
 /// The words behind a command on a module: the module's name.
@@ -184,4 +277,16 @@ fn file_name<'a>(alloc: Global, id: &'a str, help: &'a str) -> Arg<'a>
     ensures local { result.global ≡ false }
 {
     Arg::new(alloc, id).required(true).help(help)
+}
+
+/// The option that says how many processes there are.
+fn process_count<'a>(alloc: Global) -> Arg<'a>
+    ensures rule { rule_of result ≡ number_rule }
+    ensures local { result.global ≡ false }
+{
+    Arg::new(alloc, "N")
+        .short('n')
+        .required(true)
+        .value_parser(clap::value_parser!(u16))
+        .help("How many processes there are, 1 to 16")
 }

@@ -1,7 +1,7 @@
 //! What plain words ask for. What a function here ensures is proved; it does nothing.
 
-ghost use Rattle.std.specs.Prelude.{◌≡◌, [], ◌∷◌, false, codes};
-ghost use Rattle.ob_command.specs.CommandLine.{Check, Help, Listing, Seq, Text, Unclear, is_option, request};
+ghost use Rattle.std.specs.Prelude.{◌≡◌, ℕ, Some, [], ◌∷◌, false, codes};
+ghost use Rattle.ob_command.specs.CommandLine.{Check, Draw, Help, Listing, Run, Seq, Text, Unclear, Verify, is_option, number, request};
 
 /// `check` and a name that is no option.
 pub fn check_is_asked()
@@ -16,6 +16,25 @@ pub fn list_is_asked()
 /// `seq` and two names that are no options.
 pub fn seq_is_asked()
     ensures { (m s : Text) → is_option m ≡ false → is_option s ≡ false → request (codes "seq" ∷ m ∷ s ∷ []) ≡ Seq m s }
+{}
+
+/// `run` and three names that are no options, and `-n` with a number.
+pub fn run_is_asked()
+    ensures { (m s d n : Text) (k : ℕ) → is_option m ≡ false → is_option s ≡ false → is_option d ≡ false → number n ≡ Some k
+        → request (codes "run" ∷ m ∷ s ∷ d ∷ codes "-n" ∷ n ∷ [])
+        ≡ Run (record { module_name = m; script_name = s; schedule_name = d; processes = k }) }
+{}
+
+/// `draw` and the words of a run.
+pub fn draw_is_asked()
+    ensures { (m s d n : Text) (k : ℕ) → is_option m ≡ false → is_option s ≡ false → is_option d ≡ false → number n ≡ Some k
+        → request (codes "draw" ∷ m ∷ s ∷ d ∷ codes "-n" ∷ n ∷ [])
+        ≡ Draw (record { module_name = m; script_name = s; schedule_name = d; processes = k }) }
+{}
+
+/// `verify` and two names that are no options.
+pub fn verify_is_asked()
+    ensures { (m r : Text) → is_option m ≡ false → is_option r ≡ false → request (codes "verify" ∷ m ∷ r ∷ []) ≡ Verify m r }
 {}
 
 /// The words that ask for help.

@@ -1,7 +1,7 @@
 use Rattle.std.proofs.Common.{◌∙◌, ap, codes, option_map, sym}
 use Rattle.clap.specs.Words.{found_of, rows_of}
-use Rattle.ob_command.specs.Commands.{request_of}
-use Rattle.ob_command.proofs.Readings.{a_check, a_list, a_seq, first_row, no_module}
+use Rattle.ob_command.specs.Commands.{request_of, run_request_of}
+use Rattle.ob_command.proofs.Readings.{a_check, a_draw, a_list, a_run, a_seq, a_verify, first_row, no_module}
 use Rattle.ob_command.proofs.command.command_of.Goals as goal
 
 pub returns-in_err-module_name : goal.returns-in_err-module_name
@@ -38,3 +38,34 @@ returns-in_ok-get_str-in-seq c =
     let s = first_row (found_of c.args.matches.now) (codes "SCRIPT") c.get_str-in-seq.result _ c.get_str-in-seq.ensures
     (ap (option_map (λ s. s.now)) c.in_ok-get_str-in-seq.was) in
     sym (a_seq c.args.name.now _ (rows_of (found_of c.args.matches.now)) _ c.in-seq.is m s)
+
+pub returns-in_ok-run_of-in-run : goal.returns-in_ok-run_of-in-run
+returns-in_ok-run_of-in-run c =
+    let m = first_row (found_of c.args.matches.now) (codes "MODULE") c.get_str.result _ c.get_str.ensures
+    (ap (option_map (λ s. s.now)) c.in_ok-module_name.was) in
+    sym (a_run c.args.name.now _ (rows_of (found_of c.args.matches.now)) _ c.in-run.is m
+    (sym c.run_of.ensures ∙ ap (option_map run_request_of) c.in_ok-run_of-in-run.was))
+
+pub returns-in_ok-run_of-in-draw : goal.returns-in_ok-run_of-in-draw
+returns-in_ok-run_of-in-draw c =
+    let m = first_row (found_of c.args.matches.now) (codes "MODULE") c.get_str.result _ c.get_str.ensures
+    (ap (option_map (λ s. s.now)) c.in_ok-module_name.was) in
+    sym (a_draw c.args.name.now _ (rows_of (found_of c.args.matches.now)) _ c.in-draw.is m
+    (sym c.run_of-in-draw.ensures ∙ ap (option_map run_request_of) c.in_ok-run_of-in-draw.was))
+
+pub returns-in_err-get_str-in-verify : goal.returns-in_err-get_str-in-verify
+returns-in_err-get_str-in-verify c =
+    let m = first_row (found_of c.args.matches.now) (codes "MODULE") c.get_str.result _ c.get_str.ensures
+    (ap (option_map (λ s. s.now)) c.in_ok-module_name.was) in
+    let r = first_row (found_of c.args.matches.now) (codes "RECORD") c.get_str-in-verify.result _ c.get_str-in-verify.ensures
+    (ap (option_map (λ s. s.now)) c.in_err-get_str-in-verify.was) in
+    ap (option_map request_of) c.from_residual-in_err-get_str-in-verify.ensures
+    ∙ sym (a_verify c.args.name.now _ (rows_of (found_of c.args.matches.now)) _ c.in-verify.is m r)
+
+pub returns-in_ok-get_str-in-verify : goal.returns-in_ok-get_str-in-verify
+returns-in_ok-get_str-in-verify c =
+    let m = first_row (found_of c.args.matches.now) (codes "MODULE") c.get_str.result _ c.get_str.ensures
+    (ap (option_map (λ s. s.now)) c.in_ok-module_name.was) in
+    let r = first_row (found_of c.args.matches.now) (codes "RECORD") c.get_str-in-verify.result _ c.get_str-in-verify.ensures
+    (ap (option_map (λ s. s.now)) c.in_ok-get_str-in-verify.was) in
+    sym (a_verify c.args.name.now _ (rows_of (found_of c.args.matches.now)) _ c.in-verify.is m r)

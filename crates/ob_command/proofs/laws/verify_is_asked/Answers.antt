@@ -1,0 +1,5 @@
+use Rattle.ob_command.proofs.ClapWords.{verify_asked}
+use Rattle.ob_command.proofs.laws.verify_is_asked.Goals as goal
+
+pub returns : goal.returns
+returns c = verify_asked
