@@ -3,6 +3,7 @@ use Rattle.std.proofs.Common.{◌≡◌, ℕ, ◌<◌, ◌≤◌, List, length, 
 use Rattle.std.proofs.lemmas.Bool.{cases_lt}
 use Rattle.std.proofs.lemmas.List.{length-take, take_all}
 use Rattle.ob_scan.specs.declared.fault.ScanFault.TheVariants as Scan
+use Rattle.ob_opened.specs.declared.checked_text.TextFault.TheVariants as Texts
 use Rattle.ob_program.specs.ModuleCode.{IsModuleTextFault}
 use Rattle.ob_program.specs.SequentialRun.{IsSeqTextFault}
 use Rattle.ob_program.specs.declared.module_code.ModuleTextFault.{ModuleTextFault}
@@ -32,7 +33,7 @@ of_whole P part whole is no_longer h = elim (cases_lt 65536 (length part)) [
 ]
 
 pub fault_of_whole : (part whole script : List ℕ) (fault : SeqTextFault) → part ≡ beginning whole →
-    (65536 < length part → fault ≡ Faults.Scan Scan.TooLong) → IsSeqTextFault part script fault → IsSeqTextFault whole script fault
+    (65536 < length part → fault ≡ Faults.Text (Texts.Scan Scan.TooLong)) → IsSeqTextFault part script fault → IsSeqTextFault whole script fault
 fault_of_whole part whole script fault is too_long stands = elim (cases_lt 65536 (length part)) [
   | inl long ↦
       subst (λ (e : SeqTextFault). IsSeqTextFault whole script e) (sym (too_long long))
@@ -41,7 +42,7 @@ fault_of_whole part whole script fault is too_long stands = elim (cases_lt 65536
 ]
 
 pub module_fault_of_whole : (part whole : List ℕ) (fault : ModuleTextFault) → part ≡ beginning whole →
-    (65536 < length part → fault ≡ Modules.Scan Scan.TooLong) → IsModuleTextFault part fault → IsModuleTextFault whole fault
+    (65536 < length part → fault ≡ Modules.Text (Texts.Scan Scan.TooLong)) → IsModuleTextFault part fault → IsModuleTextFault whole fault
 module_fault_of_whole part whole fault is too_long stands = elim (cases_lt 65536 (length part)) [
   | inl long ↦
       subst (λ (e : ModuleTextFault). IsModuleTextFault whole e) (sym (too_long long))

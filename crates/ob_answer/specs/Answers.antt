@@ -5,7 +5,7 @@ use Rattle.ob_answer.specs.declared.files.FileFault.{FileFault}
 use Rattle.ob_check.specs.Program.{Program}
 use Rattle.ob_program.specs.declared.module_code.ModuleTextFault.{ModuleTextFault}
 use Rattle.ob_program.specs.declared.sequential.SeqTextFault.{SeqTextFault}
-use Rattle.ob_program.specs.FaultLines.{fault_line, module_fault_line}
+use Rattle.ob_fault_lines.specs.FaultLines.{fault_line, module_fault_line}
 use Rattle.ob_program.specs.ModuleCode.{Compiles, IsListing, IsModuleTextFault, IsNumberedModule}
 use Rattle.ob_program.specs.SequentialRun.{IsSequentialRun, IsSeqTextFault, IsNumbered}
 use Rattle.ob_command.specs.CommandLine.{Text, Request, Check, Listing, Seq, Help, Version, Unclear}

@@ -5,7 +5,7 @@ ghost use Rattle.ob_answer.specs.Answers.{IsAnswer, IsModuleAnswer, IsSeqAnswer,
 ghost use Rattle.ob_answer.specs.Printed.{IsRefused, IsUnreadable};
 ghost use Rattle.ob_command.specs.CommandLine.{Check, Listing, Seq, Text, is_option, request};
 ghost use Rattle.ob_command.specs.Commands.{request_of};
-ghost use Rattle.ob_program.specs.FaultLines.{fault_line, module_fault_line};
+ghost use Rattle.ob_fault_lines.specs.FaultLines.{fault_line, module_fault_line};
 ghost use Rattle.ob_program.specs.ModuleCode.{IsListing, is_module_memory};
 ghost use Rattle.ob_program.specs.SequentialRun.{is_want_of_memory};
 
@@ -13,8 +13,8 @@ use crate::answered::Answer;
 use crate::files::{FileFault, Files};
 use crate::shown_name::push_name;
 use ob_command::command::{Command, Stop, read_command};
+use ob_fault_lines::fault_line::{fault_line, module_fault_line};
 use ob_grammar::NoMemory;
-use ob_program::fault_line::{fault_line, module_fault_line};
 use ob_program::module_code::{ModuleTextFault, check_text, list_text};
 use ob_program::sequential::{SeqTextFault, seq_text};
 use ob_scan::scanner::LONGEST_TEXT;

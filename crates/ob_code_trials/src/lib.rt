@@ -1,5 +1,5 @@
-//! Tests of what no row of the program shows: layouts and code, objects, schedules and records, and the values and stores of the
-//! whole language. Nothing stands on this crate.
+//! Tests of what no row of the program shows: layouts and code, objects, schedules and records, verified records, and
+//! the values and stores of the whole language. Nothing stands on this crate.
 #![tactic(auto)]
 
 #[cfg(test)]
@@ -18,3 +18,5 @@ mod scalars;
 mod schedules;
 #[cfg(test)]
 mod stores;
+#[cfg(test)]
+mod verifying;

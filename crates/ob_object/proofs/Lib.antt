@@ -1,2 +1,7 @@
 pub mod CompileFaults
 pub mod TypedOpenings
+pub mod ScriptFits
+pub mod Objects
+pub mod Runs
+pub mod PerformFaults
+pub mod NoPerformance

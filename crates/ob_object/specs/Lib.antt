@@ -1,3 +1,4 @@
 pub mod Compilation
 pub mod CompilationParts
 pub mod View
+pub mod Performance

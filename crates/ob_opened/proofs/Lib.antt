@@ -1,2 +1,1 @@
 pub mod NoModule
-pub mod NoText

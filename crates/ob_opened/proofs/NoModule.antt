@@ -1,5 +1,5 @@
--- A fault of a module's text rules out that it is one.
-use Rattle.std.proofs.Common.{◌≡◌, ℕ, ◌<◌, suc, List, ◌++◌, length, take, drop, true, false, ap, sym, subst, inl, inr, arith}
+-- A fault of a module's text rules out that it is one, and a fault of the opening that there is one.
+use Rattle.std.proofs.Common.{◌≡◌, ◌≢◌, ℕ, ◌<◌, suc, List, ◌++◌, length, take, drop, true, false, ap, refl, sym, subst, inl, inr, arith}
 use Rattle.std.proofs.lemmas.List.{take-append-drop}
 use Rattle.ob_scan.specs.declared.token.Token.{Token}
 use Rattle.ob_scan.specs.Lexemes.{lexemes}
@@ -16,7 +16,10 @@ use Rattle.ob_mean.specs.declared.opening.OpenFault.{OpenFault}
 use Rattle.ob_mean.specs.declared.opening.OpenFault.TheVariants as Open
 use Rattle.ob_mean.specs.Faults.{IsOpenFault}
 use Rattle.ob_mean.specs.Object.{IsOpening, State}
-use Rattle.ob_opened.specs.ModuleFaults.{HasNoOpening, IsNumbered, of_open, of_parse}
+use Rattle.ob_opened.specs.CheckedText.{IsNumberedText, of_parse}
+use Rattle.ob_opened.specs.ModuleFaults.{HasNoOpening, IsNumbered, of_open, of_text}
+use Rattle.ob_opened.specs.declared.checked_text.TextFault.{TextFault}
+use Rattle.ob_opened.specs.declared.checked_text.TextFault.TheVariants as Texts
 use Rattle.ob_opened.specs.declared.opened.TheConstants.{TURNS}
 
 -- ---- no module
@@ -28,7 +31,7 @@ parted tokens m n h = subst (λ (ts : Lexemes). Derives ts m) (sym (take-append-
 breaks : {IsBroken : Module → ℕ → Type 0} (tokens : Lexemes) (place : ℕ) → BreaksCondition IsBroken tokens place → (m : Module) → Derives tokens m → IsBroken m place
 breaks tokens place b m h = b.broken (drop (suc b.index) tokens) m (parted tokens m (suc b.index) h)
 
-no_tree : (t : TokenizedText) (e : ParseFault) → IsParseFault t e → IsNumbered (of_parse e)
+no_tree : (t : TokenizedText) (e : ParseFault) → IsParseFault t e → IsNumberedText (of_parse e)
     → (m : Module) → Derives (lexemes t.text t.tokens) m → KeepsConditions m → ⊥
 no_tree t (Parse.Unexpected place) (inl r) numbered m h keeps =
     r.none (drop (suc r.index) (lexemes t.text t.tokens), m, parted (lexemes t.text t.tokens) m (suc r.index) h)
@@ -46,7 +49,7 @@ no_tree t (Parse.NameDiffers place) b numbered m h keeps =
 no_tree t Parse.NoMemory b numbered m h keeps = let bad : true ≡ false = numbered.0 in cc
 
 pub no_module_parse : (text : List ℕ) (t : TokenizedText) (e : ParseFault) → t.text ≡ text → ((others : List Token) → HasTokens text others → others ≡ t.tokens)
-    → IsParseFault t e → IsNumbered (of_parse e) → (program : Program) → IsModule text program → ⊥
+    → IsParseFault t e → IsNumberedText (of_parse e) → (program : Program) → IsModule text program → ⊥
 no_module_parse text t e is alone h numbered program m =
     let of = m.text_of in
     let derived : Derives (lexemes t.text of.tokens) m.tree = subst (λ (x : List ℕ). Derives (lexemes x of.tokens) m.tree) (sym is) of.derives in
@@ -54,12 +57,23 @@ no_module_parse text t e is alone h numbered program m =
 
 -- ---- no opening
 
-opens_not : (program : Program) (e : OpenFault) (state : State) → IsOpenFault program TURNS e → IsNumbered (of_open e) → IsOpening program TURNS state → ⊥
-opens_not program (Open.Trap k) state h numbered opens = let is = opens.1 in cc
-opens_not program Open.NeedsMore state h numbered opens = let is = opens.1 in cc
-opens_not program Open.NoMemory state h numbered opens = let bad : true ≡ false = numbered.0 in cc
+pub opens_not : (program : Program) (e : OpenFault) (state : State) → IsOpenFault program TURNS e → e ≢ Open.NoMemory → IsOpening program TURNS state → ⊥
+opens_not program (Open.Trap k) state h told opens = let is = opens.1 in cc
+opens_not program Open.NeedsMore state h told opens = let is = opens.1 in cc
+opens_not program Open.NoMemory state h told opens = told refl
+
+open_told : (e : OpenFault) → IsNumbered (of_open e) → e ≢ Open.NoMemory
+open_told (Open.Trap k) numbered = numbered.1
+open_told Open.NeedsMore numbered = numbered.1
+open_told Open.NoMemory numbered = let bad : true ≡ false = numbered.0 in cc
 
 pub no_opening : (text : List ℕ) (program : Program) (e : OpenFault) → ((other : Program) → IsModule text other → other ≡ program)
     → IsOpenFault program TURNS e → IsNumbered (of_open e) → HasNoOpening text
 no_opening text program e alone h numbered other state m opens =
-    opens_not program e state h numbered (subst (λ (p : Program). IsOpening p TURNS state) (alone other m) opens)
+    opens_not program e state h (open_told e numbered) (subst (λ (p : Program). IsOpening p TURNS state) (alone other m) opens)
+
+pub text_numbered : (e : TextFault) → IsNumbered (of_text e) → IsNumberedText e
+text_numbered (Texts.Scan e) h = h.1
+text_numbered (Texts.Parse e) h = h.1
+text_numbered (Texts.Check e) h = h.1
+text_numbered Texts.NoMemory h = let bad : true ≡ false = h.0 in cc

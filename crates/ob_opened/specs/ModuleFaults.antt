@@ -1,19 +1,14 @@
--- What each fault of a module's text says.
+-- What each fault of a module and its opening says.
 use Rattle.std.specs.Prelude.{◌≡◌, ◌≢◌, ℕ, Bool, true, false, List}
-use Rattle.ob_scan.specs.ScanFaults.{IsScanFault}
-use Rattle.ob_scan.specs.declared.fault.ScanFault.{ScanFault}
-use Rattle.ob_scan.specs.declared.fault.ScanFault.TheVariants as Scan
-use Rattle.ob_parser.specs.ParseFaults.{IsParseFaultOf}
-use Rattle.ob_parser.specs.declared.parser.ParseFault.{ParseFault}
-use Rattle.ob_parser.specs.declared.parser.ParseFault.TheVariants as Parse
-use Rattle.ob_check.specs.ModuleText.{IsCheckFaultOf, IsModule}
+use Rattle.ob_check.specs.ModuleText.{IsModule}
 use Rattle.ob_check.specs.Program.{Program}
-use Rattle.ob_check.specs.declared.checker.CheckFault.{CheckFault}
-use Rattle.ob_check.specs.declared.checker.CheckFault.TheVariants as Check
 use Rattle.ob_mean.specs.Faults.{IsOpenFault}
 use Rattle.ob_mean.specs.Object.{State, IsOpening}
 use Rattle.ob_mean.specs.declared.opening.OpenFault.{OpenFault}
 use Rattle.ob_mean.specs.declared.opening.OpenFault.TheVariants as Open
+use Rattle.ob_opened.specs.CheckedText.{IsNumberedText, IsTextFault}
+use Rattle.ob_opened.specs.declared.checked_text.TextFault.{TextFault}
+use Rattle.ob_opened.specs.declared.checked_text.TextFault.TheVariants as Texts
 use Rattle.ob_opened.specs.declared.opened.ModuleFault.{ModuleFault}
 use Rattle.ob_opened.specs.declared.opened.ModuleFault.TheVariants as Faults
 use Rattle.ob_opened.specs.declared.opened.TheConstants.{TURNS}
@@ -26,9 +21,7 @@ pub record IsOpenFaultOf (text : List ℕ) (fault : OpenFault) : Type 0 where
 
 -- what each fault says of a text
 abbrev pub IsModuleFault : List ℕ → ModuleFault → Type 0
-IsModuleFault text (Faults.Scan e) = IsScanFault text e
-IsModuleFault text (Faults.Parse e) = IsParseFaultOf text e
-IsModuleFault text (Faults.Check e) = IsCheckFaultOf text e
+IsModuleFault text (Faults.Text e) = IsTextFault text e
 IsModuleFault text (Faults.Open e) = IsOpenFaultOf text e
 IsModuleFault text Faults.NoMemory = Unit {0}
 
@@ -38,27 +31,17 @@ HasNoOpening text = (program : Program) (state : State) → IsModule text progra
 
 -- want of memory is told in one place
 
-abbrev pub of_scan : ScanFault → ModuleFault
-of_scan Scan.NoMemory = Faults.NoMemory
-of_scan e = Faults.Scan e
-
-abbrev pub of_parse : ParseFault → ModuleFault
-of_parse Parse.NoMemory = Faults.NoMemory
-of_parse e = Faults.Parse e
-
-abbrev pub of_check : CheckFault → ModuleFault
-of_check Check.NoMemory = Faults.NoMemory
-of_check e = Faults.Check e
+abbrev pub of_text : TextFault → ModuleFault
+of_text Texts.NoMemory = Faults.NoMemory
+of_text e = Faults.Text e
 
 abbrev pub of_open : OpenFault → ModuleFault
 of_open Open.NoMemory = Faults.NoMemory
 of_open e = Faults.Open e
 
--- want of memory is told by its own variant alone
+-- want of memory is told by its own variant alone: a fault of the text has a number
 abbrev pub TellsMemoryApart : ModuleFault → Type 0
-TellsMemoryApart (Faults.Scan e) = e ≢ Scan.NoMemory
-TellsMemoryApart (Faults.Parse e) = e ≢ Parse.NoMemory
-TellsMemoryApart (Faults.Check e) = e ≢ Check.NoMemory
+TellsMemoryApart (Faults.Text e) = IsNumberedText e
 TellsMemoryApart (Faults.Open e) = e ≢ Open.NoMemory
 TellsMemoryApart Faults.NoMemory = Unit {0}
 

@@ -8,13 +8,12 @@ ghost use Rattle.ob_mean.specs.Object.{IsOpening};
 ghost use Rattle.ob_mean.specs.View.{state_of};
 ghost use Rattle.ob_opened.specs.ModuleFaults.{IsModuleFault, IsNumbered, TellsMemoryApart, HasNoOpening};
 
+use crate::checked_text::{TextFault, checked_text};
 use ob_check::checked::Checked;
-use ob_check::checker::{CheckFault, check};
 use ob_mean::opening::{OpenFault, opening};
 use ob_mean::state::State;
-use ob_parser::parser::{ParseFault, parse};
+use ob_scan::ScanFault;
 use ob_scan::scanner::LONGEST_TEXT;
-use ob_scan::{ScanFault, scan};
 use std::alloc::Global;
 use thiserror::Error;
 
@@ -25,11 +24,7 @@ pub const TURNS: u64 = 1_000_000;
 #[derive(Clone, Copy, Debug, PartialEq, Eq, Error)]
 pub enum ModuleFault {
     #[error("{0}")]
-    Scan(ScanFault),
-    #[error("{0}")]
-    Parse(ParseFault),
-    #[error("{0}")]
-    Check(CheckFault),
+    Text(TextFault),
     #[error("{0}")]
     Open(OpenFault),
     /// Want of memory.
@@ -37,41 +32,15 @@ pub enum ModuleFault {
     NoMemory,
 }
 
-impl From<ScanFault> for ModuleFault {
-    ghost use Rattle.ob_opened.specs.ModuleFaults.{of_scan};
+impl From<TextFault> for ModuleFault {
+    ghost use Rattle.ob_opened.specs.ModuleFaults.{of_text};
 
-    ghost from_gives = { λ e f. f ≡ of_scan e };
+    ghost from_gives = { λ e f. f ≡ of_text e };
 
-    fn from(fault: ScanFault) -> ModuleFault {
+    fn from(fault: TextFault) -> ModuleFault {
         match fault {
-            ScanFault::NoMemory => ModuleFault::NoMemory,
-            other => ModuleFault::Scan(other),
-        }
-    }
-}
-
-impl From<ParseFault> for ModuleFault {
-    ghost use Rattle.ob_opened.specs.ModuleFaults.{of_parse};
-
-    ghost from_gives = { λ e f. f ≡ of_parse e };
-
-    fn from(fault: ParseFault) -> ModuleFault {
-        match fault {
-            ParseFault::NoMemory => ModuleFault::NoMemory,
-            other => ModuleFault::Parse(other),
-        }
-    }
-}
-
-impl From<CheckFault> for ModuleFault {
-    ghost use Rattle.ob_opened.specs.ModuleFaults.{of_check};
-
-    ghost from_gives = { λ e f. f ≡ of_check e };
-
-    fn from(fault: CheckFault) -> ModuleFault {
-        match fault {
-            CheckFault::NoMemory => ModuleFault::NoMemory,
-            other => ModuleFault::Check(other),
+            TextFault::NoMemory => ModuleFault::NoMemory,
+            other => ModuleFault::Text(other),
         }
     }
 }
@@ -89,26 +58,6 @@ impl From<OpenFault> for ModuleFault {
     }
 }
 
-/// The checked module of a text.
-pub fn checked_module(alloc: Global, text: &[u8]) -> Result<Checked, ModuleFault>
-    ensures program { IfOk result (λ c. IsModule text.now (program_in c)) }
-    ensures alone { IfOk result (λ c. (other : Program) → IsModule text.now other → other ≡ program_in c) }
-    ensures fault { IfErr result (IsModuleFault text.now) }
-
-    // With a fault that has a number the text is no module.
-    ensures none { IfErr result (λ e. IsNumbered e → (program : Program) → IsModule text.now program → ⊥) }
-
-    // Want of memory is told by its own variant alone.
-    ensures memory { IfErr result TellsMemoryApart }
-
-    // A text over the scanner's bound is refused, whatever it says.
-    ensures too_long { LONGEST_TEXT < length text.now → result ≡ Err (ModuleFault.Scan ScanFault.TooLong) }
-{
-    let tokens = scan(alloc, text)?;
-    let tree = parse(alloc, &tokens)?;
-    Ok(check(alloc, tree)?)
-}
-
 /// The checked module of a text, and its opening state.
 pub fn opened_module(alloc: Global, text: &[u8]) -> Result<(Checked, State), ModuleFault>
     ensures program { IfOk result (λ r. IsModule text.now (program_in r.0)) }
@@ -119,10 +68,13 @@ pub fn opened_module(alloc: Global, text: &[u8]) -> Result<(Checked, State), Mod
     // With a fault that has a number there is no opening of a module of this text.
     ensures none { IfErr result (λ e. IsNumbered e → HasNoOpening text.now) }
 
+    // Want of memory is told by its own variant alone.
     ensures memory { IfErr result TellsMemoryApart }
-    ensures too_long { LONGEST_TEXT < length text.now → result ≡ Err (ModuleFault.Scan ScanFault.TooLong) }
+
+    // A text over the scanner's bound is refused, whatever it says.
+    ensures too_long { LONGEST_TEXT < length text.now → result ≡ Err (ModuleFault.Text (TextFault.Scan ScanFault.TooLong)) }
 {
-    let checked = checked_module(alloc, text)?;
+    let checked = checked_text(alloc, text)?;
     let state = opening(alloc, &checked, TURNS)?;
     Ok((checked, state))
 }

@@ -12,9 +12,10 @@ use Rattle.ob_text.specs.declared.script.ScriptCall.{ScriptCall}
 use Rattle.ob_text.specs.Script
 use Rattle.ob_text.specs.Words.{Word}
 use Rattle.ob_text.specs.Script.{AreLines, none, skipped, call, Makes, makes}
-use Rattle.ob_text.specs.ScriptView.{script_call_of}
+use Rattle.ob_opened.specs.declared.opened.TheConstants.{TURNS}
+use Rattle.ob_text.specs.ScriptView.{object_call, script_call_of}
 use Rattle.ob_reply.specs.ReplyLines.{reply_lines, count_of}
-use Rattle.ob_program.specs.SequentialRun.{NeedsMoreTurnsIn, PrintsReplies, object_call, turns}
+use Rattle.ob_program.specs.SequentialRun.{NeedsMoreTurnsIn, PrintsReplies}
 
 callers_in : (xs : List ScriptCall) → map (λ c. c.process) (map script_call_of xs) ≡ map (λ c. c.process) xs
 callers_in [] = refl
@@ -49,7 +50,7 @@ callers_all_below xs callers apart processes h =
     rw apart (All-map (λ (p : ℕ). p < processes) (λ (c : ScriptCall). c.process) xs h)
 
 module _ (program : Program) (xs : List ScriptCall) (callers : List ℕ) (calls : List ObjectCall) (apart : callers ≡ map (λ c. c.process) xs) (apart' : calls ≡ map (λ c. object_call (script_call_of c)) xs) where
-  pub prints : (replies : List Reply) (output : List ℕ) → AreReplies program turns calls replies → output ≡ reply_lines [] callers replies →
+  pub prints : (replies : List Reply) (output : List ℕ) → AreReplies program TURNS calls replies → output ≡ reply_lines [] callers replies →
       PrintsReplies program (map script_call_of xs) output
   prints replies output replied printed =
       record {
@@ -58,14 +59,14 @@ module _ (program : Program) (xs : List ScriptCall) (callers : List ℕ) (calls 
         printed = rw (callers_in, ← apart) printed;
       }
 
-  pub needs_more_within : (position : ℕ) → NeedsMoreAt program turns calls position → position < length callers
+  pub needs_more_within : (position : ℕ) → NeedsMoreAt program TURNS calls position → position < length callers
   needs_more_within position more =
       let within = slice_get_within calls position more.call more.here in
       let as_many : length callers ≡ length xs = ap length apart ∙ length-map xs (λ (c : ScriptCall). c.process) in
       let as_many' : length calls ≡ length xs = ap length apart' ∙ length-map xs (λ (c : ScriptCall). object_call (script_call_of c)) in
       omega arith
 
-  pub needs_more : (position caller number : ℕ) → NeedsMoreAt program turns calls position → caller ≡ get_or callers position caller →
+  pub needs_more : (position caller number : ℕ) → NeedsMoreAt program TURNS calls position → caller ≡ get_or callers position caller →
       number ≡ suc (count_of (slice_index callers position) (take position callers)) → NeedsMoreTurnsIn program (map script_call_of xs) caller number
   needs_more position caller number more at counted =
       let ys = map script_call_of xs in

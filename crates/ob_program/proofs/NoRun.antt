@@ -1,72 +1,31 @@
 -- Faults rule out each output.
-use Rattle.std.proofs.Common.{◌≡◌, ◌∙◌, ℕ, ◌<◌, suc, zero, List, [], ◌∷◌, ◌++◌, length, map, take, drop, true, false, Option, Some, None, option_map, slice_get, refl, sym, ap, ap₂, subst, inl, inr, arith}
-use Rattle.std.proofs.lemmas.List.{take-append-drop}
-use Rattle.ob_scan.specs.declared.token.Token.{Token}
-use Rattle.ob_scan.specs.Lexemes.{lexemes}
-use Rattle.ob_scan.specs.Tokens.{HasTokens, TokenizedText}
-use Rattle.ob_parser.specs.declared.parser.ParseFault.{ParseFault}
-use Rattle.ob_parser.specs.declared.parser.ParseFault.TheVariants as Parse
-use Rattle.ob_grammar.specs.Conditions.{KeepsConditions, breaches}
-use Rattle.ob_grammar.specs.Grammar.{Derives, Lexemes}
-use Rattle.ob_parser.specs.ParseFaults.{BreaksCondition, IsParseFault, RefusesEnd, RefusesToken}
-use Rattle.ob_grammar.specs.Tree.{Module}
+use Rattle.std.proofs.Common.{◌≡◌, ◌≢◌, ◌∙◌, ℕ, suc, zero, List, [], ◌∷◌, map, take, true, false, Option, Some, None, option_map, slice_get, refl, sym, ap, ap₂, subst}
 use Rattle.ob_check.specs.Exports.{signatures}
 use Rattle.ob_check.specs.ModuleText.{IsModule}
 use Rattle.ob_check.specs.Program.{Program}
 use Rattle.ob_mean.specs.declared.opening.OpenFault.{OpenFault}
 use Rattle.ob_mean.specs.declared.opening.OpenFault.TheVariants as Open
 use Rattle.ob_mean.specs.Faults.{IsOpenFault, NeedsMoreAt}
-use Rattle.ob_mean.specs.Object.{AreReplies, Effect, Ends, IsOpening, NeedsMore, ObjectCall, Reply, State, effect, on_end, one_at_a_time, opening}
+use Rattle.ob_mean.specs.Object.{AreReplies, Effect, Ends, IsOpening, NeedsMore, ObjectCall, Reply, State, effect, on_end, one_at_a_time}
+use Rattle.ob_opened.proofs.NoModule.{opens_not}
+use Rattle.ob_opened.specs.declared.opened.TheConstants.{TURNS}
 use Rattle.ob_text.specs.Script.{IsScript, IsScriptFault, ScriptCall}
+use Rattle.ob_text.specs.ScriptView.{object_call}
 use Rattle.ob_text.specs.declared.script.ScriptFault.{ScriptFault}
 use Rattle.ob_text.specs.declared.script.ScriptFault.TheVariants as ScriptFaults
-use Rattle.ob_program.specs.CheckedText.{IsNumberedText, of_parse}
 use Rattle.ob_program.specs.SequentialParts.{IsReplyFault, of_open}
-use Rattle.ob_program.specs.SequentialRun.{HasNoRun, IsNumbered, IsSequentialRun, NeedsMoreTurnsIn, PrintsReplies, object_call, processes, turns}
+use Rattle.ob_program.specs.SequentialRun.{HasNoRun, IsNumbered, IsSequentialRun, PrintsReplies, processes}
 use Rattle.ob_program.specs.declared.sequential.SeqTextFault.{SeqTextFault}
 use Rattle.ob_program.specs.declared.sequential.SeqTextFault.TheVariants as Faults
 
--- ---- no module
-
--- the tokens up to one and those behind it
-parted : (tokens : Lexemes) (m : Module) (n : ℕ) → Derives tokens m → Derives (take n tokens ++ drop n tokens) m
-parted tokens m n h = subst (λ (ts : Lexemes). Derives ts m) (sym (take-append-drop n tokens)) h
-
-breaks : {IsBroken : Module → ℕ → Type 0} (tokens : Lexemes) (place : ℕ) → BreaksCondition IsBroken tokens place → (m : Module) → Derives tokens m → IsBroken m place
-breaks tokens place b m h = b.broken (drop (suc b.index) tokens) m (parted tokens m (suc b.index) h)
-
-no_tree : (t : TokenizedText) (e : ParseFault) → IsParseFault t e → IsNumberedText (of_parse e)
-    → (m : Module) → Derives (lexemes t.text t.tokens) m → KeepsConditions m → ⊥
-no_tree t (Parse.Unexpected place) (inl r) numbered m h keeps =
-    r.none (drop (suc r.index) (lexemes t.text t.tokens), m, parted (lexemes t.text t.tokens) m (suc r.index) h)
-no_tree t (Parse.Unexpected place) (inr r) numbered m h keeps = r.none m h
-no_tree t (Parse.TooDeep place) b numbered m h keeps =
-    let broken = breaks (lexemes t.text t.tokens) place b m h in
-    let within : broken.0 < length (breaches m) = broken.1 in
-    let none : length (breaches m) ≡ 0 = ap length keeps in
-    omega (arith, within, none)
-no_tree t (Parse.NameDiffers place) b numbered m h keeps =
-    let broken = breaks (lexemes t.text t.tokens) place b m h in
-    let within : broken.0 < length (breaches m) = broken.1 in
-    let none : length (breaches m) ≡ 0 = ap length keeps in
-    omega (arith, within, none)
-no_tree t Parse.NoMemory b numbered m h keeps = let bad : true ≡ false = numbered.0 in cc
-
-pub no_module_parse : (text : List ℕ) (t : TokenizedText) (e : ParseFault) → t.text ≡ text → ((others : List Token) → HasTokens text others → others ≡ t.tokens)
-    → IsParseFault t e → IsNumberedText (of_parse e) → (program : Program) → IsModule text program → ⊥
-no_module_parse text t e is alone h numbered program m =
-    let of = m.text_of in
-    let derived : Derives (lexemes t.text of.tokens) m.tree = subst (λ (x : List ℕ). Derives (lexemes x of.tokens) m.tree) (sym is) of.derives in
-    no_tree t e h numbered m.tree (subst (λ (ts : List Token). Derives (lexemes t.text ts) m.tree) (alone of.tokens of.scanned) derived) of.keeps
-
 -- ---- no replies
 
-no_opening : (program : Program) (e : OpenFault) (state : State) → IsOpenFault program turns e → IsNumbered (of_open e) → IsOpening program turns state → ⊥
-no_opening program (Open.Trap k) state h numbered opens = let is = opens.1 in cc
-no_opening program Open.NeedsMore state h numbered opens = let is = opens.1 in cc
-no_opening program Open.NoMemory state h numbered opens = let bad : true ≡ false = numbered.0 in cc
+open_told : (e : OpenFault) → IsNumbered (of_open e) → e ≢ Open.NoMemory
+open_told (Open.Trap k) numbered = numbered.1
+open_told Open.NeedsMore numbered = numbered.1
+open_told Open.NoMemory numbered = let bad : true ≡ false = numbered.0 in cc
 
-one_state : (program : Program) (state other : State) → IsOpening program turns state → IsOpening program turns other → state ≡ other
+one_state : (program : Program) (state other : State) → IsOpening program TURNS state → IsOpening program TURNS other → state ≡ other
 one_state program state other h k = let is = h.1 in let is' = k.1 in cc
 
 last_same : (p q : List Reply × State) → Some p ≡ Some q → p.1 ≡ q.1
@@ -123,20 +82,16 @@ module _ (program : Program) (most : ℕ) where
       behind again NeedsMore made' all' = cc
 
 module _ (program : Program) where
-  no_replies_more : (calls : List ObjectCall) (position : ℕ) (replies : List Reply) → NeedsMoreAt program turns calls position → AreReplies program turns calls replies → ⊥
+  no_replies_more : (calls : List ObjectCall) (position : ℕ) (replies : List Reply) → NeedsMoreAt program TURNS calls position → AreReplies program TURNS calls replies → ⊥
   no_replies_more calls position replies more are =
       let same = one_state program are.state more.state are.opens more.opens in
-      no_replies_from program turns more.state more.before are.last calls position more.call more.replies replies more.made more.here more.more
-      (subst (λ (s : State). one_at_a_time program turns s calls ≡ Some (replies, are.last)) same are.made)
+      no_replies_from program TURNS more.state more.before are.last calls position more.call more.replies replies more.made more.here more.more
+      (subst (λ (s : State). one_at_a_time program TURNS s calls ≡ Some (replies, are.last)) same are.made)
 
   pub no_prints : (calls : List ScriptCall) (e : SeqTextFault) → IsReplyFault program calls e → IsNumbered e → (output : List ℕ) → PrintsReplies program calls output → ⊥
-  no_prints calls (Faults.Scan e) h numbered output prints = elim h [ ]
-  no_prints calls (Faults.Parse e) h numbered output prints = elim h [ ]
-  no_prints calls (Faults.Check e) h numbered output prints = elim h [ ]
+  no_prints calls (Faults.Text e) h numbered output prints = elim h [ ]
   no_prints calls (Faults.Script e) h numbered output prints = elim h [ ]
-  no_prints calls (Faults.Open Open.NoMemory) h numbered output prints = numbered.1 refl
-  no_prints calls (Faults.Open (Open.Trap k)) h numbered output prints = let is = prints.replied.opens.1 in cc
-  no_prints calls (Faults.Open Open.NeedsMore) h numbered output prints = let is = prints.replied.opens.1 in cc
+  no_prints calls (Faults.Open e) h numbered output prints = opens_not program e prints.replied.state h numbered.1 prints.replied.opens
   no_prints calls (Faults.NeedsMore process number) h numbered output prints =
       no_replies_more (map object_call calls) h.position prints.replies h.more prints.replied
   no_prints calls Faults.NoMemory h numbered output prints = let bad : true ≡ false = numbered.0 in cc
@@ -157,8 +112,8 @@ module _ (text script : List ℕ) (program : Program) (alone : (other : Program)
       no_prints program calls e h numbered output
       (subst (λ (cs : List ScriptCall). PrintsReplies program cs output) (only run.calls (calls_of run)) (prints_of run))
 
-  pub no_run_opening : (e : OpenFault) → IsOpenFault program turns e → IsNumbered (of_open e) → HasNoRun text script
-  no_run_opening e h numbered output run = no_opening program e (prints_of run).replied.state h numbered (prints_of run).replied.opens
+  pub no_run_opening : (e : OpenFault) → IsOpenFault program TURNS e → IsNumbered (of_open e) → HasNoRun text script
+  no_run_opening e h numbered output run = opens_not program e (prints_of run).replied.state h (open_told e numbered) (prints_of run).replied.opens
 
   pub no_run_script : (e : ScriptFault) → IsScriptFault (signatures program) processes script e → IsNumbered (Faults.Script e) → HasNoRun text script
   no_run_script (ScriptFaults.Form line) h numbered output run = h.none tt run.calls (calls_of run)

@@ -1,5 +1,5 @@
 -- The faults of a text as those of what is made of it.
-use Rattle.std.proofs.Common.{◌≡◌, ◌<◌, ◌≤◌, ℕ, List, [], ◌∷◌, ap, map, length, true, false, arith, refl, sym, subst}
+use Rattle.std.proofs.Common.{◌≡◌, ◌≢◌, ◌<◌, ◌≤◌, ℕ, List, [], ◌∷◌, ap, map, length, true, false, arith, refl, subst}
 use Rattle.ob_code.specs.declared.fault.CodeFault.{CodeFault}
 use Rattle.ob_code.specs.declared.fault.CodeFault.TheVariants as Code
 use Rattle.ob_check.specs.ModuleText.{IsModule}
@@ -9,14 +9,17 @@ use Rattle.ob_check.specs.Program.{Program}
 use Rattle.ob_mean.specs.declared.opening.OpenFault.{OpenFault}
 use Rattle.ob_mean.specs.declared.opening.OpenFault.TheVariants as Open
 use Rattle.ob_mean.specs.Faults.{IsOpenFault}
+use Rattle.ob_mean.specs.Object.{IsOpening}
 use Rattle.ob_scheme.specs.Scheme.{code_of}
-use Rattle.ob_program.specs.CheckedText.{IsNumberedText, IsTextFault, TellsTextMemoryApart}
-use Rattle.ob_program.specs.ModuleCode.{Compiles, HasNoCode, IsModuleTextFault, IsNumberedModule, TellsModuleMemoryApart}
+use Rattle.ob_opened.proofs.NoModule.{opens_not}
+use Rattle.ob_opened.specs.CheckedText.{IsNumberedText, IsTextFault}
+use Rattle.ob_opened.specs.declared.checked_text.TextFault.{TextFault}
+use Rattle.ob_opened.specs.declared.checked_text.TextFault.TheVariants as Texts
+use Rattle.ob_opened.specs.declared.opened.TheConstants.{TURNS}
+use Rattle.ob_program.specs.ModuleCode.{HasNoCode, IsModuleTextFault, IsNumberedModule}
 use Rattle.ob_program.specs.ModuleCodeParts.{of_code_fault, of_open_fault, of_text_fault}
 use Rattle.ob_program.specs.SequentialParts.{of_text}
-use Rattle.ob_program.specs.SequentialRun.{IsNumbered, IsSeqTextFault, TellsMemoryApart, turns}
-use Rattle.ob_program.specs.declared.checked_text.TextFault.{TextFault}
-use Rattle.ob_program.specs.declared.checked_text.TextFault.TheVariants as Texts
+use Rattle.ob_program.specs.SequentialRun.{IsNumbered, IsSeqTextFault}
 
 -- ---- of a sequential run
 
@@ -26,41 +29,28 @@ seq_fault text script (Texts.Parse e) h = h
 seq_fault text script (Texts.Check e) h = h
 seq_fault text script Texts.NoMemory h = tt
 
-pub seq_apart : (e : TextFault) → TellsTextMemoryApart e → TellsMemoryApart (of_text e)
-seq_apart (Texts.Scan e) h = h
-seq_apart (Texts.Parse e) h = h
-seq_apart (Texts.Check e) h = h
-seq_apart Texts.NoMemory h = tt
-
 pub seq_numbered : (e : TextFault) → IsNumbered (of_text e) → IsNumberedText e
-seq_numbered (Texts.Scan e) h = h
-seq_numbered (Texts.Parse e) h = h
-seq_numbered (Texts.Check e) h = h
+seq_numbered (Texts.Scan e) h = h.1
+seq_numbered (Texts.Parse e) h = h.1
+seq_numbered (Texts.Check e) h = h.1
 seq_numbered Texts.NoMemory h = let bad : true ≡ false = h.0 in cc
 
 -- ---- of a module by itself
 
-pub module_fault : (text : List ℕ) (e : TextFault) → IsTextFault text e → IsModuleTextFault text (of_text_fault e)
-module_fault text (Texts.Scan e) h = h
-module_fault text (Texts.Parse e) h = h
-module_fault text (Texts.Check e) h = h
-module_fault text Texts.NoMemory h = tt
-
-pub module_apart : (e : TextFault) → TellsTextMemoryApart e → TellsModuleMemoryApart (of_text_fault e)
-module_apart (Texts.Scan e) h = h
-module_apart (Texts.Parse e) h = h
-module_apart (Texts.Check e) h = h
-module_apart Texts.NoMemory h = tt
-
 module_numbered : (e : TextFault) → IsNumberedModule (of_text_fault e) → IsNumberedText e
-module_numbered (Texts.Scan e) h = h
-module_numbered (Texts.Parse e) h = h
-module_numbered (Texts.Check e) h = h
+module_numbered (Texts.Scan e) h = h.1
+module_numbered (Texts.Parse e) h = h.1
+module_numbered (Texts.Check e) h = h.1
 module_numbered Texts.NoMemory h = let bad : true ≡ false = h.0 in cc
 
 pub no_code : (text : List ℕ) (e : TextFault) → (IsNumberedText e → (program : Program) → IsModule text program → ⊥)
     → IsNumberedModule (of_text_fault e) → HasNoCode text
 no_code text e none numbered program compiles = none (module_numbered e numbered) program compiles.is_module
+
+open_told : (e : OpenFault) → IsNumberedModule (of_open_fault e) → e ≢ Open.NoMemory
+open_told (Open.Trap k) numbered = numbered.1
+open_told Open.NeedsMore numbered = numbered.1
+open_told Open.NoMemory numbered = let bad : true ≡ false = numbered.0 in cc
 
 module _ (text : List ℕ) (program : Program) (alone : (other : Program) → IsModule text other → other ≡ program) where
   no_long_code : 65535 < length (code_of program).instructions → HasNoCode text
@@ -73,16 +63,10 @@ module _ (text : List ℕ) (program : Program) (alone : (other : Program) → Is
   no_code_fault Code.TooLong longer numbered other compiles = no_long_code (longer refl) other compiles
   no_code_fault Code.NoMemory longer numbered other compiles = let bad : true ≡ false = numbered.0 in cc
 
-  pub no_opening_code : (e : OpenFault) → IsOpenFault program turns e → IsNumberedModule (of_open_fault e) → HasNoCode text
-  no_opening_code (Open.Trap k) h numbered other compiles =
-      let same = alone other compiles.is_module in
-      let is = compiles.opens.1 in
-      cc
-  no_opening_code Open.NeedsMore h numbered other compiles =
-      let same = alone other compiles.is_module in
-      let is = compiles.opens.1 in
-      cc
-  no_opening_code Open.NoMemory h numbered other compiles = let bad : true ≡ false = numbered.0 in cc
+  pub no_opening_code : (e : OpenFault) → IsOpenFault program TURNS e → IsNumberedModule (of_open_fault e) → HasNoCode text
+  no_opening_code e h numbered other compiles =
+      opens_not program e compiles.state h (open_told e numbered)
+      (subst (λ (p : Program). IsOpening p TURNS compiles.state) (alone other compiles.is_module) compiles.opens)
 
 -- what a text has that is a module of this program
 module _ (text : List ℕ) (program : Program) (is : IsModule text program) where
@@ -90,7 +74,7 @@ module _ (text : List ℕ) (program : Program) (is : IsModule text program) wher
   long_code Code.TooLong longer = record { program = program; is_module = is; longer = longer refl }
   long_code Code.NoMemory longer = tt
 
-  pub fails_to_open : length (code_of program).instructions ≤ 65535 → (e : OpenFault) → IsOpenFault program turns e → IsModuleTextFault text (of_open_fault e)
+  pub fails_to_open : length (code_of program).instructions ≤ 65535 → (e : OpenFault) → IsOpenFault program TURNS e → IsModuleTextFault text (of_open_fault e)
   fails_to_open fits (Open.Trap k) h = record { program = program; is_module = is; fits = fits; fails = h }
   fails_to_open fits Open.NeedsMore h = record { program = program; is_module = is; fits = fits; fails = h }
   fails_to_open fits Open.NoMemory h = tt

@@ -1,19 +1,15 @@
 -- A text whose module has code and opens, and the listing of that code.
 use Rattle.std.specs.Prelude.{◌≡◌, ◌≢◌, ◌<◌, ◌≤◌, ℕ, Bool, true, false, List, length, map}
-use Rattle.ob_scan.specs.ScanFaults.{IsScanFault}
-use Rattle.ob_parser.specs.ParseFaults.{IsParseFaultOf}
-use Rattle.ob_check.specs.ModuleText.{IsCheckFaultOf, IsModule}
+use Rattle.ob_check.specs.ModuleText.{IsModule}
 use Rattle.ob_check.specs.Program.{Program}
 use Rattle.ob_mean.specs.Object.{State, IsOpening}
 use Rattle.ob_mean.specs.Faults.{IsOpenFault}
 use Rattle.ob_mean.specs.declared.opening.OpenFault.{OpenFault}
 use Rattle.ob_mean.specs.declared.opening.OpenFault.TheVariants as Open
-use Rattle.ob_scan.specs.declared.fault.ScanFault.TheVariants as Scan
-use Rattle.ob_parser.specs.declared.parser.ParseFault.TheVariants as Parse
-use Rattle.ob_check.specs.declared.checker.CheckFault.TheVariants as Check
 use Rattle.ob_code.specs.Listing.{listing}
 use Rattle.ob_scheme.specs.Scheme.{code_of}
-use Rattle.ob_program.specs.SequentialRun.{turns}
+use Rattle.ob_opened.specs.CheckedText.{IsNumberedText, IsTextFault}
+use Rattle.ob_opened.specs.declared.opened.TheConstants.{TURNS}
 use Rattle.ob_program.specs.declared.module_code.ModuleTextFault.{ModuleTextFault}
 use Rattle.ob_program.specs.declared.module_code.ModuleTextFault.TheVariants as Faults
 
@@ -22,7 +18,7 @@ pub record Compiles (text : List ℕ) (program : Program) : Type 0 where
   pub is_module : IsModule text program
   pub fits : length (code_of program).instructions ≤ 65535
   pub state : State
-  pub opens : IsOpening program turns state
+  pub opens : IsOpening program TURNS state
 
 -- the bytes are the listing of the code of the text's module
 pub record IsListing (text output : List ℕ) : Type 0 where
@@ -41,22 +37,18 @@ pub record FailsToOpen (text : List ℕ) (fault : OpenFault) : Type 0 where
   pub program : Program
   pub is_module : IsModule text program
   pub fits : length (code_of program).instructions ≤ 65535
-  pub fails : IsOpenFault program turns fault
+  pub fails : IsOpenFault program TURNS fault
 
 -- what each fault says of a text
 abbrev pub IsModuleTextFault : List ℕ → ModuleTextFault → Type 0
-IsModuleTextFault text (Faults.Scan e) = IsScanFault text e
-IsModuleTextFault text (Faults.Parse e) = IsParseFaultOf text e
-IsModuleTextFault text (Faults.Check e) = IsCheckFaultOf text e
+IsModuleTextFault text (Faults.Text e) = IsTextFault text e
 IsModuleTextFault text Faults.TooLong = HasLongCode text
 IsModuleTextFault text (Faults.Open e) = FailsToOpen text e
 IsModuleTextFault text Faults.NoMemory = Unit {0}
 
--- want of memory is told by its own variant alone
+-- want of memory is told by its own variant alone: a fault of the text has a number
 abbrev pub TellsModuleMemoryApart : ModuleTextFault → Type 0
-TellsModuleMemoryApart (Faults.Scan e) = e ≢ Scan.NoMemory
-TellsModuleMemoryApart (Faults.Parse e) = e ≢ Parse.NoMemory
-TellsModuleMemoryApart (Faults.Check e) = e ≢ Check.NoMemory
+TellsModuleMemoryApart (Faults.Text e) = IsNumberedText e
 TellsModuleMemoryApart (Faults.Open e) = e ≢ Open.NoMemory
 TellsModuleMemoryApart _ = Unit {0}
 

@@ -3,16 +3,14 @@ use Rattle.ob_code.specs.declared.fault.CodeFault.{CodeFault}
 use Rattle.ob_code.specs.declared.fault.CodeFault.TheVariants as Code
 use Rattle.ob_mean.specs.declared.opening.OpenFault.{OpenFault}
 use Rattle.ob_mean.specs.declared.opening.OpenFault.TheVariants as Open
-use Rattle.ob_program.specs.declared.checked_text.TextFault.{TextFault}
-use Rattle.ob_program.specs.declared.checked_text.TextFault.TheVariants as Texts
+use Rattle.ob_opened.specs.declared.checked_text.TextFault.{TextFault}
+use Rattle.ob_opened.specs.declared.checked_text.TextFault.TheVariants as Texts
 use Rattle.ob_program.specs.declared.module_code.ModuleTextFault.{ModuleTextFault}
 use Rattle.ob_program.specs.declared.module_code.ModuleTextFault.TheVariants as Faults
 
 abbrev pub of_text_fault : TextFault → ModuleTextFault
-of_text_fault (Texts.Scan e) = Faults.Scan e
-of_text_fault (Texts.Parse e) = Faults.Parse e
-of_text_fault (Texts.Check e) = Faults.Check e
 of_text_fault Texts.NoMemory = Faults.NoMemory
+of_text_fault e = Faults.Text e
 
 abbrev pub of_code_fault : CodeFault → ModuleTextFault
 of_code_fault Code.TooLong = Faults.TooLong

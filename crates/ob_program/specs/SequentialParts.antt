@@ -5,19 +5,18 @@ use Rattle.ob_mean.specs.declared.opening.OpenFault.{OpenFault}
 use Rattle.ob_mean.specs.declared.opening.OpenFault.TheVariants as Open
 use Rattle.ob_mean.specs.Faults.{IsOpenFault}
 use Rattle.ob_text.specs.Script.{ScriptCall}
-use Rattle.ob_program.specs.SequentialRun.{NeedsMoreTurnsIn, turns}
-use Rattle.ob_program.specs.declared.checked_text.TextFault.{TextFault}
-use Rattle.ob_program.specs.declared.checked_text.TextFault.TheVariants as Texts
+use Rattle.ob_opened.specs.declared.checked_text.TextFault.{TextFault}
+use Rattle.ob_opened.specs.declared.checked_text.TextFault.TheVariants as Texts
+use Rattle.ob_opened.specs.declared.opened.TheConstants.{TURNS}
+use Rattle.ob_program.specs.SequentialRun.{NeedsMoreTurnsIn}
 use Rattle.ob_program.specs.declared.sequential.SeqTextFault.{SeqTextFault}
 use Rattle.ob_program.specs.declared.sequential.SeqTextFault.TheVariants as Faults
 
 -- want of memory is told in one place
 
 abbrev pub of_text : TextFault → SeqTextFault
-of_text (Texts.Scan e) = Faults.Scan e
-of_text (Texts.Parse e) = Faults.Parse e
-of_text (Texts.Check e) = Faults.Check e
 of_text Texts.NoMemory = Faults.NoMemory
+of_text e = Faults.Text e
 
 abbrev pub of_open : OpenFault → SeqTextFault
 of_open Open.NoMemory = Faults.NoMemory
@@ -25,7 +24,7 @@ of_open e = Faults.Open e
 
 -- why a script's calls have no replies
 abbrev pub IsReplyFault : Program → List ScriptCall → SeqTextFault → Type 0
-IsReplyFault program calls (Faults.Open e) = IsOpenFault program turns e
+IsReplyFault program calls (Faults.Open e) = IsOpenFault program TURNS e
 IsReplyFault program calls (Faults.NeedsMore process number) = NeedsMoreTurnsIn program calls process number
 IsReplyFault program calls Faults.NoMemory = Unit {0}
 IsReplyFault program calls _ = ⊥

@@ -7,17 +7,15 @@ ghost use Rattle.ob_check.specs.View.{procedure_of};
 ghost use Rattle.ob_program.specs.ModuleCode.{Compiles, HasNoCode, IsListing, IsModuleTextFault, IsNumberedModule, TellsModuleMemoryApart};
 ghost use Rattle.ob_scheme.specs.Scheme.{code_of};
 
-use crate::checked_text::{TextFault, checked_text};
-use crate::sequential::TURNS;
 use ob_check::checked::Checked;
-use ob_check::checker::CheckFault;
 use ob_check::program::Procedure;
 use ob_code::{Code, CodeFault, list};
 use ob_generate::generate;
 use ob_grammar::NoMemory;
 use ob_layout::Layout;
 use ob_mean::opening::{OpenFault, opening};
-use ob_parser::parser::ParseFault;
+use ob_opened::TURNS;
+use ob_opened::checked_text::{TextFault, checked_text};
 use ob_scan::ScanFault;
 use ob_scan::scanner::LONGEST_TEXT;
 use std::alloc::{AllocError, Global};
@@ -27,11 +25,7 @@ use thiserror::Error;
 #[derive(Clone, Copy, Debug, PartialEq, Eq, Error)]
 pub enum ModuleTextFault {
     #[error("{0}")]
-    Scan(ScanFault),
-    #[error("{0}")]
-    Parse(ParseFault),
-    #[error("{0}")]
-    Check(CheckFault),
+    Text(TextFault),
     /// G1: over 65,535 instructions.
     #[error("G1")]
     TooLong,
@@ -50,10 +44,8 @@ impl From<TextFault> for ModuleTextFault {
 
     fn from(fault: TextFault) -> ModuleTextFault {
         match fault {
-            TextFault::Scan(fault) => ModuleTextFault::Scan(fault),
-            TextFault::Parse(fault) => ModuleTextFault::Parse(fault),
-            TextFault::Check(fault) => ModuleTextFault::Check(fault),
             TextFault::NoMemory => ModuleTextFault::NoMemory,
+            other => ModuleTextFault::Text(other),
         }
     }
 }
@@ -120,7 +112,7 @@ pub fn check_text(alloc: Global, text: &[u8]) -> Result<(), ModuleTextFault>
     ensures memory { IfErr result TellsModuleMemoryApart }
 
     // A text over the scanner's bound is refused, whatever it says.
-    ensures too_long { LONGEST_TEXT < length text.now → result ≡ Err (ModuleTextFault.Scan ScanFault.TooLong) }
+    ensures too_long { LONGEST_TEXT < length text.now → result ≡ Err (ModuleTextFault.Text (TextFault.Scan ScanFault.TooLong)) }
 {
     compiled(alloc, text)?;
     Ok(())
@@ -138,7 +130,7 @@ pub fn list_text(alloc: Global, text: &[u8]) -> Result<String, ModuleTextFault>
     ensures memory { IfErr result TellsModuleMemoryApart }
 
     // A text over the scanner's bound is refused, whatever it says.
-    ensures too_long { LONGEST_TEXT < length text.now → result ≡ Err (ModuleTextFault.Scan ScanFault.TooLong) }
+    ensures too_long { LONGEST_TEXT < length text.now → result ≡ Err (ModuleTextFault.Text (TextFault.Scan ScanFault.TooLong)) }
 {
     let (checked, code) = compiled(alloc, text)?;
     let names = names_of(alloc, checked.program().procedures.as_slice())?;
@@ -152,7 +144,7 @@ fn compiled(alloc: Global, text: &[u8]) -> Result<(Checked, Code), ModuleTextFau
     ensures fault { IfErr result (λ e. IsModuleTextFault text.now e) }
     ensures none { IfErr result (λ e. IsNumberedModule e → HasNoCode text.now) }
     ensures memory { IfErr result TellsModuleMemoryApart }
-    ensures too_long { LONGEST_TEXT < length text.now → result ≡ Err (ModuleTextFault.Scan ScanFault.TooLong) }
+    ensures too_long { LONGEST_TEXT < length text.now → result ≡ Err (ModuleTextFault.Text (TextFault.Scan ScanFault.TooLong)) }
 {
     let checked = checked_text(alloc, text)?;
     let layout = Layout::of(alloc, &checked)?;

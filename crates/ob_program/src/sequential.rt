@@ -6,26 +6,22 @@ ghost use Rattle.ob_check.specs.ModuleText.{IsModule};
 ghost use Rattle.ob_check.specs.Program.{Program};
 ghost use Rattle.ob_mean.specs.View.{call_of};
 ghost use Rattle.ob_program.specs.SequentialParts.{IsReplyFault};
-ghost use Rattle.ob_program.specs.SequentialRun.{HasNoRun, IsNumbered, IsSequentialRun, IsSeqTextFault, PrintsReplies, TellsMemoryApart, object_call};
+ghost use Rattle.ob_program.specs.SequentialRun.{HasNoRun, IsNumbered, IsSequentialRun, IsSeqTextFault, PrintsReplies, TellsMemoryApart};
 ghost use Rattle.ob_reply.specs.ReplyLines.{count_of};
-ghost use Rattle.ob_text.specs.ScriptView.{script_call_of};
+ghost use Rattle.ob_text.specs.ScriptView.{object_call, script_call_of};
 
-use crate::checked_text::{TextFault, checked_text};
 use ob_check::checked::Checked;
-use ob_check::checker::CheckFault;
 use ob_mean::call::Call;
 use ob_mean::opening::{OpenFault, opening};
 use ob_mean::sequence::{SeqFault, sequence};
-use ob_parser::parser::ParseFault;
+use ob_opened::TURNS;
+use ob_opened::checked_text::{TextFault, checked_text};
 use ob_reply::reply_lines::print_replies;
 use ob_scan::ScanFault;
 use ob_scan::scanner::LONGEST_TEXT;
 use ob_text::script::{ScriptCall, ScriptFault, read_scripts};
 use std::alloc::{AllocError, AllocFailed, Global};
 use thiserror::Error;
-
-/// The turns of an opening, and of each call.
-pub(crate) const TURNS: u64 = 1_000_000;
 
 /// How many processes a script may name: 0 to 15.
 const PROCESSES: usize = 16;
@@ -34,11 +30,7 @@ const PROCESSES: usize = 16;
 #[derive(Clone, Copy, Debug, PartialEq, Eq, Error)]
 pub enum SeqTextFault {
     #[error("{0}")]
-    Scan(ScanFault),
-    #[error("{0}")]
-    Parse(ParseFault),
-    #[error("{0}")]
-    Check(CheckFault),
+    Text(TextFault),
     #[error("{0}")]
     Open(OpenFault),
     #[error("{0}")]
@@ -59,10 +51,8 @@ impl From<TextFault> for SeqTextFault {
 
     fn from(fault: TextFault) -> SeqTextFault {
         match fault {
-            TextFault::Scan(fault) => SeqTextFault::Scan(fault),
-            TextFault::Parse(fault) => SeqTextFault::Parse(fault),
-            TextFault::Check(fault) => SeqTextFault::Check(fault),
             TextFault::NoMemory => SeqTextFault::NoMemory,
+            other => SeqTextFault::Text(other),
         }
     }
 }
@@ -104,7 +94,7 @@ pub fn seq_text(alloc: Global, module: &[u8], script: &[u8]) -> Result<String, S
     ensures memory { IfErr result TellsMemoryApart }
 
     // A text over the scanner's bound is refused, whatever it says.
-    ensures too_long { LONGEST_TEXT < length «module».now → result ≡ Err (SeqTextFault.Scan ScanFault.TooLong) }
+    ensures too_long { LONGEST_TEXT < length «module».now → result ≡ Err (SeqTextFault.Text (TextFault.Scan ScanFault.TooLong)) }
 {
     let checked = checked_text(alloc, module)?;
     match read_scripts(alloc, &checked, PROCESSES, script) {

@@ -1,1 +1,4 @@
 mod Chain
+mod Submissions
+mod Checks
+mod Sequential

@@ -1,2 +1,4 @@
 pub mod Computes
 pub mod Recorded
+pub mod OwnCalls
+pub mod KeepsBound

@@ -5,6 +5,9 @@ use Rattle.ob_layout.specs.Encoding.{IsEncoding}
 use Rattle.ob_mean.specs.Object as Objects
 use Rattle.ob_record.specs.Record.{Record}
 use Rattle.ob_schedule.specs.declared.item.Item.{Item}
+use Rattle.wf_history.specs.declared.event.CallId.{CallId}
+use Rattle.wf_history.specs.History.{Event}
+use Rattle.wf_history.specs.Legal.{HasBegun}
 use Rattle.wf_history.specs.OfModule.{IsLegalOrder}
 use Rattle.wf_play.specs.Played.{IsPlayed}
 use Rattle.wf_table.specs.Law.{Effects}
@@ -20,6 +23,10 @@ pub record IsRecorded {Run : Type 0} (m : Meaning Run) (lawful : List ℤ → Ty
   pub history : r.history ≡ state.records.history
   pub order : r.order ≡ state.records.order
   pub schedule : r.schedule ≡ state.records.schedule
+
+-- each call that begins is one that fits
+abbrev pub DoFit : (Objects.ObjectCall → Type 0) → List (Event Objects.ObjectCall Objects.Reply) → Type 0
+DoFit fits history = (id : CallId) (call : Objects.ObjectCall) → HasBegun history id call → fits call
 
 -- whatever program with these variables the engine computes, from whatever state the block has the words of: the record's
 -- order is a legal order of its history, by what the calls mean, and leads to the record's state

@@ -5,10 +5,10 @@ ghost use Rattle.ob_layout.specs.Encoding.{IsStateOf, encoded};
 ghost use Rattle.ob_mean.specs.View.{state_of};
 ghost use Rattle.ob_record.specs.Record.{record_of};
 ghost use Rattle.ob_run.specs.Computes.{IsComputed};
-ghost use Rattle.ob_run.specs.Recorded.{IsLegalFor, IsRecorded};
+ghost use Rattle.ob_run.specs.Recorded.{DoFit, IsLegalFor, IsRecorded};
 ghost use Rattle.ob_schedule.specs.Schedule.{process_of};
-ghost use Rattle.ob_text.specs.ScriptView.{script_call_of};
-ghost use Rattle.wf_play.specs.Played.{IsPlayFault, object_call, scripts_of};
+ghost use Rattle.ob_text.specs.ScriptView.{object_call, script_call_of};
+ghost use Rattle.wf_play.specs.Played.{IsPlayFault, scripts_of};
 
 use ob_grammar::NoMemory;
 use ob_layout::{Layout, encode};
@@ -38,6 +38,7 @@ pub fn record_run<E: Engine>(
     requires items { All (λ item. process_of item < n) items.now }
     ensures recorded { IfOk result (λ r. IsRecorded (E.meaning engine) (E.lawful engine) (E.fits engine) (E.ready engine) n (encoded (state_of opening.now)) (scripts_of (map script_call_of calls.items)) items.now (record_of r)) }
     ensures legal { IfOk result (λ r. IsLegalFor layout.now.variables (E.fits engine) (E.effect engine) (encoded (state_of opening.now)) (record_of r)) }
+    ensures begun { IfOk result (λ r. DoFit (E.fits engine) r.history) }
     ensures fault { IfErr result (λ e. IsPlayFault (E.meaning engine) (E.ready engine) n (encoded (state_of opening.now)) (scripts_of (map script_call_of calls.items)) items.now e) }
 {
     let words = encode(alloc, opening)?;
@@ -57,6 +58,7 @@ fn recorded<E: Engine>(
     ensures history { IfOk result (λ r. r.history ≡ machine.state.records.history) }
     ensures order { IfOk result (λ r. r.order.items ≡ machine.state.records.order) }
     ensures schedule { IfOk result (λ r. r.schedule.items ≡ machine.state.records.schedule) }
+    ensures begun { IfOk result (λ r. DoFit (E.fits machine.engine) r.history) }
     ensures legal { IfOk result (λ r. IsLegalFor layout.now.variables (E.fits machine.engine) (E.effect machine.engine) machine.opening (record_of r)) }
 {
     machine.keeps();

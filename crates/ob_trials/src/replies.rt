@@ -1,9 +1,9 @@
 //! Printed replies and faults, also those that no module gives yet.
 
 use ob_check::program::Scalar;
+use ob_fault_lines::fault_line::fault_line;
 use ob_mean::call::Reply;
 use ob_mean::opening::OpenFault;
-use ob_program::fault_line::fault_line;
 use ob_program::sequential::SeqTextFault;
 use ob_reply::reply_lines::print_replies;
 use smallvec::SmallVec;

@@ -1,3 +1,5 @@
+mod Alike
+mod Starts
 mod Items
 mod Ends
 mod Plays

@@ -7,14 +7,15 @@ use Rattle.ob_mean.specs.Object.{ObjectCall}
 use Rattle.ob_schedule.specs.declared.item.Item.{Item}
 use Rattle.ob_schedule.specs.Schedule.{process_of}
 use Rattle.ob_text.specs.declared.script.ScriptCall.{ScriptCall}
-use Rattle.ob_text.specs.ScriptView.{script_call_of}
+use Rattle.ob_text.specs.ScriptView.{object_call, script_call_of}
 use Rattle.wf_history.proofs.Positions.{take_next}
 use Rattle.wf_object.specs.View.{Object}
 use Rattle.wf_play.specs.ItemSteps.{AreItemSteps, HasPlayed, IsBeyond, IsFirstBeyond, IsItemRun, none}
-use Rattle.wf_play.specs.Played.{IsPlayed, IsItemFault, IsPlayFault, IsSameObject, IsTooLong, most_steps, object_call, scripts_of}
+use Rattle.wf_play.specs.Played.{IsPlayed, IsItemFault, IsPlayFault, IsSameObject, most_steps, scripts_of}
 use Rattle.wf_play.specs.declared.playing.PlayFault.{PlayFault}
 use Rattle.wf_play.specs.declared.playing.PlayFault.TheVariants as Faults
-use Rattle.wf_play.proofs.Items.{items-push, items_run, none_beyond}
+use Rattle.wf_play.proofs.Items.{items-push, items_run}
+use Rattle.wf_play.proofs.Starts.{is_too_long}
 use Rattle.wf_table.specs.declared.process.Sizes.{Sizes}
 use Rattle.wf_table.specs.Meaning.{Meaning}
 use Rattle.wf_table.specs.Object.{State, submit_by, submit_of}
@@ -107,17 +108,10 @@ module _ {Run : Type 0} (m : Meaning Run) (lawful : List ℤ → Type 0) (fits :
         plays = subst (λ (ps : List ℕ). AreItemSteps m z most_steps items submitted ps s) (sym is) played.plays;
       }
 
-  pub is_too_long : (scripts : List (ℕ × ObjectCall)) (items : List Item) (number : ℕ) (start : State Run) → IsStart ready (sizes_of m n) opening start →
-      IsFirstBeyond m (sizes_of m n) most_steps items (run m (sizes_of m n) (submissions scripts) start) number → IsTooLong m ready n opening scripts items number
-  is_too_long scripts items number start begins first =
-      let z = sizes_of m n in
-      let submitted = run m z (submissions scripts) start in
-      record { start = start; begins = begins; first = first; none = λ others after h. none_beyond m z most_steps items submitted after number others first h }
-
   pub is_fault : (scripts : List (ℕ × ObjectCall)) (items : List Item) (start : State Run) (e : PlayFault) → IsStart ready (sizes_of m n) opening start →
       IsItemFault m (sizes_of m n) most_steps items (run m (sizes_of m n) (submissions scripts) start) e → IsPlayFault m ready n opening scripts items e
   is_fault scripts items start Faults.Processes begins h = absurd h
-  is_fault scripts items start (Faults.TooLong number) begins h = is_too_long scripts items number start begins h
+  is_fault scripts items start (Faults.TooLong number) begins h = is_too_long m ready n opening scripts items number start begins h
   is_fault scripts items start Faults.NoMemory begins h = tt
 
 module _ {E Run : Type 0} (meaning : E → Meaning Run) where

@@ -3,6 +3,7 @@ use Rattle.std.specs.Prelude.{◌≡◌, ℕ, ◌<◌, ◌⊎◌, ℤ, List, map
 use Rattle.ob_mean.specs.Object.{ObjectCall}
 use Rattle.ob_schedule.specs.declared.item.Item.{Item}
 use Rattle.ob_text.specs.Script.{ScriptCall}
+use Rattle.ob_text.specs.ScriptView.{object_call}
 use Rattle.wf_object.specs.View.{Object}
 use Rattle.wf_table.specs.declared.process.Sizes.{Sizes}
 use Rattle.wf_table.specs.Meaning.{Meaning}
@@ -19,10 +20,6 @@ use Rattle.wf_play.specs.ItemSteps.{AreItemSteps, IsFirstBeyond}
 -- the most steps of an item
 abbrev pub most_steps : ℕ
 most_steps = 1000000
-
--- what a script's call asks of the object
-abbrev pub object_call : ScriptCall → ObjectCall
-object_call c = record { export = c.export; arguments = c.arguments }
 
 -- the calls of a script, each with its process
 abbrev pub scripts_of : List ScriptCall → List (ℕ × ObjectCall)
@@ -41,13 +38,13 @@ pub record IsPlayed {Run : Type 0} (m : Meaning Run) (lawful : List ℤ → Type
   pub plays : AreItemSteps m (sizes_of m n) most_steps items (run m (sizes_of m n) (submissions scripts) runs.start) (steps_of s.records.schedule) s
 
 module _ {Run : Type 0} (m : Meaning Run) (ready : Run → Type 0) (n : ℕ) (opening : List ℤ) (scripts : List (ℕ × ObjectCall)) where
-  -- the item of this number, from 1, is the first one that stands for more steps than an item may take; so the items are no
-  -- run within the limit
+  -- there are objects that begin with this block, on each of them the item of this number, from 1, is the first one that stands
+  -- for more steps than an item may take, and on none of them are the items a run within the limit
   pub record IsTooLong (items : List Item) (number : ℕ) : Type 0 where
     pub start : State Run
     pub begins : IsStart ready (sizes_of m n) opening start
-    pub first : IsFirstBeyond m (sizes_of m n) most_steps items (run m (sizes_of m n) (submissions scripts) start) number
-    pub none : (others : List ℕ) (after : State Run) → AreItemSteps m (sizes_of m n) most_steps items (run m (sizes_of m n) (submissions scripts) start) others after → ⊥
+    pub first : (other : State Run) → IsStart ready (sizes_of m n) opening other → IsFirstBeyond m (sizes_of m n) most_steps items (run m (sizes_of m n) (submissions scripts) other) number
+    pub none : (other after : State Run) (steps : List ℕ) → IsStart ready (sizes_of m n) opening other → AreItemSteps m (sizes_of m n) most_steps items (run m (sizes_of m n) (submissions scripts) other) steps after → ⊥
 
   -- N1: the number of processes is not 1 to 16; Q3; nothing is said where memory wanted
   abbrev pub IsPlayFault : List Item → PlayFault → Type 0

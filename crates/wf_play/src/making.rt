@@ -1,9 +1,9 @@
 //! Who made the events of a run.
 
 ghost use Rattle.std.specs.Prelude.{◌≡◌, ◌++◌, ◌<◌, ◌≤◌, All, IfOk, IfErr, OnOk, map, replicate};
-ghost use Rattle.ob_text.specs.ScriptView.{script_call_of};
+ghost use Rattle.ob_text.specs.ScriptView.{object_call, script_call_of};
 ghost use Rattle.wf_play.specs.Makers.{AreMakersOf, maker_at, makers_in};
-ghost use Rattle.wf_play.specs.Played.{IsSameObject, object_call, scripts_of};
+ghost use Rattle.wf_play.specs.Played.{IsSameObject, scripts_of};
 ghost use Rattle.wf_play.specs.declared.playing.PlayFault.TheVariants as Faults;
 ghost use Rattle.wf_table.specs.Object.{step_of};
 ghost use Rattle.wf_table.specs.Runs.{run, turns};

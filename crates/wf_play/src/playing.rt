@@ -2,8 +2,8 @@
 
 ghost use Rattle.std.specs.Prelude.{◌≡◌, ◌<◌, ◌⊎◌, ◌↔◌, Err, All, IfOk, IfErr, OnOk, map};
 ghost use Rattle.ob_schedule.specs.Schedule.{process_of};
-ghost use Rattle.ob_text.specs.ScriptView.{script_call_of};
-ghost use Rattle.wf_play.specs.Played.{IsItemFault, IsPlayed, IsPlayFault, IsSameObject, object_call, scripts_of};
+ghost use Rattle.ob_text.specs.ScriptView.{object_call, script_call_of};
+ghost use Rattle.wf_play.specs.Played.{IsItemFault, IsPlayed, IsPlayFault, IsSameObject, scripts_of};
 ghost use Rattle.wf_play.specs.ItemSteps.{HasPlayed};
 ghost use Rattle.wf_play.specs.declared.playing.PlayFault.TheVariants as Faults;
 ghost use Rattle.wf_table.specs.Runs.{run, submissions};

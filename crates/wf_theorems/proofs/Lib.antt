@@ -2,3 +2,5 @@ mod Halted
 mod Present
 mod Scripts
 mod Ends
+mod Submitted
+mod FirstOnes

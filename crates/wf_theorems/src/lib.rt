@@ -2,6 +2,7 @@
 //! theorems.
 #![tactic(auto)]
 
+pub mod alone;
 pub mod bound;
 pub mod commits;
 pub mod help;

@@ -1,5 +1,5 @@
 use Rattle.std.proofs.lemmas.Result.{err_from_is_err_and}
-use Rattle.ob_opened.proofs.NoText.{no_module_parse}
+use Rattle.ob_opened.proofs.NoModule.{no_module_parse}
 use Rattle.ob_opened.proofs.checked_text.checked_text.Goals as goal
 
 pub returns-in_err-tree-clause-none : goal.returns-in_err-tree-clause-none

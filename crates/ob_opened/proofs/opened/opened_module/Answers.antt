@@ -1,11 +1,11 @@
 use Rattle.std.proofs.lemmas.Result.{err_from_is_err_and}
-use Rattle.ob_opened.proofs.NoModule.{no_opening}
+use Rattle.ob_opened.proofs.NoModule.{no_opening, text_numbered}
 use Rattle.ob_opened.proofs.opened.opened_module.Goals as goal
 
 pub returns-in_err-checked-clause-none : goal.returns-in_err-checked-clause-none
 returns-in_err-checked-clause-none c =
     let p = err_from_is_err_and c.from_residual.result c.from_residual.ensures.1 in
-    rw (p.1, p.2) (λ numbered program state m opens. c.in_err-checked.ensures.none numbered program m)
+    rw (p.1, p.2) (λ numbered program state m opens. c.in_err-checked.ensures.none (text_numbered c.in_err-checked.field-0.0 numbered) program m)
 
 pub returns-in_err-state-clause-none : goal.returns-in_err-state-clause-none
 returns-in_err-state-clause-none c =

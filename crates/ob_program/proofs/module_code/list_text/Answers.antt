@@ -1,4 +1,4 @@
-use Rattle.std.proofs.Common.{◌∙◌, List, ap, ap₂, map, string_bytes, sym}
+use Rattle.std.proofs.Common.{◌∙◌, ap, ap₂, map, string_bytes, sym}
 use Rattle.ob_check.specs.CheckedModule.{program_in}
 use Rattle.ob_check.specs.Program.{Program}
 use Rattle.ob_check.specs.View.{procedure_of}

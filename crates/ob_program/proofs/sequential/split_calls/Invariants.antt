@@ -1,8 +1,7 @@
 -- The parts of the calls so far.
 use Rattle.std.proofs.Common.{◌≡◌, map}
 use Rattle.ob_mean.specs.View.{call_of}
-use Rattle.ob_program.specs.SequentialRun.{object_call}
-use Rattle.ob_text.specs.ScriptView.{script_call_of}
+use Rattle.ob_text.specs.ScriptView.{object_call, script_call_of}
 use Rattle.ob_program.proofs.sequential.split_calls.Given as goal
 
 abbrev pub invariant-loop-process : goal.invariant-loop-process

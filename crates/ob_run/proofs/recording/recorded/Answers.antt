@@ -19,6 +19,13 @@ unreachable-requires g c =
     (subst (λ (ws : List ℤ). ∥ IsLegal (e.effect a.engine) a.opening a.state.records.history c.order.result.now ws ∥₁) (sym words) c.order.ensures.legal)
     (rw c.in_default.is at c.in_ok-state.ensures.state)
 
+pub returns-clause-begun : goal.returns-clause-begun
+returns-clause-begun g c =
+    let e = g.E.Engine in
+    let a = c.args.machine in
+    rw c.into_parts-history.ensures.history
+    (begun_fits (e.meaning a.engine) (e.lawful a.engine) (e.fits a.engine) (e.ready a.engine) a.sizes a.opening a.state c.keeps.ensures.sound)
+
 pub returns-clause-legal : goal.returns-clause-legal
 returns-clause-legal g c =
     let e = g.E.Engine in

@@ -1,4 +1,4 @@
--- The line that tells each fault.
+-- The line that tells each fault of a module: of its text and of its opening.
 use Rattle.std.specs.Prelude.{ℕ, List, ◌++◌, codes, decimal}
 use Rattle.ob_scan.specs.declared.fault.ScanFault.{ScanFault}
 use Rattle.ob_scan.specs.declared.fault.ScanFault.TheVariants as Scan
@@ -8,12 +8,8 @@ use Rattle.ob_check.specs.declared.checker.CheckFault.{CheckFault}
 use Rattle.ob_check.specs.declared.checker.CheckFault.TheVariants as Check
 use Rattle.ob_mean.specs.declared.opening.OpenFault.{OpenFault}
 use Rattle.ob_mean.specs.declared.opening.OpenFault.TheVariants as Open
-use Rattle.ob_text.specs.declared.script.ScriptFault.{ScriptFault}
-use Rattle.ob_text.specs.declared.script.ScriptFault.TheVariants as Script
-use Rattle.ob_program.specs.declared.module_code.ModuleTextFault.{ModuleTextFault}
-use Rattle.ob_program.specs.declared.module_code.ModuleTextFault.TheVariants as Modules
-use Rattle.ob_program.specs.declared.sequential.SeqTextFault.{SeqTextFault}
-use Rattle.ob_program.specs.declared.sequential.SeqTextFault.TheVariants as Faults
+use Rattle.ob_opened.specs.declared.checked_text.TextFault.{TextFault}
+use Rattle.ob_opened.specs.declared.checked_text.TextFault.TheVariants as Texts
 
 abbrev pub Text : Type 0
 Text = List ℕ
@@ -21,10 +17,6 @@ Text = List ℕ
 -- at a byte offset of the module's text
 abbrev pub at_place : Text → ℕ → Text
 at_place fault place = fault ++ codes " at " ++ decimal place
-
--- at a line of the script
-abbrev pub at_line : Text → ℕ → Text
-at_line fault line = fault ++ codes " line " ++ decimal line
 
 abbrev pub no_memory_line : Text
 no_memory_line = codes "NoMemory"
@@ -51,32 +43,13 @@ check_line (Check.PassesLimit place) = at_place (codes "C9") place
 check_line (Check.NotSupported place) = at_place (codes "C12") place
 check_line Check.NoMemory = no_memory_line
 
+abbrev pub text_line : TextFault → Text
+text_line (Texts.Scan e) = scan_line e
+text_line (Texts.Parse e) = parse_line e
+text_line (Texts.Check e) = check_line e
+text_line Texts.NoMemory = no_memory_line
+
 abbrev pub open_line : OpenFault → Text
 open_line (Open.Trap trap) = codes "O2 trap " ++ decimal trap
 open_line Open.NeedsMore = codes "O3"
 open_line Open.NoMemory = no_memory_line
-
-abbrev pub script_line : ScriptFault → Text
-script_line (Script.Form line) = at_line (codes "L1") line
-script_line (Script.Procedure line) = at_line (codes "L2") line
-script_line (Script.Arguments line) = at_line (codes "L3") line
-script_line (Script.Process line) = at_line (codes "L4") line
-script_line Script.NoMemory = no_memory_line
-
--- a call is told by its process and its number among the calls of that process
-abbrev pub fault_line : SeqTextFault → Text
-fault_line (Faults.Scan e) = scan_line e
-fault_line (Faults.Parse e) = parse_line e
-fault_line (Faults.Check e) = check_line e
-fault_line (Faults.Open e) = open_line e
-fault_line (Faults.Script e) = script_line e
-fault_line (Faults.NeedsMore process number) = codes "U1 " ++ decimal process ++ codes "." ++ decimal number
-fault_line Faults.NoMemory = no_memory_line
-
-abbrev pub module_fault_line : ModuleTextFault → Text
-module_fault_line (Modules.Scan e) = scan_line e
-module_fault_line (Modules.Parse e) = parse_line e
-module_fault_line (Modules.Check e) = check_line e
-module_fault_line Modules.TooLong = codes "G1"
-module_fault_line (Modules.Open e) = open_line e
-module_fault_line Modules.NoMemory = no_memory_line

@@ -1,0 +1,3 @@
+pub mod ModuleFaultLines
+pub mod ScriptFaultLines
+pub mod FaultLines

@@ -1,0 +1,29 @@
+-- What the faults of a run say, from what those of its parts say.
+use Rattle.std.proofs.Common.{◌≡◌, ◌≢◌, ℕ, List}
+use Rattle.ob_check.specs.Exports.{signatures}
+use Rattle.ob_object.specs.Compilation.{IsCompilation, ObjectParts}
+use Rattle.ob_object.specs.Performance.{IsPerformFault, TellsMemoryApart, of_schedule, of_script}
+use Rattle.ob_schedule.specs.Schedule.{IsScheduleFault}
+use Rattle.ob_schedule.specs.declared.schedule.ScheduleFault.{ScheduleFault}
+use Rattle.ob_schedule.specs.declared.schedule.ScheduleFault.TheVariants as Schedule
+use Rattle.ob_text.specs.Script.{IsScriptFault}
+use Rattle.ob_text.specs.declared.script.ScriptFault.{ScriptFault}
+use Rattle.ob_text.specs.declared.script.ScriptFault.TheVariants as Script
+
+module _ (text : List ℕ) (n : ℕ) (scripts schedule : List ℕ) where
+  pub script_fault : (o : ObjectParts) → IsCompilation text n o → (e : ScriptFault) → IsScriptFault (signatures o.program) n scripts e → IsPerformFault text n scripts schedule (of_script e)
+  script_fault o c (Script.Form line) h = record { object = o; compiled = c; fails = h }
+  script_fault o c (Script.Procedure line) h = record { object = o; compiled = c; fails = h }
+  script_fault o c (Script.Arguments line) h = record { object = o; compiled = c; fails = h }
+  script_fault o c (Script.Process line) h = record { object = o; compiled = c; fails = h }
+  script_fault o c Script.NoMemory h = tt
+
+  pub schedule_fault : (e : ScheduleFault) → IsScheduleFault n schedule e → IsPerformFault text n scripts schedule (of_schedule e)
+  schedule_fault (Schedule.Form number) h = h
+  schedule_fault (Schedule.Process number) h = h
+  schedule_fault Schedule.NoMemory h = tt
+
+pub schedule_memory : (e : ScheduleFault) → TellsMemoryApart (of_schedule e)
+schedule_memory (Schedule.Form number) = λ bad. cc
+schedule_memory (Schedule.Process number) = λ bad. cc
+schedule_memory Schedule.NoMemory = tt

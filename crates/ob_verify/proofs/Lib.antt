@@ -1,0 +1,4 @@
+pub mod OneLine
+pub mod Records
+pub mod Texts
+pub mod WithoutApplied

@@ -1,0 +1,3 @@
+pub mod RunRecords
+pub mod Verified
+pub mod VerifyFaults
