@@ -6,7 +6,8 @@ use ob_syntax::reader::read;
 use std::alloc::Global;
 use std::test::Fail;
 
-const COUNTER: &[u8] = b"MODULE C; VAR x, y: INTEGER;
+/// Its text.
+pub const COUNTER: &[u8] = b"MODULE C; VAR x, y: INTEGER;
   PROCEDURE Inc*; BEGIN x := x + 1 END Inc;
   PROCEDURE Get*(VAR v: INTEGER); BEGIN v := x END Get;
 BEGIN y := 7 END C.";

@@ -1,5 +1,5 @@
-//! Tests of what no row of the program shows: layouts and code, schedules and records, verified records, and the values
-//! and stores of the whole language. Nothing stands on this crate.
+//! Tests of what no row of the program shows: layouts and code, objects, schedules and records, verified records, and
+//! the values and stores of the whole language. Nothing stands on this crate.
 #![tactic(auto)]
 
 #[cfg(test)]
@@ -8,6 +8,8 @@ mod code;
 mod counter;
 #[cfg(test)]
 mod layouts;
+#[cfg(test)]
+mod objects;
 #[cfg(test)]
 mod records;
 #[cfg(test)]

@@ -1,16 +1,15 @@
 -- An engine's effect is the call of each program that it was compiled of.
-use Rattle.std.proofs.Common.{◌≡◌, ℕ, List, sym, ap, ◌∙◌, subst}
+use Rattle.std.proofs.Common.{ℕ, List, sym, ◌∙◌, subst}
 use Rattle.std.specs.Prelude.{ℤ}
 use Rattle.ob_check.specs.declared.program.Scalar.{Scalar}
 use Rattle.ob_check.specs.Program.{Program}
 use Rattle.ob_mean.specs.Object.{State, ObjectCall, Reply, Answers, Trapped as TrapReply}
 use Rattle.ob_layout.specs.Encoding.{encoded, IsEncoding}
 use Rattle.wf_history.specs.OfModule.{CallEnds}
-use Rattle.wf_table.specs.Meaning.{body}
 use Rattle.wf_table.specs.Law.{Reaches, ReachesTrap}
 use Rattle.ob_engine.specs.CodeMeaning.{EngineParts, code_meaning}
 use Rattle.ob_engine.specs.Compiled.{IsCompiled, IsFitting, IsEffect, IsCalled, EffectIsCalled, CalledIsEffect}
-use Rattle.ob_engine.specs.CallLaw.{Done, done, trap_done}
+use Rattle.ob_engine.specs.CallLaw.{done, trap_done}
 use Rattle.ob_engine.specs.CodeLaw.{returns_at, traps_at}
 
 module _ (program : Program) (parts : EngineParts) (compiled : IsCompiled program parts) (call : ObjectCall) (fitting : IsFitting parts call)

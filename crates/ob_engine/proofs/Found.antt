@@ -1,5 +1,5 @@
 -- The entrances of the first procedure and of those behind it.
-use Rattle.std.proofs.Common.{◌≡◌, ℕ, suc, ◌+◌, ◌<◌, Bool, true, false, cond, List, [], ◌∷◌, ◌++◌, map, drop, length, get_or, refl, sym, ap, ◌∙◌, append_assoc}
+use Rattle.std.proofs.Common.{◌≡◌, ℕ, suc, Bool, true, false, cond, List, [], ◌∷◌, ◌++◌, map, refl, sym, ap, ◌∙◌, append_assoc}
 use Rattle.ob_check.specs.Program.{Procedure, formal_of}
 use Rattle.ob_check.specs.declared.program.Formal.{Formal}
 use Rattle.ob_check.specs.declared.program.Parameter as Code

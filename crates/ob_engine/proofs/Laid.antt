@@ -1,10 +1,10 @@
 -- A call laid word by word.
-use Rattle.std.proofs.Common.{◌≡◌, ℕ, zero, suc, ◌+◌, ◌<◌, List, [], ◌∷◌, ◌++◌, length, map, take, set, replicate, get_or, refl, sym, ap, ◌∙◌, subst, arith}
-use Rattle.std.specs.Prelude.{ℤ, pos, slice_set}
+use Rattle.std.proofs.Common.{◌≡◌, ℕ, zero, suc, ◌+◌, ◌<◌, List, [], ◌∷◌, ◌++◌, length, map, take, set, replicate, get_or, refl, sym, ap, ◌∙◌, arith}
+use Rattle.std.specs.Prelude.{ℤ, pos}
 use Rattle.std.proofs.lemmas.List.{take_more, map-append}
 use Rattle.ob_check.specs.declared.program.Scalar.{Scalar}
 use Rattle.ob_layout.specs.Encoding.{word}
-use Rattle.ob_engine.specs.CodeMeaning.{first_word, other_words, padded}
+use Rattle.ob_engine.specs.CodeMeaning.{padded}
 
 pub padded_none : (n : ℕ) → padded n [] ≡ replicate n (pos 0)
 padded_none zero = refl

@@ -1,5 +1,5 @@
 -- Engines that are made have the parts of their program.
-use Rattle.std.proofs.Common.{◌≡◌, ℕ, List, sym, ap, ◌∙◌, subst}
+use Rattle.std.proofs.Common.{◌≡◌, ℕ, List, ap, ◌∙◌}
 use Rattle.std.proofs.Math.Logic.{∥∥₁_map}
 use Rattle.ob_grammar.specs.Tree.{Module}
 use Rattle.ob_check.specs.Program.{Program}

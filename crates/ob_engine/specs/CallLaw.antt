@@ -1,7 +1,7 @@
 -- One call of an export: how the steps of a body end is how the module's call does.
-use Rattle.std.proofs.Common.{◌≡◌, ℕ, zero, suc, ◌+◌, ◌*◌, ◌<◌, ◌≤◌, leb, Bool, true, false, cond, ℤ, pos, List, [], ◌∷◌, ◌++◌, length, map, replicate, Some, None, Option, refl, sym, ap, ◌∙◌, subst, length-append, arith}
+use Rattle.std.proofs.Common.{◌≡◌, ℕ, suc, ◌+◌, ◌<◌, ◌≤◌, Bool, true, false, cond, ℤ, pos, List, [], ◌∷◌, ◌++◌, length, map, replicate, Some, Option, refl, sym, ap, ◌∙◌, subst, length-append, arith}
 use Rattle.std.proofs.lemmas.List.{length-map}
-use Rattle.std.specs.Prelude.{slice_get, slice_index_or, nat_le, nat_lt, sum_by}
+use Rattle.std.specs.Prelude.{slice_get, slice_index_or, nat_le, nat_lt}
 use Rattle.std.specs.Ordering.{int_eq}
 use Rattle.std.proofs.lemmas.Bool.Decides.{nat_tests}
 use Rattle.std.proofs.lemmas.Int.{ints}
@@ -11,38 +11,34 @@ use Rattle.ob_check.specs.declared.program.DataType.{DataType}
 use Rattle.ob_check.specs.declared.program.DataType.TheVariants.{Integer}
 use Rattle.ob_check.specs.declared.program.Scalar.{Scalar}
 use Rattle.ob_check.specs.declared.program.Formal.{Formal}
-use Rattle.ob_check.specs.Program.{Name, Variable, Parameter, Procedure, Program, formal_of, exports}
+use Rattle.ob_check.specs.Program.{Name, Variable, Parameter, Procedure, Program, formal_of}
 use Rattle.ob_check.specs.Scopes.{words, variable_words}
-use Rattle.ob_mean.specs.Value.{Value, Single}
-use Rattle.ob_mean.specs.Store.{Held, Holds, Refers, Binding, activation_at, value_held}
+use Rattle.ob_mean.specs.Value.{Single}
+use Rattle.ob_mean.specs.Store.{Held, Holds, Refers, value_held}
 use Rattle.ob_mean.specs.Statements as Statements
 use Rattle.ob_mean.specs.Statements.{meaning_of_all}
-use Rattle.ob_mean.specs.Object.{State, Effect, Ends, NeedsMore, ObjectCall, Reply, Answers, Trapped as TrapReply, effect, effect_of, effect_of_procedure, results_begun, bound, values_of as values_left}
-use Rattle.ob_layout.specs.Encoding.{word, flat, encoded, IsStateOf, IsEncoding, HoldsValueOf}
-use Rattle.ob_layout.specs.Scopes.{extent, frame_scope}
-use Rattle.ob_layout.specs.Temporaries.{stack_words, largest_frame, most_temporaries}
+use Rattle.ob_mean.specs.Object.{State, Ends, ObjectCall, Answers, Trapped as TrapReply, effect, effect_of, effect_of_procedure, results_begun, bound}
+use Rattle.ob_layout.specs.Encoding.{word, flat, encoded, IsStateOf, HoldsValueOf}
+use Rattle.ob_layout.specs.Temporaries.{stack_words}
 use Rattle.ob_scheme.specs.Scheme.{code_of}
-use Rattle.ob_scheme.specs.Correct.{arguments_of, beginning, words_of, after, Behaves, IsAnswered}
+use Rattle.ob_scheme.specs.Correct.{arguments_of, words_of, after, Behaves, IsAnswered}
 use Rattle.ob_scheme.proofs.Law.{code_correct}
 use Rattle.ob_scheme.proofs.Entries.{frame_largest}
 use Rattle.ob_scheme.proofs.Calls.{one}
 use Rattle.ob_code.specs.declared.instr.Instr.{Instr}
 use Rattle.ob_code.specs.declared.argument.Argument.{Argument}
 use Rattle.ob_code.specs.declared.argument.Argument.TheVariants as Arguments
-use Rattle.ob_code.specs.declared.turn.BodyTurn.{BodyTurn}
 use Rattle.ob_code.specs.declared.turn.BodyTurn.TheVariants as Answer
 use Rattle.ob_code.specs.Machine as Machine
 use Rattle.ob_code.specs.Body.{Run, Step, result_count as results_of, enter, entered, steps as body_steps}
 use Rattle.ob_code.specs.Laws.{StandsAt}
 use Rattle.ob_code.proofs.Steps.{steps_stand}
-use Rattle.wf_table.specs.declared.engine_turn.EngineTurn.{EngineTurn}
 use Rattle.wf_table.specs.declared.engine_turn.EngineTurn.TheVariants as Turn
 use Rattle.wf_table.specs.Meaning.{Meaning, Turned, steps, body, kept, kept_trap}
 use Rattle.wf_table.specs.Law.{HasReturned, HasTrapped, Reaches, ReachesTrap}
-use Rattle.wf_history.specs.OfModule.{CallEnds}
-use Rattle.ob_engine.specs.CodeMeaning.{Entrance, EngineParts, most, result_count, value_count, laid, padded, arguments_in, values_of, parameters_of, entrance_at, started, turn_of, turned, trap_in, replied, code_meaning}
+use Rattle.ob_engine.specs.CodeMeaning.{Entrance, EngineParts, most, result_count, value_count, padded, arguments_in, values_of, parameters_of, started, turn_of, turned, trap_in, code_meaning}
 use Rattle.ob_engine.specs.Compiled.{parts_of, IsCompiled, FormalsFit, IsFitting, IsEffect}
-use Rattle.ob_engine.specs.ExportLaw.{Found, found, frame_all, most_has, results_few, entry_there}
+use Rattle.ob_engine.specs.ExportLaw.{Found, found, frame_all, most_has, entry_there}
 use Rattle.ob_engine.specs.WordLaw.{handed_back, fits_are, values_back, values_count, kept_words, past_words}
 use Rattle.ob_engine.specs.StepLaw.{steps_same, was_stuck, was_trapped, was_returned, trap_small}
 

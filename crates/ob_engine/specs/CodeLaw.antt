@@ -1,13 +1,11 @@
 -- The engine over compiled code meets the law.
-use Rattle.std.proofs.Common.{◌≡◌, ℕ, suc, ◌+◌, ◌<◌, ◌≤◌, ◌^◌, Bool, true, false, cond, List, [], ◌∷◌, length, map, Some, None, Option, refl, sym, ap, ◌∙◌, subst, arith, ⊎_elim}
+use Rattle.std.proofs.Common.{◌≡◌, ℕ, suc, ◌+◌, ◌≤◌, Bool, true, false, cond, List, [], ◌∷◌, length, map, Some, None, Option, refl, sym, ap, ◌∙◌, subst, arith, ⊎_elim}
 use Rattle.std.specs.Prelude.{ℤ, pos, slice_get, nat_le}
 use Rattle.std.specs.Ordering.{int_eq}
 use Rattle.std.proofs.lemmas.Grind.{not_there}
 use Rattle.std.proofs.lemmas.Bool.{cases_lt}
 use Rattle.ob_check.specs.declared.program.Scalar.{Scalar}
-use Rattle.ob_check.specs.Program.{Program}
-use Rattle.ob_check.specs.Scopes.{variable_words}
-use Rattle.ob_mean.specs.Object.{State, ObjectCall, Reply, Answers, Trapped as TrapReply}
+use Rattle.ob_mean.specs.Object.{ObjectCall, Answers, Trapped as TrapReply}
 use Rattle.ob_layout.specs.Encoding.{word, encoded}
 use Rattle.ob_layout.proofs.Limits.{words_small}
 use Rattle.ob_code.specs.Body.{Run, entered, enter, result_count as results_of, step_of}
@@ -15,10 +13,10 @@ use Rattle.ob_code.specs.declared.argument.Argument.{Argument}
 use Rattle.ob_code.proofs.Over.{stuck_step}
 use Rattle.ob_code.proofs.Sizes.{steps_keep_sizes}
 use Rattle.wf_table.specs.declared.engine_turn.EngineTurn.TheVariants as Turn
-use Rattle.wf_table.specs.Meaning.{Meaning, Turned, body, values_in}
+use Rattle.wf_table.specs.Meaning.{Meaning, body, values_in}
 use Rattle.wf_table.specs.Law.{IsLawful, HasReturned, HasTrapped, Reaches, ReachesTrap}
-use Rattle.ob_engine.specs.CodeMeaning.{Entrance, EngineParts, most, result_count, value_count, first_word, other_words, values_of, parameters_of, entrance_at, started, arguments_in, trap_in, replied, code_meaning}
-use Rattle.ob_engine.specs.Compiled.{HasProgram, IsCompiled, IsLawfulBlock, IsFitting, HasReserve, IsEffect}
+use Rattle.ob_engine.specs.CodeMeaning.{Entrance, EngineParts, most, result_count, value_count, first_word, other_words, values_of, parameters_of, entrance_at, started, arguments_in, trap_in, code_meaning}
+use Rattle.ob_engine.specs.Compiled.{HasProgram, IsLawfulBlock, IsFitting, HasReserve, IsEffect}
 use Rattle.ob_engine.specs.ExportLaw.{few, most_of, results_few, values_few}
 use Rattle.ob_engine.specs.WordLaw.{length-padded, values_short}
 use Rattle.ob_engine.specs.StepLaw.{was_stuck}

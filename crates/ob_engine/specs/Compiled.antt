@@ -1,5 +1,5 @@
 -- The module whose code an engine runs, and what a call means to the engine: what it means to that module.
-use Rattle.std.specs.Prelude.{◌≡◌, ℕ, suc, ℤ, List, [], ◌∷◌, map, slice_get, Option, Some, MatchBool, if◌then◌else◌}
+use Rattle.std.specs.Prelude.{◌≡◌, ℕ, suc, ℤ, List, [], ◌∷◌, map, slice_get, Some, MatchBool, if◌then◌else◌}
 use Rattle.ob_grammar.specs.Tree.{Module}
 use Rattle.ob_check.specs.declared.program.Scalar.{Scalar}
 use Rattle.ob_check.specs.declared.program.Formal.{Formal}

@@ -1,5 +1,5 @@
 -- Where an export stands among the procedures of its program, and how many parameters it has.
-use Rattle.std.proofs.Common.{◌≡◌, ℕ, zero, suc, ◌+◌, ◌*◌, ◌<◌, ◌≤◌, max, Bool, true, false, cond, MatchBool, ℤ, pos, negsuc, List, [], ◌∷◌, length, map, filter, Some, Option, refl, sym, ap, ◌∙◌, subst, ⊎_elim, arith}
+use Rattle.std.proofs.Common.{◌≡◌, ℕ, zero, suc, ◌+◌, ◌≤◌, Bool, true, false, cond, MatchBool, ℤ, pos, negsuc, List, [], ◌∷◌, length, map, filter, Some, refl, sym, ap, ◌∙◌, subst, ⊎_elim, arith}
 use Rattle.std.proofs.lemmas.List.{length-map}
 use Rattle.std.specs.Prelude.{slice_get}
 use Rattle.std.proofs.lemmas.Grind.{not_there}
@@ -8,16 +8,15 @@ use Rattle.ob_check.specs.declared.program.DataType.{DataType}
 use Rattle.ob_check.specs.declared.program.DataType.TheVariants.{Integer}
 use Rattle.ob_check.specs.declared.program.Formal.{Formal}
 use Rattle.ob_check.specs.declared.program.Scalar.{Scalar}
-use Rattle.ob_check.specs.Program.{Name, Variable, Parameter, Procedure, Program, Statements, formal_of, exports}
+use Rattle.ob_check.specs.Program.{Name, Variable, Parameter, Procedure, Program, Statements, formal_of}
 use Rattle.ob_mean.specs.Object.{first_argument, other_arguments}
-use Rattle.ob_layout.specs.Scopes.{Own, Reference, width, extent, parameter_slot, frame_scope, frame_words}
-use Rattle.ob_layout.specs.Temporaries.{largest_frame}
+use Rattle.ob_layout.specs.Scopes.{Own, Reference, width, extent, parameter_slot, frame_scope}
 use Rattle.ob_layout.specs.Encoding.{IsScalarOf}
 use Rattle.ob_layout.proofs.Limits.{frames_small}
 use Rattle.ob_scheme.specs.Scheme.{procedure_code, entries_from}
 use Rattle.ob_scheme.proofs.Entries.{frame_largest}
 use Rattle.ob_engine.specs.CodeMeaning.{Entrance, EngineParts, entrance_at, most, result_count, value_count}
-use Rattle.ob_engine.specs.Compiled.{entrances_from, parts_of, IsCompiled, HasProgram, FormalsFit}
+use Rattle.ob_engine.specs.Compiled.{entrances_from, IsCompiled, HasProgram, FormalsFit}
 
 abbrev pub entrance : ℕ → Procedure → Entrance
 entrance n p = record { procedure = n; parameters = map formal_of p.parameters }

@@ -1,12 +1,12 @@
 -- Steps of the engine are steps of a body.
-use Rattle.std.proofs.Common.{◌≡◌, ℕ, zero, suc, ◌<◌, ◌≤◌, ℤ, List, length, refl, sym, ap, ◌∙◌, arith}
+use Rattle.std.proofs.Common.{◌≡◌, ℕ, zero, suc, ◌<◌, ◌≤◌, ℤ, List, refl, ap}
 use Rattle.ob_code.specs.declared.instr.Instr.{Instr}
 use Rattle.ob_code.specs.declared.turn.BodyTurn.{BodyTurn}
 use Rattle.ob_code.specs.declared.turn.BodyTurn.TheVariants as Answer
 use Rattle.ob_code.specs.Body.{Run, Step, step_of, after, steps as body_steps}
 use Rattle.ob_code.proofs.Sizes.{steps_keep_sizes}
 use Rattle.wf_table.specs.declared.engine_turn.EngineTurn.TheVariants as Turn
-use Rattle.wf_table.specs.Meaning.{Meaning, Turned, after_turn, steps}
+use Rattle.wf_table.specs.Meaning.{Turned, after_turn, steps}
 use Rattle.ob_engine.specs.CodeMeaning.{EngineParts, turn_of, turned, code_meaning}
 
 after_same : (t : BodyTurn) (s next : Step) (other : Turned Run) → other ≡ turned next → after_turn (turn_of t) (turned s) other ≡ turned (after t s next)

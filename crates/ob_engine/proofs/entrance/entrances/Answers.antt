@@ -1,7 +1,6 @@
-use Rattle.std.proofs.Common.{◌≡◌, ◌+◌, List, Vec, ℕ, suc, [], ◌∷◌, ◌++◌, map, drop, refl, sym, ap, ◌∙◌, append_assoc, arith}
+use Rattle.std.proofs.Common.{◌≡◌, ◌+◌, List, Vec, ℕ, suc, [], ◌∷◌, ◌++◌, map, drop, sym, ap, ◌∙◌, arith}
 use Rattle.std.specs.declared.alloc.Global.{Global}
 use Rattle.std.proofs.lemmas.List.{drop_more, map-append}
-use Rattle.ob_check.specs.Program as Programs
 use Rattle.ob_check.specs.Program.{formal_of}
 use Rattle.ob_check.specs.View.{procedure_of, parameter_of}
 use Rattle.ob_check.specs.declared.program.Procedure.{Procedure}

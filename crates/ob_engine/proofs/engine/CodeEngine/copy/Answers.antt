@@ -1,4 +1,4 @@
-use Rattle.std.proofs.Common.{◌≡◌, ℕ, List, map, sym, ap, ◌∙◌, subst}
+use Rattle.std.proofs.Common.{◌≡◌, List, map, sym, ap, ◌∙◌, subst}
 use Rattle.ob_code.specs.Code.{CodeParts}
 use Rattle.ob_engine.specs.CodeMeaning.{Entrance, EngineParts, most, result_count, value_count}
 use Rattle.ob_engine.specs.Compiled.{HasProgram}

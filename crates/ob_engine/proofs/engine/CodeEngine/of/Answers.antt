@@ -1,12 +1,12 @@
-use Rattle.std.proofs.Common.{◌≡◌, ℕ, List, map, sym, ap, ◌∙◌, subst}
+use Rattle.std.proofs.Common.{◌≡◌, map, ap, ◌∙◌}
 use Rattle.ob_check.specs.CheckedModule.{tree_in, program_in}
-use Rattle.ob_check.specs.Program.{Program, Variable}
+use Rattle.ob_check.specs.Program.{Program}
 use Rattle.ob_check.specs.Scopes.{variable_words}
 use Rattle.ob_check.specs.View.{procedure_of}
 use Rattle.ob_layout.specs.Layout.{LayoutParts}
 use Rattle.ob_scheme.specs.Scheme.{code_by}
-use Rattle.ob_engine.specs.CodeMeaning.{Entrance, EngineParts, most, result_count, value_count}
-use Rattle.ob_engine.specs.Compiled.{entrances_from, parts_of, HasProgram, IsCompiled}
+use Rattle.ob_engine.specs.CodeMeaning.{EngineParts, most, result_count, value_count}
+use Rattle.ob_engine.specs.Compiled.{entrances_from, parts_of, IsCompiled}
 use Rattle.ob_engine.specs.View.{entrance_of}
 use Rattle.ob_engine.proofs.Made.{made, parts_are, compiled, has_program}
 use Rattle.ob_engine.proofs.engine.CodeEngine.of.Goals as goal

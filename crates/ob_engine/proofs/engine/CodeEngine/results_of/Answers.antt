@@ -1,4 +1,4 @@
-use Rattle.std.proofs.Common.{◌≡◌, ◌≤◌, List, length, map, Option, sym, ap, ◌∙◌, arith}
+use Rattle.std.proofs.Common.{List, length, Option, sym, ap, ◌∙◌, arith}
 use Rattle.ob_check.specs.declared.program.Formal.{Formal}
 use Rattle.ob_engine.specs.CodeMeaning.{Entrance, values_of, parameters_of}
 use Rattle.ob_engine.specs.ExportLaw.{few}

@@ -1,8 +1,8 @@
-use Rattle.std.proofs.Common.{◌≡◌, ◌≤◌, ℕ, List, [], length, None, Option, sym, ap, ◌∙◌, arith, to_z, of_z, w64, to_z-of_z}
+use Rattle.std.proofs.Common.{◌≡◌, ℕ, [], length, None, Option, sym, ap, ◌∙◌, arith, to_z, of_z, w64, to_z-of_z}
 use Rattle.std.specs.Prelude.{slice_get}
 use Rattle.std.proofs.lemmas.Option.{slice_get_past}
 use Rattle.ob_code.specs.Body.{entered}
-use Rattle.ob_engine.specs.CodeMeaning.{Entrance, started, entrance_at, first_word, other_words}
+use Rattle.ob_engine.specs.CodeMeaning.{Entrance, started, entrance_at, other_words}
 use Rattle.ob_engine.specs.ExportLaw.{few_at}
 use Rattle.ob_engine.specs.Parts.{parts_in}
 use Rattle.ob_engine.specs.View.{entrance_of}
