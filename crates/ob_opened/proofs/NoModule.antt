@@ -72,6 +72,8 @@ pub no_opening : (text : List ℕ) (program : Program) (e : OpenFault) → ((oth
 no_opening text program e alone h numbered other state m opens =
     opens_not program e state h (open_told e numbered) (subst (λ (p : Program). IsOpening p TURNS state) (alone other m) opens)
 
+-- ---- of the text
+
 pub text_numbered : (e : TextFault) → IsNumbered (of_text e) → IsNumberedText e
 text_numbered (Texts.Scan e) h = h.1
 text_numbered (Texts.Parse e) h = h.1
