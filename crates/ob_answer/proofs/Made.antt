@@ -1,26 +1,47 @@
 -- Answers made of the beginning of a module's text.
-use Rattle.std.proofs.Common.{◌≡◌, ◌<◌, ◌++◌, ℕ, List, Result, Ok, Err, IfOk, length, codes, false}
+use Rattle.std.proofs.Common.{◌≡◌, ◌≢◌, ◌<◌, ◌≤◌, ◌++◌, ◌⊎◌, ℕ, List, Result, Ok, Err, IfOk, length, codes, false, inl, inr, refl, subst, sym, arith}
+use Rattle.std.proofs.lemmas.Bool.{cases_lt}
+use Rattle.ob_scan.specs.ScanFaults.{IsScanFault}
 use Rattle.ob_scan.specs.declared.fault.ScanFault.TheVariants as Scan
 use Rattle.ob_opened.specs.declared.checked_text.TextFault.TheVariants as Texts
-use Rattle.ob_answer.specs.Answers.{IsModuleAnswer, IsSeqAnswer, fault, refused}
+use Rattle.ob_answer.specs.Answers.{IsModuleAnswer, IsRunAnswer, IsSeqAnswer, IsTextAnswer, IsVerifyAnswer, refused}
 use Rattle.ob_answer.specs.Printed.{IsRefused}
 use Rattle.ob_answer.specs.declared.answered.Answer.{Answer}
+use Rattle.ob_answer.specs.declared.product.Product.{Product}
 use Rattle.ob_command.specs.CommandLine.{Text}
 use Rattle.ob_fault_lines.specs.FaultLines.{fault_line, module_fault_line}
+use Rattle.ob_fault_lines.specs.RunFaultLines.{run_fault_line}
+use Rattle.ob_fault_lines.specs.VerifyFaultLines.{verify_fault_line}
+use Rattle.ob_object.specs.Performance as Performs
+use Rattle.ob_object.specs.Performance.{IsPerformFault}
+use Rattle.ob_object.specs.declared.compiling.CompileFault.TheVariants as Compile
+use Rattle.ob_object.specs.declared.performing.PerformFault.{PerformFault}
+use Rattle.ob_object.specs.declared.performing.PerformFault.TheVariants as Perform
 use Rattle.ob_program.specs.ModuleCode.{IsModuleTextFault, TellsModuleMemoryApart, is_module_memory}
 use Rattle.ob_program.specs.SequentialRun.{IsSeqTextFault, TellsMemoryApart, is_want_of_memory}
 use Rattle.ob_program.specs.declared.sequential.SeqTextFault.{SeqTextFault}
 use Rattle.ob_program.specs.declared.sequential.SeqTextFault.TheVariants as Runs
 use Rattle.ob_program.specs.declared.module_code.ModuleTextFault.{ModuleTextFault}
 use Rattle.ob_program.specs.declared.module_code.ModuleTextFault.TheVariants as Modules
-use Rattle.ob_answer.proofs.Beginnings.{beginning, fault_of_whole, module_fault_of_whole}
+use Rattle.ob_verify.specs.VerifyFaults as Verifies
+use Rattle.ob_verify.specs.VerifyFaults.{IsVerifyFault}
+use Rattle.ob_verify.specs.declared.verifying.VerifyFault.{VerifyFault}
+use Rattle.ob_verify.specs.declared.verifying.VerifyFault.TheVariants as Verify
+use Rattle.ob_answer.proofs.Beginnings.{beginning, of_whole_or_long}
+
+-- a text that is too long
+too_long_scan : (text : List ℕ) → 65536 < length text → IsScanFault text Scan.TooLong
+too_long_scan text long = record { stands = long; none = λ says. absurd says }
 
 pub refused_made : {E : Type 0} (Says : List ℕ → Text → Type 0) (part : List ℕ) (e : ModuleTextFault) (result : Result Answer E)
     → IfOk result (λ a. IsRefused a 1 (module_fault_line e ++ codes "\n")) → IfOk result (λ _. is_module_memory e ≡ false)
     → IsModuleTextFault part e → TellsModuleMemoryApart e → (65536 < length part → e ≡ Modules.Text (Texts.Scan Scan.TooLong))
     → IfOk result (λ a. (whole : List ℕ) → part ≡ beginning whole → IsModuleAnswer Says whole a)
 refused_made Says part e (Ok a) told numbered stands apart too_long =
-    λ whole is. refused e (module_fault_of_whole part whole e is too_long stands) (numbered, apart) told
+    λ whole is.
+    refused e
+    (of_whole_or_long (λ t. IsModuleTextFault t e) part whole is (λ long longer. subst (λ (x : ModuleTextFault). IsModuleTextFault whole x) (sym (too_long long)) (too_long_scan whole longer)) stands)
+    (numbered, apart) told
 refused_made Says part e (Err x) told numbered stands apart too_long = tt
 
 pub seq_refused_made : {E : Type 0} (part script : List ℕ) (e : SeqTextFault) (result : Result Answer E)
@@ -28,5 +49,61 @@ pub seq_refused_made : {E : Type 0} (part script : List ℕ) (e : SeqTextFault) 
     → IsSeqTextFault part script e → TellsMemoryApart e → (65536 < length part → e ≡ Runs.Text (Texts.Scan Scan.TooLong))
     → IfOk result (λ a. (whole : List ℕ) → part ≡ beginning whole → IsSeqAnswer whole script a)
 seq_refused_made part script e (Ok a) told numbered stands apart too_long =
-    λ whole is. fault e (fault_of_whole part whole script e is too_long stands) (numbered, apart) told
+    λ whole is.
+    refused e
+    (of_whole_or_long (λ t. IsSeqTextFault t script e) part whole is (λ long longer. subst (λ (x : SeqTextFault). IsSeqTextFault whole script x) (sym (too_long long)) (too_long_scan whole longer)) stands)
+    (numbered, apart) told
 seq_refused_made part script e (Err x) told numbered stands apart too_long = tt
+
+-- ---- of a run
+
+-- a number of processes is one that an object has, or it isn't
+pub no_number : (n : ℕ) → ((n ≡ 0) ⊎ (16 < n) → ⊥) → (0 < n → n ≤ 16 → ⊥) → ⊥
+no_number n beyond within =
+    elim (cases_lt 0 n) [
+      | inr none ↦ let is : n ≡ 0 = omega (arith, none) in beyond (inl is)
+      | inl some ↦ elim (cases_lt 16 n) [ inl many ↦ beyond (inr many) | inr few ↦ within some few ]
+    ]
+
+-- the fault of a text that is too long, of so many processes
+run_too_long : (whole : List ℕ) (n : ℕ) (script schedule : List ℕ) (e : PerformFault) → 65536 < length whole
+    → ((n ≡ 0) ⊎ (16 < n) → e ≡ Perform.Compile Compile.Processes) → (0 < n → n ≤ 16 → e ≡ Perform.Compile (Compile.Text (Texts.Scan Scan.TooLong)))
+    → IsPerformFault whole n script schedule e
+run_too_long whole n script schedule e longer processes too_long =
+    elim (cases_lt 0 n) [
+      | inr none ↦ let is : n ≡ 0 = omega (arith, none) in subst (λ (x : PerformFault). IsPerformFault whole n script schedule x) (sym (processes (inl is))) (inl is)
+      | inl some ↦
+          elim (cases_lt 16 n) [
+            | inl many ↦ subst (λ (x : PerformFault). IsPerformFault whole n script schedule x) (sym (processes (inr many))) (inr many)
+            | inr few ↦ subst (λ (x : PerformFault). IsPerformFault whole n script schedule x) (sym (too_long some few)) (too_long_scan whole longer)
+          ]
+    ]
+
+pub run_refused_made : {E : Type 0} (product : Product) (part : List ℕ) (n : ℕ) (script schedule : List ℕ) (e : PerformFault) (result : Result Answer E)
+    → IfOk result (λ a. IsRefused a 1 (run_fault_line e ++ codes "\n")) → IfOk result (λ _. Performs.is_want_of_memory e ≡ false)
+    → IsPerformFault part n script schedule e → Performs.TellsMemoryApart e
+    → ((n ≡ 0) ⊎ (16 < n) → e ≡ Perform.Compile Compile.Processes) → (0 < n → n ≤ 16 → 65536 < length part → e ≡ Perform.Compile (Compile.Text (Texts.Scan Scan.TooLong)))
+    → IfOk result (λ a. (whole : List ℕ) → part ≡ beginning whole → IsRunAnswer product whole n script schedule a)
+run_refused_made product part n script schedule e (Ok a) told numbered stands apart processes too_long =
+    λ whole is.
+    refused e
+    (of_whole_or_long (λ t. IsPerformFault t n script schedule e) part whole is
+    (λ long longer. run_too_long whole n script schedule e longer processes (λ some few. too_long some few long)) stands)
+    (numbered, apart) told
+run_refused_made product part n script schedule e (Err x) told numbered stands apart processes too_long = tt
+
+-- ---- of a record
+
+numbered_verify : (e : VerifyFault) → e ≢ Verify.NoMemory → Verifies.TellsMemoryApart e → Verifies.IsNumbered e
+numbered_verify e known apart = elim apart [ inl is ↦ absurd (known is) | inr h ↦ h ]
+
+pub verify_refused_made : {E : Type 0} (part text : List ℕ) (e : VerifyFault) (result : Result Answer E)
+    → IfOk result (λ a. IsRefused a 1 (verify_fault_line e ++ codes "\n")) → IfOk result (λ _. e ≢ Verify.NoMemory)
+    → IsVerifyFault part text e → Verifies.TellsMemoryApart e → (65536 < length part → e ≡ Verifies.too_long)
+    → IfOk result (λ a. (whole : List ℕ) → part ≡ beginning whole → IsVerifyAnswer whole text a)
+verify_refused_made part text e (Ok a) told known stands apart too_long =
+    λ whole is.
+    refused e
+    (of_whole_or_long (λ t. IsVerifyFault t text e) part whole is (λ long longer. subst (λ (x : VerifyFault). IsVerifyFault whole text x) (sym (too_long long)) (too_long_scan whole longer)) stands)
+    (numbered_verify e known apart) told
+verify_refused_made part text e (Err x) told known stands apart too_long = tt

@@ -8,7 +8,17 @@ use Rattle.ob_program.specs.declared.sequential.SeqTextFault.{SeqTextFault}
 use Rattle.ob_fault_lines.specs.FaultLines.{fault_line, module_fault_line}
 use Rattle.ob_program.specs.ModuleCode.{Compiles, IsListing, IsModuleTextFault, IsNumberedModule}
 use Rattle.ob_program.specs.SequentialRun.{IsSequentialRun, IsSeqTextFault, IsNumbered}
-use Rattle.ob_command.specs.CommandLine.{Text, Request, Check, Listing, Seq, Help, Version, Unclear}
+use Rattle.ob_fault_lines.specs.RunFaultLines.{run_fault_line}
+use Rattle.ob_fault_lines.specs.VerifyFaultLines.{verify_fault_line}
+use Rattle.ob_object.specs.Performance as Performs
+use Rattle.ob_object.specs.Performance.{IsPerformFault}
+use Rattle.ob_object.specs.Printed.{HasPerformance, IsRecordPrinted}
+use Rattle.ob_verify.specs.Verified.{IsVerified}
+use Rattle.ob_verify.specs.VerifyFaults as Verifies
+use Rattle.ob_verify.specs.VerifyFaults.{IsVerifyFault}
+use Rattle.ob_command.specs.CommandLine.{Text, Request, RunRequest, Check, Listing, Seq, Run, Draw, Verify, Help, Version, Unclear}
+use Rattle.ob_answer.specs.declared.product.Product.{Product}
+use Rattle.ob_answer.specs.declared.product.Product.TheVariants as Products
 use Rattle.ob_answer.specs.Printed.{IsPrinted, IsRefused}
 use Rattle.ob_answer.specs.Reads.{IsOutcome}
 
@@ -16,30 +26,51 @@ use Rattle.ob_answer.specs.Reads.{IsOutcome}
 abbrev pub version_text : Text
 version_text = codes "obl0 0.1.0\nrattle-kit-13b logic dac8208d650f15bf\n"
 
--- To the bytes of one module: what is said of it where it has code and opens, or the line of its fault, which is not want
--- of memory.
-pub data IsModuleAnswer (Says : List ℕ → Text → Type 0) (bytes : List ℕ) (answer : Answer) : Type 0 where
-  said : (text : Text) → Says bytes text → IsPrinted answer text → IsModuleAnswer Says bytes answer
-  refused : (e : ModuleTextFault) → IsModuleTextFault bytes e → IsNumberedModule e →
-      IsRefused answer 1 (module_fault_line e ++ codes "\n") → IsModuleAnswer Says bytes answer
+abbrev pub ok_text : Text
+ok_text = codes "ok\n"
+
+-- To the bytes of files: what is said of them, or the line of a fault of theirs, which is not want of memory.
+pub data IsTextAnswer {Fault : Type 0} (Says : Text → Type 0) (IsFault IsNumbered : Fault → Type 0) (line : Fault → Text) (answer : Answer) : Type 0 where
+  said : (text : Text) → Says text → IsPrinted answer text → IsTextAnswer Says IsFault IsNumbered line answer
+  refused : (e : Fault) → IsFault e → IsNumbered e → IsRefused answer 1 (line e ++ codes "\n") → IsTextAnswer Says IsFault IsNumbered line answer
+
+-- to the bytes of one module: what is said of it where it has code and opens
+abbrev pub IsModuleAnswer : (Says : List ℕ → Text → Type 0) → List ℕ → Answer → Type 0
+IsModuleAnswer Says bytes = IsTextAnswer (Says bytes) (IsModuleTextFault bytes) IsNumberedModule module_fault_line
 
 -- of a module that has code and opens, `ok` is said
 abbrev pub SaysOk : List ℕ → Text → Type 0
-SaysOk bytes text = (program : Program) × Compiles bytes program × (text ≡ codes "ok\n")
+SaysOk bytes text = (program : Program) × Compiles bytes program × (text ≡ ok_text)
 
--- to the bytes of a module and of a script: the lines of the sequential run, or the line of the fault, which is not want of
--- memory
-pub data IsSeqAnswer (module_bytes script_bytes : List ℕ) (answer : Answer) : Type 0 where
-  run : (lines : Text) → IsSequentialRun module_bytes script_bytes lines →
-      IsPrinted answer lines → IsSeqAnswer module_bytes script_bytes answer
-  fault : (e : SeqTextFault) → IsSeqTextFault module_bytes script_bytes e → IsNumbered e →
-      IsRefused answer 1 (fault_line e ++ codes "\n") → IsSeqAnswer module_bytes script_bytes answer
+-- to the bytes of a module and of a script: the lines of the sequential run
+abbrev pub IsSeqAnswer : (module_bytes script_bytes : List ℕ) → Answer → Type 0
+IsSeqAnswer module_bytes script_bytes = IsTextAnswer (IsSequentialRun module_bytes script_bytes) (IsSeqTextFault module_bytes script_bytes) IsNumbered fault_line
+
+-- what is said of a run of a module, so many processes, a script and a schedule: its record, or a picture of it
+abbrev pub SaysRun : Product → (module_bytes : List ℕ) (processes : ℕ) (script_bytes schedule_bytes : List ℕ) → Text → Type 0
+SaysRun Products.Record module_bytes processes script_bytes schedule_bytes text = IsRecordPrinted module_bytes processes script_bytes schedule_bytes text
+SaysRun Products.Picture module_bytes processes script_bytes schedule_bytes text = HasPerformance module_bytes processes script_bytes schedule_bytes
+
+-- to the bytes of a module, of a script and of a schedule
+abbrev pub IsRunAnswer : Product → (module_bytes : List ℕ) (processes : ℕ) (script_bytes schedule_bytes : List ℕ) → Answer → Type 0
+IsRunAnswer product module_bytes processes script_bytes schedule_bytes =
+    IsTextAnswer (SaysRun product module_bytes processes script_bytes schedule_bytes) (IsPerformFault module_bytes processes script_bytes schedule_bytes) Performs.IsNumbered run_fault_line
+
+-- to the bytes of a module and of a record: `ok` where the record's order is a legal one
+abbrev pub SaysVerified : (module_bytes record_bytes : List ℕ) → Text → Type 0
+SaysVerified module_bytes record_bytes text = IsVerified module_bytes record_bytes × (text ≡ ok_text)
+
+abbrev pub IsVerifyAnswer : (module_bytes record_bytes : List ℕ) → Answer → Type 0
+IsVerifyAnswer module_bytes record_bytes = IsTextAnswer (SaysVerified module_bytes record_bytes) (IsVerifyFault module_bytes record_bytes) Verifies.IsNumbered verify_fault_line
 
 -- the files that a request names, in the order of its words
 abbrev pub files_of : Request → List Text
 files_of (Check module_name) = module_name ∷ []
 files_of (Listing module_name) = module_name ∷ []
 files_of (Seq module_name script_name) = module_name ∷ script_name ∷ []
+files_of (Run run) = run.module_name ∷ run.script_name ∷ run.schedule_name ∷ []
+files_of (Draw run) = run.module_name ∷ run.script_name ∷ run.schedule_name ∷ []
+files_of (Verify module_name record_name) = module_name ∷ record_name ∷ []
 files_of _ = []
 
 -- the answer that is made of the bytes of these files
@@ -47,10 +78,18 @@ abbrev pub IsMade : Request → List (List ℕ) → Answer → Type 0
 IsMade (Check module_name) (module_bytes ∷ []) answer = IsModuleAnswer SaysOk module_bytes answer
 IsMade (Listing module_name) (module_bytes ∷ []) answer = IsModuleAnswer IsListing module_bytes answer
 IsMade (Seq module_name script_name) (module_bytes ∷ script_bytes ∷ []) answer = IsSeqAnswer module_bytes script_bytes answer
+IsMade (Run run) (module_bytes ∷ script_bytes ∷ schedule_bytes ∷ []) answer = IsRunAnswer Products.Record module_bytes run.processes script_bytes schedule_bytes answer
+IsMade (Draw run) (module_bytes ∷ script_bytes ∷ schedule_bytes ∷ []) answer = IsRunAnswer Products.Picture module_bytes run.processes script_bytes schedule_bytes answer
+IsMade (Verify module_name record_name) (module_bytes ∷ record_bytes ∷ []) answer = IsVerifyAnswer module_bytes record_bytes answer
 IsMade Help [] answer = (text : Text) × IsPrinted answer text
 IsMade Version [] answer = IsPrinted answer version_text
 IsMade Unclear [] answer = (text : Text) × IsRefused answer 2 text
 IsMade _ _ answer = ⊥
+
+-- what a run is asked for
+abbrev pub run_request : Product → RunRequest → Request
+run_request Products.Record run = Run run
+run_request Products.Picture run = Draw run
 
 -- the answer to a request
 abbrev pub IsAnswer : {F : Type 0} → (F → Text → Result (List ℕ) FileFault → F → Type 0) → Request → F → Answer → F → Type 0

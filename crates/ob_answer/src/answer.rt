@@ -1,22 +1,18 @@
 //! From the words of the command line to what the program prints and its exit status.
 
-ghost use Rattle.std.specs.Prelude.{◌≡◌, ◌∷◌, ◌++◌, [], ℕ, List, suc, false, take, IfOk, map, codes, string_bytes};
-ghost use Rattle.ob_answer.specs.Answers.{IsAnswer, IsModuleAnswer, IsSeqAnswer, SaysOk};
-ghost use Rattle.ob_answer.specs.Printed.{IsRefused, IsUnreadable};
-ghost use Rattle.ob_command.specs.CommandLine.{Check, Listing, Seq, Text, is_option, request};
-ghost use Rattle.ob_command.specs.Commands.{request_of};
-ghost use Rattle.ob_fault_lines.specs.FaultLines.{fault_line, module_fault_line};
-ghost use Rattle.ob_program.specs.ModuleCode.{IsListing, is_module_memory};
-ghost use Rattle.ob_program.specs.SequentialRun.{is_want_of_memory};
+ghost use Rattle.std.specs.Prelude.{◌≡◌, ◌∷◌, [], ℕ, Some, false, IfOk, map, codes};
+ghost use Rattle.ob_answer.specs.Answers.{IsAnswer, run_request};
+ghost use Rattle.ob_answer.specs.Printed.{IsUnreadable};
+ghost use Rattle.ob_command.specs.CommandLine.{Check, Listing, Run, Seq, Text, Verify, is_option, number, request};
+ghost use Rattle.ob_command.specs.Commands.{request_of, run_request_of};
 
 use crate::answered::Answer;
 use crate::files::{FileFault, Files};
+use crate::making::{answer_check, answer_list, answer_run, answer_seq, answer_verify};
+use crate::product::Product;
 use crate::shown_name::push_name;
-use ob_command::command::{Command, Stop, read_command};
-use ob_fault_lines::fault_line::{fault_line, module_fault_line};
+use ob_command::command::{Command, RunCommand, Stop, read_command};
 use ob_grammar::NoMemory;
-use ob_program::module_code::{ModuleTextFault, check_text, list_text};
-use ob_program::sequential::{SeqTextFault, seq_text};
 use ob_scan::scanner::LONGEST_TEXT;
 use std::alloc::{AllocError, Global};
 
@@ -39,6 +35,10 @@ pub fn answer<F: Files>(alloc: Global, words: &[&str], files: &mut F) -> Result<
         → IfOk result (λ a. IsAnswer F.reads (Listing m) files.old a files.new) }
     ensures seq { (m s : Text) → map (λ word. word.now) words.now ≡ codes "seq" ∷ m ∷ s ∷ [] → is_option m ≡ false → is_option s ≡ false
         → IfOk result (λ a. IsAnswer F.reads (Seq m s) files.old a files.new) }
+    ensures run { (m s q n : Text) (k : ℕ) → map (λ word. word.now) words.now ≡ codes "run" ∷ m ∷ s ∷ q ∷ codes "-n" ∷ n ∷ [] → is_option m ≡ false → is_option s ≡ false → is_option q ≡ false → number n ≡ Some k
+        → IfOk result (λ a. IsAnswer F.reads (Run (record { module_name = m; script_name = s; schedule_name = q; processes = k })) files.old a files.new) }
+    ensures verify { (m r : Text) → map (λ word. word.now) words.now ≡ codes "verify" ∷ m ∷ r ∷ [] → is_option m ≡ false → is_option r ≡ false
+        → IfOk result (λ a. IsAnswer F.reads (Verify m r) files.old a files.new) }
 {
     obey_words(alloc, words, files)
 }
@@ -67,6 +67,12 @@ fn obey<F: Files>(alloc: Global, command: Command<'_>, files: &mut F) -> Result<
             module_name,
             script_name,
         } => obey_seq(alloc, module_name, script_name, files),
+        Command::Run(run) => obey_run(alloc, run, Product::Record, files),
+        Command::Draw(run) => obey_run(alloc, run, Product::Picture, files),
+        Command::Verify {
+            module_name,
+            record_name,
+        } => obey_verify(alloc, module_name, record_name, files),
     }
 }
 
@@ -114,6 +120,62 @@ fn obey_seq<F: Files>(
     answer_seq(alloc, module.as_slice(), script.as_slice())
 }
 
+/// The answer to `run` and to `draw`.
+fn obey_run<F: Files>(
+    alloc: Global,
+    run: RunCommand<'_>,
+    product: Product,
+    files: &mut F,
+) -> Result<Answer, NoMemory>
+    ensures { IfOk result (λ a. IsAnswer F.reads (run_request product (run_request_of run.entry)) files.old a files.new) }
+{
+    let module = match files.read_beginning(run.module_name, MODULE_BYTES) {
+        Ok(bytes) => bytes,
+        Err(FileFault::Unreadable) => return Ok(unreadable(alloc, run.module_name)?),
+        Err(FileFault::NoMemory) => return Err(NoMemory),
+    };
+    let script = match files.read(run.script_name) {
+        Ok(bytes) => bytes,
+        Err(FileFault::Unreadable) => return Ok(unreadable(alloc, run.script_name)?),
+        Err(FileFault::NoMemory) => return Err(NoMemory),
+    };
+    let schedule = match files.read(run.schedule_name) {
+        Ok(bytes) => bytes,
+        Err(FileFault::Unreadable) => return Ok(unreadable(alloc, run.schedule_name)?),
+        Err(FileFault::NoMemory) => return Err(NoMemory),
+    };
+    answer_run(
+        alloc,
+        product,
+        module.as_slice(),
+        run.processes,
+        script.as_slice(),
+        schedule.as_slice(),
+    )
+}
+
+/// The answer to `verify`, of the names of its files.
+fn obey_verify<F: Files>(
+    alloc: Global,
+    module_name: &str,
+    record_name: &str,
+    files: &mut F,
+) -> Result<Answer, NoMemory>
+    ensures { IfOk result (λ a. IsAnswer F.reads (Verify module_name.now record_name.now) files.old a files.new) }
+{
+    let module = match files.read_beginning(module_name, MODULE_BYTES) {
+        Ok(bytes) => bytes,
+        Err(FileFault::Unreadable) => return Ok(unreadable(alloc, module_name)?),
+        Err(FileFault::NoMemory) => return Err(NoMemory),
+    };
+    let record = match files.read(record_name) {
+        Ok(bytes) => bytes,
+        Err(FileFault::Unreadable) => return Ok(unreadable(alloc, record_name)?),
+        Err(FileFault::NoMemory) => return Err(NoMemory),
+    };
+    answer_verify(alloc, module.as_slice(), record.as_slice())
+}
+
 /// The answer where a file can't be read.
 fn unreadable(alloc: Global, name: &str) -> Result<Answer, AllocError>
     ensures { IfOk result (λ a. IsUnreadable a name.now) }
@@ -123,78 +185,4 @@ fn unreadable(alloc: Global, name: &str) -> Result<Answer, AllocError>
     push_name(&mut line, name)?;
     line.push_str("\n")?;
     Ok(Answer::refused(alloc, 3, line))
-}
-
-/// The answer of `check` to the beginning of a module's text. A module of more bytes is too long.
-fn answer_check(alloc: Global, module: &[u8]) -> Result<Answer, NoMemory>
-    ensures { IfOk result (λ a. (whole : List ℕ) → «module».now ≡ take (suc LONGEST_TEXT) whole → IsModuleAnswer SaysOk whole a) }
-{
-    match check_text(alloc, module) {
-        Ok(()) => Ok(Answer::printed(alloc, String::from_str(alloc, "ok\n")?)),
-        Err(fault) => module_refused(alloc, fault),
-    }
-}
-
-/// The answer of `list` to the beginning of a module's text. A module of more bytes is too long.
-fn answer_list(alloc: Global, module: &[u8]) -> Result<Answer, NoMemory>
-    ensures { IfOk result (λ a. (whole : List ℕ) → «module».now ≡ take (suc LONGEST_TEXT) whole → IsModuleAnswer IsListing whole a) }
-{
-    match list_text(alloc, module) {
-        Ok(lines) => Ok(Answer::printed(alloc, lines)),
-        Err(fault) => module_refused(alloc, fault),
-    }
-}
-
-/// The answer to a fault of a module by itself.
-fn module_refused(alloc: Global, fault: ModuleTextFault) -> Result<Answer, NoMemory>
-    ensures fault { IfOk result (λ a. IsRefused a 1 (module_fault_line fault ++ codes "\n")) }
-    ensures memory { IfOk result (λ _. is_module_memory fault ≡ false) }
-{
-    if module_wants_memory(fault) {
-        return Err(NoMemory);
-    }
-    Ok(refused(alloc, module_fault_line(alloc, fault)?)?)
-}
-
-/// The answer of a fault's line.
-fn refused(alloc: Global, mut line: String) -> Result<Answer, AllocError>
-    ensures { IfOk result (λ a. IsRefused a 1 (string_bytes line ++ codes "\n")) }
-{
-    line.push_str("\n")?;
-    Ok(Answer::refused(alloc, 1, line))
-}
-
-/// The answer to the beginning of a module's text and to the text of a script. A module of more bytes is too long.
-fn answer_seq(alloc: Global, module: &[u8], script: &[u8]) -> Result<Answer, NoMemory>
-    ensures { IfOk result (λ a. (whole : List ℕ) → «module».now ≡ take (suc LONGEST_TEXT) whole → IsSeqAnswer whole script.now a) }
-{
-    match seq_text(alloc, module, script) {
-        Ok(lines) => Ok(Answer::printed(alloc, lines)),
-        Err(fault) => seq_refused(alloc, fault),
-    }
-}
-
-/// The answer to a fault of a sequential run.
-fn seq_refused(alloc: Global, fault: SeqTextFault) -> Result<Answer, NoMemory>
-    ensures fault { IfOk result (λ a. IsRefused a 1 (fault_line fault ++ codes "\n")) }
-    ensures memory { IfOk result (λ _. is_want_of_memory fault ≡ false) }
-{
-    if wants_memory(fault) {
-        return Err(NoMemory);
-    }
-    Ok(refused(alloc, fault_line(alloc, fault)?)?)
-}
-
-/// Whether a fault of a module by itself is want of memory.
-fn module_wants_memory(fault: ModuleTextFault) -> bool
-    ensures { result ≡ is_module_memory fault }
-{
-    matches!(fault, ModuleTextFault::NoMemory)
-}
-
-/// Whether a fault is want of memory.
-fn wants_memory(fault: SeqTextFault) -> bool
-    ensures { result ≡ is_want_of_memory fault }
-{
-    matches!(fault, SeqTextFault::NoMemory)
 }

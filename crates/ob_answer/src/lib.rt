@@ -5,4 +5,6 @@
 pub mod answer;
 pub mod answered;
 pub mod files;
+mod making;
+pub mod product;
 pub mod shown_name;

@@ -1,3 +1,5 @@
 pub mod ModuleFaultLines
 pub mod ScriptFaultLines
 pub mod FaultLines
+pub mod RunFaultLines
+pub mod VerifyFaultLines

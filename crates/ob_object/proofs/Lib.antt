@@ -6,3 +6,4 @@ pub mod Runs
 pub mod PerformFaults
 pub mod NoPerformance
 pub mod Readings
+mod Copies

@@ -4,6 +4,7 @@
 pub mod compiling;
 pub mod performing;
 pub mod printing;
+mod replaying;
 
 pub use compiling::{CompileFault, Object, compile};
 pub use performing::{PerformFault, perform, performed};

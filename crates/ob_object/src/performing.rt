@@ -1,6 +1,6 @@
 //! Runs from texts.
 
-ghost use Rattle.std.specs.Prelude.{◌≡◌, ◌<◌, ◌≤◌, All, Err, IfOk, IfErr, length, map};
+ghost use Rattle.std.specs.Prelude.{◌≡◌, ◌<◌, ◌≤◌, ◌⊎◌, All, Err, IfOk, IfErr, length, map};
 ghost use Rattle.ob_check.specs.CheckedModule.{program_in};
 ghost use Rattle.ob_check.specs.Exports.{signatures};
 ghost use Rattle.ob_check.specs.ModuleText.{IsModule};
@@ -144,6 +144,9 @@ pub fn perform(
     // Want of memory is told by its own variant alone.
     ensures memory { IfErr result TellsMemoryApart }
 
+    // The number of processes is looked at first.
+    ensures processes { (n ≡ 0) ⊎ (MOST_PROCESSES < n) → result ≡ Err (PerformFault.Compile CompileFault.Processes) }
+
     // A text over the scanner's bound is refused, whatever it says.
     ensures too_long { 0 < n → n ≤ MOST_PROCESSES → LONGEST_TEXT < length text.now → result ≡ Err (PerformFault.Compile (CompileFault.Text (TextFault.Scan ScanFault.TooLong))) }
 {
@@ -171,6 +174,9 @@ pub fn performed(
     // Want of memory is told by its own variant alone.
     ensures memory { IfErr result TellsMemoryApart }
 
+    // The number of processes is looked at first.
+    ensures processes { (n ≡ 0) ⊎ (MOST_PROCESSES < n) → result ≡ Err (PerformFault.Compile CompileFault.Processes) }
+
     // A text over the scanner's bound is refused, whatever it says.
     ensures too_long { 0 < n → n ≤ MOST_PROCESSES → LONGEST_TEXT < length text.now → result ≡ Err (PerformFault.Compile (CompileFault.Text (TextFault.Scan ScanFault.TooLong))) }
 {
@@ -190,6 +196,7 @@ pub(crate) fn read_texts(
     ensures fault { IfErr result (IsPerformFault text.now n scripts.now schedule.now) }
     ensures none { IfErr result (λ e. IsNumbered e → HasNoPerformance text.now n scripts.now schedule.now) }
     ensures memory { IfErr result TellsMemoryApart }
+    ensures processes { (n ≡ 0) ⊎ (MOST_PROCESSES < n) → result ≡ Err (PerformFault.Compile CompileFault.Processes) }
     ensures too_long { 0 < n → n ≤ MOST_PROCESSES → LONGEST_TEXT < length text.now → result ≡ Err (PerformFault.Compile (CompileFault.Text (TextFault.Scan ScanFault.TooLong))) }
 {
     let object = compile(alloc, text, n)?;

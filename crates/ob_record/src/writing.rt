@@ -117,7 +117,7 @@ fn push_ids(text: &mut String, ids: &[CallId]) -> Result<(), AllocError>
     Ok(())
 }
 
-fn push_id(text: &mut String, id: CallId) -> Result<(), AllocError>
+pub fn push_id(text: &mut String, id: CallId) -> Result<(), AllocError>
     ensures { OnOk result (string_bytes text.new ≡ string_bytes text.old ++ id_text id) }
 {
     push_number(text, id.process)?;

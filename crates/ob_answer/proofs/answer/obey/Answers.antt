@@ -8,3 +8,12 @@ returns-in-List g c = rw c.in-List.is c.obey_list.ensures
 
 pub returns-in-Seq : goal.returns-in-Seq
 returns-in-Seq g c = rw c.in-Seq.is c.obey_seq.ensures
+
+pub returns-in-Run : goal.returns-in-Run
+returns-in-Run g c = rw c.in-Run.is c.obey_run.ensures
+
+pub returns-in-Draw : goal.returns-in-Draw
+returns-in-Draw g c = rw c.in-Draw.is c.obey_run.ensures
+
+pub returns-in-Verify : goal.returns-in-Verify
+returns-in-Verify g c = rw c.in-Verify.is c.obey_verify.ensures

@@ -3,7 +3,7 @@ use Rattle.ob_answer.specs.Answers.{said}
 use Rattle.ob_program.specs.ModuleCode.{IsListing}
 use Rattle.ob_answer.proofs.Beginnings.{of_whole}
 use Rattle.ob_answer.proofs.Made.{refused_made}
-use Rattle.ob_answer.proofs.answer.answer_list.Goals as goal
+use Rattle.ob_answer.proofs.making.answer_list.Goals as goal
 
 pub returns-in-Ok : goal.returns-in-Ok
 returns-in-Ok c whole is =

@@ -4,7 +4,7 @@ use Rattle.ob_answer.specs.Answers.{SaysOk, said}
 use Rattle.ob_program.specs.ModuleCode.{Compiles}
 use Rattle.ob_answer.proofs.Beginnings.{of_whole}
 use Rattle.ob_answer.proofs.Made.{refused_made}
-use Rattle.ob_answer.proofs.answer.answer_check.Goals as goal
+use Rattle.ob_answer.proofs.making.answer_check.Goals as goal
 
 pub returns-in_ok-from_str-in-Ok : goal.returns-in_ok-from_str-in-Ok
 returns-in_ok-from_str-in-Ok c whole is =

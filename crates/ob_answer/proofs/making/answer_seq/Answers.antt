@@ -1,13 +1,13 @@
 use Rattle.std.proofs.Common.{string_bytes}
-use Rattle.ob_answer.specs.Answers.{run}
+use Rattle.ob_answer.specs.Answers.{said}
 use Rattle.ob_program.specs.SequentialRun.{IsSequentialRun}
 use Rattle.ob_answer.proofs.Beginnings.{of_whole}
 use Rattle.ob_answer.proofs.Made.{seq_refused_made}
-use Rattle.ob_answer.proofs.answer.answer_seq.Goals as goal
+use Rattle.ob_answer.proofs.making.answer_seq.Goals as goal
 
 pub returns-in-Ok : goal.returns-in-Ok
 returns-in-Ok c whole is =
-    run (string_bytes c.in-Ok.lines)
+    said (string_bytes c.in-Ok.lines)
     (of_whole (λ t. IsSequentialRun t c.args.script.now (string_bytes c.in-Ok.lines)) c.args.module.now whole is (λ long. let bad = c.in-Ok.ensures.too_long long in cc) c.in-Ok.ensures.run)
     c.printed.ensures
 

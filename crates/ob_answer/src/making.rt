@@ -1,0 +1,172 @@
+//! Answers made of the bytes of files. Of a module's text they have the beginning: a module of more bytes is too long.
+
+ghost use Rattle.std.specs.Prelude.{◌≡◌, ◌≢◌, ◌<◌, ◌≤◌, ◌++◌, ◌⊎◌, ℕ, List, suc, false, take, Err, IfErr, IfOk, codes, length, string_bytes};
+ghost use Rattle.ob_answer.specs.Answers.{IsModuleAnswer, IsRunAnswer, IsSeqAnswer, IsVerifyAnswer, SaysOk, SaysRun};
+ghost use Rattle.ob_answer.specs.Printed.{IsRefused};
+ghost use Rattle.ob_fault_lines.specs.FaultLines.{fault_line, module_fault_line};
+ghost use Rattle.ob_fault_lines.specs.RunFaultLines.{run_fault_line};
+ghost use Rattle.ob_fault_lines.specs.VerifyFaultLines.{verify_fault_line};
+ghost use Rattle.ob_object.specs.Performance as Performs;
+ghost use Rattle.ob_program.specs.ModuleCode.{IsListing, is_module_memory};
+ghost use Rattle.ob_program.specs.SequentialRun.{is_want_of_memory};
+
+use crate::answered::Answer;
+use crate::product::Product;
+use ob_fault_lines::fault_line::{fault_line, module_fault_line};
+use ob_fault_lines::run_faults::run_fault_line;
+use ob_fault_lines::verify_faults::verify_fault_line;
+use ob_grammar::NoMemory;
+use ob_object::compiling::{CompileFault, MOST_PROCESSES};
+use ob_object::performing::PerformFault;
+use ob_object::printing::{draw_text, run_text};
+use ob_opened::checked_text::TextFault;
+use ob_program::module_code::{ModuleTextFault, check_text, list_text};
+use ob_program::sequential::{SeqTextFault, seq_text};
+use ob_scan::ScanFault;
+use ob_scan::scanner::LONGEST_TEXT;
+use ob_verify::verifying::{VerifyFault, verify_text};
+use std::alloc::{AllocError, Global};
+
+/// The answer of `check` to the beginning of a module's text.
+pub(crate) fn answer_check(alloc: Global, module: &[u8]) -> Result<Answer, NoMemory>
+    ensures { IfOk result (λ a. (whole : List ℕ) → «module».now ≡ take (suc LONGEST_TEXT) whole → IsModuleAnswer SaysOk whole a) }
+{
+    match check_text(alloc, module) {
+        Ok(()) => Ok(Answer::printed(alloc, String::from_str(alloc, "ok\n")?)),
+        Err(fault) => module_refused(alloc, fault),
+    }
+}
+
+/// The answer of `list` to the beginning of a module's text.
+pub(crate) fn answer_list(alloc: Global, module: &[u8]) -> Result<Answer, NoMemory>
+    ensures { IfOk result (λ a. (whole : List ℕ) → «module».now ≡ take (suc LONGEST_TEXT) whole → IsModuleAnswer IsListing whole a) }
+{
+    match list_text(alloc, module) {
+        Ok(lines) => Ok(Answer::printed(alloc, lines)),
+        Err(fault) => module_refused(alloc, fault),
+    }
+}
+
+/// The answer to a fault of a module by itself.
+fn module_refused(alloc: Global, fault: ModuleTextFault) -> Result<Answer, NoMemory>
+    ensures fault { IfOk result (λ a. IsRefused a 1 (module_fault_line fault ++ codes "\n")) }
+    ensures memory { IfOk result (λ _. is_module_memory fault ≡ false) }
+{
+    if module_wants_memory(fault) {
+        return Err(NoMemory);
+    }
+    Ok(refused(alloc, module_fault_line(alloc, fault)?)?)
+}
+
+/// The answer of a fault's line.
+fn refused(alloc: Global, mut line: String) -> Result<Answer, AllocError>
+    ensures { IfOk result (λ a. IsRefused a 1 (string_bytes line ++ codes "\n")) }
+{
+    line.push_str("\n")?;
+    Ok(Answer::refused(alloc, 1, line))
+}
+
+/// The answer to the beginning of a module's text and to the text of a script.
+pub(crate) fn answer_seq(alloc: Global, module: &[u8], script: &[u8]) -> Result<Answer, NoMemory>
+    ensures { IfOk result (λ a. (whole : List ℕ) → «module».now ≡ take (suc LONGEST_TEXT) whole → IsSeqAnswer whole script.now a) }
+{
+    match seq_text(alloc, module, script) {
+        Ok(lines) => Ok(Answer::printed(alloc, lines)),
+        Err(fault) => seq_refused(alloc, fault),
+    }
+}
+
+/// The answer to a fault of a sequential run.
+fn seq_refused(alloc: Global, fault: SeqTextFault) -> Result<Answer, NoMemory>
+    ensures fault { IfOk result (λ a. IsRefused a 1 (fault_line fault ++ codes "\n")) }
+    ensures memory { IfOk result (λ _. is_want_of_memory fault ≡ false) }
+{
+    if wants_memory(fault) {
+        return Err(NoMemory);
+    }
+    Ok(refused(alloc, fault_line(alloc, fault)?)?)
+}
+
+/// Whether a fault of a module by itself is want of memory.
+fn module_wants_memory(fault: ModuleTextFault) -> bool
+    ensures { result ≡ is_module_memory fault }
+{
+    matches!(fault, ModuleTextFault::NoMemory)
+}
+
+/// Whether a fault is want of memory.
+fn wants_memory(fault: SeqTextFault) -> bool
+    ensures { result ≡ is_want_of_memory fault }
+{
+    matches!(fault, SeqTextFault::NoMemory)
+}
+
+/// The answer to the beginning of a module's text, and to the texts of a script and of a schedule of so many processes.
+pub(crate) fn answer_run(
+    alloc: Global,
+    product: Product,
+    module: &[u8],
+    processes: usize,
+    script: &[u8],
+    schedule: &[u8],
+) -> Result<Answer, NoMemory>
+    ensures { IfOk result (λ a. (whole : List ℕ) → «module».now ≡ take (suc LONGEST_TEXT) whole → IsRunAnswer product whole processes script.now schedule.now a) }
+{
+    match run_lines(alloc, product, module, processes, script, schedule) {
+        Ok(lines) => Ok(Answer::printed(alloc, lines)),
+        Err(fault) => run_refused(alloc, fault),
+    }
+}
+
+/// What is printed of a run.
+fn run_lines(
+    alloc: Global,
+    product: Product,
+    module: &[u8],
+    processes: usize,
+    script: &[u8],
+    schedule: &[u8],
+) -> Result<String, PerformFault>
+    ensures said { IfOk result (λ lines. SaysRun product «module».now processes script.now schedule.now (string_bytes lines)) }
+    ensures fault { IfErr result (Performs.IsPerformFault «module».now processes script.now schedule.now) }
+    ensures memory { IfErr result Performs.TellsMemoryApart }
+    ensures processes { (processes ≡ 0) ⊎ (MOST_PROCESSES < processes) → result ≡ Err (PerformFault.Compile CompileFault.Processes) }
+    ensures too_long { 0 < processes → processes ≤ MOST_PROCESSES → LONGEST_TEXT < length «module».now → result ≡ Err (PerformFault.Compile (CompileFault.Text (TextFault.Scan ScanFault.TooLong))) }
+{
+    match product {
+        Product::Record => run_text(alloc, module, processes, script, schedule),
+        Product::Picture => draw_text(alloc, module, processes, script, schedule),
+    }
+}
+
+/// The answer to a fault of a run.
+fn run_refused(alloc: Global, fault: PerformFault) -> Result<Answer, NoMemory>
+    ensures fault { IfOk result (λ a. IsRefused a 1 (run_fault_line fault ++ codes "\n")) }
+    ensures memory { IfOk result (λ _. Performs.is_want_of_memory fault ≡ false) }
+{
+    match fault {
+        PerformFault::NoMemory => Err(NoMemory),
+        fault => Ok(refused(alloc, run_fault_line(alloc, fault)?)?),
+    }
+}
+
+/// The answer to the beginning of a module's text and to the text of a record.
+pub(crate) fn answer_verify(alloc: Global, module: &[u8], record: &[u8]) -> Result<Answer, NoMemory>
+    ensures { IfOk result (λ a. (whole : List ℕ) → «module».now ≡ take (suc LONGEST_TEXT) whole → IsVerifyAnswer whole «record».now a) }
+{
+    match verify_text(alloc, module, record) {
+        Ok(()) => Ok(Answer::printed(alloc, String::from_str(alloc, "ok\n")?)),
+        Err(fault) => verify_refused(alloc, fault),
+    }
+}
+
+/// The answer to a fault of a record.
+fn verify_refused(alloc: Global, fault: VerifyFault) -> Result<Answer, NoMemory>
+    ensures fault { IfOk result (λ a. IsRefused a 1 (verify_fault_line fault ++ codes "\n")) }
+    ensures memory { IfOk result (λ _. fault ≢ VerifyFault.NoMemory) }
+{
+    match fault {
+        VerifyFault::NoMemory => Err(NoMemory),
+        fault => Ok(refused(alloc, verify_fault_line(alloc, fault)?)?),
+    }
+}

@@ -1,0 +1,8 @@
+//! What is printed of a run.
+
+/// What is printed of a run: the text of its record, or a picture.
+#[derive(Clone, Copy, Debug, PartialEq, Eq)]
+pub enum Product {
+    Record,
+    Picture,
+}

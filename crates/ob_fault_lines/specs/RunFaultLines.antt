@@ -1,0 +1,33 @@
+-- The line that tells each fault of a run.
+use Rattle.std.specs.Prelude.{ℕ, ◌++◌, codes, decimal}
+use Rattle.ob_object.specs.declared.compiling.CompileFault.{CompileFault}
+use Rattle.ob_object.specs.declared.compiling.CompileFault.TheVariants as Compile
+use Rattle.ob_object.specs.declared.performing.PerformFault.{PerformFault}
+use Rattle.ob_object.specs.declared.performing.PerformFault.TheVariants as Faults
+use Rattle.ob_schedule.specs.declared.schedule.ScheduleFault.{ScheduleFault}
+use Rattle.ob_schedule.specs.declared.schedule.ScheduleFault.TheVariants as Schedule
+use Rattle.ob_fault_lines.specs.ModuleFaultLines.{Text, no_memory_line, open_line, text_line}
+use Rattle.ob_fault_lines.specs.ScriptFaultLines.{script_line}
+
+-- at an item of the schedule
+abbrev pub at_item : Text → ℕ → Text
+at_item fault item = fault ++ codes " item " ++ decimal item
+
+abbrev pub schedule_line : ScheduleFault → Text
+schedule_line (Schedule.Form item) = at_item (codes "Q1") item
+schedule_line (Schedule.Process item) = at_item (codes "Q2") item
+schedule_line Schedule.NoMemory = no_memory_line
+
+abbrev pub compile_line : CompileFault → Text
+compile_line Compile.Processes = codes "N1"
+compile_line (Compile.Text e) = text_line e
+compile_line Compile.TooLong = codes "G1"
+compile_line (Compile.Open e) = open_line e
+compile_line Compile.NoMemory = no_memory_line
+
+abbrev pub run_fault_line : PerformFault → Text
+run_fault_line (Faults.Compile e) = compile_line e
+run_fault_line (Faults.Script e) = script_line e
+run_fault_line (Faults.Schedule e) = schedule_line e
+run_fault_line (Faults.TooLong item) = at_item (codes "Q3") item
+run_fault_line Faults.NoMemory = no_memory_line

@@ -1,0 +1,58 @@
+//! The line of a fault of a run.
+
+ghost use Rattle.std.specs.Prelude.{◌≡◌, ◌++◌, IfOk, OnOk, string_bytes};
+ghost use Rattle.ob_fault_lines.specs.RunFaultLines.{at_item, compile_line, run_fault_line, schedule_line};
+
+use crate::module_faults::{push_open_fault, push_text_fault};
+use crate::script_faults::push_script_fault;
+use ob_object::compiling::CompileFault;
+use ob_object::performing::PerformFault;
+use ob_schedule::ScheduleFault;
+use ob_text::numbers::push_number;
+use std::alloc::{AllocError, Global};
+
+/// The line of a fault of a run, without a line feed.
+pub fn run_fault_line(alloc: Global, fault: PerformFault) -> Result<String, AllocError>
+    ensures { IfOk result (λ line. string_bytes line ≡ run_fault_line fault) }
+{
+    let mut line = String::new(alloc);
+    match fault {
+        PerformFault::Compile(fault) => push_compile_fault(&mut line, fault)?,
+        PerformFault::Script(fault) => push_script_fault(&mut line, fault)?,
+        PerformFault::Schedule(fault) => push_schedule_fault(&mut line, fault)?,
+        PerformFault::TooLong(item) => push_item(&mut line, "Q3", item)?,
+        PerformFault::NoMemory => line.push_str("NoMemory")?,
+    }
+    Ok(line)
+}
+
+fn push_compile_fault(line: &mut String, fault: CompileFault) -> Result<(), AllocError>
+    ensures { OnOk result (string_bytes line.new ≡ string_bytes line.old ++ compile_line fault) }
+{
+    match fault {
+        CompileFault::Processes => line.push_str("N1"),
+        CompileFault::Text(fault) => push_text_fault(line, fault),
+        CompileFault::TooLong => line.push_str("G1"),
+        CompileFault::Open(fault) => push_open_fault(line, fault),
+        CompileFault::NoMemory => line.push_str("NoMemory"),
+    }
+}
+
+fn push_schedule_fault(line: &mut String, fault: ScheduleFault) -> Result<(), AllocError>
+    ensures { OnOk result (string_bytes line.new ≡ string_bytes line.old ++ schedule_line fault) }
+{
+    match fault {
+        ScheduleFault::Form(item) => push_item(line, "Q1", item),
+        ScheduleFault::Process(item) => push_item(line, "Q2", item),
+        ScheduleFault::NoMemory => line.push_str("NoMemory"),
+    }
+}
+
+/// Appends a fault at an item of the schedule.
+fn push_item(line: &mut String, fault: &str, item: usize) -> Result<(), AllocError>
+    ensures { OnOk result (string_bytes line.new ≡ string_bytes line.old ++ at_item fault.now item) }
+{
+    line.push_str(fault)?;
+    line.push_str(" item ")?;
+    push_number(line, item)
+}
