@@ -4,5 +4,5 @@
 pub mod checked_text;
 pub mod opened;
 
-pub use checked_text::{TextFault, checked_text};
+pub use checked_text::TextFault;
 pub use opened::{ModuleFault, TURNS, opened_module};
