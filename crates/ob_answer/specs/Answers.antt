@@ -63,13 +63,22 @@ SaysVerified module_bytes record_bytes text = IsVerified module_bytes record_byt
 abbrev pub IsVerifyAnswer : (module_bytes record_bytes : List ℕ) → Answer → Type 0
 IsVerifyAnswer module_bytes record_bytes = IsTextAnswer (SaysVerified module_bytes record_bytes) (IsVerifyFault module_bytes record_bytes) Verifies.IsNumbered verify_fault_line
 
+-- the files that a run names
+abbrev pub files_of_run : RunRequest → List Text
+files_of_run run = run.module_name ∷ run.script_name ∷ run.schedule_name ∷ []
+
+-- the answer that is made of the bytes of these files
+abbrev pub IsRunMade : Product → RunRequest → List (List ℕ) → Answer → Type 0
+IsRunMade product run (module_bytes ∷ script_bytes ∷ schedule_bytes ∷ []) answer = IsRunAnswer product module_bytes run.processes script_bytes schedule_bytes answer
+IsRunMade product run _ answer = ⊥
+
 -- the files that a request names, in the order of its words
 abbrev pub files_of : Request → List Text
 files_of (Check module_name) = module_name ∷ []
 files_of (Listing module_name) = module_name ∷ []
 files_of (Seq module_name script_name) = module_name ∷ script_name ∷ []
-files_of (Run run) = run.module_name ∷ run.script_name ∷ run.schedule_name ∷ []
-files_of (Draw run) = run.module_name ∷ run.script_name ∷ run.schedule_name ∷ []
+files_of (Run run) = files_of_run run
+files_of (Draw run) = files_of_run run
 files_of (Verify module_name record_name) = module_name ∷ record_name ∷ []
 files_of _ = []
 
@@ -78,18 +87,13 @@ abbrev pub IsMade : Request → List (List ℕ) → Answer → Type 0
 IsMade (Check module_name) (module_bytes ∷ []) answer = IsModuleAnswer SaysOk module_bytes answer
 IsMade (Listing module_name) (module_bytes ∷ []) answer = IsModuleAnswer IsListing module_bytes answer
 IsMade (Seq module_name script_name) (module_bytes ∷ script_bytes ∷ []) answer = IsSeqAnswer module_bytes script_bytes answer
-IsMade (Run run) (module_bytes ∷ script_bytes ∷ schedule_bytes ∷ []) answer = IsRunAnswer Products.Record module_bytes run.processes script_bytes schedule_bytes answer
-IsMade (Draw run) (module_bytes ∷ script_bytes ∷ schedule_bytes ∷ []) answer = IsRunAnswer Products.Picture module_bytes run.processes script_bytes schedule_bytes answer
+IsMade (Run run) bytes answer = IsRunMade Products.Record run bytes answer
+IsMade (Draw run) bytes answer = IsRunMade Products.Picture run bytes answer
 IsMade (Verify module_name record_name) (module_bytes ∷ record_bytes ∷ []) answer = IsVerifyAnswer module_bytes record_bytes answer
 IsMade Help [] answer = (text : Text) × IsPrinted answer text
 IsMade Version [] answer = IsPrinted answer version_text
 IsMade Unclear [] answer = (text : Text) × IsRefused answer 2 text
 IsMade _ _ answer = ⊥
-
--- what a run is asked for
-abbrev pub run_request : Product → RunRequest → Request
-run_request Products.Record run = Run run
-run_request Products.Picture run = Draw run
 
 -- the answer to a request
 abbrev pub IsAnswer : {F : Type 0} → (F → Text → Result (List ℕ) FileFault → F → Type 0) → Request → F → Answer → F → Type 0

@@ -1,8 +1,9 @@
 //! From the words of the command line to what the program prints and its exit status.
 
 ghost use Rattle.std.specs.Prelude.{◌≡◌, ◌∷◌, [], ℕ, Some, false, IfOk, map, codes};
-ghost use Rattle.ob_answer.specs.Answers.{IsAnswer, run_request};
+ghost use Rattle.ob_answer.specs.Answers.{IsAnswer, IsRunMade, files_of_run};
 ghost use Rattle.ob_answer.specs.Printed.{IsUnreadable};
+ghost use Rattle.ob_answer.specs.Reads.{IsOutcome};
 ghost use Rattle.ob_command.specs.CommandLine.{Check, Listing, Run, Seq, Text, Verify, is_option, number, request};
 ghost use Rattle.ob_command.specs.Commands.{request_of, run_request_of};
 
@@ -127,7 +128,7 @@ fn obey_run<F: Files>(
     product: Product,
     files: &mut F,
 ) -> Result<Answer, NoMemory>
-    ensures { IfOk result (λ a. IsAnswer F.reads (run_request product (run_request_of run.entry)) files.old a files.new) }
+    ensures { IfOk result (λ a. IsOutcome F.reads (files_of_run (run_request_of run.entry)) (IsRunMade product (run_request_of run.entry)) files.old a files.new) }
 {
     let module = match files.read_beginning(run.module_name, MODULE_BYTES) {
         Ok(bytes) => bytes,

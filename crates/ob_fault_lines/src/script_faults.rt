@@ -21,7 +21,11 @@ pub fn push_script_fault(line: &mut String, fault: ScriptFault) -> Result<(), Al
 }
 
 /// Appends a fault at a line of the script.
-pub(crate) fn push_line_number(line: &mut String, fault: &str, number: usize) -> Result<(), AllocError>
+pub(crate) fn push_line_number(
+    line: &mut String,
+    fault: &str,
+    number: usize,
+) -> Result<(), AllocError>
     ensures { OnOk result (string_bytes line.new ≡ string_bytes line.old ++ at_line fault.now number) }
 {
     line.push_str(fault)?;

@@ -37,7 +37,7 @@ schedule_below n text items h = items_below n (item_words text) items h
 one_length : (name : Name) (b : Bool) (parameters : List Parameter) (body : Statements) (ps : List Procedure) (n : ℕ)
     → ((m : ℕ) → length (entrances_from m ps) ≡ length (filter (λ p. p.is_exported) ps))
     → length (entrances_from n (record { name = name; is_exported = b; parameters = parameters; body = body } ∷ ps))
-        ≡ length (filter (λ p. p.is_exported) (record { name = name; is_exported = b; parameters = parameters; body = body } ∷ ps))
+    ≡ length (filter (λ p. p.is_exported) (record { name = name; is_exported = b; parameters = parameters; body = body } ∷ ps))
 one_length name true parameters body ps n further = ap suc (further (suc n))
 one_length name false parameters body ps n further = further (suc n)
 

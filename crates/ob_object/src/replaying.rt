@@ -67,11 +67,7 @@ pub(crate) fn run_with_makers(
 }
 
 /// Equal to what a run of these calls on the object begins with.
-fn beginning_of(
-    alloc: Global,
-    object: &Object,
-    calls: &[ScriptCall],
-) -> Result<Beginning, NoMemory>
+fn beginning_of(alloc: Global, object: &Object, calls: &[ScriptCall]) -> Result<Beginning, NoMemory>
     ensures engine { IfOk result (λ b. parts_in b.engine ≡ (object_in object.now).engine) }
     ensures opening { IfOk result (λ b. b.opening.items ≡ encoded (object_in object.now).opening) }
     ensures calls { IfOk result (λ b. map script_call_of b.calls.items ≡ map script_call_of calls.now) }

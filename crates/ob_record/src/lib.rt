@@ -6,4 +6,4 @@ mod state;
 pub mod writing;
 
 pub use record::Record;
-pub use writing::write_record;
+pub use writing::{push_id, write_record};

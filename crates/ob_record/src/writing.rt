@@ -117,6 +117,7 @@ fn push_ids(text: &mut String, ids: &[CallId]) -> Result<(), AllocError>
     Ok(())
 }
 
+/// Appends the id of a call, as `0.2` for the second call of process 0.
 pub fn push_id(text: &mut String, id: CallId) -> Result<(), AllocError>
     ensures { OnOk result (string_bytes text.new ≡ string_bytes text.old ++ id_text id) }
 {

@@ -13,7 +13,7 @@ pub returns-in-Run : goal.returns-in-Run
 returns-in-Run g c = rw c.in-Run.is c.obey_run.ensures
 
 pub returns-in-Draw : goal.returns-in-Draw
-returns-in-Draw g c = rw c.in-Draw.is c.obey_run.ensures
+returns-in-Draw g c = rw c.in-Draw.is c.obey_run-in-Draw.ensures
 
 pub returns-in-Verify : goal.returns-in-Verify
 returns-in-Verify g c = rw c.in-Verify.is c.obey_verify.ensures

@@ -33,8 +33,7 @@ returns-in_err-draw-clause-none c =
 
 pub returns-clause-run : goal.returns-clause-run
 returns-clause-run c =
-    let read = c.in_ok-object.ensures.ready in
-    (
+    let read = c.in_ok-object.ensures.ready in (
       record_of c.in_ok-checked.record,
       record {
         object = object_in c.in_ok-object.object;

@@ -1,6 +1,7 @@
-use Rattle.std.proofs.Common.{ℕ, All, ◌<◌, subst, sym}
+use Rattle.std.proofs.Common.{ℕ, All, ◌∙◌, ◌<◌, ap, map, subst, sym}
 use Rattle.ob_engine.specs.CodeMeaning.{EngineParts}
 use Rattle.ob_engine.specs.Compiled.{IsFitting}
+use Rattle.ob_engine.specs.Parts.{parts_in}
 use Rattle.ob_object.proofs.Copies.{All_along}
 use Rattle.ob_text.specs.ScriptView.{object_call, script_call_of}
 use Rattle.ob_object.proofs.replaying.run_with_makers.Goals as goal
@@ -8,9 +9,9 @@ use Rattle.ob_object.proofs.replaying.run_with_makers.Goals as goal
 pub makers-requires-clause-callers : goal.makers-requires-clause-callers
 makers-requires-clause-callers c =
     subst (λ (n : ℕ). All (λ x. x.process < n) c.in_ok-again.again.calls.items) (sym c.processes-processes.ensures)
-    (All_along (λ x. x.process < c.args.object.processes) c.in_ok-again.again.calls.items c.args.calls.items (c.in_ok-again.ensures.calls) c.requires.callers)
+    (All_along (λ x. x.process < c.args.object.processes) c.in_ok-again.again.calls.items c.args.calls.items (c.in_ok-again.ensures.calls ∙ ap (map script_call_of) c.as_slice.ensures.value) c.requires.callers)
 
 pub makers-requires-clause-fits : goal.makers-requires-clause-fits
 makers-requires-clause-fits c =
     subst (λ (parts : EngineParts). All (λ x. IsFitting parts (object_call (script_call_of x))) c.in_ok-again.again.calls.items) (sym c.in_ok-again.ensures.engine)
-    (All_along (λ x. IsFitting _ (object_call x)) c.in_ok-again.again.calls.items c.args.calls.items (c.in_ok-again.ensures.calls) c.requires.fits)
+    (All_along (λ x. IsFitting (parts_in c.args.object.engine) (object_call x)) c.in_ok-again.again.calls.items c.args.calls.items (c.in_ok-again.ensures.calls ∙ ap (map script_call_of) c.as_slice.ensures.value) c.requires.fits)
