@@ -1,0 +1,5 @@
+pub mod Numbers
+pub mod PlainWords
+pub mod Fronts
+pub mod WordLines
+pub mod ReadBack
