@@ -5,10 +5,13 @@ use Rattle.ob_check.specs.declared.program.DataType.{DataType}
 use Rattle.ob_check.specs.declared.program.Formal.{Formal}
 use Rattle.ob_check.specs.declared.program.Scalar.{Scalar}
 use Rattle.ob_check.specs.declared.program.Scalar.TheVariants as Scalars
-use Rattle.ob_check.specs.Exports.{Signature}
-use Rattle.ob_mean.specs.Object.{ObjectCall, Reply, Answers, Trapped}
+use Rattle.ob_check.specs.Exports.{Signature, signatures}
+use Rattle.ob_check.specs.ModuleText.{IsModule}
+use Rattle.ob_check.specs.Program.{Program}
+use Rattle.ob_mean.specs.Object.{IsOpening, ObjectCall, Reply, Answers, State, Trapped}
 use Rattle.ob_mean.specs.Store.{Binding, value_held}
 use Rattle.ob_mean.specs.Value.{Value, Single}
+use Rattle.ob_opened.specs.declared.opened.TheConstants.{TURNS}
 use Rattle.ob_record.specs.Record.{Record}
 use Rattle.ob_record.specs.RecordText.{record_text}
 use Rattle.ob_record_reading.specs.RecordLines.{IsRecord, Told}
@@ -16,8 +19,10 @@ use Rattle.ob_text.specs.ExportNames.{export_named}
 use Rattle.ob_text.specs.Values.{formals_of, value_formals}
 use Rattle.ob_text.specs.Words.{Word, is_blank}
 use Rattle.ob_verify.specs.RunRecords.{without_applied}
+use Rattle.ob_verify.specs.Verified.{IsVerified}
 use Rattle.wf_history.specs.declared.event.CallId.{CallId}
 use Rattle.wf_history.specs.History.{Event, Begin, Applied, End, IsHistory, own_calls}
+use Rattle.wf_history.specs.OfModule.{IsLegalOrder}
 use Rattle.wf_table.specs.declared.schedule.Turns.{Turns}
 
 -- a word: not empty, with no blank and no line feed in it
@@ -111,3 +116,9 @@ told_by r = record { processes = r.processes; events = without_applied r.history
 abbrev pub WrittenIsRead : Type 0
 WrittenIsRead =
     (signatures : List Signature) (r : Record) → IsWritable signatures r → IsRecord signatures (record_text signatures r) (told_by r)
+
+-- the text of a writable record whose order is a legal order of its history is verified
+abbrev pub WrittenIsVerified : Type 0
+WrittenIsVerified =
+    (module_text : List ℕ) (program : Program) (opening last : State) (r : Record) → IsModule module_text program → IsOpening program TURNS opening →
+    IsWritable (signatures program) r → IsLegalOrder program opening r.history r.order last → IsVerified module_text (record_text (signatures program) r)
