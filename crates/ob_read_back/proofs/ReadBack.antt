@@ -22,7 +22,7 @@ use Rattle.ob_read_back.specs.Writable.{FitFormals, IsNamed, IsOfType, IsReplyOf
 use Rattle.ob_read_back.proofs.Numbers.{id_named, integer_text, numeral}
 use Rattle.ob_read_back.proofs.Fronts.{history_front, history_without, same_calls, without-append}
 use Rattle.ob_read_back.proofs.PlainWords.{lines_of_text}
-use Rattle.ob_read_back.proofs.WordLines.{all_words, count_line, event_line, lines_behind, order_line, record_written, schedule_line, title_line, variable_line}
+use Rattle.ob_read_back.proofs.WordLines.{all_words, answered, count_line, event_line, lines_behind, order_line, record_written, schedule_line, title_line, variable_line}
 
 value_read : (t : DataType) (s : Scalar) → IsOfType t s → IsValue t (scalar_text s) s
 value_read t (Scalars.Int z) (integer e h) = Values.integer (integer_text z h)
@@ -67,14 +67,18 @@ module _ (signatures : List Signature) (r : Record) (h : IsWritable signatures r
       slice_get (own_calls id.process (told before)) (id.number - 1) ≡ Some call
   begun before id call at = ap (λ (cs : List ObjectCall). slice_get cs (id.number - 1)) (same_calls id.process before) ∙ at
 
-  end_read : (before : List (Event ObjectCall Reply)) (id : CallId) (reply : Reply) → IsWritableEvent signatures r.processes before (End id reply) →
+  end_read : (before behind : List (Event ObjectCall Reply)) (id : CallId) (reply : Reply) → r.history ≡ before ++ End id reply ∷ behind → IsWritableEvent signatures r.processes before (End id reply) →
       IsEvent r.processes signatures (told before) (event_line signatures (End id reply)) (End id reply)
-  end_read before id (Answers values) (k, answers) =
-      Lines.end (id_named r.processes id h.most k) (begun before id answers.call answers.begun)
-      (Lines.done answers.fits.here (values_read (formals_of true answers.fits.signature.parameters) values answers.fits.results))
-  end_read before id (Trapped n) (k, answers) =
-      Lines.end (id_named r.processes id h.most k) (begun before id answers.call answers.begun)
-      (Lines.trap (numeral n (omega (arith, answers.fits.1))) answers.fits.0 answers.fits.1)
+  end_read before behind id (Answers values) is (k, answers) =
+      let call = answered signatures r h before behind id (Answers values) is in
+      let fits = answers call.0 call.1 in
+      Lines.end (id_named r.processes id h.most k) (begun before id call.0 call.1)
+      (Lines.done fits.here (values_read (formals_of true fits.signature.parameters) values fits.results))
+  end_read before behind id (Trapped n) is (k, answers) =
+      let call = answered signatures r h before behind id (Trapped n) is in
+      let fits = answers call.0 call.1 in
+      Lines.end (id_named r.processes id h.most k) (begun before id call.0 call.1)
+      (Lines.trap (numeral n (omega (arith, fits.1))) fits.0 fits.1)
 
   abbrev tail : List Line
   tail = order_line r.order ∷ schedule_line r.schedule ∷ map variable_line r.state
@@ -97,7 +101,7 @@ module _ (signatures : List Signature) (r : Record) (h : IsWritable signatures r
       (subst (λ (es : List (Event ObjectCall Reply)). AreLeft es behind) (without-append before (Applied ids ∷ []) ∙ append-nil (told before))
       (lines_read (before ++ Applied ids ∷ []) behind (is ∙ sym (append_assoc before (Applied ids ∷ []) behind))))
   lines_read before (End id reply ∷ behind) is =
-      Lines.AreLines.event (record { form = end_read before id reply (h.events before behind (End id reply) is); place = place before behind (End id reply) is refl })
+      Lines.AreLines.event (record { form = end_read before behind id reply is (h.events before behind (End id reply) is); place = place before behind (End id reply) is refl })
       (subst (λ (es : List (Event ObjectCall Reply)). AreLeft es behind) (without-append before (End id reply ∷ []))
       (lines_read (before ++ End id reply ∷ []) behind (is ∙ sym (append_assoc before (End id reply ∷ []) behind))))
 

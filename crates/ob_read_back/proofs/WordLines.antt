@@ -1,5 +1,5 @@
 -- The lines of a record's text, as words.
-use Rattle.std.proofs.Common.{◌≡◌, ℕ, ◌+◌, ◌<◌, ◌≤◌, ◌^◌, zero, suc, List, [], ◌∷◌, ◌++◌, All, length, codes, decimal, map, flat_map, slice_get, Some, refl, sym, ◌∙◌, ap, ap₂, subst, arith, append_assoc, append-nil}
+use Rattle.std.proofs.Common.{◌≡◌, ℕ, ◌+◌, ◌-◌, ◌<◌, ◌≤◌, ◌^◌, zero, suc, List, [], ◌∷◌, ◌++◌, All, length, codes, decimal, map, flat_map, slice_get, Some, refl, sym, ◌∙◌, ap, ap₂, subst, arith, append_assoc, append-nil}
 use Rattle.std.proofs.lemmas.Grind.{flat_map-append}
 use Rattle.std.proofs.lemmas.List.Elements.{All-head, All-tail}
 use Rattle.std.proofs.lemmas.Option.{same_Some}
@@ -15,9 +15,11 @@ use Rattle.ob_record_reading.specs.RecordLines.{Line}
 use Rattle.ob_text.specs.Values.{scalar_text}
 use Rattle.ob_text.specs.Words.{Word}
 use Rattle.wf_history.specs.declared.event.CallId.{CallId}
-use Rattle.wf_history.specs.History.{Event, Begin, Applied, End}
+use Rattle.wf_history.specs.History.{Event, Begin, Applied, End, IsHistory, own_calls}
 use Rattle.wf_table.specs.declared.schedule.Turns.{Turns}
 use Rattle.ob_read_back.specs.Writable.{FitFormals, FitsExport, IsCounted, IsInRange, IsNamed, IsOfType, IsPlain, IsWord, IsWritable, IsWritableEvent, integer, more, none}
+use Rattle.ob_read_back.proofs.EndedCalls.{ended_call}
+use Rattle.ob_read_back.proofs.Fronts.{history_front}
 use Rattle.ob_read_back.proofs.Numbers.{byte_word, decimal_word, id_word, scalar_word, value_word, word_more, words_joined}
 use Rattle.ob_read_back.proofs.PlainWords.{AllWords, AreWords, spaced, text_of, written}
 use Rattle.ob_read_back.proofs.PlainWords as Plain
@@ -145,16 +147,26 @@ module _ (signatures : List Signature) (r : Record) (h : IsWritable signatures r
   trap_word : IsWord (codes "trap")
   trap_word = word_more 116 _ refl refl (word_more 114 _ refl refl (word_more 97 _ refl refl (byte_word 112 refl refl)))
 
-  event_words : (before : List (Event ObjectCall Reply)) (e : Event ObjectCall Reply) → IsWritableEvent signatures r.processes before e → AreWords (event_line signatures e)
-  event_words before (Begin id call) (k, fits) =
+  -- the call that an End event ends
+  pub answered : (before behind : List (Event ObjectCall Reply)) (id : CallId) (reply : Reply) → r.history ≡ before ++ End id reply ∷ behind →
+      (call : ObjectCall) × (slice_get (own_calls id.process before) (id.number - 1) ≡ Some call)
+  answered before behind id reply is =
+      ended_call before id reply
+      (history_front (before ++ End id reply ∷ []) behind
+      (subst (λ (es : List (Event ObjectCall Reply)). IsHistory es) (is ∙ sym (append_assoc before (End id reply ∷ []) behind)) h.whole))
+
+  event_words : (before behind : List (Event ObjectCall Reply)) (e : Event ObjectCall Reply) → r.history ≡ before ++ e ∷ behind → IsWritableEvent signatures r.processes before e → AreWords (event_line signatures e)
+  event_words before behind (Begin id call) is (k, fits) =
       let name : IsWord (name_of (slice_get signatures call.export)) =
       subst (λ (w : Word). IsWord w) (sym (ap name_of fits.here)) (at_place (λ (s : Signature). IsWord s.name) signatures call.export fits.signature h.words fits.here) in
       line_of _ _ (byte_word 66 refl refl) (word (id_at id k) (word name (scalar_words _ call.arguments fits.arguments)))
-  event_words before (Applied ids) k = line_of _ _ (byte_word 65 refl refl) (each (IsNamed r.processes) id_text ids id_at k)
-  event_words before (End id (Answers values)) (k, answers) =
-      line_of _ _ (byte_word 69 refl refl) (word (id_at id k) (word done_word (scalar_words _ values answers.fits.results)))
-  event_words before (End id (Trapped n)) (k, answers) =
-      line_of _ _ (byte_word 69 refl refl) (word (id_at id k) (word trap_word (word (decimal_word n (omega (arith, answers.fits.1))) nothing)))
+  event_words before behind (Applied ids) is k = line_of _ _ (byte_word 65 refl refl) (each (IsNamed r.processes) id_text ids id_at k)
+  event_words before behind (End id (Answers values)) is (k, answers) =
+      let call = answered before behind id (Answers values) is in
+      line_of _ _ (byte_word 69 refl refl) (word (id_at id k) (word done_word (scalar_words _ values (answers call.0 call.1).results)))
+  event_words before behind (End id (Trapped n)) is (k, answers) =
+      let call = answered before behind id (Trapped n) is in
+      line_of _ _ (byte_word 69 refl refl) (word (id_at id k) (word trap_word (word (decimal_word n (omega (arith, (answers call.0 call.1).1))) nothing)))
 
   turn_word : (t : Turns) → IsCounted t → IsWord (turns_word t)
   turn_word t k =
@@ -170,7 +182,7 @@ module _ (signatures : List Signature) (r : Record) (h : IsWritable signatures r
   events_words : (before behind : List (Event ObjectCall Reply)) (rest : List Line) → r.history ≡ before ++ behind → AllWords rest → AllWords (map (event_line signatures) behind ++ rest)
   events_words before [] rest e k = k
   events_words before (x ∷ behind) rest e k =
-      Plain.line (event_words before x (h.events before behind x e)) (events_words (before ++ x ∷ []) behind rest (e ∙ sym (append_assoc before (x ∷ []) behind)) k)
+      Plain.line (event_words before behind x e (h.events before behind x e)) (events_words (before ++ x ∷ []) behind rest (e ∙ sym (append_assoc before (x ∷ []) behind)) k)
 
   pub all_words : AllWords (title_line ∷ count_line r.processes ∷ lines_behind signatures r)
   all_words =

@@ -82,11 +82,9 @@ module _ (signatures : List Signature) where
   IsReplyOf export (Answers values) = AreResults export values
   IsReplyOf export (Trapped k) = (1 ≤ k) × (k ≤ 4)
 
-  -- a reply, behind these events, to a call that its process has begun
-  pub record RepliesTo (before : List (Event ObjectCall Reply)) (id : CallId) (reply : Reply) : Type 0 where
-    pub call : ObjectCall
-    pub begun : slice_get (own_calls id.process before) (id.number - 1) ≡ Some call
-    pub fits : IsReplyOf call.export reply
+  -- a reply, behind these events, that fits the call of its name
+  abbrev pub RepliesTo : List (Event ObjectCall Reply) → CallId → Reply → Type 0
+  RepliesTo before id reply = (call : ObjectCall) → slice_get (own_calls id.process before) (id.number - 1) ≡ Some call → IsReplyOf call.export reply
 
   -- an event behind others
   abbrev pub IsWritableEvent : ℕ → List (Event ObjectCall Reply) → Event ObjectCall Reply → Type 0
