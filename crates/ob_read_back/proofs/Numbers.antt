@@ -1,5 +1,5 @@
 -- Numbers in decimal digits: the numerals that they are, and the words.
-use Rattle.std.proofs.Common.{◌≡◌, ℕ, ◌+◌, ◌-◌, ◌*◌, ◌<◌, ◌≤◌, ◌^◌, ◌==◌, suc, Bool, true, false, ℤ, pos, negsuc, List, [], ◌∷◌, ◌++◌, All, length, decimal, fold, refl, sym, ◌∙◌, ap, subst, arith, append_assoc, length-append}
+use Rattle.std.proofs.Common.{◌≡◌, ℕ, ◌+◌, ◌-◌, ◌*◌, ◌<◌, ◌≤◌, ◌^◌, ◌==◌, suc, true, false, ℤ, pos, negsuc, List, [], ◌∷◌, ◌++◌, All, decimal, fold, refl, sym, ap, subst, arith, append_assoc, length-append}
 use Rattle.std.specs.Char.{is_ascii_digit, digit_value}
 use Rattle.std.specs.Fmt.{signed_decimal}
 use Rattle.std.specs.List.{list_all}

@@ -1,5 +1,5 @@
 -- A writable record's lines are a record that tells it.
-use Rattle.std.proofs.Common.{◌≡◌, ℕ, ◌+◌, ◌-◌, ◌<◌, ◌≤◌, ◌^◌, zero, suc, true, List, [], ◌∷◌, ◌++◌, All, length, codes, decimal, map, slice_get, Some, refl, sym, ◌∙◌, ap, ap₂, subst, arith, append_assoc, append-nil}
+use Rattle.std.proofs.Common.{◌≡◌, ℕ, ◌-◌, ◌≤◌, true, List, [], ◌∷◌, ◌++◌, All, codes, map, slice_get, Some, refl, sym, ◌∙◌, ap, subst, arith, append_assoc, append-nil}
 use Rattle.std.proofs.lemmas.List.Elements.{All-cons, All-head, All-nil, All-tail}
 use Rattle.ob_check.specs.declared.program.Formal.{Formal}
 use Rattle.ob_check.specs.declared.program.DataType.{DataType}
@@ -18,7 +18,7 @@ use Rattle.ob_text.specs.Words.{Word}
 use Rattle.ob_verify.specs.RunRecords.{without_applied}
 use Rattle.wf_history.specs.declared.event.CallId.{CallId}
 use Rattle.wf_history.specs.History.{Event, Begin, Applied, End, IsHistory, own_calls}
-use Rattle.ob_read_back.specs.Writable.{FitFormals, IsNamed, IsOfType, IsReplyOf, IsWritable, IsWritableEvent, WrittenIsRead, integer, more, none, told_by}
+use Rattle.ob_read_back.specs.Writable.{FitFormals, IsNamed, IsOfType, IsWritable, IsWritableEvent, WrittenIsRead, integer, more, none, told_by}
 use Rattle.ob_read_back.proofs.Numbers.{id_named, integer_text, numeral}
 use Rattle.ob_read_back.proofs.Fronts.{history_front, history_without, same_calls, without-append}
 use Rattle.ob_read_back.proofs.PlainWords.{lines_of_text}

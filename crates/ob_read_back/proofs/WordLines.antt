@@ -1,5 +1,5 @@
 -- The lines of a record's text, as words.
-use Rattle.std.proofs.Common.{◌≡◌, ℕ, ◌+◌, ◌-◌, ◌<◌, ◌≤◌, ◌^◌, zero, suc, List, [], ◌∷◌, ◌++◌, All, length, codes, decimal, map, flat_map, slice_get, Some, refl, sym, ◌∙◌, ap, ap₂, subst, arith, append_assoc, append-nil}
+use Rattle.std.proofs.Common.{◌≡◌, ℕ, ◌-◌, zero, suc, List, [], ◌∷◌, ◌++◌, All, codes, decimal, map, flat_map, slice_get, Some, refl, sym, ◌∙◌, ap, ap₂, subst, arith, append_assoc, append-nil}
 use Rattle.std.proofs.lemmas.Grind.{flat_map-append}
 use Rattle.std.proofs.lemmas.List.Elements.{All-head, All-tail}
 use Rattle.std.proofs.lemmas.Option.{same_Some}
@@ -10,14 +10,14 @@ use Rattle.ob_check.specs.Exports.{Signature}
 use Rattle.ob_mean.specs.Object.{ObjectCall, Reply, Answers, Trapped}
 use Rattle.ob_mean.specs.Store.{Binding, value_held}
 use Rattle.ob_record.specs.Record.{Record}
-use Rattle.ob_record.specs.RecordText.{event_text, id_text, name_of, order_text, record_text, schedule_text, turns_text, value_text, variable_text}
+use Rattle.ob_record.specs.RecordText.{event_text, id_text, name_of, order_text, record_text, schedule_text, value_text, variable_text}
 use Rattle.ob_record_reading.specs.RecordLines.{Line}
 use Rattle.ob_text.specs.Values.{scalar_text}
 use Rattle.ob_text.specs.Words.{Word}
 use Rattle.wf_history.specs.declared.event.CallId.{CallId}
 use Rattle.wf_history.specs.History.{Event, Begin, Applied, End, IsHistory, own_calls}
 use Rattle.wf_table.specs.declared.schedule.Turns.{Turns}
-use Rattle.ob_read_back.specs.Writable.{FitFormals, FitsExport, IsCounted, IsInRange, IsNamed, IsOfType, IsPlain, IsWord, IsWritable, IsWritableEvent, integer, more, none}
+use Rattle.ob_read_back.specs.Writable.{FitFormals, IsCounted, IsInRange, IsNamed, IsOfType, IsPlain, IsWord, IsWritable, IsWritableEvent, integer, more, none}
 use Rattle.ob_read_back.proofs.EndedCalls.{ended_call}
 use Rattle.ob_read_back.proofs.Fronts.{history_front}
 use Rattle.ob_read_back.proofs.Numbers.{byte_word, decimal_word, id_word, scalar_word, value_word, word_more, words_joined}
