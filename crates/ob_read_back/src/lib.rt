@@ -1,0 +1,4 @@
+//! Written records, read back.
+#![tactic(auto)]
+
+pub mod laws;
