@@ -6,7 +6,7 @@ use Rattle.ob_object.specs.Performance.{IsPerformFault, TellsMemoryApart, of_sch
 use Rattle.ob_schedule.specs.Schedule.{IsScheduleFault}
 use Rattle.ob_schedule.specs.declared.schedule.ScheduleFault.{ScheduleFault}
 use Rattle.ob_schedule.specs.declared.schedule.ScheduleFault.TheVariants as Schedule
-use Rattle.ob_text.specs.Script.{IsScriptFault}
+use Rattle.ob_text.specs.Script.{IsScript, IsScriptFault, ScriptCall}
 use Rattle.ob_text.specs.declared.script.ScriptFault.{ScriptFault}
 use Rattle.ob_text.specs.declared.script.ScriptFault.TheVariants as Script
 
@@ -18,10 +18,11 @@ module _ (text : List ℕ) (n : ℕ) (scripts schedule : List ℕ) where
   script_fault o c (Script.Process line) h = record { object = o; compiled = c; fails = h }
   script_fault o c Script.NoMemory h = tt
 
-  pub schedule_fault : (e : ScheduleFault) → IsScheduleFault n schedule e → IsPerformFault text n scripts schedule (of_schedule e)
-  schedule_fault (Schedule.Form number) h = h
-  schedule_fault (Schedule.Process number) h = h
-  schedule_fault Schedule.NoMemory h = tt
+  pub schedule_fault : (o : ObjectParts) → IsCompilation text n o → (calls : List ScriptCall) → IsScript (signatures o.program) n scripts calls → (e : ScheduleFault) → IsScheduleFault n schedule e
+      → IsPerformFault text n scripts schedule (of_schedule e)
+  schedule_fault o c calls are (Schedule.Form number) h = record { object = o; compiled = c; calls = calls; calls_are = are; fails = h }
+  schedule_fault o c calls are (Schedule.Process number) h = record { object = o; compiled = c; calls = calls; calls_are = are; fails = h }
+  schedule_fault o c calls are Schedule.NoMemory h = tt
 
 pub schedule_memory : (e : ScheduleFault) → TellsMemoryApart (of_schedule e)
 schedule_memory (Schedule.Form number) = λ bad. cc

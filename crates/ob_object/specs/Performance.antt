@@ -65,6 +65,14 @@ pub record IsScriptFaultOf (text : List ℕ) (n : ℕ) (scripts : List ℕ) (fau
   pub compiled : IsCompilation text n object
   pub fails : IsScriptFault (signatures object.program) n scripts fault
 
+-- the scripts are calls on the text's object, and the schedule is none
+pub record IsScheduleFaultOf (text : List ℕ) (n : ℕ) (scripts schedule : List ℕ) (fault : ScheduleFault) : Type 0 where
+  pub object : ObjectParts
+  pub compiled : IsCompilation text n object
+  pub calls : List ScriptCall
+  pub calls_are : IsScript (signatures object.program) n scripts calls
+  pub fails : IsScheduleFault n schedule fault
+
 -- the item of this number, from 1, is the first one that stands for more steps than an item may take
 pub record PassesLimit (text : List ℕ) (n : ℕ) (scripts schedule : List ℕ) (number : ℕ) : Type 0 where
   pub object : ObjectParts
@@ -79,7 +87,7 @@ pub record PassesLimit (text : List ℕ) (n : ℕ) (scripts schedule : List ℕ)
 abbrev pub IsPerformFault : (text : List ℕ) (n : ℕ) (scripts schedule : List ℕ) → PerformFault → Type 0
 IsPerformFault text n scripts schedule (Faults.Compile e) = IsCompileFault text n e
 IsPerformFault text n scripts schedule (Faults.Script e) = IsScriptFaultOf text n scripts e
-IsPerformFault text n scripts schedule (Faults.Schedule e) = IsScheduleFault n schedule e
+IsPerformFault text n scripts schedule (Faults.Schedule e) = IsScheduleFaultOf text n scripts schedule e
 IsPerformFault text n scripts schedule (Faults.TooLong number) = PassesLimit text n scripts schedule number
 IsPerformFault text n scripts schedule Faults.NoMemory = Unit {0}
 

@@ -26,7 +26,11 @@ returns-in_err-read_scripts-clause-none c =
 pub returns-in_err-items-clause-fault : goal.returns-in_err-items-clause-fault
 returns-in_err-items-clause-fault c =
     let p = err_from_is_err_and c.from_residual-in_err-items.result c.from_residual-in_err-items.ensures.1 in
-    rw (p.1, p.2) (schedule_fault c.args.text.now c.args.n c.args.scripts.now c.args.schedule.now c.in_err-items.field-0.0 c.in_err-items.ensures.fault)
+    let calls = map script_call_of c.into_calls-calls.result.items in
+    rw (p.1, p.2)
+    (schedule_fault c.args.text.now c.args.n c.args.scripts.now c.args.schedule.now (object_in c.in_ok-object.object) c.in_ok-object.ensures.object calls
+    (subst (λ (q : Program). IsScript (signatures q) c.args.n c.args.scripts.now calls) c.checked.ensures (rw c.into_calls-calls.ensures c.in_ok-read_scripts.ensures.script))
+    c.in_err-items.field-0.0 c.in_err-items.ensures.fault)
 
 pub returns-in_err-items-clause-none : goal.returns-in_err-items-clause-none
 returns-in_err-items-clause-none c =
