@@ -1,0 +1,13 @@
+//! Laws of the records of runs from texts. What a function here ensures is proved; it does nothing.
+
+ghost use Rattle.ob_printed_runs.specs.Performed.{PerformedIsWritable, PrintedIsVerified};
+
+/// The record of a run from texts is writable.
+pub fn performed_is_writable()
+    ensures { PerformedIsWritable }
+{}
+
+/// So its text is verified by the text of the module.
+pub fn printed_is_verified()
+    ensures { PrintedIsVerified }
+{}

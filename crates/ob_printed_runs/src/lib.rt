@@ -1,0 +1,4 @@
+//! The printed records of runs from texts.
+#![tactic(auto)]
+
+pub mod laws;
