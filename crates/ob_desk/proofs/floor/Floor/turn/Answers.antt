@@ -1,9 +1,8 @@
-use Rattle.std.proofs.Common.{get_or, ◌∙◌, ℕ, ◌<◌, ◌≡◌, ◌^◌, ◌+◌, ◌++◌, ◌∷◌, [], length, List, map, subst, sym, ap, arith}
+use Rattle.std.proofs.Common.{get_or, ◌∙◌, ℕ, ◌<◌, ◌≡◌, ◌^◌, ◌+◌, ◌++◌, ◌∷◌, [], length, List, map, arith}
 use Rattle.std.specs.Prelude.{slice_index}
 use Rattle.std.proofs.Math.Facts.{Fits-of_lt}
 use Rattle.std.proofs.lemmas.Grind.{get_or_default_zero}
 use Rattle.ob_text.specs.ScriptView.{script_call_of}
-use Rattle.wf_object.specs.View.{Object}
 use Rattle.wf_play.specs.Played.{scripts_of}
 use Rattle.wf_table.specs.Object.{step_of}
 use Rattle.wf_table.specs.Schedule.{steps_of}

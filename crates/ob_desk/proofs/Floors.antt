@@ -49,7 +49,7 @@ module _ {E Run : Type 0} (m : Meaning Run) (lawful : List ℤ → Type 0) (fits
   -- all calls submitted, and no step yet
   pub floor_begun : (o : Object E Run) (n : ℕ) (opening : List ℤ) (cs : List ScriptCall) (counts : List ℕ) (start : State Run) → 0 < n → n ≤ 16 → lawful opening → All (λ c. fits (object_call (script_call_of c))) cs →
       o.sizes ≡ sizes_of m n → o.opening ≡ opening → IsStart ready (sizes_of m n) opening start → o.state ≡ run m (sizes_of m n) (submissions (scripts_of (map script_call_of cs))) start → counts ≡ replicate n 0 →
-      IsFloor m lawful fits ready (record { machine = o; scripts = map script_call_of cs; counts = counts }) × HasNoTurns {E} {Run} (record { machine = o; scripts = map script_call_of cs; counts = counts })
+      IsFloor m lawful fits ready (record { machine = o; scripts = map script_call_of cs; counts = counts }) × HasNoTurns {E = E} {Run = Run} (record { machine = o; scripts = map script_call_of cs; counts = counts })
   floor_begun o n opening cs counts start some few opens fit sizes opened begins leads zeros =
       let scripts = scripts_of (map script_call_of cs) in
       let same : o.sizes.processes ≡ n = ap (λ (z : Sizes). z.processes) sizes in
@@ -77,7 +77,7 @@ module _ {E Run : Type 0} (meaning : E → Meaning Run) (lawful : E → List ℤ
   pub floor_opened : (engine : E) (n : ℕ) (opening : List ℤ) (cs given : List ScriptCall) (a b : Object E Run) (counts : List ℕ) → 0 < n → n ≤ 16 → lawful engine opening → All (λ c. fits engine (object_call (script_call_of c))) cs →
       a.engine ≡ engine → a.sizes ≡ sizes_of (meaning engine) n → a.opening ≡ opening → IsStart (ready engine) (sizes_of (meaning engine) n) opening a.state →
       IsSameObject b a → b.state ≡ run (meaning a.engine) a.sizes (submissions (scripts_of (map script_call_of given))) a.state → given ≡ cs → counts ≡ replicate n 0 →
-      IsFloor (meaning engine) (lawful engine) (fits engine) (ready engine) (record { machine = b; scripts = map script_call_of cs; counts = counts }) × HasNoTurns {E} {Run} (record { machine = b; scripts = map script_call_of cs; counts = counts })
+      IsFloor (meaning engine) (lawful engine) (fits engine) (ready engine) (record { machine = b; scripts = map script_call_of cs; counts = counts }) × HasNoTurns {E = E} {Run = Run} (record { machine = b; scripts = map script_call_of cs; counts = counts })
   floor_opened engine n opening cs given a b counts some few opens fit engine_is sizes_are opening_is begins same leads given_are zeros =
       let led : b.state ≡ run (meaning engine) (sizes_of (meaning engine) n) (submissions (scripts_of (map script_call_of cs))) a.state =
       leads
