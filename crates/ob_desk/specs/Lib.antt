@@ -1,0 +1,2 @@
+pub mod Seat
+pub mod Floor

@@ -1,0 +1,34 @@
+-- What a seat stands for, and what a turn does to it.
+use Rattle.std.specs.Prelude.{ℕ, ◌+◌, List, [], ◌∷◌, ◌++◌}
+use Rattle.ob_mean.specs.Object.{Reply}
+use Rattle.ob_mean.specs.View.{reply_of}
+use Rattle.wf_history.specs.declared.event.CallId.{CallId}
+use Rattle.wf_table.specs.Object.{Answer, Replies}
+use Rattle.ob_desk.specs.declared.seat.CallAnswer.{CallAnswer}
+
+-- a call that ended, with its reply
+pub record AnsweredCall : Type 0 where
+  pub id : CallId
+  pub reply : Reply
+
+abbrev pub answered_call : CallAnswer → AnsweredCall
+answered_call a = record { id = a.id; reply = reply_of a.reply }
+
+-- the process, the desk's tag, and the turns and answers so far
+pub record Seat : Type 0 where
+  pub process : ℕ
+  pub tag : ℕ
+  pub turns : ℕ
+  pub answers : List AnsweredCall
+
+abbrev pub new_seat : ℕ → ℕ → Seat
+new_seat process tag = record { process = process; tag = tag; turns = 0; answers = [] }
+
+-- the answered call of a step's answer, if it ended one
+abbrev pub answers_in : Answer → List AnsweredCall
+answers_in (Replies id reply) = record { id = id; reply = reply } ∷ []
+answers_in _ = []
+
+-- one turn more, and exactly the step's answer
+abbrev pub seat_after : Answer → Seat → Seat
+seat_after answer s = record { process = s.process; tag = s.tag; turns = s.turns + 1; answers = s.answers ++ answers_in answer }
