@@ -7,3 +7,4 @@ pub mod Entries
 pub mod Tails
 pub mod Rows
 pub mod Walks
+pub mod Declared
