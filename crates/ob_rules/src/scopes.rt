@@ -1,7 +1,7 @@
 //! The names that are declared so far, and the types that they speak of.
 
-ghost use Rattle.std.specs.Prelude.{◌≡◌, ◌&&◌, true, ℕ, length, option_map, List, [], OnOk, IfErr};
-ghost use Rattle.ob_typing.specs.Scopes.{found, Environment, with_name};
+ghost use Rattle.std.specs.Prelude.{◌≡◌, ◌&&◌, true, ℕ, length, option_map, List, [], OnOk, IfOk, IfErr};
+ghost use Rattle.ob_typing.specs.Scopes.{found, Environment, with_name, outermost};
 ghost use Rattle.ob_checked.specs.Types.{Entry};
 ghost use Rattle.ob_checked.specs.View.{table_of};
 ghost use Rattle.ob_rules.specs.Objects.{object_of, scope_of, env_behind, known_object, known_names, known_scopes};
@@ -11,7 +11,7 @@ use indexmap::IndexMap;
 use ob_checked::program::{Owner, Parameter};
 use ob_checked::types::{DataType, Types};
 use ob_scalars::operators::type_of;
-use ob_typing::scalar::Scalar;
+use ob_typing::scalar::{Scalar, ScalarType};
 use std::alloc::Global;
 
 /// What a name is declared as.
@@ -106,6 +106,32 @@ fn add(alloc: Global, scope: &mut Scope, name: &str, object: Object) -> Result<(
     Ok(())
 }
 
+/// The outermost scope.
+fn outermost_scope(alloc: Global) -> Result<Scope, CheckFault>
+    ensures names { IfOk result (λ s. (types : List Entry) → scope_of types s ≡ outermost) }
+    ensures known { IfOk result (λ s. (n : ℕ) → known_names n s.entries ≡ true) }
+    ensures fault { IfErr result (λ f. f ≡ CheckFault.NoMemory) }
+{
+    let mut names = IndexMap::new(alloc);
+    let boolean = DataType::Simple(ScalarType::Boolean);
+    let integer = DataType::Simple(ScalarType::Integer);
+    add(
+        alloc,
+        &mut names,
+        "FALSE",
+        Object::Constant(Scalar::Bool(false)),
+    )?;
+    add(
+        alloc,
+        &mut names,
+        "TRUE",
+        Object::Constant(Scalar::Bool(true)),
+    )?;
+    add(alloc, &mut names, "BOOLEAN", Object::TypeName(boolean))?;
+    add(alloc, &mut names, "INTEGER", Object::TypeName(integer))?;
+    Ok(names)
+}
+
 /// What a name is declared as in the innermost of these scopes that declares it.
 fn found_around<'s>(scopes: &'s [Scope], name: &str) -> Option<&'s Object>
     ensures { (types : List Entry) → option_map (λ o. object_of types o.now) result ≡ found (env_behind types scopes.now []) name.now }
@@ -122,12 +148,28 @@ fn found_around<'s>(scopes: &'s [Scope], name: &str) -> Option<&'s Object>
 }
 
 impl Scopes {
-    ghost use Rattle.std.specs.Prelude.{◌≡◌, option_map, OnOk, IfErr};
+    ghost use Rattle.std.specs.Prelude.{◌≡◌, option_map, [], OnOk, IfOk, IfErr};
     ghost use Rattle.ob_typing.specs.Scopes as Declared;
-    ghost use Rattle.ob_typing.specs.Scopes.{found, level, meant, is_declared, declared};
+    ghost use Rattle.ob_typing.specs.Scopes.{found, level, meant, is_declared, declared, opening_names};
     ghost use Rattle.ob_rules.specs.Objects.{object_of};
     ghost use Rattle.ob_rules.specs.Names.{types_in, env_of, meant_of};
     ghost use Rattle.ob_checked.specs.View.{table_of};
+
+    /// The names that a module's text begins under.
+    pub fn new(alloc: Global) -> Result<Scopes, CheckFault>
+        ensures opening { IfOk result (λ s. env_of s ≡ opening_names) }
+        ensures types { IfOk result (λ s. types_in s ≡ []) }
+        ensures fault { IfErr result (λ f. f ≡ CheckFault.NoMemory) }
+    {
+        let outermost = outermost_scope(alloc)?;
+        let mut around = Vec::new(alloc);
+        around.push(outermost)?;
+        Ok(Scopes {
+            types: Types::new(alloc),
+            around,
+            own: IndexMap::new(alloc),
+        })
+    }
 
     /// The types of the program so far.
     pub fn types(&self) -> &Types
