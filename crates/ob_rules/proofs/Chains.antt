@@ -33,6 +33,11 @@ selectors_before [] rest = rest
 selectors_before (Field position name ∷ ss) rest = Program.field_of position (string_bytes name) (selectors_before ss rest)
 selectors_before (Element length i ∷ ss) rest = Program.element_of length (expression_of i) (selectors_before ss rest)
 
+pub selectors_before-end : (ss : List Selector) → selectors_before ss Program.no_selector ≡ selectors_in ss
+selectors_before-end [] = refl
+selectors_before-end (Field position name ∷ ss) = ap (Program.field_of position (string_bytes name)) (selectors_before-end ss)
+selectors_before-end (Element length i ∷ ss) = ap (Program.element_of length (expression_of i)) (selectors_before-end ss)
+
 -- what is left of a path, behind what is done
 abbrev pub walked : List Selector → Verdicts.Path → Verdict Verdicts.Path
 walked done y = Right (record { type = y.type; selectors = selectors_before done y.selectors })

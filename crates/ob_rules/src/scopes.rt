@@ -1,16 +1,18 @@
 //! The names that are declared so far, and the types that they speak of.
 
-ghost use Rattle.std.specs.Prelude.{◌≡◌, ◌&&◌, true, length, option_map, List, []};
-ghost use Rattle.ob_typing.specs.Scopes.{found, Environment};
+ghost use Rattle.std.specs.Prelude.{◌≡◌, ◌&&◌, true, ℕ, length, option_map, List, [], OnOk, IfOk, IfErr};
+ghost use Rattle.ob_typing.specs.Scopes.{found, Environment, with_name, outermost};
 ghost use Rattle.ob_checked.specs.Types.{Entry};
 ghost use Rattle.ob_checked.specs.View.{table_of};
-ghost use Rattle.ob_rules.specs.Objects.{object_of, env_behind, known_names, known_scopes};
+ghost use Rattle.ob_rules.specs.Objects.{object_of, scope_of, env_behind, known_object, known_names, known_scopes};
 
+use crate::fault::CheckFault;
 use indexmap::IndexMap;
 use ob_checked::program::{Owner, Parameter};
 use ob_checked::types::{DataType, Types};
 use ob_scalars::operators::type_of;
-use ob_typing::scalar::Scalar;
+use ob_typing::scalar::{Scalar, ScalarType};
+use std::alloc::Global;
 
 /// What a name is declared as.
 #[derive(Drop)]
@@ -93,6 +95,43 @@ impl Value {
     }
 }
 
+/// Adds a name to a scope, or replaces it there.
+fn add(alloc: Global, scope: &mut Scope, name: &str, object: Object) -> Result<(), CheckFault>
+    ensures ok { OnOk result ((types : List Entry) → scope_of types scope.new ≡ with_name (scope_of types scope.old) name.now (object_of types object)) }
+    ensures known { (n : ℕ) → known_names n scope.old.entries ≡ true → known_object n object ≡ true → known_names n scope.new.entries ≡ true }
+    ensures fault { IfErr result (λ f. f ≡ CheckFault.NoMemory) }
+{
+    let key = String::from_str(alloc, name)?;
+    scope.insert(key, object)?;
+    Ok(())
+}
+
+/// The outermost scope.
+fn outermost_scope(alloc: Global) -> Result<Scope, CheckFault>
+    ensures names { IfOk result (λ s. (types : List Entry) → scope_of types s ≡ outermost) }
+    ensures known { IfOk result (λ s. (n : ℕ) → known_names n s.entries ≡ true) }
+    ensures fault { IfErr result (λ f. f ≡ CheckFault.NoMemory) }
+{
+    let mut names = IndexMap::new(alloc);
+    let boolean = DataType::Simple(ScalarType::Boolean);
+    let integer = DataType::Simple(ScalarType::Integer);
+    add(
+        alloc,
+        &mut names,
+        "FALSE",
+        Object::Constant(Scalar::Bool(false)),
+    )?;
+    add(
+        alloc,
+        &mut names,
+        "TRUE",
+        Object::Constant(Scalar::Bool(true)),
+    )?;
+    add(alloc, &mut names, "BOOLEAN", Object::TypeName(boolean))?;
+    add(alloc, &mut names, "INTEGER", Object::TypeName(integer))?;
+    Ok(names)
+}
+
 /// What a name is declared as in the innermost of these scopes that declares it.
 fn found_around<'s>(scopes: &'s [Scope], name: &str) -> Option<&'s Object>
     ensures { (types : List Entry) → option_map (λ o. object_of types o.now) result ≡ found (env_behind types scopes.now []) name.now }
@@ -109,11 +148,28 @@ fn found_around<'s>(scopes: &'s [Scope], name: &str) -> Option<&'s Object>
 }
 
 impl Scopes {
-    ghost use Rattle.std.specs.Prelude.{◌≡◌, option_map};
-    ghost use Rattle.ob_typing.specs.Scopes.{found, level, meant};
+    ghost use Rattle.std.specs.Prelude.{◌≡◌, option_map, [], OnOk, IfOk, IfErr};
+    ghost use Rattle.ob_typing.specs.Scopes as Declared;
+    ghost use Rattle.ob_typing.specs.Scopes.{found, level, meant, is_declared, declared, opening_names};
     ghost use Rattle.ob_rules.specs.Objects.{object_of};
     ghost use Rattle.ob_rules.specs.Names.{types_in, env_of, meant_of};
     ghost use Rattle.ob_checked.specs.View.{table_of};
+
+    /// The names that a module's text begins under.
+    pub fn new(alloc: Global) -> Result<Scopes, CheckFault>
+        ensures opening { IfOk result (λ s. env_of s ≡ opening_names) }
+        ensures types { IfOk result (λ s. types_in s ≡ []) }
+        ensures fault { IfErr result (λ f. f ≡ CheckFault.NoMemory) }
+    {
+        let outermost = outermost_scope(alloc)?;
+        let mut around = Vec::new(alloc);
+        around.push(outermost)?;
+        Ok(Scopes {
+            types: Types::new(alloc),
+            around,
+            own: IndexMap::new(alloc),
+        })
+    }
 
     /// The types of the program so far.
     pub fn types(&self) -> &Types
@@ -178,5 +234,26 @@ impl Scopes {
                 parameters,
             },
         }
+    }
+
+    /// Whether the innermost scope declares a name.
+    pub fn declares(&self, name: &str) -> bool
+        ensures { result ≡ is_declared (env_of self.now) name.now }
+    {
+        self.own.contains_key(name)
+    }
+
+    /// Declares a constant in the innermost scope.
+    pub fn declare_constant(
+        &mut self,
+        alloc: Global,
+        name: &str,
+        value: Scalar,
+    ) -> Result<(), CheckFault>
+        ensures ok { OnOk result (env_of self.new ≡ declared (env_of self.old) name.now (Declared.Constant value)) }
+        ensures types { types_in self.new ≡ types_in self.old }
+        ensures fault { IfErr result (λ f. f ≡ CheckFault.NoMemory) }
+    {
+        add(alloc, &mut self.own, name, Object::Constant(value))
     }
 }

@@ -19,6 +19,7 @@ use Rattle.ob_typing.specs.ExpressionFaults.{broken, value_broken}
 use Rattle.ob_typing.proofs.Verdict.{Verdict, Right, Wrong, Foreign, ◌>>=◌, need, or_wrong, test, unless, result}
 use Rattle.ob_typing.proofs.CheckedExpressions as Verdicts
 use Rattle.ob_typing.proofs.CheckedExpressions.{expression, operands, selecting, named_value, sign_place}
+use Rattle.ob_rules.specs.SimpleTypes.{simple_type}
 use Rattle.ob_rules.specs.Checking.{complemented, signed, compared, fielded, indexed}
 
 -- `~`
@@ -117,3 +118,14 @@ module _ (env : Environment) (use' : Use) (name : Tree.Name) (selectors : Tree.S
   pub name_known : (m : Meant) (s : Programs.DataType) → meant env name.text ≡ m → value_broken use' m ≡ None → type_meant m ≡ Some s →
       expression env (Tree.Named name selectors) use' ≡ ◌>>=◌ (selecting env selectors use' s) (named_value use' name.place m)
   name_known m s is h t = rw is (rw h (rw t refl))
+
+-- a variable or a part of it that is not structured
+module _ (use' : Use) (place : ℕ) (slot : Programs.Slot) (s : Programs.DataType) (selectors : Programs.Selectors) (t : ScalarType) where
+  pub variable_right : (of_type : Programs.DataType) → Some t ≡ simple_type of_type →
+      named_value use' place (AVariable slot s) (record { type = of_type; selectors = selectors })
+      ≡ Right (record { type = t; code = Programs.ValueOf t (Programs.Designated slot selectors); value = None })
+  variable_right (Programs.Simple u) h =
+      let is : u ≡ t = cc in
+      ap (λ x. Right (record { type = x; code = Programs.ValueOf x (Programs.Designated slot selectors); value = None })) is
+  variable_right (Programs.Array p n e) h = absurd cc
+  variable_right (Programs.Record p fs) h = absurd cc

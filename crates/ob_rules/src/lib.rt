@@ -2,6 +2,7 @@
 #![tactic(auto)]
 
 pub mod constants;
+pub mod declarations;
 pub mod expressions;
 pub mod fault;
 pub mod meant;

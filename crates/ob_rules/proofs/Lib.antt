@@ -5,3 +5,6 @@ pub mod Chains
 pub mod Looked
 pub mod Entries
 pub mod Tails
+pub mod Rows
+pub mod Walks
+pub mod Declared
