@@ -42,7 +42,7 @@ pub record IsCompiled (program : Program) (parts : EngineParts) : Type 0 where
 abbrev pub HasProgram : EngineParts → Type 0
 HasProgram parts = (program : Program) × IsCompiled program parts
 
--- an argument for each value parameter, of its type
+-- the arguments are values of the value parameters' types, in order, and no more; last ones may be left out, and count as 0
 abbrev pub FormalsFit : List Formal → List Scalar → Type 0
 FormalsFit [] arguments = arguments ≡ []
 FormalsFit (p ∷ parameters) arguments =
