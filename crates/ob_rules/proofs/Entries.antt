@@ -1,15 +1,11 @@
 -- What an entry of the table says of its type.
-use Rattle.std.proofs.Common.{◌≡◌, ◌≤◌, ℕ, zero, suc, arith, List, [], ◌∷◌, length, Option, Some, None, refl, sym, ap, ◌∙◌}
+use Rattle.std.proofs.Common.{◌≡◌, ◌≤◌, ℕ, zero, suc, arith, List, [], ◌∷◌, length, Some, None, refl, sym, ap, ◌∙◌}
 use Rattle.std.specs.Prelude.{slice_get}
-use Rattle.ob_typing.specs.declared.scalar.ScalarType.{ScalarType}
-use Rattle.ob_typing.specs.declared.scalar.ScalarType.TheVariants.{Integer}
-use Rattle.ob_typing.specs.Program as Programs
-use Rattle.ob_typing.specs.Scopes as Declared
 use Rattle.ob_checked.specs.declared.types.DataType.{DataType}
 use Rattle.ob_checked.specs.declared.types.DataType.TheVariants.{Structured}
 use Rattle.ob_checked.specs.declared.types.Structure.{Structure}
 use Rattle.ob_checked.specs.declared.types.Structure.TheVariants.{Array, Record}
-use Rattle.ob_checked.specs.Types.{Entry, type_by, type_in, types_of, fields_by, structure_by, entry_by, IsTable}
+use Rattle.ob_checked.specs.Types.{Entry, type_in, types_of, structure_by, entry_by, IsTable}
 use Rattle.ob_checked.proofs.Numbers.{type_at, type_past, none}
 use Rattle.ob_rules.specs.SimpleTypes.{simple_type}
 

@@ -1,5 +1,5 @@
 -- The verdict on an expression of the program, step by step.
-use Rattle.std.proofs.Common.{◌≡◌, ℕ, ℤ, List, Option, refl, sym, ap, ◌∙◌, Box, Vec}
+use Rattle.std.proofs.Common.{◌≡◌, ℕ, ℤ, List, Option, sym, ap, ◌∙◌, Box, Vec}
 use Rattle.std.specs.declared.alloc.Global.{Global}
 use Rattle.ob_grammar.specs.declared.tree.Expr.{Expr}
 use Rattle.ob_grammar.specs.declared.tree.Expr.TheVariants as Exprs
@@ -7,7 +7,6 @@ use Rattle.ob_grammar.specs.declared.tree.Designator.{Designator}
 use Rattle.ob_grammar.specs.declared.tree.Operand.{Operand}
 use Rattle.ob_grammar.specs.declared.tree.Operator.{Operator}
 use Rattle.ob_grammar.specs.declared.tree.Sign.{Sign}
-use Rattle.ob_grammar.specs.Tree
 use Rattle.ob_grammar.specs.View.{expr_of, operands_in}
 use Rattle.ob_grammar.proofs.Rows.{expr_of-named, expr_of-product, expr_of-sum}
 use Rattle.ob_typing.specs.Scopes.{Environment}

@@ -1,5 +1,5 @@
 -- The fields of a record by name.
-use Rattle.std.proofs.Common.{◌≡◌, ℕ, zero, suc, ◌+◌, Bool, true, false, List, [], ◌∷◌, Option, Some, None, position, refl, sym, ap, ◌∙◌, arith, String}
+use Rattle.std.proofs.Common.{◌≡◌, ℕ, suc, ◌+◌, Bool, true, false, List, [], ◌∷◌, Option, Some, None, position, refl, sym, ap, ◌∙◌, arith, String}
 use Rattle.std.specs.Prelude.{string_bytes, bytes_eq}
 use Rattle.std.specs.List.{position_from}
 use Rattle.std.specs.Map.{lookup, keys_of}

@@ -1,5 +1,5 @@
 -- The vectors within expressions and statements of the program, as lists.
-use Rattle.std.proofs.Common.{◌≡◌, Option, Some, None, refl, ap, sym, ◌∙◌, Box, Vec, List, string_bytes}
+use Rattle.std.proofs.Common.{◌≡◌, Option, Some, None, refl, ap, sym, ◌∙◌, Box, Vec, string_bytes}
 use Rattle.std.specs.declared.alloc.Global.{Global}
 use mathlib.Core.Former.{Count}
 use Rattle.ob_typing.specs.declared.scalar.ScalarType.{ScalarType}

@@ -1,5 +1,5 @@
 -- What is left to test where parts are right, test by test.
-use Rattle.std.proofs.Common.{◌≡◌, ℕ, refl, Option, Some, None, true, false, ap, ◌∙◌}
+use Rattle.std.proofs.Common.{◌≡◌, ℕ, refl, Option, Some, None, true, false, ap}
 use Rattle.std.specs.Prelude.{option_map}
 use Rattle.ob_grammar.specs.declared.tree.Operator.{Operator}
 use Rattle.ob_grammar.specs.declared.tree.Sign.{Sign}
@@ -13,10 +13,10 @@ use Rattle.ob_typing.specs.declared.rule.Rule.{Rule}
 use Rattle.ob_typing.specs.declared.rule.Rule.TheVariants.{UnknownName, WrongKind, TypesDiffer, BadConstant}
 use Rattle.ob_typing.specs.Program as Programs
 use Rattle.ob_typing.specs.Arithmetic.{Gives, Traps, complement, same_scalar_type, takes_both, compares, operator_of, relation_of}
-use Rattle.ob_typing.specs.Scopes.{Environment, Meant, AConstant, AVariable, meant, type_meant, is_simple, fields_of, elements_of, field_from}
-use Rattle.ob_typing.specs.Expressions.{Use, behind, value_behind, with_sign, sign_fits, value_signed, value_compared}
+use Rattle.ob_typing.specs.Scopes.{Environment, Meant, AVariable, meant, type_meant, fields_of, elements_of, field_from}
+use Rattle.ob_typing.specs.Expressions.{Use, behind, value_behind, with_sign, value_signed, value_compared}
 use Rattle.ob_typing.specs.ExpressionFaults.{broken, value_broken}
-use Rattle.ob_typing.proofs.Verdict.{Verdict, Right, Wrong, Foreign, ◌>>=◌, need, or_wrong, test, unless, result}
+use Rattle.ob_typing.proofs.Verdict.{Verdict, Right, Wrong, Foreign, ◌>>=◌, test, result}
 use Rattle.ob_typing.proofs.CheckedExpressions as Verdicts
 use Rattle.ob_typing.proofs.CheckedExpressions.{expression, operands, selecting, named_value, sign_place}
 use Rattle.ob_rules.specs.SimpleTypes.{simple_type}

@@ -30,7 +30,7 @@ use Rattle.ob_checked.specs.View.{expression_of}
 use Rattle.ob_rules.specs.declared.expressions.Typed.{Typed}
 use Rattle.ob_rules.specs.Checking.{typed_of, selector_before, selected_before, fielded, indexed, and_then}
 use Rattle.ob_rules.proofs.Steps.{bind_assoc, bind_same}
-use Rattle.ob_rules.proofs.Chains.{operations_before, operations_before-push, resumed, selectors_before, walked}
+use Rattle.ob_rules.proofs.Chains.{operations_before-push, resumed, selectors_before, walked}
 use Rattle.ob_rules.proofs.Tails.{operand_right}
 
 pub next_left : {X : Type 0} (xs : List X) (i : ℕ) (x : X) → i < length xs → x ≡ get_or xs i x → drop i xs ≡ x ∷ drop (i + 1) xs

@@ -12,7 +12,7 @@ use Rattle.ob_typing.specs.declared.scalar.ScalarType.TheVariants.{Integer, Bool
 use Rattle.ob_typing.specs.declared.scalar.Scalar.{Scalar}
 use Rattle.ob_typing.specs.declared.rule.Rule.TheVariants.{UnknownName, WrongKind, TypesDiffer}
 use Rattle.ob_typing.specs.Program as Programs
-use Rattle.ob_typing.specs.Arithmetic.{type_of, complement, same_scalar_type, takes_both, compares, relation_of}
+use Rattle.ob_typing.specs.Arithmetic.{type_of, complement, same_scalar_type, compares, relation_of}
 use Rattle.ob_typing.specs.Scopes.{fields_of, elements_of, field_from}
 use Rattle.ob_typing.specs.Expressions.{Use, known, with_sign, sign_fits, value_signed, value_compared}
 use Rattle.ob_typing.proofs.Verdict.{Verdict, Right, Wrong, Foreign, ◌>>=◌, need, or_wrong, test, result}

@@ -1,6 +1,5 @@
 -- The names that the scopes of the program declare, and what one of them stands for where it is used.
-use Rattle.std.specs.Prelude.{ℕ, List, [], ◌∷◌, map}
-use Rattle.ob_typing.specs.Program as Programs
+use Rattle.std.specs.Prelude.{List, [], ◌∷◌, map}
 use Rattle.ob_typing.specs.Program.{Name}
 use Rattle.ob_typing.specs.Scopes as Declared
 use Rattle.ob_typing.specs.Scopes.{Environment}

@@ -1,4 +1,4 @@
-use Rattle.std.proofs.Common.{◌+◌, arith, map, drop, ap, sym, ◌∙◌}
+use Rattle.std.proofs.Common.{◌+◌, arith, map, drop, ap, ◌∙◌}
 use Rattle.std.proofs.lemmas.List.{at_drop_all}
 use Rattle.ob_grammar.proofs.Exits.{passed_on}
 use Rattle.ob_grammar.specs.View.{const_decl_of}

@@ -9,7 +9,7 @@ use Rattle.ob_checked.specs.Types.{type_in}
 use Rattle.ob_rules.specs.Usages.{use_of}
 use Rattle.ob_rules.specs.Names.{types_in, env_of}
 use Rattle.ob_rules.proofs.Steps.{fails_as, fails_on, fails_past, goes_on}
-use Rattle.ob_rules.proofs.Exprs.{named_verdict, product_verdict, sum_verdict, behind_first, behind_sign}
+use Rattle.ob_rules.proofs.Exprs.{named_verdict, product_verdict, sum_verdict}
 use Rattle.ob_rules.proofs.Chains.{operations_before-end, resumed, selectors_before-end, walked}
 use Rattle.ob_rules.proofs.Walks.{next_left, operands_next, selecting_first, selecting_next, selector_field, selector_index}
 use Rattle.ob_rules.proofs.expressions.+expression.Goals as goal

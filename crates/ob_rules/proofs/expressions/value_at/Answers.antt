@@ -1,6 +1,5 @@
 use Rattle.std.proofs.Common.{List, ℕ, None, ap, sym, ◌∙◌}
 use Rattle.std.specs.Prelude.{string_bytes}
-use Rattle.ob_grammar.specs.View.{name_of}
 use Rattle.ob_typing.specs.Program as Programs
 use Rattle.ob_typing.proofs.Verdict.{Right}
 use Rattle.ob_typing.proofs.CheckedExpressions as Verdicts
