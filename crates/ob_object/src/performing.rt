@@ -1,6 +1,6 @@
 //! Runs from texts.
 
-ghost use Rattle.std.specs.Prelude.{◌≡◌, ◌<◌, ◌≤◌, ◌⊎◌, All, Err, IfOk, IfErr, length, map};
+ghost use Rattle.std.specs.Prelude.{◌≡◌, ◌<◌, ◌≤◌, ◌^◌, ◌⊎◌, All, Err, IfOk, IfErr, length, map};
 ghost use Rattle.ob_check.specs.CheckedModule.{program_in};
 ghost use Rattle.ob_check.specs.Exports.{signatures};
 ghost use Rattle.ob_check.specs.ModuleText.{IsModule};
@@ -28,6 +28,7 @@ use ob_schedule::{Item, ScheduleFault, read_schedule};
 use ob_text::script::{ScriptCall, ScriptFault, read_scripts};
 use std::alloc::{AllocError, Global};
 use thiserror::Error;
+use wf_history::History;
 use wf_play::PlayFault;
 use wf_play::laws::too_long_items_are_no_run;
 
@@ -136,6 +137,7 @@ pub fn perform(
     schedule: &[u8],
 ) -> Result<Record, PerformFault>
     ensures performance { IfOk result (λ r. IsPerformance text.now n scripts.now schedule.now (record_of r)) }
+    ensures events { IfOk result (λ r. length r.history < 2 ^ 64) }
     ensures fault { IfErr result (IsPerformFault text.now n scripts.now schedule.now) }
 
     // With a fault that has a number the texts have no run.
@@ -166,6 +168,7 @@ pub fn performed(
     ensures performance { IfOk result (λ r. IsPerformance text.now n scripts.now schedule.now (record_of r.1)) }
     ensures exports { IfOk result (λ r. AreOfExports (signatures (program_in r.0)) r.1.history) }
     ensures turns { IfOk result (λ r. All (λ t. t.process < n) r.1.schedule.items) }
+    ensures events { IfOk result (λ r. length r.1.history < 2 ^ 64) }
     ensures fault { IfErr result (IsPerformFault text.now n scripts.now schedule.now) }
 
     // With a fault that has a number the texts have no run.
@@ -181,7 +184,16 @@ pub fn performed(
     ensures too_long { 0 < n → n ≤ MOST_PROCESSES → LONGEST_TEXT < length text.now → result ≡ Err (PerformFault.Compile (CompileFault.Text (TextFault.Scan ScanFault.TooLong))) }
 {
     let (object, calls, items) = read_texts(alloc, text, n, scripts, schedule)?;
-    Ok(run_on(alloc, object, calls, items.as_slice())?)
+    let (checked, record) = run_on(alloc, object, calls, items.as_slice())?;
+    count_events(&record.history);
+    Ok((checked, record))
+}
+
+/// Nothing happens: a history in memory has fewer events than numbers of its length.
+fn count_events(history: &History)
+    ensures { length history.now < 2 ^ 64 }
+{
+    let _ = history.len();
 }
 
 /// What a run is made of: the object of the module's text, the calls of the scripts and the items of the schedule.

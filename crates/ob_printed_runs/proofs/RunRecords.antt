@@ -1,8 +1,8 @@
 -- The record of a run from texts is writable, and its text is verified.
-use Rattle.std.proofs.Common.{◌≡◌, ℕ, ◌-◌, ◌<◌, ◌≤◌, ◌^◌, List, [], ◌∷◌, ◌++◌, All, Some, refl, sym, ◌∙◌, ap, subst, arith, append_assoc}
+use Rattle.std.proofs.Common.{◌≡◌, ℕ, zero, suc, ◌-◌, ◌<◌, ◌≤◌, ◌^◌, Bool, true, false, cond, eqb, List, [], ◌∷◌, ◌++◌, All, Some, get_or, length, refl, sym, ◌∙◌, ap, subst, arith, append_assoc}
 use Rattle.std.specs.Prelude.{Contains, slice_get}
 use Rattle.std.proofs.Math.Logic.{∥∥₁_map}
-use Rattle.std.proofs.lemmas.List.Elements.{All-contains, All-filter, All-from_recursion, All-map, Contains-append_right}
+use Rattle.std.proofs.lemmas.List.Elements.{All-contains, All-filter, All-from_recursion, All-map, Contains-append_left, Contains-append_right, Contains-get_or}
 use Rattle.std.proofs.lemmas.Option.{get_or_from_slice_get}
 use Rattle.ob_check.specs.Exports.{Signature, signature_of, signatures}
 use Rattle.ob_check.specs.Program.{Procedure, Program, exports}
@@ -19,7 +19,7 @@ use Rattle.ob_printed_runs.proofs.Reached as Reached
 use Rattle.ob_printed_runs.proofs.Reached.{FitsBoth}
 use Rattle.ob_printed_runs.proofs.Replied.{all_begun, last_typed, replied}
 use Rattle.ob_printed_runs.proofs.Values.{state_plain}
-use Rattle.ob_printed_runs.specs.Performed.{IsHeld, IsSmall, PerformedIsWritable, PrintedIsVerified}
+use Rattle.ob_printed_runs.specs.Performed.{PerformedIsWritable, PrintedIsVerified}
 use Rattle.ob_read_back.proofs.ReadBack.{written_is_read}
 use Rattle.ob_read_back.specs.Writable.{FitsExport, IsCounted, IsNamed, IsReplyOf, IsWord, IsWritable, IsWritableEvent, RepliesTo, told_by}
 use Rattle.ob_record.specs.Record.{Record}
@@ -35,6 +35,7 @@ use Rattle.wf_history.specs.OfModule.{IsLegalOrder}
 use Rattle.wf_standing.proofs.Unique.{call_is}
 use Rattle.wf_table.specs.Below.{EventBelow, IdBelow}
 use Rattle.wf_table.specs.declared.schedule.Turns.{Turns}
+use Rattle.wf_table.specs.Marks.{applied_in}
 use Rattle.wf_table.specs.Object.{State}
 use Rattle.wf_table.specs.Schedule.{AreTurns}
 use Rattle.wf_table.specs.Sound.{IsSound}
@@ -68,9 +69,39 @@ member_of : (before behind : List (Event ObjectCall Reply)) (e : Event ObjectCal
 member_of before behind e history is =
     subst (λ (es : List (Event ObjectCall Reply)). Contains es e) (sym is) (Contains-append_right before (e ∷ behind) e (0, omega arith, refl))
 
+-- ---- numbers of calls, of which there are fewer than 2^64
+
+few_calls : (p : ℕ) (es : List (Event ObjectCall Reply)) → length (own_calls p es) ≤ length es
+few_calls p [] = omega arith
+few_calls p (Begin id call ∷ es) = at_most (eqb id.process p) call (own_calls p es) (length es) (few_calls p es)
+  where
+    at_most : (b : Bool) (call : ObjectCall) (calls : List ObjectCall) (n : ℕ) → length calls ≤ n → length (cond b (call ∷ []) [] ++ calls) ≤ suc n
+    at_most true call calls n h = omega (arith, h)
+    at_most false call calls n h = omega (arith, h)
+few_calls p (Applied ids ∷ es) = let rest = few_calls p es in omega (arith, rest)
+few_calls p (End id reply ∷ es) = let rest = few_calls p es in omega (arith, rest)
+
+-- the numbers that an event shows
+abbrev AreSmall : Event ObjectCall Reply → Type 0
+AreSmall (Begin id call) = id.number < 2 ^ 64
+AreSmall (Applied ids) = All (λ (id : CallId). id.number < 2 ^ 64) ids
+AreSmall (End id reply) = id.number < 2 ^ 64
+
+-- a call of an Applied event is among all that were applied
+applied_at : (es : List (Event ObjectCall Reply)) (ids : List CallId) (id : CallId) (i : ℕ) → i < length es → get_or es i (Applied ids) ≡ Applied ids → Contains ids id → Contains (applied_in es) id
+applied_at [] ids id i lt e at = absurd (omega (arith, lt))
+applied_at (Begin other call ∷ es) ids id zero lt e at = absurd (cc)
+applied_at (Begin other call ∷ es) ids id (suc i) lt e at = applied_at es ids id i (omega (arith, lt)) e at
+applied_at (Applied others ∷ es) ids id zero lt e at =
+    let same : others ≡ ids = cc in
+    Contains-append_left others (applied_in es) id (subst (λ (xs : List CallId). Contains xs id) (sym same) at)
+applied_at (Applied others ∷ es) ids id (suc i) lt e at = Contains-append_right others (applied_in es) id (applied_at es ids id i (omega (arith, lt)) e at)
+applied_at (End other reply ∷ es) ids id zero lt e at = absurd (cc)
+applied_at (End other reply ∷ es) ids id (suc i) lt e at = applied_at es ids id i (omega (arith, lt)) e at
+
 -- ---- the record of a run
 
-module _ (text : List ℕ) (n : ℕ) (scripts schedule : List ℕ) (r : Record) (performs : IsPerformance text n scripts schedule r) (held : IsHeld r) where
+module _ (text : List ℕ) (n : ℕ) (scripts schedule : List ℕ) (r : Record) (performs : IsPerformance text n scripts schedule r) (events : length r.history < 2 ^ 64) where
   abbrev o : ObjectParts
   o = performs.object
 
@@ -114,6 +145,9 @@ module _ (text : List ℕ) (n : ℕ) (scripts schedule : List ℕ) (r : Record) 
       (All-filter (λ (p : Procedure). p.is_exported) (λ (p : Procedure). IsWord p.name) program.procedures
       (All-from_recursion (λ (p : Procedure). IsWord p.name) program.procedures (module_words text program performs.compiled.is_module).procedures))
 
+  applied_is : applied_in r.history ≡ r.order
+  applied_is = ap applied_in performs.shows.history ∙ sound.marks.order ∙ sym performs.shows.order
+
   module _ (legal : IsLegalOrder program o.opening r.history r.order r.state) where
     reply_of : (before behind : List (Event ObjectCall Reply)) (id : CallId) (reply : Reply) → r.history ≡ before ++ End id reply ∷ behind → RepliesTo (signatures program) before id reply
     reply_of before behind id reply is call at =
@@ -123,15 +157,29 @@ module _ (text : List ℕ) (n : ℕ) (scripts schedule : List ℕ) (r : Record) 
         subst (λ (c : ObjectCall). IsReplyOf (signatures program) c.export reply) (begun_call before (End id reply ∷ behind) r.history id call found.call whole is at found.begun) found.fits
 
     event_is : (before behind : List (Event ObjectCall Reply)) (e : Event ObjectCall Reply) → r.history ≡ before ++ e ∷ behind →
-        EventBelow r.processes e → IsSmall e → IsWritableEvent (signatures program) r.processes before e
+        EventBelow r.processes e → AreSmall e → IsWritableEvent (signatures program) r.processes before e
     event_is before behind (Begin id call) is below small = (record { below = below; small = small }, (begun id call (member_of before behind (Begin id call) r.history is)).1)
     event_is before behind (Applied ids) is below small = named_in r.processes ids below small
     event_is before behind (End id reply) is below small = (record { below = below; small = small }, reply_of before behind id reply is)
 
-    order_small : All (λ (id : CallId). id.number < 2 ^ 64) r.order
+    begun_small : (id : CallId) (call : ObjectCall) → HasBegun r.history id call → id.number < 2 ^ 64
+  begun_small id call has =
+      let number = (call_is r.history whole id call call has).1 in
+      let few = few_calls id.process r.history in
+      omega (arith, number, few, events)
+
+  order_small : All (λ (id : CallId). id.number < 2 ^ 64) r.order
     order_small =
         all_begun program o.engine performs.compiled.compiled r.history (λ x c has. (begun x c has).0) (λ (id : CallId). id.number < 2 ^ 64)
-        (λ id call has. All-contains IsSmall r.history (Begin id call) held has) r.order legal.replies o.opening r.state legal.made
+        begun_small r.order legal.replies o.opening r.state legal.made
+
+    all_small : (e : Event ObjectCall Reply) → Contains r.history e → AreSmall e
+    all_small (Begin id call) has = begun_small id call has
+    all_small (Applied ids) has = λ k d lt.
+        let id = get_or ids k d in
+        let there = applied_at r.history ids id has.0 has.1 has.2 (Contains-get_or ids k d lt) in
+        All-contains (λ (x : CallId). x.number < 2 ^ 64) r.order id order_small (subst (λ (xs : List CallId). Contains xs id) applied_is there)
+    all_small (End id reply) has = All-contains (λ (x : CallId). x.number < 2 ^ 64) r.order id order_small (legal.ended id reply has)
 
     writable : IsWritable (signatures program) r
     writable = record {
@@ -142,7 +190,7 @@ module _ (text : List ℕ) (n : ℕ) (scripts schedule : List ℕ) (r : Record) 
       whole = whole;
       events = λ before behind e is.
           let has = member_of before behind e r.history is in
-          event_is before behind e is (All-contains (EventBelow r.processes) r.history e events_below has) (All-contains IsSmall r.history e held has);
+          event_is before behind e is (All-contains (EventBelow r.processes) r.history e events_below has) (all_small e has);
       order = named_in r.processes r.order order_below order_small;
       schedule = turns_counted;
       variables = state_plain program.variables r.state (module_words text program performs.compiled.is_module).variables
@@ -155,9 +203,9 @@ module _ (text : List ℕ) (n : ℕ) (scripts schedule : List ℕ) (r : Record) 
         (written_is_read (signatures program) r writable) refl legal
 
 pub performed_is_writable : PerformedIsWritable
-performed_is_writable text n scripts schedule r performs held = ∥∥₁_map performs.legal (writable text n scripts schedule r performs held)
+performed_is_writable text n scripts schedule r performs events = ∥∥₁_map performs.legal (writable text n scripts schedule r performs events)
 
 pub printed_is_verified : PrintedIsVerified
-printed_is_verified text n scripts schedule output printed held =
+printed_is_verified text n scripts schedule output printed =
     ∥∥₁_map printed.performs.legal (λ legal.
-    subst (λ (bytes : List ℕ). IsVerified text bytes) (sym printed.printed) (verified text n scripts schedule printed.shown printed.performs held legal))
+    subst (λ (bytes : List ℕ). IsVerified text bytes) (sym printed.printed) (verified text n scripts schedule printed.shown printed.performs printed.events legal))

@@ -19,13 +19,13 @@ run_on-requires-clause-items c =
     rw c.as_slice.ensures.value
     (Read.below_of c.args.text.now c.args.n c.args.scripts.now c.args.schedule.now (object_in c.in_ok-object.object) c.in_ok-object.calls.items c.in_ok-object.items.items c.in_ok-object.ensures.ready)
 
-pub returns-in_err-run_on-clause-none : goal.returns-in_err-run_on-clause-none
-returns-in_err-run_on-clause-none c =
-    let p = err_from_is_err_and c.from_residual-in_err-run_on.result c.from_residual-in_err-run_on.ensures.1 in
+pub returns-in_err-checked-clause-none : goal.returns-in_err-checked-clause-none
+returns-in_err-checked-clause-none c =
+    let p = err_from_is_err_and c.from_residual-in_err-checked.result c.from_residual-in_err-checked.ensures.1 in
     rw (p.1, p.2)
     (Read.no_run_read c.args.text.now c.args.n c.args.scripts.now c.args.schedule.now (object_in c.in_ok-object.object) c.in_ok-object.calls.items c.in_ok-object.items.items c.in_ok-object.ensures.ready
-    c.in_err-run_on.field-0.0 (rw (← c.as_slice.ensures.value) c.in_err-run_on.ensures.fault) (rw (← c.as_slice.ensures.value) c.in_err-run_on.ensures.none))
+    c.in_err-checked.field-0.0 (rw (← c.as_slice.ensures.value) c.in_err-checked.ensures.fault) (rw (← c.as_slice.ensures.value) c.in_err-checked.ensures.none))
 
 pub returns-clause-alone : goal.returns-clause-alone
 returns-clause-alone c =
-    subst (λ (q : Program). (other : Program) → IsModule c.args.text.now other → other ≡ q) (sym c.in_ok-run_on.ensures.program) c.in_ok-object.ensures.ready.alone
+    subst (λ (q : Program). (other : Program) → IsModule c.args.text.now other → other ≡ q) (sym c.in_ok-checked.ensures.program) c.in_ok-object.ensures.ready.alone

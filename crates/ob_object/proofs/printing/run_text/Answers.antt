@@ -12,6 +12,7 @@ returns-clause-run c =
     record {
       shown = shown;
       performs = performs;
+      events = c.in_ok-checked.ensures.events;
       printed = c.in_ok-write_record.ensures
           ∙ ap (λ (p : Program). record_text (signatures p) shown) (sym (c.in_ok-checked.ensures.alone performs.object.program performs.compiled.is_module));
     }
