@@ -11,8 +11,7 @@ use Rattle.ob_engine.specs.CodeMeaning.{code_meaning}
 use Rattle.ob_engine.specs.Compiled.{HasReserve, IsFitting, IsLawfulBlock}
 use Rattle.ob_layout.specs.Encoding.{encoded}
 use Rattle.ob_mean.specs.Object.{ObjectCall, Reply}
-use Rattle.ob_object.specs.Compilation.{ObjectParts}
-use Rattle.ob_object.specs.Performance.{IsPerformance}
+use Rattle.ob_object.specs.Compilation.{IsCompilation, ObjectParts}
 use Rattle.ob_printed_runs.proofs.ExportNames.{exports_apart, own_names, typed_apart}
 use Rattle.ob_printed_runs.proofs.Names.{module_words}
 use Rattle.ob_printed_runs.proofs.Reached as Reached
@@ -24,7 +23,7 @@ use Rattle.ob_read_back.proofs.ReadBack.{written_is_read}
 use Rattle.ob_read_back.specs.Writable.{FitsExport, IsCounted, IsNamed, IsReplyOf, IsWord, IsWritable, IsWritableEvent, RepliesTo, told_by}
 use Rattle.ob_record.specs.Record.{Record}
 use Rattle.ob_record.specs.RecordText.{record_text}
-use Rattle.ob_text.specs.Script.{IsScript}
+use Rattle.ob_text.specs.Script.{IsScript, ScriptCall}
 use Rattle.ob_verify.proofs.WithoutApplied.{runs_verified}
 use Rattle.ob_verify.specs.Verified.{IsVerified}
 use Rattle.wf_history.proofs.Positions.{place_left, place_of}
@@ -36,7 +35,9 @@ use Rattle.wf_standing.proofs.Unique.{call_is}
 use Rattle.wf_table.specs.Below.{EventBelow, IdBelow}
 use Rattle.wf_table.specs.declared.schedule.Turns.{Turns}
 use Rattle.wf_table.specs.Marks.{applied_in}
+use Rattle.wf_play.specs.Played.{scripts_of}
 use Rattle.wf_table.specs.Object.{State}
+use Rattle.wf_table.specs.Runs.{IsRun, performed}
 use Rattle.wf_table.specs.Schedule.{AreTurns}
 use Rattle.wf_table.specs.Sound.{IsSound}
 use Rattle.wf_table.specs.Start.{sizes_of}
@@ -101,59 +102,56 @@ applied_at (End other reply ∷ es) ids id (suc i) lt e at = applied_at es ids i
 
 -- ---- the record of a run
 
-module _ (text : List ℕ) (n : ℕ) (scripts schedule : List ℕ) (r : Record) (performs : IsPerformance text n scripts schedule r) (events : length r.history < 2 ^ 64) where
-  abbrev o : ObjectParts
-  o = performs.object
-
+module _ (text : List ℕ) (n : ℕ) (scripts : List ℕ) (o : ObjectParts) (compiled : IsCompilation text n o) (calls : List ScriptCall) (calls_are : IsScript (signatures o.program) n scripts calls)
+    (s : State Run) (runs : IsRun (code_meaning o.engine) (IsLawfulBlock o.engine) (IsFitting o.engine) (HasReserve o.engine) o.processes (encoded o.opening) (performed (scripts_of calls) s.records.schedule) s)
+    (r : Record) (processes : r.processes ≡ o.processes) (history : r.history ≡ s.records.history) (order : r.order ≡ s.records.order) (schedule : r.schedule ≡ s.records.schedule)
+    (events : length r.history < 2 ^ 64) where
   abbrev program : Program
   program = o.program
 
-  abbrev s : State Run
-  s = performs.shows.state
-
-  script : IsScript (signatures program) o.processes scripts performs.calls
-  script = subst (λ (k : ℕ). IsScript (signatures program) k scripts performs.calls) (sym performs.compiled.processes) performs.calls_are
+  script : IsScript (signatures program) o.processes scripts calls
+  script = subst (λ (k : ℕ). IsScript (signatures program) k scripts calls) (sym compiled.processes) calls_are
 
   sound : IsSound (code_meaning o.engine) (IsLawfulBlock o.engine) (FitsBoth (IsFitting o.engine) (FitsExport (signatures program))) (HasReserve o.engine) (sizes_of (code_meaning o.engine) o.processes) (encoded o.opening) s
-  sound = Reached.sound program o.engine performs.compiled.compiled o.processes (encoded o.opening) scripts performs.calls script s.records.schedule s performs.shows.played.runs
+  sound = Reached.sound program o.engine compiled.compiled o.processes (encoded o.opening) scripts calls script s.records.schedule s runs
 
   whole : IsHistory r.history
-  whole = subst (λ (es : List (Event ObjectCall Reply)). IsHistory es) (sym performs.shows.history) sound.in_turn
+  whole = subst (λ (es : List (Event ObjectCall Reply)). IsHistory es) (sym history) sound.in_turn
 
   begun : (id : CallId) (call : ObjectCall) → HasBegun r.history id call → IsFitting o.engine call × FitsExport (signatures program) call
   begun id call has =
-      Reached.begun program o.engine performs.compiled.compiled o.processes (encoded o.opening) scripts performs.calls script s.records.schedule s performs.shows.played.runs id call
-      (subst (λ (es : List (Event ObjectCall Reply)). HasBegun es id call) performs.shows.history has)
+      Reached.begun program o.engine compiled.compiled o.processes (encoded o.opening) scripts calls script s.records.schedule s runs id call
+      (subst (λ (es : List (Event ObjectCall Reply)). HasBegun es id call) history has)
 
   events_below : All (EventBelow r.processes) r.history
   events_below =
-      subst (λ (k : ℕ). All (EventBelow k) r.history) (sym performs.shows.processes)
-      (subst (λ (es : List (Event ObjectCall Reply)). All (EventBelow o.processes) es) (sym performs.shows.history) sound.below.history)
+      subst (λ (k : ℕ). All (EventBelow k) r.history) (sym processes)
+      (subst (λ (es : List (Event ObjectCall Reply)). All (EventBelow o.processes) es) (sym history) sound.below.history)
 
   order_below : All (IdBelow r.processes) r.order
   order_below =
-      subst (λ (k : ℕ). All (IdBelow k) r.order) (sym performs.shows.processes)
-      (subst (λ (ids : List CallId). All (IdBelow o.processes) ids) (sym performs.shows.order) sound.below.order)
+      subst (λ (k : ℕ). All (IdBelow k) r.order) (sym processes)
+      (subst (λ (ids : List CallId). All (IdBelow o.processes) ids) (sym order) sound.below.order)
 
   turns_counted : All IsCounted r.schedule
   turns_counted =
-      subst (λ (ts : List Turns). All IsCounted ts) (sym performs.shows.schedule) (counted_in o.processes s.records.schedule performs.shows.played.runs.few sound.below.schedule)
+      subst (λ (ts : List Turns). All IsCounted ts) (sym schedule) (counted_in o.processes s.records.schedule runs.few sound.below.schedule)
 
   words : All (λ (x : Signature). IsWord x.name) (signatures program)
   words =
       All-map (λ (x : Signature). IsWord x.name) signature_of (exports program)
       (All-filter (λ (p : Procedure). p.is_exported) (λ (p : Procedure). IsWord p.name) program.procedures
-      (All-from_recursion (λ (p : Procedure). IsWord p.name) program.procedures (module_words text program performs.compiled.is_module).procedures))
+      (All-from_recursion (λ (p : Procedure). IsWord p.name) program.procedures (module_words text program compiled.is_module).procedures))
 
   applied_is : applied_in r.history ≡ r.order
-  applied_is = ap applied_in performs.shows.history ∙ sound.marks.order ∙ sym performs.shows.order
+  applied_is = ap applied_in history ∙ sound.marks.order ∙ sym order
 
   module _ (legal : IsLegalOrder program o.opening r.history r.order r.state) where
     reply_of : (before behind : List (Event ObjectCall Reply)) (id : CallId) (reply : Reply) → r.history ≡ before ++ End id reply ∷ behind → RepliesTo (signatures program) before id reply
     reply_of before behind id reply is call at =
         let ended = member_of before behind (End id reply) r.history is in
         let there = place_of r.order id (legal.ended id reply ended) in
-        let found = replied program o.engine performs.compiled.compiled r.history (λ x c has. (begun x c has).0) r.order legal.replies o.opening r.state performs.compiled.typed legal.made legal.agree there.0 id reply there.1 ended in
+        let found = replied program o.engine compiled.compiled r.history (λ x c has. (begun x c has).0) r.order legal.replies o.opening r.state compiled.typed legal.made legal.agree there.0 id reply there.1 ended in
         subst (λ (c : ObjectCall). IsReplyOf (signatures program) c.export reply) (begun_call before (End id reply ∷ behind) r.history id call found.call whole is at found.begun) found.fits
 
     event_is : (before behind : List (Event ObjectCall Reply)) (e : Event ObjectCall Reply) → r.history ≡ before ++ e ∷ behind →
@@ -163,14 +161,14 @@ module _ (text : List ℕ) (n : ℕ) (scripts schedule : List ℕ) (r : Record) 
     event_is before behind (End id reply) is below small = (record { below = below; small = small }, reply_of before behind id reply is)
 
     begun_small : (id : CallId) (call : ObjectCall) → HasBegun r.history id call → id.number < 2 ^ 64
-  begun_small id call has =
-      let number = (call_is r.history whole id call call has).1 in
-      let few = few_calls id.process r.history in
-      omega (arith, number, few, events)
+    begun_small id call has =
+        let number = (call_is r.history whole id call call has).1 in
+        let few = few_calls id.process r.history in
+        omega (arith, number, few, events)
 
-  order_small : All (λ (id : CallId). id.number < 2 ^ 64) r.order
+    order_small : All (λ (id : CallId). id.number < 2 ^ 64) r.order
     order_small =
-        all_begun program o.engine performs.compiled.compiled r.history (λ x c has. (begun x c has).0) (λ (id : CallId). id.number < 2 ^ 64)
+        all_begun program o.engine compiled.compiled r.history (λ x c has. (begun x c has).0) (λ (id : CallId). id.number < 2 ^ 64)
         begun_small r.order legal.replies o.opening r.state legal.made
 
     all_small : (e : Event ObjectCall Reply) → Contains r.history e → AreSmall e
@@ -183,29 +181,36 @@ module _ (text : List ℕ) (n : ℕ) (scripts schedule : List ℕ) (r : Record) 
 
     writable : IsWritable (signatures program) r
     writable = record {
-      least = subst (λ (k : ℕ). 1 ≤ k) (sym performs.shows.processes) performs.shows.played.runs.some;
-      most = subst (λ (k : ℕ). k ≤ 16) (sym performs.shows.processes) performs.shows.played.runs.few;
+      least = subst (λ (k : ℕ). 1 ≤ k) (sym processes) runs.some;
+      most = subst (λ (k : ℕ). k ≤ 16) (sym processes) runs.few;
       words = words;
-      names = own_names (exports program) (exports_apart program.procedures (typed_apart performs.compiled.is_module.tree program performs.compiled.is_module.typed));
+      names = own_names (exports program) (exports_apart program.procedures (typed_apart compiled.is_module.tree program compiled.is_module.typed));
       whole = whole;
       events = λ before behind e is.
           let has = member_of before behind e r.history is in
           event_is before behind e is (All-contains (EventBelow r.processes) r.history e events_below has) (all_small e has);
       order = named_in r.processes r.order order_below order_small;
       schedule = turns_counted;
-      variables = state_plain program.variables r.state (module_words text program performs.compiled.is_module).variables
-          (last_typed program o.engine performs.compiled.compiled r.history (λ x c has. (begun x c has).0) r.order legal.replies o.opening r.state performs.compiled.typed legal.made);
+      variables = state_plain program.variables r.state (module_words text program compiled.is_module).variables
+          (last_typed program o.engine compiled.compiled r.history (λ x c has. (begun x c has).0) r.order legal.replies o.opening r.state compiled.typed legal.made);
     }
 
     verified : IsVerified text (record_text (signatures program) r)
     verified =
-        runs_verified text (record_text (signatures program) r) program o.opening r.state r.history (told_by r) performs.compiled.is_module performs.compiled.opens
+        runs_verified text (record_text (signatures program) r) program o.opening r.state r.history (told_by r) compiled.is_module compiled.opens
         (written_is_read (signatures program) r writable) refl legal
 
+-- ---- runs by a schedule
+
 pub performed_is_writable : PerformedIsWritable
-performed_is_writable text n scripts schedule r performs events = ∥∥₁_map performs.legal (writable text n scripts schedule r performs events)
+performed_is_writable text n scripts schedule r p events =
+    let shows = p.shows in
+    ∥∥₁_map p.legal (writable text n scripts p.object p.compiled p.calls p.calls_are shows.state shows.played.runs r shows.processes shows.history shows.order shows.schedule events)
 
 pub printed_is_verified : PrintedIsVerified
 printed_is_verified text n scripts schedule output printed =
-    ∥∥₁_map printed.performs.legal (λ legal.
-    subst (λ (bytes : List ℕ). IsVerified text bytes) (sym printed.printed) (verified text n scripts schedule printed.shown printed.performs printed.events legal))
+    let p = printed.performs in
+    let shows = p.shows in
+    ∥∥₁_map p.legal (λ legal.
+    subst (λ (bytes : List ℕ). IsVerified text bytes) (sym printed.printed)
+    (verified text n scripts p.object p.compiled p.calls p.calls_are shows.state shows.played.runs printed.shown shows.processes shows.history shows.order shows.schedule printed.events legal))
