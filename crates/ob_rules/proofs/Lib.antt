@@ -8,3 +8,7 @@ pub mod Tails
 pub mod Rows
 pub mod Walks
 pub mod Declared
+pub mod Designated
+pub mod SameTypes
+pub mod Bodies
+pub mod Calls

@@ -7,4 +7,7 @@ pub mod expressions;
 pub mod fault;
 pub mod meant;
 pub mod parts;
+pub mod places;
+pub mod same;
 pub mod scopes;
+pub mod statements;

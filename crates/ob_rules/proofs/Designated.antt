@@ -1,4 +1,18 @@
--- For `Tails`: what is left to test of a variable, and what it holds.
+-- Variables that are assigned or passed on: what is left to test of them, and what they hold.
+use Rattle.std.proofs.Common.{◌≡◌, refl, true, false, Some, None, ap}
+use Rattle.ob_grammar.specs.Tree
+use Rattle.ob_typing.specs.declared.scalar.ScalarType.{ScalarType}
+use Rattle.ob_typing.specs.declared.rule.Rule.{Rule}
+use Rattle.ob_typing.specs.Program as Programs
+use Rattle.ob_typing.specs.Arithmetic.{same_scalar_type}
+use Rattle.ob_typing.specs.Scopes.{Environment, AVariable, meant, holds}
+use Rattle.ob_typing.specs.Expressions.{InStatement}
+use Rattle.ob_typing.specs.StatementFaults.{place_broken}
+use Rattle.ob_typing.specs.ExpressionFaults.{broken}
+use Rattle.ob_typing.proofs.Verdict.{Right, Wrong, ◌>>=◌}
+use Rattle.ob_typing.proofs.CheckedExpressions.{selecting}
+use Rattle.ob_typing.proofs.CheckedStatements.{designated}
+use Rattle.ob_rules.specs.SimpleTypes.{simple_type}
 
 -- what a variable of a type holds
 pub holds_simple : (u s : ScalarType) (t : Programs.DataType) → Some u ≡ simple_type t → same_scalar_type u s ≡ holds t s

@@ -16,7 +16,8 @@ ghost use Rattle.ob_rules.specs.CheckingStatements.{condition, called, statement
 use crate::constants::Usage;
 use crate::expressions::{expression, first_place};
 use crate::fault::{CheckFault, broken};
-use crate::places::{designated, holds, same_type};
+use crate::places::{designated, holds};
+use crate::same::same_type;
 use crate::scopes::{Meant, Scopes};
 use ob_checked::program::{Actual, Branch, Expression, Parameter, Statement};
 use ob_grammar::tree;
@@ -27,7 +28,7 @@ use ob_typing::scalar::ScalarType;
 use std::alloc::Global;
 
 /// The condition of a branch or of WHILE.
-fn condition(alloc: Global, scopes: &Scopes, expr: &Expr) -> Result<Expression, CheckFault>
+fn condition_of(alloc: Global, scopes: &Scopes, expr: &Expr) -> Result<Expression, CheckFault>
     ensures typed { IfOk result (λ x. condition (env_of scopes.now) (expr_of expr.now) ≡ Right (Checked.expression_of x)) }
     ensures fault { IfErr result (λ f. Fails f (condition (env_of scopes.now) (expr_of expr.now))) }
 {
@@ -43,23 +44,23 @@ fn value_actual(
     alloc: Global,
     scopes: &Scopes,
     parameter: &Parameter,
-    actual: &Expr,
+    written: &Expr,
 ) -> Result<Actual, CheckFault>
-    ensures typed { IfOk result (λ x. Verdicts.value_actual (env_of scopes.now) (parameter_of (types_in scopes.now) parameter.now) (expr_of actual.now) ≡ Right (actual_of x)) }
-    ensures fault { IfErr result (λ f. Fails f (Verdicts.value_actual (env_of scopes.now) (parameter_of (types_in scopes.now) parameter.now) (expr_of actual.now))) }
+    ensures typed { IfOk result (λ x. Verdicts.value_actual (env_of scopes.now) (parameter_of (types_in scopes.now) parameter.now) (expr_of written.now) ≡ Right (actual_of x)) }
+    ensures fault { IfErr result (λ f. Fails f (Verdicts.value_actual (env_of scopes.now) (parameter_of (types_in scopes.now) parameter.now) (expr_of written.now))) }
 {
-    let checked = expression(alloc, scopes, actual, Usage::InStatement)?;
+    let checked = expression(alloc, scopes, written, Usage::InStatement)?;
     if !holds(scopes.types(), parameter.data_type, checked.data_type) {
-        return Err(broken(Rule::TypesDiffer, first_place(actual)));
+        return Err(broken(Rule::TypesDiffer, first_place(written)));
     }
     Ok(Actual::Value(checked.code))
 }
 
 /// A bare name with selectors, which may be a variable: not a constant's name.
-fn bare<'e>(scopes: &Scopes, actual: &'e Expr) -> Option<&'e tree::Designator>
-    ensures { option_map (λ d. (name_of d.now.name, selectors_in d.now.selectors.items)) result ≡ Typing.bare (env_of scopes.now) (expr_of actual.now) }
+fn bare<'e>(scopes: &Scopes, written: &'e Expr) -> Option<&'e tree::Designator>
+    ensures { option_map (λ d. (name_of d.now.name, selectors_in d.now.selectors.items)) result ≡ Typing.bare (env_of scopes.now) (expr_of written.now) }
 {
-    let Expr::Named(designator) = actual else {
+    let Expr::Named(designator) = written else {
         return None;
     };
     match scopes.meant(&designator.name.text) {
@@ -73,20 +74,37 @@ fn place_actual(
     alloc: Global,
     scopes: &Scopes,
     parameter: &Parameter,
-    actual: &Expr,
+    written: &Expr,
 ) -> Result<Actual, CheckFault>
-    ensures typed { IfOk result (λ x. Verdicts.place_actual (env_of scopes.now) (parameter_of (types_in scopes.now) parameter.now) (expr_of actual.now) (Typing.bare (env_of scopes.now) (expr_of actual.now)) ≡ Right (actual_of x)) }
-    ensures fault { IfErr result (λ f. Fails f (Verdicts.place_actual (env_of scopes.now) (parameter_of (types_in scopes.now) parameter.now) (expr_of actual.now) (Typing.bare (env_of scopes.now) (expr_of actual.now)))) }
+    ensures typed { IfOk result (λ x. Verdicts.place_actual (env_of scopes.now) (parameter_of (types_in scopes.now) parameter.now) (expr_of written.now) (Typing.bare (env_of scopes.now) (expr_of written.now)) ≡ Right (actual_of x)) }
+    ensures fault { IfErr result (λ f. Fails f (Verdicts.place_actual (env_of scopes.now) (parameter_of (types_in scopes.now) parameter.now) (expr_of written.now) (Typing.bare (env_of scopes.now) (expr_of written.now)))) }
 {
-    let Some(designator) = bare(scopes, actual) else {
-        let _value = value_actual(alloc, scopes, parameter, actual)?;
-        return Err(broken(Rule::BadActuals, first_place(actual)));
+    let Some(designator) = bare(scopes, written) else {
+        let _value = value_actual(alloc, scopes, parameter, written)?;
+        return Err(broken(Rule::BadActuals, first_place(written)));
     };
     let place = designated(alloc, scopes, designator)?;
     if !same_type(scopes.types(), place.data_type, parameter.data_type) {
-        return Err(broken(Rule::TypesDiffer, first_place(actual)));
+        return Err(broken(Rule::TypesDiffer, first_place(written)));
     }
     Ok(Actual::Place(place.variable))
+}
+
+/// The actual of a parameter.
+fn actual(
+    alloc: Global,
+    scopes: &Scopes,
+    parameter: &Parameter,
+    written: &Expr,
+) -> Result<Actual, CheckFault>
+    ensures typed { IfOk result (λ x. Verdicts.actual (env_of scopes.now) (parameter_of (types_in scopes.now) parameter.now) (expr_of written.now) ≡ Right (actual_of x)) }
+    ensures fault { IfErr result (λ f. Fails f (Verdicts.actual (env_of scopes.now) (parameter_of (types_in scopes.now) parameter.now) (expr_of written.now))) }
+{
+    if parameter.is_var {
+        place_actual(alloc, scopes, parameter, written)
+    } else {
+        value_actual(alloc, scopes, parameter, written)
+    }
 }
 
 /// The actuals of a call, one for each parameter.
@@ -101,12 +119,8 @@ fn actuals(
     ensures fault { IfErr result (λ f. Fails f (Verdicts.actuals (env_of scopes.now) (map (parameter_of (types_in scopes.now)) parameters.now) (map expr_of written.now))) }
 {
     let mut checked = Vec::new(alloc);
-    for (parameter, actual) in parameters.iter().zip(written) {
-        let passed = if parameter.is_var {
-            place_actual(alloc, scopes, parameter, actual)?
-        } else {
-            value_actual(alloc, scopes, parameter, actual)?
-        };
+    for (parameter, passed) in parameters.iter().zip(written) {
+        let passed = actual(alloc, scopes, parameter, passed)?;
         checked.push(passed)?;
     }
     Ok(checked)
@@ -174,14 +188,14 @@ fn assignment(
 pub fn statements(
     alloc: Global,
     scopes: &Scopes,
-    statements: &[Stmt],
+    written: &[Stmt],
 ) -> Result<Vec<Statement>, CheckFault>
-    ensures typed { IfOk result (λ x. Verdicts.statements (env_of scopes.now) (stmts_in statements.now) ≡ Right (statements_in x.items)) }
-    ensures fault { IfErr result (λ f. Fails f (Verdicts.statements (env_of scopes.now) (stmts_in statements.now))) }
+    ensures typed { IfOk result (λ x. Verdicts.statements (env_of scopes.now) (stmts_in written.now) ≡ Right (statements_in x.items)) }
+    ensures fault { IfErr result (λ f. Fails f (Verdicts.statements (env_of scopes.now) (stmts_in written.now))) }
 {
     let mut checked = Vec::new(alloc);
-    for statement in statements {
-        match self::statement(alloc, scopes, statement)? {
+    for next in written {
+        match statement(alloc, scopes, next)? {
             Some(done) => checked.push(done)?,
             None => {}
         }
@@ -189,18 +203,33 @@ pub fn statements(
     Ok(checked)
 }
 
+/// The statements of a body, which may be absent.
+pub fn body(
+    alloc: Global,
+    scopes: &Scopes,
+    written: &Option<Vec<Stmt>>,
+) -> Result<Vec<Statement>, CheckFault>
+    ensures typed { IfOk result (λ x. Verdicts.body_checked (env_of scopes.now) (option_map (λ b. stmts_in b.items) written.now) ≡ Right (statements_in x.items)) }
+    ensures fault { IfErr result (λ f. Fails f (Verdicts.body_checked (env_of scopes.now) (option_map (λ b. stmts_in b.items) written.now))) }
+{
+    match written {
+        Some(body) => statements(alloc, scopes, body),
+        None => Ok(Vec::new(alloc)),
+    }
+}
+
 /// One statement in front of others; none where it is empty.
 #[cycle(statements)]
 fn statement(
     alloc: Global,
     scopes: &Scopes,
-    statement: &Stmt,
+    written: &Stmt,
 ) -> Result<Option<Statement>, CheckFault>
-    ensures typed { IfOk result (λ x. (rest : trees.Stmts) → Verdicts.statements (env_of scopes.now) (trees.stmt (stmt_of statement.now) rest)
+    ensures typed { IfOk result (λ x. (rest : trees.Stmts) → Verdicts.statements (env_of scopes.now) (trees.stmt (stmt_of written.now) rest)
         ≡ and_then (Verdicts.statements (env_of scopes.now) rest) (statement_before x)) }
-    ensures fault { IfErr result (λ f. (rest : trees.Stmts) → Fails f (Verdicts.statements (env_of scopes.now) (trees.stmt (stmt_of statement.now) rest))) }
+    ensures fault { IfErr result (λ f. (rest : trees.Stmts) → Fails f (Verdicts.statements (env_of scopes.now) (trees.stmt (stmt_of written.now) rest))) }
 {
-    match statement {
+    match written {
         Stmt::Empty => Ok(None),
         Stmt::Assign { target, value } => Ok(Some(assignment(alloc, scopes, target, value)?)),
         Stmt::Call { procedure, actuals } => Ok(Some(call(alloc, scopes, procedure, actuals)?)),
@@ -209,8 +238,8 @@ fn statement(
             otherwise,
             ..
         } => {
-            let branches = self::branches(alloc, scopes, branches)?;
-            let otherwise = self::otherwise(alloc, scopes, otherwise)?;
+            let branches = if_branches(alloc, scopes, branches)?;
+            let otherwise = else_branch(alloc, scopes, otherwise)?;
             Ok(Some(Statement::If {
                 branches,
                 otherwise,
@@ -219,7 +248,7 @@ fn statement(
         Stmt::While {
             condition, body, ..
         } => {
-            let condition = self::condition(alloc, scopes, condition)?;
+            let condition = condition_of(alloc, scopes, condition)?;
             let body = statements(alloc, scopes, body)?;
             Ok(Some(Statement::While { condition, body }))
         }
@@ -228,17 +257,17 @@ fn statement(
 
 /// The branches of IF, before what ELSE comes to.
 #[cycle(statements)]
-fn branches(
+fn if_branches(
     alloc: Global,
     scopes: &Scopes,
-    branches: &[tree::Branch],
+    written: &[tree::Branch],
 ) -> Result<Vec<Branch>, CheckFault>
-    ensures typed { IfOk result (λ x. (last : Verdict Programs.Branches) → Verdicts.branches (env_of scopes.now) (branches_in branches.now) last ≡ and_then last (λ b. Right (Checked.branches_in x.items b))) }
-    ensures fault { IfErr result (λ f. (last : Verdict Programs.Branches) → Fails f (Verdicts.branches (env_of scopes.now) (branches_in branches.now) last)) }
+    ensures typed { IfOk result (λ x. (last : Verdict Programs.Branches) → Verdicts.branches (env_of scopes.now) (branches_in written.now) last ≡ and_then last (λ b. Right (Checked.branches_in x.items b))) }
+    ensures fault { IfErr result (λ f. (last : Verdict Programs.Branches) → Fails f (Verdicts.branches (env_of scopes.now) (branches_in written.now) last)) }
 {
     let mut checked = Vec::new(alloc);
-    for branch in branches {
-        let condition = self::condition(alloc, scopes, &branch.condition)?;
+    for branch in written {
+        let condition = condition_of(alloc, scopes, &branch.condition)?;
         let body = statements(alloc, scopes, &branch.body)?;
         checked.push(Branch { condition, body })?;
     }
@@ -247,15 +276,15 @@ fn branches(
 
 /// What stands behind ELSE, which may be absent.
 #[cycle(statements)]
-fn otherwise(
+fn else_branch(
     alloc: Global,
     scopes: &Scopes,
-    otherwise: &Option<Vec<Stmt>>,
+    written: &Option<Vec<Stmt>>,
 ) -> Result<Option<Vec<Statement>>, CheckFault>
-    ensures typed { IfOk result (λ x. Verdicts.otherwise (env_of scopes.now) (otherwise_of otherwise.now) ≡ Right (Checked.otherwise_of x)) }
-    ensures fault { IfErr result (λ f. Fails f (Verdicts.otherwise (env_of scopes.now) (otherwise_of otherwise.now))) }
+    ensures typed { IfOk result (λ x. Verdicts.otherwise (env_of scopes.now) (otherwise_of written.now) ≡ Right (Checked.otherwise_of x)) }
+    ensures fault { IfErr result (λ f. Fails f (Verdicts.otherwise (env_of scopes.now) (otherwise_of written.now))) }
 {
-    match otherwise {
+    match written {
         Some(body) => Ok(Some(statements(alloc, scopes, body)?)),
         None => Ok(None),
     }
