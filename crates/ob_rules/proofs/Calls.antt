@@ -1,6 +1,7 @@
 -- Conditions, assignments and calls: what is left to test where parts are right.
-use Rattle.std.proofs.Common.{◌≡◌, ℕ, List, [], ◌∷◌, ◌++◌, length, drop, map, true, false, Option, Some, None, refl, sym, ap, ◌∙◌, append-nil}
+use Rattle.std.proofs.Common.{◌≡◌, ◌≤◌, ℕ, ◌+◌, List, [], ◌∷◌, ◌++◌, length, drop, map, true, false, Option, Some, None, refl, sym, ap, ◌∙◌, append-nil}
 use Rattle.std.specs.Prelude.{nat_eq}
+use Rattle.std.proofs.lemmas.List.{drop_all}
 use Rattle.ob_grammar.specs.declared.tree.Expr as Written
 use Rattle.ob_grammar.specs.Tree
 use Rattle.ob_grammar.specs.Tree.{Expr, Selectors}
@@ -104,12 +105,12 @@ behind_passed done rest = Right (map actual_of done ++ rest)
 pub passed_all : (done : List Actual) → behind_passed done [] ≡ Right (map actual_of done)
 passed_all done = ap (λ cs. Right cs) (append-nil (map actual_of done))
 
-module _ (env : Environment) (types : List Entry) (ps : List Parameter) (es : List Written.Expr) (k : ℕ) where
+module _ (env : Environment) (types : List Entry) (ps : List Parameter) (es : List Written.Expr) where
   -- what is left of the parameters and actuals
   abbrev pub actuals_from : ℕ → Verdict (List Programs.Actual)
   actuals_from n = actuals env (map (parameter_of types) (drop n ps)) (map expr_of (drop n es))
 
-  module _ (p : Parameter) (e : Written.Expr) (next : drop k ps ≡ p ∷ drop (k + 1) ps) (next' : drop k es ≡ e ∷ drop (k + 1) es) where
+  module _ (k : ℕ) (p : Parameter) (e : Written.Expr) (next : drop k ps ≡ p ∷ drop (k + 1) ps) (next' : drop k es ≡ e ∷ drop (k + 1) es) where
     actuals_first : actuals_from k ≡ ◌>>=◌ (actual env (parameter_of types p) (expr_of e)) (λ c. ◌>>=◌ (actuals_from (k + 1)) (λ cs. Right (c ∷ cs)))
     actuals_first =
         ap (λ xs. actuals env (map (parameter_of types) xs) (map expr_of (drop k es))) next
@@ -124,3 +125,10 @@ module _ (env : Environment) (types : List Entry) (ps : List Parameter) (es : Li
         ap (λ v. ◌>>=◌ v (behind_passed done)) (actuals_first ∙ goes_on _ _ _ _ is refl)
         ∙ bind_assoc (actuals_from (k + 1)) (λ cs. Right (actual_of x ∷ cs)) (behind_passed done)
         ∙ bind_same (actuals_from (k + 1)) _ _ (λ rest. ap (λ cs. Right cs) (passed_on-push done x rest))
+
+  -- behind the last one
+  pub actuals_end : (k : ℕ) (done : List Actual) → length ps ≤ k → length es ≤ k → ◌>>=◌ (actuals_from k) (behind_passed done) ≡ Right (map actual_of done)
+  actuals_end k done h h' =
+      ap (λ xs. ◌>>=◌ (actuals env (map (parameter_of types) xs) (map expr_of (drop k es))) (behind_passed done)) (drop_all k ps h)
+      ∙ ap (λ xs. ◌>>=◌ (actuals env [] (map expr_of xs)) (behind_passed done)) (drop_all k es h')
+      ∙ passed_all done

@@ -1,5 +1,11 @@
 -- Variables that are assigned or passed on: what is left to test of them, and what they hold.
-use Rattle.std.proofs.Common.{◌≡◌, refl, true, false, Some, None, ap}
+use Rattle.std.proofs.Common.{◌≡◌, ℕ, List, refl, true, false, Some, None, sym, ap, ◌∙◌, string_bytes}
+use Rattle.ob_grammar.specs.declared.tree.Designator.{Designator}
+use Rattle.ob_grammar.specs.declared.tree.Expr.{Expr}
+use Rattle.ob_grammar.specs.declared.tree.Expr.TheVariants as Exprs
+use Rattle.ob_grammar.specs.View.{name_of, expr_of, selectors_in}
+use Rattle.ob_grammar.proofs.Rows.{expr_of-named}
+use Rattle.ob_typing.specs.declared.scalar.Scalar.{Scalar}
 use Rattle.ob_grammar.specs.Tree
 use Rattle.ob_typing.specs.declared.scalar.ScalarType.{ScalarType}
 use Rattle.ob_typing.specs.declared.rule.Rule.{Rule}
@@ -12,6 +18,11 @@ use Rattle.ob_typing.specs.ExpressionFaults.{broken}
 use Rattle.ob_typing.proofs.Verdict.{Right, Wrong, ◌>>=◌}
 use Rattle.ob_typing.proofs.CheckedExpressions.{selecting}
 use Rattle.ob_typing.proofs.CheckedStatements.{designated}
+use Rattle.ob_typing.specs.Statements.{bare, unless_constant}
+use Rattle.ob_checked.specs.Types.{Entry}
+use Rattle.ob_rules.specs.declared.scopes.Meant.{Meant}
+use Rattle.ob_rules.specs.declared.scopes.Meant.TheVariants.{Nothing, Constant, TypeName, Variable, FarVariable, Procedure}
+use Rattle.ob_rules.specs.Names.{meant_of}
 use Rattle.ob_rules.specs.SimpleTypes.{simple_type}
 
 -- what a variable of a type holds
@@ -36,3 +47,24 @@ module _ (env : Environment) (name : Tree.Name) (selectors : Tree.Selectors) whe
       designated env name selectors
       ≡ ◌>>=◌ (selecting env selectors InStatement s) (λ path. Right (record { type = path.type; variable = Programs.Designated slot path.selectors }))
   place_known slot s is = rw is refl
+
+-- a bare name: nothing but a constant is left out
+module _ (env : Environment) (e : Expr) (d : Designator) (is : e ≡ Exprs.Named d) where
+  named_tree : bare env (expr_of e) ≡ unless_constant (meant env (string_bytes d.name.text)) (name_of d.name) (selectors_in d.selectors.items)
+  named_tree = ap (λ x. bare env (expr_of x)) is ∙ ap (bare env) (expr_of-named d)
+
+  pub bare_variable : (types : List Entry) (text : List ℕ) (m : Meant) → text ≡ string_bytes d.name.text → meant_of types text m ≡ meant env text →
+      ((v : Scalar) → m ≡ Constant v → ⊥) → Some (name_of d.name, selectors_in d.selectors.items) ≡ bare env (expr_of e)
+  bare_variable types text m at known other =
+      by m other
+      ∙ ap (λ x. unless_constant x (name_of d.name) (selectors_in d.selectors.items)) (known ∙ ap (meant env) at)
+      ∙ sym named_tree
+    where
+      by : (x : Meant) → ((v : Scalar) → x ≡ Constant v → ⊥) →
+          Some (name_of d.name, selectors_in d.selectors.items) ≡ unless_constant (meant_of types text x) (name_of d.name) (selectors_in d.selectors.items)
+      by Nothing h = refl
+      by (Constant v) h = absurd (h v refl)
+      by (TypeName t) h = refl
+      by (Variable owner position t) h = refl
+      by FarVariable h = refl
+      by (Procedure number parameters) h = refl

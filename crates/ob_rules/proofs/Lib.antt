@@ -12,3 +12,4 @@ pub mod Designated
 pub mod SameTypes
 pub mod Bodies
 pub mod Calls
+pub mod Sizes

@@ -1,17 +1,20 @@
 //! Statements. They are taken one after another, so that a long body is no deep recursion.
 
-ghost use Rattle.std.specs.Prelude.{◌≡◌, length, map, option_map, IfOk, IfErr};
+ghost use Rattle.std.specs.Prelude.{◌≡◌, ℕ, List, Some, length, map, option_map, IfOk, IfErr, OnOk};
 ghost use Rattle.ob_grammar.specs.Tree as trees;
 ghost use Rattle.ob_grammar.specs.View.{name_of, expr_of, selectors_in, stmt_of, stmts_in, branches_in, otherwise_of};
 ghost use Rattle.ob_typing.specs.Program as Programs;
+ghost use Rattle.ob_typing.specs.Scopes.{AProcedure};
 ghost use Rattle.ob_typing.specs.Statements as Typing;
+ghost use Rattle.ob_typing.specs.StatementFaults.{procedure_broken};
 ghost use Rattle.ob_typing.proofs.Verdict.{Verdict, Right};
 ghost use Rattle.ob_typing.proofs.CheckedStatements as Verdicts;
+ghost use Rattle.ob_checked.specs.Types.{Entry};
 ghost use Rattle.ob_checked.specs.View.{parameter_of, actual_of, statement_of, statements_in};
 ghost use Rattle.ob_checked.specs.View as Checked;
-ghost use Rattle.ob_rules.specs.Names.{types_in, env_of};
+ghost use Rattle.ob_rules.specs.Names.{types_in, env_of, meant_of};
 ghost use Rattle.ob_rules.specs.Checking.{Fails, and_then};
-ghost use Rattle.ob_rules.specs.CheckingStatements.{condition, called, statement_before};
+ghost use Rattle.ob_rules.specs.CheckingStatements.{condition, called, kept, statement_before};
 
 use crate::constants::Usage;
 use crate::expressions::{expression, first_place};
@@ -119,8 +122,8 @@ fn actuals(
     ensures fault { IfErr result (λ f. Fails f (Verdicts.actuals (env_of scopes.now) (map (parameter_of (types_in scopes.now)) parameters.now) (map expr_of written.now))) }
 {
     let mut checked = Vec::new(alloc);
-    for (parameter, passed) in parameters.iter().zip(written) {
-        let passed = actual(alloc, scopes, parameter, passed)?;
+    for (parameter, expr) in parameters.iter().zip(written) {
+        let passed = actual(alloc, scopes, parameter, expr)?;
         checked.push(passed)?;
     }
     Ok(checked)
@@ -136,6 +139,20 @@ fn listed(actuals: &Option<Vec<Expr>>) -> &[Expr]
     }
 }
 
+/// The procedure that a name stands for, or the rule that it breaks where a procedure is needed.
+fn procedure_meant(meant: Meant<'_>) -> Result<(usize, &[Parameter]), Rule>
+    ensures procedure { IfOk result (λ p. (types : List Entry) (name : List ℕ) → meant_of types name meant.entry ≡ AProcedure p.0 (map (parameter_of types) p.1.now)) }
+    ensures broken { IfErr result (λ r. (types : List Entry) (name : List ℕ) → procedure_broken (meant_of types name meant.entry) ≡ Some r) }
+{
+    match meant {
+        Meant::Nothing => Err(Rule::UnknownName),
+        Meant::Procedure { number, parameters } => Ok((number, parameters)),
+        Meant::Constant(_) | Meant::TypeName(_) | Meant::Variable { .. } | Meant::FarVariable => {
+            Err(Rule::WrongKind)
+        }
+    }
+}
+
 /// A call.
 fn call(
     alloc: Global,
@@ -146,10 +163,9 @@ fn call(
     ensures typed { IfOk result (λ x. called (env_of scopes.now) (name_of procedure.now) (option_map (λ es. map expr_of es.items) written.now) ≡ Right (statement_of x)) }
     ensures fault { IfErr result (λ f. Fails f (called (env_of scopes.now) (name_of procedure.now) (option_map (λ es. map expr_of es.items) written.now))) }
 {
-    let (number, parameters) = match scopes.meant(&procedure.text) {
-        Meant::Nothing => return Err(broken(Rule::UnknownName, procedure.place)),
-        Meant::Procedure { number, parameters } => (number, parameters),
-        _ => return Err(broken(Rule::WrongKind, procedure.place)),
+    let (number, parameters) = match procedure_meant(scopes.meant(&procedure.text)) {
+        Ok(found) => found,
+        Err(rule) => return Err(broken(rule, procedure.place)),
     };
     let written = listed(written);
     if written.len() != parameters.len() {
@@ -195,12 +211,21 @@ pub fn statements(
 {
     let mut checked = Vec::new(alloc);
     for next in written {
-        match statement(alloc, scopes, next)? {
-            Some(done) => checked.push(done)?,
-            None => {}
-        }
+        let done = statement(alloc, scopes, next)?;
+        keep(&mut checked, done)?;
     }
     Ok(checked)
+}
+
+/// Puts a statement behind others, where there is one.
+fn keep(checked: &mut Vec<Statement>, done: Option<Statement>) -> Result<(), CheckFault>
+    ensures ok { OnOk result (checked.new.items ≡ kept checked.old.items done) }
+    ensures fault { IfErr result (λ f. f ≡ CheckFault.NoMemory) }
+{
+    if let Some(statement) = done {
+        checked.push(statement)?;
+    }
+    Ok(())
 }
 
 /// The statements of a body, which may be absent.
