@@ -1,5 +1,5 @@
 -- Variables that are assigned or passed on: what is left to test of them, and what they hold.
-use Rattle.std.proofs.Common.{◌≡◌, ℕ, List, refl, true, false, Some, None, sym, ap, ◌∙◌, string_bytes}
+use Rattle.std.proofs.Common.{◌≡◌, ℕ, List, refl, false, Some, None, sym, ap, ◌∙◌, string_bytes}
 use Rattle.ob_grammar.specs.declared.tree.Designator.{Designator}
 use Rattle.ob_grammar.specs.declared.tree.Expr.{Expr}
 use Rattle.ob_grammar.specs.declared.tree.Expr.TheVariants as Exprs

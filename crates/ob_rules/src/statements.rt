@@ -271,7 +271,9 @@ fn statement(
             }))
         }
         Stmt::While {
-            condition, body, ..
+            condition,
+            body,
+            ..
         } => {
             let condition = condition_of(alloc, scopes, condition)?;
             let body = statements(alloc, scopes, body)?;

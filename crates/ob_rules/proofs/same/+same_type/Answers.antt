@@ -1,5 +1,4 @@
-use Rattle.std.proofs.Common.{◌≡◌, ◌+◌, ◌*◌, ◌<◌, Bool, true, false, not, arith, sym, ap, ◌∙◌, drop, refl}
-use Rattle.std.proofs.lemmas.List.{drop_all}
+use Rattle.std.proofs.Common.{◌≡◌, Bool, true, false, not, arith, sym, ◌∙◌, refl}
 use Rattle.ob_checked.specs.View.{table_of}
 use Rattle.ob_checked.specs.Types.{types_of}
 use Rattle.ob_rules.proofs.SameTypes.{same_length, field_same, other_name, other_type, field_depth, same_number_type}

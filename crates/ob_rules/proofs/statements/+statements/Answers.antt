@@ -1,4 +1,4 @@
-use Rattle.std.proofs.Common.{◌≡◌, ℕ, suc, ◌+◌, ◌<◌, arith, sym, ap, ◌∙◌, drop}
+use Rattle.std.proofs.Common.{◌+◌, arith, sym, ap, ◌∙◌, drop}
 use Rattle.std.proofs.lemmas.List.{at_drop_all}
 use Rattle.ob_grammar.specs.View.{expr_of, stmt_of, stmts_in}
 use Rattle.ob_grammar.specs.View as Trees
@@ -9,7 +9,7 @@ use Rattle.ob_rules.specs.Names.{env_of}
 use Rattle.ob_rules.proofs.Steps.{fails_as, fails_on}
 use Rattle.ob_rules.proofs.Walks.{next_left}
 use Rattle.ob_rules.proofs.Bodies.{behind_done, branched, done_all, statements_first, statements_next, branch_condition_fails, branch_body_fails, branches_next, if_tree, if_fails, else_fails, if_right, while_tree, body_fails, while_right}
-use Rattle.ob_rules.proofs.Sizes.{size, size_of_all, size_of_branches, size_of_else, statement_smaller, body_smaller}
+use Rattle.ob_rules.proofs.Sizes.{size, size_of_all, size_of_else, statement_smaller, body_smaller}
 use Rattle.ob_rules.proofs.statements.+statements.Goals as goal
 
 -- what stands within is smaller

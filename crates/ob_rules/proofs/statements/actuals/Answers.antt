@@ -1,14 +1,13 @@
-use Rattle.std.proofs.Common.{◌≡◌, ◌∙◌, ◌+◌, ◌++◌, [], ◌∷◌, length, ap, sym, arith, min}
+use Rattle.std.proofs.Common.{◌∙◌, length, ap, arith}
 use Rattle.std.specs.Iterator.Adapters.{zip_first, zip_second}
 use Rattle.std.specs.Slice.Iter.{iter_rest}
-use Rattle.std.proofs.lemmas.List.{length_push, at_drop_all}
+use Rattle.std.proofs.lemmas.List.{length_push}
 use Rattle.std.proofs.lemmas.Slice.Zip.{zip_turn, zip_end}
 use Rattle.ob_grammar.proofs.Exits.{passed_on}
-use Rattle.ob_typing.proofs.Verdict.{◌>>=◌}
 use Rattle.ob_rules.specs.Names.{types_in, env_of}
 use Rattle.ob_rules.proofs.Steps.{fails_as}
 use Rattle.ob_rules.proofs.Walks.{next_left}
-use Rattle.ob_rules.proofs.Calls.{behind_passed, actuals_from, actuals_next, first_fails, passed_all, actuals_end}
+use Rattle.ob_rules.proofs.Calls.{actuals_next, first_fails, actuals_end}
 use Rattle.ob_rules.proofs.statements.actuals.Goals as goal
 
 pub returns-in_err-passed-clause-fault : goal.returns-in_err-passed-clause-fault
