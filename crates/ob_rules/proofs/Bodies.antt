@@ -27,7 +27,7 @@ use Rattle.ob_checked.specs.View.{expression_of, statement_of, statements_in, br
 use Rattle.ob_rules.specs.declared.fault.CheckFault.{CheckFault}
 use Rattle.ob_rules.specs.Checking.{Fails, and_then}
 use Rattle.ob_rules.specs.CheckingStatements.{condition, kept, statement_before}
-use Rattle.ob_rules.proofs.Steps.{bind_assoc, bind_same, bind_right, fails_as, fails_on, fails_past, goes_on}
+use Rattle.ob_rules.proofs.Steps.{bind_assoc, bind_same, fails_as, fails_on, fails_past, goes_on}
 use Rattle.ob_rules.proofs.Rows.{statement_of-while, statement_of-if}
 
 -- statements in front of others
@@ -87,9 +87,6 @@ module _ (env : Environment) where
 
     pub statement_fails : (f : CheckFault) → Fails f (statement env s) → Fails f (statements env (Tree.stmt s rest))
     statement_fails f h = fails_as f _ _ in_front (fails_on f _ _ h)
-
-  pub empty_right : (rest : Tree.Stmts) → statements env (Tree.stmt Tree.Empty rest) ≡ and_then (statements env rest) (statement_before None)
-  empty_right rest = bind_right (statements env rest)
 
   -- behind a condition
   module _ {A : Type 0} (e : Tree.Expr) (go : Programs.Expression → Verdict A) where
@@ -194,9 +191,6 @@ module _ (env : Environment) where
 
     while_is : statement env (stmt_of s) ≡ ◌>>=◌ (condition env (expr_of e)) (looped place (expr_of e) (stmts_in all))
     while_is = ap (statement env) while_tree ∙ while_verdict place (expr_of e) (stmts_in all)
-
-    pub condition_fails : (f : CheckFault) → Fails f (condition env (expr_of e)) → (rest : Tree.Stmts) → Fails f (statements env (Tree.stmt (stmt_of s) rest))
-    condition_fails f h rest = statement_fails (stmt_of s) while_filled rest f (fails_as f _ _ while_is (fails_on f _ _ h))
 
     module _ (c : Expression) (typed : condition env (expr_of e) ≡ Right (expression_of c)) where
       pub body_fails : (f : CheckFault) → Fails f (statements env (stmts_in all)) → (rest : Tree.Stmts) → Fails f (statements env (Tree.stmt (stmt_of s) rest))

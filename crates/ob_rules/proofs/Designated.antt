@@ -1,4 +1,4 @@
--- Variables that are assigned or passed on: what is left to test of them, and what they hold.
+-- What a variable holds, and which names may be variables.
 use Rattle.std.proofs.Common.{◌≡◌, ℕ, List, refl, false, Some, None, sym, ap, ◌∙◌, string_bytes}
 use Rattle.ob_grammar.specs.declared.tree.Designator.{Designator}
 use Rattle.ob_grammar.specs.declared.tree.Expr.{Expr}
@@ -6,18 +6,10 @@ use Rattle.ob_grammar.specs.declared.tree.Expr.TheVariants as Exprs
 use Rattle.ob_grammar.specs.View.{name_of, expr_of, selectors_in}
 use Rattle.ob_grammar.proofs.Rows.{expr_of-named}
 use Rattle.ob_typing.specs.declared.scalar.Scalar.{Scalar}
-use Rattle.ob_grammar.specs.Tree
 use Rattle.ob_typing.specs.declared.scalar.ScalarType.{ScalarType}
-use Rattle.ob_typing.specs.declared.rule.Rule.{Rule}
 use Rattle.ob_typing.specs.Program as Programs
 use Rattle.ob_typing.specs.Arithmetic.{same_scalar_type}
-use Rattle.ob_typing.specs.Scopes.{Environment, AVariable, meant, holds}
-use Rattle.ob_typing.specs.Expressions.{InStatement}
-use Rattle.ob_typing.specs.StatementFaults.{place_broken}
-use Rattle.ob_typing.specs.ExpressionFaults.{broken}
-use Rattle.ob_typing.proofs.Verdict.{Right, Wrong, ◌>>=◌}
-use Rattle.ob_typing.proofs.CheckedExpressions.{selecting}
-use Rattle.ob_typing.proofs.CheckedStatements.{designated}
+use Rattle.ob_typing.specs.Scopes.{Environment, meant, holds}
 use Rattle.ob_typing.specs.Statements.{bare, unless_constant}
 use Rattle.ob_checked.specs.Types.{Entry}
 use Rattle.ob_rules.specs.declared.scopes.Meant.{Meant}
@@ -37,16 +29,6 @@ pub holds_none : (s : ScalarType) (t : Programs.DataType) → None ≡ simple_ty
 holds_none s (Programs.Simple v) h = absurd cc
 holds_none s (Programs.Array p n e) h = refl
 holds_none s (Programs.Record p fs) h = refl
-
--- a target, or an actual for VAR
-module _ (env : Environment) (name : Tree.Name) (selectors : Tree.Selectors) where
-  pub place_wrong : (rule : Rule) → place_broken (meant env name.text) ≡ Some rule → designated env name selectors ≡ Wrong (broken rule name.place)
-  place_wrong rule h = rw h refl
-
-  pub place_known : (slot : Programs.Slot) (s : Programs.DataType) → meant env name.text ≡ AVariable slot s →
-      designated env name selectors
-      ≡ ◌>>=◌ (selecting env selectors InStatement s) (λ path. Right (record { type = path.type; variable = Programs.Designated slot path.selectors }))
-  place_known slot s is = rw is refl
 
 -- a bare name: nothing but a constant is left out
 module _ (env : Environment) (e : Expr) (d : Designator) (is : e ≡ Exprs.Named d) where

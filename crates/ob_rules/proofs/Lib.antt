@@ -11,5 +11,5 @@ pub mod Declared
 pub mod Designated
 pub mod SameTypes
 pub mod Bodies
-pub mod Calls
+pub mod Passed
 pub mod Sizes

@@ -2,7 +2,6 @@
 use Rattle.std.proofs.Common.{◌≡◌, ◌≢◌, ℕ, zero, suc, ◌+◌, ◌<◌, ◌≤◌, Bool, true, false, List, [], ◌∷◌, length, drop, get_or, Some, refl, sym, ap, ◌∙◌, arith, String, eq-eqb}
 use Rattle.std.specs.Prelude.{◌&&◌, bytes_eq, nat_eq, string_bytes, slice_get}
 use Rattle.std.specs.declared.alloc.Global.{Global}
-use Rattle.std.proofs.lemmas.Bool.{ne_eqb}
 use Rattle.std.proofs.lemmas.Slice.Eq.{bytes_eq-Decides}
 use Rattle.ob_typing.specs.declared.scalar.ScalarType.{ScalarType}
 use Rattle.ob_typing.specs.declared.scalar.ScalarType.TheVariants.{Integer, Boolean}
@@ -12,7 +11,7 @@ use Rattle.ob_typing.specs.Scopes.{same_type, same_fields, depth, depth_of_field
 use Rattle.ob_checked.specs.declared.types.DataType as Numbers
 use Rattle.ob_checked.specs.declared.types.Structure.{Structure}
 use Rattle.ob_checked.specs.declared.types.Structure.TheVariants as Structures
-use Rattle.ob_checked.specs.Types.{Entry, type_by, type_in, fields_by, structure_by, entry_by}
+use Rattle.ob_checked.specs.Types.{Entry, type_by, type_in, fields_by}
 use Rattle.ob_rules.proofs.Walks.{next_left}
 
 abbrev Numbered : Type 0
@@ -47,10 +46,6 @@ abbrev pub inner_depth : List DataType → Structure → ℕ
 inner_depth ts (Structures.Array length element) = depth (type_by ts element)
 inner_depth ts (Structures.Record fields) = depth_of_fields (fields_by ts fields.entries)
 
-pub depth_within : (ts : List DataType) (place : ℕ) (s : Structure) → depth (structure_by ts place s) ≡ suc (inner_depth ts s)
-depth_within ts place (Structures.Array length element) = refl
-depth_within ts place (Structures.Record fields) = refl
-
 pub field_depth : (ts : List DataType) (fs : List (String Global × Numbered)) (i : ℕ) (f : String Global × Numbered) → slice_get fs i ≡ Some f →
     depth (type_by ts f.1) ≤ depth_of_fields (fields_by ts fs)
 field_depth ts [] i f h = absurd cc
@@ -59,23 +54,6 @@ field_depth ts (x ∷ fs) zero f h =
     let same = ap (λ (y : String Global × Numbered). depth (type_by ts y.1)) is in
     omega (arith, same)
 field_depth ts (x ∷ fs) (suc i) f h = omega (arith, field_depth ts fs i f h)
-
--- what stands behind ARRAY or RECORD at one place
-pub same_entries : (ts : List DataType) (e d : Entry) (r : Bool) → ((place : ℕ) → r ≡ same_type (structure_by ts place e.structure) (structure_by ts place d.structure)) →
-    e.place ≡ d.place → r ≡ same_type (entry_by ts e) (entry_by ts d)
-same_entries ts e d r h at = h e.place ∙ ap (λ p. same_type (entry_by ts e) (structure_by ts p d.structure)) at
-
-pub other_place : (ts : List DataType) (e d : Entry) → e.place ≢ d.place → false ≡ same_type (entry_by ts e) (entry_by ts d)
-other_place ts e d h = by e.structure d.structure
-  where
-    differ : nat_eq e.place d.place ≡ false
-    differ = ne_eqb e.place d.place h
-
-    by : (s u : Structure) → false ≡ same_type (structure_by ts e.place s) (structure_by ts d.place u)
-    by (Structures.Array length element) (Structures.Array length' element') = rw differ refl
-    by (Structures.Array length element) (Structures.Record fields') = refl
-    by (Structures.Record fields) (Structures.Array length' element') = refl
-    by (Structures.Record fields) (Structures.Record fields') = rw differ refl
 
 -- fields, one by one
 module _ (ts : List DataType) where

@@ -13,13 +13,13 @@ use ob_typing::scalar::ScalarType;
 
 /// What a type consists of: a scalar, or an occurrence of ARRAY or RECORD.
 #[derive(Clone, Copy)]
-pub enum Shape<'t> {
+enum Shape<'t> {
     Simple(ScalarType),
     Occurrence(&'t Structured),
 }
 
 /// What a type consists of.
-pub fn shape_in(types: &Types, data_type: DataType) -> Shape<'_>
+fn shape_in(types: &Types, data_type: DataType) -> Shape<'_>
     ensures { type_of_shape (table_of types.now) result ≡ type_in (table_of types.now) data_type }
 {
     match data_type {

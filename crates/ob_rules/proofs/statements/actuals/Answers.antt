@@ -7,7 +7,7 @@ use Rattle.ob_grammar.proofs.Exits.{passed_on}
 use Rattle.ob_rules.specs.Names.{types_in, env_of}
 use Rattle.ob_rules.proofs.Steps.{fails_as}
 use Rattle.ob_rules.proofs.Walks.{next_left}
-use Rattle.ob_rules.proofs.Calls.{actuals_next, first_fails, actuals_end}
+use Rattle.ob_rules.proofs.Passed.{actuals_next, first_fails, actuals_end}
 use Rattle.ob_rules.proofs.statements.actuals.Goals as goal
 
 pub returns-in_err-passed-clause-fault : goal.returns-in_err-passed-clause-fault
