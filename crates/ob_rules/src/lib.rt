@@ -1,4 +1,4 @@
-//! The rules of names and expressions: from their trees to parts of the checked program.
+//! The rules of names, expressions and statements: from their trees to parts of the checked program.
 #![tactic(auto)]
 
 pub mod constants;
