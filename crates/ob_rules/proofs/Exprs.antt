@@ -1,23 +1,21 @@
 -- The verdict on a chain of the program, step by step.
-use Rattle.std.proofs.Common.{◌≡◌, ℕ, ℤ, List, Option, sym, ap, ◌∙◌, Box, Vec}
+use Rattle.std.proofs.Common.{◌≡◌, List, Option, sym, ap, ◌∙◌, Box, Vec}
 use Rattle.std.specs.declared.alloc.Global.{Global}
 use Rattle.ob_grammar.specs.declared.tree.Expr.{Expr}
 use Rattle.ob_grammar.specs.declared.tree.Expr.TheVariants as Exprs
 use Rattle.ob_grammar.specs.declared.tree.Designator.{Designator}
 use Rattle.ob_grammar.specs.declared.tree.Operand.{Operand}
-use Rattle.ob_grammar.specs.declared.tree.Operator.{Operator}
 use Rattle.ob_grammar.specs.declared.tree.Sign.{Sign}
 use Rattle.ob_grammar.specs.View.{expr_of, operands_in}
 use Rattle.ob_grammar.proofs.Rows.{expr_of-named, expr_of-product, expr_of-sum}
 use Rattle.ob_typing.specs.Scopes.{Environment}
 use Rattle.ob_typing.specs.Expressions.{Use}
-use Rattle.ob_typing.specs.declared.scalar.Scalar.TheVariants.{Int}
 use Rattle.ob_typing.specs.declared.rule.Rule.TheVariants.{TypesDiffer}
 use Rattle.ob_typing.specs.Expressions.{sign_fits, value_signed, with_sign}
 use Rattle.ob_typing.proofs.Verdict.{Verdict, Right, ◌>>=◌, test, result}
 use Rattle.ob_typing.proofs.CheckedExpressions as Verdicts
 use Rattle.ob_typing.proofs.CheckedExpressions.{expression, operands, sign_place}
-use Rattle.ob_rules.specs.Checking.{designator_in, literal, complemented, signed, chained, compared}
+use Rattle.ob_rules.specs.Checking.{designator_in, signed, chained}
 use Rattle.ob_rules.proofs.Steps.{bind_assoc, bind_same}
 
 module _ (env : Environment) (use' : Use) (e : Expr) where

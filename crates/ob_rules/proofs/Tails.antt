@@ -1,26 +1,18 @@
 -- An operand and a variable where their parts are right.
-use Rattle.std.proofs.Common.{◌≡◌, ℕ, refl, Option, Some, None, true, false, ap}
-use Rattle.std.specs.Prelude.{option_map}
+use Rattle.std.proofs.Common.{◌≡◌, ℕ, refl, Option, Some, None, true, ap}
 use Rattle.ob_grammar.specs.declared.tree.Operator.{Operator}
-use Rattle.ob_grammar.specs.declared.tree.Sign.{Sign}
 use Rattle.ob_grammar.specs.Tree
 use Rattle.ob_typing.specs.declared.operator.BinaryOperator.{BinaryOperator}
-use Rattle.ob_typing.specs.declared.operator.Relation.{Relation}
 use Rattle.ob_typing.specs.declared.scalar.Scalar.{Scalar}
 use Rattle.ob_typing.specs.declared.scalar.ScalarType.{ScalarType}
-use Rattle.ob_typing.specs.declared.scalar.ScalarType.TheVariants.{Integer, Boolean}
-use Rattle.ob_typing.specs.declared.rule.Rule.{Rule}
-use Rattle.ob_typing.specs.declared.rule.Rule.TheVariants.{UnknownName, WrongKind, TypesDiffer, BadConstant}
 use Rattle.ob_typing.specs.Program as Programs
-use Rattle.ob_typing.specs.Arithmetic.{Gives, Traps, complement, same_scalar_type, takes_both, compares, operator_of, relation_of}
-use Rattle.ob_typing.specs.Scopes.{Environment, Meant, AVariable, meant, type_meant, fields_of, elements_of, field_from}
-use Rattle.ob_typing.specs.Expressions.{Use, behind, value_behind, with_sign, value_signed, value_compared}
-use Rattle.ob_typing.specs.ExpressionFaults.{broken, value_broken}
-use Rattle.ob_typing.proofs.Verdict.{Verdict, Right, Wrong, Foreign, ◌>>=◌, test, result}
+use Rattle.ob_typing.specs.Arithmetic.{Gives, takes_both, operator_of}
+use Rattle.ob_typing.specs.Scopes.{Environment, AVariable}
+use Rattle.ob_typing.specs.Expressions.{Use, behind, value_behind}
+use Rattle.ob_typing.proofs.Verdict.{Right, ◌>>=◌}
 use Rattle.ob_typing.proofs.CheckedExpressions as Verdicts
 use Rattle.ob_typing.proofs.CheckedExpressions.{expression, operands, selecting, named_value, sign_place}
 use Rattle.ob_rules.specs.SimpleTypes.{simple_type}
-use Rattle.ob_rules.specs.Checking.{complemented, signed, compared, fielded, indexed}
 
 -- one operator and its operand
 module _ (env : Environment) (use' : Use) (t : ScalarType) (v : Option Scalar) (operator : Operator) (place : ℕ) (e : Tree.Expr) (rest : Tree.Operands) where
