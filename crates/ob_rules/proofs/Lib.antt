@@ -3,8 +3,13 @@ pub mod Exprs
 pub mod Fields
 pub mod Chains
 pub mod Looked
+pub mod Kept
+pub mod Seconds
 pub mod Entries
 pub mod Tails
 pub mod Rows
 pub mod Walks
 pub mod Declared
+pub mod TypeSteps
+pub mod DeclarationSteps
+pub mod ParameterSteps

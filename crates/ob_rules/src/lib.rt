@@ -6,5 +6,8 @@ pub mod declarations;
 pub mod expressions;
 pub mod fault;
 pub mod meant;
+pub mod parameters;
 pub mod parts;
 pub mod scopes;
+pub mod taken;
+pub mod types;
