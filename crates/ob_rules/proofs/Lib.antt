@@ -13,3 +13,8 @@ pub mod Declared
 pub mod TypeSteps
 pub mod DeclarationSteps
 pub mod ParameterSteps
+pub mod Designated
+pub mod SameTypes
+pub mod Bodies
+pub mod Passed
+pub mod Sizes

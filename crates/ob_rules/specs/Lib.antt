@@ -6,3 +6,6 @@ pub mod Checking
 pub mod TakenNames
 pub mod CheckingTypes
 pub mod CheckingVariables
+pub mod Shapes
+pub mod Designations
+pub mod CheckingStatements

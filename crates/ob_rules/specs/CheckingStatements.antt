@@ -1,5 +1,5 @@
 -- What the parts of the checker answer for statements.
-use Rattle.std.specs.Prelude.{ℕ, List, length, nat_eq, Option, Some, None}
+use Rattle.std.specs.Prelude.{List, [], ◌∷◌, ◌++◌, Option, Some, None}
 use Rattle.ob_grammar.specs.Tree
 use Rattle.ob_grammar.specs.Tree.{Expr}
 use Rattle.ob_typing.specs.declared.scalar.ScalarType.TheVariants.{Boolean}
@@ -30,3 +30,8 @@ called env name actuals = statement env (Tree.Call name actuals)
 abbrev pub statement_before : Option Statement → Programs.Statements → Verdict Programs.Statements
 statement_before None rest = Right rest
 statement_before (Some s) rest = Right (Programs.statement (statement_of s) rest)
+
+-- statements with one more, where there is one
+abbrev pub kept : List Statement → Option Statement → List Statement
+kept ss None = ss
+kept ss (Some s) = ss ++ s ∷ []

@@ -1,22 +1,26 @@
 //! Statements. They are taken one after another, so that a long body is no deep recursion.
 
-ghost use Rattle.std.specs.Prelude.{◌≡◌, length, map, option_map, IfOk, IfErr};
+ghost use Rattle.std.specs.Prelude.{◌≡◌, ℕ, List, Some, length, map, option_map, IfOk, IfErr, OnOk};
 ghost use Rattle.ob_grammar.specs.Tree as trees;
 ghost use Rattle.ob_grammar.specs.View.{name_of, expr_of, selectors_in, stmt_of, stmts_in, branches_in, otherwise_of};
 ghost use Rattle.ob_typing.specs.Program as Programs;
+ghost use Rattle.ob_typing.specs.Scopes.{AProcedure};
 ghost use Rattle.ob_typing.specs.Statements as Typing;
+ghost use Rattle.ob_typing.specs.StatementFaults.{procedure_broken};
 ghost use Rattle.ob_typing.proofs.Verdict.{Verdict, Right};
 ghost use Rattle.ob_typing.proofs.CheckedStatements as Verdicts;
+ghost use Rattle.ob_checked.specs.Types.{Entry};
 ghost use Rattle.ob_checked.specs.View.{parameter_of, actual_of, statement_of, statements_in};
 ghost use Rattle.ob_checked.specs.View as Checked;
-ghost use Rattle.ob_rules.specs.Names.{types_in, env_of};
+ghost use Rattle.ob_rules.specs.Names.{types_in, env_of, meant_of};
 ghost use Rattle.ob_rules.specs.Checking.{Fails, and_then};
-ghost use Rattle.ob_rules.specs.CheckingStatements.{condition, called, statement_before};
+ghost use Rattle.ob_rules.specs.CheckingStatements.{condition, called, kept, statement_before};
 
 use crate::constants::Usage;
 use crate::expressions::{expression, first_place};
 use crate::fault::{CheckFault, broken};
-use crate::places::{designated, holds, same_type};
+use crate::places::{designated, holds};
+use crate::same::same_type;
 use crate::scopes::{Meant, Scopes};
 use ob_checked::program::{Actual, Branch, Expression, Parameter, Statement};
 use ob_grammar::tree;
@@ -27,7 +31,7 @@ use ob_typing::scalar::ScalarType;
 use std::alloc::Global;
 
 /// The condition of a branch or of WHILE.
-fn condition(alloc: Global, scopes: &Scopes, expr: &Expr) -> Result<Expression, CheckFault>
+fn condition_of(alloc: Global, scopes: &Scopes, expr: &Expr) -> Result<Expression, CheckFault>
     ensures typed { IfOk result (λ x. condition (env_of scopes.now) (expr_of expr.now) ≡ Right (Checked.expression_of x)) }
     ensures fault { IfErr result (λ f. Fails f (condition (env_of scopes.now) (expr_of expr.now))) }
 {
@@ -43,23 +47,23 @@ fn value_actual(
     alloc: Global,
     scopes: &Scopes,
     parameter: &Parameter,
-    actual: &Expr,
+    written: &Expr,
 ) -> Result<Actual, CheckFault>
-    ensures typed { IfOk result (λ x. Verdicts.value_actual (env_of scopes.now) (parameter_of (types_in scopes.now) parameter.now) (expr_of actual.now) ≡ Right (actual_of x)) }
-    ensures fault { IfErr result (λ f. Fails f (Verdicts.value_actual (env_of scopes.now) (parameter_of (types_in scopes.now) parameter.now) (expr_of actual.now))) }
+    ensures typed { IfOk result (λ x. Verdicts.value_actual (env_of scopes.now) (parameter_of (types_in scopes.now) parameter.now) (expr_of written.now) ≡ Right (actual_of x)) }
+    ensures fault { IfErr result (λ f. Fails f (Verdicts.value_actual (env_of scopes.now) (parameter_of (types_in scopes.now) parameter.now) (expr_of written.now))) }
 {
-    let checked = expression(alloc, scopes, actual, Usage::InStatement)?;
+    let checked = expression(alloc, scopes, written, Usage::InStatement)?;
     if !holds(scopes.types(), parameter.data_type, checked.data_type) {
-        return Err(broken(Rule::TypesDiffer, first_place(actual)));
+        return Err(broken(Rule::TypesDiffer, first_place(written)));
     }
     Ok(Actual::Value(checked.code))
 }
 
 /// A bare name with selectors, which may be a variable: not a constant's name.
-fn bare<'e>(scopes: &Scopes, actual: &'e Expr) -> Option<&'e tree::Designator>
-    ensures { option_map (λ d. (name_of d.now.name, selectors_in d.now.selectors.items)) result ≡ Typing.bare (env_of scopes.now) (expr_of actual.now) }
+fn bare<'e>(scopes: &Scopes, written: &'e Expr) -> Option<&'e tree::Designator>
+    ensures { option_map (λ d. (name_of d.now.name, selectors_in d.now.selectors.items)) result ≡ Typing.bare (env_of scopes.now) (expr_of written.now) }
 {
-    let Expr::Named(designator) = actual else {
+    let Expr::Named(designator) = written else {
         return None;
     };
     match scopes.meant(&designator.name.text) {
@@ -73,20 +77,37 @@ fn place_actual(
     alloc: Global,
     scopes: &Scopes,
     parameter: &Parameter,
-    actual: &Expr,
+    written: &Expr,
 ) -> Result<Actual, CheckFault>
-    ensures typed { IfOk result (λ x. Verdicts.place_actual (env_of scopes.now) (parameter_of (types_in scopes.now) parameter.now) (expr_of actual.now) (Typing.bare (env_of scopes.now) (expr_of actual.now)) ≡ Right (actual_of x)) }
-    ensures fault { IfErr result (λ f. Fails f (Verdicts.place_actual (env_of scopes.now) (parameter_of (types_in scopes.now) parameter.now) (expr_of actual.now) (Typing.bare (env_of scopes.now) (expr_of actual.now)))) }
+    ensures typed { IfOk result (λ x. Verdicts.place_actual (env_of scopes.now) (parameter_of (types_in scopes.now) parameter.now) (expr_of written.now) (Typing.bare (env_of scopes.now) (expr_of written.now)) ≡ Right (actual_of x)) }
+    ensures fault { IfErr result (λ f. Fails f (Verdicts.place_actual (env_of scopes.now) (parameter_of (types_in scopes.now) parameter.now) (expr_of written.now) (Typing.bare (env_of scopes.now) (expr_of written.now)))) }
 {
-    let Some(designator) = bare(scopes, actual) else {
-        let _value = value_actual(alloc, scopes, parameter, actual)?;
-        return Err(broken(Rule::BadActuals, first_place(actual)));
+    let Some(designator) = bare(scopes, written) else {
+        let _value = value_actual(alloc, scopes, parameter, written)?;
+        return Err(broken(Rule::BadActuals, first_place(written)));
     };
     let place = designated(alloc, scopes, designator)?;
     if !same_type(scopes.types(), place.data_type, parameter.data_type) {
-        return Err(broken(Rule::TypesDiffer, first_place(actual)));
+        return Err(broken(Rule::TypesDiffer, first_place(written)));
     }
     Ok(Actual::Place(place.variable))
+}
+
+/// The actual of a parameter.
+fn actual(
+    alloc: Global,
+    scopes: &Scopes,
+    parameter: &Parameter,
+    written: &Expr,
+) -> Result<Actual, CheckFault>
+    ensures typed { IfOk result (λ x. Verdicts.actual (env_of scopes.now) (parameter_of (types_in scopes.now) parameter.now) (expr_of written.now) ≡ Right (actual_of x)) }
+    ensures fault { IfErr result (λ f. Fails f (Verdicts.actual (env_of scopes.now) (parameter_of (types_in scopes.now) parameter.now) (expr_of written.now))) }
+{
+    if parameter.is_var {
+        place_actual(alloc, scopes, parameter, written)
+    } else {
+        value_actual(alloc, scopes, parameter, written)
+    }
 }
 
 /// The actuals of a call, one for each parameter.
@@ -101,12 +122,8 @@ fn actuals(
     ensures fault { IfErr result (λ f. Fails f (Verdicts.actuals (env_of scopes.now) (map (parameter_of (types_in scopes.now)) parameters.now) (map expr_of written.now))) }
 {
     let mut checked = Vec::new(alloc);
-    for (parameter, actual) in parameters.iter().zip(written) {
-        let passed = if parameter.is_var {
-            place_actual(alloc, scopes, parameter, actual)?
-        } else {
-            value_actual(alloc, scopes, parameter, actual)?
-        };
+    for (parameter, expr) in parameters.iter().zip(written) {
+        let passed = actual(alloc, scopes, parameter, expr)?;
         checked.push(passed)?;
     }
     Ok(checked)
@@ -122,6 +139,20 @@ fn listed(actuals: &Option<Vec<Expr>>) -> &[Expr]
     }
 }
 
+/// The procedure that a name stands for, or the rule that it breaks where a procedure is needed.
+fn procedure_meant(meant: Meant<'_>) -> Result<(usize, &[Parameter]), Rule>
+    ensures procedure { IfOk result (λ p. (types : List Entry) (name : List ℕ) → meant_of types name meant.entry ≡ AProcedure p.0 (map (parameter_of types) p.1.now)) }
+    ensures broken { IfErr result (λ r. (types : List Entry) (name : List ℕ) → procedure_broken (meant_of types name meant.entry) ≡ Some r) }
+{
+    match meant {
+        Meant::Nothing => Err(Rule::UnknownName),
+        Meant::Procedure { number, parameters } => Ok((number, parameters)),
+        Meant::Constant(_) | Meant::TypeName(_) | Meant::Variable { .. } | Meant::FarVariable => {
+            Err(Rule::WrongKind)
+        }
+    }
+}
+
 /// A call.
 fn call(
     alloc: Global,
@@ -132,10 +163,9 @@ fn call(
     ensures typed { IfOk result (λ x. called (env_of scopes.now) (name_of procedure.now) (option_map (λ es. map expr_of es.items) written.now) ≡ Right (statement_of x)) }
     ensures fault { IfErr result (λ f. Fails f (called (env_of scopes.now) (name_of procedure.now) (option_map (λ es. map expr_of es.items) written.now))) }
 {
-    let (number, parameters) = match scopes.meant(&procedure.text) {
-        Meant::Nothing => return Err(broken(Rule::UnknownName, procedure.place)),
-        Meant::Procedure { number, parameters } => (number, parameters),
-        _ => return Err(broken(Rule::WrongKind, procedure.place)),
+    let (number, parameters) = match procedure_meant(scopes.meant(&procedure.text)) {
+        Ok(found) => found,
+        Err(rule) => return Err(broken(rule, procedure.place)),
     };
     let written = listed(written);
     if written.len() != parameters.len() {
@@ -174,19 +204,43 @@ fn assignment(
 pub fn statements(
     alloc: Global,
     scopes: &Scopes,
-    statements: &[Stmt],
+    written: &[Stmt],
 ) -> Result<Vec<Statement>, CheckFault>
-    ensures typed { IfOk result (λ x. Verdicts.statements (env_of scopes.now) (stmts_in statements.now) ≡ Right (statements_in x.items)) }
-    ensures fault { IfErr result (λ f. Fails f (Verdicts.statements (env_of scopes.now) (stmts_in statements.now))) }
+    ensures typed { IfOk result (λ x. Verdicts.statements (env_of scopes.now) (stmts_in written.now) ≡ Right (statements_in x.items)) }
+    ensures fault { IfErr result (λ f. Fails f (Verdicts.statements (env_of scopes.now) (stmts_in written.now))) }
 {
     let mut checked = Vec::new(alloc);
-    for statement in statements {
-        match self::statement(alloc, scopes, statement)? {
-            Some(done) => checked.push(done)?,
-            None => {}
-        }
+    for next in written {
+        let done = statement(alloc, scopes, next)?;
+        keep(&mut checked, done)?;
     }
     Ok(checked)
+}
+
+/// Puts a statement behind others, where there is one.
+fn keep(checked: &mut Vec<Statement>, done: Option<Statement>) -> Result<(), CheckFault>
+    ensures ok { OnOk result (checked.new.items ≡ kept checked.old.items done) }
+    ensures fault { IfErr result (λ f. f ≡ CheckFault.NoMemory) }
+{
+    if let Some(statement) = done {
+        checked.push(statement)?;
+    }
+    Ok(())
+}
+
+/// The statements of a body, which may be absent.
+pub fn body(
+    alloc: Global,
+    scopes: &Scopes,
+    written: &Option<Vec<Stmt>>,
+) -> Result<Vec<Statement>, CheckFault>
+    ensures typed { IfOk result (λ x. Verdicts.body_checked (env_of scopes.now) (option_map (λ b. stmts_in b.items) written.now) ≡ Right (statements_in x.items)) }
+    ensures fault { IfErr result (λ f. Fails f (Verdicts.body_checked (env_of scopes.now) (option_map (λ b. stmts_in b.items) written.now))) }
+{
+    match written {
+        Some(body) => statements(alloc, scopes, body),
+        None => Ok(Vec::new(alloc)),
+    }
 }
 
 /// One statement in front of others; none where it is empty.
@@ -194,13 +248,13 @@ pub fn statements(
 fn statement(
     alloc: Global,
     scopes: &Scopes,
-    statement: &Stmt,
+    written: &Stmt,
 ) -> Result<Option<Statement>, CheckFault>
-    ensures typed { IfOk result (λ x. (rest : trees.Stmts) → Verdicts.statements (env_of scopes.now) (trees.stmt (stmt_of statement.now) rest)
+    ensures typed { IfOk result (λ x. (rest : trees.Stmts) → Verdicts.statements (env_of scopes.now) (trees.stmt (stmt_of written.now) rest)
         ≡ and_then (Verdicts.statements (env_of scopes.now) rest) (statement_before x)) }
-    ensures fault { IfErr result (λ f. (rest : trees.Stmts) → Fails f (Verdicts.statements (env_of scopes.now) (trees.stmt (stmt_of statement.now) rest))) }
+    ensures fault { IfErr result (λ f. (rest : trees.Stmts) → Fails f (Verdicts.statements (env_of scopes.now) (trees.stmt (stmt_of written.now) rest))) }
 {
-    match statement {
+    match written {
         Stmt::Empty => Ok(None),
         Stmt::Assign { target, value } => Ok(Some(assignment(alloc, scopes, target, value)?)),
         Stmt::Call { procedure, actuals } => Ok(Some(call(alloc, scopes, procedure, actuals)?)),
@@ -209,17 +263,19 @@ fn statement(
             otherwise,
             ..
         } => {
-            let branches = self::branches(alloc, scopes, branches)?;
-            let otherwise = self::otherwise(alloc, scopes, otherwise)?;
+            let branches = if_branches(alloc, scopes, branches)?;
+            let otherwise = else_branch(alloc, scopes, otherwise)?;
             Ok(Some(Statement::If {
                 branches,
                 otherwise,
             }))
         }
         Stmt::While {
-            condition, body, ..
+            condition,
+            body,
+            ..
         } => {
-            let condition = self::condition(alloc, scopes, condition)?;
+            let condition = condition_of(alloc, scopes, condition)?;
             let body = statements(alloc, scopes, body)?;
             Ok(Some(Statement::While { condition, body }))
         }
@@ -228,17 +284,17 @@ fn statement(
 
 /// The branches of IF, before what ELSE comes to.
 #[cycle(statements)]
-fn branches(
+fn if_branches(
     alloc: Global,
     scopes: &Scopes,
-    branches: &[tree::Branch],
+    written: &[tree::Branch],
 ) -> Result<Vec<Branch>, CheckFault>
-    ensures typed { IfOk result (λ x. (last : Verdict Programs.Branches) → Verdicts.branches (env_of scopes.now) (branches_in branches.now) last ≡ and_then last (λ b. Right (Checked.branches_in x.items b))) }
-    ensures fault { IfErr result (λ f. (last : Verdict Programs.Branches) → Fails f (Verdicts.branches (env_of scopes.now) (branches_in branches.now) last)) }
+    ensures typed { IfOk result (λ x. (last : Verdict Programs.Branches) → Verdicts.branches (env_of scopes.now) (branches_in written.now) last ≡ and_then last (λ b. Right (Checked.branches_in x.items b))) }
+    ensures fault { IfErr result (λ f. (last : Verdict Programs.Branches) → Fails f (Verdicts.branches (env_of scopes.now) (branches_in written.now) last)) }
 {
     let mut checked = Vec::new(alloc);
-    for branch in branches {
-        let condition = self::condition(alloc, scopes, &branch.condition)?;
+    for branch in written {
+        let condition = condition_of(alloc, scopes, &branch.condition)?;
         let body = statements(alloc, scopes, &branch.body)?;
         checked.push(Branch { condition, body })?;
     }
@@ -247,15 +303,15 @@ fn branches(
 
 /// What stands behind ELSE, which may be absent.
 #[cycle(statements)]
-fn otherwise(
+fn else_branch(
     alloc: Global,
     scopes: &Scopes,
-    otherwise: &Option<Vec<Stmt>>,
+    written: &Option<Vec<Stmt>>,
 ) -> Result<Option<Vec<Statement>>, CheckFault>
-    ensures typed { IfOk result (λ x. Verdicts.otherwise (env_of scopes.now) (otherwise_of otherwise.now) ≡ Right (Checked.otherwise_of x)) }
-    ensures fault { IfErr result (λ f. Fails f (Verdicts.otherwise (env_of scopes.now) (otherwise_of otherwise.now))) }
+    ensures typed { IfOk result (λ x. Verdicts.otherwise (env_of scopes.now) (otherwise_of written.now) ≡ Right (Checked.otherwise_of x)) }
+    ensures fault { IfErr result (λ f. Fails f (Verdicts.otherwise (env_of scopes.now) (otherwise_of written.now))) }
 {
-    match otherwise {
+    match written {
         Some(body) => Ok(Some(statements(alloc, scopes, body)?)),
         None => Ok(None),
     }

@@ -1,5 +1,5 @@
 use Rattle.std.proofs.Common.{◌∙◌}
-use Rattle.ob_rules.proofs.Tails.{holds_simple, holds_none}
+use Rattle.ob_rules.proofs.Designated.{holds_simple, holds_none}
 use Rattle.ob_rules.proofs.places.holds.Goals as goal
 
 pub returns-in-Some : goal.returns-in-Some
