@@ -82,8 +82,8 @@ module _ (env : Environment) (room : Room) (x : VarDecl) (rest : List VarDecl) w
     variable_step small old new h vs ws known grown after is left there =
         let kept = variables_kept old new h vs known in
         let join : (r : WithVariables) → map (variable_of old) vs ++ (variables_of t x.names ++ r.variables) ≡ map (variable_of new) ws ++ r.variables =
-            λ r. sym (append_assoc (map (variable_of old) vs) (variables_of t x.names) r.variables)
-            ∙ ap (λ us. (us ++ variables_of t x.names) ++ r.variables) (sym kept) ∙ ap (λ us. us ++ r.variables) (sym grown) in
+        λ r. sym (append_assoc (map (variable_of old) vs) (variables_of t x.names) r.variables)
+        ∙ ap (λ us. (us ++ variables_of t x.names) ++ r.variables) (sym kept) ∙ ap (λ us. us ++ r.variables) (sym grown) in
         ap (λ v. and_then v (behind_variables old vs)) (variable_fits small)
         ∙ bind_assoc (variables rest (with_variables env room t x.names) (room_behind room t x.names)) _ (behind_variables old vs)
         ∙ bind_same (variables rest (with_variables env room t x.names) (room_behind room t x.names)) _ (behind_variables new ws)

@@ -92,10 +92,10 @@ module _ (env : Environment) (count : ℕ) (x : Section) (rest : List Section) w
     section_step name simple old new h ps qs known grown after is counted more =
         let kept = parameters_kept old new h ps known in
         let whole : parameters (x ∷ rest) env count ≡ ◌>>=◌ (parameters rest (with_parameters env count t x.names) (count + length x.names)) (λ r.
-            Right (record { env = r.env; parameters = parameters_of x.is_var t x.names ++ r.parameters })) = section_typed ∙ rw name (rw simple refl) in
+        Right (record { env = r.env; parameters = parameters_of x.is_var t x.names ++ r.parameters })) = section_typed ∙ rw name (rw simple refl) in
         let join : (r : WithParameters) → map (parameter_of old) ps ++ (parameters_of x.is_var t x.names ++ r.parameters) ≡ map (parameter_of new) qs ++ r.parameters =
-            λ r. sym (append_assoc (map (parameter_of old) ps) (parameters_of x.is_var t x.names) r.parameters)
-            ∙ ap (λ us. (us ++ parameters_of x.is_var t x.names) ++ r.parameters) (sym kept) ∙ ap (λ us. us ++ r.parameters) (sym grown) in
+        λ r. sym (append_assoc (map (parameter_of old) ps) (parameters_of x.is_var t x.names) r.parameters)
+        ∙ ap (λ us. (us ++ parameters_of x.is_var t x.names) ++ r.parameters) (sym kept) ∙ ap (λ us. us ++ r.parameters) (sym grown) in
         ap (λ v. and_then v (behind_parameters old ps)) whole
         ∙ bind_assoc (parameters rest (with_parameters env count t x.names) (count + length x.names)) _ (behind_parameters old ps)
         ∙ bind_same (parameters rest (with_parameters env count t x.names) (count + length x.names)) _ (behind_parameters new qs)

@@ -31,11 +31,7 @@ const LONGEST: i32 = 4096;
 
 /// The type of a type expression. The table of types grows, and what names stand for stays.
 #[cycle(denoted)]
-pub fn denoted(
-    alloc: Global,
-    scopes: &mut Scopes,
-    expr: &TypeExpr,
-) -> Result<DataType, CheckFault>
+pub fn denoted(alloc: Global, scopes: &mut Scopes, expr: &TypeExpr) -> Result<DataType, CheckFault>
     ensures typed { IfOk result (λ t. Constants.denoted (env_of scopes.old) (type_of expr.now) ≡ Right (type_in (types_in scopes.new) t)) }
     ensures known { IfOk result (λ t. is_below (length (types_in scopes.new)) t ≡ true) }
     ensures names { OnOk result (env_of scopes.new ≡ env_of scopes.old) }

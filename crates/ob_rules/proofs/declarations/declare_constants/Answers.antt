@@ -22,8 +22,8 @@ loop-declaration-preserved c =
     let next = next_left c.args.constants.now l.declaration-index c.declaration-item.result c.loop-declaration-test.true c.declaration-item.is in
     record {
       left =
-        l.invariant.left ∙ ap (λ xs. constants (map const_decl_of xs) (env_of l.scopes)) next
-        ∙ c.in_ok-declare_constant.ensures.ok (map const_decl_of (drop (l.declaration-index + 1) c.args.constants.now));
+          l.invariant.left ∙ ap (λ xs. constants (map const_decl_of xs) (env_of l.scopes)) next
+          ∙ c.in_ok-declare_constant.ensures.ok (map const_decl_of (drop (l.declaration-index + 1) c.args.constants.now));
       types = c.in_ok-declare_constant.ensures.types ∙ l.invariant.types;
     }
 

@@ -29,7 +29,7 @@ returns-in-None-clause-fault c =
     let next = next_left c.args.names.now l.name-index c.name-item.result c.loop-name-test.true c.name-item.is in
     let same : c.words-words.result ≡ w = c.words-words.ensures ∙ ap (λ es. words (type_in es c.args.data_type)) c.types.ensures in
     let full : nat_le (l.left.taken + w) l.left.limit ≡ false =
-        ap (λ k. nat_le (l.left.taken + k) l.left.limit) (sym same) ∙ room_none _ _ (sym (ap (option_map room_of) c.in-None.is) ∙ c.in_ok-next.ensures.room) in
+    ap (λ k. nat_le (l.left.taken + k) l.left.limit) (sym same) ∙ room_none _ _ (sym (ap (option_map room_of) c.in-None.is) ∙ c.in_ok-next.ensures.room) in
     let beyond = l.invariant.fits ∙ ap (λ xs. first_beyond (room_of l.left) w (map name_of xs)) next ∙ beyond_here (room_of l.left) w name rest full in
     fails_when c.broken.result _ c.broken.ensures _ (ap (λ o. unless_name o PassesLimit) beyond)
 
@@ -47,24 +47,24 @@ loop-name-preserved c =
     let fits : nat_le (l.left.taken + w) l.left.limit ≡ true = ap (λ k. nat_le (l.left.taken + k) l.left.limit) (sym same) ∙ some.0 in
     let left : room_of c.in-Some.next ≡ with_words (room_of l.left) w = some.1 ∙ ap (with_words (room_of l.left)) same in
     let env : env_of c.declare_variable.new.self ≡ declared (env_of l.scopes) name.text (variable_in (env_of l.scopes) l.left.names t) =
-        c.in_ok-declare_variable.ensures.ok
-        ∙ ap (λ text. declared (env_of l.scopes) text (variable_in (env_of l.scopes) l.left.names (type_in (types_in l.scopes) c.args.data_type))) c.deref.ensures
-        ∙ ap (λ es. declared (env_of l.scopes) name.text (variable_in (env_of l.scopes) l.left.names (type_in es c.args.data_type))) l.invariant.table in
+    c.in_ok-declare_variable.ensures.ok
+    ∙ ap (λ text. declared (env_of l.scopes) text (variable_in (env_of l.scopes) l.left.names (type_in (types_in l.scopes) c.args.data_type))) c.deref.ensures
+    ∙ ap (λ es. declared (env_of l.scopes) name.text (variable_in (env_of l.scopes) l.left.names (type_in es c.args.data_type))) l.invariant.table in
     record {
       table = c.in_ok-declare_variable.ensures.types ∙ l.invariant.table;
       fits =
-        l.invariant.fits ∙ ap (λ xs. first_beyond (room_of l.left) w (map name_of xs)) next ∙ beyond_next (room_of l.left) w name rest fits
-        ∙ ap (λ r. first_beyond r w rest) (sym left);
+          l.invariant.fits ∙ ap (λ xs. first_beyond (room_of l.left) w (map name_of xs)) next ∙ beyond_next (room_of l.left) w name rest fits
+          ∙ ap (λ r. first_beyond r w rest) (sym left);
       names =
-        l.invariant.names ∙ ap (λ xs. with_variables (env_of l.scopes) (room_of l.left) t (map name_of xs)) next
-        ∙ ap (λ e. with_variables e (with_words (room_of l.left) w) t rest) (sym env) ∙ ap (λ r. with_variables (env_of c.declare_variable.new.self) r t rest) (sym left);
+          l.invariant.names ∙ ap (λ xs. with_variables (env_of l.scopes) (room_of l.left) t (map name_of xs)) next
+          ∙ ap (λ e. with_variables e (with_words (room_of l.left) w) t rest) (sym env) ∙ ap (λ r. with_variables (env_of c.declare_variable.new.self) r t rest) (sym left);
       room = l.invariant.room ∙ ap (λ xs. room_behind (room_of l.left) t (map name_of xs)) next ∙ ap (λ r. room_behind r t rest) (sym left);
       variables =
-        ap (λ vs. map (variable_of types) vs ++ variables_of t rest) c.in_ok-push.ensures.items
-        ∙ sym (map-push (variable_of types) l.variables.items (record { name = c.in_ok-name.name; data_type = c.args.data_type }) (variables_of t rest))
-        ∙ ap (λ text. map (variable_of types) l.variables.items ++ record { name = text; type = t } ∷ variables_of t rest) c.in_ok-name.ensures.cases
-        ∙ ap (λ xs. map (variable_of types) l.variables.items ++ variables_of t (map name_of xs)) (sym next)
-        ∙ l.invariant.variables;
+          ap (λ vs. map (variable_of types) vs ++ variables_of t rest) c.in_ok-push.ensures.items
+          ∙ sym (map-push (variable_of types) l.variables.items (record { name = c.in_ok-name.name; data_type = c.args.data_type }) (variables_of t rest))
+          ∙ ap (λ text. map (variable_of types) l.variables.items ++ record { name = text; type = t } ∷ variables_of t rest) c.in_ok-name.ensures.cases
+          ∙ ap (λ xs. map (variable_of types) l.variables.items ++ variables_of t (map name_of xs)) (sym next)
+          ∙ l.invariant.variables;
       known = λ h. ap (known_variables (length types)) c.in_ok-push.ensures.items ∙ variable_pushed (length types) l.variables.items _ (l.invariant.known h) c.requires.known;
     }
 

@@ -39,8 +39,8 @@ loop-declaration-preserved c =
     let next = next_left c.args.declarations.now l.declaration-index c.declaration-item.result c.loop-declaration-test.true c.declaration-item.is in
     record {
       left =
-        l.invariant.left ∙ ap (λ xs. and_then (variables (map var_decl_of xs) (env_of l.scopes) (room_of l.left)) behind) next
-        ∙ c.in_ok-left.ensures.typed (map var_decl_of (drop (l.declaration-index + 1) c.args.declarations.now));
+          l.invariant.left ∙ ap (λ xs. and_then (variables (map var_decl_of xs) (env_of l.scopes) (room_of l.left)) behind) next
+          ∙ c.in_ok-left.ensures.typed (map var_decl_of (drop (l.declaration-index + 1) c.args.declarations.now));
       known = c.in_ok-left.ensures.known;
       extends = extends_further _ _ _ l.invariant.extends c.in_ok-left.ensures.extends;
     }

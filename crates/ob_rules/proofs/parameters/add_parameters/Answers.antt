@@ -25,24 +25,24 @@ loop-name-preserved c =
     let next = next_left c.args.names.now l.name-index c.name-item.result c.loop-name-test.true c.name-item.is in
     let count : c.len.result ≡ length l.parameters.items = omega (arith, c.len.ensures) in
     let env : env_of c.declare_variable.new.self ≡ declared (env_of l.scopes) name.text (variable_in (env_of l.scopes) (length l.parameters.items) t) =
-        c.in_ok-declare_variable.ensures.ok
-        ∙ ap (λ text. declared (env_of l.scopes) text (variable_in (env_of l.scopes) c.len.result (type_in (types_in l.scopes) c.args.data_type))) c.deref.ensures
-        ∙ ap (λ k. declared (env_of l.scopes) name.text (variable_in (env_of l.scopes) k (type_in (types_in l.scopes) c.args.data_type))) count
-        ∙ ap (λ es. declared (env_of l.scopes) name.text (variable_in (env_of l.scopes) (length l.parameters.items) (type_in es c.args.data_type))) l.invariant.table in
+    c.in_ok-declare_variable.ensures.ok
+    ∙ ap (λ text. declared (env_of l.scopes) text (variable_in (env_of l.scopes) c.len.result (type_in (types_in l.scopes) c.args.data_type))) c.deref.ensures
+    ∙ ap (λ k. declared (env_of l.scopes) name.text (variable_in (env_of l.scopes) k (type_in (types_in l.scopes) c.args.data_type))) count
+    ∙ ap (λ es. declared (env_of l.scopes) name.text (variable_in (env_of l.scopes) (length l.parameters.items) (type_in es c.args.data_type))) l.invariant.table in
     let longer : suc (length l.parameters.items) ≡ length c.push.new.self.items =
-        omega (arith, ap length c.in_ok-push.ensures.items, length-append l.parameters.items (record { name = c.in_ok-name.name; is_var = c.args.is_var; data_type = c.args.data_type } ∷ [])) in
+    omega (arith, ap length c.in_ok-push.ensures.items, length-append l.parameters.items (record { name = c.in_ok-name.name; is_var = c.args.is_var; data_type = c.args.data_type } ∷ [])) in
     record {
       table = c.in_ok-declare_variable.ensures.types ∙ l.invariant.table;
       names =
-        l.invariant.names ∙ ap (λ xs. with_parameters (env_of l.scopes) (length l.parameters.items) t (map name_of xs)) next
-        ∙ ap (λ e. with_parameters e (suc (length l.parameters.items)) t rest) (sym env)
-        ∙ ap (λ k. with_parameters (env_of c.declare_variable.new.self) k t rest) longer;
+          l.invariant.names ∙ ap (λ xs. with_parameters (env_of l.scopes) (length l.parameters.items) t (map name_of xs)) next
+          ∙ ap (λ e. with_parameters e (suc (length l.parameters.items)) t rest) (sym env)
+          ∙ ap (λ k. with_parameters (env_of c.declare_variable.new.self) k t rest) longer;
       parameters =
-        ap (λ ps. map (parameter_of types) ps ++ parameters_of c.args.is_var t rest) c.in_ok-push.ensures.items
-        ∙ sym (map-push (parameter_of types) l.parameters.items (record { name = c.in_ok-name.name; is_var = c.args.is_var; data_type = c.args.data_type }) (parameters_of c.args.is_var t rest))
-        ∙ ap (λ text. map (parameter_of types) l.parameters.items ++ record { name = text; is_var = c.args.is_var; type = t } ∷ parameters_of c.args.is_var t rest) c.in_ok-name.ensures.cases
-        ∙ ap (λ xs. map (parameter_of types) l.parameters.items ++ parameters_of c.args.is_var t (map name_of xs)) (sym next)
-        ∙ l.invariant.parameters;
+          ap (λ ps. map (parameter_of types) ps ++ parameters_of c.args.is_var t rest) c.in_ok-push.ensures.items
+          ∙ sym (map-push (parameter_of types) l.parameters.items (record { name = c.in_ok-name.name; is_var = c.args.is_var; data_type = c.args.data_type }) (parameters_of c.args.is_var t rest))
+          ∙ ap (λ text. map (parameter_of types) l.parameters.items ++ record { name = text; is_var = c.args.is_var; type = t } ∷ parameters_of c.args.is_var t rest) c.in_ok-name.ensures.cases
+          ∙ ap (λ xs. map (parameter_of types) l.parameters.items ++ parameters_of c.args.is_var t (map name_of xs)) (sym next)
+          ∙ l.invariant.parameters;
       known = λ h. ap (known_parameters (length types)) c.in_ok-push.ensures.items ∙ parameter_pushed (length types) l.parameters.items _ (l.invariant.known h) c.requires.known;
     }
 

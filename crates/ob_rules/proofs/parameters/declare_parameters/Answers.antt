@@ -41,8 +41,8 @@ loop-section-preserved c =
     let next = next_left c.args.sections.now l.section-index c.section-item.result c.loop-section-test.true c.section-item.is in
     record {
       left =
-        l.invariant.left ∙ ap (λ xs. and_then (parameters (map section_of xs) (env_of l.scopes) (length l.parameters.items)) behind) next
-        ∙ c.in_ok-declare_section.ensures.ok (map section_of (drop (l.section-index + 1) c.args.sections.now));
+          l.invariant.left ∙ ap (λ xs. and_then (parameters (map section_of xs) (env_of l.scopes) (length l.parameters.items)) behind) next
+          ∙ c.in_ok-declare_section.ensures.ok (map section_of (drop (l.section-index + 1) c.args.sections.now));
       known = c.in_ok-declare_section.ensures.known;
       extends = extends_further _ _ _ l.invariant.extends c.in_ok-declare_section.ensures.extends;
     }

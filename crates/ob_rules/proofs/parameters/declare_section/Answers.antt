@@ -27,15 +27,15 @@ returns-clause-ok c =
     let read = c.deref-2.ensures.value in
     let count : c.len.result ≡ length ps = omega (arith, c.len.ensures) in
     let new : parameter_broken (is_declared env) (most_parameters - length ps) x.names ≡ None =
-        ap (λ k. parameter_broken (is_declared env) (most_parameters - k) x.names) (sym count)
-        ∙ ap (λ ns. parameter_broken (is_declared env) (most_parameters - c.len.result) (map name_of ns)) (sym c.deref.ensures.value) ∙ c.in_ok-test_names.ensures.ok in
+    ap (λ k. parameter_broken (is_declared env) (most_parameters - k) x.names) (sym count)
+    ∙ ap (λ ns. parameter_broken (is_declared env) (most_parameters - c.len.result) (map name_of ns)) (sym c.deref.ensures.value) ∙ c.in_ok-test_names.ensures.ok in
     let name : is_name x.of_type ≡ true = ap (λ e. is_name (type_of e)) c.in-Named.is in
     let simple : (x.is_var || is_simple t) ≡ true = search rules in
     let grown : map (parameter_of mid) qs ≡ map (parameter_of mid) ps ++ parameters_of x.is_var t x.names =
-        c.in_ok-add_parameters.ensures.parameters ∙ ap (λ ns. map (parameter_of mid) ps ++ parameters_of x.is_var t (map name_of ns)) read in
+    c.in_ok-add_parameters.ensures.parameters ∙ ap (λ ns. map (parameter_of mid) ps ++ parameters_of x.is_var t (map name_of ns)) read in
     let is : after ≡ with_parameters env (length ps) t x.names =
-        c.in_ok-add_parameters.ensures.names ∙ ap (λ ns. with_parameters (env_of c.denoted.new.scopes) (length ps) t (map name_of ns)) read
-        ∙ ap (λ e. with_parameters e (length ps) t x.names) c.in_ok-data_type.ensures.names in
+    c.in_ok-add_parameters.ensures.names ∙ ap (λ ns. with_parameters (env_of c.denoted.new.scopes) (length ps) t (map name_of ns)) read
+    ∙ ap (λ e. with_parameters e (length ps) t x.names) c.in_ok-data_type.ensures.names in
     λ rest.
     section_step env (length ps) x rest t new c.in_ok-data_type.ensures.typed name simple old mid c.in_ok-data_type.ensures.extends ps qs c.requires.known grown after is
     (length qs) (counted (parameter_of mid) (λ n. record { name = n.text; is_var = x.is_var; type = t }) ps qs x.names grown)

@@ -23,7 +23,7 @@ returns-in-Some-get-clause-fault c =
     let taken = is_declared (env_of c.args.scopes.now) in
     let found = sym (ap (option_map (λ n. name_of n.now)) c.in_default.is) ∙ c.in_ok-name.ensures.second in
     let next : slice_get c.args.names.now c.saturating_sub-left.result ≡ Some c.in-Some-get.name.now =
-        slice_get_read c.args.names.now (length c.args.names.now) c.saturating_sub-left.result c.in-Some-get.name.now refl c.in-Some-get.ensures.lookup.3.0 c.in-Some-get.ensures.lookup.1 in
+    slice_get_read c.args.names.now (length c.args.names.now) c.saturating_sub-left.result c.in-Some-get.name.now refl c.in-Some-get.ensures.lookup.3.0 c.in-Some-get.ensures.lookup.1 in
     let broken = names_tested taken c.args.names.now c.saturating_sub-left.result c.min-tested.result c.min-tested.ensures None found in
     let left = ap (λ n. parameter_broken taken n (map name_of c.args.names.now)) (sym c.saturating_sub-left.ensures) in
     fails_when c.broken-in-Some-get.result _ c.broken-in-Some-get.ensures _ (ap unless_broken (left ∙ broken ∙ ap (λ o. first_bad None (option_map name_of o)) next))
@@ -33,7 +33,7 @@ returns-in-None-clause-ok c =
     let taken = is_declared (env_of c.args.scopes.now) in
     let found = sym (ap (option_map (λ n. name_of n.now)) c.in_default.is) ∙ c.in_ok-name.ensures.second in
     let next : slice_get c.args.names.now c.saturating_sub-left.result ≡ None =
-        got_past c.args.names.now c.saturating_sub-left.result c.in-None.ensures.lookup.3 in
+    got_past c.args.names.now c.saturating_sub-left.result c.in-None.ensures.lookup.3 in
     ap (λ n. parameter_broken taken n (map name_of c.args.names.now)) (sym c.saturating_sub-left.ensures)
     ∙ names_tested taken c.args.names.now c.saturating_sub-left.result c.min-tested.result c.min-tested.ensures None found
     ∙ ap (λ o. first_bad None (option_map name_of o)) next

@@ -20,10 +20,10 @@ returns-then-contains_key-clause-second g c =
     let name = name_of c.name-item.result in
     let next = next_left c.args.names.now l.name-index c.name-item.result c.loop-name-test.true c.name-item.is in
     let taken : or_taken (taken_in l.before) (taken_in c.args.taken.now) name.text ≡ true =
-        elim c.then-contains_key.branch [
-          then-contains_key-via-then-contains_key w ↦ either (taken_in l.before name.text) (taken_in c.args.taken.now name.text) (sym c.contains_key.ensures ∙ w.if-contains_key.true)
-        | then-contains_key-via-else-contains_key+then-contains_key-2 w ↦ ap (λ b. b || taken_in c.args.taken.now name.text) (sym w.contains_key-else-contains_key.ensures ∙ w.if-contains_key-2.true)
-        ] in
+    elim c.then-contains_key.branch [
+      | then-contains_key-via-then-contains_key w ↦ either (taken_in l.before name.text) (taken_in c.args.taken.now name.text) (sym c.contains_key.ensures ∙ w.if-contains_key.true)
+      | then-contains_key-via-else-contains_key+then-contains_key-2 w ↦ ap (λ b. b || taken_in c.args.taken.now name.text) (sym w.contains_key-else-contains_key.ensures ∙ w.if-contains_key-2.true)
+    ] in
     sym (l.invariant ∙ ap (λ xs. second (or_taken (taken_in l.before) (taken_in c.args.taken.now)) (map name_of xs)) next
     ∙ second_here (or_taken (taken_in l.before) (taken_in c.args.taken.now)) name (map name_of (drop (l.name-index + 1) c.args.names.now)) taken)
 
@@ -35,9 +35,9 @@ loop-name-preserved g c =
     let rest = map name_of (drop (l.name-index + 1) c.args.names.now) in
     let next = next_left c.args.names.now l.name-index c.name-item.result c.loop-name-test.true c.name-item.is in
     let new : or_taken (taken_in l.before) taken name.text ≡ false =
-        not_either (taken name.text) (taken_in l.before name.text) (sym c.contains_key.ensures ∙ c.if-contains_key.false) (sym c.contains_key-else-contains_key.ensures ∙ c.if-contains_key-2.false) in
+    not_either (taken name.text) (taken_in l.before name.text) (sym c.contains_key.ensures ∙ c.if-contains_key.false) (sym c.contains_key-else-contains_key.ensures ∙ c.if-contains_key-2.false) in
     let more : taken_in c.insert.new.self ≡ and_taken (taken_in l.before) name.text =
-        taken_in-updated l.before c.insert.new.self _ name.text _ c.in_ok-text.ensures.cases c.in_ok-insert.ensures.updates in
+    taken_in-updated l.before c.insert.new.self _ name.text _ c.in_ok-text.ensures.cases c.in_ok-insert.ensures.updates in
     l.invariant ∙ ap (λ xs. second (or_taken (taken_in l.before) taken) (map name_of xs)) next
     ∙ second_behind (or_taken (taken_in l.before) taken) name rest new
     ∙ ap (λ t. second t rest) (sym (and_or_taken (taken_in l.before) taken name.text))

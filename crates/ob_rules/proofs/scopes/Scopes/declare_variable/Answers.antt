@@ -16,11 +16,11 @@ returns-clause-ok c =
     let outer = env_behind types s.around.items [] in
     let t = type_in types c.args.data_type in
     let is : object_of types c.if-level-eq-MODULE_LEVEL.variable ≡ variable_in (env_of s) c.args.position t =
-        elim c.if-level-eq-MODULE_LEVEL.branch [
-          then-level-eq-MODULE_LEVEL w ↦
-            let one : length outer ≡ 1 = omega (arith, w.if-level-eq-MODULE_LEVEL.true, c.level-level.ensures) in
-            ap (object_of types) w.variable-is ∙ of_module own outer c.args.position t one
-        | else-level-eq-MODULE_LEVEL w ↦
-            ap (object_of types) w.variable-is ∙ of_procedure own outer c.args.position t c.level-level.result c.level-level.ensures w.if-level-eq-MODULE_LEVEL.false
-        ] in
+    elim c.if-level-eq-MODULE_LEVEL.branch [
+      | then-level-eq-MODULE_LEVEL w ↦
+          let one : length outer ≡ 1 = omega (arith, w.if-level-eq-MODULE_LEVEL.true, c.level-level.ensures) in
+          ap (object_of types) w.variable-is ∙ of_module own outer c.args.position t one
+      | else-level-eq-MODULE_LEVEL w ↦
+          ap (object_of types) w.variable-is ∙ of_procedure own outer c.args.position t c.level-level.result c.level-level.ensures w.if-level-eq-MODULE_LEVEL.false
+    ] in
     on_ok_weaker c.add.result (λ h. ap (λ (x : Scope). x ∷ outer) (h types ∙ ap (with_name own c.args.name.now) is)) c.add.ensures.ok

@@ -9,9 +9,11 @@ use Rattle.ob_rules.proofs.scopes.Scopes.enter.Goals as goal
 pub invariant_of-self : goal.invariant_of-self
 invariant_of-self c =
     let s = c.args.self.now in
-    record { known =
-      entered (length (types_in s)) s.own c.args.scope s.around.items s.known c.requires.known (is_ok c.push.result) _ c.replace-outer.result _
-      c.replace-outer.ensures.value c.replace-outer.ensures.after c.push.ensures.items }
+    record {
+      known =
+          entered (length (types_in s)) s.own c.args.scope s.around.items s.known c.requires.known (is_ok c.push.result) _ c.replace-outer.result _
+          c.replace-outer.ensures.value c.replace-outer.ensures.after c.push.ensures.items;
+    }
 
 pub returns-clause-ok : goal.returns-clause-ok
 returns-clause-ok c =

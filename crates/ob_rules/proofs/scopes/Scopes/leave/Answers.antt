@@ -12,7 +12,7 @@ invariant_of-self c =
     let n = length (types_in s) in
     let last : (c.len.result - 1) + 1 ≡ length s.around.items = omega (arith, c.len.ensures, c.requires.within, length_around (types_in s) s.around.items []) in
     let all : s.around.items ≡ c.remove-outer.new.self.items ++ c.remove-outer.result ∷ [] =
-        last_removed s.around.items (c.len.result - 1) c.remove-outer.result last c.remove-outer.ensures.value ∙ ap (λ xs. xs ++ c.remove-outer.result ∷ []) (sym c.remove-outer.ensures.items) in
+    last_removed s.around.items (c.len.result - 1) c.remove-outer.result last c.remove-outer.ensures.value ∙ ap (λ xs. xs ++ c.remove-outer.result ∷ []) (sym c.remove-outer.ensures.items) in
     let known = left n s.own c.remove-outer.result c.remove-outer.new.self.items (ap (λ ss. known_names n s.own.entries && known_scopes n ss) (sym all) ∙ s.known) in
     record { known = ap (λ x. known_names n x.entries && known_scopes n c.remove-outer.new.self.items) c.replace.ensures.after ∙ known }
 
@@ -22,7 +22,7 @@ returns-clause-scope c =
     let types = types_in s in
     let last : (c.len.result - 1) + 1 ≡ length s.around.items = omega (arith, c.len.ensures, c.requires.within, length_around types s.around.items []) in
     let all : s.around.items ≡ c.remove-outer.new.self.items ++ c.remove-outer.result ∷ [] =
-        last_removed s.around.items (c.len.result - 1) c.remove-outer.result last c.remove-outer.ensures.value ∙ ap (λ xs. xs ++ c.remove-outer.result ∷ []) (sym c.remove-outer.ensures.items) in
+    last_removed s.around.items (c.len.result - 1) c.remove-outer.result last c.remove-outer.ensures.value ∙ ap (λ xs. xs ++ c.remove-outer.result ∷ []) (sym c.remove-outer.ensures.items) in
     ap (λ x. scope_of types x ∷ env_behind types s.around.items []) (sym c.replace.ensures.value)
     ∙ ap (λ ss. scope_of types c.replace.result ∷ env_behind types ss []) all
     ∙ ap (λ env. scope_of types c.replace.result ∷ env) (env_behind-push types c.remove-outer.new.self.items c.remove-outer.result [])
