@@ -3,11 +3,16 @@ pub mod Exprs
 pub mod Fields
 pub mod Chains
 pub mod Looked
+pub mod Kept
+pub mod Seconds
 pub mod Entries
 pub mod Tails
 pub mod Rows
 pub mod Walks
 pub mod Declared
+pub mod TypeSteps
+pub mod DeclarationSteps
+pub mod ParameterSteps
 pub mod Designated
 pub mod SameTypes
 pub mod Bodies
