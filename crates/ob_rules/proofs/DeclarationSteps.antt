@@ -14,7 +14,7 @@ use Rattle.ob_typing.proofs.Verdict.{Verdict, Right, Wrong, ◌>>=◌, unless_na
 use Rattle.ob_typing.proofs.CheckedTypes.{denoted}
 use Rattle.ob_typing.proofs.CheckedModules.{WithVariables, types, variables}
 use Rattle.ob_checked.specs.declared.program.Variable.{Variable}
-use Rattle.ob_checked.specs.Types.{Entry, type_in, is_below, Extends}
+use Rattle.ob_checked.specs.Types.{Entry, is_below, Extends}
 use Rattle.ob_checked.specs.View.{variable_of}
 use Rattle.ob_rules.specs.Checking.{and_then}
 use Rattle.ob_rules.specs.CheckingVariables.{known_variables, behind_variables}

@@ -1,7 +1,7 @@
 -- What names stand for stays, where the table of types grows.
-use Rattle.std.proofs.Common.{◌≡◌, ℕ, ◌≤◌, ◌<◌, arith, Bool, true, false, List, [], ◌∷◌, length, get_or, Option, Some, None, option_map, String, refl, sym, ap, ◌∙◌, zero, suc, ◌+◌, ◌-◌, ◌++◌, map}
+use Rattle.std.proofs.Common.{◌≡◌, ℕ, ◌≤◌, ◌<◌, arith, Bool, true, false, List, [], ◌∷◌, length, get_or, Some, option_map, String, refl, sym, ap, ◌∙◌, zero, suc, ◌+◌, ◌-◌, ◌++◌, map}
 use Rattle.std.specs.List.{remove}
-use Rattle.std.specs.Prelude.{◌&&◌, bytes_eq, string_bytes, if◌then◌else◌, nat_lt}
+use Rattle.std.specs.Prelude.{◌&&◌, bytes_eq, string_bytes, if◌then◌else◌}
 use Rattle.std.specs.declared.alloc.Global.{Global}
 use Rattle.std.specs.Map.{lookup}
 use Rattle.std.proofs.lemmas.Bool.{ltb-true, lt-ltb}
@@ -12,7 +12,7 @@ use Rattle.ob_typing.specs.Scopes.{Environment}
 use Rattle.ob_checked.specs.declared.types.DataType.{DataType}
 use Rattle.ob_checked.specs.declared.types.DataType.TheVariants.{Simple, Structured}
 use Rattle.ob_checked.specs.declared.program.Parameter.{Parameter}
-use Rattle.ob_checked.specs.Types.{Entry, type_in, is_below, all_below, Extends}
+use Rattle.ob_checked.specs.Types.{Entry, is_below, all_below, Extends}
 use Rattle.ob_checked.specs.View.{parameter_of}
 use Rattle.ob_rules.specs.declared.scopes.Object.{Object}
 use Rattle.ob_rules.specs.declared.scopes.Object.TheVariants.{Constant, TypeName, ModuleVariable, LocalVariable, Procedure}

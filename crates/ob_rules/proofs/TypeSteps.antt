@@ -1,6 +1,6 @@
 -- The verdict on a type of the program, step by step.
-use Rattle.std.proofs.Common.{◌≡◌, ℕ, Bool, true, false, List, [], ◌∷◌, ◌++◌, length, Option, Some, None, refl, sym, ap, ◌∙◌, Box, Vec, String}
-use Rattle.std.specs.Prelude.{◌&&◌, if◌then◌else◌, string_bytes}
+use Rattle.std.proofs.Common.{◌≡◌, ℕ, Bool, true, false, List, [], ◌∷◌, ◌++◌, length, Some, None, refl, sym, ap, ◌∙◌, Box, Vec, String}
+use Rattle.std.specs.Prelude.{if◌then◌else◌, string_bytes}
 use Rattle.std.specs.declared.alloc.Global.{Global}
 use Rattle.ob_grammar.specs.declared.tree.Expr.{Expr}
 use Rattle.ob_grammar.specs.declared.tree.FieldList.{FieldList}
@@ -26,7 +26,7 @@ use Rattle.ob_checked.specs.declared.types.DataType as Numbers
 use Rattle.ob_checked.specs.Types.{Entry, type_in, type_by, types_of, is_below, all_below, fields_by, if_small, Extends}
 use Rattle.ob_rules.specs.Checking.{and_then}
 use Rattle.ob_rules.specs.CheckingTypes.{length_at, small_at, list_before, fields_before, behind_fields}
-use Rattle.ob_rules.proofs.Steps.{bind_assoc, bind_same, goes_on}
+use Rattle.ob_rules.proofs.Steps.{bind_assoc, bind_same}
 use Rattle.ob_rules.proofs.Kept.{and_both, and_left, and_right}
 
 module _ (env : Environment) (e : TypeExpr) where

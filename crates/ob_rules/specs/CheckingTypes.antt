@@ -1,5 +1,5 @@
 -- What the parts of a type come to, and what is left to test where parts are right.
-use Rattle.std.specs.Prelude.{ℕ, ℤ, List, [], ◌∷◌, map, String, string_bytes}
+use Rattle.std.specs.Prelude.{ℕ, List, [], ◌∷◌, map, String, string_bytes}
 use Rattle.std.specs.declared.alloc.Global.{Global}
 use Rattle.ob_grammar.specs.declared.tree.FieldList.{FieldList}
 use Rattle.ob_grammar.specs.declared.tree.FieldList.TheVariants.{Empty, Fields}

@@ -1,5 +1,5 @@
-use Rattle.std.proofs.Common.{rules, ◌≡◌, ◌+◌, ◌-◌, ◌++◌, arith, length, map, true, None, sym, ap, ◌∙◌}
-use Rattle.std.specs.Prelude.{◌||◌, string_bytes}
+use Rattle.std.proofs.Common.{rules, ◌≡◌, ◌-◌, ◌++◌, arith, length, map, true, None, sym, ap, ◌∙◌}
+use Rattle.std.specs.Prelude.{◌||◌}
 use Rattle.ob_grammar.specs.View.{name_of, type_of, section_of}
 use Rattle.ob_typing.specs.Scopes.{is_declared, is_simple}
 use Rattle.ob_typing.specs.Declarations.{parameter_broken, most_parameters, with_parameters, parameters_of, is_name}

@@ -1,4 +1,4 @@
-use Rattle.std.proofs.Common.{refl, ◌≡◌, ◌-◌, length, Some, None, map, option_map, sym, ap, ◌∙◌}
+use Rattle.std.proofs.Common.{refl, ◌≡◌, length, Some, None, map, option_map, sym, ap, ◌∙◌}
 use Rattle.std.specs.Prelude.{slice_get}
 use Rattle.std.proofs.lemmas.Option.{slice_get_read}
 use Rattle.ob_grammar.specs.View.{name_of}

@@ -1,4 +1,4 @@
-use Rattle.std.proofs.Common.{◌+◌, ◌≡◌, map, drop, true, false, arith, sym, ap, ◌∙◌, ◌∷◌, is_some}
+use Rattle.std.proofs.Common.{◌+◌, ◌≡◌, map, drop, true, false, arith, sym, ap, ◌∙◌}
 use Rattle.std.specs.Prelude.{◌||◌}
 use Rattle.std.proofs.lemmas.List.{at_drop_all}
 use Rattle.ob_grammar.specs.View.{name_of}

@@ -1,4 +1,4 @@
-use Rattle.std.proofs.Common.{◌≡◌, ◌+◌, ℕ, map, drop, sym, ap, ◌∙◌, []}
+use Rattle.std.proofs.Common.{◌≡◌, ◌+◌, map, drop, sym, ap, ◌∙◌}
 use Rattle.ob_grammar.specs.View.{name_of}
 use Rattle.ob_typing.specs.Program.{field}
 use Rattle.ob_typing.specs.Types.{second, and_taken, and_all_taken, with_fields}

@@ -1,5 +1,4 @@
 use Rattle.std.proofs.Common.{[], ◌∷◌, ◌++◌, length, is_ok, ap, ◌∙◌}
-use Rattle.ob_typing.specs.Scopes.{Scope}
 use Rattle.ob_rules.specs.Objects.{scope_of, env_behind}
 use Rattle.ob_rules.specs.Names.{types_in}
 use Rattle.ob_rules.proofs.Kept.{entered}
