@@ -1,17 +1,18 @@
 -- The types of a table: a number keeps its type, and stands for what its entry says.
-use Rattle.std.proofs.Common.{◌≡◌, ℕ, zero, suc, ◌+◌, ◌<◌, ◌≤◌, Bool, true, false, List, [], ◌∷◌, ◌++◌, length, Some, get_or, refl, ap, sym, subst, ◌∙◌, arith, String, ltb-true}
-use Rattle.std.specs.Prelude.{◌&&◌, slice_get, string_bytes}
+use Rattle.std.proofs.lemmas.Bool.{le-leb}
+use Rattle.std.proofs.Common.{◌≡◌, ℕ, zero, suc, ◌+◌, ◌<◌, ◌≤◌, Bool, true, false, List, [], ◌∷◌, ◌++◌, length, Some, get_or, refl, ap, sym, subst, ◌∙◌, arith, String, ltb-true, ◌⊎◌, inl, inr, ⊎_elim}
+use Rattle.std.specs.Prelude.{◌&&◌, if◌then◌else◌, slice_get, string_bytes}
 use Rattle.std.specs.declared.alloc.Global.{Global}
 use Rattle.std.proofs.lemmas.Option.{slice_get_read}
 use Rattle.std.proofs.lemmas.List.{get_or_append_left, get_or_push, get_or_past, length-append}
 use Rattle.ob_typing.specs.declared.scalar.ScalarType.TheVariants.{Integer}
 use Rattle.ob_typing.specs.Program
-use Rattle.ob_typing.specs.Scopes.{words, depth}
+use Rattle.ob_typing.specs.Scopes.{words, depth, is_small}
 use Rattle.ob_checked.specs.declared.types.DataType.{DataType}
 use Rattle.ob_checked.specs.declared.types.DataType.TheVariants.{Simple, Structured}
 use Rattle.ob_checked.specs.declared.types.Structure.{Structure}
 use Rattle.ob_checked.specs.declared.types.Structure.TheVariants.{Array, Record}
-use Rattle.ob_checked.specs.Types.{Entry, type_by, fields_by, structure_by, entry_by, types_behind, types_of, type_in, is_below, all_below, is_within, IsTable}
+use Rattle.ob_checked.specs.Types.{Entry, type_by, fields_by, structure_by, entry_by, types_behind, types_of, type_in, is_below, all_below, is_within, IsEntry, IsTable, Extends}
 
 abbrev pub none : Program.DataType
 none = Program.Simple Integer
@@ -123,3 +124,87 @@ module _ (es xs : List Entry) (table : IsTable es) (t : DataType) (n : ℕ) (is 
   module _ (beyond : length xs ≤ n) where
     pub no_entry_type : type_in es t ≡ none
     no_entry_type = ap (type_in es) is ∙ type_past es n (subst (λ ys. length ys ≤ n) read beyond)
+
+-- one more entry
+
+types_behind-push : (ts : List Program.DataType) (es : List Entry) (e : Entry) →
+    types_behind ts (es ++ e ∷ []) ≡ types_behind ts es ++ entry_by (types_behind ts es) e ∷ []
+types_behind-push ts [] e = refl
+types_behind-push ts (d ∷ es) e = types_behind-push (ts ++ entry_by ts d ∷ []) es e
+
+pub types_of-push : (es : List Entry) (e : Entry) → types_of (es ++ e ∷ []) ≡ types_of es ++ entry_by (types_of es) e ∷ []
+types_of-push es e = types_behind-push [] es e
+
+-- the numbers of a table keep their types
+pub same_pushed : (es : List Entry) (e : Entry) → SameBelow (length es) (types_of es) (types_of (es ++ e ∷ []))
+same_pushed es e k h =
+    let more : k < length (types_of es) = omega (arith, length_of_types es, h) in
+    sym (ap (λ ts. get_or ts k none) (types_of-push es e) ∙ get_or_append_left (types_of es) (entry_by (types_of es) e ∷ []) none k more)
+
+entry_kept : (ts us : List Program.DataType) (n : ℕ) (e : Entry) → SameBelow n ts us → IsEntry ts n e → IsEntry us n e
+entry_kept ts us n e same h =
+    let is = same_structure_by n ts us same e.place e.structure h.within in
+    record {
+      within = h.within;
+      words = h.words ∙ ap words is;
+      depth = h.depth ∙ ap depth is;
+      small = ap is_small (sym is) ∙ h.small;
+    }
+
+pub table_pushed : (es : List Entry) (e : Entry) → IsTable es → IsEntry (types_of es) (length es) e → IsTable (es ++ e ∷ [])
+table_pushed es e table new = record { entry = λ n d at. by n d at (pushed_at es e n d at) }
+  where
+    pushed_at : (xs : List Entry) (x : Entry) (n : ℕ) (d : Entry) → slice_get (xs ++ x ∷ []) n ≡ Some d →
+        ((n < length xs) × (slice_get xs n ≡ Some d)) ⊎ ((n ≡ length xs) × (x ≡ d))
+    pushed_at [] x zero d at = inr (refl, cc)
+    pushed_at [] x (suc n) d at = absurd cc
+    pushed_at (y ∷ xs) x zero d at = inl (omega arith, at)
+    pushed_at (y ∷ xs) x (suc n) d at =
+        ⊎_elim (λ h. inl (let l : n < length xs = h.0 in let m : suc n < suc (length xs) = omega arith in m, h.1)) (λ h. inr (ap suc h.0, h.1)) (pushed_at xs x n d at)
+
+    below : (k n m : ℕ) → k < n → n < m → k < m
+    below k n m h l = omega arith
+
+    by : (n : ℕ) (d : Entry) → slice_get (es ++ e ∷ []) n ≡ Some d →
+        ((n < length es) × (slice_get es n ≡ Some d)) ⊎ ((n ≡ length es) × (e ≡ d)) → IsEntry (types_of (es ++ e ∷ [])) n d
+    by n d at (inl h) = entry_kept (types_of es) (types_of (es ++ e ∷ [])) n d (λ k l. same_pushed es e k (below k n (length es) l h.0)) (table.entry n d h.1)
+    by n d at (inr h) =
+        let here : IsEntry (types_of (es ++ e ∷ [])) (length es) e = entry_kept (types_of es) (types_of (es ++ e ∷ [])) (length es) e (same_pushed es e) new in
+        let P : ℕ → Type 0 = λ m. IsEntry (types_of (es ++ e ∷ [])) m d in
+        let Q : Entry → Type 0 = λ x. IsEntry (types_of (es ++ e ∷ [])) (length es) x in
+        subst P (sym h.0) (subst Q h.1 here)
+
+-- a type of so many words, in which parts are so deep, keeps the limits
+pub small_within : (t : Program.DataType) (w d : ℕ) → w ≡ words t → d + 1 ≡ depth t → w ≤ 4096 → d < 100 → is_small t ≡ true
+small_within t w d is at few shallow =
+    let few' : words t ≤ 4096 = omega (arith, is, few) in
+    let shallow' : depth t ≤ 100 = omega (arith, at, shallow) in
+    rw (le-leb (words t) 4096 few') (rw (le-leb (depth t) 100 shallow') refl)
+
+-- an array or a record of so many words, in which parts are so deep, as an entry behind others
+module _ (es : List Entry) (place : ℕ) (structure : Structure) (w d : ℕ) where
+  abbrev pub entry_with : Entry
+  entry_with = record { place = place; structure = structure; words = w; depth = d + 1 }
+
+  pub new_entry : is_within (length es) structure ≡ true → w ≡ words (structure_by (types_of es) place structure) →
+      d + 1 ≡ depth (structure_by (types_of es) place structure) → w ≤ 4096 → d < 100 → IsEntry (types_of es) (length es) entry_with
+  new_entry within is at few shallow =
+      record { within = within; words = is; depth = at; small = small_within (structure_by (types_of es) place structure) w d is at few shallow }
+
+-- what a type added to a table leaves, and what its number stands for
+module _ (es : List Entry) (e : Entry) (table : IsTable es) (new : IsEntry (types_of es) (length es) e) where
+  pub table_if : (b : Bool) (ys : List Entry) → ys ≡ (if b then es ++ e ∷ [] else es) → IsTable ys
+  table_if true ys is = subst IsTable (sym is) (table_pushed es e table new)
+  table_if false ys is = subst IsTable (sym is) table
+
+  module _ (ys : List Entry) (is : ys ≡ es ++ e ∷ []) where
+    pub number_given : (n : ℕ) → n ≡ length es → get_or (types_of ys) n none ≡ entry_by (types_of es) e
+    number_given n at =
+        ap (λ zs. get_or (types_of zs) n none) is ∙ ap (λ ts. get_or ts n none) (types_of-push es e)
+        ∙ get_or_push (types_of es) (entry_by (types_of es) e) none n (length_of_types es ∙ sym at)
+
+    pub extends : Extends es ys
+    extends = record {
+      longer = omega (arith, ap length is, length-append es (e ∷ []));
+      same = λ t b. ap (λ zs. type_in zs t) is ∙ sym (same_type_by (length es) (types_of es) (types_of (es ++ e ∷ [])) (same_pushed es e) t b);
+    }

@@ -1,5 +1,5 @@
 -- The types that the numbers of a table stand for.
-use Rattle.std.specs.Prelude.{◌≡◌, ℕ, ◌<◌, List, [], ◌∷◌, ◌++◌, length, true, ◌&&◌, nat_lt, Option, Some, slice_get, get_or, string_bytes, String}
+use Rattle.std.specs.Prelude.{◌≡◌, ℕ, ◌≤◌, List, [], ◌∷◌, ◌++◌, length, true, ◌&&◌, nat_lt, if◌then◌else◌, Option, Some, None, slice_get, get_or, string_bytes, String}
 use Rattle.std.specs.Prelude as Prelude
 use Rattle.std.specs.declared.alloc.Global.{Global}
 use Rattle.ob_typing.specs.declared.scalar.ScalarType.TheVariants.{Integer}
@@ -65,3 +65,12 @@ pub record IsEntry (ts : List Program.DataType) (n : ℕ) (e : Entry) : Type 0 w
 
 pub record IsTable (es : List Entry) : Type 0 where
   pub entry : (n : ℕ) (e : Entry) → slice_get es n ≡ Some e → IsEntry (types_of es) n e
+
+-- a table that went on: the types of the old one keep their meaning
+pub record Extends (old new : List Entry) : Type 0 where
+  pub longer : length old ≤ length new
+  pub same : (t : DataType) → is_below (length old) t ≡ true → type_in new t ≡ type_in old t
+
+-- the type, where it keeps the limits
+abbrev pub if_small : Program.DataType → Option Program.DataType
+if_small t = if is_small t then Some t else None

@@ -6,7 +6,13 @@ ghost use Rattle.ob_checked.specs.Types.{IsTable};
 
 use indexmap::IndexMap;
 use ob_typing::scalar::ScalarType;
-use std::alloc::Global;
+use std::alloc::{AllocFailed, Global};
+
+/// The most words of a type.
+const MOST_WORDS: usize = 4096;
+
+/// How deep arrays and records may stand within each other.
+const DEEPEST: usize = 100;
 
 /// A type: a scalar's, or the number of an array or a record in the table.
 #[derive(Clone, Copy, Debug, PartialEq, Eq)]
@@ -41,9 +47,12 @@ pub struct Types {
 }
 
 impl Types {
-    ghost use Rattle.std.specs.Prelude.{◌≡◌, [], slice_get, option_copied};
-    ghost use Rattle.ob_typing.specs.Scopes.{words, depth};
-    ghost use Rattle.ob_checked.specs.Types.{type_in, IsTable};
+    ghost use Rattle.std.specs.Prelude.{◌≡◌, ◌<◌, ◌+◌, true, [], length, slice_get, option_copied, option_map, IfOk, OnErr, IfSome, IfNone};
+    ghost use Rattle.std.specs.Prelude as Lists;
+    ghost use Rattle.ob_typing.specs.Program as Programs;
+    ghost use Rattle.ob_typing.specs.Scopes as Declared;
+    ghost use Rattle.ob_typing.specs.Scopes.{words, depth, words_of_fields, depth_of_fields};
+    ghost use Rattle.ob_checked.specs.Types.{type_in, types_of, fields_by, structure_by, is_below, all_below, is_within, if_small, Extends, IsTable};
     ghost use Rattle.ob_checked.specs.View.{table_of};
 
     /// The table without types.
@@ -87,5 +96,97 @@ impl Types {
                 None => 0,
             },
         }
+    }
+
+    /// The words of fields together, or `None` where there are more than any number.
+    fn words_of_fields(&self, fields: &IndexMap<String, DataType>) -> Option<usize>
+        ensures words { IfSome result (λ w. w ≡ words_of_fields (fields_by (types_of (table_of self.now)) fields.now.entries)) }
+        ensures many { IfNone result (4096 < words_of_fields (fields_by (types_of (table_of self.now)) fields.now.entries)) }
+    {
+        let mut words: usize = 0;
+        for (_, data_type) in fields.iter() {
+            words = words.checked_add(self.words(*data_type))?;
+        }
+        Some(words)
+    }
+
+    /// How deep the deepest of fields is.
+    fn depth_of_fields(&self, fields: &IndexMap<String, DataType>) -> usize
+        ensures { result ≡ depth_of_fields (fields_by (types_of (table_of self.now)) fields.now.entries) }
+    {
+        let mut depth: usize = 0;
+        for (_, data_type) in fields.iter() {
+            depth = depth.max(self.depth(*data_type));
+        }
+        depth
+    }
+
+    /// Adds an array or a record of so many words, in which parts are so deep; `None` where it passes a limit.
+    fn add(
+        &mut self,
+        place: usize,
+        structure: Structure,
+        words: usize,
+        depth: usize,
+    ) -> Result<Option<DataType>, AllocFailed<Structured>>
+        requires within { is_within (length (table_of self.old)) structure ≡ true }
+        requires words { words ≡ Declared.words (structure_by (types_of (table_of self.old)) place structure) }
+        requires depth { depth + 1 ≡ Declared.depth (structure_by (types_of (table_of self.old)) place structure) }
+        ensures given { IfOk result (λ r. option_map (type_in (table_of self.new)) r ≡ if_small (structure_by (types_of (table_of self.old)) place structure)) }
+        ensures known { IfOk result (λ r. IfSome r (λ t. is_below (Lists.length (table_of self.new)) t ≡ true)) }
+        ensures extends { Extends (table_of self.old) (table_of self.new) }
+        ensures unchanged { OnErr result (table_of self.new ≡ table_of self.old) }
+    {
+        if words > MOST_WORDS || depth >= DEEPEST {
+            return Ok(None);
+        }
+        let number = self.all.len();
+        self.all.push(Structured {
+            place,
+            structure,
+            words,
+            depth: depth + 1,
+        })?;
+        Ok(Some(DataType::Structured(number)))
+    }
+
+    /// Adds an array; `None` where it passes a limit on words or depth.
+    pub fn array(
+        &mut self,
+        place: usize,
+        length: usize,
+        element: DataType,
+    ) -> Result<Option<DataType>, AllocFailed<Structured>>
+        requires known { is_below (Lists.length (table_of self.old)) element ≡ true }
+        ensures given { IfOk result (λ r. option_map (type_in (table_of self.new)) r ≡ if_small (Programs.Array place length (type_in (table_of self.old) element))) }
+        ensures known { IfOk result (λ r. IfSome r (λ t. is_below (Lists.length (table_of self.new)) t ≡ true)) }
+        ensures extends { Extends (table_of self.old) (table_of self.new) }
+        ensures unchanged { OnErr result (table_of self.new ≡ table_of self.old) }
+    {
+        let Some(words) = length.checked_mul(self.words(element)) else {
+            return Ok(None);
+        };
+        let depth = self.depth(element);
+        self.add(place, Structure::Array { length, element }, words, depth)
+    }
+
+    /// Adds a record with its fields in text order; `None` where it passes a limit on words or depth.
+    pub fn record(
+        &mut self,
+        place: usize,
+        fields: IndexMap<String, DataType>,
+    ) -> Result<Option<DataType>, AllocFailed<Structured>>
+        requires known { all_below (length (table_of self.old)) fields.entries ≡ true }
+        ensures given { IfOk result (λ r. option_map (type_in (table_of self.new)) r ≡ if_small (Programs.Record place (fields_by (types_of (table_of self.old)) fields.entries))) }
+        ensures known { IfOk result (λ r. IfSome r (λ t. is_below (Lists.length (table_of self.new)) t ≡ true)) }
+        ensures extends { Extends (table_of self.old) (table_of self.new) }
+        ensures unchanged { OnErr result (table_of self.new ≡ table_of self.old) }
+    {
+        let Some(words) = self.words_of_fields(&fields) else {
+            return Ok(None);
+        };
+        let depth = self.depth_of_fields(&fields);
+        // A record without fields counts as one word.
+        self.add(place, Structure::Record { fields }, words.max(1), depth)
     }
 }

@@ -1,5 +1,5 @@
 //! Tests of what no row of the program shows: layouts and code, objects, schedules and records, verified records, and
-//! the values and stores of the whole language. Nothing stands on this crate.
+//! the values and stores of the whole language, and its checker. Nothing stands on this crate.
 #![tactic(auto)]
 
 #[cfg(test)]
@@ -12,6 +12,8 @@ mod layouts;
 mod objects;
 #[cfg(test)]
 mod records;
+#[cfg(test)]
+mod rules;
 #[cfg(test)]
 mod scalars;
 #[cfg(test)]

@@ -1,41 +1,26 @@
--- The verdict on an expression of the program, step by step.
-use Rattle.std.proofs.Common.{◌≡◌, ℕ, ℤ, List, Option, sym, ap, ◌∙◌, Box, Vec}
+-- The verdict on a chain of the program, step by step.
+use Rattle.std.proofs.Common.{◌≡◌, List, Option, sym, ap, ◌∙◌, Box, Vec}
 use Rattle.std.specs.declared.alloc.Global.{Global}
 use Rattle.ob_grammar.specs.declared.tree.Expr.{Expr}
 use Rattle.ob_grammar.specs.declared.tree.Expr.TheVariants as Exprs
 use Rattle.ob_grammar.specs.declared.tree.Designator.{Designator}
 use Rattle.ob_grammar.specs.declared.tree.Operand.{Operand}
-use Rattle.ob_grammar.specs.declared.tree.Operator.{Operator}
 use Rattle.ob_grammar.specs.declared.tree.Sign.{Sign}
 use Rattle.ob_grammar.specs.View.{expr_of, operands_in}
 use Rattle.ob_grammar.proofs.Rows.{expr_of-named, expr_of-product, expr_of-sum}
 use Rattle.ob_typing.specs.Scopes.{Environment}
 use Rattle.ob_typing.specs.Expressions.{Use}
-use Rattle.ob_typing.specs.declared.scalar.Scalar.TheVariants.{Int}
 use Rattle.ob_typing.specs.declared.rule.Rule.TheVariants.{TypesDiffer}
 use Rattle.ob_typing.specs.Expressions.{sign_fits, value_signed, with_sign}
 use Rattle.ob_typing.proofs.Verdict.{Verdict, Right, ◌>>=◌, test, result}
 use Rattle.ob_typing.proofs.CheckedExpressions as Verdicts
 use Rattle.ob_typing.proofs.CheckedExpressions.{expression, operands, sign_place}
-use Rattle.ob_rules.specs.Checking.{designator_in, literal, complemented, signed, chained, compared}
+use Rattle.ob_rules.specs.Checking.{designator_in, signed, chained}
 use Rattle.ob_rules.proofs.Steps.{bind_assoc, bind_same}
 
 module _ (env : Environment) (use' : Use) (e : Expr) where
-  pub number_verdict : (z w : ℤ) (place : ℕ) → e ≡ Exprs.Number z place → w ≡ z → expression env (expr_of e) use' ≡ Right (literal use' (Int w))
-  number_verdict z w place is same =
-      ap (λ x. expression env (expr_of x) use') is ∙ ap (λ (y : ℤ). Right (literal use' (Int y))) (sym same)
-
   pub named_verdict : (d : Designator) → e ≡ Exprs.Named d → expression env (expr_of e) use' ≡ expression env (designator_in d) use'
   named_verdict d is = ap (λ x. expression env (expr_of x) use') is ∙ ap (λ x. expression env x use') (expr_of-named d)
-
-  pub parens_verdict : (place : ℕ) (inner : Box Expr Global) → e ≡ Exprs.Parens place inner → (x : Expr) → x ≡ inner.value →
-      expression env (expr_of e) use' ≡ expression env (expr_of x) use'
-  parens_verdict place inner is x at = ap (λ y. expression env (expr_of y) use') is ∙ ap (λ y. expression env (expr_of y) use') (sym at)
-
-  pub not_verdict : (place : ℕ) (operand : Box Expr Global) → e ≡ Exprs.Not place operand → (x : Expr) → x ≡ operand.value →
-      expression env (expr_of e) use' ≡ ◌>>=◌ (expression env (expr_of x) use') (complemented place)
-  not_verdict place operand is x at =
-      ap (λ y. expression env (expr_of y) use') is ∙ ap (λ y. ◌>>=◌ (expression env (expr_of y) use') (complemented place)) (sym at)
 
   -- the operands behind a first one
   abbrev pub behind_first : List Operand → Verdicts.Typed → Verdict Verdicts.Typed
@@ -70,11 +55,3 @@ module _ (env : Environment) (use' : Use) (e : Expr) where
       ∙ bind_same (expression env (expr_of first.value) use') _ (behind_sign sign rest.items) (λ v. sym (in_line sign rest.items v))
       ∙ ap (λ y. ◌>>=◌ (expression env (expr_of y) use') (behind_sign sign rest.items)) (sym at)
       ∙ ap (λ ys. ◌>>=◌ (expression env (expr_of x) use') (behind_sign sign ys)) (sym at')
-
-  pub comparison_verdict : (left : Box Expr Global) (operator : Operator) (place : ℕ) (right : Box Expr Global) → e ≡ Exprs.Comparison left operator place right →
-      (x : Expr) → x ≡ left.value → (y : Expr) → y ≡ right.value →
-      expression env (expr_of e) use' ≡ ◌>>=◌ (expression env (expr_of x) use') (λ v. ◌>>=◌ (expression env (expr_of y) use') (compared operator place v))
-  comparison_verdict left operator place right is x at y at' =
-      ap (λ z. expression env (expr_of z) use') is
-      ∙ ap (λ z. ◌>>=◌ (expression env (expr_of z) use') (λ v. ◌>>=◌ (expression env (expr_of right.value) use') (compared operator place v))) (sym at)
-      ∙ ap (λ z. ◌>>=◌ (expression env (expr_of x) use') (λ v. ◌>>=◌ (expression env (expr_of z) use') (compared operator place v))) (sym at')

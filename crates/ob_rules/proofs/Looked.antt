@@ -1,16 +1,17 @@
 -- Scopes of the program, from the innermost outward.
-use Rattle.std.proofs.Common.{◌≡◌, arith, ℕ, ◌+◌, ◌-◌, ◌<◌, ◌≤◌, List, [], ◌∷◌, ◌++◌, length, take, get_or, Option, Some, None, refl, sym, ap, ◌∙◌, String, option_map}
+use Rattle.std.proofs.Common.{◌≡◌, arith, ℕ, suc, ◌+◌, ◌-◌, ◌<◌, ◌≤◌, List, [], ◌∷◌, ◌++◌, length, take, get_or, Option, Some, None, refl, sym, ap, ◌∙◌, String, option_map}
 use Rattle.std.specs.declared.alloc.Global.{Global}
 use Rattle.std.proofs.lemmas.List.{take_more}
 use Rattle.indexmap.specs.IndexMap.{IndexMap, get_by_text}
 use Rattle.ob_typing.specs.Scopes as Declared
-use Rattle.ob_typing.specs.Scopes.{Environment, or_else, found}
+use Rattle.ob_typing.specs.Program.{DataType}
+use Rattle.ob_typing.specs.Scopes.{Environment, or_else, found, variable_in}
 use Rattle.ob_checked.specs.Types.{Entry}
 use Rattle.ob_rules.specs.declared.scopes.Object.{Object}
 use Rattle.ob_rules.specs.Objects.{object_of, scope_of, env_behind}
 
 module _ {S : Type 0} (types : List Entry) where
-  env_behind-push : (ss : List (IndexMap (String Global) Object S)) (s : IndexMap (String Global) Object S) (outer : Environment) →
+  pub env_behind-push : (ss : List (IndexMap (String Global) Object S)) (s : IndexMap (String Global) Object S) (outer : Environment) →
       env_behind types (ss ++ s ∷ []) outer ≡ scope_of types s ∷ env_behind types ss outer
   env_behind-push [] s outer = refl
   env_behind-push (x ∷ ss) s outer = env_behind-push ss s (scope_of types x ∷ outer)
@@ -44,3 +45,16 @@ module _ {S : Type 0} (types : List Entry) where
   pub length_around : (ss : List (IndexMap (String Global) Object S)) (outer : Environment) → length (env_behind types ss outer) ≡ length ss + length outer
   length_around [] outer = omega arith
   length_around (x ∷ ss) outer = omega (arith, length_around ss (scope_of types x ∷ outer))
+
+-- a variable of the innermost scope
+pub of_module : (scope : Declared.Scope) (outer : Environment) (position : ℕ) (t : DataType) → length outer ≡ 1 →
+    Declared.ModuleVariable position t ≡ variable_in (scope ∷ outer) position t
+of_module scope [] position t h = absurd (omega (arith, h))
+of_module scope (o ∷ []) position t h = refl
+of_module scope (o ∷ p ∷ outer) position t h = absurd (omega (arith, h))
+
+pub of_procedure : (scope : Declared.Scope) (outer : Environment) (position : ℕ) (t : DataType) (level : ℕ) → level ≡ suc (length outer) → (level ≡ 2 → ⊥) →
+    Declared.LocalVariable level position t ≡ variable_in (scope ∷ outer) position t
+of_procedure scope [] position t level h k = ap (λ n. Declared.LocalVariable n position t) h
+of_procedure scope (o ∷ []) position t level h k = absurd (k h)
+of_procedure scope (o ∷ p ∷ outer) position t level h k = ap (λ n. Declared.LocalVariable n position t) h

@@ -1,5 +1,6 @@
 -- Steps of a verdict: one that is right goes on, and a fault of one is a fault of the whole.
-use Rattle.std.proofs.Common.{◌≡◌, refl, sym, subst, ◌∙◌, ap}
+use Rattle.std.proofs.Common.{◌≡◌, refl, sym, subst, ◌∙◌, ap, Result, Ok, Err}
+use Rattle.std.specs.Result.{OnOk, IfOk}
 use Rattle.ob_typing.specs.declared.rule.BrokenRule.{BrokenRule}
 use Rattle.ob_typing.proofs.Verdict.{Verdict, Right, Wrong, Foreign, ◌>>=◌}
 use Rattle.ob_rules.specs.declared.fault.CheckFault.{CheckFault}
@@ -11,6 +12,9 @@ fails_as {A = A} f v w e h = let P : Verdict A → Type 0 = λ u. Fails f u in s
 
 pub fails_wrong : {A : Type 0} (b : BrokenRule) (v : Verdict A) → v ≡ Wrong b → Fails (Broken b) v
 fails_wrong b v e = fails_as (Broken b) v (Wrong b) e refl
+
+pub fails_when : {A : Type 0} (f : CheckFault) (b : BrokenRule) → f ≡ Broken b → (v : Verdict A) → v ≡ Wrong b → Fails f v
+fails_when f b is v e = subst (λ g. Fails g v) (sym is) (fails_wrong b v e)
 
 pub fails_foreign : {A : Type 0} (f : CheckFault) (v : Verdict A) → v ≡ Foreign → Fails f v
 fails_foreign NoMemory v e = tt
@@ -42,3 +46,12 @@ pub bind_right : {A : Type 0} (v : Verdict A) → v ≡ ◌>>=◌ v (λ a. Right
 bind_right (Right a) = refl
 bind_right (Wrong b) = refl
 bind_right Foreign = refl
+
+-- facts of one call together
+pub on_ok_both : {X E : Type 0} (A B : Type 0) (r : Result X E) → OnOk r A → OnOk r B → OnOk r (A × B)
+on_ok_both A B (Ok x) a b = (a, b)
+on_ok_both A B (Err e) a b = tt
+
+pub if_ok_with : {X E : Type 0} (A : Type 0) (P Q : X → Type 0) (r : Result X E) → OnOk r A → IfOk r P → ((x : X) → A → P x → Q x) → IfOk r Q
+if_ok_with A P Q (Ok x) a p k = k x a p
+if_ok_with A P Q (Err e) a p k = tt

@@ -3,3 +3,9 @@ pub mod Objects
 pub mod SimpleTypes
 pub mod Names
 pub mod Checking
+pub mod TakenNames
+pub mod CheckingTypes
+pub mod CheckingVariables
+pub mod Shapes
+pub mod Designations
+pub mod CheckingStatements

@@ -1,22 +1,41 @@
 //! Declarations, in text order.
 
-ghost use Rattle.std.specs.Prelude.{◌≡◌, List, ◌∷◌, map, OnOk, IfOk, IfErr};
+ghost use Rattle.std.specs.Prelude.{◌≡◌, true, List, ◌∷◌, ◌++◌, ◌+◌, length, map, nat_le, Some, None, option_map, if◌then◌else◌, OnOk, IfOk, IfErr};
+ghost use Rattle.std.specs.Prelude as Lists;
 ghost use Rattle.ob_grammar.specs.Tree as trees;
-ghost use Rattle.ob_grammar.specs.View.{expr_of, const_decl_of};
-ghost use Rattle.ob_typing.proofs.Verdict.{Right};
+ghost use Rattle.ob_grammar.specs.View.{expr_of, name_of, const_decl_of, type_decl_of, var_decl_of};
+ghost use Rattle.ob_typing.specs.Scopes.{words};
+ghost use Rattle.ob_typing.specs.Declarations as Declared;
+ghost use Rattle.ob_typing.specs.Declarations.{first_beyond, with_variables, room_behind, variables_of};
+ghost use Rattle.ob_typing.specs.declared.rule.Rule.TheVariants.{PassesLimit};
+ghost use Rattle.ob_typing.proofs.Verdict.{Right, unless_name};
 ghost use Rattle.ob_typing.proofs.CheckedTypes as Constants;
 ghost use Rattle.ob_typing.proofs.CheckedModules as Verdicts;
-ghost use Rattle.ob_rules.specs.Names.{env_of};
-ghost use Rattle.ob_rules.specs.Checking.{Fails};
+ghost use Rattle.ob_checked.specs.Types.{type_in, is_below, Extends};
+ghost use Rattle.ob_checked.specs.View.{variable_of};
+ghost use Rattle.ob_rules.specs.Names.{types_in, env_of};
+ghost use Rattle.ob_rules.specs.Checking.{Fails, and_then};
+ghost use Rattle.ob_rules.specs.CheckingVariables.{room_of, known_variables, behind_variables};
 
 use crate::constants::Usage;
 use crate::expressions::{expression, first_place};
 use crate::fault::{CheckFault, broken};
 use crate::scopes::Scopes;
-use ob_grammar::tree::{ConstDecl, Expr};
+use crate::types::denoted;
+use ob_checked::program::Variable;
+use ob_checked::types::DataType;
+use ob_grammar::tree::{ConstDecl, Expr, Name, TypeDecl, VarDecl};
 use ob_typing::rule::Rule;
 use ob_typing::scalar::Scalar;
 use std::alloc::Global;
+
+/// The room for the variables of a scope: how many names stand there, the words that they take, and the most words.
+#[derive(Clone, Copy, Debug, PartialEq, Eq)]
+pub struct Room {
+    pub names: usize,
+    pub taken: usize,
+    pub limit: usize,
+}
 
 /// The value of a constant expression.
 pub fn constant(alloc: Global, scopes: &Scopes, expr: &Expr) -> Result<Scalar, CheckFault>
@@ -38,6 +57,7 @@ pub fn declare_constants(
     constants: &[ConstDecl],
 ) -> Result<(), CheckFault>
     ensures ok { OnOk result (Verdicts.constants (map const_decl_of constants.now) (env_of scopes.old) ≡ Right (env_of scopes.new)) }
+    ensures types { OnOk result (types_in scopes.new ≡ types_in scopes.old) }
     ensures fault { IfErr result (λ f. Fails f (Verdicts.constants (map const_decl_of constants.now) (env_of scopes.old))) }
 {
     for declaration in constants {
@@ -53,6 +73,7 @@ fn declare_constant(
     declaration: &ConstDecl,
 ) -> Result<(), CheckFault>
     ensures ok { OnOk result ((rest : List trees.ConstDecl) → Verdicts.constants (const_decl_of declaration.now ∷ rest) (env_of scopes.old) ≡ Verdicts.constants rest (env_of scopes.new)) }
+    ensures types { OnOk result (types_in scopes.new ≡ types_in scopes.old) }
     ensures fault { IfErr result (λ f. (rest : List trees.ConstDecl) → Fails f (Verdicts.constants (const_decl_of declaration.now ∷ rest) (env_of scopes.old))) }
 {
     if scopes.declares(&declaration.name.text) {
@@ -60,4 +81,144 @@ fn declare_constant(
     }
     let value = constant(alloc, scopes, &declaration.value)?;
     scopes.declare_constant(alloc, &declaration.name.text, value)
+}
+
+/// Declares types, each under those before it.
+pub fn declare_types(
+    alloc: Global,
+    scopes: &mut Scopes,
+    types: &[TypeDecl],
+) -> Result<(), CheckFault>
+    ensures ok { OnOk result (Verdicts.types (map type_decl_of types.now) (env_of scopes.old) ≡ Right (env_of scopes.new)) }
+    ensures extends { OnOk result (Extends (types_in scopes.old) (types_in scopes.new)) }
+    ensures fault { IfErr result (λ f. Fails f (Verdicts.types (map type_decl_of types.now) (env_of scopes.old))) }
+{
+    for declaration in types {
+        declare_type(alloc, scopes, declaration)?;
+    }
+    Ok(())
+}
+
+/// Declares a type. Its name is tested first.
+fn declare_type(
+    alloc: Global,
+    scopes: &mut Scopes,
+    declaration: &TypeDecl,
+) -> Result<(), CheckFault>
+    ensures ok { OnOk result ((rest : List trees.TypeDecl) → Verdicts.types (type_decl_of declaration.now ∷ rest) (env_of scopes.old) ≡ Verdicts.types rest (env_of scopes.new)) }
+    ensures extends { OnOk result (Extends (types_in scopes.old) (types_in scopes.new)) }
+    ensures fault { IfErr result (λ f. (rest : List trees.TypeDecl) → Fails f (Verdicts.types (type_decl_of declaration.now ∷ rest) (env_of scopes.old))) }
+{
+    let name = &declaration.name;
+    if scopes.declares(&name.text) {
+        return Err(broken(Rule::DeclaredTwice, name.place));
+    }
+    let data_type = denoted(alloc, scopes, &declaration.definition)?;
+    scopes.declare_type(alloc, &name.text, data_type)
+}
+
+/// Declares variables, each under those before it, where there is room for them.
+pub fn declare_variables(
+    alloc: Global,
+    scopes: &mut Scopes,
+    declarations: &[VarDecl],
+    room: Room,
+) -> Result<Vec<Variable>, CheckFault>
+    ensures typed { IfOk result (λ vs. Verdicts.variables (map var_decl_of declarations.now) (env_of scopes.old) (room_of room)
+        ≡ Right (record { env = env_of scopes.new; variables = map (variable_of (types_in scopes.new)) vs.items })) }
+    ensures known { IfOk result (λ vs. known_variables (length (types_in scopes.new)) vs.items ≡ true) }
+    ensures extends { OnOk result (Extends (types_in scopes.old) (types_in scopes.new)) }
+    ensures fault { IfErr result (λ f. Fails f (Verdicts.variables (map var_decl_of declarations.now) (env_of scopes.old) (room_of room))) }
+{
+    let mut variables = Vec::new(alloc);
+    let mut left = room;
+    for declaration in declarations {
+        left = declare_of_type(alloc, scopes, declaration, left, &mut variables)?;
+    }
+    Ok(variables)
+}
+
+/// Declares variables of one type; the answer is the room behind them. Their names are tested before the type is looked at.
+fn declare_of_type(
+    alloc: Global,
+    scopes: &mut Scopes,
+    declaration: &VarDecl,
+    room: Room,
+    variables: &mut Vec<Variable>,
+) -> Result<Room, CheckFault>
+    requires known { known_variables (length (types_in scopes.old)) variables.old.items ≡ true }
+    ensures typed { IfOk result (λ r. (rest : List trees.VarDecl) →
+        and_then (Verdicts.variables (var_decl_of declaration.now ∷ rest) (env_of scopes.old) (room_of room)) (behind_variables (types_in scopes.old) variables.old.items)
+        ≡ and_then (Verdicts.variables rest (env_of scopes.new) (room_of r)) (behind_variables (types_in scopes.new) variables.new.items)) }
+    ensures known { OnOk result (known_variables (length (types_in scopes.new)) variables.new.items ≡ true) }
+    ensures extends { OnOk result (Extends (types_in scopes.old) (types_in scopes.new)) }
+    ensures fault { IfErr result (λ f. (rest : List trees.VarDecl) → Fails f (Verdicts.variables (var_decl_of declaration.now ∷ rest) (env_of scopes.old) (room_of room))) }
+{
+    if let Some(name) = scopes.second(alloc, &declaration.names)? {
+        return Err(broken(Rule::DeclaredTwice, name.place));
+    }
+    let data_type = denoted(alloc, scopes, &declaration.of_type)?;
+    declare_names(
+        alloc,
+        scopes,
+        &declaration.names,
+        data_type,
+        room,
+        variables,
+    )
+}
+
+/// Declares names as variables of a type, where there is room for them; the answer is the room behind them.
+fn declare_names(
+    alloc: Global,
+    scopes: &mut Scopes,
+    names: &[Name],
+    data_type: DataType,
+    room: Room,
+    variables: &mut Vec<Variable>,
+) -> Result<Room, CheckFault>
+    requires known { is_below (length (types_in scopes.old)) data_type ≡ true }
+    ensures fits { OnOk result (first_beyond (room_of room) (words (type_in (types_in scopes.old) data_type)) (map name_of names.now) ≡ None) }
+    ensures names { OnOk result (env_of scopes.new ≡ with_variables (env_of scopes.old) (room_of room) (type_in (types_in scopes.old) data_type) (map name_of names.now)) }
+    ensures room { IfOk result (λ r. room_of r ≡ room_behind (room_of room) (type_in (types_in scopes.old) data_type) (map name_of names.now)) }
+    ensures variables { OnOk result (map (variable_of (types_in scopes.old)) variables.new.items ≡ map (variable_of (types_in scopes.old)) variables.old.items ++ variables_of (type_in (types_in scopes.old) data_type) (map name_of names.now)) }
+    ensures known { OnOk result (known_variables (length (types_in scopes.old)) variables.old.items ≡ true → known_variables (length (types_in scopes.old)) variables.new.items ≡ true) }
+    ensures types { OnOk result (types_in scopes.new ≡ types_in scopes.old) }
+    ensures fault { IfErr result (λ f. Fails f (unless_name (first_beyond (room_of room) (words (type_in (types_in scopes.old) data_type)) (map name_of names.now)) PassesLimit)) }
+{
+    let words = scopes.types().words(data_type);
+    let mut left = room;
+    for name in names {
+        let position = left.names;
+        left = match with_words(left, words)? {
+            Some(next) => next,
+            None => return Err(broken(Rule::PassesLimit, name.place)),
+        };
+        scopes.declare_variable(alloc, &name.text, position, data_type)?;
+        let name = name.text.clone()?;
+        variables.push(Variable { name, data_type })?;
+    }
+    Ok(left)
+}
+
+/// The room with one variable more, of so many words; `None` where there is none for it.
+fn with_words(room: Room, words: usize) -> Result<Option<Room>, CheckFault>
+    ensures room { IfOk result (λ r. option_map room_of r ≡ (if nat_le (room.taken + words) room.limit then Some (Declared.with_words (room_of room) words) else None)) }
+    ensures fault { IfErr result (λ f. f ≡ CheckFault.NoMemory) }
+{
+    let Some(taken) = room.taken.checked_add(words) else {
+        return Ok(None);
+    };
+    if taken > room.limit {
+        return Ok(None);
+    }
+    // No memory holds more names than can be counted.
+    let Some(names) = room.names.checked_add(1) else {
+        return Err(CheckFault::NoMemory);
+    };
+    Ok(Some(Room {
+        names,
+        taken,
+        limit: room.limit,
+    }))
 }

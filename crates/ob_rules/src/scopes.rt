@@ -1,18 +1,24 @@
 //! The names that are declared so far, and the types that they speak of.
 
-ghost use Rattle.std.specs.Prelude.{◌≡◌, ◌&&◌, true, ℕ, length, option_map, List, [], OnOk, IfOk, IfErr};
+ghost use Rattle.std.specs.Prelude.{◌≡◌, ◌&&◌, true, ℕ, length, option_map, List, [], OnOk, IfOk, IfErr, IfSome};
 ghost use Rattle.ob_typing.specs.Scopes.{found, Environment, with_name, outermost};
 ghost use Rattle.ob_checked.specs.Types.{Entry};
 ghost use Rattle.ob_checked.specs.View.{table_of};
 ghost use Rattle.ob_rules.specs.Objects.{object_of, scope_of, env_behind, known_object, known_names, known_scopes};
 
 use crate::fault::CheckFault;
+use crate::taken::second;
 use indexmap::IndexMap;
 use ob_checked::program::{Owner, Parameter};
 use ob_checked::types::{DataType, Types};
+use ob_grammar::tree::Name;
 use ob_scalars::operators::type_of;
 use ob_typing::scalar::{Scalar, ScalarType};
 use std::alloc::Global;
+use std::mem::replace;
+
+/// The number of scopes in the module's declarations: its own, in the outermost one.
+const MODULE_LEVEL: usize = 2;
 
 /// What a name is declared as.
 #[derive(Drop)]
@@ -36,7 +42,7 @@ pub enum Object {
 }
 
 /// What each name of a scope is declared as, in the order of declaration.
-type Scope = IndexMap<String, Object>;
+pub type Scope = IndexMap<String, Object>;
 
 /// The names that are declared so far, and the types that they speak of; those of inner scopes hide those of outer ones.
 #[derive(Drop)]
@@ -134,7 +140,8 @@ fn outermost_scope(alloc: Global) -> Result<Scope, CheckFault>
 
 /// What a name is declared as in the innermost of these scopes that declares it.
 fn found_around<'s>(scopes: &'s [Scope], name: &str) -> Option<&'s Object>
-    ensures { (types : List Entry) → option_map (λ o. object_of types o.now) result ≡ found (env_behind types scopes.now []) name.now }
+    ensures object { (types : List Entry) → option_map (λ o. object_of types o.now) result ≡ found (env_behind types scopes.now []) name.now }
+    ensures known { (n : ℕ) → known_scopes n scopes.now ≡ true → IfSome result (λ o. known_object n o.now ≡ true) }
 {
     let mut level = scopes.len();
     while level > 0 {
@@ -148,12 +155,17 @@ fn found_around<'s>(scopes: &'s [Scope], name: &str) -> Option<&'s Object>
 }
 
 impl Scopes {
-    ghost use Rattle.std.specs.Prelude.{◌≡◌, option_map, [], OnOk, IfOk, IfErr};
+    ghost use Rattle.std.specs.Prelude.{◌≡◌, ◌<◌, true, ℕ, length, option_map, map, ◌∷◌, [], OnOk, IfOk, IfErr, IfSome};
+    ghost use Rattle.std.specs.Prelude as Lists;
+    ghost use Rattle.ob_grammar.specs.View.{name_of};
+    ghost use Rattle.ob_typing.specs.Program as Programs;
+    ghost use Rattle.ob_typing.specs.Types.{second};
     ghost use Rattle.ob_typing.specs.Scopes as Declared;
-    ghost use Rattle.ob_typing.specs.Scopes.{found, level, meant, is_declared, declared, opening_names};
-    ghost use Rattle.ob_rules.specs.Objects.{object_of};
-    ghost use Rattle.ob_rules.specs.Names.{types_in, env_of, meant_of};
-    ghost use Rattle.ob_checked.specs.View.{table_of};
+    ghost use Rattle.ob_typing.specs.Scopes.{found, level, meant, is_declared, declared, opening_names, variable_in};
+    ghost use Rattle.ob_checked.specs.Types.{type_in, types_of, fields_by, is_below, all_below, if_small, Extends};
+    ghost use Rattle.ob_checked.specs.View.{table_of, parameter_of};
+    ghost use Rattle.ob_rules.specs.Objects.{object_of, scope_of, known_object, known_names, known_parameters};
+    ghost use Rattle.ob_rules.specs.Names.{types_in, env_of, meant_of, known_meant};
 
     /// The names that a module's text begins under.
     pub fn new(alloc: Global) -> Result<Scopes, CheckFault>
@@ -187,7 +199,8 @@ impl Scopes {
 
     /// What a name is declared as.
     pub fn find(&self, name: &str) -> Option<&Object>
-        ensures { option_map (λ o. object_of (types_in self.now) o.now) result ≡ found (env_of self.now) name.now }
+        ensures object { option_map (λ o. object_of (types_in self.now) o.now) result ≡ found (env_of self.now) name.now }
+        ensures known { IfSome result (λ o. known_object (length (types_in self.now)) o.now ≡ true) }
     {
         if let Some(object) = self.own.get(name) {
             return Some(object);
@@ -197,7 +210,8 @@ impl Scopes {
 
     /// What a name stands for.
     pub fn meant(&self, name: &str) -> Meant<'_>
-        ensures { meant_of (types_in self.now) name.now result ≡ meant (env_of self.now) name.now }
+        ensures meant { meant_of (types_in self.now) name.now result ≡ meant (env_of self.now) name.now }
+        ensures known { known_meant (length (types_in self.now)) result ≡ true }
     {
         match self.find(name) {
             None => Meant::Nothing,
@@ -255,5 +269,148 @@ impl Scopes {
         ensures fault { IfErr result (λ f. f ≡ CheckFault.NoMemory) }
     {
         add(alloc, &mut self.own, name, Object::Constant(value))
+    }
+
+    /// The first of the names that the innermost scope declares, or that stands before in the list.
+    pub fn second<'n>(
+        &self,
+        alloc: Global,
+        names: &'n [Name],
+    ) -> Result<Option<&'n Name>, CheckFault>
+        ensures second { IfOk result (λ r. option_map (λ n. name_of n.now) r ≡ second (is_declared (env_of self.now)) (map name_of names.now)) }
+        ensures fault { IfErr result (λ f. f ≡ CheckFault.NoMemory) }
+    {
+        second(alloc, &self.own, names)
+    }
+
+    /// Adds an array to the types, where it keeps the limits. What names stand for stays.
+    pub fn array(
+        &mut self,
+        place: usize,
+        length: usize,
+        element: DataType,
+    ) -> Result<Option<DataType>, CheckFault>
+        requires known { is_below (Lists.length (types_in self.old)) element ≡ true }
+        ensures given { IfOk result (λ r. option_map (type_in (types_in self.new)) r ≡ if_small (Programs.Array place length (type_in (types_in self.old) element))) }
+        ensures known { IfOk result (λ r. IfSome r (λ t. is_below (Lists.length (types_in self.new)) t ≡ true)) }
+        ensures extends { Extends (types_in self.old) (types_in self.new) }
+        ensures names { env_of self.new ≡ env_of self.old }
+        ensures fault { IfErr result (λ f. f ≡ CheckFault.NoMemory) }
+    {
+        let added = self.types.array(place, length, element)?;
+        Ok(added)
+    }
+
+    /// Adds a record to the types, where it keeps the limits. What names stand for stays.
+    pub fn record(
+        &mut self,
+        place: usize,
+        fields: IndexMap<String, DataType>,
+    ) -> Result<Option<DataType>, CheckFault>
+        requires known { all_below (length (types_in self.old)) fields.entries ≡ true }
+        ensures given { IfOk result (λ r. option_map (type_in (types_in self.new)) r ≡ if_small (Programs.Record place (fields_by (types_of (types_in self.old)) fields.entries))) }
+        ensures known { IfOk result (λ r. IfSome r (λ t. is_below (length (types_in self.new)) t ≡ true)) }
+        ensures extends { Extends (types_in self.old) (types_in self.new) }
+        ensures names { env_of self.new ≡ env_of self.old }
+        ensures fault { IfErr result (λ f. f ≡ CheckFault.NoMemory) }
+    {
+        let added = self.types.record(place, fields)?;
+        Ok(added)
+    }
+
+    /// Declares a name for a type in the innermost scope.
+    pub fn declare_type(
+        &mut self,
+        alloc: Global,
+        name: &str,
+        data_type: DataType,
+    ) -> Result<(), CheckFault>
+        requires known { is_below (length (types_in self.old)) data_type ≡ true }
+        ensures ok { OnOk result (env_of self.new ≡ declared (env_of self.old) name.now (Declared.TypeName (type_in (types_in self.old) data_type))) }
+        ensures types { types_in self.new ≡ types_in self.old }
+        ensures fault { IfErr result (λ f. f ≡ CheckFault.NoMemory) }
+    {
+        add(alloc, &mut self.own, name, Object::TypeName(data_type))
+    }
+
+    /// Declares a variable of the innermost scope at a position among the owner's variables: of the module, or of a
+    /// procedure with the number of scopes.
+    pub fn declare_variable(
+        &mut self,
+        alloc: Global,
+        name: &str,
+        position: usize,
+        data_type: DataType,
+    ) -> Result<(), CheckFault>
+        requires known { is_below (length (types_in self.old)) data_type ≡ true }
+        ensures ok { OnOk result (env_of self.new ≡ declared (env_of self.old) name.now (variable_in (env_of self.old) position (type_in (types_in self.old) data_type))) }
+        ensures types { types_in self.new ≡ types_in self.old }
+        ensures fault { IfErr result (λ f. f ≡ CheckFault.NoMemory) }
+    {
+        let level = self.level();
+        let variable = if level == MODULE_LEVEL {
+            Object::ModuleVariable {
+                position,
+                data_type,
+            }
+        } else {
+            Object::LocalVariable {
+                level,
+                position,
+                data_type,
+            }
+        };
+        add(alloc, &mut self.own, name, variable)
+    }
+
+    /// Declares a procedure in the innermost scope.
+    pub fn declare_procedure(
+        &mut self,
+        alloc: Global,
+        name: &str,
+        number: usize,
+        parameters: Vec<Parameter>,
+    ) -> Result<(), CheckFault>
+        requires known { known_parameters (length (types_in self.old)) parameters.items ≡ true }
+        ensures ok { OnOk result (env_of self.new ≡ declared (env_of self.old) name.now (Declared.ProcedureName number (map (parameter_of (types_in self.old)) parameters.items))) }
+        ensures types { types_in self.new ≡ types_in self.old }
+        ensures fault { IfErr result (λ f. f ≡ CheckFault.NoMemory) }
+    {
+        add(
+            alloc,
+            &mut self.own,
+            name,
+            Object::Procedure { number, parameters },
+        )
+    }
+
+    /// Puts a scope within the innermost one.
+    pub fn enter(&mut self, scope: Scope) -> Result<(), CheckFault>
+        requires known { known_names (length (types_in self.old)) scope.entries ≡ true }
+        ensures ok { OnOk result (env_of self.new ≡ scope_of (types_in self.old) scope ∷ env_of self.old) }
+        ensures types { types_in self.new ≡ types_in self.old }
+        ensures fault { IfErr result (λ f. f ≡ CheckFault.NoMemory) }
+    {
+        let outer = replace(&mut self.own, scope);
+        self.around.push(outer)?;
+        Ok(())
+    }
+
+    /// Takes the innermost scope away.
+    pub fn leave(&mut self) -> Scope
+        requires within { 1 < level (env_of self.old) }
+        ensures scope { env_of self.old ≡ scope_of (types_in self.old) result ∷ env_of self.new }
+        ensures known { known_names (length (types_in self.old)) result.entries ≡ true }
+        ensures types { types_in self.new ≡ types_in self.old }
+    {
+        let outer = self.around.remove(self.around.len() - 1);
+        replace(&mut self.own, outer)
+    }
+
+    /// The types alone.
+    pub fn into_types(self) -> Types
+        ensures { table_of result ≡ types_in self }
+    {
+        self.types
     }
 }

@@ -1,10 +1,16 @@
 use Rattle.std.proofs.Common.{arith, ◌∙◌}
 use Rattle.ob_rules.proofs.Looked.{found_here, not_here}
+use Rattle.ob_rules.proofs.Kept.{known_around}
 use Rattle.ob_rules.proofs.scopes.found_around.Goals as goal
 
-pub returns-in-Some : goal.returns-in-Some
-returns-in-Some c =
+pub returns-in-Some-clause-object : goal.returns-in-Some-clause-object
+returns-in-Some-clause-object c =
     λ types. found_here types _ _ _ _ (omega arith) c.loop-level.invariant.within c.index-scopes-level.is _ c.in-Some.ensures.value ∙ c.loop-level.invariant.rest types
+
+pub returns-in-Some-clause-known : goal.returns-in-Some-clause-known
+returns-in-Some-clause-known c =
+    λ n known.
+    known_around n c.args.name.now _ c.args.scopes.now c.loop-level.level _ (omega arith) c.loop-level.invariant.within c.index-scopes-level.is known c.in-Some.ensures.value
 
 pub loop-level-preserved : goal.loop-level-preserved
 loop-level-preserved c = record {

@@ -1,0 +1,196 @@
+//! Type expressions.
+
+ghost use Rattle.std.specs.Prelude.{◌≡◌, ℕ, true, length, map, List, None, OnOk, IfOk, IfErr};
+ghost use Rattle.ob_grammar.specs.Tree as trees;
+ghost use Rattle.ob_grammar.specs.View.{type_of, name_of, fields_in};
+ghost use Rattle.ob_typing.specs.Program as Programs;
+ghost use Rattle.ob_typing.specs.Types.{second, none_taken, and_all_taken, with_fields};
+ghost use Rattle.std.specs.Prelude as Lists;
+ghost use Rattle.ob_typing.proofs.Verdict.{Right};
+ghost use Rattle.ob_typing.proofs.CheckedTypes as Constants;
+ghost use Rattle.ob_checked.specs.Types.{type_in, type_by, types_of, fields_by, is_below, all_below, Extends};
+ghost use Rattle.ob_rules.specs.Names.{types_in, env_of};
+ghost use Rattle.ob_rules.specs.TakenNames.{taken_in};
+ghost use Rattle.ob_rules.specs.Checking.{Fails, and_then};
+ghost use Rattle.ob_rules.specs.CheckingTypes.{length_at, small_at, list_before, fields_before, behind_fields};
+
+use crate::declarations::constant;
+use crate::expressions::first_place;
+use crate::fault::{CheckFault, broken};
+use crate::scopes::{Meant, Scopes};
+use crate::taken::second;
+use indexmap::IndexMap;
+use ob_checked::types::DataType;
+use ob_grammar::tree::{FieldList, Name, TypeExpr};
+use ob_typing::rule::Rule;
+use ob_typing::scalar::Scalar;
+use std::alloc::Global;
+
+/// The longest array.
+const LONGEST: i32 = 4096;
+
+/// The type of a type expression. The table of types grows, and what names stand for stays.
+#[cycle(denoted)]
+pub fn denoted(alloc: Global, scopes: &mut Scopes, expr: &TypeExpr) -> Result<DataType, CheckFault>
+    ensures typed { IfOk result (λ t. Constants.denoted (env_of scopes.old) (type_of expr.now) ≡ Right (type_in (types_in scopes.new) t)) }
+    ensures known { IfOk result (λ t. is_below (length (types_in scopes.new)) t ≡ true) }
+    ensures names { OnOk result (env_of scopes.new ≡ env_of scopes.old) }
+    ensures extends { OnOk result (Extends (types_in scopes.old) (types_in scopes.new)) }
+    ensures fault { IfErr result (λ f. Fails f (Constants.denoted (env_of scopes.old) (type_of expr.now))) }
+{
+    match expr {
+        TypeExpr::Named(name) => type_named(scopes, name),
+        TypeExpr::Array {
+            place,
+            length,
+            element,
+        } => {
+            let value = constant(alloc, scopes, length)?;
+            let length = array_length(value, first_place(length))?;
+            let element = denoted(alloc, scopes, element)?;
+            array_of(scopes, *place, length, element)
+        }
+        TypeExpr::Record { place, fields } => {
+            let fields = record_fields(alloc, scopes, fields)?;
+            record_of(scopes, *place, fields)
+        }
+    }
+}
+
+/// The fields of a record. Their types come from the lists, one after another.
+#[cycle(denoted)]
+fn record_fields(
+    alloc: Global,
+    scopes: &mut Scopes,
+    lists: &[FieldList],
+) -> Result<IndexMap<String, DataType>, CheckFault>
+    ensures typed { IfOk result (λ fs. Constants.denoted_fields (env_of scopes.old) (fields_in lists.now) none_taken ≡ Right (fields_by (types_of (types_in scopes.new)) fs.entries)) }
+    ensures known { IfOk result (λ fs. all_below (length (types_in scopes.new)) fs.entries ≡ true) }
+    ensures names { OnOk result (env_of scopes.new ≡ env_of scopes.old) }
+    ensures extends { OnOk result (Extends (types_in scopes.old) (types_in scopes.new)) }
+    ensures fault { IfErr result (λ f. Fails f (Constants.denoted_fields (env_of scopes.old) (fields_in lists.now) none_taken)) }
+{
+    let mut fields = IndexMap::new(alloc);
+    for list in lists {
+        add_list(alloc, scopes, list, &mut fields)?;
+    }
+    Ok(fields)
+}
+
+/// Adds the fields of a list. Their names are tested before the type is looked at.
+#[cycle(denoted)]
+fn add_list(
+    alloc: Global,
+    scopes: &mut Scopes,
+    list: &FieldList,
+    fields: &mut IndexMap<String, DataType>,
+) -> Result<(), CheckFault>
+    requires known { all_below (length (types_in scopes.old)) fields.old.entries ≡ true }
+    ensures ok { OnOk result ((rest : trees.FieldLists) →
+        and_then (Constants.denoted_fields (env_of scopes.old) (list_before list.now rest) (taken_in fields.old)) (behind_fields (types_in scopes.old) fields.old.entries)
+        ≡ and_then (Constants.denoted_fields (env_of scopes.old) rest (taken_in fields.new)) (behind_fields (types_in scopes.new) fields.new.entries)) }
+    ensures known { OnOk result (all_below (length (types_in scopes.new)) fields.new.entries ≡ true) }
+    ensures names { OnOk result (env_of scopes.new ≡ env_of scopes.old) }
+    ensures extends { OnOk result (Extends (types_in scopes.old) (types_in scopes.new)) }
+    ensures fault { IfErr result (λ f. (rest : trees.FieldLists) → Fails f (Constants.denoted_fields (env_of scopes.old) (list_before list.now rest) (taken_in fields.old))) }
+{
+    match list {
+        FieldList::Empty => Ok(()),
+        FieldList::Fields { names, of_type } => {
+            if let Some(name) = second(alloc, fields, names)? {
+                return Err(broken(Rule::DeclaredTwice, name.place));
+            }
+            let data_type = denoted(alloc, scopes, of_type)?;
+            add_fields(names, data_type, fields)
+        }
+    }
+}
+
+/// Adds fields of one type, whose names are new.
+fn add_fields(
+    names: &[Name],
+    data_type: DataType,
+    fields: &mut IndexMap<String, DataType>,
+) -> Result<(), CheckFault>
+    requires new { second (taken_in fields.old) (map name_of names.now) ≡ None }
+    ensures fields { OnOk result ((types : List Programs.DataType) (rest : Programs.Fields) →
+        fields_before types fields.new.entries rest ≡ fields_before types fields.old.entries (with_fields (map name_of names.now) (type_by types data_type) rest)) }
+    ensures taken { OnOk result (taken_in fields.new ≡ and_all_taken (taken_in fields.old) (map name_of names.now)) }
+    ensures known { OnOk result ((n : ℕ) → all_below n fields.old.entries ≡ true → is_below n data_type ≡ true → all_below n fields.new.entries ≡ true) }
+    ensures fault { IfErr result (λ f. f ≡ CheckFault.NoMemory) }
+{
+    for name in names {
+        let text = name.text.clone()?;
+        fields.insert(text, data_type)?;
+    }
+    Ok(())
+}
+
+/// The type that a name stands for.
+fn type_named(scopes: &Scopes, name: &Name) -> Result<DataType, CheckFault>
+    ensures typed { IfOk result (λ t. Constants.denoted (env_of scopes.now) (trees.NamedType (name_of name.now)) ≡ Right (type_in (types_in scopes.now) t)) }
+    ensures known { IfOk result (λ t. is_below (length (types_in scopes.now)) t ≡ true) }
+    ensures fault { IfErr result (λ f. Fails f (Constants.denoted (env_of scopes.now) (trees.NamedType (name_of name.now)))) }
+{
+    match scopes.meant(&name.text) {
+        Meant::TypeName(data_type) => Ok(data_type),
+        Meant::Nothing => Err(broken(Rule::UnknownName, name.place)),
+        Meant::Constant(_)
+        | Meant::Variable { .. }
+        | Meant::FarVariable
+        | Meant::Procedure { .. } => Err(broken(Rule::WrongKind, name.place)),
+    }
+}
+
+/// The length of an array by the value of its expression, which begins at a place.
+fn array_length(value: Scalar, place: usize) -> Result<usize, CheckFault>
+    ensures typed { IfOk result (λ n. length_at place value ≡ Right n) }
+    ensures fault { IfErr result (λ f. Fails f (length_at place value)) }
+{
+    let Scalar::Int(number) = value else {
+        return Err(broken(Rule::TypesDiffer, place));
+    };
+    if number < 1 || number > LONGEST {
+        return Err(broken(Rule::BadLength, place));
+    }
+    Ok(number as usize)
+}
+
+/// An array that begins at a place.
+fn array_of(
+    scopes: &mut Scopes,
+    place: usize,
+    length: usize,
+    element: DataType,
+) -> Result<DataType, CheckFault>
+    requires known { is_below (Lists.length (types_in scopes.old)) element ≡ true }
+    ensures typed { IfOk result (λ t. small_at place (Programs.Array place length (type_in (types_in scopes.old) element)) ≡ Right (type_in (types_in scopes.new) t)) }
+    ensures known { IfOk result (λ t. is_below (Lists.length (types_in scopes.new)) t ≡ true) }
+    ensures names { OnOk result (env_of scopes.new ≡ env_of scopes.old) }
+    ensures extends { OnOk result (Extends (types_in scopes.old) (types_in scopes.new)) }
+    ensures fault { IfErr result (λ f. Fails f (small_at place (Programs.Array place length (type_in (types_in scopes.old) element)))) }
+{
+    match scopes.array(place, length, element)? {
+        Some(data_type) => Ok(data_type),
+        None => Err(broken(Rule::PassesLimit, place)),
+    }
+}
+
+/// A record that begins at a place.
+fn record_of(
+    scopes: &mut Scopes,
+    place: usize,
+    fields: IndexMap<String, DataType>,
+) -> Result<DataType, CheckFault>
+    requires known { all_below (length (types_in scopes.old)) fields.entries ≡ true }
+    ensures typed { IfOk result (λ t. small_at place (Programs.Record place (fields_by (types_of (types_in scopes.old)) fields.entries)) ≡ Right (type_in (types_in scopes.new) t)) }
+    ensures known { IfOk result (λ t. is_below (length (types_in scopes.new)) t ≡ true) }
+    ensures names { OnOk result (env_of scopes.new ≡ env_of scopes.old) }
+    ensures extends { OnOk result (Extends (types_in scopes.old) (types_in scopes.new)) }
+    ensures fault { IfErr result (λ f. Fails f (small_at place (Programs.Record place (fields_by (types_of (types_in scopes.old)) fields.entries)))) }
+{
+    match scopes.record(place, fields)? {
+        Some(data_type) => Ok(data_type),
+        None => Err(broken(Rule::PassesLimit, place)),
+    }
+}
