@@ -9,8 +9,8 @@ use Rattle.ob_checked.specs.declared.program.Variable.{Variable}
 use Rattle.ob_checked.specs.View.{program_of, procedure_of, variable_of, statements_in, table_of}
 use Rattle.ob_positions.specs.Store.{Activation, Held, Store}
 use Rattle.ob_positions.specs.Statements.{Outcome, left, begun, calls, meaning_of_all, activated}
-use Rattle.ob_interpreter.specs.declared.places.Stop.{Stop}
-use Rattle.ob_interpreter.specs.declared.places.Stop.TheVariants as Stops
+use Rattle.ob_evaluate.specs.declared.places.Stop.{Stop}
+use Rattle.ob_evaluate.specs.declared.places.Stop.TheVariants as Stops
 use Rattle.ob_interpreter.specs.Running.{Comes}
 use Rattle.ob_interpreter.proofs.Runs.{call_goes}
 

@@ -1,6 +1,8 @@
-pub mod Selectors
 pub mod Rows
-pub mod InitialValues
 pub mod Sizes
 pub mod Runs
 pub mod CallsMade
+pub mod Exports
+pub mod InTurn
+pub mod Activations
+pub mod Openings

@@ -10,7 +10,7 @@ use Rattle.std.specs.Prelude.{slice_get}
 use Rattle.ob_positions.specs.Store.{Store, Held}
 use Rattle.ob_positions.specs.Evaluation.{value_of}
 use Rattle.ob_positions.specs.Statements.{Outcome, Done, Trap, NotYet, Run, Calls, after, then_run, with_turn, loop_once, loop, meaning, meaning_of_all, meaning_of_branches, activated, calls}
-use Rattle.ob_interpreter.proofs.Selectors.{drop_here}
+use Rattle.ob_evaluate.proofs.Selectors.{drop_here}
 
 drop_beyond : {A : Type 0} (xs : List A) (i : ℕ) → length xs ≤ i → drop i xs ≡ []
 drop_beyond [] zero h = refl

@@ -1,1 +1,5 @@
 pub mod Running
+pub mod View
+pub mod Outside
+pub mod Sequences
+pub mod Faults

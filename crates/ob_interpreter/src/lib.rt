@@ -1,7 +1,10 @@
-//! The interpreter of the whole language, by position: expressions, statements and calls.
+//! The interpreter of the whole language, by position: statements, calls in the text, calls from outside and the opening.
 #![tactic(auto)]
 
-pub mod begun;
-pub mod expressions;
-pub mod places;
+pub mod call;
+pub mod object;
+pub mod opening;
+pub mod outside;
+pub mod sequence;
+pub mod state;
 pub mod statements;

@@ -1,0 +1,40 @@
+-- What an opening that is done leaves, and what stops one.
+use Rattle.std.proofs.Common.{◌≡◌, ap, sym, ◌∙◌, ℕ, [], ◌∷◌, Err}
+use Rattle.ob_typing.specs.Program.{Program, Statements}
+use Rattle.ob_meaning.specs.Object.{most_activations}
+use Rattle.ob_positions.specs.Store.{Store, activation_at}
+use Rattle.ob_positions.specs.Statements.{Outcome, Done, meaning_of_all, begun, calls}
+use Rattle.ob_positions.specs.Object.{opening}
+use Rattle.ob_evaluate.specs.declared.places.Stop.{Stop}
+use Rattle.ob_evaluate.specs.declared.places.Stop.TheVariants as Stops
+use Rattle.ob_interpreter.specs.declared.state.State.{State}
+use Rattle.ob_interpreter.specs.Faults.{IsOpenFault, of_stop}
+use Rattle.ob_interpreter.specs.Running.{Comes}
+use Rattle.ob_interpreter.specs.Outside.{Opens}
+use Rattle.ob_interpreter.specs.Sequences.{IsOpening}
+use Rattle.ob_interpreter.specs.View.{state_of}
+use Rattle.ob_interpreter.proofs.Activations.{module_alone}
+
+module _ (program : Program) (turns : ℕ) where
+  pub opening_ran : (ss : Statements) (was : Store) → was ≡ begun program.variables ∷ [] → ss ≡ program.body →
+      opening program turns ≡ meaning_of_all (calls program most_activations) ss turns was
+  opening_ran ss was begins body =
+      ap (meaning_of_all (calls program most_activations) program.body turns) (sym begins)
+      ∙ ap (λ s. meaning_of_all (calls program most_activations) s turns was) (sym body)
+
+  pub opening_done : (l : ℕ) (next : Store) (state : State) → opening program turns ≡ Done l next →
+      state_of state ≡ activation_at next 0 → IsOpening program turns (state_of state)
+  opening_done l next state done lasts = (
+    l,
+    done ∙ ap (Done l) (module_alone program most_activations program.body turns l (begun program.variables) next done ∙ ap (λ a. a ∷ []) (sym lasts)),
+  )
+
+  pub opening_stops : (o : Outcome) (stop : Stop) (after : Store) → opening program turns ≡ o → Comes o (Err stop) after → Opens program turns (Err stop)
+  opening_stops o (Stops.Trap k) after ran comes = ran ∙ comes
+  opening_stops o Stops.NotYet after ran comes = ran ∙ comes
+  opening_stops o Stops.NoMemory after ran comes = tt
+
+  pub opening_fault : (stop : Stop) → Opens program turns (Err stop) → IsOpenFault program turns (of_stop stop)
+  opening_fault (Stops.Trap k) opens = opens
+  opening_fault Stops.NotYet opens = opens
+  opening_fault Stops.NoMemory opens = tt
