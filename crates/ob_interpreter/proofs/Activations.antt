@@ -1,12 +1,11 @@
 -- A run that is done leaves as many activations as there were.
-use Rattle.std.proofs.Common.{◌≡◌, refl, ap, sym, subst, ◌∙◌, arith, ℕ, zero, suc, pred, ◌<◌, Bool, true, false, List, [], ◌∷◌, ◌++◌, length, take, if◌then◌else◌, Option, Some, None}
+use Rattle.std.proofs.Common.{◌≡◌, refl, ap, subst, ◌∙◌, arith, ℕ, zero, suc, pred, Bool, true, false, List, [], ◌∷◌, ◌++◌, length, take, if◌then◌else◌, Option, Some, None}
 use Rattle.std.specs.Prelude.{slice_get}
 use Rattle.std.proofs.lemmas.List.{length-set, length-append}
-use Rattle.ob_typing.specs.declared.scalar.Scalar.{Scalar}
 use Rattle.ob_typing.specs.Program.{Expression, Statement, Assign, Call, If, While, Statements, no_statement, statement, Branches, no_branch, otherwise, branch, Procedure, Program}
 use Rattle.ob_typing.specs.Arithmetic.{Evaluated, Gives, Traps, truth_of}
-use Rattle.ob_positions.specs.Value.{Value, Single}
-use Rattle.ob_positions.specs.Store.{Place, Held, Activation, Store, activation_at, with_held, stored}
+use Rattle.ob_positions.specs.Value.{Single}
+use Rattle.ob_positions.specs.Store.{Held, Activation, Store, activation_at, with_held}
 use Rattle.ob_positions.specs.Evaluation.{place_of, value_of, all_handed}
 use Rattle.ob_positions.specs.Statements.{Outcome, Done, Trap, NotYet, Run, Calls, after, then_run, with_turn, loop_once, loop, meaning, meaning_of_all, meaning_of_branches, activation_of, left, activated, calls}
 

@@ -2,7 +2,7 @@
 use Rattle.std.proofs.Common.{◌≡◌, refl, ap, sym, ◌∙◌, arith, ℕ, zero, suc, ◌+◌, ◌-◌, ◌<◌, ◌≤◌, Bool, true, false, List, [], ◌∷◌, drop, get_or, length, if◌then◌else◌}
 use Rattle.ob_typing.specs.declared.scalar.Scalar.{Scalar}
 use Rattle.ob_typing.specs.Program as Programs
-use Rattle.ob_typing.specs.Arithmetic.{Evaluated, Gives, Traps, truth_of, too_many_activations}
+use Rattle.ob_typing.specs.Arithmetic.{Gives, Traps, truth_of, too_many_activations}
 use Rattle.ob_checked.specs.declared.program.Statement.{Statement}
 use Rattle.ob_checked.specs.declared.program.Branch.{Branch}
 use Rattle.ob_checked.specs.View.{expression_of, statement_of, statements_in, branches_in}

@@ -11,15 +11,15 @@ ghost use Rattle.ob_typing.specs.Program.{exports};
 ghost use Rattle.ob_interpreter.specs.Outside.{outside_store, run_of, Leaves};
 ghost use Rattle.ob_interpreter.specs.View.{state_of, call_of, effect_by, effect_in};
 
-use ob_evaluate::begun::variables_begun;
 use crate::call::{Call, Reply};
-use ob_evaluate::expressions::scalar_of;
 use crate::outside::{RESULTS, outside_handed, results_begun};
-use ob_evaluate::places::Stop;
 use crate::state::State;
 use crate::statements::{Context, run};
 use ob_checked::checked::Checked;
 use ob_checked::program::{Procedure, Program};
+use ob_evaluate::begun::variables_begun;
+use ob_evaluate::expressions::scalar_of;
+use ob_evaluate::places::Stop;
 use ob_grammar::NoMemory;
 use ob_store::store::{Store, value_held};
 use ob_typing::scalar::Scalar;
@@ -64,7 +64,12 @@ fn store_begun(
     let module = state.copy_variables(alloc)?;
     let results = results_begun(alloc, &program.types, parameters)?;
     let handed = outside_handed(alloc, &program.types, parameters, arguments)?;
-    let own = variables_begun(alloc, &program.types, handed, procedure.variables.as_slice())?;
+    let own = variables_begun(
+        alloc,
+        &program.types,
+        handed,
+        procedure.variables.as_slice(),
+    )?;
     Ok(Store::new(vec![in alloc; module, results, own]?))
 }
 
@@ -114,7 +119,14 @@ pub fn call_outside(
     let Some(procedure) = export(program, call.export) else {
         return Ok(Ended::Done(state.copy(alloc)?, Vec::new(alloc)));
     };
-    match run_outside(alloc, program, procedure, state, call.arguments.as_slice(), turns) {
+    match run_outside(
+        alloc,
+        program,
+        procedure,
+        state,
+        call.arguments.as_slice(),
+        turns,
+    ) {
         Ok(store) => {
             let values = answers(alloc, &store)?;
             Ok(Ended::Done(State::new(store.into_activation(alloc, 0)), values))

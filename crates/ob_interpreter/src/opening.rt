@@ -8,13 +8,13 @@ ghost use Rattle.ob_checked.specs.View.{program_of};
 ghost use Rattle.ob_interpreter.specs.Outside.{Opens};
 ghost use Rattle.ob_interpreter.specs.View.{state_of};
 
-use ob_evaluate::begun::variables_begun;
 use crate::object::MOST_ACTIVATIONS;
-use ob_evaluate::places::Stop;
 use crate::state::State;
 use crate::statements::{Context, run};
 use ob_checked::checked::Checked;
 use ob_checked::program::Program;
+use ob_evaluate::begun::variables_begun;
+use ob_evaluate::places::Stop;
 use ob_store::store::Store;
 use std::alloc::Global;
 use thiserror::Error;

@@ -5,9 +5,9 @@ ghost use Rattle.ob_checked.specs.View.{parameter_of, table_of};
 ghost use Rattle.ob_positions.specs.Object as Objects;
 ghost use Rattle.ob_store.specs.View.{activation_in};
 
-use ob_evaluate::begun::initial;
 use ob_checked::program::Parameter;
 use ob_checked::types::Types;
+use ob_evaluate::begun::initial;
 use ob_store::store::{Held, Place};
 use ob_store::value::Value;
 use ob_typing::scalar::Scalar;

@@ -7,10 +7,10 @@ ghost use Rattle.ob_store.specs.View.{held_in, activation_in, store_in};
 ghost use Rattle.ob_typing.specs.Program as Programs;
 ghost use Rattle.ob_interpreter.specs.Running.{Comes, calls_of};
 
+use ob_checked::program::{Branch, Designator, Expression, Program, Statement};
 use ob_evaluate::begun::variables_begun;
 use ob_evaluate::expressions::evaluate;
 use ob_evaluate::places::{Stop, all_handed, place_of};
-use ob_checked::program::{Branch, Designator, Expression, Program, Statement};
 use ob_scalars::operators::truth_of;
 use ob_scalars::trap::Trap;
 use ob_store::store::{Held, Store};

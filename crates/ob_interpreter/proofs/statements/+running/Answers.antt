@@ -1,14 +1,14 @@
-use Rattle.std.proofs.Common.{◌≡◌, ◌+◌, ◌-◌, ◌*◌, ◌<◌, ◌≤◌, ap, sym, ◌∙◌, arith, Some, Err}
+use Rattle.std.proofs.Common.{◌-◌, ◌*◌, ◌<◌, ap, sym, ◌∙◌, arith}
 use Rattle.std.proofs.lemmas.Result.{err_from_is_err_and}
 use Rattle.ob_checked.specs.View.{expression_of, statement_of, statements_in, branches_in, otherwise_of, program_of, procedure_of, table_of}
 use Rattle.ob_positions.specs.Statements as Statements
 use Rattle.ob_scalars.specs.Traps.{trap_number}
 use Rattle.ob_store.specs.View.{store_in, activation_in}
-use Rattle.ob_interpreter.specs.Running.{Comes, calls_of}
+use Rattle.ob_interpreter.specs.Running.{calls_of}
 use Rattle.ob_interpreter.proofs.CallsMade.{comes_as, stops_call, procedure_here, call_made}
 use Rattle.ob_interpreter.proofs.Rows.{statement_of-if, statement_of-while}
 use Rattle.ob_interpreter.proofs.Runs.{branch_traps, branch_taken, branches_end, loop_goes, loop_ends}
-use Rattle.ob_interpreter.proofs.Sizes.{size, size_of_all, size_of_branches, sizes, turn_of, size_at, branch_at, last_at, body_at, within_less}
+use Rattle.ob_interpreter.proofs.Sizes.{size, size_of_all, size_of_branches, turn_of, size_at, branch_at, last_at, body_at, within_less}
 use Rattle.ob_interpreter.proofs.statements.+running.Goals as goal
 
 pub call-run-requires : goal.call-run-requires
@@ -138,8 +138,7 @@ repeat-again-preserved t c =
     let le = c.again.invariant.0.1.0 in
     let fewer = c.in_ok-left.ensures.turns in
     let store = store_in c.again.store in
-    let goes = loop_goes n condition body c.again.left store c.in_ok-evaluate.field-0 (omega arith) le c.in_ok-evaluate.ensures (sym c.truth_of.ensures ∙ c.if-truth_of.true) in
-    (
+    let goes = loop_goes n condition body c.again.left store c.in_ok-evaluate.field-0 (omega arith) le c.in_ok-evaluate.ensures (sym c.truth_of.ensures ∙ c.if-truth_of.true) in (
       (
         n - 1,
         (
