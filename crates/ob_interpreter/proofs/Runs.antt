@@ -1,32 +1,27 @@
--- Statements, branches and loops, one step after the other.
+-- Branches, loops and calls, one step after the other.
 use Rattle.std.proofs.Common.{◌≡◌, refl, ap, sym, ◌∙◌, arith, ℕ, zero, suc, ◌+◌, ◌-◌, ◌<◌, ◌≤◌, Bool, true, false, List, [], ◌∷◌, drop, get_or, length, if◌then◌else◌}
 use Rattle.ob_typing.specs.declared.scalar.Scalar.{Scalar}
 use Rattle.ob_typing.specs.Program as Programs
-use Rattle.ob_typing.specs.Arithmetic.{Gives, Traps, truth_of, too_many_activations}
-use Rattle.ob_checked.specs.declared.program.Statement.{Statement}
+use Rattle.ob_typing.specs.Arithmetic.{Gives, Traps, truth_of}
 use Rattle.ob_checked.specs.declared.program.Branch.{Branch}
-use Rattle.ob_checked.specs.View.{expression_of, statement_of, statements_in, branches_in}
+use Rattle.ob_checked.specs.View.{expression_of, statements_in, branches_in}
 use Rattle.std.specs.Prelude.{slice_get}
 use Rattle.ob_positions.specs.Store.{Store, Held}
 use Rattle.ob_positions.specs.Evaluation.{value_of}
-use Rattle.ob_positions.specs.Statements.{Outcome, Done, Trap, NotYet, Run, Calls, after, then_run, with_turn, loop_once, loop, meaning, meaning_of_all, meaning_of_branches, activated, calls}
-use Rattle.ob_evaluate.proofs.Selectors.{drop_here}
+use Rattle.ob_positions.specs.Statements.{Outcome, Done, Trap, NotYet, Run, Calls, after, then_run, with_turn, loop_once, loop, meaning_of_all, meaning_of_branches, activated, calls}
+
+drop_here : {A : Type 0} (all : List A) (i : ℕ) (d : A) → i < length all → drop i all ≡ get_or all i d ∷ drop (i + 1) all
+drop_here [] i d h = absurd (omega (arith, h))
+drop_here (x ∷ all) zero d h = refl
+drop_here (x ∷ all) (suc i) d h =
+    let e : suc (i + 1) ≡ suc i + 1 = omega arith in
+    drop_here all i d (omega (arith, h)) ∙ ap (λ n. get_or all i d ∷ drop n (x ∷ all)) e
 
 drop_beyond : {A : Type 0} (xs : List A) (i : ℕ) → length xs ≤ i → drop i xs ≡ []
 drop_beyond [] zero h = refl
 drop_beyond [] (suc i) h = refl
 drop_beyond (x ∷ xs) zero h = absurd (omega (arith, h))
 drop_beyond (x ∷ xs) (suc i) h = drop_beyond xs i (omega (arith, h))
-
--- an outcome that ends all: a trap, or want of turns
-pub data IsStop : Outcome → Type 0 where
-  trap : {k : ℕ} → IsStop (Trap k)
-  not_yet : IsStop NotYet
-
-stops : (o : Outcome) (run : Run) → IsStop o → then_run o run ≡ o
-stops (Trap k) run h = refl
-stops NotYet run h = refl
-stops (Done t s) run h = elim h [ ]
 
 chosen_run : (b : Bool) (f g : Run) (t : ℕ) (store : Store) → b ≡ true → (if b then f else g) t store ≡ f t store
 chosen_run true f g t store h = refl
@@ -37,33 +32,6 @@ passed_run true f g t store h = absurd cc
 passed_run false f g t store h = refl
 
 module _ (calls : Calls) where
-  run_more : (all : List Statement) (i t : ℕ) (s : Statement) (store : Store) → i < length all → s ≡ get_or all i s →
-      meaning_of_all calls (statements_in (drop i all)) t store
-      ≡ then_run (meaning calls (statement_of s) t store) (meaning_of_all calls (statements_in (drop (i + 1) all)))
-  run_more all i t s store below here =
-      ap (λ ss. meaning_of_all calls (statements_in ss) t store) (drop_here all i s below ∙ ap (λ x. x ∷ drop (i + 1) all) (sym here))
-
-  pub run_step : (all : List Statement) (i t u : ℕ) (s : Statement) (store next : Store) (r : Outcome) → i < length all → s ≡ get_or all i s →
-      meaning calls (statement_of s) t store ≡ Done u next → meaning_of_all calls (statements_in (drop i all)) t store ≡ r →
-      meaning_of_all calls (statements_in (drop (i + 1) all)) u next ≡ r
-  run_step all i t u s store next r below here done so_far =
-      sym (ap (λ o. then_run o (meaning_of_all calls (statements_in (drop (i + 1) all)))) done)
-      ∙ sym (run_more all i t s store below here) ∙ so_far
-
-  pub run_stops : (all : List Statement) (i t : ℕ) (s : Statement) (store : Store) (o r : Outcome) → i < length all → s ≡ get_or all i s →
-      meaning calls (statement_of s) t store ≡ o → IsStop o → meaning_of_all calls (statements_in (drop i all)) t store ≡ r → r ≡ o
-  run_stops all i t s store o r below here ends stop so_far =
-      sym so_far ∙ run_more all i t s store below here
-      ∙ ap (λ x. then_run x (meaning_of_all calls (statements_in (drop (i + 1) all)))) ends
-      ∙ stops o (meaning_of_all calls (statements_in (drop (i + 1) all))) stop
-
-  pub run_ends : (all : List Statement) (i t : ℕ) (store : Store) (r : Outcome) → length all ≤ i →
-      meaning_of_all calls (statements_in (drop i all)) t store ≡ r → r ≡ Done t store
-  run_ends all i t store r beyond so_far =
-      sym so_far ∙ ap (λ ss. meaning_of_all calls (statements_in ss) t store) (drop_beyond all i beyond)
-
-  -- branches
-
   branch_more : (all : List Branch) (last : Programs.Branches) (i t : ℕ) (b : Branch) (store : Store) → i < length all → b ≡ get_or all i b →
       meaning_of_branches calls (branches_in (drop i all) last) t store
       ≡ after (value_of store (expression_of b.condition)) (λ v.
@@ -80,15 +48,6 @@ module _ (calls : Calls) where
       sym so_far ∙ branch_more all last i t b store below here
       ∙ ap (λ e. after e (λ v. (if truth_of v then body else rest) t store)) (sym gives)
       ∙ chosen_run (truth_of v) body rest t store holds
-
-  pub branch_passed : (all : List Branch) (last : Programs.Branches) (i t : ℕ) (b : Branch) (store : Store) (v : Scalar) (r : Outcome) → i < length all → b ≡ get_or all i b →
-      Gives v ≡ value_of store (expression_of b.condition) → truth_of v ≡ false → meaning_of_branches calls (branches_in (drop i all) last) t store ≡ r →
-      meaning_of_branches calls (branches_in (drop (i + 1) all) last) t store ≡ r
-  branch_passed all last i t b store v r below here gives fails so_far =
-      let rest = meaning_of_branches calls (branches_in (drop (i + 1) all) last) in
-      let body = meaning_of_all calls (statements_in b.body.items) in
-      sym (ap (λ e. after e (λ v. (if truth_of v then body else rest) t store)) (sym gives) ∙ passed_run (truth_of v) body rest t store fails)
-      ∙ sym (branch_more all last i t b store below here) ∙ so_far
 
   pub branch_traps : (all : List Branch) (last : Programs.Branches) (i t k : ℕ) (b : Branch) (store : Store) (r : Outcome) → i < length all → b ≡ get_or all i b →
       Traps k ≡ value_of store (expression_of b.condition) → meaning_of_branches calls (branches_in (drop i all) last) t store ≡ r → r ≡ Trap k
@@ -116,23 +75,10 @@ once_goes c body again t store v gives holds =
     ap (λ e. after e (λ v. (if truth_of v then (λ t s. with_turn (λ l. then_run (body l s) again) t) else Done) t store)) (sym gives)
     ∙ chosen_run (truth_of v) (λ t s. with_turn (λ l. then_run (body l s) again) t) Done t store holds
 
-once_traps : (c : Programs.Expression) (body again : Run) (t k : ℕ) (store : Store) → Traps k ≡ value_of store c → loop_once c body again t store ≡ Trap k
-once_traps c body again t k store traps =
-    ap (λ e. after e (λ v. (if truth_of v then (λ t s. with_turn (λ l. then_run (body l s) again) t) else Done) t store)) (sym traps)
-
 pub loop_ends : (n : ℕ) (c : Programs.Expression) (body : Run) (t : ℕ) (store : Store) (v : Scalar) → Gives v ≡ value_of store c → truth_of v ≡ false →
     loop n c body t store ≡ Done t store
 loop_ends zero c body t store v gives fails = once_ends c body (λ t s. NotYet) t store v gives fails
 loop_ends (suc n) c body t store v gives fails = once_ends c body (loop n c body) t store v gives fails
-
-pub loop_traps : (n : ℕ) (c : Programs.Expression) (body : Run) (t k : ℕ) (store : Store) → Traps k ≡ value_of store c → loop n c body t store ≡ Trap k
-loop_traps zero c body t k store traps = once_traps c body (λ t s. NotYet) t k store traps
-loop_traps (suc n) c body t k store traps = once_traps c body (loop n c body) t k store traps
-
-pub loop_lacks : (n : ℕ) (c : Programs.Expression) (body : Run) (store : Store) (v : Scalar) → Gives v ≡ value_of store c → truth_of v ≡ true →
-    loop n c body 0 store ≡ NotYet
-loop_lacks zero c body store v gives holds = once_goes c body (λ t s. NotYet) 0 store v gives holds
-loop_lacks (suc n) c body store v gives holds = once_goes c body (loop n c body) 0 store v gives holds
 
 pub loop_goes : (n : ℕ) (c : Programs.Expression) (body : Run) (t : ℕ) (store : Store) (v : Scalar) → 0 < t → t ≤ n → Gives v ≡ value_of store c → truth_of v ≡ true →
     loop n c body t store ≡ then_run (body (t - 1) store) (loop (n - 1) c body)
@@ -146,15 +92,6 @@ loop_goes (suc n) c body (suc t) store v some le gives holds =
     ∙ ap (λ x. then_run (body (suc t - 1) store) (loop x c body)) bound
 
 -- calls
-
-pub call_traps : (program : Programs.Program) (more n t : ℕ) (handed : List Held) (store : Store) → more ≡ 0 → calls program more n handed t store ≡ Trap too_many_activations
-call_traps program zero n t handed store h = refl
-call_traps program (suc more) n t handed store h = absurd cc
-
-pub call_lacks : (program : Programs.Program) (more n t : ℕ) (handed : List Held) (store : Store) → 0 < more → t ≡ 0 → calls program more n handed t store ≡ NotYet
-call_lacks program zero n t handed store h k = absurd (omega (arith, h))
-call_lacks program (suc more) n zero handed store h k = refl
-call_lacks program (suc more) n (suc t) handed store h k = absurd cc
 
 -- a call that may be made takes a turn and an activation
 pub call_goes : (program : Programs.Program) (more n t : ℕ) (handed : List Held) (store : Store) → 0 < more → 0 < t →
