@@ -4,5 +4,5 @@ pub mod Runs
 pub mod CallsMade
 pub mod Exports
 pub mod InTurn
-pub mod Activations
+pub mod Kept
 pub mod Openings

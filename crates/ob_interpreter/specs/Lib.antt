@@ -1,4 +1,5 @@
 pub mod Running
+pub mod Values
 pub mod View
 pub mod Outside
 pub mod Sequences

@@ -3,7 +3,7 @@ use Rattle.std.specs.Prelude.{Option, Some, None}
 use Rattle.ob_meaning.specs.Object as Object
 use Rattle.ob_positions.specs.Store.{Activation}
 use Rattle.ob_positions.specs.Object as Effects
-use Rattle.ob_store.specs.View.{activation_in}
+use Rattle.ob_interpreter.specs.Values.{state_in}
 use Rattle.ob_interpreter.specs.declared.state.State.{State}
 use Rattle.ob_interpreter.specs.declared.call.Call.{Call}
 use Rattle.ob_interpreter.specs.declared.call.Reply.{Reply}
@@ -12,7 +12,7 @@ use Rattle.ob_interpreter.specs.declared.object.Ended.{Ended}
 use Rattle.ob_interpreter.specs.declared.object.Ended.TheVariants as Ends
 
 abbrev pub state_of : State → Activation
-state_of s = activation_in s.variables
+state_of s = state_in s.variables.items
 
 abbrev pub call_of : Call → Object.ObjectCall
 call_of c = record { export = c.export; arguments = c.arguments.items }

@@ -61,7 +61,7 @@ fn store_begun(
         ≡ outside_store (procedure_of (table_of program.now.types) procedure.now) (state_of state.now) arguments.now) }
 {
     let parameters = procedure.parameters.as_slice();
-    let module = state.copy_variables(alloc)?;
+    let module = state.activation(alloc)?;
     let results = results_begun(alloc, &program.types, parameters)?;
     let handed = outside_handed(alloc, &program.types, parameters, arguments)?;
     let own = variables_begun(
@@ -129,7 +129,8 @@ pub fn call_outside(
     ) {
         Ok(store) => {
             let values = answers(alloc, &store)?;
-            Ok(Ended::Done(State::new(store.into_activation(alloc, 0)), values))
+            let next = State::left(alloc, store.into_activation(alloc, 0))?;
+            Ok(Ended::Done(next, values))
         }
         Err(Stop::Trap(number)) => Ok(Ended::Trapped(number)),
         Err(Stop::NotYet) => Ok(Ended::NeedsMore),

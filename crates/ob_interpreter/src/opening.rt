@@ -65,7 +65,8 @@ fn run_body(alloc: Global, program: &Program, turns: u64) -> Result<State, Stop>
         more: MOST_ACTIVATIONS,
     };
     run(context, &mut store, program.body.as_slice(), turns)?;
-    Ok(State::new(store.into_activation(alloc, 0)))
+    let state = State::left(alloc, store.into_activation(alloc, 0))?;
+    Ok(state)
 }
 
 /// The opening state: all variables 0 or FALSE, and then what the module's body makes of them with so many turns.

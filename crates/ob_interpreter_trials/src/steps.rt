@@ -4,7 +4,6 @@ use crate::programs::program;
 use ob_interpreter::call::{Call, Reply};
 use ob_interpreter::object::step;
 use ob_interpreter::state::State;
-use ob_store::store::Held;
 use ob_store::value::Value;
 use ob_typing::scalar::Scalar;
 use std::alloc::Global;
@@ -12,15 +11,14 @@ use std::test::Fail;
 
 /// The state in which x is 7.
 fn seven(alloc: Global) -> Result<State, Fail> {
-    let held = Held::Holds(Value::Single(Scalar::Int(7)));
-    Ok(State::new(vec![in alloc; held]?))
+    Ok(State::new(vec![in alloc; Value::Single(Scalar::Int(7))]?))
 }
 
 /// The value of x.
 fn value_of_x(state: &State) -> Option<Scalar> {
     match state.variables().first() {
-        Some(Held::Holds(value)) => Some(value.scalar()),
-        Some(Held::Refers(_)) | None => None,
+        Some(value) => Some(value.scalar()),
+        None => None,
     }
 }
 

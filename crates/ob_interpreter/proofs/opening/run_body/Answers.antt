@@ -3,6 +3,7 @@ use Rattle.std.proofs.lemmas.Result.{err_from_is_err_and}
 use Rattle.ob_checked.specs.View.{program_of, statements_in, table_of, variable_of}
 use Rattle.ob_positions.specs.Statements.{begun}
 use Rattle.ob_store.specs.View.{store_in, held_in, activation_in}
+use Rattle.ob_interpreter.specs.Values.{settled}
 use Rattle.ob_interpreter.proofs.Openings.{opening_ran, opening_done, opening_stops}
 use Rattle.ob_interpreter.proofs.opening.run_body.Goals as goal
 
@@ -22,11 +23,11 @@ returns-in_err-run c =
 pub returns : goal.returns
 returns c =
     let program = c.args.program.now in
-    opening_done (program_of program) c.args.turns _ (store_in c.run.new.store) c.new-2.result
+    opening_done (program_of program) c.args.turns _ (store_in c.run.new.store) c.in_ok-state.state
     (opening_ran (program_of program) c.args.turns (statements_in c.as_slice-2.result.now) (store_in c.new-store.result)
     (c.new-store.ensures ∙ ap (map activation_in) c.in_ok-vec.ensures.items
     ∙ ap (λ a. a ∷ []) (c.in_ok-module.ensures ∙ ap (λ hs. map held_in hs ++ begun (map (variable_of (table_of program.types)) c.as_slice.result.now)) c.new.ensures.items
     ∙ ap (λ vs. begun (map (variable_of (table_of program.types)) vs)) c.as_slice.ensures.value))
     (ap statements_in c.as_slice-2.ensures.value)
     ∙ c.in_ok-run.ensures.outcome)
-    (c.new-2.ensures ∙ c.into_activation.ensures)
+    (c.in_ok-state.ensures ∙ ap settled c.into_activation.ensures)
