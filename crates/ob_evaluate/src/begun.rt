@@ -6,7 +6,7 @@ ghost use Rattle.ob_checked.specs.Types.{type_in, types_of, fields_by};
 ghost use Rattle.ob_checked.specs.View.{variable_of, table_of};
 ghost use Rattle.ob_positions.specs.Value as Values;
 ghost use Rattle.ob_positions.specs.Statements as Statements;
-ghost use Rattle.ob_store.specs.View.{value_in, values_in, held_in, activation_in};
+ghost use Rattle.ob_store.specs.View.{value_in, values_in, activation_in};
 
 use indexmap::IndexMap;
 use ob_checked::program::Variable;

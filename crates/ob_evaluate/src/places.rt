@@ -61,7 +61,7 @@ impl<T: Drop> From<AllocFailed<T>> for Stop {
 }
 
 /// An equal place.
-pub fn copied(alloc: Global, place: &Place) -> Result<Place, AllocError>
+fn copied(alloc: Global, place: &Place) -> Result<Place, AllocError>
     ensures { IfOk result (λ p. place_in p ≡ place_in place.now) }
 {
     Ok(Place {

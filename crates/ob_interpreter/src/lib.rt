@@ -4,7 +4,7 @@
 pub mod call;
 pub mod object;
 pub mod opening;
-pub mod outside;
+mod outside;
 pub mod sequence;
 pub mod state;
 pub mod statements;

@@ -1,8 +1,8 @@
 //! One call on the object, from outside.
 
-ghost use Rattle.std.specs.Prelude.{◌≡◌, ◌-◌, [], ◌∷◌, IfOk, map, option_map, slice_get};
+ghost use Rattle.std.specs.Prelude.{◌≡◌, IfOk, option_map, slice_get};
 ghost use Rattle.ob_checked.specs.CheckedModule.{program_in};
-ghost use Rattle.ob_checked.specs.View.{parameter_of, procedure_of, program_of, statements_in, table_of};
+ghost use Rattle.ob_checked.specs.View.{procedure_of, program_of, table_of};
 ghost use Rattle.ob_meaning.specs.Object.{results_position};
 ghost use Rattle.ob_positions.specs.Object as Objects;
 ghost use Rattle.ob_positions.specs.Store as Stores;

@@ -1,9 +1,9 @@
 //! The outcomes of statements and of calls in the text.
 
-ghost use Rattle.std.specs.Prelude.{◌≡◌, ◌≤◌, ◌++◌, IfOk, map};
-ghost use Rattle.ob_checked.specs.View.{designator_of, expression_of, statement_of, statements_in, branches_in, otherwise_of, program_of, procedure_of, variable_of, table_of};
+ghost use Rattle.std.specs.Prelude.{◌≤◌, IfOk};
+ghost use Rattle.ob_checked.specs.View.{designator_of, expression_of, statement_of, statements_in, branches_in, otherwise_of};
 ghost use Rattle.ob_positions.specs.Statements as Statements;
-ghost use Rattle.ob_store.specs.View.{held_in, activation_in, store_in};
+ghost use Rattle.ob_store.specs.View.{activation_in, store_in};
 ghost use Rattle.ob_typing.specs.Program as Programs;
 ghost use Rattle.ob_interpreter.specs.Running.{Comes, calls_of};
 
