@@ -35,7 +35,7 @@ pub struct Store {
 }
 
 /// The value that is held, if it is one.
-fn value_held(held: &Held) -> Option<&Value>
+pub fn value_held(held: &Held) -> Option<&Value>
     ensures { value_or_zero result ≡ Stores.value_held (held_in held.now) }
 {
     match held {
@@ -143,5 +143,15 @@ impl Store {
         ensures { store_in self.new ≡ take (pred (length (store_in self.old))) (store_in self.old) }
     {
         self.activations.pop();
+    }
+    /// The activation at a position, without the others; an empty one where there is none.
+    pub fn into_activation(self, alloc: Global, position: usize) -> Vec<Held>
+        ensures { activation_in result ≡ Stores.activation_at (store_in self) position }
+    {
+        let mut activations = self.activations;
+        if position < activations.len() {
+            return activations.swap_remove(position);
+        }
+        Vec::new(alloc)
     }
 }

@@ -1,0 +1,3 @@
+pub mod Selectors
+pub mod Rows
+pub mod InitialValues

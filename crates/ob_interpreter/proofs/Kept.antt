@@ -1,0 +1,168 @@
+-- What a run that is done keeps: the number of activations, and that the module's variables have values of their own.
+use Rattle.std.proofs.Common.{◌≡◌, refl, ap, sym, subst, ◌∙◌, arith, ℕ, zero, suc, pred, ◌<◌, Bool, true, false, List, [], ◌∷◌, ◌++◌, length, take, if◌then◌else◌, Option, Some, None}
+use Rattle.std.specs.Prelude.{slice_get}
+use Rattle.std.proofs.lemmas.List.{length-set, length-append}
+use Rattle.ob_typing.specs.Program.{Expression, Statement, Assign, Call, If, While, Statements, no_statement, statement, Branches, no_branch, otherwise, branch, Procedure, Program}
+use Rattle.ob_typing.specs.Arithmetic.{Evaluated, Gives, Traps, truth_of}
+use Rattle.ob_positions.specs.Value.{Value, Single}
+use Rattle.ob_positions.specs.Store.{Place, Held, Holds, Refers, Activation, Store, activation_at, value_held, with_value, with_held, stored}
+use Rattle.ob_positions.specs.Evaluation.{place_of, value_of, all_handed}
+use Rattle.ob_positions.specs.Statements.{Outcome, Done, Trap, NotYet, Run, Calls, after, then_run, with_turn, loop_once, loop, meaning, meaning_of_all, meaning_of_branches, activation_of, left, activated, calls}
+use Rattle.ob_interpreter.specs.Values.{settled}
+
+-- each variable has a value of its own
+abbrev pub IsSettled : Activation → Type 0
+IsSettled a = settled a ≡ a
+
+settled_value : (h : Held) (path : List ℕ) (w : Value) → Holds (value_held h) ≡ h → Holds (value_held (with_value h path w)) ≡ with_value h path w
+settled_value (Holds v) path w e = refl
+settled_value (Refers p) path w e = absurd cc
+
+settled_written : (a : Activation) (i : ℕ) (path : List ℕ) (w : Value) → IsSettled a → IsSettled (with_held a i path w)
+settled_written [] i path w h = refl
+settled_written (g ∷ a) zero path w h =
+    let first : Holds (value_held g) ≡ g = cc in
+    let rest : settled a ≡ a = cc in
+    ap (λ x. x ∷ settled a) (settled_value g path w first) ∙ ap (λ xs. with_value g path w ∷ xs) rest
+settled_written (g ∷ a) (suc i) path w h =
+    let first : Holds (value_held g) ≡ g = cc in
+    let rest : settled a ≡ a = cc in
+    let more = settled_written a i path w rest in
+    ap (λ x. x ∷ settled (with_held a i path w)) first ∙ ap (λ xs. g ∷ xs) more
+
+-- the module is the first activation, where there is one
+pub record Kept (was next : Store) : Type 0 where
+  pub count : length next ≡ length was
+  pub values : 0 < length was → IsSettled (activation_at was 0) → IsSettled (activation_at next 0)
+
+kept_itself : (a : Store) → Kept a a
+kept_itself a = record { count = refl; values = λ p h. h }
+
+kept_both : (a b c : Store) → Kept a b → Kept b c → Kept a c
+kept_both a b c h k =
+    record {
+      count = k.count ∙ h.count;
+      values = λ p v. k.values (subst (λ n. 0 < n) (sym h.count) p) (h.values p v);
+    }
+
+values_stored : (store : Store) (k i : ℕ) (path : List ℕ) (w : Value) →
+    IsSettled (activation_at store 0) → IsSettled (activation_at (stored store (record { activation = k; position = i; path = path }) w) 0)
+values_stored [] k i path w h = h
+values_stored (a ∷ store) zero i path w h = settled_written a i path w h
+values_stored (a ∷ store) (suc k) i path w h = h
+
+kept_stored : (store : Store) (place : Place) (w : Value) → Kept store (stored store place w)
+kept_stored store place w =
+    record {
+      count = length-set store place.activation (with_held (activation_at store place.activation) place.position place.path w);
+      values = λ p h. values_stored store place.activation place.position place.path w h;
+    }
+
+-- without the last activation
+shorter : (a : Activation) (next : Store) → length (take (pred (length (a ∷ next))) (a ∷ next)) ≡ length next
+shorter a [] = refl
+shorter a (b ∷ next) = ap suc (shorter b next)
+
+kept_left : (store : Store) (a : Activation) (next : Store) → Kept (store ++ a ∷ []) next → Kept store (take (pred (length next)) next)
+kept_left store a [] h = absurd (let e = h.count in let f = length-append store (a ∷ []) in omega (arith, e, f))
+kept_left [] a (n ∷ next) h =
+    record { count = shorter n next ∙ (let e : suc (length next) ≡ 1 = h.count in omega (arith, e)); values = λ p. absurd (omega (arith, p)) }
+kept_left (m ∷ store) a (n ∷ []) h = absurd (let e = h.count in let f = length-append store (a ∷ []) in omega (arith, e, f))
+kept_left (m ∷ store) a (n ∷ o ∷ next) h =
+    record {
+      count = shorter n (o ∷ next) ∙ (let e : suc (suc (length next)) ≡ suc (length (store ++ a ∷ [])) = h.count in let f = length-append store (a ∷ []) in omega (arith, e, f));
+      values = λ p. h.values (omega arith);
+    }
+
+-- what an outcome keeps
+abbrev Leaves : Store → Outcome → Type 0
+Leaves was (Done turns next) = Kept was next
+Leaves was (Trap k) = Unit {0}
+Leaves was NotYet = Unit {0}
+
+abbrev Keeps : Run → Type 0
+Keeps run = (turns : ℕ) (store : Store) → Leaves store (run turns store)
+
+leaves_later : (a b : Store) (o : Outcome) → Kept a b → Leaves b o → Leaves a o
+leaves_later a b (Done turns c) h k = kept_both a b c h k
+leaves_later a b (Trap n) h k = tt
+leaves_later a b NotYet h k = tt
+
+leaves_after : {A : Type 0} (was : Store) (v : Evaluated A) (go : A → Outcome) → ((a : A) → Leaves was (go a)) → Leaves was (after v go)
+leaves_after was (Gives a) go h = h a
+leaves_after was (Traps k) go h = tt
+
+leaves_then : (was : Store) (o : Outcome) (run : Run) → Leaves was o → Keeps run → Leaves was (then_run o run)
+leaves_then was (Done turns store) run h k = leaves_later was store (run turns store) h (k turns store)
+leaves_then was (Trap n) run h k = tt
+leaves_then was NotYet run h k = tt
+
+leaves_turn : (was : Store) (go : ℕ → Outcome) → ((t : ℕ) → Leaves was (go t)) → (t : ℕ) → Leaves was (with_turn go t)
+leaves_turn was go h zero = tt
+leaves_turn was go h (suc t) = h t
+
+keeps_if : (b : Bool) (r s : Run) → Keeps r → Keeps s → Keeps (if b then r else s)
+keeps_if true r s x y = x
+keeps_if false r s x y = y
+
+leaves_left : (store : Store) (a : Activation) (o : Outcome) → Leaves (store ++ a ∷ []) o → Leaves store (left o)
+leaves_left store a (Done turns next) h = kept_left store a next h
+leaves_left store a (Trap k) h = tt
+leaves_left store a NotYet h = tt
+
+once_keeps : (c : Expression) (body again : Run) → Keeps body → Keeps again → Keeps (loop_once c body again)
+once_keeps c body again x y t s =
+    leaves_after s (value_of s c) _ (λ v.
+    keeps_if (truth_of v) (λ t s. with_turn (λ l. then_run (body l s) again) t) Done
+    (λ t s. leaves_turn s (λ l. then_run (body l s) again) (λ l. leaves_then s (body l s) again (x l s) y) t)
+    (λ t s. kept_itself s) t s)
+
+loop_keeps : (n : ℕ) (c : Expression) (body : Run) → Keeps body → Keeps (loop n c body)
+loop_keeps zero c body x = once_keeps c body (λ t s. NotYet) x (λ t s. tt)
+loop_keeps (suc n) c body x = once_keeps c body (loop n c body) x (loop_keeps n c body x)
+
+module _ (call : Calls) (x : (p : ℕ) (hs : List Held) → Keeps (call p hs)) where
+  mutual
+    statement_keeps : (st : Statement) → Keeps (meaning call st)
+    statement_keeps (Assign target v) t s =
+        leaves_after s (place_of s target) _ (λ place. leaves_after s (value_of s v) _ (λ w. kept_stored s place (Single w)))
+    statement_keeps (Call p actuals) t s = leaves_after s (all_handed s actuals) _ (λ hs. x p hs t s)
+    statement_keeps (If branches) t s = branches_keep branches t s
+    statement_keeps (While c body) t s = loop_keeps t c (meaning_of_all call body) (statements_keep body) t s
+
+    statements_keep : (ss : Statements) → Keeps (meaning_of_all call ss)
+    statements_keep no_statement t s = kept_itself s
+    statements_keep (statement first rest) t s =
+        leaves_then s (meaning call first t s) (meaning_of_all call rest) (statement_keeps first t s) (statements_keep rest)
+
+    branches_keep : (bs : Branches) → Keeps (meaning_of_branches call bs)
+    branches_keep no_branch t s = kept_itself s
+    branches_keep (otherwise ss) t s = statements_keep ss t s
+    branches_keep (branch c ss rest) t s =
+        leaves_after s (value_of s c) _ (λ v. keeps_if (truth_of v) _ _ (statements_keep ss) (branches_keep rest) t s)
+
+  activated_keeps : (p : Option Procedure) (hs : List Held) → Keeps (activated call p hs)
+  activated_keeps None hs t s = kept_itself s
+  activated_keeps (Some p) hs t s =
+      leaves_left s (activation_of p hs) (meaning_of_all call p.body t (s ++ activation_of p hs ∷ [])) (statements_keep p.body t (s ++ activation_of p hs ∷ []))
+
+calls_keep : (program : Program) (more n : ℕ) (hs : List Held) → Keeps (calls program more n hs)
+calls_keep program zero n hs t s = tt
+calls_keep program (suc more) n hs t s =
+    leaves_turn s (λ rest. activated (calls program more) (slice_get program.procedures n) hs rest s)
+    (λ l. activated_keeps (calls program more) (calls_keep program more) (slice_get program.procedures n) hs l s) t
+
+-- a run that is done
+pub kept_where_done : (program : Program) (more : ℕ) (ss : Statements) (turns l : ℕ) (was next : Store) →
+    meaning_of_all (calls program more) ss turns was ≡ Done l next → Kept was next
+kept_where_done program more ss turns l was next done =
+    subst (Leaves was) done (statements_keep (calls program more) (calls_keep program more) ss turns was)
+
+alone : (store : Store) → length store ≡ 1 → store ≡ activation_at store 0 ∷ []
+alone [] h = absurd (omega (arith, h))
+alone (a ∷ []) h = refl
+alone (a ∷ b ∷ store) h = absurd (let e : suc (suc (length store)) ≡ 1 = h in omega (arith, e))
+
+-- a run on the module alone leaves the module alone
+pub module_alone : (a : Activation) (next : Store) → Kept (a ∷ []) next → next ≡ activation_at next 0 ∷ []
+module_alone a next kept = alone next kept.count

@@ -1,0 +1,8 @@
+pub mod Rows
+pub mod Sizes
+pub mod Runs
+pub mod CallsMade
+pub mod Exports
+pub mod InTurn
+pub mod Kept
+pub mod Openings

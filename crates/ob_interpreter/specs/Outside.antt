@@ -1,0 +1,40 @@
+-- A run from outside, and the opening's.
+use Rattle.std.specs.Prelude.{◌≡◌, ℕ, ◌-◌, List, [], ◌∷◌, Result, Ok, Err}
+use Rattle.ob_typing.specs.declared.scalar.Scalar.{Scalar}
+use Rattle.ob_typing.specs.Program.{Procedure, Program}
+use Rattle.ob_meaning.specs.Object.{most_activations}
+use Rattle.ob_positions.specs.Store as Stores
+use Rattle.ob_positions.specs.Statements as Statements
+use Rattle.ob_positions.specs.Object.{results_begun, outside_handed}
+use Rattle.ob_store.specs.declared.store.Store.{Store}
+use Rattle.ob_store.specs.View.{store_in}
+use Rattle.ob_positions.specs.Object as Objects
+use Rattle.ob_interpreter.specs.declared.state.State.{State}
+use Rattle.ob_interpreter.specs.View.{state_of}
+use Rattle.ob_interpreter.specs.Sequences.{IsOpening}
+use Rattle.ob_evaluate.specs.declared.places.Stop.{Stop}
+use Rattle.ob_evaluate.specs.declared.places.Stop.TheVariants as Stops
+
+-- the module, the results, and the first activation
+abbrev pub outside_store : Procedure → Stores.Activation → List Scalar → Stores.Store
+outside_store p state arguments =
+    state ∷ results_begun p.parameters ∷ Statements.activation_of p (outside_handed 0 p.parameters arguments) ∷ []
+
+-- what the procedure's statements come to there
+abbrev pub run_of : Program → Procedure → List Scalar → ℕ → Stores.Activation → Statements.Outcome
+run_of program p arguments turns state =
+    Statements.meaning_of_all (Statements.calls program (most_activations - 1)) p.body turns (outside_store p state arguments)
+
+-- a run left this store, or stopped so
+abbrev pub Leaves : Statements.Outcome → Result Store Stop → Type 0
+Leaves o (Ok store) = (turns : ℕ) × (o ≡ Statements.Done turns (store_in store))
+Leaves o (Err (Stops.Trap k)) = o ≡ Statements.Trap k
+Leaves o (Err Stops.NotYet) = o ≡ Statements.NotYet
+Leaves o (Err Stops.NoMemory) = Unit {0}
+
+-- the opening ended in this state, or stopped so
+abbrev pub Opens : Program → ℕ → Result State Stop → Type 0
+Opens program turns (Ok state) = IsOpening program turns (state_of state)
+Opens program turns (Err (Stops.Trap k)) = Objects.opening program turns ≡ Statements.Trap k
+Opens program turns (Err Stops.NotYet) = Objects.opening program turns ≡ Statements.NotYet
+Opens program turns (Err Stops.NoMemory) = Unit {0}

@@ -1,0 +1,175 @@
+//! One call on the object, from outside.
+
+ghost use Rattle.std.specs.Prelude.{◌≡◌, IfOk, option_map, slice_get};
+ghost use Rattle.ob_checked.specs.CheckedModule.{program_in};
+ghost use Rattle.ob_checked.specs.View.{procedure_of, program_of, table_of};
+ghost use Rattle.ob_meaning.specs.Object.{results_position};
+ghost use Rattle.ob_positions.specs.Object as Objects;
+ghost use Rattle.ob_positions.specs.Store as Stores;
+ghost use Rattle.ob_store.specs.View.{store_in};
+ghost use Rattle.ob_typing.specs.Program.{exports};
+ghost use Rattle.ob_interpreter.specs.Outside.{outside_store, run_of, Leaves};
+ghost use Rattle.ob_interpreter.specs.View.{state_of, call_of, effect_by, effect_in};
+
+use crate::call::{Call, Reply};
+use crate::outside::{RESULTS, outside_handed, results_begun};
+use crate::state::State;
+use crate::statements::{Context, run};
+use ob_checked::checked::Checked;
+use ob_checked::program::{Procedure, Program};
+use ob_evaluate::begun::variables_begun;
+use ob_evaluate::expressions::scalar_of;
+use ob_evaluate::places::Stop;
+use ob_grammar::NoMemory;
+use ob_store::store::{Store, value_held};
+use ob_typing::scalar::Scalar;
+use std::alloc::{AllocError, Global};
+
+/// How many activations may be active.
+pub const MOST_ACTIVATIONS: usize = 64;
+
+/// What a call leaves, where the turns suffice: the new state with the answers, or the state as it was.
+#[derive(Drop)]
+pub enum Ended {
+    Done(State, Vec<Scalar>),
+    /// The number of the trap.
+    Trapped(u8),
+    NeedsMore,
+}
+
+/// The export of a number.
+fn export(program: &Program, number: usize) -> Option<&Procedure>
+    ensures { option_map (λ p. procedure_of (table_of program.now.types) p.now) result
+        ≡ slice_get (exports (program_of program.now)) number }
+{
+    program
+        .procedures
+        .iter()
+        .filter(|procedure| procedure.is_exported)
+        .nth(number)
+}
+
+/// The store that a call from outside begins with: the module's variables, the results, and the first activation.
+fn store_begun(
+    alloc: Global,
+    program: &Program,
+    procedure: &Procedure,
+    state: &State,
+    arguments: &[Scalar],
+) -> Result<Store, AllocError>
+    ensures { IfOk result (λ s. store_in s
+        ≡ outside_store (procedure_of (table_of program.now.types) procedure.now) (state_of state.now) arguments.now) }
+{
+    let parameters = procedure.parameters.as_slice();
+    let module = state.activation(alloc)?;
+    let results = results_begun(alloc, &program.types, parameters)?;
+    let handed = outside_handed(alloc, &program.types, parameters, arguments)?;
+    let own = variables_begun(
+        alloc,
+        &program.types,
+        handed,
+        procedure.variables.as_slice(),
+    )?;
+    Ok(Store::new(vec![in alloc; module, results, own]?))
+}
+
+/// The values of the results.
+fn answers(alloc: Global, store: &Store) -> Result<Vec<Scalar>, AllocError>
+    ensures { IfOk result (λ v. v.items
+        ≡ Objects.values_of_results (Stores.activation_at (store_in store.now) results_position)) }
+{
+    let mut all = Vec::new(alloc);
+    for held in store.activation_at(RESULTS) {
+        all.push(scalar_of(value_held(held)))?;
+    }
+    Ok(all)
+}
+
+/// Runs a procedure from outside: what it leaves in its store, where it is done.
+fn run_outside(
+    alloc: Global,
+    program: &Program,
+    procedure: &Procedure,
+    state: &State,
+    arguments: &[Scalar],
+    turns: u64,
+) -> Result<Store, Stop>
+    ensures { Leaves (run_of (program_of program.now) (procedure_of (table_of program.now.types) procedure.now) arguments.now turns (state_of state.now)) result }
+{
+    let mut store = store_begun(alloc, program, procedure, state, arguments)?;
+    let context = Context {
+        alloc,
+        program,
+        more: MOST_ACTIVATIONS - 1,
+    };
+    run(context, &mut store, procedure.body.as_slice(), turns)?;
+    Ok(store)
+}
+
+/// One call on the object.
+pub fn call_outside(
+    alloc: Global,
+    program: &Program,
+    state: &State,
+    call: &Call,
+    turns: u64,
+) -> Result<Ended, NoMemory>
+    ensures { IfOk result (λ e. Objects.effect (program_of program.now) (call_of call.now) turns (state_of state.now) ≡ effect_by (state_of state.now) e) }
+{
+    let Some(procedure) = export(program, call.export) else {
+        return Ok(Ended::Done(state.copy(alloc)?, Vec::new(alloc)));
+    };
+    match run_outside(
+        alloc,
+        program,
+        procedure,
+        state,
+        call.arguments.as_slice(),
+        turns,
+    ) {
+        Ok(store) => {
+            let values = answers(alloc, &store)?;
+            let next = State::left(alloc, store.into_activation(alloc, 0))?;
+            Ok(Ended::Done(next, values))
+        }
+        Err(Stop::Trap(number)) => Ok(Ended::Trapped(number)),
+        Err(Stop::NotYet) => Ok(Ended::NeedsMore),
+        Err(Stop::NoMemory) => Err(NoMemory),
+    }
+}
+
+/// What one call on the object makes of a state that is given up, and what it answers; `None` where more turns are
+/// needed.
+pub fn step(
+    alloc: Global,
+    program: &Program,
+    state: State,
+    call: &Call,
+    turns: u64,
+) -> Result<Option<(State, Reply)>, NoMemory>
+    ensures { IfOk result (λ o. Objects.effect (program_of program.now) (call_of call.now) turns (state_of state) ≡ effect_in o) }
+{
+    match call_outside(alloc, program, &state, call, turns)? {
+        Ended::Done(next, values) => Ok(Some((next, Reply::Answers(values)))),
+        Ended::Trapped(number) => Ok(Some((state, Reply::Trapped(number)))),
+        Ended::NeedsMore => Ok(None),
+    }
+}
+
+/// What one call on the object leaves and answers: the new state and the answers, or the old state and the trap;
+/// `None` where more turns are needed.
+pub fn interpret(
+    alloc: Global,
+    checked: &Checked,
+    state: &State,
+    call: &Call,
+    turns: u64,
+) -> Result<Option<(State, Reply)>, NoMemory>
+    ensures { IfOk result (λ o. Objects.effect (program_in checked.now) (call_of call.now) turns (state_of state.now) ≡ effect_in o) }
+{
+    match call_outside(alloc, checked.program(), state, call, turns)? {
+        Ended::Done(next, values) => Ok(Some((next, Reply::Answers(values)))),
+        Ended::Trapped(number) => Ok(Some((state.copy(alloc)?, Reply::Trapped(number)))),
+        Ended::NeedsMore => Ok(None),
+    }
+}
