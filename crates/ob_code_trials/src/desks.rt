@@ -97,7 +97,10 @@ fn a_seat_of_another_tag(rt: HostRuntime) -> Result<(), Fail> {
             given.push(seat)?;
         }
     }
-    assert_eq!(rt; desk.close(alloc, given).err(), Some(CloseFault::Stranger(0)));
+    assert_eq!(rt;
+        desk.close(alloc, given).err(),
+        Some(CloseFault::Stranger(0))
+    );
     Ok(())
 }
 
@@ -111,6 +114,9 @@ fn a_seat_that_was_at_another_desk(rt: HostRuntime) -> Result<(), Fail> {
     if let Some(other) = others.pop() {
         seats.push(other)?;
     }
-    assert_eq!(rt; desk.close(alloc, seats).err(), Some(CloseFault::Disagrees(1)));
+    assert_eq!(rt;
+        desk.close(alloc, seats).err(),
+        Some(CloseFault::Disagrees(1))
+    );
     Ok(())
 }

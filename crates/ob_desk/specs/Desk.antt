@@ -4,6 +4,8 @@ use Rattle.std.specs.List.{range_with_len}
 use Rattle.ob_layout.specs.Encoding.{encoded}
 use Rattle.ob_object.specs.Compilation.{ObjectParts}
 use Rattle.ob_object.specs.Performance.{IsSoundObject}
+use Rattle.ob_object.specs.View.{object_in}
+use Rattle.ob_object.specs.declared.compiling.Object.{Object}
 use Rattle.ob_text.specs.Script.{ScriptCall}
 use Rattle.ob_desk.specs.Seat.{Seat, new_seat}
 
@@ -12,6 +14,15 @@ pub record Desk : Type 0 where
   pub object : ObjectParts
   pub scripts : List ScriptCall
   pub tag : ℕ
+
+-- the same, with the object as the program has it
+pub record Terms : Type 0 where
+  pub object : Object
+  pub scripts : List ScriptCall
+  pub tag : ℕ
+
+abbrev pub desk_in : Terms → Desk
+desk_in t = record { object = object_in t.object; scripts = t.scripts; tag = t.tag }
 
 -- the object can be run, and these are the words of its opening
 pub record IsKept (o : ObjectParts) (opening : List ℤ) : Type 0 where

@@ -56,7 +56,7 @@ fn agrees(process: usize, turns: u128, events: &[Event], seat: &Seat) -> bool
 }
 
 /// Whether these are the answers that the events show of the process.
-fn are_shown(process: usize, answers: &[CallAnswer], events: &[Event]) -> bool
+pub fn are_shown(process: usize, answers: &[CallAnswer], events: &[Event]) -> bool
     ensures yes { IsTrue result → map answered_call answers.now ≡ own_answers process (map event_of events.now) }
     ensures no { IsFalse result → map answered_call answers.now ≢ own_answers process (map event_of events.now) }
 {

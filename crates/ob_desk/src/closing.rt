@@ -3,6 +3,7 @@
 ghost use Rattle.std.specs.Prelude.{◌≡◌, ◌<◌, All, IfErr, IfOk, IsFalse, IsTrue, OnOk};
 ghost use Rattle.ob_check.specs.Exports.{signatures};
 ghost use Rattle.ob_desk.specs.Close.{Agrees, AreSeats, IsCloseFault, IsOf, IsRecordOf};
+ghost use Rattle.ob_desk.specs.Desk.{desk_in};
 ghost use Rattle.ob_record.specs.Record.{AreOfExports, record_of};
 
 use crate::agreeing::first_apart;
@@ -26,12 +27,12 @@ pub fn settle(
     floor: Floor<CodeEngine>,
     seats: &[Seat],
 ) -> Result<Record, CloseFault>
-    ensures record { IfOk result (λ r. IsRecordOf terms.now (record_of r)) }
-    ensures seats { OnOk result (AreSeats terms.now seats.now) }
+    ensures record { IfOk result (λ r. IsRecordOf (desk_in terms.now) (record_of r)) }
+    ensures seats { OnOk result (AreSeats (desk_in terms.now) seats.now) }
     ensures agree { IfOk result (λ r. All (Agrees r.history r.schedule.items) seats.now) }
-    ensures exports { IfOk result (λ r. AreOfExports (signatures terms.now.object.program) r.history) }
-    ensures turns { IfOk result (λ r. All (λ t. t.process < terms.now.object.processes) r.schedule.items) }
-    ensures fault { IfErr result (IsCloseFault terms.now floor seats.now) }
+    ensures exports { IfOk result (λ r. AreOfExports (signatures (desk_in terms.now).object.program) r.history) }
+    ensures turns { IfOk result (λ r. All (λ t. t.process < (desk_in terms.now).object.processes) r.schedule.items) }
+    ensures fault { IfErr result (IsCloseFault (desk_in terms.now) floor seats.now) }
 {
     if let Some(process) = first_stranger(terms, seats) {
         return Err(CloseFault::Stranger(process));
@@ -50,8 +51,8 @@ pub fn settle(
 
 /// Whether the floor is the one that the desk keeps.
 fn is_of(terms: &Terms, floor: &Floor<CodeEngine>) -> bool
-    ensures yes { IsTrue result → IsOf terms.now floor.now }
-    ensures no { IsFalse result → ¬ (IsOf terms.now floor.now) }
+    ensures yes { IsTrue result → IsOf (desk_in terms.now) floor.now }
+    ensures no { IsFalse result → ¬ (IsOf (desk_in terms.now) floor.now) }
 {
     let machine = floor.machine();
     if floor.processes() != terms.processes() {
@@ -72,16 +73,16 @@ fn record_of_floor(
     terms: &Terms,
     floor: Floor<CodeEngine>,
 ) -> Result<Record, NoMemory>
-    requires { IsOf terms.now floor }
-    ensures record { IfOk result (λ r. IsRecordOf terms.now (record_of r)) }
+    requires { IsOf (desk_in terms.now) floor }
+    ensures record { IfOk result (λ r. IsRecordOf (desk_in terms.now) (record_of r)) }
     ensures history { IfOk result (λ r. r.history ≡ floor.machine.state.records.history) }
     ensures schedule { IfOk result (λ r. r.schedule.items ≡ floor.machine.state.records.schedule) }
-    ensures exports { IfOk result (λ r. AreOfExports (signatures terms.now.object.program) r.history) }
-    ensures turns { IfOk result (λ r. All (λ t. t.process < terms.now.object.processes) r.schedule.items) }
+    ensures exports { IfOk result (λ r. AreOfExports (signatures (desk_in terms.now).object.program) r.history) }
+    ensures turns { IfOk result (λ r. All (λ t. t.process < (desk_in terms.now).object.processes) r.schedule.items) }
 {
     // This does nothing: what the engine's calls do is what the module's calls mean.
     effect_is_called();
     let object = terms.object();
     let (machine, _, _) = floor.into_parts();
-    recorded(alloc, machine, object.processes(), object.layout())
+    Ok(recorded(alloc, machine, object.processes(), object.layout())?)
 }

@@ -2,7 +2,7 @@
 
 ghost use Rattle.std.specs.Prelude.{◌≡◌, ◌-◌, ◌^◌, ◌<◌, ◌≤◌, All, IfErr, IfOk, OnErr, OnOk, map};
 ghost use Rattle.ob_check.specs.Exports.{signatures};
-ghost use Rattle.ob_desk.specs.Desk.{seats_of};
+ghost use Rattle.ob_desk.specs.Desk.{desk_in, seats_of};
 ghost use Rattle.ob_engine.specs.Compiled.{IsFitting};
 ghost use Rattle.ob_object.specs.Performance.{IsSoundObject};
 ghost use Rattle.ob_object.specs.View.{object_in};
@@ -34,8 +34,12 @@ pub struct Desk {
 
 impl Model for Desk {
     ghost use Rattle.ob_desk.specs.Desk as desk;
+    ghost use Rattle.ob_object.specs.contracts.compiling.Object as objects;
+    ghost use Rattle.std.specs.Coded.{codes};
 
-    ghost Value = { desk.Desk };
+    ghost Value = { desk.Terms };
+
+    ghost coded = { Prim.hlevel (codes, objects.the_row.coded) };
 
     ghost view = { λ d. d.terms };
 }
@@ -58,7 +62,7 @@ impl Desk {
         requires few { (object_in object).processes ≤ MOST_PROCESSES }
         requires callers { All (λ c. c.process < (object_in object).processes) scripts.items }
         requires fits { All (λ c. IsFitting (object_in object).engine (object_call (script_call_of c))) scripts.items }
-        ensures desk { IfOk result (λ r. r.0 ≡ record { object = object_in object; scripts = map script_call_of scripts.items; tag = tag }) }
+        ensures desk { IfOk result (λ r. desk_in r.0 ≡ record { object = object_in object; scripts = map script_call_of scripts.items; tag = tag }) }
         ensures seats { IfOk result (λ r. r.1.items ≡ seats_of (object_in object).processes tag) }
     {
         let processes = object.processes();
@@ -88,15 +92,30 @@ impl Desk {
 
     /// Compares the seats with the floor, and the floor with what stands beside the lock; and gives the record.
     pub fn close(self, alloc: Global, seats: Vec<Seat>) -> Result<Record, CloseFault>
-        ensures record { IfOk result (λ r. IsRecordOf self (record_of r)) }
-        ensures seats { OnOk result (AreSeats self seats.items) }
+        ensures record { IfOk result (λ r. IsRecordOf (desk_in self) (record_of r)) }
+        ensures seats { OnOk result (AreSeats (desk_in self) seats.items) }
         ensures agree { IfOk result (λ r. All (Agrees r.history r.schedule.items) seats.items) }
-        ensures exports { IfOk result (λ r. AreOfExports (signatures self.object.program) r.history) }
-        ensures turns { IfOk result (λ r. All (λ t. t.process < self.object.processes) r.schedule.items) }
-        ensures fault { IfErr result (λ e. (f : CodeFloor) × IsCodeFloor f × IsCloseFault self f seats.items e) }
+        ensures exports { IfOk result (λ r. AreOfExports (signatures (desk_in self).object.program) r.history) }
+        ensures turns { IfOk result (λ r. All (λ t. t.process < (desk_in self).object.processes) r.schedule.items) }
+        ensures fault { IfErr result (λ e. (f : CodeFloor) × IsCodeFloor f × IsCloseFault (desk_in self) f seats.items e) }
+    {
+        let (_, record) = self.closed(alloc, seats)?;
+        Ok(record)
+    }
+
+    /// The same, with the object, by whose module the record is written.
+    pub fn closed(self, alloc: Global, seats: Vec<Seat>) -> Result<(Object, Record), CloseFault>
+        ensures object { IfOk result (λ r. object_in r.0 ≡ (desk_in self).object) }
+        ensures record { IfOk result (λ r. IsRecordOf (desk_in self) (record_of r.1)) }
+        ensures seats { OnOk result (AreSeats (desk_in self) seats.items) }
+        ensures agree { IfOk result (λ r. All (Agrees r.1.history r.1.schedule.items) seats.items) }
+        ensures exports { IfOk result (λ r. AreOfExports (signatures (desk_in self).object.program) r.1.history) }
+        ensures turns { IfOk result (λ r. All (λ t. t.process < (desk_in self).object.processes) r.1.schedule.items) }
+        ensures fault { IfErr result (λ e. (f : CodeFloor) × IsCodeFloor f × IsCloseFault (desk_in self) f seats.items e) }
     {
         let Desk { floor, terms } = self;
-        settle(alloc, &terms, floor.into_inner(), seats.as_slice())
+        let record = settle(alloc, &terms, floor.into_inner(), seats.as_slice())?;
+        Ok((terms.into_object(), record))
     }
 }
 

@@ -2,7 +2,7 @@
 //! closing, which compares them and gives the record.
 #![tactic(auto)]
 
-mod agreeing;
+pub mod agreeing;
 pub mod closing;
 pub mod desk;
 pub mod fault;

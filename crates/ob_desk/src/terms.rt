@@ -1,6 +1,7 @@
 //! What a desk keeps beside its lock.
 
 ghost use Rattle.std.specs.Prelude.{◌≡◌, IfOk, map};
+ghost use Rattle.ob_desk.specs.Desk.{desk_in};
 ghost use Rattle.ob_layout.specs.Encoding.{encoded};
 ghost use Rattle.ob_object.specs.Performance.{IsSoundObject};
 ghost use Rattle.ob_object.specs.View.{object_in};
@@ -25,12 +26,16 @@ pub struct Terms {
 impl Model for Terms {
     ghost use Rattle.std.specs.Prelude.{map};
     ghost use Rattle.ob_desk.specs.Desk as desk;
+    ghost use Rattle.ob_object.specs.contracts.compiling.Object as objects;
+    ghost use Rattle.std.specs.Coded.{codes};
     ghost use Rattle.ob_object.specs.View.{object_in};
     ghost use Rattle.ob_text.specs.ScriptView.{script_call_of};
 
-    ghost Value = { desk.Desk };
+    ghost Value = { desk.Terms };
 
-    ghost view = { λ t. record { object = object_in t.object; scripts = map script_call_of t.scripts.items; tag = t.tag } };
+    ghost coded = { Prim.hlevel (codes, objects.the_row.coded) };
+
+    ghost view = { λ t. record { object = t.object; scripts = map script_call_of t.scripts.items; tag = t.tag } };
 
     ghost invariant = { λ t. desk.IsKept (object_in t.object) t.opening.items };
 }
@@ -44,7 +49,7 @@ impl Terms {
         tag: u64,
     ) -> Result<Terms, NoMemory>
         requires { IsSoundObject (object_in object) }
-        ensures { IfOk result (λ t. t ≡ record { object = object_in object; scripts = map script_call_of scripts.now; tag = tag }) }
+        ensures { IfOk result (λ t. desk_in t ≡ record { object = object_in object; scripts = map script_call_of scripts.now; tag = tag }) }
     {
         let opening = encode(alloc, object.opening())?;
         let scripts = copied_calls(alloc, scripts)?;
@@ -57,36 +62,49 @@ impl Terms {
     }
 
     pub fn object(&self) -> &Object
-        ensures object { object_in result.now ≡ self.now.object }
-        ensures sound { IsSoundObject self.now.object }
+        ensures object { object_in result.now ≡ (desk_in self.now).object }
+        ensures sound { IsSoundObject (desk_in self.now).object }
     {
         &self.object
     }
 
     /// The words with which the object begins.
     pub fn opening(&self) -> &[i64]
-        ensures { result.now ≡ encoded self.now.object.opening }
+        ensures { result.now ≡ encoded (desk_in self.now).object.opening }
     {
         self.opening.as_slice()
     }
 
     /// How many processes there are.
     pub fn processes(&self) -> usize
-        ensures { result ≡ self.now.object.processes }
+        ensures { result ≡ (desk_in self.now).object.processes }
     {
         self.object.processes()
     }
 
     /// The calls that were submitted before any turn.
     pub fn scripts(&self) -> &[ScriptCall]
-        ensures { map script_call_of result.now ≡ self.now.scripts }
+        ensures { map script_call_of result.now ≡ (desk_in self.now).scripts }
     {
         self.scripts.as_slice()
     }
 
     pub fn tag(&self) -> u64
-        ensures { result ≡ self.now.tag }
+        ensures { result ≡ (desk_in self.now).tag }
     {
         self.tag
+    }
+
+    /// The object alone.
+    pub fn into_object(self) -> Object
+        ensures { object_in result ≡ (desk_in self).object }
+    {
+        let Terms {
+            object,
+            opening: _,
+            scripts: _,
+            tag: _,
+        } = self;
+        object
     }
 }

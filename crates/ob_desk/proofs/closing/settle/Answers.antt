@@ -3,13 +3,14 @@ use Rattle.ob_mean.specs.Object.{ObjectCall, Reply}
 use Rattle.wf_history.specs.History.{Event}
 use Rattle.wf_table.specs.declared.schedule.Turns.{Turns}
 use Rattle.ob_desk.specs.Close.{AgreeAt, Agrees, AreSeats, IsCodeFloor}
+use Rattle.ob_desk.specs.Desk.{desk_in}
 use Rattle.ob_desk.proofs.Closes.{all_agree}
 use Rattle.ob_desk.proofs.closing.settle.Goals as goal
 
 pub returns-clause-agree : goal.returns-clause-agree
 returns-clause-agree c =
     let f = c.args.floor in
-    let d = c.args.terms.now in
+    let d = desk_in c.args.terms.now in
     let seats = c.args.seats.now in
     let r = c.in_ok-record_of_floor.field-0 in
     let are : AreSeats d seats = record { own = c.in_default.ensures.none; each = c.in_default-first_uneven.ensures.none } in
