@@ -114,7 +114,10 @@ impl Desk {
         ensures fault { IfErr result (λ e. (f : CodeFloor) × IsCodeFloor f × IsCloseFault (desk_in self) f seats.items e) }
     {
         let Desk { floor, terms } = self;
-        let record = settle(alloc, &terms, floor.into_inner(), seats.as_slice())?;
+        let floor = floor.into_inner();
+        // This does nothing: the machine of each floor is one that a run leads to.
+        floor.machine();
+        let record = settle(alloc, &terms, floor, seats.as_slice())?;
         Ok((terms.into_object(), record))
     }
 }
