@@ -2,8 +2,6 @@
 use Rattle.std.proofs.Common.{◌≡◌, ◌∙◌, ℕ, ◌<◌, List, All, get_or, refl, subst, sym}
 use Rattle.std.specs.Prelude.{ℤ}
 use Rattle.ob_check.specs.Exports.{signatures}
-use Rattle.ob_check.specs.Program.{Variable}
-use Rattle.ob_code.specs.Body.{Run}
 use Rattle.ob_engine.specs.CodeMeaning.{EngineParts, code_meaning}
 use Rattle.ob_engine.specs.Compiled.{EffectIsCalled, HasReserve, IsEffect, IsFitting, IsLawfulBlock}
 use Rattle.ob_engine.specs.Parts.{parts_in}
@@ -20,9 +18,8 @@ use Rattle.ob_run.specs.Recorded.{DoFit, IsLegalFor}
 use Rattle.ob_text.specs.Script.{ScriptCall}
 use Rattle.wf_history.specs.History.{Event}
 use Rattle.wf_play.specs.Played.{scripts_of}
-use Rattle.wf_table.specs.Object.{State}
 use Rattle.wf_table.specs.Runs.{IsRun, performed}
-use Rattle.ob_desk.specs.Close.{AgreeAt, Agrees, AgreesAt, AreSeats, CodeFloor, IsCodeFloor, IsOf, IsRecordOf}
+use Rattle.ob_desk.specs.Close.{AgreeAt, Agrees, AreSeats, CodeFloor, IsCodeFloor, IsOf, IsRecordOf}
 use Rattle.ob_desk.specs.Desk.{Desk}
 use Rattle.ob_desk.specs.Seat.{Seat}
 

@@ -1,8 +1,6 @@
-use Rattle.std.proofs.Common.{◌≡◌, ◌++◌, ◌∷◌, List, ap, drop, map, refl, sym, suc, ◌∙◌}
+use Rattle.std.proofs.Common.{◌≡◌, ◌∷◌, List, ap, drop, map, sym, suc, ◌∙◌}
 use Rattle.std.proofs.Math.Seq.{drop-cons}
-use Rattle.ob_desk.specs.Seat.{answered_call}
-use Rattle.ob_mean.specs.Object.{ObjectCall, Reply}
-use Rattle.wf_history.specs.History.{Event, own_answers}
+use Rattle.wf_history.specs.History.{own_answers}
 use Rattle.wf_history.specs.View.{event_of}
 use Rattle.wf_history.specs.declared.event.Event as Rust
 use Rattle.ob_desk.proofs.agreeing.are_shown.Goals as goal

@@ -5,7 +5,6 @@ use Rattle.ob_desk.proofs.Closes.{computed_by, exports_of, record_of_run}
 use Rattle.ob_engine.specs.Compiled.{IsEffect, IsFitting}
 use Rattle.ob_engine.specs.Parts.{parts_in}
 use Rattle.ob_engine.specs.declared.engine.CodeEngine.{CodeEngine}
-use Rattle.ob_layout.specs.Layout.{LayoutParts}
 use Rattle.ob_object.specs.Compilation.{ObjectParts}
 use Rattle.ob_record.specs.Record.{record_of}
 use Rattle.ob_run.specs.Recorded.{IsLegalFor}

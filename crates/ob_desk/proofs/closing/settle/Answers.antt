@@ -1,4 +1,4 @@
-use Rattle.std.proofs.Common.{◌≡◌, List, All, ℕ, ◌<◌, refl, subst, sym}
+use Rattle.std.proofs.Common.{List, All, ℕ, ◌<◌, refl, subst, sym}
 use Rattle.ob_mean.specs.Object.{ObjectCall, Reply}
 use Rattle.wf_history.specs.History.{Event}
 use Rattle.wf_table.specs.declared.schedule.Turns.{Turns}
