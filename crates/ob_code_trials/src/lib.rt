@@ -7,6 +7,8 @@ mod code;
 #[cfg(test)]
 mod counter;
 #[cfg(test)]
+mod desks;
+#[cfg(test)]
 mod layouts;
 #[cfg(test)]
 mod objects;

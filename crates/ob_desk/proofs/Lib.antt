@@ -1,3 +1,5 @@
 pub mod Turns
 pub mod Submissions
 pub mod Floors
+pub mod Closes
+pub mod Strangers

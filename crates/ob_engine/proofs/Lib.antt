@@ -3,3 +3,6 @@ mod Found
 mod Exports
 mod Made
 mod Effects
+mod Choices
+mod Instructions
+mod Formals

@@ -1,11 +1,11 @@
 //! The engine over compiled code.
 
-ghost use Rattle.std.specs.Prelude.{◌≡◌, map};
+ghost use Rattle.std.specs.Prelude.{◌≡◌, ◌↔◌, IsTrue, map};
 ghost use Rattle.ob_engine.specs.CodeMeaning.{most, result_count, value_count};
 ghost use Rattle.ob_engine.specs.Compiled.{HasProgram, IsCompiled};
 ghost use Rattle.ob_engine.specs.View.{entrance_of};
 
-use crate::entrance::{Entrance, copied, entrances, most_results, most_values};
+use crate::entrance::{Entrance, are_same, copied, entrances, most_results, most_values};
 use crate::turns::turn_of;
 use crate::words::{arguments_in, lay, split, trap_in, values_of};
 use ob_check::checked::Checked;
@@ -36,7 +36,7 @@ pub struct CodeEngine {
 }
 
 impl CodeEngine {
-    ghost use Rattle.std.specs.Prelude.{◌<◌, ◌≤◌, IfOk, OnOk, length, option_map, slice_get};
+    ghost use Rattle.std.specs.Prelude.{◌<◌, ◌≤◌, ◌↔◌, IfOk, IsTrue, OnOk, length, option_map, slice_get};
     ghost use Rattle.ob_check.specs.CheckedModule.{program_in};
     ghost use Rattle.ob_layout.specs.Layout.{layout_of};
     ghost use Rattle.ob_scheme.specs.Literals.{ProceduresLiteralsFit};
@@ -83,6 +83,16 @@ impl CodeEngine {
         })
     }
 
+    /// Whether the other shows the same: equal code, the same exports, and as many words in a block and in a stack.
+    pub fn is_same(&self, other: &CodeEngine) -> bool
+        ensures { IsTrue result ↔ (parts_in self.now ≡ parts_in other.now) }
+    {
+        self.block_words == other.block_words
+            && self.stack_words == other.stack_words
+            && is_same_code(&self.code, &other.code)
+            && are_same(self.exports.as_slice(), other.exports.as_slice())
+    }
+
     /// The code that it runs.
     pub fn code(&self) -> &Code
         ensures { result.now ≡ (parts_in self.now).code }
@@ -109,6 +119,13 @@ impl CodeEngine {
             None => SmallVec::new(self.alloc),
         }
     }
+}
+
+/// Whether the instructions are the same, and the places where procedures begin.
+fn is_same_code(code: &Code, other: &Code) -> bool
+    ensures { IsTrue result ↔ (code.now ≡ other.now) }
+{
+    code.instructions() == other.instructions() && code.entries() == other.entries()
 }
 
 impl Engine for CodeEngine {

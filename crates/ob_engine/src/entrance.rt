@@ -1,6 +1,6 @@
 //! How calls enter compiled code.
 
-ghost use Rattle.std.specs.Prelude.{◌≡◌, map, IfOk};
+ghost use Rattle.std.specs.Prelude.{◌≡◌, ◌↔◌, map, IfOk, IsTrue};
 ghost use Rattle.ob_check.specs.Program.{formal_of};
 ghost use Rattle.ob_check.specs.View.{parameter_of, procedure_of};
 ghost use Rattle.ob_engine.specs.Compiled.{entrances_from};
@@ -62,6 +62,29 @@ pub fn copied(alloc: Global, entrances: &[Entrance]) -> Result<Vec<Entrance>, Al
         })?;
     }
     Ok(copies)
+}
+
+/// Whether two entrances are the same.
+fn is_same(entrance: &Entrance, other: &Entrance) -> bool
+    ensures { IsTrue result ↔ (entrance_of entrance.now ≡ entrance_of other.now) }
+{
+    entrance.procedure == other.procedure
+        && entrance.parameters.as_slice() == other.parameters.as_slice()
+}
+
+/// Whether the entrances are the same, each as the other in its place.
+pub fn are_same(entrances: &[Entrance], others: &[Entrance]) -> bool
+    ensures { IsTrue result ↔ (map entrance_of entrances.now ≡ map entrance_of others.now) }
+{
+    if entrances.len() != others.len() {
+        return false;
+    }
+    for place in 0..entrances.len() {
+        if !is_same(&entrances[place], &others[place]) {
+            return false;
+        }
+    }
+    true
 }
 
 /// How many of the parameters are VAR.

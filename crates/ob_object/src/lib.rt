@@ -9,3 +9,4 @@ mod replaying;
 pub use compiling::{CompileFault, Object, compile};
 pub use performing::{PerformFault, perform, performed};
 pub use printing::{draw_text, run_text};
+pub use replaying::copied_calls;

@@ -75,12 +75,12 @@ fn beginning_of(alloc: Global, object: &Object, calls: &[ScriptCall]) -> Result<
     Ok(Beginning {
         engine: object.engine().copy(alloc)?,
         opening: encode(alloc, object.opening())?,
-        calls: copied(alloc, calls)?,
+        calls: copied_calls(alloc, calls)?,
     })
 }
 
 /// Equal calls.
-fn copied(alloc: Global, calls: &[ScriptCall]) -> Result<Vec<ScriptCall>, AllocError>
+pub fn copied_calls(alloc: Global, calls: &[ScriptCall]) -> Result<Vec<ScriptCall>, AllocError>
     ensures { IfOk result (λ v. map script_call_of v.items ≡ map script_call_of calls.now) }
 {
     let mut copies = Vec::with_capacity(alloc, calls.len())?;

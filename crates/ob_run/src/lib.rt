@@ -4,4 +4,4 @@
 pub mod laws;
 pub mod recording;
 
-pub use recording::record_run;
+pub use recording::{record_run, recorded};

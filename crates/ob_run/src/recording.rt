@@ -47,8 +47,8 @@ pub fn record_run<E: Engine>(
     Ok(recorded(alloc, machine, n, layout)?)
 }
 
-/// What a machine's run showed.
-fn recorded<E: Engine>(
+/// What a machine's run showed, over an engine that computes a program with the layout's variables.
+pub fn recorded<E: Engine>(
     alloc: Global,
     machine: Machine<E>,
     processes: usize,

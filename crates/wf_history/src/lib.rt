@@ -8,4 +8,4 @@ mod places;
 
 pub use event::{CallId, Event};
 pub use history::History;
-pub use order::{OrderFault, check_order};
+pub use order::{OrderFault, check_order, same_reply};

@@ -192,7 +192,7 @@ fn arranged(alloc: Global, events: &[Event], order: &[CallId]) -> Result<Vec<Pla
 }
 
 /// Whether two replies are the same.
-fn is_same(reply: &Reply, other: &Reply) -> bool
+pub fn same_reply(reply: &Reply, other: &Reply) -> bool
     ensures { IsTrue result ↔ (reply_of reply.now ≡ reply_of other.now) }
 {
     match (reply, other) {
@@ -245,7 +245,7 @@ fn replay(
             return Err(OrderFault::NeedsMore(x.id));
         };
         if let Some(end) = x.end
-            && !is_same(&reply, reply_at(events, end))
+            && !same_reply(&reply, reply_at(events, end))
         {
             return Err(OrderFault::OtherReply(x.id));
         }

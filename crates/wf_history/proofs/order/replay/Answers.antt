@@ -9,7 +9,7 @@ use Rattle.wf_history.proofs.Once.{one_reply}
 use Rattle.wf_history.proofs.Placing.{begun_here, ended_here, not_ended, end_at}
 use Rattle.wf_history.proofs.Replay.{leads_more, leads_none}
 use Rattle.wf_history.proofs.order.replay.Goals as goal
-use Rattle.wf_history.proofs.order.replay.Goals.{in_default-via-in-None-1, in_default-via-in-Some-end+else-not-is_same}
+use Rattle.wf_history.proofs.order.replay.Goals.{in_default-via-in-None-1, in_default-via-in-Some-end+else-not-same_reply}
 use Rattle.wf_history.specs.OrderFaults.{EndsWithin}
 use Rattle.wf_history.specs.View.{event_of}
 use Rattle.wf_history.specs.declared.places.Placed.{Placed}
@@ -71,8 +71,8 @@ returns-in-loop-x-clause-fault c =
     let made = c.in_ok-next.ensures in
     let some = c.in-Some.is in
     let ends = (c.requires.placed i x at).ends in
-    let other = c.if-not-is_same.true in
-    let tells = c.is_same.ensures in
+    let other = c.if-not-same_reply.true in
+    let tells = c.same_reply.ensures in
     record {
       call = call_of c.call_at-call.result.now;
       before = state_of c.loop-x.state;
@@ -111,9 +111,9 @@ loop-x-preserved c =
     (made ∙ ap effect_in some)
     (λ other ended. elim c.in_default.branch [
       | in_default-via-in-None-1 w ↦ (let none : (get_or c.args.placed.now c.loop-x.x-index default).end ≡ None = cc in absurd (not_ended history x.id x.end none ends other ended))
-      | in_default-via-in-Some-end+else-not-is_same w ↦
+      | in_default-via-in-Some-end+else-not-same_reply w ↦
           let end = end_at history x.id x.end w.in-Some-end.end w.in-Some-end.is ends in
           one_reply history c.requires.history x.id other (reply_of w.reply_at.result.now) ended
           (ended_here history x.id w.reply_at.ensures.0 w.in-Some-end.end (reply_of w.reply_at.result.now) end w.reply_at.ensures.1)
-          ∙ sym (w.is_same.ensures.0 w.if-not-is_same.false)
+          ∙ sym (w.same_reply.ensures.0 w.if-not-same_reply.false)
     ]))
