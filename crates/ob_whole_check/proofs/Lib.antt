@@ -1,0 +1,4 @@
+pub mod Around
+pub mod HeadingSteps
+pub mod ProcedureSteps
+pub mod Refused

@@ -1,0 +1,16 @@
+use Rattle.std.proofs.Common.{sym, ap, ◌∙◌}
+use Rattle.ob_grammar.proofs.Exits.{passed_on}
+use Rattle.ob_grammar.specs.View.{module_of}
+use Rattle.ob_typing.proofs.CheckedModules.{checked}
+use Rattle.ob_rules.proofs.Steps.{fails_as}
+use Rattle.ob_whole_check.proofs.Refused.{well_typed, refused}
+use Rattle.ob_whole_check.proofs.modules.check.Goals as goal
+
+pub returns-in_err-program-clause-fault : goal.returns-in_err-program-clause-fault
+returns-in_err-program-clause-fault c =
+    passed_on _ _ _ c.from_residual.ensures.1
+    (refused (module_of c.args.module) c.tree.ensures.has_text _
+    (fails_as _ _ _ (ap (λ m. checked (module_of m)) (sym c.tree.ensures.tree)) c.in_err-program.ensures.fault))
+
+pub new-requires : goal.new-requires
+new-requires c = well_typed (module_of c.args.module) _ (ap (λ m. checked (module_of m)) (sym c.tree.ensures.tree) ∙ c.in_ok-program.ensures.typed)

@@ -1,0 +1,2 @@
+pub mod CheckingProcedures
+pub mod CheckingModules

@@ -1,0 +1,119 @@
+//! The headings of procedures.
+
+ghost use Rattle.std.specs.Prelude.{◌≡◌, ◌+◌, ℕ, true, length, map, List, None, OnOk, IfOk, IfErr};
+ghost use Rattle.ob_grammar.specs.View.{heading_of};
+ghost use Rattle.ob_typing.specs.Declarations as Declared;
+ghost use Rattle.ob_typing.specs.Declarations.{with_procedure, exports_behind, heading_broken};
+ghost use Rattle.ob_typing.proofs.Verdict.{Right, unless};
+ghost use Rattle.ob_checked.specs.Types.{Entry, Extends};
+ghost use Rattle.ob_checked.specs.View.{table_of, parameter_of};
+ghost use Rattle.ob_rules.specs.Objects.{known_parameters};
+ghost use Rattle.ob_rules.specs.Names.{types_in, env_of};
+ghost use Rattle.ob_rules.specs.Checking.{Fails};
+ghost use Rattle.ob_whole_check.specs.CheckingProcedures.{around, headed};
+
+use crate::parts::sections_in;
+use indexmap::IndexMap;
+use ob_checked::program::Parameter;
+use ob_checked::types::Types;
+use ob_grammar::tree::Procedure;
+use ob_rules::fault::{CheckFault, broken};
+use ob_rules::parameters::declare_parameters;
+use ob_rules::parts::simple_type;
+use ob_rules::scopes::Scopes;
+use ob_typing::rule::Rule;
+use std::alloc::Global;
+
+/// The most exports of a module.
+const MOST_EXPORTS: usize = 64;
+
+/// The number of scopes in the module's declarations: its own, in the outermost one.
+const MODULE_LEVEL: usize = 2;
+
+/// The sum of two counts. No memory holds more than can be counted.
+pub fn counted(first: usize, others: usize) -> Result<usize, CheckFault>
+    ensures sum { IfOk result (λ n. n ≡ first + others) }
+    ensures fault { IfErr result (λ f. f ≡ CheckFault.NoMemory) }
+{
+    match first.checked_add(others) {
+        Some(sum) => Ok(sum),
+        None => Err(CheckFault::NoMemory),
+    }
+}
+
+/// Tests the name of a procedure behind so many exports; the answer is how many there are behind it.
+pub fn test_heading(scopes: &Scopes, tree: &Procedure, exported: usize) -> Result<usize, CheckFault>
+    ensures unbroken { OnOk result (heading_broken (env_of scopes.now) exported (heading_of tree.now) ≡ None) }
+    ensures exports { IfOk result (λ e. e ≡ exports_behind exported (heading_of tree.now)) }
+    ensures fault { IfErr result (λ f. Fails f (unless (heading_broken (env_of scopes.now) exported (heading_of tree.now)) (heading_of tree.now).name.place)) }
+{
+    let place = tree.name.place;
+    if scopes.declares(&tree.name.text) {
+        return Err(broken(Rule::DeclaredTwice, place));
+    }
+    if !tree.is_exported {
+        return Ok(exported);
+    }
+    if scopes.level() != MODULE_LEVEL {
+        return Err(broken(Rule::BadExport, place));
+    }
+    if exported == MOST_EXPORTS {
+        return Err(broken(Rule::PassesLimit, place));
+    }
+    counted(exported, 1)
+}
+
+/// Declares a procedure in its scope, and its parameters in a scope of their own, in which the rest of it stands.
+pub fn declare_heading(
+    alloc: Global,
+    scopes: &mut Scopes,
+    tree: &Procedure,
+    number: usize,
+) -> Result<Vec<Parameter>, CheckFault>
+    ensures typed { IfOk result (λ ps. headed (env_of scopes.old) number (heading_of tree.now) ≡ Right (record { env = env_of scopes.new; parameters = map (parameter_of (types_in scopes.new)) ps.items })) }
+    ensures around { IfOk result (λ ps. around (env_of scopes.new) ≡ with_procedure (env_of scopes.old) number (heading_of tree.now) (map (parameter_of (types_in scopes.new)) ps.items)) }
+    ensures known { IfOk result (λ ps. known_parameters (length (types_in scopes.new)) ps.items ≡ true) }
+    ensures extends { OnOk result (Extends (types_in scopes.old) (types_in scopes.new)) }
+    ensures fault { IfErr result (λ f. Fails f (headed (env_of scopes.old) number (heading_of tree.now))) }
+{
+    scopes.enter(IndexMap::new(alloc))?;
+    let parameters = declare_parameters(alloc, scopes, sections_in(&tree.parameters))?;
+    if tree.is_exported && !all_simple(scopes.types(), &parameters) {
+        return Err(broken(Rule::BadExport, tree.name.place));
+    }
+    let copied = copies(alloc, &parameters)?;
+    let own = scopes.leave();
+    scopes.declare_procedure(alloc, &tree.name.text, number, copied)?;
+    scopes.enter(own)?;
+    Ok(parameters)
+}
+
+/// Whether no parameter is structured.
+fn all_simple(types: &Types, parameters: &[Parameter]) -> bool
+    ensures { result ≡ Declared.all_simple (map (parameter_of (table_of types.now)) parameters.now) }
+{
+    for parameter in parameters {
+        if simple_type(types, parameter.data_type).is_none() {
+            return false;
+        }
+    }
+    true
+}
+
+/// Copies of parameters.
+fn copies(alloc: Global, parameters: &[Parameter]) -> Result<Vec<Parameter>, CheckFault>
+    ensures same { IfOk result (λ ps. (types : List Entry) → map (parameter_of types) ps.items ≡ map (parameter_of types) parameters.now) }
+    ensures known { IfOk result (λ ps. (n : ℕ) → known_parameters n parameters.now ≡ true → known_parameters n ps.items ≡ true) }
+    ensures fault { IfErr result (λ f. f ≡ CheckFault.NoMemory) }
+{
+    let mut copied = Vec::new(alloc);
+    for parameter in parameters {
+        let name = parameter.name.clone()?;
+        copied.push(Parameter {
+            name,
+            is_var: parameter.is_var,
+            data_type: parameter.data_type,
+        })?;
+    }
+    Ok(copied)
+}
