@@ -17,9 +17,9 @@ const CALLS: &[u8] = b"0 Inc\n1 Get\n";
 const TAG: u64 = 7;
 
 /// A desk of two processes, and its seats.
-fn opened(alloc: Global) -> Result<(Desk, Vec<Seat>), Fail> {
-    let object = compile(alloc, COUNTER, 2)?;
-    let scripts = read_scripts(alloc, object.checked(), 2, CALLS)?;
+fn opened(alloc: Global, text: &[u8], calls: &[u8]) -> Result<(Desk, Vec<Seat>), Fail> {
+    let object = compile(alloc, text, 2)?;
+    let scripts = read_scripts(alloc, object.checked(), 2, calls)?;
     Ok(Desk::open(alloc, object, scripts.into_calls(), TAG)?)
 }
 
@@ -48,7 +48,7 @@ fn used<R: Wait>(
     first: usize,
     other: usize,
 ) -> Result<(Desk, Vec<Seat>), Fail> {
-    let (desk, mut seats) = opened(alloc)?;
+    let (desk, mut seats) = opened(alloc, COUNTER, CALLS)?;
     take_turns(rt, &desk, &mut seats, first, 100)?;
     take_turns(rt, &desk, &mut seats, other, 100)?;
     Ok((desk, seats))
@@ -62,7 +62,7 @@ fn words(alloc: Global, record: &Record) -> Result<Vec<i64>, Fail> {
 #[test]
 fn turns_by_hand_are_the_run_of_their_schedule(rt: HostRuntime) -> Result<(), Fail> {
     let alloc = rt.alloc();
-    let (desk, mut seats) = opened(alloc)?;
+    let (desk, mut seats) = opened(alloc, COUNTER, CALLS)?;
     for (process, count) in [(0, 9), (1, 100), (0, 30), (1, 1)] {
         take_turns(&rt, &desk, &mut seats, process, count)?;
     }
