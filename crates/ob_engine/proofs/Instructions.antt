@@ -23,13 +23,13 @@ whole x y = let one = Decides-int_eq x.0 y.0 in (λ t. ap (λ (k : ℤ). (k, tt)
 numbers : (x y : ℕ × (ℕ × Nothing)) → Decides (nat_eq x.0 y.0 && nat_eq x.1.0 y.1.0) (x ≡ y)
 numbers x y = (
   λ t.
-    let one : x.0 ≡ y.0 = grind (arith, nat_tests) in
-    let two : x.1.0 ≡ y.1.0 = grind (arith, nat_tests) in
-    rw (one, two) refl,
+      let one : x.0 ≡ y.0 = grind (arith, nat_tests) in
+      let two : x.1.0 ≡ y.1.0 = grind (arith, nat_tests) in
+      rw (one, two) refl,
   λ e.
-    let one : x.0 ≡ y.0 = ap (λ (z : ℕ × (ℕ × Nothing)). z.0) e in
-    let two : x.1.0 ≡ y.1.0 = ap (λ (z : ℕ × (ℕ × Nothing)). z.1.0) e in
-    grind (arith, nat_tests),
+      let one : x.0 ≡ y.0 = ap (λ (z : ℕ × (ℕ × Nothing)). z.0) e in
+      let two : x.1.0 ≡ y.1.0 = ap (λ (z : ℕ × (ℕ × Nothing)). z.1.0) e in
+      grind (arith, nat_tests),
 )
 
 abbrev pub instr_eq : Instr → Instr → Bool
