@@ -1,3 +1,3 @@
 pub mod Selectors
-pub mod Rows
+pub mod Chains
 pub mod InitialValues

@@ -28,7 +28,7 @@ use Rattle.ob_rules.specs.declared.fault.CheckFault.{CheckFault}
 use Rattle.ob_rules.specs.Checking.{Fails, and_then}
 use Rattle.ob_rules.specs.CheckingStatements.{condition, kept, statement_before}
 use Rattle.ob_rules.proofs.Steps.{bind_assoc, bind_same, fails_as, fails_on, fails_past, goes_on}
-use Rattle.ob_rules.proofs.Rows.{statement_of-while, statement_of-if}
+use Rattle.ob_checked.proofs.Rows.{statement_of-while, statement_of-if}
 
 -- statements in front of others
 abbrev pub statements_before : List Statement → Programs.Statements → Programs.Statements

@@ -7,7 +7,6 @@ pub mod Kept
 pub mod Seconds
 pub mod Entries
 pub mod Tails
-pub mod Rows
 pub mod Walks
 pub mod Declared
 pub mod TypeSteps

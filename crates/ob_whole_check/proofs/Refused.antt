@@ -19,6 +19,13 @@ use Rattle.ob_whole_check.specs.CheckingModules.{IsRefused}
 pub well_typed : (m : Module) (p : Program) → checked m ≡ Right p → WellTyped m p
 well_typed m p h = let P : Verdict Program → Type 0 = λ v. Told (WellTyped m) (Breaks m) v in subst P h (module_told m)
 
+-- and as no other program
+pub only_program : (m : Module) (p other : Program) → checked m ≡ Right p → WellTyped m other → other ≡ p
+only_program m p other h typed = same (sym (module_typed typed) ∙ h)
+  where
+    same : {a b : Program} → Right a ≡ Right b → a ≡ b
+    same e = cc
+
 breaks : (m : Module) (g : BrokenRule) → checked m ≡ Wrong g → Breaks m g
 breaks m g h = let P : Verdict Program → Type 0 = λ v. Told (WellTyped m) (Breaks m) v in subst P h (module_told m)
 

@@ -1,8 +1,10 @@
 //! A module, from its tree to its checked program.
 
 ghost use Rattle.std.specs.Prelude.{◌≡◌, IfOk, IfErr};
+ghost use Rattle.ob_typing.specs.Declarations.{WellTyped};
+ghost use Rattle.ob_typing.specs.Program as Programs;
 ghost use Rattle.ob_grammar.specs.View.{module_of};
-ghost use Rattle.ob_checked.specs.CheckedModule.{tree_in};
+ghost use Rattle.ob_checked.specs.CheckedModule.{tree_in, program_in};
 ghost use Rattle.ob_whole_check.specs.CheckingModules.{IsRefused};
 ghost use Rattle.ob_typing.proofs.Verdict.{Right};
 ghost use Rattle.ob_typing.proofs.CheckedModules as Verdicts;
@@ -26,6 +28,8 @@ const MODULE_WORDS: usize = 4096;
 /// A module that is well typed, or the rule that it breaks first.
 pub fn check(alloc: Global, module: Module) -> Result<Checked, CheckFault>
     ensures tree { IfOk result (λ c. tree_in c ≡ module_of «module») }
+    ensures typed { IfOk result (λ c. ∥ WellTyped (module_of «module») (program_in c) ∥₁) }
+    ensures alone { IfOk result (λ c. (other : Programs.Program) → WellTyped (module_of «module») other → other ≡ program_in c) }
     ensures fault { IfErr result (λ f. IsRefused f (module_of «module»)) }
 {
     let program = program(alloc, module.tree())?;

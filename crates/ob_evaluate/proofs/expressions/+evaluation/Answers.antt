@@ -3,7 +3,8 @@ use Rattle.ob_checked.specs.View.{expression_of, slot_of, selectors_in, designat
 use Rattle.ob_positions.specs.Evaluation.{value_of}
 use Rattle.ob_store.specs.View.{store_in, value_or_zero}
 use Rattle.ob_evaluate.specs.Evaluating.{read_behind}
-use Rattle.ob_evaluate.proofs.Rows.{chain_begins, expression_of-value}
+use Rattle.ob_checked.proofs.Rows.{expression_of-value}
+use Rattle.ob_evaluate.proofs.Chains.{chain_begins}
 use Rattle.ob_evaluate.proofs.Selectors.{read_begins}
 use Rattle.ob_evaluate.proofs.expressions.+evaluation.Goals as goal
 

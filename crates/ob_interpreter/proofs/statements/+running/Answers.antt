@@ -6,7 +6,7 @@ use Rattle.ob_scalars.specs.Traps.{trap_number}
 use Rattle.ob_store.specs.View.{store_in, activation_in}
 use Rattle.ob_interpreter.specs.Running.{calls_of}
 use Rattle.ob_interpreter.proofs.CallsMade.{comes_as, stops_call, procedure_here, call_made}
-use Rattle.ob_interpreter.proofs.Rows.{statement_of-if, statement_of-while}
+use Rattle.ob_checked.proofs.Rows.{statement_of-if, statement_of-while}
 use Rattle.ob_interpreter.proofs.Runs.{branch_traps, branch_taken, branches_end, loop_goes, loop_ends}
 use Rattle.ob_interpreter.proofs.Sizes.{size, size_of_all, size_of_branches, turn_of, size_at, branch_at, last_at, body_at, within_less}
 use Rattle.ob_interpreter.proofs.statements.+running.Goals as goal

@@ -8,7 +8,7 @@ use Rattle.ob_checked.specs.Types.{type_in}
 use Rattle.ob_rules.specs.Usages.{use_of}
 use Rattle.ob_rules.specs.Names.{value_of}
 use Rattle.ob_rules.specs.Checking.{path_of}
-use Rattle.ob_rules.proofs.Rows.{expression_of-value}
+use Rattle.ob_checked.proofs.Rows.{expression_of-value}
 use Rattle.ob_rules.proofs.Tails.{variable_right}
 use Rattle.ob_rules.proofs.expressions.value_at.Goals as goal
 

@@ -1,9 +1,10 @@
-use Rattle.std.proofs.Common.{sym, ap, ◌∙◌}
+use Rattle.std.proofs.Common.{sym, ap, subst, ◌∙◌}
 use Rattle.ob_grammar.proofs.Exits.{passed_on}
 use Rattle.ob_grammar.specs.View.{module_of}
+use Rattle.ob_typing.specs.Declarations.{WellTyped}
 use Rattle.ob_typing.proofs.CheckedModules.{checked}
 use Rattle.ob_rules.proofs.Steps.{fails_as}
-use Rattle.ob_whole_check.proofs.Refused.{well_typed, refused}
+use Rattle.ob_whole_check.proofs.Refused.{well_typed, only_program, refused}
 use Rattle.ob_whole_check.proofs.modules.check.Goals as goal
 
 pub returns-in_err-program-clause-fault : goal.returns-in_err-program-clause-fault
@@ -14,3 +15,13 @@ returns-in_err-program-clause-fault c =
 
 pub new-requires : goal.new-requires
 new-requires c = well_typed (module_of c.args.module) _ (ap (λ m. checked (module_of m)) (sym c.tree.ensures.tree) ∙ c.in_ok-program.ensures.typed)
+
+pub returns-clause-typed : goal.returns-clause-typed
+returns-clause-typed c =
+    let verdict = ap (λ m. checked (module_of m)) (sym c.tree.ensures.tree) ∙ c.in_ok-program.ensures.typed in
+    subst (λ p. ∥ WellTyped (module_of c.args.module) p ∥₁) (sym c.new.ensures.program) ∣ well_typed (module_of c.args.module) _ verdict ∣₁
+
+pub returns-clause-alone : goal.returns-clause-alone
+returns-clause-alone c other typed =
+    let verdict = ap (λ m. checked (module_of m)) (sym c.tree.ensures.tree) ∙ c.in_ok-program.ensures.typed in
+    only_program (module_of c.args.module) _ other verdict typed ∙ sym c.new.ensures.program
