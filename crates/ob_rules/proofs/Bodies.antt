@@ -24,7 +24,7 @@ use Rattle.ob_checked.specs.declared.program.Expression.{Expression}
 use Rattle.ob_checked.specs.declared.program.Statement.{Statement}
 use Rattle.ob_checked.specs.declared.program.Statement.TheVariants as Statements
 use Rattle.ob_checked.specs.View.{expression_of, statement_of, statements_in, branches_in, otherwise_of}
-use Rattle.ob_rules.specs.declared.fault.CheckFault.{CheckFault}
+use Rattle.ob_scopes.specs.declared.fault.CheckFault.{CheckFault}
 use Rattle.ob_rules.specs.Checking.{Fails, and_then}
 use Rattle.ob_rules.specs.CheckingStatements.{condition, kept, statement_before}
 use Rattle.ob_rules.proofs.Steps.{bind_assoc, bind_same, fails_as, fails_on, fails_past, goes_on}

@@ -19,7 +19,7 @@ use Rattle.ob_checked.specs.View.{variable_of}
 use Rattle.ob_rules.specs.Checking.{and_then}
 use Rattle.ob_rules.specs.CheckingVariables.{known_variables, behind_variables}
 use Rattle.ob_rules.proofs.Steps.{bind_assoc, bind_same}
-use Rattle.ob_rules.proofs.Kept.{and_both, and_left, and_right, below_more}
+use Rattle.ob_scopes.proofs.Kept.{and_both, and_left, and_right, below_more}
 
 -- a type in front of others
 module _ (env : Environment) (x : TypeDecl) (rest : List TypeDecl) where

@@ -12,10 +12,10 @@ use Rattle.ob_typing.specs.Arithmetic.{same_scalar_type}
 use Rattle.ob_typing.specs.Scopes.{Environment, meant, holds}
 use Rattle.ob_typing.specs.Statements.{bare, unless_constant}
 use Rattle.ob_checked.specs.Types.{Entry}
-use Rattle.ob_rules.specs.declared.scopes.Meant.{Meant}
-use Rattle.ob_rules.specs.declared.scopes.Meant.TheVariants.{Nothing, Constant, TypeName, Variable, FarVariable, Procedure}
-use Rattle.ob_rules.specs.Names.{meant_of}
-use Rattle.ob_rules.specs.SimpleTypes.{simple_type}
+use Rattle.ob_scopes.specs.declared.scopes.Meant.{Meant}
+use Rattle.ob_scopes.specs.declared.scopes.Meant.TheVariants.{Nothing, Constant, TypeName, Variable, FarVariable, Procedure}
+use Rattle.ob_scopes.specs.Names.{meant_of}
+use Rattle.ob_scopes.specs.SimpleTypes.{simple_type}
 
 -- what a variable of a type holds
 pub holds_simple : (u s : ScalarType) (t : Programs.DataType) → Some u ≡ simple_type t → same_scalar_type u s ≡ holds t s

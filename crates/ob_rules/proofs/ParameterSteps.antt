@@ -22,12 +22,12 @@ use Rattle.ob_typing.proofs.CheckedModules.{WithParameters, parameters}
 use Rattle.ob_checked.specs.declared.program.Parameter.{Parameter}
 use Rattle.ob_checked.specs.Types.{Entry, is_below, Extends}
 use Rattle.ob_checked.specs.View.{parameter_of}
-use Rattle.ob_rules.specs.Objects.{known_parameters}
-use Rattle.ob_rules.specs.SimpleTypes.{simple_type}
+use Rattle.ob_scopes.specs.Objects.{known_parameters}
+use Rattle.ob_scopes.specs.SimpleTypes.{simple_type}
 use Rattle.ob_rules.specs.Checking.{and_then}
 use Rattle.ob_rules.specs.CheckingVariables.{behind_parameters}
 use Rattle.ob_rules.proofs.Steps.{bind_assoc, bind_same}
-use Rattle.ob_rules.proofs.Kept.{and_both, and_left, and_right, parameters_kept}
+use Rattle.ob_scopes.proofs.Kept.{and_both, and_left, and_right, parameters_kept}
 
 -- the first name that is taken among those for which there is room and the next one, or else that one
 abbrev pub first_bad : Option Tree.Name → Option Tree.Name → Option BrokenRule

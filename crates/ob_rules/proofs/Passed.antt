@@ -12,7 +12,7 @@ use Rattle.ob_checked.specs.declared.program.Actual.{Actual}
 use Rattle.ob_checked.specs.declared.program.Parameter.{Parameter}
 use Rattle.ob_checked.specs.Types.{Entry}
 use Rattle.ob_checked.specs.View.{actual_of, parameter_of}
-use Rattle.ob_rules.specs.declared.fault.CheckFault.{CheckFault}
+use Rattle.ob_scopes.specs.declared.fault.CheckFault.{CheckFault}
 use Rattle.ob_rules.specs.Checking.{Fails}
 use Rattle.ob_rules.proofs.Steps.{bind_assoc, bind_same, fails_as, fails_on, goes_on}
 

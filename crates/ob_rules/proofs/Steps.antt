@@ -3,8 +3,8 @@ use Rattle.std.proofs.Common.{◌≡◌, refl, sym, subst, ◌∙◌, ap, Result
 use Rattle.std.specs.Result.{OnOk, IfOk}
 use Rattle.ob_typing.specs.declared.rule.BrokenRule.{BrokenRule}
 use Rattle.ob_typing.proofs.Verdict.{Verdict, Right, Wrong, Foreign, ◌>>=◌}
-use Rattle.ob_rules.specs.declared.fault.CheckFault.{CheckFault}
-use Rattle.ob_rules.specs.declared.fault.CheckFault.TheVariants.{Broken, NoMemory}
+use Rattle.ob_scopes.specs.declared.fault.CheckFault.{CheckFault}
+use Rattle.ob_scopes.specs.declared.fault.CheckFault.TheVariants.{Broken, NoMemory}
 use Rattle.ob_rules.specs.Checking.{Fails}
 
 pub fails_as : {A : Type 0} (f : CheckFault) (v w : Verdict A) → v ≡ w → Fails f w → Fails f v

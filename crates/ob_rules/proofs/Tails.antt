@@ -12,7 +12,7 @@ use Rattle.ob_typing.specs.Expressions.{Use, behind, value_behind}
 use Rattle.ob_typing.proofs.Verdict.{Right, ◌>>=◌}
 use Rattle.ob_typing.proofs.CheckedExpressions as Verdicts
 use Rattle.ob_typing.proofs.CheckedExpressions.{expression, operands, selecting, named_value, sign_place}
-use Rattle.ob_rules.specs.SimpleTypes.{simple_type}
+use Rattle.ob_scopes.specs.SimpleTypes.{simple_type}
 
 -- one operator and its operand
 module _ (env : Environment) (use' : Use) (t : ScalarType) (v : Option Scalar) (operator : Operator) (place : ℕ) (e : Tree.Expr) (rest : Tree.Operands) where

@@ -27,7 +27,7 @@ use Rattle.ob_checked.specs.Types.{Entry, type_in, type_by, types_of, is_below, 
 use Rattle.ob_rules.specs.Checking.{and_then}
 use Rattle.ob_rules.specs.CheckingTypes.{length_at, small_at, list_before, fields_before, behind_fields}
 use Rattle.ob_rules.proofs.Steps.{bind_assoc, bind_same}
-use Rattle.ob_rules.proofs.Kept.{and_both, and_left, and_right}
+use Rattle.ob_scopes.proofs.Kept.{and_both, and_left, and_right}
 
 module _ (env : Environment) (e : TypeExpr) where
   pub named_verdict : (name : Name) → e ≡ Types.Named name → denoted env (type_of e) ≡ denoted env (Tree.NamedType (name_of name))

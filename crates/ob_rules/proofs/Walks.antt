@@ -1,7 +1,6 @@
 -- One operand or one selector more, behind those that are done.
 use Rattle.std.proofs.Common.{◌≡◌, ℕ, ◌+◌, ◌<◌, List, [], ◌∷◌, ◌++◌, length, get_or, drop, true, Option, Some, refl, sym, ap, ◌∙◌}
 use Rattle.std.specs.Prelude.{string_bytes}
-use Rattle.std.proofs.lemmas.List.{drop_more}
 use Rattle.ob_grammar.specs.declared.tree.Expr.{Expr}
 use Rattle.ob_grammar.specs.declared.tree.Name.{Name}
 use Rattle.ob_grammar.specs.declared.tree.Operand.{Operand}
@@ -32,9 +31,6 @@ use Rattle.ob_rules.specs.Checking.{typed_of, selector_before, selected_before, 
 use Rattle.ob_rules.proofs.Steps.{bind_assoc, bind_same}
 use Rattle.ob_rules.proofs.Chains.{operations_before-push, resumed, selectors_before, walked}
 use Rattle.ob_rules.proofs.Tails.{operand_right}
-
-pub next_left : {X : Type 0} (xs : List X) (i : ℕ) (x : X) → i < length xs → x ≡ get_or xs i x → drop i xs ≡ x ∷ drop (i + 1) xs
-next_left xs i x h e = drop_more xs i x h ∙ ap (λ y. y ∷ drop (i + 1) xs) (sym e)
 
 module _ (env : Environment) (use' : Use) where
   module _ (t : ScalarType) (all : List Operand) (i : ℕ) (o : Operand) (next : drop i all ≡ o ∷ drop (i + 1) all) where

@@ -22,8 +22,8 @@ use Rattle.ob_checked.specs.declared.program.Selector.{Selector}
 use Rattle.ob_checked.specs.declared.program.Selector.TheVariants as Selectors
 use Rattle.ob_checked.specs.Types.{Entry, type_in}
 use Rattle.ob_checked.specs.View.{expression_of, operations_in, selectors_in}
-use Rattle.ob_rules.specs.declared.fault.CheckFault.{CheckFault}
-use Rattle.ob_rules.specs.declared.fault.CheckFault.TheVariants.{Broken, NoMemory}
+use Rattle.ob_scopes.specs.declared.fault.CheckFault.{CheckFault}
+use Rattle.ob_scopes.specs.declared.fault.CheckFault.TheVariants.{Broken, NoMemory}
 use Rattle.ob_rules.specs.declared.expressions.Typed.{Typed}
 use Rattle.ob_rules.specs.declared.expressions.Chain.{Chain}
 use Rattle.ob_rules.specs.declared.expressions.Path.{Path}

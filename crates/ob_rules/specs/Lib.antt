@@ -1,11 +1,5 @@
-pub mod Usages
-pub mod Objects
-pub mod SimpleTypes
-pub mod Names
 pub mod Checking
-pub mod TakenNames
 pub mod CheckingTypes
 pub mod CheckingVariables
-pub mod Shapes
 pub mod Designations
 pub mod CheckingStatements

@@ -8,24 +8,24 @@ ghost use Rattle.ob_typing.specs.ExpressionFaults.{first_place};
 ghost use Rattle.ob_typing.proofs.Verdict.{Verdict, Right};
 ghost use Rattle.ob_typing.proofs.CheckedExpressions as Verdicts;
 ghost use Rattle.ob_checked.specs.Types.{type_in};
-ghost use Rattle.ob_rules.specs.Usages.{use_of};
+ghost use Rattle.ob_scopes.specs.Usages.{use_of};
 ghost use Rattle.ob_checked.specs.View.{table_of};
-ghost use Rattle.ob_rules.specs.Names.{types_in, env_of, value_of};
+ghost use Rattle.ob_scopes.specs.Names.{types_in, env_of, value_of};
 ghost use Rattle.ob_rules.specs.Checking.{Fails, typed_of, chain_of, path_of, literal, complemented, signed, chained, compared, designator_in, selector_before, selected_before, fielded, indexed, and_then};
 
-use crate::constants::{
-    Usage, behind, known, value_behind, value_compared, value_complement, value_signed,
-};
-use crate::fault::{CheckFault, broken};
-use crate::meant::value_meant;
-use crate::parts::{elements_of, field_named, fields_of, simple_type};
-use crate::scopes::{Scopes, Value};
 use ob_checked::program::{Designator, Expression, Operation, Selector, Slot};
 use ob_checked::types::{DataType, Types};
 use ob_grammar::tree;
 use ob_grammar::tree::{Expr, Name, Operand, Operator, Sign};
 use ob_scalars::operators::type_of;
 use ob_scalars::written::{compares, operator_of, relation_of, same_scalar_type, takes_both};
+use ob_scopes::constants::{
+    Usage, behind, known, value_behind, value_compared, value_complement, value_signed,
+};
+use ob_scopes::fault::{CheckFault, broken};
+use ob_scopes::meant::value_meant;
+use ob_scopes::parts::{elements_of, field_named, fields_of, simple_type};
+use ob_scopes::scopes::{Scopes, Value};
 use ob_typing::rule::Rule;
 use ob_typing::scalar::{Scalar, ScalarType};
 use std::alloc::Global;

@@ -10,18 +10,18 @@ ghost use Rattle.ob_typing.proofs.Verdict.{Right, unless_broken};
 ghost use Rattle.ob_typing.proofs.CheckedModules as Verdicts;
 ghost use Rattle.ob_checked.specs.Types.{type_in, is_below, Extends};
 ghost use Rattle.ob_checked.specs.View.{table_of, parameter_of};
-ghost use Rattle.ob_rules.specs.Objects.{known_parameters};
-ghost use Rattle.ob_rules.specs.Names.{types_in, env_of};
+ghost use Rattle.ob_scopes.specs.Objects.{known_parameters};
+ghost use Rattle.ob_scopes.specs.Names.{types_in, env_of};
 ghost use Rattle.ob_rules.specs.Checking.{Fails, and_then};
 ghost use Rattle.ob_rules.specs.CheckingVariables.{behind_parameters};
 
-use crate::fault::{CheckFault, broken};
-use crate::parts::simple_type;
-use crate::scopes::Scopes;
 use crate::types::denoted;
 use ob_checked::program::Parameter;
 use ob_checked::types::{DataType, Types};
 use ob_grammar::tree::{Name, Section, TypeExpr};
+use ob_scopes::fault::{CheckFault, broken};
+use ob_scopes::parts::simple_type;
+use ob_scopes::scopes::Scopes;
 use ob_typing::rule::Rule;
 use std::alloc::Global;
 

@@ -21,11 +21,11 @@ use Rattle.ob_typing.proofs.CheckedModules.{WithParameters, WithVariables, WithP
 use Rattle.ob_checked.specs.declared.program.Procedure.{Procedure}
 use Rattle.ob_checked.specs.Types.{Entry, Extends}
 use Rattle.ob_checked.specs.View.{procedure_of, parameter_of, variable_of, statements_in}
-use Rattle.ob_rules.specs.Objects.{known_parameters}
+use Rattle.ob_scopes.specs.Objects.{known_parameters}
 use Rattle.ob_rules.specs.Checking.{and_then}
 use Rattle.ob_rules.specs.CheckingVariables.{known_variables}
 use Rattle.ob_rules.proofs.Steps.{bind_assoc, bind_same}
-use Rattle.ob_rules.proofs.Kept.{and_both, and_left, and_right, parameters_more, parameters_kept}
+use Rattle.ob_scopes.proofs.Kept.{and_both, and_left, and_right, parameters_more, parameters_kept}
 use Rattle.ob_rules.proofs.DeclarationSteps.{variables_more, variables_kept}
 use Rattle.ob_whole_check.specs.CheckingProcedures.{Behind, known_procedures, behind_procedures, headed, behind_heading}
 

@@ -11,8 +11,8 @@ use Rattle.ob_typing.proofs.Told.{Told}
 use Rattle.ob_typing.proofs.ToldModules.{module_told}
 use Rattle.ob_typing.proofs.CheckedModules.{checked, module_typed, module_breaks}
 use Rattle.ob_typing.proofs.DecidedModules.{one_or_other}
-use Rattle.ob_rules.specs.declared.fault.CheckFault.{CheckFault}
-use Rattle.ob_rules.specs.declared.fault.CheckFault.TheVariants.{Broken, NoMemory}
+use Rattle.ob_scopes.specs.declared.fault.CheckFault.{CheckFault}
+use Rattle.ob_scopes.specs.declared.fault.CheckFault.TheVariants.{Broken, NoMemory}
 use Rattle.ob_rules.specs.Checking.{Fails}
 use Rattle.ob_whole_check.specs.CheckingModules.{IsRefused}
 

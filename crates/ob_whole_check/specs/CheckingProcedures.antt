@@ -15,7 +15,7 @@ use Rattle.ob_typing.proofs.CheckedModules.{WithParameters, WithProcedures, para
 use Rattle.ob_checked.specs.declared.program.Procedure.{Procedure}
 use Rattle.ob_checked.specs.Types.{Entry}
 use Rattle.ob_checked.specs.View.{procedure_of}
-use Rattle.ob_rules.specs.Objects.{known_parameters}
+use Rattle.ob_scopes.specs.Objects.{known_parameters}
 use Rattle.ob_rules.specs.CheckingVariables.{known_variables}
 
 -- the types of procedures are in a table of so many entries

@@ -7,8 +7,8 @@ ghost use Rattle.ob_typing.specs.Declarations.{with_procedure, exports_behind, h
 ghost use Rattle.ob_typing.proofs.Verdict.{Right, unless};
 ghost use Rattle.ob_checked.specs.Types.{Entry, Extends};
 ghost use Rattle.ob_checked.specs.View.{table_of, parameter_of};
-ghost use Rattle.ob_rules.specs.Objects.{known_parameters};
-ghost use Rattle.ob_rules.specs.Names.{types_in, env_of};
+ghost use Rattle.ob_scopes.specs.Objects.{known_parameters};
+ghost use Rattle.ob_scopes.specs.Names.{types_in, env_of};
 ghost use Rattle.ob_rules.specs.Checking.{Fails};
 ghost use Rattle.ob_whole_check.specs.CheckingProcedures.{around, headed};
 
@@ -17,10 +17,10 @@ use indexmap::IndexMap;
 use ob_checked::program::Parameter;
 use ob_checked::types::Types;
 use ob_grammar::tree::Procedure;
-use ob_rules::fault::{CheckFault, broken};
 use ob_rules::parameters::declare_parameters;
-use ob_rules::parts::simple_type;
-use ob_rules::scopes::Scopes;
+use ob_scopes::fault::{CheckFault, broken};
+use ob_scopes::parts::simple_type;
+use ob_scopes::scopes::Scopes;
 use ob_typing::rule::Rule;
 use std::alloc::Global;
 

@@ -17,9 +17,9 @@ use ob_checked::program::Program;
 use ob_grammar::module::Module;
 use ob_grammar::tree::ModuleTree;
 use ob_rules::declarations::Room;
-use ob_rules::fault::CheckFault;
-use ob_rules::scopes::Scopes;
 use ob_rules::statements::body;
+use ob_scopes::fault::CheckFault;
+use ob_scopes::scopes::Scopes;
 use std::alloc::Global;
 
 /// The most words of a module's variables.

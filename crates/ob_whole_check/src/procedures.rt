@@ -8,8 +8,8 @@ ghost use Rattle.ob_typing.proofs.Verdict.{Right, unless};
 ghost use Rattle.ob_typing.proofs.CheckedModules as Verdicts;
 ghost use Rattle.ob_checked.specs.Types.{Extends};
 ghost use Rattle.ob_checked.specs.View.{parameter_of, variable_of, procedure_of, statements_in};
-ghost use Rattle.ob_rules.specs.Objects.{known_parameters};
-ghost use Rattle.ob_rules.specs.Names.{types_in, env_of};
+ghost use Rattle.ob_scopes.specs.Objects.{known_parameters};
+ghost use Rattle.ob_scopes.specs.Names.{types_in, env_of};
 ghost use Rattle.ob_rules.specs.Checking.{Fails, and_then};
 ghost use Rattle.ob_rules.specs.CheckingVariables.{room_of, known_variables};
 ghost use Rattle.ob_whole_check.specs.CheckingProcedures.{around, known_procedures, behind_procedures, behind_heading};
@@ -20,9 +20,9 @@ use ob_checked::program::{Parameter, Procedure, Statement, Variable};
 use ob_grammar::tree;
 use ob_grammar::tree::Declarations;
 use ob_rules::declarations::{Room, declare_constants, declare_types, declare_variables};
-use ob_rules::fault::CheckFault;
-use ob_rules::scopes::Scopes;
 use ob_rules::statements::body;
+use ob_scopes::fault::CheckFault;
+use ob_scopes::scopes::Scopes;
 use std::alloc::Global;
 
 /// The most words of a frame.

@@ -3,9 +3,9 @@ use Rattle.std.proofs.lemmas.List.{at_drop_all}
 use Rattle.ob_grammar.proofs.Exits.{passed_on}
 use Rattle.ob_grammar.specs.View.{const_decl_of}
 use Rattle.ob_typing.proofs.CheckedModules.{constants}
-use Rattle.ob_rules.specs.Names.{env_of}
+use Rattle.ob_scopes.specs.Names.{env_of}
 use Rattle.ob_rules.proofs.Steps.{fails_as}
-use Rattle.ob_rules.proofs.Walks.{next_left}
+use Rattle.ob_scopes.proofs.Lists.{next_left}
 use Rattle.ob_rules.proofs.declarations.declare_constants.Goals as goal
 
 pub returns-in_err-declare_constant-clause-fault : goal.returns-in_err-declare_constant-clause-fault

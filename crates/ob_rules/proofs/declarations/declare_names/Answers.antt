@@ -9,10 +9,10 @@ use Rattle.ob_typing.specs.declared.rule.Rule.TheVariants.{PassesLimit}
 use Rattle.ob_typing.proofs.Verdict.{unless_name}
 use Rattle.ob_checked.specs.Types.{type_in, is_below}
 use Rattle.ob_checked.specs.View.{variable_of}
-use Rattle.ob_rules.specs.Names.{types_in, env_of}
+use Rattle.ob_scopes.specs.Names.{types_in, env_of}
 use Rattle.ob_rules.specs.CheckingVariables.{room_of, known_variables}
 use Rattle.ob_rules.proofs.Steps.{fails_when}
-use Rattle.ob_rules.proofs.Walks.{next_left}
+use Rattle.ob_scopes.proofs.Lists.{next_left}
 use Rattle.ob_rules.proofs.DeclarationSteps.{room_none, room_some, beyond_here, beyond_next, variable_pushed}
 use Rattle.ob_rules.proofs.declarations.declare_names.Goals as goal
 

@@ -4,7 +4,7 @@ use Rattle.ob_typing.specs.Scopes.{words}
 use Rattle.ob_typing.specs.Declarations.{first_beyond, with_variables, room_behind, variables_of}
 use Rattle.ob_checked.specs.Types.{type_in}
 use Rattle.ob_checked.specs.View.{variable_of}
-use Rattle.ob_rules.specs.Names.{types_in, env_of}
+use Rattle.ob_scopes.specs.Names.{types_in, env_of}
 use Rattle.ob_rules.specs.CheckingVariables.{room_of, known_variables}
 use Rattle.ob_rules.proofs.declarations.declare_names.Given as goal
 

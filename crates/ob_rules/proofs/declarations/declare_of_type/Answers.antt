@@ -7,7 +7,7 @@ use Rattle.ob_typing.specs.Declarations.{first_beyond, with_variables, room_behi
 use Rattle.ob_typing.proofs.CheckedModules.{variables}
 use Rattle.ob_checked.specs.Types.{type_in}
 use Rattle.ob_checked.specs.View.{variable_of}
-use Rattle.ob_rules.specs.Names.{types_in, env_of}
+use Rattle.ob_scopes.specs.Names.{types_in, env_of}
 use Rattle.ob_rules.specs.Checking.{and_then}
 use Rattle.ob_rules.specs.CheckingVariables.{room_of, known_variables, behind_variables}
 use Rattle.ob_rules.proofs.Steps.{on_ok_both, if_ok_with}

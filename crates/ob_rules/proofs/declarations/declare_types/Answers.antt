@@ -2,9 +2,9 @@ use Rattle.std.proofs.Common.{◌+◌, map, drop, ap, ◌∙◌}
 use Rattle.ob_grammar.proofs.Exits.{passed_on}
 use Rattle.ob_grammar.specs.View.{type_decl_of}
 use Rattle.ob_typing.proofs.CheckedModules.{types}
-use Rattle.ob_rules.specs.Names.{env_of}
+use Rattle.ob_scopes.specs.Names.{env_of}
 use Rattle.ob_rules.proofs.Steps.{fails_as}
-use Rattle.ob_rules.proofs.Walks.{next_left}
+use Rattle.ob_scopes.proofs.Lists.{next_left}
 use Rattle.ob_rules.proofs.declarations.declare_types.Goals as goal
 
 pub returns-in_err-declare_type-clause-fault : goal.returns-in_err-declare_type-clause-fault

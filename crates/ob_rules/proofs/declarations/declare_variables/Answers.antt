@@ -5,12 +5,12 @@ use Rattle.ob_grammar.specs.View.{var_decl_of}
 use Rattle.ob_typing.proofs.Verdict.{Right}
 use Rattle.ob_typing.proofs.CheckedModules.{variables}
 use Rattle.ob_checked.specs.View.{variable_of}
-use Rattle.ob_rules.specs.Names.{types_in, env_of}
+use Rattle.ob_scopes.specs.Names.{types_in, env_of}
 use Rattle.ob_rules.specs.Checking.{and_then}
 use Rattle.ob_rules.specs.CheckingVariables.{room_of, known_variables, behind_variables}
 use Rattle.ob_rules.proofs.Steps.{bind_right, fails_as, fails_on}
-use Rattle.ob_rules.proofs.Kept.{extends_itself, extends_further}
-use Rattle.ob_rules.proofs.Walks.{next_left}
+use Rattle.ob_scopes.proofs.Kept.{extends_itself, extends_further}
+use Rattle.ob_scopes.proofs.Lists.{next_left}
 use Rattle.ob_rules.proofs.declarations.declare_variables.Goals as goal
 
 pub loop-declaration-init : goal.loop-declaration-init

@@ -2,7 +2,7 @@ use Rattle.std.proofs.Common.{◌≡◌, map, drop, length, true}
 use Rattle.ob_grammar.specs.View.{var_decl_of}
 use Rattle.ob_typing.proofs.CheckedModules.{variables}
 use Rattle.ob_checked.specs.Types.{Extends}
-use Rattle.ob_rules.specs.Names.{types_in, env_of}
+use Rattle.ob_scopes.specs.Names.{types_in, env_of}
 use Rattle.ob_rules.specs.Checking.{and_then}
 use Rattle.ob_rules.specs.CheckingVariables.{room_of, known_variables, behind_variables}
 use Rattle.ob_rules.proofs.declarations.declare_variables.Given as goal

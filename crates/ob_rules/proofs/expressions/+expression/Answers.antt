@@ -6,12 +6,13 @@ use Rattle.ob_grammar.specs.View.{expr_of, operands_in, selectors_in}
 use Rattle.ob_typing.proofs.Verdict.{Right, ◌>>=◌}
 use Rattle.ob_typing.proofs.CheckedExpressions.{expression, operands, selecting}
 use Rattle.ob_checked.specs.Types.{type_in}
-use Rattle.ob_rules.specs.Usages.{use_of}
-use Rattle.ob_rules.specs.Names.{types_in, env_of}
+use Rattle.ob_scopes.specs.Usages.{use_of}
+use Rattle.ob_scopes.specs.Names.{types_in, env_of}
 use Rattle.ob_rules.proofs.Steps.{fails_as, fails_on, fails_past, goes_on}
 use Rattle.ob_rules.proofs.Exprs.{named_verdict, product_verdict, sum_verdict}
 use Rattle.ob_rules.proofs.Chains.{operations_before-end, resumed, selectors_before-end, walked}
-use Rattle.ob_rules.proofs.Walks.{next_left, operands_next, selecting_first, selecting_next, selector_field, selector_index}
+use Rattle.ob_scopes.proofs.Lists.{next_left}
+use Rattle.ob_rules.proofs.Walks.{operands_next, selecting_first, selecting_next, selector_field, selector_index}
 use Rattle.ob_rules.proofs.expressions.+expression.Goals as goal
 
 pub expression-returns-in_err-rest-in-Product-clause-fault : goal.expression-returns-in_err-rest-in-Product-clause-fault

@@ -3,8 +3,8 @@ use Rattle.ob_grammar.specs.View.{operands_in, selectors_in}
 use Rattle.ob_typing.proofs.Verdict.{◌>>=◌}
 use Rattle.ob_typing.proofs.CheckedExpressions.{operands, selecting}
 use Rattle.ob_checked.specs.Types.{type_in}
-use Rattle.ob_rules.specs.Usages.{use_of}
-use Rattle.ob_rules.specs.Names.{types_in, env_of}
+use Rattle.ob_scopes.specs.Usages.{use_of}
+use Rattle.ob_scopes.specs.Names.{types_in, env_of}
 use Rattle.ob_rules.proofs.Chains.{resumed, walked}
 use Rattle.ob_rules.proofs.expressions.+expression.Given as goal
 

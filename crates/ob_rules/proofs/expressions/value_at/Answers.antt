@@ -5,8 +5,8 @@ use Rattle.ob_typing.proofs.Verdict.{Right}
 use Rattle.ob_typing.proofs.CheckedExpressions as Verdicts
 use Rattle.ob_checked.specs.View.{table_of, owner_of, selectors_in}
 use Rattle.ob_checked.specs.Types.{type_in}
-use Rattle.ob_rules.specs.Usages.{use_of}
-use Rattle.ob_rules.specs.Names.{value_of}
+use Rattle.ob_scopes.specs.Usages.{use_of}
+use Rattle.ob_scopes.specs.Names.{value_of}
 use Rattle.ob_rules.specs.Checking.{path_of}
 use Rattle.ob_checked.proofs.Rows.{expression_of-value}
 use Rattle.ob_rules.proofs.Tails.{variable_right}

@@ -6,9 +6,9 @@ use Rattle.ob_typing.specs.Scopes.{declared, variable_in}
 use Rattle.ob_typing.specs.Declarations.{with_parameters, parameters_of}
 use Rattle.ob_checked.specs.Types.{type_in, is_below}
 use Rattle.ob_checked.specs.View.{parameter_of}
-use Rattle.ob_rules.specs.Objects.{known_parameters}
-use Rattle.ob_rules.specs.Names.{types_in, env_of}
-use Rattle.ob_rules.proofs.Walks.{next_left}
+use Rattle.ob_scopes.specs.Objects.{known_parameters}
+use Rattle.ob_scopes.specs.Names.{types_in, env_of}
+use Rattle.ob_scopes.proofs.Lists.{next_left}
 use Rattle.ob_rules.proofs.ParameterSteps.{parameter_pushed}
 use Rattle.ob_rules.proofs.parameters.add_parameters.Goals as goal
 

@@ -3,8 +3,8 @@ use Rattle.ob_grammar.specs.View.{name_of}
 use Rattle.ob_typing.specs.Declarations.{with_parameters, parameters_of}
 use Rattle.ob_checked.specs.Types.{type_in}
 use Rattle.ob_checked.specs.View.{parameter_of}
-use Rattle.ob_rules.specs.Objects.{known_parameters}
-use Rattle.ob_rules.specs.Names.{types_in, env_of}
+use Rattle.ob_scopes.specs.Objects.{known_parameters}
+use Rattle.ob_scopes.specs.Names.{types_in, env_of}
 use Rattle.ob_rules.proofs.parameters.add_parameters.Given as goal
 
 -- what is left completes what is done

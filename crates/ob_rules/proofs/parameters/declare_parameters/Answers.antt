@@ -5,13 +5,13 @@ use Rattle.ob_grammar.specs.View.{section_of}
 use Rattle.ob_typing.proofs.Verdict.{Right}
 use Rattle.ob_typing.proofs.CheckedModules.{parameters}
 use Rattle.ob_checked.specs.View.{parameter_of}
-use Rattle.ob_rules.specs.Objects.{known_parameters}
-use Rattle.ob_rules.specs.Names.{types_in, env_of}
+use Rattle.ob_scopes.specs.Objects.{known_parameters}
+use Rattle.ob_scopes.specs.Names.{types_in, env_of}
 use Rattle.ob_rules.specs.Checking.{and_then}
 use Rattle.ob_rules.specs.CheckingVariables.{behind_parameters}
 use Rattle.ob_rules.proofs.Steps.{bind_right, fails_as, fails_on}
-use Rattle.ob_rules.proofs.Kept.{extends_itself, extends_further}
-use Rattle.ob_rules.proofs.Walks.{next_left}
+use Rattle.ob_scopes.proofs.Kept.{extends_itself, extends_further}
+use Rattle.ob_scopes.proofs.Lists.{next_left}
 use Rattle.ob_rules.proofs.parameters.declare_parameters.Goals as goal
 
 pub loop-section-init : goal.loop-section-init

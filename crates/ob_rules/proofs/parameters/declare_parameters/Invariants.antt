@@ -2,8 +2,8 @@ use Rattle.std.proofs.Common.{◌≡◌, map, drop, length, true}
 use Rattle.ob_grammar.specs.View.{section_of}
 use Rattle.ob_typing.proofs.CheckedModules.{parameters}
 use Rattle.ob_checked.specs.Types.{Extends}
-use Rattle.ob_rules.specs.Objects.{known_parameters}
-use Rattle.ob_rules.specs.Names.{types_in, env_of}
+use Rattle.ob_scopes.specs.Objects.{known_parameters}
+use Rattle.ob_scopes.specs.Names.{types_in, env_of}
 use Rattle.ob_rules.specs.Checking.{and_then}
 use Rattle.ob_rules.specs.CheckingVariables.{behind_parameters}
 use Rattle.ob_rules.proofs.parameters.declare_parameters.Given as goal

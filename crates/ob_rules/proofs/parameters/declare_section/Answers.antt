@@ -6,11 +6,11 @@ use Rattle.ob_typing.specs.Declarations.{parameter_broken, most_parameters, with
 use Rattle.ob_typing.proofs.CheckedModules.{parameters}
 use Rattle.ob_checked.specs.Types.{type_in}
 use Rattle.ob_checked.specs.View.{parameter_of}
-use Rattle.ob_rules.specs.Objects.{known_parameters}
-use Rattle.ob_rules.specs.Names.{types_in, env_of}
+use Rattle.ob_scopes.specs.Objects.{known_parameters}
+use Rattle.ob_scopes.specs.Names.{types_in, env_of}
 use Rattle.ob_rules.specs.Checking.{and_then}
 use Rattle.ob_rules.specs.CheckingVariables.{behind_parameters}
-use Rattle.ob_rules.proofs.Kept.{parameters_more}
+use Rattle.ob_scopes.proofs.Kept.{parameters_more}
 use Rattle.ob_rules.proofs.ParameterSteps.{section_step, counted}
 use Rattle.ob_rules.proofs.parameters.declare_section.Goals as goal
 

@@ -5,7 +5,7 @@ use Rattle.ob_grammar.specs.View.{name_of}
 use Rattle.ob_typing.specs.Scopes.{is_declared}
 use Rattle.ob_typing.specs.Declarations.{parameter_broken}
 use Rattle.ob_typing.proofs.Verdict.{unless_broken}
-use Rattle.ob_rules.specs.Names.{env_of}
+use Rattle.ob_scopes.specs.Names.{env_of}
 use Rattle.ob_rules.proofs.Steps.{fails_when}
 use Rattle.ob_rules.proofs.ParameterSteps.{first_bad, names_tested, got_past}
 use Rattle.ob_rules.proofs.parameters.test_names.Goals as goal

@@ -5,9 +5,9 @@ use Rattle.ob_grammar.specs.View as Trees
 use Rattle.ob_grammar.proofs.Exits.{passed_on}
 use Rattle.ob_typing.proofs.Verdict.{◌>>=◌}
 use Rattle.ob_typing.proofs.CheckedStatements.{statements, branches}
-use Rattle.ob_rules.specs.Names.{env_of}
+use Rattle.ob_scopes.specs.Names.{env_of}
 use Rattle.ob_rules.proofs.Steps.{fails_as, fails_on}
-use Rattle.ob_rules.proofs.Walks.{next_left}
+use Rattle.ob_scopes.proofs.Lists.{next_left}
 use Rattle.ob_rules.proofs.Bodies.{behind_done, branched, done_all, statements_first, statements_next, branch_condition_fails, branch_body_fails, branches_next, if_tree, if_fails, else_fails, if_right, while_tree, body_fails, while_right}
 use Rattle.ob_rules.proofs.Sizes.{size, size_of_all, size_of_else, statement_smaller, body_smaller}
 use Rattle.ob_rules.proofs.statements.+statements.Goals as goal

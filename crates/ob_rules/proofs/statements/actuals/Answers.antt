@@ -4,9 +4,9 @@ use Rattle.std.specs.Slice.Iter.{iter_rest}
 use Rattle.std.proofs.lemmas.List.{length_push}
 use Rattle.std.proofs.lemmas.Slice.Zip.{zip_turn, zip_end}
 use Rattle.ob_grammar.proofs.Exits.{passed_on}
-use Rattle.ob_rules.specs.Names.{types_in, env_of}
+use Rattle.ob_scopes.specs.Names.{types_in, env_of}
 use Rattle.ob_rules.proofs.Steps.{fails_as}
-use Rattle.ob_rules.proofs.Walks.{next_left}
+use Rattle.ob_scopes.proofs.Lists.{next_left}
 use Rattle.ob_rules.proofs.Passed.{actuals_next, first_fails, actuals_end}
 use Rattle.ob_rules.proofs.statements.actuals.Goals as goal
 

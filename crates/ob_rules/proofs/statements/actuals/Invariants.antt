@@ -3,7 +3,7 @@ use Rattle.ob_grammar.specs.View.{expr_of}
 use Rattle.ob_typing.proofs.Verdict.{◌>>=◌}
 use Rattle.ob_typing.proofs.CheckedStatements.{actuals}
 use Rattle.ob_checked.specs.View.{parameter_of}
-use Rattle.ob_rules.specs.Names.{types_in, env_of}
+use Rattle.ob_scopes.specs.Names.{types_in, env_of}
 use Rattle.ob_rules.proofs.Passed.{behind_passed, actuals_from}
 use Rattle.ob_rules.proofs.statements.actuals.Given as goal
 

@@ -1,4 +1,4 @@
-use Rattle.ob_rules.specs.Names.{types_in, env_of}
+use Rattle.ob_scopes.specs.Names.{types_in, env_of}
 use Rattle.ob_rules.proofs.Designated.{bare_variable}
 use Rattle.ob_rules.proofs.statements.bare.Goals as goal
 

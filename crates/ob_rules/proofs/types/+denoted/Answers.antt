@@ -7,13 +7,13 @@ use Rattle.ob_typing.specs.Types.{second, and_all_taken, with_fields}
 use Rattle.ob_typing.proofs.Verdict.{Right}
 use Rattle.ob_typing.proofs.CheckedTypes.{denoted_fields}
 use Rattle.ob_checked.specs.Types.{type_by, types_of}
-use Rattle.ob_rules.specs.Names.{types_in, env_of}
-use Rattle.ob_rules.specs.TakenNames.{taken_in}
+use Rattle.ob_scopes.specs.Names.{types_in, env_of}
+use Rattle.ob_scopes.specs.TakenNames.{taken_in}
 use Rattle.ob_rules.specs.Checking.{and_then}
 use Rattle.ob_rules.specs.CheckingTypes.{list_before, fields_before, behind_fields}
 use Rattle.ob_rules.proofs.Steps.{fails_as, fails_on, fails_past, goes_on, on_ok_both}
-use Rattle.ob_rules.proofs.Kept.{all_below_more}
-use Rattle.ob_rules.proofs.Walks.{next_left}
+use Rattle.ob_scopes.proofs.Kept.{all_below_more}
+use Rattle.ob_scopes.proofs.Lists.{next_left}
 use Rattle.ob_rules.proofs.TypeSteps.{record_verdict, lists_first, list_step, before_end}
 use Rattle.ob_rules.proofs.types.+denoted.Goals as goal
 

@@ -3,8 +3,8 @@ use Rattle.ob_grammar.specs.View.{fields_in}
 use Rattle.ob_typing.specs.Types.{none_taken}
 use Rattle.ob_typing.proofs.CheckedTypes.{denoted_fields}
 use Rattle.ob_checked.specs.Types.{all_below, Extends}
-use Rattle.ob_rules.specs.Names.{types_in, env_of}
-use Rattle.ob_rules.specs.TakenNames.{taken_in}
+use Rattle.ob_scopes.specs.Names.{types_in, env_of}
+use Rattle.ob_scopes.specs.TakenNames.{taken_in}
 use Rattle.ob_rules.specs.Checking.{and_then}
 use Rattle.ob_rules.specs.CheckingTypes.{behind_fields}
 use Rattle.ob_rules.proofs.types.+denoted.Given as goal

@@ -3,10 +3,10 @@ use Rattle.ob_grammar.specs.View.{name_of}
 use Rattle.ob_typing.specs.Program.{field}
 use Rattle.ob_typing.specs.Types.{second, and_taken, and_all_taken, with_fields}
 use Rattle.ob_checked.specs.Types.{type_by, all_below}
-use Rattle.ob_rules.specs.TakenNames.{taken_in}
+use Rattle.ob_scopes.specs.TakenNames.{taken_in}
 use Rattle.ob_rules.specs.CheckingTypes.{fields_before}
-use Rattle.ob_rules.proofs.Walks.{next_left}
-use Rattle.ob_rules.proofs.Seconds.{second_none, taken_in-updated, entries_new}
+use Rattle.ob_scopes.proofs.Lists.{next_left}
+use Rattle.ob_scopes.proofs.Seconds.{second_none, taken_in-updated, entries_new}
 use Rattle.ob_rules.proofs.TypeSteps.{before_push, field_pushed}
 use Rattle.ob_rules.proofs.types.add_fields.Goals as goal
 

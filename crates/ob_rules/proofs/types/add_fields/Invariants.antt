@@ -3,7 +3,7 @@ use Rattle.ob_grammar.specs.View.{name_of}
 use Rattle.ob_typing.specs.Program.{DataType, Fields}
 use Rattle.ob_typing.specs.Types.{second, and_all_taken, with_fields}
 use Rattle.ob_checked.specs.Types.{type_by, is_below, all_below}
-use Rattle.ob_rules.specs.TakenNames.{taken_in}
+use Rattle.ob_scopes.specs.TakenNames.{taken_in}
 use Rattle.ob_rules.specs.CheckingTypes.{fields_before}
 use Rattle.ob_rules.proofs.types.add_fields.Given as goal
 

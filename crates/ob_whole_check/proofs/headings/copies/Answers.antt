@@ -3,9 +3,9 @@ use Rattle.ob_grammar.proofs.Loops.{map-push}
 use Rattle.ob_checked.specs.declared.program.Parameter.{Parameter}
 use Rattle.ob_checked.specs.Types.{type_in, is_below}
 use Rattle.ob_checked.specs.View.{parameter_of}
-use Rattle.ob_rules.specs.Objects.{known_parameters}
-use Rattle.ob_rules.proofs.Kept.{and_left, and_right}
-use Rattle.ob_rules.proofs.Walks.{next_left}
+use Rattle.ob_scopes.specs.Objects.{known_parameters}
+use Rattle.ob_scopes.proofs.Kept.{and_left, and_right}
+use Rattle.ob_scopes.proofs.Lists.{next_left}
 use Rattle.ob_rules.proofs.ParameterSteps.{parameter_pushed}
 use Rattle.ob_whole_check.proofs.headings.copies.Goals as goal
 

@@ -1,7 +1,7 @@
 use Rattle.std.proofs.Common.{◌≡◌, ℕ, List, map, drop, ◌++◌, true}
 use Rattle.ob_checked.specs.Types.{Entry}
 use Rattle.ob_checked.specs.View.{parameter_of}
-use Rattle.ob_rules.specs.Objects.{known_parameters}
+use Rattle.ob_scopes.specs.Objects.{known_parameters}
 use Rattle.ob_whole_check.proofs.headings.copies.Given as goal
 
 -- what is copied stands for what was passed

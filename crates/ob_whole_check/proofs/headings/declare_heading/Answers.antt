@@ -8,9 +8,9 @@ use Rattle.ob_typing.specs.Declarations.{all_simple, inner_scope, with_procedure
 use Rattle.ob_typing.proofs.Verdict.{Right}
 use Rattle.ob_typing.proofs.CheckedModules.{parameters}
 use Rattle.ob_checked.specs.View.{table_of, parameter_of}
-use Rattle.ob_rules.specs.Objects.{scope_of, env_behind}
-use Rattle.ob_rules.specs.Names.{types_in, env_of}
-use Rattle.ob_rules.proofs.Declared.{scope_of-empty}
+use Rattle.ob_scopes.specs.Objects.{scope_of, env_behind}
+use Rattle.ob_scopes.specs.Names.{types_in, env_of}
+use Rattle.ob_scopes.proofs.Declared.{scope_of-empty}
 use Rattle.ob_rules.proofs.Steps.{fails_as, fails_on, fails_when}
 use Rattle.ob_whole_check.specs.CheckingProcedures.{around}
 use Rattle.ob_whole_check.proofs.Around.{parameters_right}

@@ -9,12 +9,12 @@ use Rattle.ob_typing.proofs.Verdict.{Right}
 use Rattle.ob_typing.proofs.CheckedModules.{constants, types, variables, procedures}
 use Rattle.ob_checked.specs.declared.program.Procedure.{Procedure}
 use Rattle.ob_checked.specs.View.{parameter_of, variable_of, procedure_of}
-use Rattle.ob_rules.specs.Names.{types_in, env_of}
+use Rattle.ob_scopes.specs.Names.{types_in, env_of}
 use Rattle.ob_rules.specs.Checking.{and_then}
 use Rattle.ob_rules.specs.CheckingVariables.{room_of}
 use Rattle.ob_rules.proofs.Steps.{fails_as, fails_on, goes_on}
-use Rattle.ob_rules.proofs.Kept.{parameters_more, extends_further}
-use Rattle.ob_rules.proofs.Walks.{next_left}
+use Rattle.ob_scopes.proofs.Kept.{parameters_more, extends_further}
+use Rattle.ob_scopes.proofs.Lists.{next_left}
 use Rattle.ob_rules.proofs.DeclarationSteps.{variables_more, variables_kept}
 use Rattle.ob_whole_check.specs.CheckingProcedures.{around, known_procedures, behind_procedures, behind_heading}
 use Rattle.ob_whole_check.proofs.Around.{declarations_right}

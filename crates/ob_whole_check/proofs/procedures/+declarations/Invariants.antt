@@ -2,7 +2,7 @@ use Rattle.std.proofs.Common.{◌≡◌, ◌+◌, drop, length, true}
 use Rattle.ob_grammar.specs.View.{procedures_in}
 use Rattle.ob_typing.proofs.CheckedModules.{procedures}
 use Rattle.ob_checked.specs.Types.{Extends}
-use Rattle.ob_rules.specs.Names.{types_in, env_of}
+use Rattle.ob_scopes.specs.Names.{types_in, env_of}
 use Rattle.ob_rules.specs.Checking.{and_then}
 use Rattle.ob_whole_check.specs.CheckingProcedures.{known_procedures, behind_procedures}
 use Rattle.ob_whole_check.proofs.procedures.+declarations.Given as goal

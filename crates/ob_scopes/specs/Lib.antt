@@ -1,0 +1,6 @@
+pub mod Usages
+pub mod Objects
+pub mod SimpleTypes
+pub mod Names
+pub mod TakenNames
+pub mod Shapes

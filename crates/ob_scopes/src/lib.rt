@@ -1,0 +1,10 @@
+//! Scopes and what names mean in them, the parts of types, sameness of types, and values of constants.
+#![tactic(auto)]
+
+pub mod constants;
+pub mod fault;
+pub mod meant;
+pub mod parts;
+pub mod same;
+pub mod scopes;
+pub mod taken;
