@@ -2,6 +2,8 @@
 #![tactic(auto)]
 
 #[cfg(test)]
+mod explanations;
+#[cfg(test)]
 mod programs;
 #[cfg(test)]
 mod steps;

@@ -1,0 +1,4 @@
+pub mod Places
+pub mod Remarks
+pub mod Shown
+pub mod Explanations

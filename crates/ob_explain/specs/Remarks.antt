@@ -1,0 +1,54 @@
+-- What each fault of a module says to people.
+use Rattle.std.specs.Prelude.{ℕ, List, Option, Some, None, codes}
+use Rattle.ob_scan.specs.declared.fault.ScanFault.{ScanFault}
+use Rattle.ob_scan.specs.declared.fault.ScanFault.TheVariants as Scan
+use Rattle.ob_parser.specs.declared.parser.ParseFault.{ParseFault}
+use Rattle.ob_parser.specs.declared.parser.ParseFault.TheVariants as Parse
+use Rattle.ob_scopes.specs.declared.fault.CheckFault.{CheckFault}
+use Rattle.ob_scopes.specs.declared.fault.CheckFault.TheVariants as Check
+use Rattle.ob_typing.specs.declared.rule.Rule.{Rule}
+use Rattle.ob_typing.specs.declared.rule.Rule.TheVariants as Rules
+use Rattle.ob_explain.specs.declared.remark.Remark as Told
+
+-- a sentence on the byte at an offset
+pub record Remark : Type 0 where
+  pub place : ℕ
+  pub sentence : List ℕ
+
+abbrev pub remark_of : Told.Remark → Remark
+remark_of r = record { place = r.place; sentence = r.sentence.now }
+
+abbrev pub at : ℕ → List ℕ → Option Remark
+at place sentence = Some (record { place = place; sentence = sentence })
+
+abbrev pub scan_remark : ScanFault → Option Remark
+scan_remark (Scan.StrayByte place) =
+    at place (codes "no token begins with this byte; a module has ASCII letters, digits, blanks and the symbols of the language")
+scan_remark (Scan.NumberTooLarge place) = at place (codes "a number is at most 2147483647")
+scan_remark (Scan.OpenComment place) = at place (codes "this comment has no end; comments nest, and each (* has its own *)")
+scan_remark (Scan.NameTooLong place) = at place (codes "a name has at most 64 characters")
+scan_remark Scan.TooLong = at 65536 (codes "a module has at most 65536 bytes")
+scan_remark Scan.NoMemory = None
+
+abbrev pub parse_remark : ParseFault → Option Remark
+parse_remark (Parse.Unexpected place) = at place (codes "the module can't go on like this; look here, and at what stands just before it")
+parse_remark (Parse.TooDeep place) = at place (codes "this stands within 100 other constructs, and no more nest")
+parse_remark (Parse.NameDiffers place) = at place (codes "behind END stands the name of the module or of the procedure that ends")
+parse_remark Parse.NoMemory = None
+
+-- what a rule asks
+abbrev pub rule_sentence : Rule → List ℕ
+rule_sentence Rules.UnknownName = codes "a name is declared before it is used, and a field is one of the record's"
+rule_sentence Rules.DeclaredTwice = codes "a name is declared once in a scope, and a field stands once in a record"
+rule_sentence Rules.WrongKind = codes "another kind of thing is needed here, or a variable that has such a part"
+rule_sentence Rules.TypesDiffer = codes "this is of another type than the one that is needed here"
+rule_sentence Rules.BadConstant = codes "a constant has no variables in it, and every operation in it has a result"
+rule_sentence Rules.BadLength = codes "an array has 1 to 4096 elements"
+rule_sentence Rules.BadActuals = codes "a call has an actual for each parameter, and for one with VAR a variable"
+rule_sentence Rules.WrongLevel = codes "a procedure sees its own variables and those of the module, and none of a procedure around it"
+rule_sentence Rules.PassesLimit = codes "this passes a limit of types, variables, parameters or exports"
+rule_sentence Rules.BadExport = codes "exports are procedures of the module itself, with parameters of INTEGER and BOOLEAN"
+
+abbrev pub check_remark : CheckFault → Option Remark
+check_remark (Check.Broken b) = at b.place (rule_sentence b.rule)
+check_remark Check.NoMemory = None

@@ -1,0 +1,8 @@
+//! Faults of a module as people read them: the line and the column, the line itself with a mark below it, and a sentence on what
+//! the rule asks.
+#![tactic(auto)]
+
+pub mod explanation;
+pub mod place;
+pub mod remark;
+mod shown;
