@@ -28,7 +28,7 @@ const MODULE_WORDS: usize = 4096;
 /// A module that is well typed, or the rule that it breaks first.
 pub fn check(alloc: Global, module: Module) -> Result<Checked, CheckFault>
     ensures tree { IfOk result (λ c. tree_in c ≡ module_of «module») }
-    ensures typed { IfOk result (λ c. ∥ WellTyped (module_of «module») (program_in c) ∥₁) }
+    ensures typed { IfOk result (λ c. WellTyped (module_of «module») (program_in c)) }
     ensures alone { IfOk result (λ c. (other : Programs.Program) → WellTyped (module_of «module») other → other ≡ program_in c) }
     ensures fault { IfErr result (λ f. IsRefused f (module_of «module»)) }
 {

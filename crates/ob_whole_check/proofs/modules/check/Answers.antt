@@ -19,7 +19,7 @@ new-requires c = well_typed (module_of c.args.module) _ (ap (λ m. checked (modu
 pub returns-clause-typed : goal.returns-clause-typed
 returns-clause-typed c =
     let verdict = ap (λ m. checked (module_of m)) (sym c.tree.ensures.tree) ∙ c.in_ok-program.ensures.typed in
-    subst (λ p. ∥ WellTyped (module_of c.args.module) p ∥₁) (sym c.new.ensures.program) ∣ well_typed (module_of c.args.module) _ verdict ∣₁
+    subst (λ p. WellTyped (module_of c.args.module) p) (sym c.new.ensures.program) (well_typed (module_of c.args.module) _ verdict)
 
 pub returns-clause-alone : goal.returns-clause-alone
 returns-clause-alone c other typed =

@@ -1,0 +1,6 @@
+pub mod ExportSearch
+pub mod ValueReading
+pub mod ScriptReading
+pub mod OneScript
+pub mod Processes
+pub mod Printing

@@ -1,0 +1,6 @@
+pub mod Values
+pub mod ExportNames
+pub mod Script
+pub mod ScriptView
+pub mod ScriptLine
+pub mod ReplyLines

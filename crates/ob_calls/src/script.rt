@@ -1,0 +1,133 @@
+//! Scripts: the calls that a run makes.
+
+ghost use Rattle.std.specs.Prelude.{◌≡◌, List, IfOk, IfErr, map};
+ghost use Rattle.ob_checked.specs.CheckedModule.{program_in};
+ghost use Rattle.ob_checked.specs.View.{program_of};
+ghost use Rattle.ob_calls.specs.Script.{IsScript, IsScriptFault};
+ghost use Rattle.ob_calls.specs.Script;
+ghost use Rattle.ob_calls.specs.ScriptView.{script_call_of};
+
+mod line;
+
+use crate::script::line::read_line;
+use ob_checked::checked::Checked;
+use ob_checked::program::Program;
+use ob_interpreter::call::Call;
+use ob_text::words::words_of;
+use std::alloc::{AllocError, AllocFailed, Global};
+use std::marker::Model;
+use thiserror::Error;
+
+/// A call by a process.
+#[derive(Drop)]
+pub struct ScriptCall {
+    pub process: usize,
+    pub call: Call,
+}
+
+/// The calls of a script, in line order.
+#[derive(Drop)]
+pub struct Scripts {
+    calls: Vec<ScriptCall>,
+}
+
+impl Model for Scripts {
+    ghost use Rattle.std.specs.Prelude.{List, map};
+    ghost use Rattle.ob_calls.specs.Script;
+    ghost use Rattle.ob_calls.specs.ScriptView.{script_call_of};
+
+    ghost Value = { List Script.ScriptCall };
+
+    ghost view = { λ s. map script_call_of s.calls.items };
+}
+
+impl Scripts {
+    pub fn calls(&self) -> &[ScriptCall]
+        ensures { map script_call_of result.now ≡ self.now }
+    {
+        &self.calls
+    }
+
+    pub fn into_calls(self) -> Vec<ScriptCall>
+        ensures { map script_call_of result.items ≡ self }
+    {
+        self.calls
+    }
+}
+
+/// Why a text is no script. Lines count from 1.
+#[derive(Clone, Copy, Debug, PartialEq, Eq, Error)]
+pub enum ScriptFault {
+    /// L1: the first word is no process, or the second one is missing or no name.
+    #[error("L1 line {0}")]
+    Form(usize),
+    /// L2: no export has the procedure's name.
+    #[error("L2 line {0}")]
+    Procedure(usize),
+    /// L3: the arguments don't fit the value parameters.
+    #[error("L3 line {0}")]
+    Arguments(usize),
+    /// L4: there is no such process.
+    #[error("L4 line {0}")]
+    Process(usize),
+    /// Want of memory.
+    #[error("NoMemory")]
+    NoMemory,
+}
+
+impl From<AllocError> for ScriptFault {
+    ghost use Rattle.std.specs.Prelude.{◌≡◌};
+    ghost use Rattle.ob_calls.specs.declared.script.ScriptFault.TheVariants.{NoMemory};
+
+    ghost from_gives = { λ _ e. e ≡ NoMemory };
+
+    fn from(_: AllocError) -> ScriptFault {
+        ScriptFault::NoMemory
+    }
+}
+
+impl<T: Drop> From<AllocFailed<T>> for ScriptFault {
+    ghost use Rattle.std.specs.Prelude.{◌≡◌};
+    ghost use Rattle.ob_calls.specs.declared.script.ScriptFault.TheVariants.{NoMemory};
+
+    ghost from_gives = { λ _ e. e ≡ NoMemory };
+
+    fn from(_: AllocFailed<T>) -> ScriptFault {
+        ScriptFault::NoMemory
+    }
+}
+
+/// The calls of a script on a module's exports, by processes below `processes`, in line order.
+pub fn read_scripts(
+    alloc: Global,
+    checked: &Checked,
+    processes: usize,
+    text: &[u8],
+) -> Result<Scripts, ScriptFault>
+    ensures script { IfOk result (λ calls. IsScript (program_in checked.now) processes text.now calls) }
+    ensures alone { IfOk result (λ calls. (others : List Script.ScriptCall) → IsScript (program_in checked.now) processes text.now others → others ≡ calls) }
+    ensures fault { IfErr result (λ e. IsScriptFault (program_in checked.now) processes text.now e) }
+{
+    let calls = read_calls(alloc, checked.program(), processes, text)?;
+    Ok(Scripts { calls })
+}
+
+/// The calls of a script on the exports of a program.
+fn read_calls(
+    alloc: Global,
+    program: &Program,
+    processes: usize,
+    text: &[u8],
+) -> Result<Vec<ScriptCall>, ScriptFault>
+    ensures script { IfOk result (λ calls. IsScript (program_of program.now) processes text.now (map script_call_of calls.items)) }
+    ensures fault { IfErr result (λ e. IsScriptFault (program_of program.now) processes text.now e) }
+{
+    let mut calls = Vec::new(alloc);
+    for (index, line) in text.split(|byte| *byte == b'\n').enumerate() {
+        let words = words_of(alloc, line)?;
+        if let Some(call) = read_line(alloc, program, processes, index + 1, &words)? {
+            calls.push(call)?;
+        }
+    }
+    Ok(calls)
+}

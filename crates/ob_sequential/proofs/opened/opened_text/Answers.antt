@@ -1,0 +1,13 @@
+use Rattle.std.proofs.lemmas.Result.{err_from_is_err_and}
+use Rattle.ob_sequential.proofs.NoModule.{no_opening, text_numbered}
+use Rattle.ob_sequential.proofs.opened.opened_text.Goals as goal
+
+pub returns-in_err-checked-clause-none : goal.returns-in_err-checked-clause-none
+returns-in_err-checked-clause-none c =
+    let p = err_from_is_err_and c.from_residual.result c.from_residual.ensures.1 in
+    rw (p.1, p.2) (λ numbered o. c.in_err-checked.ensures.none (text_numbered c.in_err-checked.field-0.0 numbered) o.program o.is_module)
+
+pub returns-in_err-state-clause-none : goal.returns-in_err-state-clause-none
+returns-in_err-state-clause-none c =
+    let p = err_from_is_err_and c.from_residual-in_err-state.result c.from_residual-in_err-state.ensures.1 in
+    rw (p.1, p.2) (no_opening c.args.text.now _ c.in_err-state.field-0.0 c.in_ok-checked.ensures.alone c.in_err-state.ensures.fault)

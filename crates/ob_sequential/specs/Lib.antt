@@ -1,0 +1,3 @@
+pub mod ModuleText
+pub mod CheckedText
+pub mod ModuleFaults

@@ -1,0 +1,90 @@
+//! The checked module of a text.
+
+ghost use Rattle.std.specs.Prelude.{◌≡◌, Err, ◌<◌, length, IfOk, IfErr};
+ghost use Rattle.ob_checked.specs.CheckedModule.{program_in};
+ghost use Rattle.ob_typing.specs.Program.{Program};
+ghost use Rattle.ob_sequential.specs.ModuleText.{IsModule};
+ghost use Rattle.ob_sequential.specs.CheckedText.{IsTextFault, IsNumberedText, TellsTextMemoryApart};
+
+use ob_checked::checked::Checked;
+use ob_parser::parser::{ParseFault, parse};
+use ob_scopes::fault::CheckFault;
+use ob_scan::scanner::LONGEST_TEXT;
+use ob_scan::{ScanFault, scan};
+use ob_whole_check::modules::check;
+use std::alloc::Global;
+use thiserror::Error;
+
+/// Why a text is no module: the first fault, in the order of the variants.
+#[derive(Clone, Copy, Debug, PartialEq, Eq, Error)]
+pub enum TextFault {
+    #[error("{0}")]
+    Scan(ScanFault),
+    #[error("{0}")]
+    Parse(ParseFault),
+    #[error("{0}")]
+    Check(CheckFault),
+    /// Want of memory.
+    #[error("NoMemory")]
+    NoMemory,
+}
+
+impl From<ScanFault> for TextFault {
+    ghost use Rattle.std.specs.Prelude.{◌≡◌};
+    ghost use Rattle.ob_sequential.specs.CheckedText.{of_scan};
+
+    ghost from_gives = { λ e f. f ≡ of_scan e };
+
+    fn from(fault: ScanFault) -> TextFault {
+        match fault {
+            ScanFault::NoMemory => TextFault::NoMemory,
+            other => TextFault::Scan(other),
+        }
+    }
+}
+
+impl From<ParseFault> for TextFault {
+    ghost use Rattle.std.specs.Prelude.{◌≡◌};
+    ghost use Rattle.ob_sequential.specs.CheckedText.{of_parse};
+
+    ghost from_gives = { λ e f. f ≡ of_parse e };
+
+    fn from(fault: ParseFault) -> TextFault {
+        match fault {
+            ParseFault::NoMemory => TextFault::NoMemory,
+            other => TextFault::Parse(other),
+        }
+    }
+}
+
+impl From<CheckFault> for TextFault {
+    ghost use Rattle.std.specs.Prelude.{◌≡◌};
+    ghost use Rattle.ob_sequential.specs.CheckedText.{of_check};
+
+    ghost from_gives = { λ e f. f ≡ of_check e };
+
+    fn from(fault: CheckFault) -> TextFault {
+        match fault {
+            CheckFault::NoMemory => TextFault::NoMemory,
+            other => TextFault::Check(other),
+        }
+    }
+}
+
+/// The checked module of a text.
+pub fn checked_text(alloc: Global, text: &[u8]) -> Result<Checked, TextFault>
+    ensures program { IfOk result (λ c. IsModule text.now (program_in c)) }
+    ensures alone { IfOk result (λ c. (other : Program) → IsModule text.now other → other ≡ program_in c) }
+    ensures none { IfErr result (λ e. IsNumberedText e → (program : Program) → IsModule text.now program → ⊥) }
+    ensures fault { IfErr result (λ e. IsTextFault text.now e) }
+
+    // Want of memory is told by its own variant alone.
+    ensures memory { IfErr result TellsTextMemoryApart }
+
+    // A text over the scanner's bound is refused, whatever it says.
+    ensures too_long { LONGEST_TEXT < length text.now → result ≡ Err (TextFault.Scan ScanFault.TooLong) }
+{
+    let tokens = scan(alloc, text)?;
+    let tree = parse(alloc, &tokens)?;
+    Ok(check(alloc, tree)?)
+}
