@@ -4,12 +4,13 @@ use Rattle.std.proofs.lemmas.Bool.{cases_lt}
 use Rattle.ob_scan.specs.ScanFaults.{IsScanFault}
 use Rattle.ob_scan.specs.declared.fault.ScanFault.TheVariants as Scan
 use Rattle.ob_opened.specs.declared.checked_text.TextFault.TheVariants as Texts
-use Rattle.ob_answer.specs.Answers.{IsModuleAnswer, IsRunAnswer, IsSeqAnswer, IsTextAnswer, IsVerifyAnswer, refused}
+use Rattle.ob_answer.specs.Answers.{IsCheckAnswer, IsListAnswer, IsRunAnswer, IsSeqAnswer, IsTextAnswer, IsVerifyAnswer, refused}
 use Rattle.ob_answer.specs.Printed.{IsRefused}
 use Rattle.ob_answer.specs.declared.answered.Answer.{Answer}
 use Rattle.ob_answer.specs.declared.product.Product.{Product}
 use Rattle.ob_command.specs.CommandLine.{Text}
-use Rattle.ob_fault_lines.specs.FaultLines.{fault_line, module_fault_line}
+use Rattle.ob_fault_lines.specs.FaultLines.{module_fault_line}
+use Rattle.ob_fault_lines.specs.SequentialFaultLines.{check_fault_line, seq_fault_line}
 use Rattle.ob_fault_lines.specs.RunFaultLines.{run_fault_line}
 use Rattle.ob_fault_lines.specs.VerifyFaultLines.{verify_fault_line}
 use Rattle.ob_object.specs.Performance as Performs
@@ -18,11 +19,16 @@ use Rattle.ob_object.specs.declared.compiling.CompileFault.TheVariants as Compil
 use Rattle.ob_object.specs.declared.performing.PerformFault.{PerformFault}
 use Rattle.ob_object.specs.declared.performing.PerformFault.TheVariants as Perform
 use Rattle.ob_program.specs.ModuleCode.{IsModuleTextFault, TellsModuleMemoryApart, is_module_memory}
-use Rattle.ob_program.specs.SequentialRun.{IsSeqTextFault, TellsMemoryApart, is_want_of_memory}
-use Rattle.ob_program.specs.declared.sequential.SeqTextFault.{SeqTextFault}
-use Rattle.ob_program.specs.declared.sequential.SeqTextFault.TheVariants as Runs
 use Rattle.ob_program.specs.declared.module_code.ModuleTextFault.{ModuleTextFault}
 use Rattle.ob_program.specs.declared.module_code.ModuleTextFault.TheVariants as Modules
+use Rattle.ob_sequential.specs.ModuleFaults as Checks
+use Rattle.ob_sequential.specs.ModuleFaults.{IsModuleFault}
+use Rattle.ob_sequential.specs.SequentialRun.{IsSeqTextFault, TellsMemoryApart, is_want_of_memory}
+use Rattle.ob_sequential.specs.declared.checked_text.TextFault.TheVariants as Wholes
+use Rattle.ob_sequential.specs.declared.opened.ModuleFault.{ModuleFault}
+use Rattle.ob_sequential.specs.declared.opened.ModuleFault.TheVariants as Opened
+use Rattle.ob_sequential.specs.declared.sequential.SeqTextFault.{SeqTextFault}
+use Rattle.ob_sequential.specs.declared.sequential.SeqTextFault.TheVariants as Runs
 use Rattle.ob_verify.specs.VerifyFaults as Verifies
 use Rattle.ob_verify.specs.VerifyFaults.{IsVerifyFault}
 use Rattle.ob_verify.specs.declared.verifying.VerifyFault.{VerifyFault}
@@ -33,20 +39,31 @@ use Rattle.ob_answer.proofs.Beginnings.{beginning, of_whole_or_long}
 too_long_scan : (text : List ℕ) → 65536 < length text → IsScanFault text Scan.TooLong
 too_long_scan text long = record { stands = long; none = λ says. absurd says }
 
-pub refused_made : {E : Type 0} (Says : List ℕ → Text → Type 0) (part : List ℕ) (e : ModuleTextFault) (result : Result Answer E)
+pub check_refused_made : {E : Type 0} (part : List ℕ) (e : ModuleFault) (result : Result Answer E)
+    → IfOk result (λ a. IsRefused a 1 (check_fault_line e ++ codes "\n")) → IfOk result (λ _. Checks.is_want_of_memory e ≡ false)
+    → IsModuleFault part e → Checks.TellsMemoryApart e → (65536 < length part → e ≡ Opened.Text (Wholes.Scan Scan.TooLong))
+    → IfOk result (λ a. (whole : List ℕ) → part ≡ beginning whole → IsCheckAnswer whole a)
+check_refused_made part e (Ok a) told numbered stands apart too_long =
+    λ whole is.
+    refused e
+    (of_whole_or_long (λ t. IsModuleFault t e) part whole is (λ long longer. subst (λ (x : ModuleFault). IsModuleFault whole x) (sym (too_long long)) (too_long_scan whole longer)) stands)
+    (numbered, apart) told
+check_refused_made part e (Err x) told numbered stands apart too_long = tt
+
+pub list_refused_made : {E : Type 0} (part : List ℕ) (e : ModuleTextFault) (result : Result Answer E)
     → IfOk result (λ a. IsRefused a 1 (module_fault_line e ++ codes "\n")) → IfOk result (λ _. is_module_memory e ≡ false)
     → IsModuleTextFault part e → TellsModuleMemoryApart e → (65536 < length part → e ≡ Modules.Text (Texts.Scan Scan.TooLong))
-    → IfOk result (λ a. (whole : List ℕ) → part ≡ beginning whole → IsModuleAnswer Says whole a)
-refused_made Says part e (Ok a) told numbered stands apart too_long =
+    → IfOk result (λ a. (whole : List ℕ) → part ≡ beginning whole → IsListAnswer whole a)
+list_refused_made part e (Ok a) told numbered stands apart too_long =
     λ whole is.
     refused e
     (of_whole_or_long (λ t. IsModuleTextFault t e) part whole is (λ long longer. subst (λ (x : ModuleTextFault). IsModuleTextFault whole x) (sym (too_long long)) (too_long_scan whole longer)) stands)
     (numbered, apart) told
-refused_made Says part e (Err x) told numbered stands apart too_long = tt
+list_refused_made part e (Err x) told numbered stands apart too_long = tt
 
 pub seq_refused_made : {E : Type 0} (part script : List ℕ) (e : SeqTextFault) (result : Result Answer E)
-    → IfOk result (λ a. IsRefused a 1 (fault_line e ++ codes "\n")) → IfOk result (λ _. is_want_of_memory e ≡ false)
-    → IsSeqTextFault part script e → TellsMemoryApart e → (65536 < length part → e ≡ Runs.Text (Texts.Scan Scan.TooLong))
+    → IfOk result (λ a. IsRefused a 1 (seq_fault_line e ++ codes "\n")) → IfOk result (λ _. is_want_of_memory e ≡ false)
+    → IsSeqTextFault part script e → TellsMemoryApart e → (65536 < length part → e ≡ Runs.Text (Wholes.Scan Scan.TooLong))
     → IfOk result (λ a. (whole : List ℕ) → part ≡ beginning whole → IsSeqAnswer whole script a)
 seq_refused_made part script e (Ok a) told numbered stands apart too_long =
     λ whole is.

@@ -2,12 +2,12 @@
 use Rattle.std.specs.Prelude.{◌≡◌, ℕ, List, [], ◌∷◌, ◌++◌, Result, codes}
 use Rattle.ob_answer.specs.declared.answered.Answer.{Answer}
 use Rattle.ob_answer.specs.declared.files.FileFault.{FileFault}
-use Rattle.ob_check.specs.Program.{Program}
-use Rattle.ob_program.specs.declared.module_code.ModuleTextFault.{ModuleTextFault}
-use Rattle.ob_program.specs.declared.sequential.SeqTextFault.{SeqTextFault}
-use Rattle.ob_fault_lines.specs.FaultLines.{fault_line, module_fault_line}
-use Rattle.ob_program.specs.ModuleCode.{Compiles, IsListing, IsModuleTextFault, IsNumberedModule}
-use Rattle.ob_program.specs.SequentialRun.{IsSequentialRun, IsSeqTextFault, IsNumbered}
+use Rattle.ob_fault_lines.specs.FaultLines.{module_fault_line}
+use Rattle.ob_fault_lines.specs.SequentialFaultLines.{check_fault_line, seq_fault_line}
+use Rattle.ob_program.specs.ModuleCode.{IsListing, IsModuleTextFault, IsNumberedModule}
+use Rattle.ob_sequential.specs.ModuleFaults as Modules
+use Rattle.ob_sequential.specs.ModuleFaults.{HasOpening, IsModuleFault}
+use Rattle.ob_sequential.specs.SequentialRun.{IsSequentialRun, IsSeqTextFault, IsNumbered}
 use Rattle.ob_fault_lines.specs.RunFaultLines.{run_fault_line}
 use Rattle.ob_fault_lines.specs.VerifyFaultLines.{verify_fault_line}
 use Rattle.ob_object.specs.Performance as Performs
@@ -34,17 +34,21 @@ pub data IsTextAnswer {Fault : Type 0} (Says : Text → Type 0) (IsFault IsNumbe
   said : (text : Text) → Says text → IsPrinted answer text → IsTextAnswer Says IsFault IsNumbered line answer
   refused : (e : Fault) → IsFault e → IsNumbered e → IsRefused answer 1 (line e ++ codes "\n") → IsTextAnswer Says IsFault IsNumbered line answer
 
--- to the bytes of one module: what is said of it where it has code and opens
-abbrev pub IsModuleAnswer : (Says : List ℕ → Text → Type 0) → List ℕ → Answer → Type 0
-IsModuleAnswer Says bytes = IsTextAnswer (Says bytes) (IsModuleTextFault bytes) IsNumberedModule module_fault_line
-
--- of a module that has code and opens, `ok` is said
+-- of a module whose opening ends, `ok` is said
 abbrev pub SaysOk : List ℕ → Text → Type 0
-SaysOk bytes text = (program : Program) × Compiles bytes program × (text ≡ ok_text)
+SaysOk bytes text = HasOpening bytes × (text ≡ ok_text)
+
+-- to the bytes of one module: whether it is one whose opening ends
+abbrev pub IsCheckAnswer : List ℕ → Answer → Type 0
+IsCheckAnswer bytes = IsTextAnswer (SaysOk bytes) (IsModuleFault bytes) Modules.IsNumbered check_fault_line
+
+-- to the bytes of one module: the listing of its code
+abbrev pub IsListAnswer : List ℕ → Answer → Type 0
+IsListAnswer bytes = IsTextAnswer (IsListing bytes) (IsModuleTextFault bytes) IsNumberedModule module_fault_line
 
 -- to the bytes of a module and of a script: the lines of the sequential run
 abbrev pub IsSeqAnswer : (module_bytes script_bytes : List ℕ) → Answer → Type 0
-IsSeqAnswer module_bytes script_bytes = IsTextAnswer (IsSequentialRun module_bytes script_bytes) (IsSeqTextFault module_bytes script_bytes) IsNumbered fault_line
+IsSeqAnswer module_bytes script_bytes = IsTextAnswer (IsSequentialRun module_bytes script_bytes) (IsSeqTextFault module_bytes script_bytes) IsNumbered seq_fault_line
 
 -- what is said of a run of a module, so many processes, a script and a schedule: its record, or a picture of it
 abbrev pub SaysRun : Product → (module_bytes : List ℕ) (processes : ℕ) (script_bytes schedule_bytes : List ℕ) → Text → Type 0
@@ -84,8 +88,8 @@ files_of _ = []
 
 -- the answer that is made of the bytes of these files
 abbrev pub IsMade : Request → List (List ℕ) → Answer → Type 0
-IsMade (Check module_name) (module_bytes ∷ []) answer = IsModuleAnswer SaysOk module_bytes answer
-IsMade (Listing module_name) (module_bytes ∷ []) answer = IsModuleAnswer IsListing module_bytes answer
+IsMade (Check module_name) (module_bytes ∷ []) answer = IsCheckAnswer module_bytes answer
+IsMade (Listing module_name) (module_bytes ∷ []) answer = IsListAnswer module_bytes answer
 IsMade (Seq module_name script_name) (module_bytes ∷ script_bytes ∷ []) answer = IsSeqAnswer module_bytes script_bytes answer
 IsMade (Run run) bytes answer = IsRunMade Products.Record run bytes answer
 IsMade (Draw run) bytes answer = IsRunMade Products.Picture run bytes answer

@@ -1,61 +1,75 @@
 //! Answers made of the bytes of files. Of a module's text they have the beginning: a module of more bytes is too long.
 
 ghost use Rattle.std.specs.Prelude.{◌≡◌, ◌≢◌, ◌<◌, ◌≤◌, ◌++◌, ◌⊎◌, ℕ, List, suc, false, take, Err, IfErr, IfOk, codes, length, string_bytes};
-ghost use Rattle.ob_answer.specs.Answers.{IsModuleAnswer, IsRunAnswer, IsSeqAnswer, IsVerifyAnswer, SaysOk, SaysRun};
+ghost use Rattle.ob_answer.specs.Answers.{IsCheckAnswer, IsListAnswer, IsRunAnswer, IsSeqAnswer, IsVerifyAnswer, SaysRun};
 ghost use Rattle.ob_answer.specs.Printed.{IsRefused};
-ghost use Rattle.ob_fault_lines.specs.FaultLines.{fault_line, module_fault_line};
+ghost use Rattle.ob_fault_lines.specs.FaultLines.{module_fault_line};
 ghost use Rattle.ob_fault_lines.specs.RunFaultLines.{run_fault_line};
+ghost use Rattle.ob_fault_lines.specs.SequentialFaultLines.{check_fault_line, seq_fault_line};
 ghost use Rattle.ob_fault_lines.specs.VerifyFaultLines.{verify_fault_line};
 ghost use Rattle.ob_object.specs.Performance as Performs;
-ghost use Rattle.ob_program.specs.ModuleCode.{IsListing, is_module_memory};
-ghost use Rattle.ob_program.specs.SequentialRun.{is_want_of_memory};
+ghost use Rattle.ob_program.specs.ModuleCode.{is_module_memory};
+ghost use Rattle.ob_sequential.specs.ModuleFaults as Modules;
+ghost use Rattle.ob_sequential.specs.SequentialRun.{is_want_of_memory};
 
 use crate::answered::Answer;
 use crate::product::Product;
-use ob_fault_lines::fault_line::{fault_line, module_fault_line};
+use ob_fault_lines::fault_line::module_fault_line;
 use ob_fault_lines::run_faults::run_fault_line;
+use ob_fault_lines::sequential_faults::{check_fault_line, seq_fault_line};
 use ob_fault_lines::verify_faults::verify_fault_line;
 use ob_grammar::NoMemory;
 use ob_object::compiling::{CompileFault, MOST_PROCESSES};
 use ob_object::performing::PerformFault;
 use ob_object::printing::{draw_text, run_text};
 use ob_opened::checked_text::TextFault;
-use ob_program::module_code::{ModuleTextFault, check_text, list_text};
-use ob_program::sequential::{SeqTextFault, seq_text};
+use ob_program::module_code::{ModuleTextFault, list_text};
 use ob_scan::ScanFault;
 use ob_scan::scanner::LONGEST_TEXT;
+use ob_sequential::{ModuleFault, SeqTextFault, check_text, seq_text};
 use ob_verify::verifying::{VerifyFault, verify_text};
 use std::alloc::{AllocError, Global};
 
 /// The answer of `check` to the beginning of a module's text.
 pub(crate) fn answer_check(alloc: Global, module: &[u8]) -> Result<Answer, NoMemory>
-    ensures { IfOk result (λ a. (whole : List ℕ) → «module».now ≡ take (suc LONGEST_TEXT) whole → IsModuleAnswer SaysOk whole a) }
+    ensures { IfOk result (λ a. (whole : List ℕ) → «module».now ≡ take (suc LONGEST_TEXT) whole → IsCheckAnswer whole a) }
 {
     match check_text(alloc, module) {
         Ok(()) => Ok(Answer::printed(alloc, String::from_str(alloc, "ok\n")?)),
-        Err(fault) => module_refused(alloc, fault),
+        Err(fault) => check_refused(alloc, fault),
+    }
+}
+
+/// The answer to a fault of a module by itself.
+fn check_refused(alloc: Global, fault: ModuleFault) -> Result<Answer, NoMemory>
+    ensures fault { IfOk result (λ a. IsRefused a 1 (check_fault_line fault ++ codes "\n")) }
+    ensures memory { IfOk result (λ _. Modules.is_want_of_memory fault ≡ false) }
+{
+    match fault {
+        ModuleFault::NoMemory => Err(NoMemory),
+        fault => Ok(refused(alloc, check_fault_line(alloc, fault)?)?),
     }
 }
 
 /// The answer of `list` to the beginning of a module's text.
 pub(crate) fn answer_list(alloc: Global, module: &[u8]) -> Result<Answer, NoMemory>
-    ensures { IfOk result (λ a. (whole : List ℕ) → «module».now ≡ take (suc LONGEST_TEXT) whole → IsModuleAnswer IsListing whole a) }
+    ensures { IfOk result (λ a. (whole : List ℕ) → «module».now ≡ take (suc LONGEST_TEXT) whole → IsListAnswer whole a) }
 {
     match list_text(alloc, module) {
         Ok(lines) => Ok(Answer::printed(alloc, lines)),
-        Err(fault) => module_refused(alloc, fault),
+        Err(fault) => list_refused(alloc, fault),
     }
 }
 
-/// The answer to a fault of a module by itself.
-fn module_refused(alloc: Global, fault: ModuleTextFault) -> Result<Answer, NoMemory>
+/// The answer to a fault of a module whose code is listed.
+fn list_refused(alloc: Global, fault: ModuleTextFault) -> Result<Answer, NoMemory>
     ensures fault { IfOk result (λ a. IsRefused a 1 (module_fault_line fault ++ codes "\n")) }
     ensures memory { IfOk result (λ _. is_module_memory fault ≡ false) }
 {
-    if module_wants_memory(fault) {
-        return Err(NoMemory);
+    match fault {
+        ModuleTextFault::NoMemory => Err(NoMemory),
+        fault => Ok(refused(alloc, module_fault_line(alloc, fault)?)?),
     }
-    Ok(refused(alloc, module_fault_line(alloc, fault)?)?)
 }
 
 /// The answer of a fault's line.
@@ -78,27 +92,13 @@ pub(crate) fn answer_seq(alloc: Global, module: &[u8], script: &[u8]) -> Result<
 
 /// The answer to a fault of a sequential run.
 fn seq_refused(alloc: Global, fault: SeqTextFault) -> Result<Answer, NoMemory>
-    ensures fault { IfOk result (λ a. IsRefused a 1 (fault_line fault ++ codes "\n")) }
+    ensures fault { IfOk result (λ a. IsRefused a 1 (seq_fault_line fault ++ codes "\n")) }
     ensures memory { IfOk result (λ _. is_want_of_memory fault ≡ false) }
 {
-    if wants_memory(fault) {
-        return Err(NoMemory);
+    match fault {
+        SeqTextFault::NoMemory => Err(NoMemory),
+        fault => Ok(refused(alloc, seq_fault_line(alloc, fault)?)?),
     }
-    Ok(refused(alloc, fault_line(alloc, fault)?)?)
-}
-
-/// Whether a fault of a module by itself is want of memory.
-fn module_wants_memory(fault: ModuleTextFault) -> bool
-    ensures { result ≡ is_module_memory fault }
-{
-    matches!(fault, ModuleTextFault::NoMemory)
-}
-
-/// Whether a fault is want of memory.
-fn wants_memory(fault: SeqTextFault) -> bool
-    ensures { result ≡ is_want_of_memory fault }
-{
-    matches!(fault, SeqTextFault::NoMemory)
 }
 
 /// The answer to the beginning of a module's text, and to the texts of a script and of a schedule of so many processes.

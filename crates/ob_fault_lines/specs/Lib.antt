@@ -1,5 +1,6 @@
 pub mod ModuleFaultLines
 pub mod ScriptFaultLines
 pub mod FaultLines
+pub mod SequentialFaultLines
 pub mod RunFaultLines
 pub mod VerifyFaultLines

@@ -5,4 +5,5 @@ pub mod fault_line;
 pub mod module_faults;
 pub mod run_faults;
 pub mod script_faults;
+pub mod sequential_faults;
 pub mod verify_faults;

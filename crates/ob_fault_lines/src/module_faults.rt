@@ -38,7 +38,7 @@ pub fn push_open_fault(line: &mut String, fault: OpenFault) -> Result<(), AllocE
     }
 }
 
-fn push_scan_fault(line: &mut String, fault: ScanFault) -> Result<(), AllocError>
+pub(crate) fn push_scan_fault(line: &mut String, fault: ScanFault) -> Result<(), AllocError>
     ensures { OnOk result (string_bytes line.new ≡ string_bytes line.old ++ scan_line fault) }
 {
     match fault {
@@ -51,7 +51,7 @@ fn push_scan_fault(line: &mut String, fault: ScanFault) -> Result<(), AllocError
     }
 }
 
-fn push_parse_fault(line: &mut String, fault: ParseFault) -> Result<(), AllocError>
+pub(crate) fn push_parse_fault(line: &mut String, fault: ParseFault) -> Result<(), AllocError>
     ensures { OnOk result (string_bytes line.new ≡ string_bytes line.old ++ parse_line fault) }
 {
     match fault {
@@ -76,7 +76,7 @@ fn push_check_fault(line: &mut String, fault: CheckFault) -> Result<(), AllocErr
 }
 
 /// Appends a fault at a byte offset of the module's text.
-fn push_place(line: &mut String, fault: &str, place: usize) -> Result<(), AllocError>
+pub(crate) fn push_place(line: &mut String, fault: &str, place: usize) -> Result<(), AllocError>
     ensures { OnOk result (string_bytes line.new ≡ string_bytes line.old ++ at_place fault.now place) }
 {
     line.push_str(fault)?;

@@ -1,3 +1,1 @@
-pub mod CallParts
-pub mod NoRun
 pub mod Texts

@@ -18,24 +18,6 @@ use Rattle.ob_opened.specs.declared.checked_text.TextFault.TheVariants as Texts
 use Rattle.ob_opened.specs.declared.opened.TheConstants.{TURNS}
 use Rattle.ob_program.specs.ModuleCode.{HasNoCode, IsModuleTextFault, IsNumberedModule}
 use Rattle.ob_program.specs.ModuleCodeParts.{of_code_fault, of_open_fault, of_text_fault}
-use Rattle.ob_program.specs.SequentialParts.{of_text}
-use Rattle.ob_program.specs.SequentialRun.{IsNumbered, IsSeqTextFault}
-
--- ---- of a sequential run
-
-pub seq_fault : (text script : List ℕ) (e : TextFault) → IsTextFault text e → IsSeqTextFault text script (of_text e)
-seq_fault text script (Texts.Scan e) h = h
-seq_fault text script (Texts.Parse e) h = h
-seq_fault text script (Texts.Check e) h = h
-seq_fault text script Texts.NoMemory h = tt
-
-pub seq_numbered : (e : TextFault) → IsNumbered (of_text e) → IsNumberedText e
-seq_numbered (Texts.Scan e) h = h.1
-seq_numbered (Texts.Parse e) h = h.1
-seq_numbered (Texts.Check e) h = h.1
-seq_numbered Texts.NoMemory h = let bad : true ≡ false = h.0 in cc
-
--- ---- of a module by itself
 
 module_numbered : (e : TextFault) → IsNumberedModule (of_text_fault e) → IsNumberedText e
 module_numbered (Texts.Scan e) h = h.1

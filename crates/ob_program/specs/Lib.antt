@@ -1,4 +1,2 @@
-pub mod SequentialRun
-pub mod SequentialParts
 pub mod ModuleCode
 pub mod ModuleCodeParts

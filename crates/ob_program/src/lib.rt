@@ -1,5 +1,4 @@
-//! What the program makes of the bytes of files: the calls of a script made on a module, and a module checked and listed.
+//! What the program makes of the bytes of a module by itself: the listing of its code.
 #![tactic(auto)]
 
 pub mod module_code;
-pub mod sequential;

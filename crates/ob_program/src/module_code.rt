@@ -1,4 +1,4 @@
-//! A module by itself: whether it has code and opens, and the listing of its code, from bytes to bytes.
+//! The listing of a module's code, from bytes to bytes.
 
 ghost use Rattle.std.specs.Prelude.{◌≡◌, Err, ◌<◌, IfOk, IfErr, map, length, string_bytes};
 ghost use Rattle.ob_check.specs.CheckedModule.{program_in};
@@ -98,24 +98,6 @@ impl From<AllocError> for ModuleTextFault {
     fn from(_: AllocError) -> ModuleTextFault {
         ModuleTextFault::NoMemory
     }
-}
-
-/// Whether a text is a module that has code and opens.
-pub fn check_text(alloc: Global, text: &[u8]) -> Result<(), ModuleTextFault>
-    ensures module { IfOk result (λ _. (program : Program) × Compiles text.now program) }
-    ensures fault { IfErr result (λ e. IsModuleTextFault text.now e) }
-
-    // With a fault that has a number it is none, whatever else is wrong.
-    ensures none { IfErr result (λ e. IsNumberedModule e → HasNoCode text.now) }
-
-    // Want of memory is told by its own variant alone.
-    ensures memory { IfErr result TellsModuleMemoryApart }
-
-    // A text over the scanner's bound is refused, whatever it says.
-    ensures too_long { LONGEST_TEXT < length text.now → result ≡ Err (ModuleTextFault.Text (TextFault.Scan ScanFault.TooLong)) }
-{
-    compiled(alloc, text)?;
-    Ok(())
 }
 
 /// The listing of the code of a text's module.

@@ -2,7 +2,7 @@ use Rattle.std.proofs.Common.{string_bytes}
 use Rattle.ob_answer.specs.Answers.{said}
 use Rattle.ob_program.specs.ModuleCode.{IsListing}
 use Rattle.ob_answer.proofs.Beginnings.{of_whole}
-use Rattle.ob_answer.proofs.Made.{refused_made}
+use Rattle.ob_answer.proofs.Made.{list_refused_made}
 use Rattle.ob_answer.proofs.making.answer_list.Goals as goal
 
 pub returns-in-Ok : goal.returns-in-Ok
@@ -12,5 +12,5 @@ returns-in-Ok c whole is =
     c.printed.ensures
 
 pub returns-in-Err : goal.returns-in-Err
-returns-in-Err c = refused_made IsListing c.args.module.now c.in-Err.fault c.module_refused.result c.module_refused.ensures.fault c.module_refused.ensures.memory
+returns-in-Err c = list_refused_made c.args.module.now c.in-Err.fault c.list_refused.result c.list_refused.ensures.fault c.list_refused.ensures.memory
     c.in-Err.ensures.fault c.in-Err.ensures.memory (λ long. let e = c.in-Err.ensures.too_long long in cc)

@@ -1,6 +1,6 @@
 use Rattle.std.proofs.Common.{string_bytes}
 use Rattle.ob_answer.specs.Answers.{said}
-use Rattle.ob_program.specs.SequentialRun.{IsSequentialRun}
+use Rattle.ob_sequential.specs.SequentialRun.{IsSequentialRun}
 use Rattle.ob_answer.proofs.Beginnings.{of_whole}
 use Rattle.ob_answer.proofs.Made.{seq_refused_made}
 use Rattle.ob_answer.proofs.making.answer_seq.Goals as goal

@@ -1,0 +1,119 @@
+//! The lines of faults of a module of the whole language: by itself, and with its calls made one after the other.
+
+ghost use Rattle.std.specs.Prelude.{◌≡◌, ◌++◌, IfOk, OnOk, string_bytes};
+ghost use Rattle.ob_fault_lines.specs.SequentialFaultLines.{calls_line, check_fault_line, more_turns_line, opening_line, rule_line, rule_number, seq_fault_line, whole_text_line};
+
+use crate::module_faults::{push_parse_fault, push_place, push_scan_fault};
+use crate::script_faults::push_line_number;
+use ob_calls::script::ScriptFault;
+use ob_interpreter::opening::OpenFault;
+use ob_scopes::fault::CheckFault;
+use ob_sequential::{ModuleFault, SeqTextFault, TextFault};
+use ob_text::numbers::push_number;
+use ob_typing::rule::Rule;
+use std::alloc::{AllocError, Global};
+
+/// The line of a fault of a module by itself, without a line feed.
+pub fn check_fault_line(alloc: Global, fault: ModuleFault) -> Result<String, AllocError>
+    ensures { IfOk result (λ line. string_bytes line ≡ check_fault_line fault) }
+{
+    let mut line = String::new(alloc);
+    match fault {
+        ModuleFault::Text(fault) => push_whole_text_fault(&mut line, fault)?,
+        ModuleFault::Open(fault) => push_opening_fault(&mut line, fault)?,
+        ModuleFault::NoMemory => line.push_str("NoMemory")?,
+    }
+    Ok(line)
+}
+
+/// The line of a fault of a sequential run, without a line feed.
+pub fn seq_fault_line(alloc: Global, fault: SeqTextFault) -> Result<String, AllocError>
+    ensures { IfOk result (λ line. string_bytes line ≡ seq_fault_line fault) }
+{
+    let mut line = String::new(alloc);
+    match fault {
+        SeqTextFault::Text(fault) => push_whole_text_fault(&mut line, fault)?,
+        SeqTextFault::Open(fault) => push_opening_fault(&mut line, fault)?,
+        SeqTextFault::Script(fault) => push_calls_fault(&mut line, fault)?,
+        SeqTextFault::NeedsMore(process, number) => push_needs_more(&mut line, process, number)?,
+        SeqTextFault::NoMemory => line.push_str("NoMemory")?,
+    }
+    Ok(line)
+}
+
+/// Appends the line of a fault of the text of a module of the whole language, without a line feed.
+fn push_whole_text_fault(line: &mut String, fault: TextFault) -> Result<(), AllocError>
+    ensures { OnOk result (string_bytes line.new ≡ string_bytes line.old ++ whole_text_line fault) }
+{
+    match fault {
+        TextFault::Scan(fault) => push_scan_fault(line, fault),
+        TextFault::Parse(fault) => push_parse_fault(line, fault),
+        TextFault::Check(fault) => push_broken_rule(line, fault),
+        TextFault::NoMemory => line.push_str("NoMemory"),
+    }
+}
+
+/// Appends the line of a rule that is broken.
+fn push_broken_rule(line: &mut String, fault: CheckFault) -> Result<(), AllocError>
+    ensures { OnOk result (string_bytes line.new ≡ string_bytes line.old ++ rule_line fault) }
+{
+    match fault {
+        CheckFault::Broken(broken) => push_place(line, rule_number(broken.rule), broken.place),
+        CheckFault::NoMemory => line.push_str("NoMemory"),
+    }
+}
+
+/// The number of a rule.
+fn rule_number(rule: Rule) -> &'static str
+    ensures { result.now ≡ rule_number rule }
+{
+    match rule {
+        Rule::UnknownName => "C1",
+        Rule::DeclaredTwice => "C2",
+        Rule::WrongKind => "C3",
+        Rule::TypesDiffer => "C4",
+        Rule::BadConstant => "C5",
+        Rule::BadLength => "C6",
+        Rule::BadActuals => "C7",
+        Rule::WrongLevel => "C8",
+        Rule::PassesLimit => "C9",
+        Rule::BadExport => "C10",
+    }
+}
+
+/// Appends the line of a fault of an opening, without a line feed.
+fn push_opening_fault(line: &mut String, fault: OpenFault) -> Result<(), AllocError>
+    ensures { OnOk result (string_bytes line.new ≡ string_bytes line.old ++ opening_line fault) }
+{
+    match fault {
+        OpenFault::Trap(trap) => {
+            line.push_str("O2 trap ")?;
+            push_number(line, trap)
+        }
+        OpenFault::NeedsMore => line.push_str("O3"),
+        OpenFault::NoMemory => line.push_str("NoMemory"),
+    }
+}
+
+/// Appends the line of a fault of a script, without a line feed.
+fn push_calls_fault(line: &mut String, fault: ScriptFault) -> Result<(), AllocError>
+    ensures { OnOk result (string_bytes line.new ≡ string_bytes line.old ++ calls_line fault) }
+{
+    match fault {
+        ScriptFault::Form(number) => push_line_number(line, "L1", number),
+        ScriptFault::Procedure(number) => push_line_number(line, "L2", number),
+        ScriptFault::Arguments(number) => push_line_number(line, "L3", number),
+        ScriptFault::Process(number) => push_line_number(line, "L4", number),
+        ScriptFault::NoMemory => line.push_str("NoMemory"),
+    }
+}
+
+/// Appends that a call needs more turns, of its process and its number among the calls of that process.
+fn push_needs_more(line: &mut String, process: usize, number: usize) -> Result<(), AllocError>
+    ensures { OnOk result (string_bytes line.new ≡ string_bytes line.old ++ more_turns_line process number) }
+{
+    line.push_str("U1 ")?;
+    push_number(line, process)?;
+    line.push_str(".")?;
+    push_number(line, number)
+}
