@@ -1,3 +1,6 @@
 pub mod ModuleText
 pub mod CheckedText
 pub mod ModuleFaults
+pub mod SequentialRun
+pub mod SequentialParts
+pub mod FaultLines
