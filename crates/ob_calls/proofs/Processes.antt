@@ -1,5 +1,5 @@
 -- The callers of a script's calls.
-use Rattle.std.proofs.Common.{ℕ, ◌<◌, List, map, All, length, subst}
+use Rattle.std.proofs.Common.{ℕ, ◌<◌, List, map, All, subst}
 use Rattle.std.proofs.lemmas.List.{length-map}
 use Rattle.std.proofs.lemmas.List.Elements.{All-cons, All-nil}
 use Rattle.std.proofs.Math.ListN.{get_or-map}

@@ -1,5 +1,5 @@
 -- Values read one by one.
-use Rattle.std.proofs.Common.{◌≡◌, ◌≢◌, ℕ, ◌+◌, ◌-◌, ◌<◌, ◌≤◌, suc, List, [], ◌∷◌, ◌++◌, length, drop, get_or, map, ◌⊎◌, inl, inr, true, false, refl, sym, ◌∙◌, ap, arith, add-one, drop-cons, append_assoc, append-nil, Some, None}
+use Rattle.std.proofs.Common.{◌≡◌, ◌≢◌, ℕ, ◌+◌, ◌-◌, ◌<◌, ◌≤◌, suc, List, [], ◌∷◌, ◌++◌, length, drop, get_or, map, ◌⊎◌, inl, inr, true, false, refl, sym, ◌∙◌, ap, arith, add-one, drop-cons, append_assoc, append-nil, Some}
 use Rattle.std.proofs.lemmas.List.{drop_all, length_push, length-drop}
 use Rattle.ob_typing.specs.declared.scalar.Scalar.{Scalar}
 use Rattle.ob_typing.specs.declared.scalar.ScalarType.{ScalarType}

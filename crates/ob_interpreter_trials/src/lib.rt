@@ -1,7 +1,10 @@
-//! Tests of the interpreter: calls from outside of a program that is built by hand; scripts and the lines of replies.
+//! Tests of the interpreter: calls from outside of a program that is built by hand, modules from their texts, scripts and
+//! the lines of replies.
 //! Nothing stands on this crate.
 #![tactic(auto)]
 
+#[cfg(test)]
+mod examples;
 #[cfg(test)]
 mod explanations;
 #[cfg(test)]
@@ -10,3 +13,5 @@ mod programs;
 mod scripts;
 #[cfg(test)]
 mod steps;
+#[cfg(test)]
+mod texts;

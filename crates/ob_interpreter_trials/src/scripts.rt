@@ -24,7 +24,9 @@ fn gate(alloc: Global) -> Result<Checked, Fail> {
 /// Whether a call of the first export is by this process, with these two arguments.
 fn is_set(call: &ScriptCall, process: usize, open: bool, count: i32) -> bool {
     let arguments = [Scalar::Bool(open), Scalar::Int(count)];
-    call.process == process && call.call.export == 0 && *call.call.arguments == arguments
+    call.process == process
+        && call.call.export == 0
+        && call.call.arguments.as_slice() == arguments.as_slice()
 }
 
 #[test]

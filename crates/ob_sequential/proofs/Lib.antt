@@ -1,1 +1,4 @@
 pub mod NoModule
+pub mod CallParts
+pub mod NoRun
+pub mod SequentialTexts

@@ -1,3 +1,5 @@
 pub mod ModuleText
 pub mod CheckedText
 pub mod ModuleFaults
+pub mod SequentialRun
+pub mod SequentialParts

@@ -8,9 +8,9 @@ ghost use Rattle.ob_sequential.specs.CheckedText.{IsTextFault, IsNumberedText, T
 
 use ob_checked::checked::Checked;
 use ob_parser::parser::{ParseFault, parse};
-use ob_scopes::fault::CheckFault;
 use ob_scan::scanner::LONGEST_TEXT;
 use ob_scan::{ScanFault, scan};
+use ob_scopes::fault::CheckFault;
 use ob_whole_check::modules::check;
 use std::alloc::Global;
 use thiserror::Error;

@@ -1,0 +1,30 @@
+-- The parts of a sequential run: how the faults below are told, and why a checked module's calls have no replies.
+use Rattle.std.specs.Prelude.{List}
+use Rattle.ob_typing.specs.Program.{Program}
+use Rattle.ob_interpreter.specs.declared.opening.OpenFault.{OpenFault}
+use Rattle.ob_interpreter.specs.declared.opening.OpenFault.TheVariants as Open
+use Rattle.ob_interpreter.specs.Faults.{IsOpenFault}
+use Rattle.ob_calls.specs.Script.{ScriptCall}
+use Rattle.ob_sequential.specs.declared.checked_text.TextFault.{TextFault}
+use Rattle.ob_sequential.specs.declared.checked_text.TextFault.TheVariants as Texts
+use Rattle.ob_sequential.specs.declared.opened.TheConstants.{TURNS}
+use Rattle.ob_sequential.specs.SequentialRun.{NeedsMoreTurnsIn}
+use Rattle.ob_sequential.specs.declared.sequential.SeqTextFault.{SeqTextFault}
+use Rattle.ob_sequential.specs.declared.sequential.SeqTextFault.TheVariants as Faults
+
+-- want of memory is told in one place
+
+abbrev pub of_text : TextFault → SeqTextFault
+of_text Texts.NoMemory = Faults.NoMemory
+of_text e = Faults.Text e
+
+abbrev pub of_open : OpenFault → SeqTextFault
+of_open Open.NoMemory = Faults.NoMemory
+of_open e = Faults.Open e
+
+-- why a script's calls have no replies
+abbrev pub IsReplyFault : Program → List ScriptCall → SeqTextFault → Type 0
+IsReplyFault program calls (Faults.Open e) = IsOpenFault program TURNS e
+IsReplyFault program calls (Faults.NeedsMore process number) = NeedsMoreTurnsIn program calls process number
+IsReplyFault program calls Faults.NoMemory = Unit {0}
+IsReplyFault program calls _ = ⊥

@@ -1,0 +1,25 @@
+MODULE Ring;
+  (* A queue in a ring: the number that was put first is taken first. *)
+  CONST size = 3;
+  VAR numbers: ARRAY size OF INTEGER;
+    first, count: INTEGER;
+
+  PROCEDURE Put*(number: INTEGER; VAR done: BOOLEAN);
+  BEGIN
+    done := count < size;
+    IF done THEN
+      numbers[(first + count) MOD size] := number;
+      count := count + 1
+    END
+  END Put;
+
+  PROCEDURE Take*(VAR done: BOOLEAN; VAR number: INTEGER);
+  BEGIN
+    done := count > 0;
+    IF done THEN
+      number := numbers[first];
+      first := (first + 1) MOD size;
+      count := count - 1
+    END
+  END Take;
+END Ring.
