@@ -8,7 +8,7 @@ ghost use Rattle.ob_calls.specs.Values.{AreValues, IsValue, by_value, scalar_tex
 
 use ob_checked::program::Parameter;
 use ob_checked::types::{DataType, Types};
-use ob_rules::parts::simple_type;
+use ob_scopes::parts::simple_type;
 use ob_text::numbers::{push_number, read_integer};
 use ob_typing::scalar::{Scalar, ScalarType};
 use std::alloc::{AllocError, Global};
