@@ -2,12 +2,11 @@
 
 use ob_interpreter::call::{Call, Reply};
 use ob_interpreter::object::interpret;
-use ob_interpreter::opening::{OpenFault, opening};
+use ob_interpreter::opening::opening;
 use ob_interpreter::sequence::sequence;
-use ob_rules::fault::CheckFault;
 use ob_sequential::checked_text::checked_text;
-use ob_sequential::{ModuleFault, TURNS, TextFault, check_text, opened_text};
-use ob_typing::rule::{BrokenRule, Rule};
+use ob_sequential::fault_lines::module_fault_line;
+use ob_sequential::{TURNS, check_text, opened_text};
 use ob_typing::scalar::Scalar;
 use std::alloc::{AllocError, Global};
 use std::test::Fail;
@@ -99,42 +98,50 @@ fn answers(alloc: Global, text: &[u8], rows: &[Row]) -> Result<bool, Fail> {
     Ok(all && replies.len() == rows.len())
 }
 
-fn refused(rule: Rule, place: usize) -> Result<(), ModuleFault> {
-    let fault = CheckFault::Broken(BrokenRule { rule, place });
-    Err(ModuleFault::Text(TextFault::Check(fault)))
+/// What is told of a module's text.
+fn told(alloc: Global, text: &[u8]) -> Result<String, AllocError> {
+    match check_text(alloc, text) {
+        Ok(()) => String::from_str(alloc, "ok"),
+        Err(fault) => module_fault_line(alloc, fault),
+    }
 }
 
 #[test]
 fn a_module_breaks_a_rule_at_a_place(rt: HostRuntime) -> Result<(), Fail> {
-    let texts: [(&[u8], Result<(), ModuleFault>); 7] = [
+    let texts: [(&[u8], &str); 11] = [
         (
             b"MODULE M; VAR x: INTEGER; BEGIN x := TRUE END M.",
-            refused(Rule::TypesDiffer, 37),
+            "C4 at 37",
         ),
-        (
-            b"MODULE M; VAR a: ARRAY 0 OF INTEGER; END M.",
-            refused(Rule::BadLength, 23),
-        ),
-        (
-            b"MODULE M; CONST c = 2147483647 + 1; END M.",
-            refused(Rule::BadConstant, 31),
-        ),
-        (b"MODULE M; CONST c = FALSE & (1 DIV 0 = 0); END M.", Ok(())),
+        (b"MODULE M; VAR a: ARRAY 0 OF INTEGER; END M.", "C6 at 23"),
+        (b"MODULE M; CONST c = 2147483647 + 1; END M.", "C5 at 31"),
+        (b"MODULE M; CONST c = FALSE & (1 DIV 0 = 0); END M.", "ok"),
         (
             b"MODULE M; PROCEDURE P(x: INTEGER); END P; BEGIN P END M.",
-            refused(Rule::BadActuals, 48),
+            "C7 at 48",
         ),
         (
             b"MODULE M; VAR a: ARRAY 4096 OF ARRAY 2 OF RECORD END; END M.",
-            refused(Rule::PassesLimit, 17),
+            "C9 at 17",
+        ),
+        (
+            b"MODULE M; PROCEDURE P; VAR a: INTEGER; PROCEDURE Q; BEGIN a := 1 END Q; END P; END M.",
+            "C8 at 58",
+        ),
+        (
+            b"MODULE M; TYPE T = RECORD x: INTEGER END; PROCEDURE P*(VAR r: T); END P; END M.",
+            "C10 at 52",
         ),
         (
             b"MODULE M; VAR x: INTEGER; BEGIN x := 1 DIV 0 END M.",
-            Err(ModuleFault::Open(OpenFault::Trap(3))),
+            "O2 trap 3",
         ),
+        (b"MODULE M; (* x", "S3 at 10"),
+        (b"MODULE M; END N.", "P3 at 14"),
     ];
     for (text, wanted) in texts {
-        assert!(rt; check_text(rt.alloc(), text) == wanted);
+        let line = told(rt.alloc(), text)?;
+        assert_eq!(rt; line.as_str(), wanted);
     }
     Ok(())
 }
