@@ -12,7 +12,8 @@ use ob_text::numbers::push_number;
 use ob_typing::scalar::Scalar;
 use std::alloc::{AllocError, Global};
 
-/// The lines of replies to the calls of these callers, processes below `processes`.
+/// The lines of replies to the calls of these callers, processes below `processes`: the first caller made the first
+/// call, and so on. What one of the two has more of than the other has no line.
 pub fn print_replies(
     alloc: Global,
     processes: usize,
@@ -31,7 +32,7 @@ pub fn print_replies(
     Ok(text)
 }
 
-/// Appends the line of a reply to a process's call of a number.
+/// Appends the line of the reply to a process's call of this number, from 1.
 pub fn push_reply_line(
     text: &mut String,
     process: usize,

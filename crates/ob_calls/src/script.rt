@@ -18,7 +18,7 @@ use std::alloc::{AllocError, AllocFailed, Global};
 use std::marker::Model;
 use thiserror::Error;
 
-/// A call by a process.
+/// A call by a process, whose number counts from 0.
 #[derive(Drop)]
 pub struct ScriptCall {
     pub process: usize,
@@ -42,12 +42,14 @@ impl Model for Scripts {
 }
 
 impl Scripts {
+    /// The calls, in line order.
     pub fn calls(&self) -> &[ScriptCall]
         ensures { map script_call_of result.now ≡ self.now }
     {
         &self.calls
     }
 
+    /// The calls, in line order; the script is given up.
     pub fn into_calls(self) -> Vec<ScriptCall>
         ensures { map script_call_of result.items ≡ self }
     {

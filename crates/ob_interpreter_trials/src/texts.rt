@@ -1,13 +1,11 @@
-//! Modules of the whole language, from their texts: refused, opened, and called.
+//! Modules of the whole language, from their texts: opened and called.
 
 use ob_interpreter::call::{Call, Reply};
 use ob_interpreter::object::interpret;
-use ob_interpreter::opening::{OpenFault, opening};
+use ob_interpreter::opening::opening;
 use ob_interpreter::sequence::sequence;
-use ob_scopes::fault::CheckFault;
 use ob_sequential::checked_text::checked_text;
-use ob_sequential::{ModuleFault, TURNS, TextFault, check_text, opened_text};
-use ob_typing::rule::{BrokenRule, Rule};
+use ob_sequential::{TURNS, check_text, opened_text};
 use ob_typing::scalar::Scalar;
 use std::alloc::{AllocError, Global};
 use std::test::Fail;
@@ -99,43 +97,10 @@ fn answers(alloc: Global, text: &[u8], rows: &[Row]) -> Result<bool, Fail> {
     Ok(all && replies.len() == rows.len())
 }
 
-fn refused(rule: Rule, place: usize) -> Result<(), ModuleFault> {
-    let fault = CheckFault::Broken(BrokenRule { rule, place });
-    Err(ModuleFault::Text(TextFault::Check(fault)))
-}
-
 #[test]
-fn a_module_breaks_a_rule_at_a_place(rt: HostRuntime) -> Result<(), Fail> {
-    let texts: [(&[u8], Result<(), ModuleFault>); 7] = [
-        (
-            b"MODULE M; VAR x: INTEGER; BEGIN x := TRUE END M.",
-            refused(Rule::TypesDiffer, 37),
-        ),
-        (
-            b"MODULE M; VAR a: ARRAY 0 OF INTEGER; END M.",
-            refused(Rule::BadLength, 23),
-        ),
-        (
-            b"MODULE M; CONST c = 2147483647 + 1; END M.",
-            refused(Rule::BadConstant, 31),
-        ),
-        (b"MODULE M; CONST c = FALSE & (1 DIV 0 = 0); END M.", Ok(())),
-        (
-            b"MODULE M; PROCEDURE P(x: INTEGER); END P; BEGIN P END M.",
-            refused(Rule::BadActuals, 48),
-        ),
-        (
-            b"MODULE M; VAR a: ARRAY 4096 OF ARRAY 2 OF RECORD END; END M.",
-            refused(Rule::PassesLimit, 17),
-        ),
-        (
-            b"MODULE M; VAR x: INTEGER; BEGIN x := 1 DIV 0 END M.",
-            Err(ModuleFault::Open(OpenFault::Trap(3))),
-        ),
-    ];
-    for (text, wanted) in texts {
-        assert!(rt; check_text(rt.alloc(), text) == wanted);
-    }
+fn a_module_opens(rt: HostRuntime) -> Result<(), Fail> {
+    assert!(rt; check_text(rt.alloc(), QUOTIENTS).is_ok());
+    assert!(rt; check_text(rt.alloc(), b"MODULE M; (* x").is_err());
     Ok(())
 }
 

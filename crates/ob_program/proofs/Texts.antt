@@ -12,7 +12,7 @@ use Rattle.ob_mean.specs.Faults.{IsOpenFault}
 use Rattle.ob_mean.specs.Object.{IsOpening}
 use Rattle.ob_scheme.specs.Scheme.{code_of}
 use Rattle.ob_opened.proofs.NoModule.{opens_not}
-use Rattle.ob_opened.specs.CheckedText.{IsNumberedText, IsTextFault}
+use Rattle.ob_opened.specs.CheckedText.{IsNumberedText}
 use Rattle.ob_opened.specs.declared.checked_text.TextFault.{TextFault}
 use Rattle.ob_opened.specs.declared.checked_text.TextFault.TheVariants as Texts
 use Rattle.ob_opened.specs.declared.opened.TheConstants.{TURNS}
