@@ -1,10 +1,10 @@
 -- The verdict on a heading, step by step.
 use Rattle.std.proofs.Common.{◌≡◌, ℕ, List, [], ◌∷◌, Bool, true, false, refl, sym, ap, ◌∙◌}
 use Rattle.std.specs.Prelude.{not, ◌||◌}
-use Rattle.ob_grammar.specs.Tree.{Heading}
+use Rattle.ob_grammar.specs.Tree.{Heading, Section}
 use Rattle.ob_typing.specs.declared.rule.Rule.TheVariants.{BadExport}
 use Rattle.ob_typing.specs.Program.{Parameter}
-use Rattle.ob_typing.specs.Scopes.{Environment, no_names}
+use Rattle.ob_typing.specs.Scopes.{Environment, Scope, no_names}
 use Rattle.ob_typing.specs.Statements.{listed}
 use Rattle.ob_typing.specs.Declarations.{all_simple, inner_scope, with_procedure}
 use Rattle.ob_typing.specs.ExpressionFaults.{broken}
@@ -33,6 +33,14 @@ module _ (env : Environment) (n : ℕ) (heading : Heading) where
     headed_wrong structured =
         ap (λ v. ◌>>=◌ v behind_test) right
         ∙ ap (λ b. ◌>>=◌ (test b BadExport heading.name.place) (λ s. Right (record { env = inner_scope inside (with_procedure env n heading ps); parameters = ps }))) structured
+
+-- what was read as the sections of a heading, in a scope that was entered without names
+pub parameters_entered : (xs ys : List Section) (env after : Environment) (scope : Scope) → ys ≡ xs → after ≡ scope ∷ env → scope ≡ no_names →
+    parameters xs (no_names ∷ env) 0 ≡ parameters ys after 0
+parameters_entered xs ys env after scope read entered empty =
+    ap (λ zs. parameters zs (no_names ∷ env) 0) (sym read)
+    ∙ ap (λ (s : Scope). parameters ys (s ∷ env) 0) (sym empty)
+    ∙ ap (λ e. parameters ys e 0) (sym entered)
 
 pub structured_export : (b s : Bool) → b ≡ true → s ≡ false → (not b || s) ≡ false
 structured_export b s h k = rw h k

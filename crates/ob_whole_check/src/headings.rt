@@ -1,9 +1,12 @@
 //! The headings of procedures.
 
-ghost use Rattle.std.specs.Prelude.{◌≡◌, ◌+◌, ℕ, true, length, map, List, None, OnOk, IfOk, IfErr};
+ghost use Rattle.std.specs.Prelude.{◌≡◌, ◌+◌, ◌<◌, ◌∷◌, ℕ, true, length, map, List, None, OnOk, IfOk, IfErr};
 ghost use Rattle.ob_grammar.specs.View.{heading_of};
 ghost use Rattle.ob_typing.specs.Declarations as Declared;
-ghost use Rattle.ob_typing.specs.Declarations.{with_procedure, exports_behind, heading_broken};
+ghost use Rattle.ob_typing.specs.Declarations.{inner_scope, with_procedure, exports_behind, heading_broken};
+ghost use Rattle.ob_typing.specs.Scopes.{level, no_names};
+ghost use Rattle.ob_typing.specs.Statements.{listed};
+ghost use Rattle.ob_typing.proofs.CheckedModules.{parameters};
 ghost use Rattle.ob_typing.proofs.Verdict.{Right, unless};
 ghost use Rattle.ob_checked.specs.Types.{Entry, Extends};
 ghost use Rattle.ob_checked.specs.View.{table_of, parameter_of};
@@ -76,16 +79,49 @@ pub fn declare_heading(
     ensures extends { OnOk result (Extends (types_in scopes.old) (types_in scopes.new)) }
     ensures fault { IfErr result (λ f. Fails f (headed (env_of scopes.old) number (heading_of tree.now))) }
 {
-    scopes.enter(IndexMap::new(alloc))?;
-    let parameters = declare_parameters(alloc, scopes, sections_in(&tree.parameters))?;
+    let parameters = enter_parameters(alloc, scopes, tree)?;
     if tree.is_exported && !all_simple(scopes.types(), &parameters) {
         return Err(broken(Rule::BadExport, tree.name.place));
     }
-    let copied = copies(alloc, &parameters)?;
+    declare_around(alloc, scopes, tree, number, &parameters)?;
+    Ok(parameters)
+}
+
+/// Declares the parameters of a procedure in a scope of their own.
+fn enter_parameters(
+    alloc: Global,
+    scopes: &mut Scopes,
+    tree: &Procedure,
+) -> Result<Vec<Parameter>, CheckFault>
+    ensures typed { IfOk result (λ ps. parameters (listed (heading_of tree.now).parameters) (no_names ∷ env_of scopes.old) 0 ≡ Right (record { env = env_of scopes.new; parameters = map (parameter_of (types_in scopes.new)) ps.items })) }
+    ensures around { OnOk result (around (env_of scopes.new) ≡ env_of scopes.old) }
+    ensures known { IfOk result (λ ps. known_parameters (length (types_in scopes.new)) ps.items ≡ true) }
+    ensures extends { OnOk result (Extends (types_in scopes.old) (types_in scopes.new)) }
+    ensures fault { IfErr result (λ f. Fails f (parameters (listed (heading_of tree.now).parameters) (no_names ∷ env_of scopes.old) 0)) }
+{
+    scopes.enter(IndexMap::new(alloc))?;
+    declare_parameters(alloc, scopes, sections_in(&tree.parameters))
+}
+
+/// Declares a procedure in the scope around the innermost one, which is that of its parameters.
+fn declare_around(
+    alloc: Global,
+    scopes: &mut Scopes,
+    tree: &Procedure,
+    number: usize,
+    parameters: &[Parameter],
+) -> Result<(), CheckFault>
+    requires within { 1 < level (env_of scopes.old) }
+    requires known { known_parameters (length (types_in scopes.old)) parameters.now ≡ true }
+    ensures names { OnOk result (env_of scopes.new ≡ inner_scope (env_of scopes.old) (with_procedure (around (env_of scopes.old)) number (heading_of tree.now) (map (parameter_of (types_in scopes.old)) parameters.now))) }
+    ensures types { OnOk result (types_in scopes.new ≡ types_in scopes.old) }
+    ensures fault { IfErr result (λ f. f ≡ CheckFault.NoMemory) }
+{
+    let copied = copies(alloc, parameters)?;
     let own = scopes.leave();
     scopes.declare_procedure(alloc, &tree.name.text, number, copied)?;
     scopes.enter(own)?;
-    Ok(parameters)
+    Ok(())
 }
 
 /// Whether no parameter is structured.
