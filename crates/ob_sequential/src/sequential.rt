@@ -1,9 +1,7 @@
 //! A sequential run: the calls of a script made one at a time, from bytes to bytes.
 
-ghost use Rattle.std.specs.Prelude.{◌≡◌, Err, ℕ, suc, ◌<◌, List, All, IfOk, IfErr, map, take, length, slice_index, string_bytes};
+ghost use Rattle.std.specs.Prelude.{◌≡◌, Err, suc, ◌<◌, All, IfOk, IfErr, map, take, length, slice_index, string_bytes};
 ghost use Rattle.ob_checked.specs.CheckedModule.{program_in};
-ghost use Rattle.ob_sequential.specs.ModuleText.{IsModule};
-ghost use Rattle.ob_typing.specs.Program.{Program};
 ghost use Rattle.ob_interpreter.specs.View.{call_of};
 ghost use Rattle.ob_sequential.specs.SequentialParts.{IsReplyFault};
 ghost use Rattle.ob_sequential.specs.SequentialRun.{HasNoRun, IsNumbered, IsSequentialRun, IsSeqTextFault, PrintsReplies, TellsMemoryApart};
@@ -20,7 +18,7 @@ use ob_interpreter::opening::{OpenFault, opening};
 use ob_interpreter::sequence::{SeqFault, sequence};
 use ob_scan::ScanFault;
 use ob_scan::scanner::LONGEST_TEXT;
-use std::alloc::{AllocError, AllocFailed, Global};
+use std::alloc::{AllocError, Global};
 use thiserror::Error;
 
 /// How many processes a script may name: 0 to 15.
