@@ -3,10 +3,10 @@
 use ob_checked::program::{Statement, Variable};
 use ob_grammar::tree::Declarations;
 use ob_rules::declarations::{Room, declare_constants, declare_types, declare_variables};
+use ob_rules::statements::body;
 use ob_scopes::fault::{CheckFault, broken};
 use ob_scopes::same::same_type;
 use ob_scopes::scopes::Scopes;
-use ob_rules::statements::body;
 use ob_syntax::reader::read;
 use ob_typing::rule::Rule;
 use std::alloc::Global;
