@@ -97,23 +97,14 @@ procedure_row = search (sendable, shared, parameters.the_sync, statement_row) de
 program_field : IsSync (Program.the_field).row
 program_field = search (sendable, shared, program_variables.the_sync, statement_row, procedure_row) depth 20
 
-checked_row : IsSync Checked.the_row
-checked_row = search (sendable, shared, exports.the_sync, module_of_row, program_field) depth 20
-
 checked_field : IsSync (Checked.the_field).row
 checked_field = search (sendable, shared, exports.the_sync, module_of_row, program_field) depth 20
 
 object_field : IsSync (Object.the_field).row
-object_field = search (sendable, shared, layouts.the_sync, states.the_sync, states.the_field_sync, engines.the_sync, engines.the_field_sync, checked_row, checked_field) depth 20
+object_field = search (sendable, shared, layouts.the_sync, states.the_field_sync, engines.the_field_sync, checked_field) depth 20
 
 terms_row : IsSync Terms.the_row
 terms_row = search (sendable, shared, calls.the_sync, object_field) depth 20
 
-terms_field : IsSync (Terms.the_field).row
-terms_field = search (sendable, shared, calls.the_sync, object_field) depth 20
-
 pub desk_row : IsSync Desk.the_row
-desk_row = search (sendable, shared, mutexes.the_sync, floors.the_send, engines.the_send, engines.the_field_send, bodies.the_send, terms_row, terms_field) depth 20
-
-pub desk_field : IsSync (Desk.the_field).row
-desk_field = search (sendable, shared, mutexes.the_sync, floors.the_send, engines.the_send, engines.the_field_send, bodies.the_send, terms_row, terms_field) depth 20
+desk_row = search (sendable, shared, mutexes.the_sync, floors.the_send, engines.the_send, bodies.the_send, terms_row) depth 20

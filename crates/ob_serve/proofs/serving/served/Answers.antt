@@ -1,6 +1,5 @@
 use Rattle.std.proofs.Common.{List, map, subst, ap, ℕ, IfOk, ◌∙◌}
 use Rattle.std.proofs.lemmas.Result.{err_from_is_err_and}
-use Rattle.ob_object.specs.View.{object_in}
 use Rattle.ob_serve.specs.Served.{HaveEnded}
 use Rattle.ob_text.specs.Script.{ScriptCall}
 use Rattle.ob_text.specs.ScriptView.{script_call_of}
