@@ -1,10 +1,7 @@
-//! Printed replies and faults, also those that no module gives yet.
+//! Printed replies, also those that no module gives yet.
 
 use ob_check::program::Scalar;
-use ob_fault_lines::fault_line::fault_line;
 use ob_mean::call::Reply;
-use ob_mean::opening::OpenFault;
-use ob_program::sequential::SeqTextFault;
 use ob_reply::reply_lines::print_replies;
 use smallvec::SmallVec;
 use std::test::Fail;
@@ -30,14 +27,5 @@ fn prints_replies(rt: HostRuntime) -> Result<(), Fail> {
 fn prints_nothing_of_no_replies(rt: HostRuntime) -> Result<(), Fail> {
     let text = print_replies(rt.alloc(), 16, &[], &[])?;
     assert_eq!(rt; text.as_str(), "");
-    Ok(())
-}
-
-#[test]
-fn prints_faults(rt: HostRuntime) -> Result<(), Fail> {
-    let opening = fault_line(rt.alloc(), SeqTextFault::Open(OpenFault::NeedsMore))?;
-    assert!(rt; opening.as_str() == "O3");
-    let call = fault_line(rt.alloc(), SeqTextFault::NeedsMore(0, 2))?;
-    assert!(rt; call.as_str() == "U1 0.2");
     Ok(())
 }

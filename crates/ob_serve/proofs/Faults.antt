@@ -1,5 +1,4 @@
 -- Want of memory is told apart.
-use Rattle.std.proofs.Common.{◌≡◌}
 use Rattle.ob_desk.specs.declared.fault.CloseFault.{CloseFault}
 use Rattle.ob_desk.specs.declared.fault.CloseFault.TheVariants as Close
 use Rattle.ob_serve.specs.Served.{TellsMemoryApart, of_close}

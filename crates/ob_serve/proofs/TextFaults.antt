@@ -1,5 +1,5 @@
 -- What the faults of serving texts say, from what those of its parts say.
-use Rattle.std.proofs.Common.{◌≡◌, ℕ, List, subst, true, false}
+use Rattle.std.proofs.Common.{◌≡◌, ℕ, List, subst}
 use Rattle.ob_check.specs.Exports.{signatures}
 use Rattle.ob_check.specs.ModuleText.{IsModule}
 use Rattle.ob_check.specs.Program.{Program}

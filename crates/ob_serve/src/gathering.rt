@@ -5,9 +5,9 @@ ghost use Rattle.ob_serve.specs.Served.{TellsMemoryApart};
 
 use crate::fault::ServeFault;
 use crate::gate::Gate;
-use crate::worker::{Ended, Turns, Worked, work};
+use crate::worker::{Ended, Worked, work};
 use crossbeam_channel::{Receiver, unbounded};
-use ob_desk::{CallAnswer, Seat};
+use ob_desk::{CallAnswer, Desk, Seat};
 use std::alloc::{AllocError, Global};
 use std::sync::Wait;
 use std::thread;
@@ -24,10 +24,10 @@ pub struct Gathered {
 }
 
 /// Starts a worker for each seat, on a thread of its own, collects the answers that they send, and joins all.
-pub fn gather<R: Threads + Wait + Sync, D: Turns + Sync, G: Gate + Sync>(
+pub fn gather<R: Threads + Wait + Sync, G: Gate + Sync>(
     rt: &R,
     alloc: Global,
-    desk: &D,
+    desk: &Desk,
     gate: &G,
     limit: u64,
     seats: Vec<Seat>,
@@ -69,11 +69,7 @@ fn collect<R: Wait>(rt: &R, receiver: Receiver<CallAnswer, Global>, gathered: &m
     }
 }
 
-fn join_all<R: Threads + Wait>(
-    rt: &R,
-    handles: Vec<JoinHandle<Worked>>,
-    gathered: &mut Gathered,
-) {
+fn join_all<R: Threads + Wait>(rt: &R, handles: Vec<JoinHandle<Worked>>, gathered: &mut Gathered) {
     for handle in handles {
         if gathered.worked.push(handle.join(rt)).is_err() {
             gathered.is_short = true;

@@ -1,3 +1,4 @@
+mod Crossing
 mod Faults
 mod TextFaults
 mod ReadCalls

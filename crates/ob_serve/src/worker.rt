@@ -5,23 +5,9 @@ ghost use Rattle.std.specs.Prelude.{◌<◌, ◌-◌, ◌^◌};
 use crate::gate::Gate;
 use crossbeam_channel::Sender;
 use ob_desk::{CallAnswer, Desk, Seat};
-use ob_grammar::NoMemory;
 use std::alloc::Global;
 use std::sync::Wait;
 use wf_object::StepOut;
-
-/// Where seats take their turns.
-pub trait Turns {
-    /// One turn of the seat's process.
-    fn take_turn<R: Wait>(&self, rt: &R, seat: &mut Seat) -> Result<StepOut, NoMemory>
-        requires { seat.old.turns < 2 ^ 128 - 1 };
-}
-
-impl Turns for Desk {
-    fn take_turn<R: Wait>(&self, rt: &R, seat: &mut Seat) -> Result<StepOut, NoMemory> {
-        self.turn(rt, seat)
-    }
-}
 
 /// How a worker ended.
 #[derive(Clone, Copy, Debug, PartialEq, Eq)]
@@ -43,9 +29,9 @@ pub struct Worked {
 
 /// Takes turns of the seat's process, as the gate lets it, until the process is halted or its seat can count no more turns,
 /// and sends each answer. The desk's lock is free between two turns.
-pub fn work<R: Wait, D: Turns, G: Gate>(
+pub fn work<R: Wait, G: Gate>(
     rt: &R,
-    desk: &D,
+    desk: &Desk,
     gate: &G,
     limit: u64,
     mut seat: Seat,
@@ -66,7 +52,7 @@ pub fn work<R: Wait, D: Turns, G: Gate>(
             continue;
         }
         refusals = 0;
-        match turned(rt, desk, gate, &mut seat, &answers) {
+        match take_turn(rt, desk, gate, &mut seat, &answers) {
             Turned::On => {}
             Turned::Halted => break,
             Turned::NoMemory => {
@@ -87,16 +73,16 @@ enum Turned {
 }
 
 /// One turn of the seat's process, whose answer, if there is one, is told to the gate and sent.
-fn turned<R: Wait, D: Turns, G: Gate>(
+fn take_turn<R: Wait, G: Gate>(
     rt: &R,
-    desk: &D,
+    desk: &Desk,
     gate: &G,
     seat: &mut Seat,
     answers: &Sender<CallAnswer, Global>,
 ) -> Turned
     requires { seat.old.turns < 2 ^ 128 - 1 }
 {
-    match desk.take_turn(rt, seat) {
+    match desk.turn(rt, seat) {
         Err(_) => Turned::NoMemory,
         Ok(StepOut::Halted) => Turned::Halted,
         Ok(StepOut::Answered(id, reply)) => {

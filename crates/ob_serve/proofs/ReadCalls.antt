@@ -1,5 +1,5 @@
 -- The calls that were read of texts are what workers are given.
-use Rattle.std.proofs.Common.{◌≡◌, ◌<◌, ◌≤◌, ℕ, List, All, map, subst, sym}
+use Rattle.std.proofs.Common.{◌<◌, ◌≤◌, ℕ, List, All, map, subst, sym}
 use Rattle.ob_engine.specs.CodeMeaning.{EngineParts}
 use Rattle.ob_engine.specs.Compiled.{IsFitting}
 use Rattle.ob_object.proofs.Objects.{sound_of}
