@@ -7,14 +7,14 @@
 #include <unistd.h>
 
 static long refused = -1;
-static long count = 0;
+static long count = 0; /* of all threads */
 
 static int refuses(void) {
     if (refused < 0) {
         const char *text = getenv("REFUSE");
         refused = text ? atol(text) : 0;
     }
-    if (++count != refused) return 0;
+    if (__atomic_add_fetch(&count, 1, __ATOMIC_SEQ_CST) != refused) return 0;
     if (close(open(getenv("REFUSED"), O_CREAT | O_WRONLY, 0600)) != 0) _exit(99);
     errno = ENOMEM;
     return 1;

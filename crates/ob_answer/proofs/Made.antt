@@ -4,7 +4,7 @@ use Rattle.std.proofs.lemmas.Bool.{cases_lt}
 use Rattle.ob_scan.specs.ScanFaults.{IsScanFault}
 use Rattle.ob_scan.specs.declared.fault.ScanFault.TheVariants as Scan
 use Rattle.ob_opened.specs.declared.checked_text.TextFault.TheVariants as Texts
-use Rattle.ob_answer.specs.Answers.{IsCheckAnswer, IsListAnswer, IsRunAnswer, IsSeqAnswer, IsTextAnswer, IsVerifyAnswer, refused}
+use Rattle.ob_answer.specs.Answers.{IsCheckAnswer, IsListAnswer, IsRunAnswer, IsSeqAnswer, IsServeAnswer, IsTextAnswer, IsVerifyAnswer, refused}
 use Rattle.ob_answer.specs.Printed.{IsRefused}
 use Rattle.ob_answer.specs.declared.answered.Answer.{Answer}
 use Rattle.ob_answer.specs.declared.product.Product.{Product}
@@ -12,9 +12,12 @@ use Rattle.ob_command.specs.CommandLine.{Text}
 use Rattle.ob_fault_lines.specs.FaultLines.{module_fault_line}
 use Rattle.ob_fault_lines.specs.SequentialFaultLines.{check_fault_line, seq_fault_line}
 use Rattle.ob_fault_lines.specs.RunFaultLines.{run_fault_line}
+use Rattle.ob_fault_lines.specs.ServeFaultLines.{serve_fault_line}
 use Rattle.ob_fault_lines.specs.VerifyFaultLines.{verify_fault_line}
 use Rattle.ob_object.specs.Performance as Performs
 use Rattle.ob_object.specs.Performance.{IsPerformFault}
+use Rattle.ob_object.specs.Compilation.{IsCompileFault}
+use Rattle.ob_object.specs.declared.compiling.CompileFault.{CompileFault}
 use Rattle.ob_object.specs.declared.compiling.CompileFault.TheVariants as Compile
 use Rattle.ob_object.specs.declared.performing.PerformFault.{PerformFault}
 use Rattle.ob_object.specs.declared.performing.PerformFault.TheVariants as Perform
@@ -29,6 +32,10 @@ use Rattle.ob_sequential.specs.declared.opened.ModuleFault.{ModuleFault}
 use Rattle.ob_sequential.specs.declared.opened.ModuleFault.TheVariants as Opened
 use Rattle.ob_sequential.specs.declared.sequential.SeqTextFault.{SeqTextFault}
 use Rattle.ob_sequential.specs.declared.sequential.SeqTextFault.TheVariants as Runs
+use Rattle.ob_serve.specs.ServedTexts as Serves
+use Rattle.ob_serve.specs.ServedTexts.{IsServeTextFault}
+use Rattle.ob_serve.specs.declared.texts.ServeTextFault.{ServeTextFault}
+use Rattle.ob_serve.specs.declared.texts.ServeTextFault.TheVariants as Serve
 use Rattle.ob_verify.specs.VerifyFaults as Verifies
 use Rattle.ob_verify.specs.VerifyFaults.{IsVerifyFault}
 use Rattle.ob_verify.specs.declared.verifying.VerifyFault.{VerifyFault}
@@ -82,17 +89,18 @@ no_number n beyond within =
       | inl some ↦ elim (cases_lt 16 n) [ inl many ↦ beyond (inr many) | inr few ↦ within some few ]
     ]
 
--- the fault of a text that is too long, of so many processes
-run_too_long : (whole : List ℕ) (n : ℕ) (script schedule : List ℕ) (e : PerformFault) → 65536 < length whole
-    → ((n ≡ 0) ⊎ (16 < n) → e ≡ Perform.Compile Compile.Processes) → (0 < n → n ≤ 16 → e ≡ Perform.Compile (Compile.Text (Texts.Scan Scan.TooLong)))
-    → IsPerformFault whole n script schedule e
-run_too_long whole n script schedule e longer processes too_long =
+-- the fault of a text that is too long, of so many processes: `compiling` tells those of an object
+fault_too_long : {F : Type 0} (compiling : CompileFault → F) (IsFault : F → Type 0) (whole : List ℕ) (n : ℕ) (e : F)
+    → ((x : CompileFault) → IsCompileFault whole n x → IsFault (compiling x)) → 65536 < length whole
+    → ((n ≡ 0) ⊎ (16 < n) → e ≡ compiling Compile.Processes) → (0 < n → n ≤ 16 → e ≡ compiling (Compile.Text (Texts.Scan Scan.TooLong)))
+    → IsFault e
+fault_too_long compiling IsFault whole n e is_fault longer processes too_long =
     elim (cases_lt 0 n) [
-      | inr none ↦ let is : n ≡ 0 = omega (arith, none) in subst (λ (x : PerformFault). IsPerformFault whole n script schedule x) (sym (processes (inl is))) (inl is)
+      | inr none ↦ let is : n ≡ 0 = omega (arith, none) in subst IsFault (sym (processes (inl is))) (is_fault Compile.Processes (inl is))
       | inl some ↦
           elim (cases_lt 16 n) [
-            | inl many ↦ subst (λ (x : PerformFault). IsPerformFault whole n script schedule x) (sym (processes (inr many))) (inr many)
-            | inr few ↦ subst (λ (x : PerformFault). IsPerformFault whole n script schedule x) (sym (too_long some few)) (too_long_scan whole longer)
+            | inl many ↦ subst IsFault (sym (processes (inr many))) (is_fault Compile.Processes (inr many))
+            | inr few ↦ subst IsFault (sym (too_long some few)) (is_fault (Compile.Text (Texts.Scan Scan.TooLong)) (too_long_scan whole longer))
           ]
     ]
 
@@ -105,9 +113,22 @@ run_refused_made product part n script schedule e (Ok a) told numbered stands ap
     λ whole is.
     refused e
     (of_whole_or_long (λ t. IsPerformFault t n script schedule e) part whole is
-    (λ long longer. run_too_long whole n script schedule e longer processes (λ some few. too_long some few long)) stands)
+    (λ long longer. fault_too_long Perform.Compile (IsPerformFault whole n script schedule) whole n e (λ x h. h) longer processes (λ some few. too_long some few long)) stands)
     (numbered, apart) told
 run_refused_made product part n script schedule e (Err x) told numbered stands apart processes too_long = tt
+
+pub serve_refused_made : {E : Type 0} (part : List ℕ) (n : ℕ) (script : List ℕ) (e : ServeTextFault) (result : Result Answer E)
+    → IfOk result (λ a. IsRefused a 1 (serve_fault_line e ++ codes "\n")) → IfOk result (λ _. e ≢ Serve.NoMemory)
+    → IsServeTextFault part n script e → Serves.TellsMemoryApart e
+    → ((n ≡ 0) ⊎ (16 < n) → e ≡ Serve.Compile Compile.Processes) → (0 < n → n ≤ 16 → 65536 < length part → e ≡ Serve.Compile (Compile.Text (Texts.Scan Scan.TooLong)))
+    → IfOk result (λ a. (whole : List ℕ) → part ≡ beginning whole → IsServeAnswer whole n script a)
+serve_refused_made part n script e (Ok a) told known stands apart processes too_long =
+    λ whole is.
+    refused e
+    (of_whole_or_long (λ t. IsServeTextFault t n script e) part whole is
+    (λ long longer. fault_too_long Serve.Compile (IsServeTextFault whole n script) whole n e (λ x h. h) longer processes (λ some few. too_long some few long)) stands)
+    (known, apart) told
+serve_refused_made part n script e (Err x) told known stands apart processes too_long = tt
 
 -- ---- of a record
 

@@ -9,14 +9,17 @@ use Rattle.ob_sequential.specs.ModuleFaults as Modules
 use Rattle.ob_sequential.specs.ModuleFaults.{HasOpening, IsModuleFault}
 use Rattle.ob_sequential.specs.SequentialRun.{IsSequentialRun, IsSeqTextFault, IsNumbered}
 use Rattle.ob_fault_lines.specs.RunFaultLines.{run_fault_line}
+use Rattle.ob_fault_lines.specs.ServeFaultLines.{serve_fault_line}
 use Rattle.ob_fault_lines.specs.VerifyFaultLines.{verify_fault_line}
 use Rattle.ob_object.specs.Performance as Performs
 use Rattle.ob_object.specs.Performance.{IsPerformFault}
 use Rattle.ob_object.specs.Printed.{HasPerformance, IsRecordPrinted}
+use Rattle.ob_serve.specs.ServedTexts as Serves
+use Rattle.ob_serve.specs.ServedTexts.{IsServedPrinted, IsServeTextFault}
 use Rattle.ob_verify.specs.Verified.{IsVerified}
 use Rattle.ob_verify.specs.VerifyFaults as Verifies
 use Rattle.ob_verify.specs.VerifyFaults.{IsVerifyFault}
-use Rattle.ob_command.specs.CommandLine.{Text, Request, RunRequest, Check, Listing, Seq, Run, Draw, Verify, Help, Version, Unclear}
+use Rattle.ob_command.specs.CommandLine.{Text, Request, RunRequest, Check, Listing, Seq, Run, Serve, Draw, Verify, Help, Version, Unclear}
 use Rattle.ob_answer.specs.declared.product.Product.{Product}
 use Rattle.ob_answer.specs.declared.product.Product.TheVariants as Products
 use Rattle.ob_answer.specs.Printed.{IsPrinted, IsRefused}
@@ -60,6 +63,11 @@ abbrev pub IsRunAnswer : Product → (module_bytes : List ℕ) (processes : ℕ)
 IsRunAnswer product module_bytes processes script_bytes schedule_bytes =
     IsTextAnswer (SaysRun product module_bytes processes script_bytes schedule_bytes) (IsPerformFault module_bytes processes script_bytes schedule_bytes) Performs.IsNumbered run_fault_line
 
+-- to the bytes of a module and of a script: the record of workers, one for each of so many processes
+abbrev pub IsServeAnswer : (module_bytes : List ℕ) (processes : ℕ) (script_bytes : List ℕ) → Answer → Type 0
+IsServeAnswer module_bytes processes script_bytes =
+    IsTextAnswer (IsServedPrinted module_bytes processes script_bytes) (IsServeTextFault module_bytes processes script_bytes) Serves.IsNumbered serve_fault_line
+
 -- to the bytes of a module and of a record: `ok` where the record's order is a legal one
 abbrev pub SaysVerified : (module_bytes record_bytes : List ℕ) → Text → Type 0
 SaysVerified module_bytes record_bytes text = IsVerified module_bytes record_bytes × (text ≡ ok_text)
@@ -82,6 +90,7 @@ files_of (Check module_name) = module_name ∷ []
 files_of (Listing module_name) = module_name ∷ []
 files_of (Seq module_name script_name) = module_name ∷ script_name ∷ []
 files_of (Run run) = files_of_run run
+files_of (Serve module_name script_name processes) = module_name ∷ script_name ∷ []
 files_of (Draw run) = files_of_run run
 files_of (Verify module_name record_name) = module_name ∷ record_name ∷ []
 files_of _ = []
@@ -92,6 +101,7 @@ IsMade (Check module_name) (module_bytes ∷ []) answer = IsCheckAnswer module_b
 IsMade (Listing module_name) (module_bytes ∷ []) answer = IsListAnswer module_bytes answer
 IsMade (Seq module_name script_name) (module_bytes ∷ script_bytes ∷ []) answer = IsSeqAnswer module_bytes script_bytes answer
 IsMade (Run run) bytes answer = IsRunMade Products.Record run bytes answer
+IsMade (Serve module_name script_name processes) (module_bytes ∷ script_bytes ∷ []) answer = IsServeAnswer module_bytes processes script_bytes answer
 IsMade (Draw run) bytes answer = IsRunMade Products.Picture run bytes answer
 IsMade (Verify module_name record_name) (module_bytes ∷ record_bytes ∷ []) answer = IsVerifyAnswer module_bytes record_bytes answer
 IsMade Help [] answer = (text : Text) × IsPrinted answer text

@@ -4,18 +4,20 @@ ghost use Rattle.std.specs.Prelude.{◌≡◌, ◌∷◌, [], ℕ, Some, false, 
 ghost use Rattle.ob_answer.specs.Answers.{IsAnswer, IsRunMade, files_of_run};
 ghost use Rattle.ob_answer.specs.Printed.{IsUnreadable};
 ghost use Rattle.ob_answer.specs.Reads.{IsOutcome};
-ghost use Rattle.ob_command.specs.CommandLine.{Check, Listing, Run, Seq, Text, Verify, is_option, number, request};
+ghost use Rattle.ob_command.specs.CommandLine.{Check, Draw, Listing, Run, Seq, Serve, Text, Verify, is_option, number, request};
 ghost use Rattle.ob_command.specs.Commands.{request_of, run_request_of};
 
 use crate::answered::Answer;
 use crate::files::{FileFault, Files};
-use crate::making::{answer_check, answer_list, answer_run, answer_seq, answer_verify};
+use crate::making::{answer_check, answer_list, answer_run, answer_seq, answer_serve, answer_verify};
 use crate::product::Product;
 use crate::shown_name::push_name;
 use ob_command::command::{Command, RunCommand, Stop, read_command};
 use ob_grammar::NoMemory;
 use ob_scan::scanner::LONGEST_TEXT;
 use std::alloc::{AllocError, Global};
+use std::sync::Wait;
+use std::thread::Threads;
 
 /// The program's name and version, and the kit that it is proved with.
 const VERSION: &str = "obl0 0.1.0\nrattle-kit-13b logic dac8208d650f15bf\n";
@@ -24,8 +26,12 @@ const VERSION: &str = "obl0 0.1.0\nrattle-kit-13b logic dac8208d650f15bf\n";
 const MODULE_BYTES: usize = LONGEST_TEXT + 1;
 
 /// The answer to the words behind the program's name. Files are read in the order in which the words
-/// name them, before anything is made of them.
-pub fn answer<F: Files>(alloc: Global, words: &[&str], files: &mut F) -> Result<Answer, NoMemory>
+/// name them, before anything is made of them. Only `serve` starts threads and waits.
+pub fn answer<R: Threads + Wait + Sync + AllocGlobal, F: Files>(
+    rt: &R,
+    words: &[&str],
+    files: &mut F,
+) -> Result<Answer, NoMemory>
     // To any words: what they ask for is answered.
     ensures asked { IfOk result (λ a. IsAnswer F.reads (request (map (λ word. word.now) words.now)) files.old a files.new) }
 
@@ -38,18 +44,27 @@ pub fn answer<F: Files>(alloc: Global, words: &[&str], files: &mut F) -> Result<
         → IfOk result (λ a. IsAnswer F.reads (Seq m s) files.old a files.new) }
     ensures run { (m s q n : Text) (k : ℕ) → map (λ word. word.now) words.now ≡ codes "run" ∷ m ∷ s ∷ q ∷ codes "-n" ∷ n ∷ [] → is_option m ≡ false → is_option s ≡ false → is_option q ≡ false → number n ≡ Some k
         → IfOk result (λ a. IsAnswer F.reads (Run (record { module_name = m; script_name = s; schedule_name = q; processes = k })) files.old a files.new) }
+    ensures serve { (m s n : Text) (k : ℕ) → map (λ word. word.now) words.now ≡ codes "serve" ∷ m ∷ s ∷ codes "-n" ∷ n ∷ [] → is_option m ≡ false → is_option s ≡ false → number n ≡ Some k
+        → IfOk result (λ a. IsAnswer F.reads (Serve m s k) files.old a files.new) }
+    ensures draw { (m s q n : Text) (k : ℕ) → map (λ word. word.now) words.now ≡ codes "draw" ∷ m ∷ s ∷ q ∷ codes "-n" ∷ n ∷ [] → is_option m ≡ false → is_option s ≡ false → is_option q ≡ false → number n ≡ Some k
+        → IfOk result (λ a. IsAnswer F.reads (Draw (record { module_name = m; script_name = s; schedule_name = q; processes = k })) files.old a files.new) }
     ensures verify { (m r : Text) → map (λ word. word.now) words.now ≡ codes "verify" ∷ m ∷ r ∷ [] → is_option m ≡ false → is_option r ≡ false
         → IfOk result (λ a. IsAnswer F.reads (Verify m r) files.old a files.new) }
 {
-    obey_words(alloc, words, files)
+    obey_words(rt, words, files)
 }
 
 /// The answer to what words ask for.
-fn obey_words<F: Files>(alloc: Global, words: &[&str], files: &mut F) -> Result<Answer, NoMemory>
+fn obey_words<R: Threads + Wait + Sync + AllocGlobal, F: Files>(
+    rt: &R,
+    words: &[&str],
+    files: &mut F,
+) -> Result<Answer, NoMemory>
     ensures { IfOk result (λ a. IsAnswer F.reads (request (map (λ word. word.now) words.now)) files.old a files.new) }
 {
+    let alloc = rt.alloc();
     match read_command(alloc, words) {
-        Ok(command) => obey(alloc, command, files),
+        Ok(command) => obey(rt, alloc, command, files),
         Err(Stop::Help(text)) => Ok(Answer::printed(alloc, text)),
         Err(Stop::Version) => Ok(Answer::printed(alloc, String::from_str(alloc, VERSION)?)),
         Err(Stop::Unclear(text)) => Ok(Answer::refused(alloc, 2, text)),
@@ -58,7 +73,12 @@ fn obey_words<F: Files>(alloc: Global, words: &[&str], files: &mut F) -> Result<
 }
 
 /// The answer to a command.
-fn obey<F: Files>(alloc: Global, command: Command<'_>, files: &mut F) -> Result<Answer, NoMemory>
+fn obey<R: Threads + Wait + Sync, F: Files>(
+    rt: &R,
+    alloc: Global,
+    command: Command<'_>,
+    files: &mut F,
+) -> Result<Answer, NoMemory>
     ensures { IfOk result (λ a. IsAnswer F.reads (request_of command.entry) files.old a files.new) }
 {
     match command {
@@ -69,6 +89,11 @@ fn obey<F: Files>(alloc: Global, command: Command<'_>, files: &mut F) -> Result<
             script_name,
         } => obey_seq(alloc, module_name, script_name, files),
         Command::Run(run) => obey_run(alloc, run, Product::Record, files),
+        Command::Serve {
+            module_name,
+            script_name,
+            processes,
+        } => obey_serve(rt, alloc, module_name, script_name, processes, files),
         Command::Draw(run) => obey_run(alloc, run, Product::Picture, files),
         Command::Verify {
             module_name,
@@ -119,6 +144,30 @@ fn obey_seq<F: Files>(
         Err(FileFault::NoMemory) => return Err(NoMemory),
     };
     answer_seq(alloc, module.as_slice(), script.as_slice())
+}
+
+/// The answer to `serve`, of the names of its files and the number of its workers.
+fn obey_serve<R: Threads + Wait + Sync, F: Files>(
+    rt: &R,
+    alloc: Global,
+    module_name: &str,
+    script_name: &str,
+    processes: usize,
+    files: &mut F,
+) -> Result<Answer, NoMemory>
+    ensures { IfOk result (λ a. IsAnswer F.reads (Serve module_name.now script_name.now processes) files.old a files.new) }
+{
+    let module = match files.read_beginning(module_name, MODULE_BYTES) {
+        Ok(bytes) => bytes,
+        Err(FileFault::Unreadable) => return Ok(unreadable(alloc, module_name)?),
+        Err(FileFault::NoMemory) => return Err(NoMemory),
+    };
+    let script = match files.read(script_name) {
+        Ok(bytes) => bytes,
+        Err(FileFault::Unreadable) => return Ok(unreadable(alloc, script_name)?),
+        Err(FileFault::NoMemory) => return Err(NoMemory),
+    };
+    answer_serve(rt, alloc, module.as_slice(), processes, script.as_slice())
 }
 
 /// The answer to `run` and to `draw`.

@@ -1,11 +1,12 @@
 //! Answers made of the bytes of files. Of a module's text they have the beginning: a module of more bytes is too long.
 
 ghost use Rattle.std.specs.Prelude.{◌≡◌, ◌≢◌, ◌<◌, ◌≤◌, ◌++◌, ◌⊎◌, ℕ, List, suc, false, take, Err, IfErr, IfOk, codes, length, string_bytes};
-ghost use Rattle.ob_answer.specs.Answers.{IsCheckAnswer, IsListAnswer, IsRunAnswer, IsSeqAnswer, IsVerifyAnswer, SaysRun};
+ghost use Rattle.ob_answer.specs.Answers.{IsCheckAnswer, IsListAnswer, IsRunAnswer, IsSeqAnswer, IsServeAnswer, IsVerifyAnswer, SaysRun};
 ghost use Rattle.ob_answer.specs.Printed.{IsRefused};
 ghost use Rattle.ob_fault_lines.specs.FaultLines.{module_fault_line};
 ghost use Rattle.ob_fault_lines.specs.RunFaultLines.{run_fault_line};
 ghost use Rattle.ob_fault_lines.specs.SequentialFaultLines.{check_fault_line, seq_fault_line};
+ghost use Rattle.ob_fault_lines.specs.ServeFaultLines.{serve_fault_line};
 ghost use Rattle.ob_fault_lines.specs.VerifyFaultLines.{verify_fault_line};
 ghost use Rattle.ob_object.specs.Performance as Performs;
 ghost use Rattle.ob_program.specs.ModuleCode.{is_module_memory};
@@ -17,6 +18,7 @@ use crate::product::Product;
 use ob_fault_lines::fault_line::module_fault_line;
 use ob_fault_lines::run_faults::run_fault_line;
 use ob_fault_lines::sequential_faults::{check_fault_line, seq_fault_line};
+use ob_fault_lines::serve_faults::serve_fault_line;
 use ob_fault_lines::verify_faults::verify_fault_line;
 use ob_grammar::NoMemory;
 use ob_object::compiling::{CompileFault, MOST_PROCESSES};
@@ -27,8 +29,11 @@ use ob_program::module_code::{ModuleTextFault, list_text};
 use ob_scan::ScanFault;
 use ob_scan::scanner::LONGEST_TEXT;
 use ob_sequential::{ModuleFault, SeqTextFault, check_text, seq_text};
+use ob_serve::{ServeTextFault, serve_text};
 use ob_verify::verifying::{VerifyFault, verify_text};
 use std::alloc::{AllocError, Global};
+use std::sync::Wait;
+use std::thread::Threads;
 
 /// The answer of `check` to the beginning of a module's text.
 pub(crate) fn answer_check(alloc: Global, module: &[u8]) -> Result<Answer, NoMemory>
@@ -147,6 +152,33 @@ fn run_refused(alloc: Global, fault: PerformFault) -> Result<Answer, NoMemory>
     match fault {
         PerformFault::NoMemory => Err(NoMemory),
         fault => Ok(refused(alloc, run_fault_line(alloc, fault)?)?),
+    }
+}
+
+/// The answer to the beginning of a module's text and to the text of a script, of a worker for each of so many processes.
+pub(crate) fn answer_serve<R: Threads + Wait + Sync>(
+    rt: &R,
+    alloc: Global,
+    module: &[u8],
+    processes: usize,
+    script: &[u8],
+) -> Result<Answer, NoMemory>
+    ensures { IfOk result (λ a. (whole : List ℕ) → «module».now ≡ take (suc LONGEST_TEXT) whole → IsServeAnswer whole processes script.now a) }
+{
+    match serve_text(rt, alloc, module, processes, script) {
+        Ok(lines) => Ok(Answer::printed(alloc, lines)),
+        Err(fault) => serve_refused(alloc, fault),
+    }
+}
+
+/// The answer to a fault of workers.
+fn serve_refused(alloc: Global, fault: ServeTextFault) -> Result<Answer, NoMemory>
+    ensures fault { IfOk result (λ a. IsRefused a 1 (serve_fault_line fault ++ codes "\n")) }
+    ensures memory { IfOk result (λ _. fault ≢ ServeTextFault.NoMemory) }
+{
+    match fault {
+        ServeTextFault::NoMemory => Err(NoMemory),
+        fault => Ok(refused(alloc, serve_fault_line(alloc, fault)?)?),
     }
 }
 

@@ -16,8 +16,8 @@ use Rattle.clap.specs.declared.parser.matches.ValueSource.TheVariants.{CommandLi
 use Rattle.clap.proofs.FaultLemmas.{stopped_fault}
 use Rattle.clap.proofs.WalkLemmas.{walk_stopped}
 use Rattle.clap.proofs.OnLiterals.{clap_on_literals}
-use Rattle.ob_command.specs.ClapCommand.{module_app, name_rule, obl0_app, run_app, top_shape}
-use Rattle.ob_command.specs.CommandLine.{Check, Draw, Help, Listing, Request, Run, RunRequest, Seq, Unclear, Verify, clap_request, is_option, number, request, request_by, run_of}
+use Rattle.ob_command.specs.ClapCommand.{module_app, name_rule, obl0_app, run_app, serve_app, top_shape}
+use Rattle.ob_command.specs.CommandLine.{Check, Draw, Help, Listing, Request, Run, RunRequest, Seq, Serve, Unclear, Verify, clap_request, is_option, number, request, request_by, run_of, serve_of}
 use Rattle.ob_command.proofs.Numbers.{PlainNumber, plain_number}
 
 -- ---- a word that is no option
@@ -167,6 +167,9 @@ abbrev pub run_leaf : Text → Shape
 run_leaf command = built_leaf (run_app command).top
     (built_name 1 (codes "MODULE") ∷ built_name 2 (codes "SCRIPT") ∷ built_name 3 (codes "SCHEDULE") ∷ built_number ∷ built_help ∷ [])
 
+abbrev pub serve_leaf : Text → Shape
+serve_leaf command = built_leaf (serve_app command).top (built_name 1 (codes "MODULE") ∷ built_name 2 (codes "SCRIPT") ∷ built_number ∷ built_help ∷ [])
+
 abbrev pub built_top : Shape
 built_top = record top_shape { rules = built_help ∷ []; is_leaf = false; is_built = true }
 
@@ -174,11 +177,11 @@ abbrev pub built_app : App
 built_app = record {
   top = built_top;
   subs = module_leaf (codes "check") ∷ module_leaf (codes "list") ∷ second_leaf (codes "seq") (codes "SCRIPT")
-      ∷ run_leaf (codes "run") ∷ run_leaf (codes "draw") ∷ second_leaf (codes "verify") (codes "RECORD") ∷ [];
+      ∷ run_leaf (codes "run") ∷ serve_leaf (codes "serve") ∷ run_leaf (codes "draw") ∷ second_leaf (codes "verify") (codes "RECORD") ∷ [];
 }
 
 abbrev pub names : Names
-names = (codes "check", []) ∷ (codes "list", []) ∷ (codes "seq", []) ∷ (codes "run", []) ∷ (codes "draw", []) ∷ (codes "verify", []) ∷ []
+names = (codes "check", []) ∷ (codes "list", []) ∷ (codes "seq", []) ∷ (codes "run", []) ∷ (codes "serve", []) ∷ (codes "draw", []) ∷ (codes "verify", []) ∷ []
 
 abbrev top_rules : List Rule
 top_rules = built_help ∷ []
@@ -286,6 +289,25 @@ run_given command m s d n no_m no_s no_d plain =
     (named (run_leaf command) (name_row (codes "MODULE") m ∷ []) (Some (codes "SCRIPT", s ∷ [])) 3 d no_d refl _ refl (codes "-n" ∷ n ∷ []) _
     (number_given command m s d n plain)))
 
+-- and of what workers run
+abbrev serve_rows : Text → Text → Text → List Row
+serve_rows m s n = name_row (codes "MODULE") m ∷ name_row (codes "SCRIPT") s ∷ number_row n ∷ []
+
+serve_given : (command m s n : Text) → is_option m ≡ false → is_option s ≡ false → PlainNumber n
+    → Goes (serve_leaf command) start (m ∷ s ∷ codes "-n" ∷ n ∷ []) (serve_rows m s n)
+unfolding clap_on_literals
+serve_given command m s n no_m no_s plain =
+    named (serve_leaf command) [] None 1 m no_m refl _ refl (s ∷ codes "-n" ∷ n ∷ []) _
+    (named (serve_leaf command) [] (Some (codes "MODULE", m ∷ [])) 2 s no_s refl _ refl (codes "-n" ∷ n ∷ []) _
+    (stepped (serve_leaf command) _ (codes "-n") refl _ refl (n ∷ []) _
+    (valued (serve_leaf command) (name_row (codes "MODULE") m ∷ name_row (codes "SCRIPT") s ∷ []) (Some (codes "N", [])) 3 (codes "N")
+    n plain.no_option _ refl [] _ (record { no_fault = ap (λ (t : Bool). or_else (or_else (if t then [] else kind.ValueValidation ∷ []) []) []) plain.passes; leaves = refl }))))
+
+serve_is : (m s n : Text) (k : ℕ) → number n ≡ Some k → serve_of m (serve_rows m s n) ≡ Some (Serve m s k)
+serve_is m s n k is =
+    let plain = plain_number n k is in
+    ap (λ (o : Option ℕ). option_map (Serve m s) o) (ap number plain.as_is ∙ is)
+
 abbrev the_run : Text → Text → Text → ℕ → RunRequest
 the_run m s d k = record { module_name = m; script_name = s; schedule_name = d; processes = k }
 
@@ -328,6 +350,13 @@ unfolding clap_on_literals
 draw_asked m s d n k no_m no_s no_d is =
     asked (codes "draw") (run_leaf (codes "draw")) refl refl refl (run_words m s d n) _ (run_given (codes "draw") m s d n no_m no_s no_d (plain_number n k is))
     ∙ ap (λ (o : Option RunRequest). unwrap_or (option_map Draw o) Unclear) (run_is m s d n k is)
+
+pub serve_asked : (m s n : Text) (k : ℕ) → is_option m ≡ false → is_option s ≡ false → number n ≡ Some k
+    → request (codes "serve" ∷ m ∷ s ∷ codes "-n" ∷ n ∷ []) ≡ Serve m s k
+unfolding clap_on_literals
+serve_asked m s n k no_m no_s is =
+    asked (codes "serve") (serve_leaf (codes "serve")) refl refl refl (m ∷ s ∷ codes "-n" ∷ n ∷ []) _ (serve_given (codes "serve") m s n no_m no_s (plain_number n k is))
+    ∙ ap (λ (o : Option Request). unwrap_or o Unclear) (serve_is m s n k is)
 
 pub help_asked : clap_request (codes "--help" ∷ []) ≡ Help
 unfolding clap_on_literals clap_request

@@ -21,7 +21,7 @@ use Rattle.std.specs.Borrow.{Bor}
 use Rattle.clap.specs.Words.{first_of, first_value}
 use Rattle.clap.specs.declared.parser.matches.Found.{Found}
 use Rattle.clap.proofs.WalkLemmas.{first_value-rows}
-use Rattle.ob_command.specs.CommandLine.{Request, Check, Draw, Help, Listing, Run, RunRequest, Seq, Unclear, Verify, clap_request, command_of, is_alone, processes_of, request, request_by, run_of}
+use Rattle.ob_command.specs.CommandLine.{Request, Check, Draw, Help, Listing, Run, RunRequest, Seq, Serve, Unclear, Verify, clap_request, command_of, is_alone, processes_of, request, request_by, run_of, serve_of}
 use Rattle.ob_command.specs.Commands.{IsReading, IsStopOf, request_of}
 use Rattle.ob_command.specs.declared.command.Stop.{Stop}
 use Rattle.ob_command.specs.declared.command.Stop.TheVariants as stops
@@ -97,6 +97,9 @@ pub a_run : (name m : Text) (rows : List Row) (run : Option RunRequest) → name
     → run_of m rows ≡ run → command_of name rows ≡ option_map Run run
 a_run name m rows run is h e = rw (is, h) (ap (option_map Run) e)
 
+pub a_serve : (name m : Text) (rows : List Row) → name ≡ codes "serve" → first_of (codes "MODULE") rows ≡ Some m → command_of name rows ≡ serve_of m rows
+a_serve name m rows is h = rw (is, h) refl
+
 pub a_draw : (name m : Text) (rows : List Row) (run : Option RunRequest) → name ≡ codes "draw" → first_of (codes "MODULE") rows ≡ Some m
     → run_of m rows ≡ run → command_of name rows ≡ option_map Draw run
 a_draw name m rows run is h e = rw (is, h) (ap (option_map Draw) e)
@@ -112,6 +115,13 @@ pub run_by : (m s : Text) (rows : List Row) (schedule_name : Option Text) (proce
     → first_of (codes "SCHEDULE") rows ≡ schedule_name → processes_of rows ≡ processes
     → run_of m rows ≡ option_and_then (λ d. option_map (λ k. record { module_name = m; script_name = s; schedule_name = d; processes = k }) processes) schedule_name
 run_by m s rows schedule_name processes h d k = rw (h, d, k) refl
+
+pub no_serve_script : (m : Text) (rows : List Row) → first_of (codes "SCRIPT") rows ≡ None → serve_of m rows ≡ None
+no_serve_script m rows h = rw h refl
+
+pub serve_by : (m s : Text) (rows : List Row) (processes : Option ℕ) → first_of (codes "SCRIPT") rows ≡ Some s → processes_of rows ≡ processes
+    → serve_of m rows ≡ option_map (Serve m s) processes
+serve_by m s rows processes h k = rw (h, k) refl
 
 -- ---- the command that was met
 

@@ -23,6 +23,10 @@ script_app command = with_rule (module_app command) (name_rule (codes "SCRIPT"))
 abbrev pub run_app : Text → App
 run_app command = with_rule (with_rule (script_app command) (name_rule (codes "SCHEDULE"))) number_rule
 
+-- `serve MODULE SCRIPT -n N`
+abbrev pub serve_app : Text → App
+serve_app command = with_rule (script_app command) number_rule
+
 -- `verify MODULE RECORD`
 abbrev pub record_app : Text → App
 record_app command = with_rule (module_app command) (name_rule (codes "RECORD"))
@@ -45,4 +49,4 @@ with_command app command = with_subcommand app command.top
 
 abbrev pub obl0_app : App
 obl0_app = fold with_command top_app (module_app (codes "check") ∷ module_app (codes "list") ∷ script_app (codes "seq")
-    ∷ run_app (codes "run") ∷ run_app (codes "draw") ∷ record_app (codes "verify") ∷ [])
+    ∷ run_app (codes "run") ∷ serve_app (codes "serve") ∷ run_app (codes "draw") ∷ record_app (codes "verify") ∷ [])

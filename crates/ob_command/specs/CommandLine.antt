@@ -18,13 +18,14 @@ pub record RunRequest : Type 0 where
   pub processes : ℕ
 
 -- What they ask for: the rules of a module checked; its code listed; the calls of a script made on it; a run's record;
--- a run's picture; the order of a record checked; help; the version; or nothing that there is. A command has the names of
+-- the record of workers' run; a run's picture; the order of a record checked; help; the version; or nothing that there is. A command has the names of
 -- its files.
 pub data Request : Type 0 where
   Check : (module_name : Text) → Request
   Listing : (module_name : Text) → Request
   Seq : (module_name script_name : Text) → Request
   Run : (run : RunRequest) → Request
+  Serve : (module_name script_name : Text) (processes : ℕ) → Request
   Draw : (run : RunRequest) → Request
   Verify : (module_name record_name : Text) → Request
   Help : Request
@@ -49,6 +50,11 @@ run_of module_name rows =
       processes = processes;
     }) (processes_of rows)) (first_of (codes "SCHEDULE") rows)) (first_of (codes "SCRIPT") rows)
 
+-- what workers run, of the same rows
+abbrev pub serve_of : Text → List Row → Option Request
+serve_of module_name rows =
+    option_and_then (λ script_name. option_map (Serve module_name script_name) (processes_of rows)) (first_of (codes "SCRIPT") rows)
+
 -- the command of a name, of the same rows
 abbrev pub command_of : Text → List Row → Option Request
 command_of name rows = option_and_then (λ module_name.
@@ -56,6 +62,7 @@ command_of name rows = option_and_then (λ module_name.
     else if bytes_eq name (codes "list") then Some (Listing module_name)
     else if bytes_eq name (codes "seq") then option_map (Seq module_name) (first_of (codes "SCRIPT") rows)
     else if bytes_eq name (codes "run") then option_map Run (run_of module_name rows)
+    else if bytes_eq name (codes "serve") then serve_of module_name rows
     else if bytes_eq name (codes "draw") then option_map Draw (run_of module_name rows)
     else if bytes_eq name (codes "verify") then option_map (Verify module_name) (first_of (codes "RECORD") rows)
     else None) (first_of (codes "MODULE") rows)

@@ -7,7 +7,7 @@ use Rattle.ob_command.specs.declared.command.Command.TheVariants as commands
 use Rattle.ob_command.specs.declared.command.RunCommand.{RunCommand}
 use Rattle.ob_command.specs.declared.command.Stop.{Stop}
 use Rattle.ob_command.specs.declared.command.Stop.TheVariants as stops
-use Rattle.ob_command.specs.CommandLine.{Request, RunRequest, Check, Listing, Seq, Run, Draw, Verify, Help, Version, Unclear}
+use Rattle.ob_command.specs.CommandLine.{Request, RunRequest, Check, Listing, Seq, Run, Serve, Draw, Verify, Help, Version, Unclear}
 
 -- what a command asks for
 abbrev pub run_request_of : RunCommand → RunRequest
@@ -23,6 +23,7 @@ request_of (commands.Check module_name) = Check module_name.now
 request_of (commands.List module_name) = Listing module_name.now
 request_of (commands.Seq module_name script_name) = Seq module_name.now script_name.now
 request_of (commands.Run run) = Run (run_request_of run)
+request_of (commands.Serve module_name script_name processes) = Serve module_name.now script_name.now processes
 request_of (commands.Draw run) = Draw (run_request_of run)
 request_of (commands.Verify module_name record_name) = Verify module_name.now record_name.now
 

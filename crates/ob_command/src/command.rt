@@ -3,8 +3,8 @@
 ghost use Rattle.std.specs.Prelude.{◌≡◌, false, true, IfOk, is_some, map, option_map};
 ghost use Rattle.clap.specs.Words.{app_of, found_of, kind_of, rows_of, rule_of};
 ghost use Rattle.clap.specs.declared.builder.command.Command.TheViews.{out-Command as fields_of};
-ghost use Rattle.ob_command.specs.ClapCommand.{module_app, name_rule, number_rule, obl0_app, record_app, run_app, script_app, top_app};
-ghost use Rattle.ob_command.specs.CommandLine.{clap_request, command_of, is_alone, request, run_of};
+ghost use Rattle.ob_command.specs.ClapCommand.{module_app, name_rule, number_rule, obl0_app, record_app, run_app, script_app, serve_app, top_app};
+ghost use Rattle.ob_command.specs.CommandLine.{clap_request, command_of, is_alone, request, run_of, serve_of};
 ghost use Rattle.ob_command.specs.Commands.{IsReading, IsStopOf, request_of, run_request_of};
 ghost use Rattle.ob_command.specs.declared.command.Stop.TheVariants.{NoMemory};
 
@@ -30,6 +30,12 @@ pub enum Command<'a> {
     },
     /// `run MODULE SCRIPT SCHEDULE -n N`: the record of a run.
     Run(RunCommand<'a>),
+    /// `serve MODULE SCRIPT -n N`: the record of a run by workers, one for each process.
+    Serve {
+        module_name: &'a str,
+        script_name: &'a str,
+        processes: usize,
+    },
     /// `draw MODULE SCRIPT SCHEDULE -n N`: the same run as a picture.
     Draw(RunCommand<'a>),
     /// `verify MODULE RECORD`: whether the order of a record is a legal order of its calls.
@@ -73,6 +79,9 @@ const ABOUT_SEQ: &str = "Makes the calls of a script one at a time and prints th
 
 const ABOUT_RUN: &str =
     "Makes the calls of a script by the steps of a schedule and prints the record of the run";
+
+const ABOUT_SERVE: &str =
+    "Makes the calls of a script by a worker for each process and prints the record of the run";
 
 const ABOUT_DRAW: &str = "Makes the same run as `run` and prints a picture of it in SVG";
 
@@ -136,6 +145,7 @@ fn command_of<'a>(name: &str, matches: &ArgMatches<'a>) -> Option<Command<'a>>
             script_name: matches.get_str("SCRIPT")?,
         }),
         "run" => Some(Command::Run(run_of(module_name, matches)?)),
+        "serve" => serve_of(module_name, matches),
         "draw" => Some(Command::Draw(run_of(module_name, matches)?)),
         "verify" => Some(Command::Verify {
             module_name,
@@ -160,6 +170,19 @@ fn run_of<'a>(module_name: &'a str, matches: &ArgMatches<'a>) -> Option<RunComma
     })
 }
 
+/// What workers run, of the matches of the words behind `serve`.
+fn serve_of<'a>(module_name: &'a str, matches: &ArgMatches<'a>) -> Option<Command<'a>>
+    ensures { option_map request_of result ≡ serve_of module_name.entry.now (rows_of (found_of matches.now)) }
+{
+    let script_name = matches.get_str("SCRIPT")?;
+    let workers = matches.get_one::<u16>("N")?;
+    Some(Command::Serve {
+        module_name,
+        script_name,
+        processes: usize::from(workers),
+    })
+}
+
 /// What a parse without matches stops for.
 fn stop_of(alloc: Global, error: &clap::Error) -> Result<Stop, AllocError>
     ensures { IfOk result (IsStopOf (kind_of error.now)) }
@@ -179,6 +202,7 @@ fn command_line<'a>(alloc: Global) -> Result<clap::Command<'a>, AllocError>
     let list = module_line(alloc, "list", "Prints the code of a module")?;
     let seq = script_line(alloc, "seq", ABOUT_SEQ)?;
     let run = run_line(alloc, "run", ABOUT_RUN)?;
+    let serve = serve_line(alloc, "serve", ABOUT_SERVE)?;
     let draw = run_line(alloc, "draw", ABOUT_DRAW)?;
     let verify = record_line(alloc, "verify", ABOUT_VERIFY)?;
     program_line(alloc)?
@@ -186,6 +210,7 @@ fn command_line<'a>(alloc: Global) -> Result<clap::Command<'a>, AllocError>
         .subcommand(list)?
         .subcommand(seq)?
         .subcommand(run)?
+        .subcommand(serve)?
         .subcommand(draw)?
         .subcommand(verify)
 }
@@ -222,6 +247,18 @@ fn run_line<'a>(
     script_line(alloc, command, about)?
         .arg(schedule)?
         .arg(process_count(alloc))
+}
+
+/// The words behind a command on a module and a script, for a number of processes.
+fn serve_line<'a>(
+    alloc: Global,
+    command: &'a str,
+    about: &'a str,
+) -> Result<clap::Command<'a>, AllocError>
+    ensures app { IfOk result (λ c. app_of c ≡ serve_app command.entry.now) }
+    ensures local { IfOk result (λ c. (fields_of c).has_globals ≡ false) }
+{
+    script_line(alloc, command, about)?.arg(process_count(alloc))
 }
 
 /// The words behind a command on a module and a script.

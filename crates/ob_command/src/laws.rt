@@ -1,7 +1,7 @@
 //! What plain words ask for. What a function here ensures is proved; it does nothing.
 
 ghost use Rattle.std.specs.Prelude.{◌≡◌, ℕ, Some, [], ◌∷◌, false, codes};
-ghost use Rattle.ob_command.specs.CommandLine.{Check, Draw, Help, Listing, Run, Seq, Text, Unclear, Verify, is_option, number, request};
+ghost use Rattle.ob_command.specs.CommandLine.{Check, Draw, Help, Listing, Run, Seq, Serve, Text, Unclear, Verify, is_option, number, request};
 
 /// `check` and a name that is no option.
 pub fn check_is_asked()
@@ -23,6 +23,12 @@ pub fn run_is_asked()
     ensures { (m s d n : Text) (k : ℕ) → is_option m ≡ false → is_option s ≡ false → is_option d ≡ false → number n ≡ Some k
         → request (codes "run" ∷ m ∷ s ∷ d ∷ codes "-n" ∷ n ∷ [])
         ≡ Run (record { module_name = m; script_name = s; schedule_name = d; processes = k }) }
+{}
+
+/// `serve` and two names that are no options, and `-n` with a number.
+pub fn serve_is_asked()
+    ensures { (m s n : Text) (k : ℕ) → is_option m ≡ false → is_option s ≡ false → number n ≡ Some k
+        → request (codes "serve" ∷ m ∷ s ∷ codes "-n" ∷ n ∷ []) ≡ Serve m s k }
 {}
 
 /// `draw` and the words of a run.

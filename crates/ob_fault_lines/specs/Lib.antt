@@ -3,4 +3,5 @@ pub mod ScriptFaultLines
 pub mod FaultLines
 pub mod SequentialFaultLines
 pub mod RunFaultLines
+pub mod ServeFaultLines
 pub mod VerifyFaultLines

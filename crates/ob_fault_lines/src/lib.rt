@@ -6,4 +6,5 @@ pub mod module_faults;
 pub mod run_faults;
 pub mod script_faults;
 pub mod sequential_faults;
+pub mod serve_faults;
 pub mod verify_faults;

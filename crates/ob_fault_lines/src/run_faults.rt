@@ -26,7 +26,7 @@ pub fn run_fault_line(alloc: Global, fault: PerformFault) -> Result<String, Allo
     Ok(line)
 }
 
-fn push_compile_fault(line: &mut String, fault: CompileFault) -> Result<(), AllocError>
+pub(crate) fn push_compile_fault(line: &mut String, fault: CompileFault) -> Result<(), AllocError>
     ensures { OnOk result (string_bytes line.new ≡ string_bytes line.old ++ compile_line fault) }
 {
     match fault {

@@ -18,7 +18,7 @@ use Rattle.ob_printed_runs.proofs.Reached as Reached
 use Rattle.ob_printed_runs.proofs.Reached.{FitsBoth}
 use Rattle.ob_printed_runs.proofs.Replied.{all_begun, last_typed, replied}
 use Rattle.ob_printed_runs.proofs.Values.{state_plain}
-use Rattle.ob_printed_runs.specs.Performed.{PerformedIsWritable, PrintedIsVerified}
+use Rattle.ob_printed_runs.specs.Performed.{PerformedIsWritable, PrintedIsVerified, ServedIsVerified}
 use Rattle.ob_read_back.proofs.ReadBack.{written_is_read}
 use Rattle.ob_read_back.specs.Writable.{FitsExport, IsCounted, IsNamed, IsReplyOf, IsWord, IsWritable, IsWritableEvent, RepliesTo, told_by}
 use Rattle.ob_record.specs.Record.{Record}
@@ -214,3 +214,13 @@ printed_is_verified text n scripts schedule output printed =
     ∥∥₁_map p.legal (λ legal.
     subst (λ (bytes : List ℕ). IsVerified text bytes) (sym printed.printed)
     (verified text n scripts p.object p.compiled p.calls p.calls_are shows.state shows.played.runs printed.shown shows.processes shows.history shows.order shows.schedule printed.events legal))
+
+-- ---- runs by workers
+
+pub served_is_verified : ServedIsVerified
+served_is_verified text n scripts output printed =
+    let read = printed.read in
+    let shows = printed.is_record in
+    ∥∥₁_map shows.legal (λ legal.
+    subst (λ (bytes : List ℕ). IsVerified text bytes) (sym printed.printed)
+    (verified text n scripts printed.object read.compiled printed.calls read.calls_are shows.state shows.runs printed.shown shows.processes shows.history shows.order shows.schedule printed.events legal))

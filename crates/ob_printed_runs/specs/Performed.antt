@@ -1,10 +1,11 @@
--- Records of runs from texts: they are writable, and what is printed of them is verified.
+-- Records of runs from texts, by a schedule or by workers: they are writable, and what is printed of them is verified.
 use Rattle.std.specs.Prelude.{ℕ, ◌<◌, ◌^◌, List, length}
 use Rattle.ob_check.specs.Exports.{signatures}
 use Rattle.ob_object.specs.Performance.{IsPerformance}
 use Rattle.ob_object.specs.Printed.{IsRecordPrinted}
 use Rattle.ob_read_back.specs.Writable.{IsWritable}
 use Rattle.ob_record.specs.Record.{Record}
+use Rattle.ob_serve.specs.ServedTexts.{IsServedPrinted}
 use Rattle.ob_verify.specs.Verified.{IsVerified}
 
 -- the record of a run, with fewer than 2^64 events, is writable for the exports of the run's module
@@ -17,4 +18,10 @@ PerformedIsWritable =
 abbrev pub PrintedIsVerified : Type 0
 PrintedIsVerified =
     (text : List ℕ) (n : ℕ) (scripts schedule output : List ℕ) → IsRecordPrinted text n scripts schedule output →
+    ∥ IsVerified text output ∥₁
+
+-- and so is what is printed of workers
+abbrev pub ServedIsVerified : Type 0
+ServedIsVerified =
+    (text : List ℕ) (n : ℕ) (scripts output : List ℕ) → IsServedPrinted text n scripts output →
     ∥ IsVerified text output ∥₁

@@ -13,6 +13,8 @@ use ob_answer::answered::Answer;
 use refusal::{Refusal, refusal_of_words};
 use std::process::ExitCode;
 use std::rt::{Env, Files};
+use std::sync::Wait;
+use std::thread::Threads;
 use std::{env, thread};
 
 /// The bytes of stack that all the work is done on. A tree is walked by recursion, at most 100 constructs deep, which takes
@@ -31,7 +33,7 @@ fn main(rt: HostRuntime) -> ExitCode {
 }
 
 /// Answers the words of the command line, and gives the exit status.
-fn end<R: Env + Files + AllocGlobal + Print + Eprint>(rt: &R) -> u8 {
+fn end<R: Env + Files + AllocGlobal + Print + Eprint + Threads + Wait + Sync>(rt: &R) -> u8 {
     match answered(rt) {
         Ok(status) => status,
         Err(refusal) => told(rt, refusal),
@@ -47,13 +49,15 @@ fn told<R: Eprint>(rt: &R, refusal: Refusal) -> u8
 }
 
 /// Answers the words of the command line, and gives the exit status, where the host refuses nothing.
-fn answered<R: Env + Files + AllocGlobal + Print + Eprint>(rt: &R) -> Result<u8, Refusal> {
+fn answered<R: Env + Files + AllocGlobal + Print + Eprint + Threads + Wait + Sync>(
+    rt: &R,
+) -> Result<u8, Refusal> {
     let alloc = rt.alloc();
     let arguments = env::args(rt).map_err(refusal_of_words)?;
     let given: Vec<String> = arguments.skip(1).collect(alloc)?;
     let words: Vec<&str> = given.iter().map(|word| word.as_str()).collect(alloc)?;
     let mut files = HostFiles { rt };
-    let answer = answer(alloc, words.as_slice(), &mut files)?;
+    let answer = answer(rt, words.as_slice(), &mut files)?;
     printed(rt, &answer)
 }
 

@@ -1,5 +1,5 @@
 use Rattle.std.proofs.Common.{map}
-use Rattle.ob_command.proofs.ClapWords.{check_asked, list_asked, run_asked, seq_asked, verify_asked}
+use Rattle.ob_command.proofs.ClapWords.{check_asked, draw_asked, list_asked, run_asked, seq_asked, serve_asked, verify_asked}
 use Rattle.ob_answer.proofs.PlainWords.{answered_as}
 use Rattle.ob_answer.proofs.answer.answer.Goals as goal
 
@@ -15,6 +15,14 @@ returns-clause-seq g c m s is no_m no_s = answered_as g.F.Files.reads (map (λ w
 pub returns-clause-run : goal.returns-clause-run
 returns-clause-run g c m s q n k is no_m no_s no_q number =
     answered_as g.F.Files.reads (map (λ word. word.now) c.args.words.now) _ _ _ _ c.obey_words.result is (run_asked m s q n k no_m no_s no_q number) c.obey_words.ensures
+
+pub returns-clause-serve : goal.returns-clause-serve
+returns-clause-serve g c m s n k is no_m no_s number =
+    answered_as g.F.Files.reads (map (λ word. word.now) c.args.words.now) _ _ _ _ c.obey_words.result is (serve_asked m s n k no_m no_s number) c.obey_words.ensures
+
+pub returns-clause-draw : goal.returns-clause-draw
+returns-clause-draw g c m s q n k is no_m no_s no_q number =
+    answered_as g.F.Files.reads (map (λ word. word.now) c.args.words.now) _ _ _ _ c.obey_words.result is (draw_asked m s q n k no_m no_s no_q number) c.obey_words.ensures
 
 pub returns-clause-verify : goal.returns-clause-verify
 returns-clause-verify g c m r is no_m no_r = answered_as g.F.Files.reads (map (λ word. word.now) c.args.words.now) _ _ _ _ c.obey_words.result is (verify_asked m r no_m no_r) c.obey_words.ensures

@@ -12,6 +12,9 @@ returns-in-Seq g c = rw c.in-Seq.is c.obey_seq.ensures
 pub returns-in-Run : goal.returns-in-Run
 returns-in-Run g c = rw c.in-Run.is c.obey_run.ensures
 
+pub returns-in-Serve : goal.returns-in-Serve
+returns-in-Serve g c = rw c.in-Serve.is c.obey_serve.ensures
+
 pub returns-in-Draw : goal.returns-in-Draw
 returns-in-Draw g c = rw c.in-Draw.is c.obey_run-in-Draw.ensures
 

@@ -16,6 +16,7 @@ returns c =
     let list = with_one _ _ _ _ _ c.in_ok-subcommand-2.ensures check c.in_ok-list.ensures.local c.in_ok-list.ensures.app in
     let seq = with_one _ _ _ _ _ c.in_ok-subcommand-3.ensures list c.in_ok-seq.ensures.local c.in_ok-seq.ensures.app in
     let run = with_one _ _ _ _ _ c.in_ok-subcommand-4.ensures seq c.in_ok-run.ensures.local c.in_ok-run.ensures.app in
-    let draw = with_one _ _ _ _ _ c.in_ok-subcommand-5.ensures run c.in_ok-draw.ensures.local c.in_ok-draw.ensures.app in
-    IfOk-weaker c.subcommand-6.result _ _
-    (λ whole adds. with_one _ _ whole _ _ adds draw c.in_ok-verify.ensures.local c.in_ok-verify.ensures.app) c.subcommand-6.ensures
+    let serve = with_one _ _ _ _ _ c.in_ok-subcommand-5.ensures run c.in_ok-serve.ensures.local c.in_ok-serve.ensures.app in
+    let draw = with_one _ _ _ _ _ c.in_ok-subcommand-6.ensures serve c.in_ok-draw.ensures.local c.in_ok-draw.ensures.app in
+    IfOk-weaker c.subcommand-7.result _ _
+    (λ whole adds. with_one _ _ whole _ _ adds draw c.in_ok-verify.ensures.local c.in_ok-verify.ensures.app) c.subcommand-7.ensures

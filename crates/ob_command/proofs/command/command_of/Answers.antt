@@ -1,7 +1,7 @@
 use Rattle.std.proofs.Common.{◌∙◌, ap, codes, option_map, sym}
 use Rattle.clap.specs.Words.{found_of, rows_of}
 use Rattle.ob_command.specs.Commands.{request_of, run_request_of}
-use Rattle.ob_command.proofs.Readings.{a_check, a_draw, a_list, a_run, a_seq, a_verify, first_row, no_module}
+use Rattle.ob_command.proofs.Readings.{a_check, a_draw, a_list, a_run, a_seq, a_serve, a_verify, first_row, no_module}
 use Rattle.ob_command.proofs.command.command_of.Goals as goal
 
 pub returns-in_err-module_name : goal.returns-in_err-module_name
@@ -45,6 +45,12 @@ returns-in_ok-run_of-in-run c =
     (ap (option_map (λ s. s.now)) c.in_ok-module_name.was) in
     sym (a_run c.args.name.now _ (rows_of (found_of c.args.matches.now)) _ c.in-run.is m
     (sym c.run_of.ensures ∙ ap (option_map run_request_of) c.in_ok-run_of-in-run.was))
+
+pub returns-in-serve : goal.returns-in-serve
+returns-in-serve c =
+    let m = first_row (found_of c.args.matches.now) (codes "MODULE") c.get_str.result _ c.get_str.ensures
+    (ap (option_map (λ s. s.now)) c.in_ok-module_name.was) in
+    c.serve_of.ensures ∙ sym (a_serve c.args.name.now _ (rows_of (found_of c.args.matches.now)) c.in-serve.is m)
 
 pub returns-in_ok-run_of-in-draw : goal.returns-in_ok-run_of-in-draw
 returns-in_ok-run_of-in-draw c =

@@ -1,0 +1,35 @@
+-- The line that tells each fault of workers served from texts.
+use Rattle.std.specs.Prelude.{ℕ, ◌++◌, codes, decimal}
+use Rattle.ob_desk.specs.declared.fault.CloseFault.{CloseFault}
+use Rattle.ob_desk.specs.declared.fault.CloseFault.TheVariants as Close
+use Rattle.ob_serve.specs.declared.fault.ServeFault.{ServeFault}
+use Rattle.ob_serve.specs.declared.fault.ServeFault.TheVariants as Serve
+use Rattle.ob_serve.specs.declared.texts.ServeTextFault.{ServeTextFault}
+use Rattle.ob_serve.specs.declared.texts.ServeTextFault.TheVariants as Faults
+use Rattle.ob_fault_lines.specs.ModuleFaultLines.{Text, no_memory_line}
+use Rattle.ob_fault_lines.specs.RunFaultLines.{compile_line}
+use Rattle.ob_fault_lines.specs.ScriptFaultLines.{script_line}
+
+-- of a process
+abbrev pub of_process : Text → ℕ → Text
+of_process fault process = fault ++ codes " process " ++ decimal process
+
+abbrev pub close_line : CloseFault → Text
+close_line (Close.Stranger process) = of_process (codes "K1") process
+close_line (Close.Uneven process) = of_process (codes "K2") process
+close_line Close.OtherFloor = codes "K5"
+close_line (Close.Disagrees process) = of_process (codes "K3") process
+close_line Close.NoMemory = no_memory_line
+
+abbrev pub serve_line : ServeFault → Text
+serve_line (Serve.NotStarted process) = of_process (codes "V3") process
+serve_line Serve.NoMemory = no_memory_line
+serve_line (Serve.Refused process) = of_process (codes "V1") process
+serve_line (Serve.Lost process) = of_process (codes "V2") process
+serve_line (Serve.Close e) = close_line e
+
+abbrev pub serve_fault_line : ServeTextFault → Text
+serve_fault_line (Faults.Compile e) = compile_line e
+serve_fault_line (Faults.Script e) = script_line e
+serve_fault_line (Faults.Serve e) = serve_line e
+serve_fault_line Faults.NoMemory = no_memory_line
