@@ -9,7 +9,9 @@ ghost use Rattle.ob_command.specs.Commands.{request_of, run_request_of};
 
 use crate::answered::Answer;
 use crate::files::{FileFault, Files};
-use crate::making::{answer_check, answer_list, answer_run, answer_seq, answer_serve, answer_verify};
+use crate::making::{
+    answer_check, answer_list, answer_run, answer_seq, answer_serve, answer_verify,
+};
 use crate::product::Product;
 use crate::shown_name::push_name;
 use ob_command::command::{Command, RunCommand, Stop, read_command};
