@@ -2,3 +2,9 @@ pub mod SameValues
 pub mod SameStores
 pub mod SameExpressions
 pub mod SameStatements
+pub mod Known
+pub mod ResolvedExpressions
+pub mod ResolvedStatements
+pub mod ResolvedScopes
+pub mod ResolvedModules
+pub mod SameCalls

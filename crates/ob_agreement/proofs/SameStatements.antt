@@ -123,7 +123,7 @@ module _ (one other : Scopes) (n : ℕ) (agree : (k : ℕ) → k < n → scope_a
       let less = h.1.1 in
       (h.0, (place_moved p.type a b h.1.0 (omega (arith, less, le)), less))
 
-  activation_moved : (k : ℕ) → k ≤ n → (ps : List Parameter) (bs : Names.Activation) (hs : Activation) → SameActivation one k ps bs hs → SameActivation other k ps bs hs
+  pub activation_moved : (k : ℕ) → k ≤ n → (ps : List Parameter) (bs : Names.Activation) (hs : Activation) → SameActivation one k ps bs hs → SameActivation other k ps bs hs
   activation_moved k le [] [] [] h = tt
   activation_moved k le [] [] (g ∷ hs) h = absurd h
   activation_moved k le [] (b ∷ bs) hs h = absurd h
@@ -173,7 +173,7 @@ from_left all k (r ∷ rest) s (a ∷ []) (b ∷ ss) h = absurd (no_store all (s
 from_left all k (r ∷ rest) s (a ∷ x ∷ ms) (b ∷ []) h = absurd (no_named all (suc k) rest s (x ∷ ms) h.1)
 from_left all k (r ∷ rest) s (a ∷ x ∷ ms) (b ∷ y ∷ ss) h = (h.0, from_left all (suc k) rest s (x ∷ ms) (y ∷ ss) h.1)
 
-entered : (scopes : Scopes) (ms : Names.Store) (ss : Store) (p : Procedure) (hs : List Names.Held) (gs : List Held) → AreDistinct (scope_of p) →
+pub entered : (scopes : Scopes) (ms : Names.Store) (ss : Store) (p : Procedure) (hs : List Names.Held) (gs : List Held) → AreDistinct (scope_of p) →
     SameStore scopes ms ss → SameHanded scopes p.parameters hs gs →
     SameStore (scopes ++ scope_of p ∷ []) (ms ++ Meanings.activation_of p hs ∷ []) (ss ++ activation_of p gs ∷ [])
 entered scopes ms ss p hs gs d h k =
@@ -277,7 +277,7 @@ module _ (program : Program) (good : IsResolved program) (call : Meanings.Calls)
 
 -- calls
 
-first_of : (scopes : Scopes) (s : List Parameter) (outer : List Parameter) → 0 < length scopes → scope_at scopes 0 ≡ outer → scope_at (scopes ++ s ∷ []) 0 ≡ outer
+pub first_of : (scopes : Scopes) (s : List Parameter) (outer : List Parameter) → 0 < length scopes → scope_at scopes 0 ≡ outer → scope_at (scopes ++ s ∷ []) 0 ≡ outer
 first_of [] s outer b h = absurd (omega (arith, b))
 first_of (x ∷ scopes) s outer b h = h
 

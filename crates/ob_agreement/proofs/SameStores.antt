@@ -26,7 +26,7 @@ module _ (scopes : Scopes) where
       (held_same k ps bs hs name i p h.1.1 at.1)
 
   -- an activation stands at its position
-  activation_same : (k n i : ℕ) (rest : Scopes) (ms : Names.Store) (ss : Store) → n ≡ k + i → SameFrom scopes k rest ms ss →
+  pub activation_same : (k n i : ℕ) (rest : Scopes) (ms : Names.Store) (ss : Store) → n ≡ k + i → SameFrom scopes k rest ms ss →
       SameActivation scopes n (scope_at rest i) (Names.activation_at ms i) (activation_at ss i)
   activation_same k n i [] [] [] e h = tt
   activation_same k n i [] [] (b ∷ ss) e h = absurd h

@@ -1,17 +1,20 @@
 -- When a value, a place or a store by position is one by name: the names stand at their positions, and the values are
 -- of their types.
-use Rattle.std.specs.Prelude.{◌≡◌, ℕ, zero, suc, ◌<◌, true, false, List, [], ◌∷◌, length, slice_get, Option, Some, None}
+use Rattle.std.specs.Prelude.{◌≡◌, ℕ, zero, suc, ◌<◌, true, false, not, List, [], ◌∷◌, filter, length, slice_get, Option, Some, None}
 use Rattle.ob_typing.specs.declared.scalar.Scalar.{Scalar}
 use Rattle.ob_typing.specs.declared.scalar.ScalarType.{ScalarType}
-use Rattle.ob_typing.specs.Program.{DataType, Simple, Array, Record, Fields, no_field, field, Parameter}
+use Rattle.ob_typing.specs.Program.{DataType, Simple, Array, Record, Fields, no_field, field, Parameter, Procedure, Program, exports}
 use Rattle.ob_typing.specs.Arithmetic.{Evaluated, Gives, Traps, type_of}
 use Rattle.ob_meaning.specs.Value as Named
 use Rattle.ob_meaning.specs.Store as Names
 use Rattle.ob_meaning.specs.Statements as Meanings
+use Rattle.ob_meaning.specs.Object as Objects
+use Rattle.ob_meaning.specs.Object.{ObjectCall, State}
 use Rattle.ob_positions.specs.Value.{Value, Values, Single, Parts, no_part, part}
 use Rattle.ob_positions.specs.Store.{Place, Held, Holds, Refers, Activation, Store}
 use Rattle.ob_positions.specs.Statements.{Outcome, Done, Trap, NotYet}
-use Rattle.ob_agreement.specs.Resolved.{IsAt, IsFieldAt, NoneCalled}
+use Rattle.ob_positions.specs.Object.{Effect, Ends, NeedsMore}
+use Rattle.ob_agreement.specs.Resolved.{module_scope, IsAt, IsFieldAt, NoneCalled}
 
 -- one scalar of this type
 abbrev pub SameScalar : ScalarType → Scalar → Scalar → Type 0
@@ -120,3 +123,25 @@ SameOutcome scopes (Meanings.Done t named) (Done u store) = (t ≡ u) × SameSto
 SameOutcome scopes (Meanings.Trap k) (Trap j) = k ≡ j
 SameOutcome scopes Meanings.NotYet NotYet = Unit {0}
 SameOutcome scopes o r = ⊥
+
+-- one state of the module: its variables, each with one value
+abbrev pub SameState : Program → State → Activation → Type 0
+SameState program = SameActivation (module_scope program ∷ []) 0 (module_scope program)
+
+-- one effect of a call from outside: one state and one reply, or more turns are needed
+abbrev pub SameEffect : Program → Objects.Effect → Effect → Type 0
+SameEffect program (Objects.Ends state reply) (Ends activation answer) = SameState program state activation × (reply ≡ answer)
+SameEffect program Objects.NeedsMore NeedsMore = Unit {0}
+SameEffect program e f = ⊥
+
+-- a value of its type for each of these parameters, in their order
+abbrev pub AreValuesOf : List Parameter → List Scalar → Type 0
+AreValuesOf [] [] = Unit {0}
+AreValuesOf (p ∷ parameters) (a ∷ arguments) = (p.type ≡ Simple (type_of a)) × AreValuesOf parameters arguments
+AreValuesOf parameters arguments = ⊥
+
+-- a call that fits an export: it has a value for each value parameter
+pub record FitsExport (program : Program) (call : ObjectCall) : Type 0 where
+  pub procedure : Procedure
+  pub export : slice_get (exports program) call.export ≡ Some procedure
+  pub arguments : AreValuesOf (filter (λ p. not p.is_var) procedure.parameters) call.arguments

@@ -1,15 +1,18 @@
 //! What holds of the two meanings, as functions that do nothing: their contracts are the laws.
 
 ghost use Rattle.std.specs.Prelude.{◌≡◌, ℕ, ◌<◌, List, [], ◌∷◌, length, slice_get, Some};
+ghost use Rattle.ob_grammar.specs.Tree.{Module};
+ghost use Rattle.ob_typing.specs.Declarations.{WellTyped};
 ghost use Rattle.ob_typing.specs.Program.{Procedure, Program};
 ghost use Rattle.ob_meaning.specs.Object as Objects;
+ghost use Rattle.ob_meaning.specs.Object.{ObjectCall, State};
 ghost use Rattle.ob_meaning.specs.Statements as Meanings;
 ghost use Rattle.ob_meaning.specs.Store as Names;
 ghost use Rattle.ob_positions.specs.Object as ObjectsByPosition;
 ghost use Rattle.ob_positions.specs.Statements as Positions;
-ghost use Rattle.ob_positions.specs.Store.{Store, Held};
+ghost use Rattle.ob_positions.specs.Store.{Activation, Store, Held};
 ghost use Rattle.ob_agreement.specs.Resolved.{IsResolved, module_scope};
-ghost use Rattle.ob_agreement.specs.Same.{Scopes, scope_at, SameStore, SameHanded, SameOutcome};
+ghost use Rattle.ob_agreement.specs.Same.{Scopes, scope_at, SameStore, SameHanded, SameOutcome, SameState, SameEffect, FitsExport};
 
 /// A call in the text comes to the same by position as by name, and what variables have afterwards are values of
 /// their types.
@@ -21,4 +24,14 @@ pub fn calls_agree()
 /// So does the opening.
 pub fn openings_agree()
     ensures { (program : Program) → IsResolved program → (turns : ℕ) → SameOutcome (module_scope program ∷ []) (Objects.opening program turns) (ObjectsByPosition.opening program turns) }
+{}
+
+/// The program of a well typed module is resolved.
+pub fn well_typed_is_resolved()
+    ensures { (m : Module) (program : Program) → WellTyped m program → IsResolved program }
+{}
+
+/// A call from outside that fits an export comes to the same by position as by name: one state and one reply.
+pub fn calls_from_outside_agree()
+    ensures { (program : Program) → IsResolved program → (call : ObjectCall) → FitsExport program call → (turns : ℕ) (state : State) (activation : Activation) → SameState program state activation → SameEffect program (Objects.effect program call turns state) (ObjectsByPosition.effect program call turns activation) }
 {}
