@@ -1,6 +1,6 @@
 -- Bytes up to line feeds, and the lines behind them.
-use Rattle.std.proofs.Common.{◌≡◌, ◌+◌, ◌-◌, ◌<◌, ◌==◌, ℕ, zero, suc, Bool, cond, not, true, false, List, [], ◌∷◌, length, drop, get_or, slice_get, Some, refl, sym, ap, ◌∙◌, arith}
-use Rattle.std.specs.List.{onto_first, slice_split, take_while}
+use Rattle.std.proofs.Common.{◌≡◌, ◌+◌, ◌-◌, ◌<◌, ◌==◌, ℕ, zero, suc, Bool, cond, not, true, false, List, [], ◌∷◌, length, drop, get_or, slice_get, Some, refl, ap, ◌∙◌, arith}
+use Rattle.std.specs.List.{onto_first, take_while}
 use Rattle.std.proofs.lemmas.List.{at_drop_more}
 use Rattle.std.proofs.lemmas.List.Splits.{length-slice_split}
 use Rattle.std.proofs.lemmas.List.Sums.{take_while-cons}

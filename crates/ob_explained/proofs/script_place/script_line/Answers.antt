@@ -1,4 +1,4 @@
-use Rattle.std.proofs.Common.{◌≡◌, ◌+◌, ◌-◌, ◌≤◌, ◌∙◌, ap, arith, length, sym}
+use Rattle.std.proofs.Common.{◌≡◌, ◌+◌, ◌-◌, ◌∙◌, ap, arith}
 use Rattle.ob_explain.specs.Places.{line_from}
 use Rattle.ob_explained.specs.ScriptPlaces.{behind_feeds}
 use Rattle.ob_explained.proofs.Feeds.{line_told}
