@@ -21,6 +21,9 @@ MARK = "\ue000"
 # the line of a fault with a number, and that of what the machine refuses
 FAULT = re.compile(rb"[A-Z]\d+( (at|trap|line|item|process) \d+| \d+\.\d+| \w+)?\n")
 REFUSAL = re.compile(rb"(NoMemory|cannot [^\n]*)\n")
+# that a sentence is shown at a place of a file
+EXPLAINED = re.compile(r"shown in (\w+) at (\d+): (.*)")
+WORD = re.compile(rb"[A-Za-z][A-Za-z0-9]*")
 NO_MEMORY = b"NoMemory\n"
 
 
@@ -123,14 +126,30 @@ def tabled(row, text, answer, place):
     return answered(replace(row, files=files), answer)
 
 
+def explained(name, text, place, sentence):
+    """What `explain` shows of a fault at a place of a text with this name: the place by line and column, the line, a mark below the
+    column, and the name or keyword there with the sentence."""
+    begin = text.rfind(b"\n", 0, place) + 1
+    line = text[begin:].split(b"\n")[0]
+    seen = bytes(it if it == 9 or 32 <= it <= 126 else 32 if it == 13 else 63 for it in line)
+    below = bytes(9 if it == 9 else 32 for it in text[begin:place])
+    word = WORD.match(line[place - begin :])
+    named = b"`" + word[0] + b"`: " if word else b""
+    at = f"{name}:{text.count(10, 0, place) + 1}:{place - begin + 1}"
+    return b"".join(it + b"\n" for it in (at.encode(), seen, below + b"^", named + sentence.encode()))
+
+
 def answered(row, answer):
-    """The row with the answer of a table: 'is read', 'nothing', the line of a fault, or what is printed."""
+    """The row with the answer of a table: 'is read', 'nothing', what is shown, the line of a fault, or what is printed."""
     if not answer:
         return row
     if answer == "is read":
         return replace(row, is_read=True, out=None, err=None)
     if answer == "nothing":
         return replace(row, out=b"", err=b"")
+    told = EXPLAINED.fullmatch(answer)
+    if told:
+        return replace(row, out=b"", err=explained(told[1], expand(row.files[told[1]]), int(told[2]), told[3]))
     lines = expand(answer.replace(" / ", "\n") + "\n")
     is_fault = FAULT.fullmatch(lines) or REFUSAL.fullmatch(lines)
     return replace(row, out=b"", err=lines) if is_fault else replace(row, out=lines, err=b"")

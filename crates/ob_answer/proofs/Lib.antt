@@ -1,3 +1,4 @@
 pub mod Beginnings
 pub mod Made
+pub mod Explaining
 pub mod PlainWords

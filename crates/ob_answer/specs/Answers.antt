@@ -1,5 +1,5 @@
 -- What the program answers to a request, by what reads of files give.
-use Rattle.std.specs.Prelude.{◌≡◌, ℕ, List, [], ◌∷◌, ◌++◌, Result, codes}
+use Rattle.std.specs.Prelude.{◌≡◌, ℕ, List, [], ◌∷◌, ◌++◌, Option, Some, None, Result, codes}
 use Rattle.ob_answer.specs.declared.answered.Answer.{Answer}
 use Rattle.ob_answer.specs.declared.files.FileFault.{FileFault}
 use Rattle.ob_fault_lines.specs.FaultLines.{module_fault_line}
@@ -19,9 +19,10 @@ use Rattle.ob_serve.specs.ServedTexts.{IsServedPrinted, IsServeTextFault}
 use Rattle.ob_verify.specs.Verified.{IsVerified}
 use Rattle.ob_verify.specs.VerifyFaults as Verifies
 use Rattle.ob_verify.specs.VerifyFaults.{IsVerifyFault}
-use Rattle.ob_command.specs.CommandLine.{Text, Request, RunRequest, Check, Listing, Seq, Run, Serve, Draw, Verify, Help, Version, Unclear}
+use Rattle.ob_command.specs.CommandLine.{Text, Request, RunRequest, Check, Listing, Seq, Run, Serve, Draw, Verify, Explain, Help, Version, Unclear}
 use Rattle.ob_answer.specs.declared.product.Product.{Product}
 use Rattle.ob_answer.specs.declared.product.Product.TheVariants as Products
+use Rattle.ob_answer.specs.Explains.{IsCallsExplained, IsModuleExplained}
 use Rattle.ob_answer.specs.Printed.{IsPrinted, IsRefused}
 use Rattle.ob_answer.specs.Reads.{IsOutcome}
 
@@ -93,6 +94,8 @@ files_of (Run run) = files_of_run run
 files_of (Serve module_name script_name processes) = module_name ∷ script_name ∷ []
 files_of (Draw run) = files_of_run run
 files_of (Verify module_name record_name) = module_name ∷ record_name ∷ []
+files_of (Explain module_name None) = module_name ∷ []
+files_of (Explain module_name (Some script_name)) = module_name ∷ script_name ∷ []
 files_of _ = []
 
 -- the answer that is made of the bytes of these files
@@ -104,6 +107,8 @@ IsMade (Run run) bytes answer = IsRunMade Products.Record run bytes answer
 IsMade (Serve module_name script_name processes) (module_bytes ∷ script_bytes ∷ []) answer = IsServeAnswer module_bytes processes script_bytes answer
 IsMade (Draw run) bytes answer = IsRunMade Products.Picture run bytes answer
 IsMade (Verify module_name record_name) (module_bytes ∷ record_bytes ∷ []) answer = IsVerifyAnswer module_bytes record_bytes answer
+IsMade (Explain module_name None) (module_bytes ∷ []) answer = IsModuleExplained module_name module_bytes answer
+IsMade (Explain module_name (Some script_name)) (module_bytes ∷ script_bytes ∷ []) answer = IsCallsExplained module_name module_bytes script_name script_bytes answer
 IsMade Help [] answer = (text : Text) × IsPrinted answer text
 IsMade Version [] answer = IsPrinted answer version_text
 IsMade Unclear [] answer = (text : Text) × IsRefused answer 2 text

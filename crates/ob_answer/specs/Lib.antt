@@ -1,4 +1,5 @@
 pub mod Printed
+pub mod Explains
 pub mod Answers
 pub mod ShownNames
 pub mod Reads

@@ -1,13 +1,14 @@
 //! From the words of the command line to what the program prints and its exit status.
 
-ghost use Rattle.std.specs.Prelude.{◌≡◌, ◌∷◌, [], ℕ, Some, false, IfOk, map, codes};
+ghost use Rattle.std.specs.Prelude.{◌≡◌, ◌∷◌, [], ℕ, None, Some, false, IfOk, map, codes};
 ghost use Rattle.ob_answer.specs.Answers.{IsAnswer, IsRunMade, files_of_run};
 ghost use Rattle.ob_answer.specs.Printed.{IsUnreadable};
 ghost use Rattle.ob_answer.specs.Reads.{IsOutcome};
-ghost use Rattle.ob_command.specs.CommandLine.{Check, Draw, Listing, Run, Seq, Serve, Text, Verify, is_option, number, request};
+ghost use Rattle.ob_command.specs.CommandLine.{Check, Draw, Explain, Listing, Run, Seq, Serve, Text, Verify, is_option, number, request};
 ghost use Rattle.ob_command.specs.Commands.{request_of, run_request_of};
 
 use crate::answered::Answer;
+use crate::explaining::obey_explain;
 use crate::files::{FileFault, Files};
 use crate::making::{
     answer_check, answer_list, answer_run, answer_seq, answer_serve, answer_verify,
@@ -25,7 +26,7 @@ use std::thread::Threads;
 const VERSION: &str = "obl0 0.1.0\nrattle-kit-13b logic dac8208d650f15bf\n";
 
 /// How many bytes of a module are read: with one more than it may have it is known to be too long.
-const MODULE_BYTES: usize = LONGEST_TEXT + 1;
+pub(crate) const MODULE_BYTES: usize = LONGEST_TEXT + 1;
 
 /// The answer to the words behind the program's name. Files are read in the order in which the words
 /// name them, before anything is made of them. Only `serve` starts threads and waits.
@@ -52,6 +53,10 @@ pub fn answer<R: Threads + Wait + Sync + AllocGlobal, F: Files>(
         → IfOk result (λ a. IsAnswer F.reads (Draw (record { module_name = m; script_name = s; schedule_name = q; processes = k })) files.old a files.new) }
     ensures verify { (m r : Text) → map (λ word. word.now) words.now ≡ codes "verify" ∷ m ∷ r ∷ [] → is_option m ≡ false → is_option r ≡ false
         → IfOk result (λ a. IsAnswer F.reads (Verify m r) files.old a files.new) }
+    ensures explain { (m : Text) → map (λ word. word.now) words.now ≡ codes "explain" ∷ m ∷ [] → is_option m ≡ false
+        → IfOk result (λ a. IsAnswer F.reads (Explain m None) files.old a files.new) }
+    ensures explain_calls { (m s : Text) → map (λ word. word.now) words.now ≡ codes "explain" ∷ m ∷ s ∷ [] → is_option m ≡ false → is_option s ≡ false
+        → IfOk result (λ a. IsAnswer F.reads (Explain m (Some s)) files.old a files.new) }
 {
     obey_words(rt, words, files)
 }
@@ -101,6 +106,10 @@ fn obey<R: Threads + Wait + Sync, F: Files>(
             module_name,
             record_name,
         } => obey_verify(alloc, module_name, record_name, files),
+        Command::Explain {
+            module_name,
+            script_name,
+        } => obey_explain(alloc, module_name, script_name, files),
     }
 }
 
@@ -229,7 +238,7 @@ fn obey_verify<F: Files>(
 }
 
 /// The answer where a file can't be read.
-fn unreadable(alloc: Global, name: &str) -> Result<Answer, AllocError>
+pub(crate) fn unreadable(alloc: Global, name: &str) -> Result<Answer, AllocError>
     ensures { IfOk result (λ a. IsUnreadable a name.now) }
 {
     let mut line = String::new(alloc);

@@ -4,6 +4,7 @@
 
 pub mod answer;
 pub mod answered;
+mod explaining;
 pub mod files;
 mod making;
 pub mod product;

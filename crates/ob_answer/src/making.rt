@@ -78,7 +78,7 @@ fn list_refused(alloc: Global, fault: ModuleTextFault) -> Result<Answer, NoMemor
 }
 
 /// The answer of a fault's line.
-fn refused(alloc: Global, mut line: String) -> Result<Answer, AllocError>
+pub(crate) fn refused(alloc: Global, mut line: String) -> Result<Answer, AllocError>
     ensures { IfOk result (λ a. IsRefused a 1 (string_bytes line ++ codes "\n")) }
 {
     line.push_str("\n")?;

@@ -16,8 +16,8 @@ use Rattle.clap.specs.declared.parser.matches.ValueSource.TheVariants.{CommandLi
 use Rattle.clap.proofs.FaultLemmas.{stopped_fault}
 use Rattle.clap.proofs.WalkLemmas.{walk_stopped}
 use Rattle.clap.proofs.OnLiterals.{clap_on_literals}
-use Rattle.ob_command.specs.ClapCommand.{module_app, name_rule, obl0_app, run_app, serve_app, top_shape}
-use Rattle.ob_command.specs.CommandLine.{Check, Draw, Help, Listing, Request, Run, RunRequest, Seq, Serve, Unclear, Verify, clap_request, is_option, number, request, request_by, run_of, serve_of}
+use Rattle.ob_command.specs.ClapCommand.{explain_app, module_app, name_rule, obl0_app, run_app, serve_app, top_shape}
+use Rattle.ob_command.specs.CommandLine.{Check, Draw, Explain, Help, Listing, Request, Run, RunRequest, Seq, Serve, Unclear, Verify, clap_request, is_option, number, request, request_by, run_of, serve_of}
 use Rattle.ob_command.proofs.Numbers.{PlainNumber, plain_number}
 
 -- ---- a word that is no option
@@ -144,6 +144,10 @@ built_one id place short p = record (name_rule id) {
 abbrev pub built_name : ℕ → Text → Rule
 built_name place id = built_one id (Some place) None parser.String
 
+-- a name that may be missing
+abbrev pub optional_name : ℕ → Text → Rule
+optional_name place id = record (built_name place id) { required = false }
+
 abbrev pub built_number : Rule
 built_number = built_one (codes "N") None (Some 110) (parser.Signed (pos 0) (pos 65535))
 
@@ -163,6 +167,10 @@ module_leaf command = built_leaf (module_app command).top (built_name 1 (codes "
 abbrev pub second_leaf : Text → Text → Shape
 second_leaf command id = built_leaf (with_rule (module_app command) (name_rule id)).top (built_name 1 (codes "MODULE") ∷ built_name 2 id ∷ built_help ∷ [])
 
+-- one of a second file that may be missing
+abbrev pub explain_leaf : Text → Shape
+explain_leaf command = built_leaf (explain_app command).top (built_name 1 (codes "MODULE") ∷ optional_name 2 (codes "SCRIPT") ∷ built_help ∷ [])
+
 abbrev pub run_leaf : Text → Shape
 run_leaf command = built_leaf (run_app command).top
     (built_name 1 (codes "MODULE") ∷ built_name 2 (codes "SCRIPT") ∷ built_name 3 (codes "SCHEDULE") ∷ built_number ∷ built_help ∷ [])
@@ -177,11 +185,11 @@ abbrev pub built_app : App
 built_app = record {
   top = built_top;
   subs = module_leaf (codes "check") ∷ module_leaf (codes "list") ∷ second_leaf (codes "seq") (codes "SCRIPT")
-      ∷ run_leaf (codes "run") ∷ serve_leaf (codes "serve") ∷ run_leaf (codes "draw") ∷ second_leaf (codes "verify") (codes "RECORD") ∷ [];
+      ∷ run_leaf (codes "run") ∷ serve_leaf (codes "serve") ∷ run_leaf (codes "draw") ∷ second_leaf (codes "verify") (codes "RECORD") ∷ explain_leaf (codes "explain") ∷ [];
 }
 
 abbrev pub names : Names
-names = (codes "check", []) ∷ (codes "list", []) ∷ (codes "seq", []) ∷ (codes "run", []) ∷ (codes "serve", []) ∷ (codes "draw", []) ∷ (codes "verify", []) ∷ []
+names = (codes "check", []) ∷ (codes "list", []) ∷ (codes "seq", []) ∷ (codes "run", []) ∷ (codes "serve", []) ∷ (codes "draw", []) ∷ (codes "verify", []) ∷ (codes "explain", []) ∷ []
 
 abbrev top_rules : List Rule
 top_rules = built_help ∷ []
@@ -254,6 +262,21 @@ unfolding clap_on_literals
 with_record command m r no_m no_r =
     named (second_leaf command (codes "RECORD")) [] None 1 m no_m refl _ refl (r ∷ []) _
     (named (second_leaf command (codes "RECORD")) [] (Some (codes "MODULE", m ∷ [])) 2 r no_r refl _ refl [] _ (record { no_fault = refl; leaves = refl }))
+
+abbrev optional_row : Text → Text → Row
+optional_row id name = record { id = id; values = name ∷ []; count = None; source = Some CommandLine; reading = reading_by (optional_name 2 id) }
+
+-- the module's name alone, and a script's that may be missing
+without_script : (command m : Text) → is_option m ≡ false → Goes (explain_leaf command) start (m ∷ []) (name_row (codes "MODULE") m ∷ [])
+unfolding clap_on_literals
+without_script command m no_m = named (explain_leaf command) [] None 1 m no_m refl _ refl [] _ (record { no_fault = refl; leaves = refl })
+
+with_optional : (command m s : Text) → is_option m ≡ false → is_option s ≡ false
+    → Goes (explain_leaf command) start (m ∷ s ∷ []) (name_row (codes "MODULE") m ∷ optional_row (codes "SCRIPT") s ∷ [])
+unfolding clap_on_literals
+with_optional command m s no_m no_s =
+    named (explain_leaf command) [] None 1 m no_m refl _ refl (s ∷ []) _
+    (named (explain_leaf command) [] (Some (codes "MODULE", m ∷ [])) 2 s no_s refl _ refl [] _ (record { no_fault = refl; leaves = refl }))
 
 abbrev number_row : Text → Row
 number_row n = record { id = codes "N"; values = n ∷ []; count = None; source = Some CommandLine; reading = reading_by built_number }
@@ -333,6 +356,15 @@ pub verify_asked : (m r : Text) → is_option m ≡ false → is_option r ≡ fa
 unfolding clap_on_literals
 verify_asked m r no_m no_r =
     asked (codes "verify") (second_leaf (codes "verify") (codes "RECORD")) refl refl refl (m ∷ r ∷ []) _ (with_record (codes "verify") m r no_m no_r)
+
+pub explain_asked : (m : Text) → is_option m ≡ false → request (codes "explain" ∷ m ∷ []) ≡ Explain m None
+unfolding clap_on_literals
+explain_asked m no_m = asked (codes "explain") (explain_leaf (codes "explain")) refl refl refl (m ∷ []) _ (without_script (codes "explain") m no_m)
+
+pub explain_script_asked : (m s : Text) → is_option m ≡ false → is_option s ≡ false → request (codes "explain" ∷ m ∷ s ∷ []) ≡ Explain m (Some s)
+unfolding clap_on_literals
+explain_script_asked m s no_m no_s =
+    asked (codes "explain") (explain_leaf (codes "explain")) refl refl refl (m ∷ s ∷ []) _ (with_optional (codes "explain") m s no_m no_s)
 
 -- the words of a run behind a command
 abbrev RunAsked : Text → (RunRequest → Request) → Type 0

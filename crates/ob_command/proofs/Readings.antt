@@ -21,7 +21,7 @@ use Rattle.std.specs.Borrow.{Bor}
 use Rattle.clap.specs.Words.{first_of, first_value}
 use Rattle.clap.specs.declared.parser.matches.Found.{Found}
 use Rattle.clap.proofs.WalkLemmas.{first_value-rows}
-use Rattle.ob_command.specs.CommandLine.{Request, Check, Draw, Help, Listing, Run, RunRequest, Seq, Serve, Unclear, Verify, clap_request, command_of, is_alone, processes_of, request, request_by, run_of, serve_of}
+use Rattle.ob_command.specs.CommandLine.{Request, Check, Draw, Explain, Help, Listing, Run, RunRequest, Seq, Serve, Unclear, Verify, clap_request, command_of, is_alone, processes_of, request, request_by, run_of, serve_of}
 use Rattle.ob_command.specs.Commands.{IsReading, IsStopOf, request_of}
 use Rattle.ob_command.specs.declared.command.Stop.{Stop}
 use Rattle.ob_command.specs.declared.command.Stop.TheVariants as stops
@@ -107,6 +107,10 @@ a_draw name m rows run is h e = rw (is, h) (ap (option_map Draw) e)
 pub a_verify : (name m : Text) (rows : List Row) (record_name : Option Text) → name ≡ codes "verify" → first_of (codes "MODULE") rows ≡ Some m
     → first_of (codes "RECORD") rows ≡ record_name → command_of name rows ≡ option_map (Verify m) record_name
 a_verify name m rows record_name is h r = rw (is, h, r) refl
+
+pub an_explain : (name m : Text) (rows : List Row) (script : Option Text) → name ≡ codes "explain" → first_of (codes "MODULE") rows ≡ Some m
+    → first_of (codes "SCRIPT") rows ≡ script → command_of name rows ≡ Some (Explain m script)
+an_explain name m rows script is h s = rw (is, h, s) refl
 
 pub no_script : (m : Text) (rows : List Row) → first_of (codes "SCRIPT") rows ≡ None → run_of m rows ≡ None
 no_script m rows h = rw h refl

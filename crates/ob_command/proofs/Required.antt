@@ -15,8 +15,8 @@ use Rattle.clap.specs.Takes.{is_given}
 use Rattle.clap.specs.declared.error.kind.ErrorKind.{ErrorKind}
 use Rattle.clap.specs.declared.error.kind.ErrorKind.TheVariants as kind
 use Rattle.ob_command.specs.ClapCommand.{obl0_app}
-use Rattle.ob_command.specs.CommandLine.{Request, Check, Draw, Listing, Run, RunRequest, Seq, Verify, command_of, processes_of, run_of, serve_of}
-use Rattle.ob_command.proofs.ClapWords.{built_app, built_help, built_name, built_number, built_one, built_top, module_leaf, names, run_leaf, second_leaf, serve_leaf}
+use Rattle.ob_command.specs.CommandLine.{Request, Check, Draw, Explain, Listing, Run, RunRequest, Seq, Verify, command_of, processes_of, run_of, serve_of}
+use Rattle.ob_command.proofs.ClapWords.{built_app, built_help, built_name, built_number, built_one, built_top, module_leaf, names, explain_leaf, optional_name, run_leaf, second_leaf, serve_leaf}
 use Rattle.ob_command.proofs.Given.{EachFills, Filled, Fills, given_first, given_number, level_filled, neither, suits, with_filled, without_filled}
 use Rattle.ob_command.proofs.Numbers.{number_accepted}
 
@@ -60,6 +60,9 @@ module _ (id : Text) (place short : Option ℕ) (p : ValueParser) (lets : LetsTh
 
 fills_name : (place : ℕ) (id : Text) → LetsThrough id parser.String → Fills (built_name place id)
 fills_name place id lets = fills_one id (Some place) None parser.String lets
+
+fills_optional : (place : ℕ) (id : Text) → LetsThrough id parser.String → Fills (optional_name place id)
+fills_optional place id lets = record { uses = one_uses id (Some place) None parser.String lets; no_default = λ rows. kept (has_row id rows) rows }
 
 fills_number : Fills built_number
 fills_number = fills_one (codes "N") None (Some 110) (parser.Signed (pos 0) (pos 65535)) number_accepted
@@ -165,6 +168,13 @@ run_asks command asks words none =
     (λ script. some_then (first_of (codes "SCHEDULE") rows) _ (given_first (codes "SCHEDULE") rows p.filled (p.given.1.1.0 refl))
     (λ schedule. some_map (processes_of rows) _ (given_number rows p.filled (p.given.1.1.1.0 refl))))))
 
+explain_asks : (command : Text) → AsksBy (explain_leaf command) (λ rows m. Some (Explain m (first_of (codes "SCRIPT") rows)))
+explain_asks command words none =
+    let s = explain_leaf command in
+    let p = passes s (fills_name 1 (codes "MODULE") any_text, (fills_optional 2 (codes "SCRIPT") any_text, (fills_help, tt))) refl words none in
+    let rows = rows_of_leaf s words in
+    some_then (first_of (codes "MODULE") rows) _ (given_first (codes "MODULE") rows p.filled (p.given.0 refl)) (λ m. refl)
+
 serve_asks : (command : Text) → AsksBy (serve_leaf command) (λ rows m. serve_of m rows)
 serve_asks command words none =
     let s = serve_leaf command in
@@ -208,7 +218,7 @@ each_asks = (
     module_asks (codes "list") Listing,
     (
       second_asks (codes "seq") (codes "SCRIPT") any_text Seq,
-      (run_asks (codes "run") Run, (serve_asks (codes "serve"), (run_asks (codes "draw") Draw, (second_asks (codes "verify") (codes "RECORD") any_text Verify, tt)))),
+      (run_asks (codes "run") Run, (serve_asks (codes "serve"), (run_asks (codes "draw") Draw, (second_asks (codes "verify") (codes "RECORD") any_text Verify, (explain_asks (codes "explain"), tt))))),
     ),
   ),
 )

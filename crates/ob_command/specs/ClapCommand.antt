@@ -19,6 +19,10 @@ module_app command = with_rule (new_app command) (name_rule (codes "MODULE"))
 abbrev pub script_app : Text → App
 script_app command = with_rule (module_app command) (name_rule (codes "SCRIPT"))
 
+-- `explain MODULE`, `explain MODULE SCRIPT`
+abbrev pub explain_app : Text → App
+explain_app command = with_rule (module_app command) (new_rule (codes "SCRIPT"))
+
 -- `run MODULE SCRIPT SCHEDULE -n N`, `draw MODULE SCRIPT SCHEDULE -n N`
 abbrev pub run_app : Text → App
 run_app command = with_rule (with_rule (script_app command) (name_rule (codes "SCHEDULE"))) number_rule
@@ -49,4 +53,5 @@ with_command app command = with_subcommand app command.top
 
 abbrev pub obl0_app : App
 obl0_app = fold with_command top_app (module_app (codes "check") ∷ module_app (codes "list") ∷ script_app (codes "seq")
-    ∷ run_app (codes "run") ∷ serve_app (codes "serve") ∷ run_app (codes "draw") ∷ record_app (codes "verify") ∷ [])
+    ∷ run_app (codes "run") ∷ serve_app (codes "serve") ∷ run_app (codes "draw") ∷ record_app (codes "verify")
+    ∷ explain_app (codes "explain") ∷ [])

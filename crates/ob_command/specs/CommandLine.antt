@@ -18,8 +18,8 @@ pub record RunRequest : Type 0 where
   pub processes : ℕ
 
 -- What they ask for: the rules of a module checked; its code listed; the calls of a script made on it; a run's record;
--- the record of workers' run; a run's picture; the order of a record checked; help; the version; or nothing that there is. A command has the names of
--- its files.
+-- the record of workers' run; a run's picture; the order of a record checked; what is wrong with a module, or with a module and a script, shown to
+-- people; help; the version; or nothing that there is. A command has the names of its files.
 pub data Request : Type 0 where
   Check : (module_name : Text) → Request
   Listing : (module_name : Text) → Request
@@ -28,6 +28,7 @@ pub data Request : Type 0 where
   Serve : (module_name script_name : Text) (processes : ℕ) → Request
   Draw : (run : RunRequest) → Request
   Verify : (module_name record_name : Text) → Request
+  Explain : (module_name : Text) (script_name : Option Text) → Request
   Help : Request
   Version : Request
   Unclear : Request
@@ -65,6 +66,7 @@ command_of name rows = option_and_then (λ module_name.
     else if bytes_eq name (codes "serve") then serve_of module_name rows
     else if bytes_eq name (codes "draw") then option_map Draw (run_of module_name rows)
     else if bytes_eq name (codes "verify") then option_map (Verify module_name) (first_of (codes "RECORD") rows)
+    else if bytes_eq name (codes "explain") then Some (Explain module_name (first_of (codes "SCRIPT") rows))
     else None) (first_of (codes "MODULE") rows)
 
 -- Where clap finds no fault, the command that it met. Else its first fault decides: it is a call for help, or a mistake.

@@ -1,5 +1,5 @@
 -- What `read_command` answers to a request.
-use Rattle.std.specs.Prelude.{◌≡◌, ◌≢◌, Result, Ok, Err}
+use Rattle.std.specs.Prelude.{◌≡◌, ◌≢◌, Result, Ok, Err, option_map}
 use Rattle.clap.specs.declared.error.kind.ErrorKind.{ErrorKind}
 use Rattle.clap.specs.declared.error.kind.ErrorKind.TheVariants as kind
 use Rattle.ob_command.specs.declared.command.Command as command
@@ -7,7 +7,7 @@ use Rattle.ob_command.specs.declared.command.Command.TheVariants as commands
 use Rattle.ob_command.specs.declared.command.RunCommand.{RunCommand}
 use Rattle.ob_command.specs.declared.command.Stop.{Stop}
 use Rattle.ob_command.specs.declared.command.Stop.TheVariants as stops
-use Rattle.ob_command.specs.CommandLine.{Request, RunRequest, Check, Listing, Seq, Run, Serve, Draw, Verify, Help, Version, Unclear}
+use Rattle.ob_command.specs.CommandLine.{Request, RunRequest, Check, Listing, Seq, Run, Serve, Draw, Verify, Explain, Help, Version, Unclear}
 
 -- what a command asks for
 abbrev pub run_request_of : RunCommand → RunRequest
@@ -26,6 +26,7 @@ request_of (commands.Run run) = Run (run_request_of run)
 request_of (commands.Serve module_name script_name processes) = Serve module_name.now script_name.now processes
 request_of (commands.Draw run) = Draw (run_request_of run)
 request_of (commands.Verify module_name record_name) = Verify module_name.now record_name.now
+request_of (commands.Explain module_name script_name) = Explain module_name.now (option_map (λ name. name.now) script_name)
 
 -- the command that is asked for, or why there is none
 abbrev pub IsReading : Request → Result command.Command Stop → Type 0

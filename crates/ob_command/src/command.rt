@@ -3,7 +3,7 @@
 ghost use Rattle.std.specs.Prelude.{◌≡◌, false, true, IfOk, is_some, map, option_map};
 ghost use Rattle.clap.specs.Words.{app_of, found_of, kind_of, rows_of, rule_of};
 ghost use Rattle.clap.specs.declared.builder.command.Command.TheViews.{out-Command as fields_of};
-ghost use Rattle.ob_command.specs.ClapCommand.{module_app, name_rule, number_rule, obl0_app, record_app, run_app, script_app, serve_app, top_app};
+ghost use Rattle.ob_command.specs.ClapCommand.{explain_app, module_app, name_rule, number_rule, obl0_app, record_app, run_app, script_app, serve_app, top_app};
 ghost use Rattle.ob_command.specs.CommandLine.{clap_request, command_of, is_alone, request, run_of, serve_of};
 ghost use Rattle.ob_command.specs.Commands.{IsReading, IsStopOf, request_of, run_request_of};
 ghost use Rattle.ob_command.specs.declared.command.Stop.TheVariants.{NoMemory};
@@ -42,6 +42,11 @@ pub enum Command<'a> {
     Verify {
         module_name: &'a str,
         record_name: &'a str,
+    },
+    /// `explain MODULE`, `explain MODULE SCRIPT`: what is wrong with them, shown to people.
+    Explain {
+        module_name: &'a str,
+        script_name: Option<&'a str>,
     },
 }
 
@@ -86,6 +91,10 @@ const ABOUT_SERVE: &str =
 const ABOUT_DRAW: &str = "Makes the same run as `run` and prints a picture of it in SVG";
 
 const ABOUT_VERIFY: &str = "Tells whether the order of a record is a legal order of its calls";
+
+const ABOUT_EXPLAIN: &str = "Shows what is wrong with a module, or with a module and a script";
+
+const HELP_SCRIPT: &str = "The file of the calls, one a line: PROCESS PROCEDURE ARGUMENTS";
 
 /// What stands below the help.
 const AFTER_HELP: &str = "\
@@ -151,6 +160,10 @@ fn command_of<'a>(name: &str, matches: &ArgMatches<'a>) -> Option<Command<'a>>
             module_name,
             record_name: matches.get_str("RECORD")?,
         }),
+        "explain" => Some(Command::Explain {
+            module_name,
+            script_name: matches.get_str("SCRIPT"),
+        }),
         _ => None,
     }
 }
@@ -205,6 +218,7 @@ fn command_line<'a>(alloc: Global) -> Result<clap::Command<'a>, AllocError>
     let serve = serve_line(alloc, "serve", ABOUT_SERVE)?;
     let draw = run_line(alloc, "draw", ABOUT_DRAW)?;
     let verify = record_line(alloc, "verify", ABOUT_VERIFY)?;
+    let explain = explain_line(alloc, "explain", ABOUT_EXPLAIN)?;
     program_line(alloc)?
         .subcommand(check)?
         .subcommand(list)?
@@ -212,7 +226,8 @@ fn command_line<'a>(alloc: Global) -> Result<clap::Command<'a>, AllocError>
         .subcommand(run)?
         .subcommand(serve)?
         .subcommand(draw)?
-        .subcommand(verify)
+        .subcommand(verify)?
+        .subcommand(explain)
 }
 
 /// The command line before any command.
@@ -270,11 +285,20 @@ fn script_line<'a>(
     ensures app { IfOk result (λ c. app_of c ≡ script_app command.entry.now) }
     ensures local { IfOk result (λ c. (fields_of c).has_globals ≡ false) }
 {
-    let script = file_name(
-        alloc,
-        "SCRIPT",
-        "The file of the calls, one a line: PROCESS PROCEDURE ARGUMENTS",
-    );
+    let script = file_name(alloc, "SCRIPT", HELP_SCRIPT);
+    module_line(alloc, command, about)?.arg(script)
+}
+
+/// The words behind a command on a module, and on a script where one is named.
+fn explain_line<'a>(
+    alloc: Global,
+    command: &'a str,
+    about: &'a str,
+) -> Result<clap::Command<'a>, AllocError>
+    ensures app { IfOk result (λ c. app_of c ≡ explain_app command.entry.now) }
+    ensures local { IfOk result (λ c. (fields_of c).has_globals ≡ false) }
+{
+    let script = Arg::new(alloc, "SCRIPT").help(HELP_SCRIPT);
     module_line(alloc, command, about)?.arg(script)
 }
 

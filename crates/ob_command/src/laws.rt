@@ -1,7 +1,7 @@
 //! What plain words ask for. What a function here ensures is proved; it does nothing.
 
-ghost use Rattle.std.specs.Prelude.{◌≡◌, ℕ, Some, [], ◌∷◌, false, codes};
-ghost use Rattle.ob_command.specs.CommandLine.{Check, Draw, Help, Listing, Run, Seq, Serve, Text, Unclear, Verify, is_option, number, request};
+ghost use Rattle.std.specs.Prelude.{◌≡◌, ℕ, Some, None, [], ◌∷◌, false, codes};
+ghost use Rattle.ob_command.specs.CommandLine.{Check, Draw, Explain, Help, Listing, Run, Seq, Serve, Text, Unclear, Verify, is_option, number, request};
 
 /// `check` and a name that is no option.
 pub fn check_is_asked()
@@ -41,6 +41,16 @@ pub fn draw_is_asked()
 /// `verify` and two names that are no options.
 pub fn verify_is_asked()
     ensures { (m r : Text) → is_option m ≡ false → is_option r ≡ false → request (codes "verify" ∷ m ∷ r ∷ []) ≡ Verify m r }
+{}
+
+/// `explain` and a name that is no option.
+pub fn explain_is_asked()
+    ensures { (m : Text) → is_option m ≡ false → request (codes "explain" ∷ m ∷ []) ≡ Explain m None }
+{}
+
+/// `explain` and two names that are no options.
+pub fn explain_of_script_is_asked()
+    ensures { (m s : Text) → is_option m ≡ false → is_option s ≡ false → request (codes "explain" ∷ m ∷ s ∷ []) ≡ Explain m (Some s) }
 {}
 
 /// The words that ask for help.

@@ -3,9 +3,9 @@ use Rattle.std.specs.Prelude.{ℕ, ◌==◌, ◌||◌, ◌&&◌, nat_le, List, [
 use Rattle.std.specs.Char.{is_ascii_alphabetic, is_ascii_alphanumeric}
 use Rattle.std.specs.List.{take_while}
 
--- a tab or a printable ASCII character as it is, and `?` for each other byte
+-- a tab or a printable ASCII character as it is, a blank for a carriage return, and `?` for each other byte
 abbrev pub shown_byte : ℕ → ℕ
-shown_byte b = if (b == 9) || (nat_le 32 b && nat_le b 126) then b else 63
+shown_byte b = if (b == 9) || (nat_le 32 b && nat_le b 126) then b else if b == 13 then 32 else 63
 
 -- a tab below a tab, and a blank below all else
 abbrev pub blank_below : ℕ → ℕ

@@ -5,7 +5,8 @@ ghost use Rattle.ob_explain.specs.Shown.{blank_below, named, shown_byte, word_at
 
 use std::alloc::AllocError;
 
-/// Appends a line: printable ASCII characters and tabs as they are, and `?` for each other byte.
+/// Appends a line: printable ASCII characters and tabs as they are, a blank for a carriage return, as a line of some files ends
+/// with one, and `?` for each other byte.
 pub fn push_line(shown: &mut String, line: &[u8]) -> Result<(), AllocError>
     ensures { OnOk result (string_bytes shown.new ≡ string_bytes shown.old ++ map shown_byte line.now) }
 {
@@ -59,6 +60,8 @@ fn shown_byte(byte: u8) -> u8
 {
     if byte == b'\t' || (32 <= byte && byte < 127) {
         byte
+    } else if byte == b'\r' {
+        b' '
     } else {
         b'?'
     }

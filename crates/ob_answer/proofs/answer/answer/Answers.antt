@@ -1,5 +1,5 @@
 use Rattle.std.proofs.Common.{map}
-use Rattle.ob_command.proofs.ClapWords.{check_asked, draw_asked, list_asked, run_asked, seq_asked, serve_asked, verify_asked}
+use Rattle.ob_command.proofs.ClapWords.{check_asked, draw_asked, explain_asked, explain_script_asked, list_asked, run_asked, seq_asked, serve_asked, verify_asked}
 use Rattle.ob_answer.proofs.PlainWords.{answered_as}
 use Rattle.ob_answer.proofs.answer.answer.Goals as goal
 
@@ -26,3 +26,9 @@ returns-clause-draw g c m s q n k is no_m no_s no_q number =
 
 pub returns-clause-verify : goal.returns-clause-verify
 returns-clause-verify g c m r is no_m no_r = answered_as g.F.Files.reads (map (λ word. word.now) c.args.words.now) _ _ _ _ c.obey_words.result is (verify_asked m r no_m no_r) c.obey_words.ensures
+
+pub returns-clause-explain : goal.returns-clause-explain
+returns-clause-explain g c m is no_m = answered_as g.F.Files.reads (map (λ word. word.now) c.args.words.now) _ _ _ _ c.obey_words.result is (explain_asked m no_m) c.obey_words.ensures
+
+pub returns-clause-explain_calls : goal.returns-clause-explain_calls
+returns-clause-explain_calls g c m s is no_m no_s = answered_as g.F.Files.reads (map (λ word. word.now) c.args.words.now) _ _ _ _ c.obey_words.result is (explain_script_asked m s no_m no_s) c.obey_words.ensures

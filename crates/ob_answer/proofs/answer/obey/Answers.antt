@@ -20,3 +20,6 @@ returns-in-Draw g c = rw c.in-Draw.is c.obey_run-in-Draw.ensures
 
 pub returns-in-Verify : goal.returns-in-Verify
 returns-in-Verify g c = rw c.in-Verify.is c.obey_verify.ensures
+
+pub returns-in-Explain : goal.returns-in-Explain
+returns-in-Explain g c = rw c.in-Explain.is c.obey_explain.ensures

@@ -18,5 +18,6 @@ returns c =
     let run = with_one _ _ _ _ _ c.in_ok-subcommand-4.ensures seq c.in_ok-run.ensures.local c.in_ok-run.ensures.app in
     let serve = with_one _ _ _ _ _ c.in_ok-subcommand-5.ensures run c.in_ok-serve.ensures.local c.in_ok-serve.ensures.app in
     let draw = with_one _ _ _ _ _ c.in_ok-subcommand-6.ensures serve c.in_ok-draw.ensures.local c.in_ok-draw.ensures.app in
-    IfOk-weaker c.subcommand-7.result _ _
-    (λ whole adds. with_one _ _ whole _ _ adds draw c.in_ok-verify.ensures.local c.in_ok-verify.ensures.app) c.subcommand-7.ensures
+    let verify = with_one _ _ _ _ _ c.in_ok-subcommand-7.ensures draw c.in_ok-verify.ensures.local c.in_ok-verify.ensures.app in
+    IfOk-weaker c.subcommand-8.result _ _
+    (λ whole adds. with_one _ _ whole _ _ adds verify c.in_ok-explain.ensures.local c.in_ok-explain.ensures.app) c.subcommand-8.ensures

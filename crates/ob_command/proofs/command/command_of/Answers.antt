@@ -1,7 +1,7 @@
-use Rattle.std.proofs.Common.{◌∙◌, ap, codes, option_map, sym}
+use Rattle.std.proofs.Common.{◌∙◌, ap, codes, option_map, refl, sym}
 use Rattle.clap.specs.Words.{found_of, rows_of}
 use Rattle.ob_command.specs.Commands.{request_of, run_request_of}
-use Rattle.ob_command.proofs.Readings.{a_check, a_draw, a_list, a_run, a_seq, a_serve, a_verify, first_row, no_module}
+use Rattle.ob_command.proofs.Readings.{a_check, a_draw, a_list, a_run, a_seq, a_serve, a_verify, an_explain, first_row, no_module}
 use Rattle.ob_command.proofs.command.command_of.Goals as goal
 
 pub returns-in_err-module_name : goal.returns-in_err-module_name
@@ -75,3 +75,10 @@ returns-in_ok-get_str-in-verify c =
     let r = first_row (found_of c.args.matches.now) (codes "RECORD") c.get_str-in-verify.result _ c.get_str-in-verify.ensures
     (ap (option_map (λ s. s.now)) c.in_ok-get_str-in-verify.was) in
     sym (a_verify c.args.name.now _ (rows_of (found_of c.args.matches.now)) _ c.in-verify.is m r)
+
+pub returns-in-explain : goal.returns-in-explain
+returns-in-explain c =
+    let m = first_row (found_of c.args.matches.now) (codes "MODULE") c.get_str.result _ c.get_str.ensures
+    (ap (option_map (λ s. s.now)) c.in_ok-module_name.was) in
+    let s = first_row (found_of c.args.matches.now) (codes "SCRIPT") c.get_str-in-explain.result _ c.get_str-in-explain.ensures refl in
+    sym (an_explain c.args.name.now _ (rows_of (found_of c.args.matches.now)) _ c.in-explain.is m s)

@@ -1,0 +1,16 @@
+use Rattle.std.proofs.Common.{◌≡◌, codes, rules, string_bytes}
+use Rattle.ob_answer.specs.Explains.{right}
+use Rattle.ob_sequential.specs.ModuleFaults.{HasOpening}
+use Rattle.ob_answer.proofs.Beginnings.{of_whole}
+use Rattle.ob_answer.proofs.Explaining.{module_wrong_made}
+use Rattle.ob_answer.proofs.explaining.explain_module.Goals as goal
+
+pub returns-in_ok-from_str-in-Ok : goal.returns-in_ok-from_str-in-Ok
+returns-in_ok-from_str-in-Ok c whole is =
+    let of = of_whole HasOpening c.args.module.now whole is (λ long. let bad = c.in-Ok.ensures.too_long long in cc) c.in-Ok.ensures.module in
+    let text : string_bytes c.in_ok-from_str-in-Ok.field-0 ≡ codes "ok\n" = search rules in
+    right of (rw (← text) c.printed.ensures)
+
+pub returns-in-Err : goal.returns-in-Err
+returns-in-Err c = module_wrong_made c.args.name.now c.args.module.now c.in-Err.fault c.module_wrong.result c.module_wrong.ensures.fault c.module_wrong.ensures.memory
+    c.in-Err.ensures.fault c.in-Err.ensures.memory (λ long. let e = c.in-Err.ensures.too_long long in cc)

@@ -1,0 +1,41 @@
+-- What `explain` answers: a fault as people read it.
+use Rattle.std.specs.Prelude.{ℕ, List, ◌++◌, codes, unwrap_or}
+use Rattle.ob_answer.specs.declared.answered.Answer.{Answer}
+use Rattle.ob_answer.specs.Printed.{IsPrinted, IsRefused}
+use Rattle.ob_answer.specs.ShownNames.{shown}
+use Rattle.ob_command.specs.CommandLine.{Text}
+use Rattle.ob_explained.specs.Explained.{calls_explanation, module_explanation}
+use Rattle.ob_fault_lines.specs.SequentialFaultLines.{check_fault_line, seq_fault_line}
+use Rattle.ob_sequential.specs.ModuleFaults as Modules
+use Rattle.ob_sequential.specs.ModuleFaults.{HasOpening, IsModuleFault}
+use Rattle.ob_sequential.specs.SequentialRun.{IsNumbered, IsSeqTextFault, IsSequentialRun}
+use Rattle.ob_sequential.specs.declared.opened.ModuleFault.{ModuleFault}
+use Rattle.ob_sequential.specs.declared.sequential.SeqTextFault.{SeqTextFault}
+
+-- Where the files are right, `ok` is printed; else a fault of theirs is shown, which is not want of memory.
+pub data IsExplained {Fault : Type 0} (IsRight : Type 0) (IsFault IsNumberedFault : Fault → Type 0) (shown_fault : Fault → Text) (answer : Answer) : Type 0 where
+  right : IsRight → IsPrinted answer (codes "ok\n") → IsExplained IsRight IsFault IsNumberedFault shown_fault answer
+  wrong : (e : Fault) → IsFault e → IsNumberedFault e → IsRefused answer 1 (shown_fault e) → IsExplained IsRight IsFault IsNumberedFault shown_fault answer
+
+-- a fault of a module: the place in its file where it has one, and else the line by which `check` tells it
+abbrev pub shown_module_fault : (name : Text) (bytes : List ℕ) → ModuleFault → Text
+shown_module_fault name bytes e = unwrap_or (module_explanation (shown name) bytes e) (check_fault_line e ++ codes "\n")
+
+-- a fault of a module and a script: the place in the one's file or in the other's, and else the line by which `seq` tells it
+abbrev pub shown_calls_fault : (module_name : Text) (module_bytes : List ℕ) (script_name : Text) (script_bytes : List ℕ) → SeqTextFault → Text
+shown_calls_fault module_name module_bytes script_name script_bytes e =
+    unwrap_or (calls_explanation (shown module_name) module_bytes (shown script_name) script_bytes e) (seq_fault_line e ++ codes "\n")
+
+-- to the name and the bytes of one module, which is right where `check` prints `ok`
+abbrev pub IsModuleExplained : (name : Text) (bytes : List ℕ) → Answer → Type 0
+IsModuleExplained name bytes = IsExplained (HasOpening bytes) (IsModuleFault bytes) Modules.IsNumbered (shown_module_fault name bytes)
+
+-- the calls of a script have replies
+abbrev pub HasRun : (module_bytes script_bytes : List ℕ) → Type 0
+HasRun module_bytes script_bytes = (output : List ℕ) × IsSequentialRun module_bytes script_bytes output
+
+-- to the names and the bytes of a module and a script, which are right where `seq` prints replies
+abbrev pub IsCallsExplained : (module_name : Text) (module_bytes : List ℕ) (script_name : Text) (script_bytes : List ℕ) → Answer → Type 0
+IsCallsExplained module_name module_bytes script_name script_bytes =
+    IsExplained (HasRun module_bytes script_bytes) (IsSeqTextFault module_bytes script_bytes) IsNumbered
+    (shown_calls_fault module_name module_bytes script_name script_bytes)

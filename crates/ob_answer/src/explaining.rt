@@ -1,0 +1,158 @@
+//! The answers of `explain`. Of a module's text they have the beginning: a module of more bytes is too long.
+
+ghost use Rattle.std.specs.Prelude.{◌≡◌, ℕ, List, None, Some, suc, false, take, IfOk, option_map, string_bytes};
+ghost use Rattle.ob_answer.specs.Answers.{IsAnswer};
+ghost use Rattle.ob_answer.specs.Explains.{IsCallsExplained, IsModuleExplained, shown_calls_fault, shown_module_fault};
+ghost use Rattle.ob_answer.specs.Printed.{IsRefused};
+ghost use Rattle.ob_answer.specs.ShownNames.{shown};
+ghost use Rattle.ob_command.specs.CommandLine.{Explain};
+ghost use Rattle.ob_sequential.specs.ModuleFaults as Modules;
+ghost use Rattle.ob_sequential.specs.SequentialRun.{is_want_of_memory};
+
+use crate::answer::{MODULE_BYTES, unreadable};
+use crate::answered::Answer;
+use crate::files::{FileFault, Files};
+use crate::making::refused;
+use crate::shown_name::push_name;
+use ob_explained::{calls_explanation, module_explanation};
+use ob_fault_lines::sequential_faults::{check_fault_line, seq_fault_line};
+use ob_grammar::NoMemory;
+use ob_scan::scanner::LONGEST_TEXT;
+use ob_sequential::{ModuleFault, SeqTextFault, check_text, seq_text};
+use std::alloc::{AllocError, Global};
+
+/// The answer to `explain`, of the names of its files.
+pub(crate) fn obey_explain<F: Files>(
+    alloc: Global,
+    module_name: &str,
+    script_name: Option<&str>,
+    files: &mut F,
+) -> Result<Answer, NoMemory>
+    ensures { IfOk result (λ a. IsAnswer F.reads (Explain module_name.now (option_map (λ name. name.now) script_name)) files.old a files.new) }
+{
+    match script_name {
+        None => obey_explain_module(alloc, module_name, files),
+        Some(script_name) => obey_explain_calls(alloc, module_name, script_name, files),
+    }
+}
+
+/// The answer to `explain`, of the name of a module.
+fn obey_explain_module<F: Files>(
+    alloc: Global,
+    module_name: &str,
+    files: &mut F,
+) -> Result<Answer, NoMemory>
+    ensures { IfOk result (λ a. IsAnswer F.reads (Explain module_name.now None) files.old a files.new) }
+{
+    match files.read_beginning(module_name, MODULE_BYTES) {
+        Ok(module) => explain_module(alloc, module_name, module.as_slice()),
+        Err(FileFault::Unreadable) => Ok(unreadable(alloc, module_name)?),
+        Err(FileFault::NoMemory) => Err(NoMemory),
+    }
+}
+
+/// The answer to `explain`, of the names of a module and a script.
+fn obey_explain_calls<F: Files>(
+    alloc: Global,
+    module_name: &str,
+    script_name: &str,
+    files: &mut F,
+) -> Result<Answer, NoMemory>
+    ensures { IfOk result (λ a. IsAnswer F.reads (Explain module_name.now (Some script_name.now)) files.old a files.new) }
+{
+    let module = match files.read_beginning(module_name, MODULE_BYTES) {
+        Ok(bytes) => bytes,
+        Err(FileFault::Unreadable) => return Ok(unreadable(alloc, module_name)?),
+        Err(FileFault::NoMemory) => return Err(NoMemory),
+    };
+    let script = match files.read(script_name) {
+        Ok(bytes) => bytes,
+        Err(FileFault::Unreadable) => return Ok(unreadable(alloc, script_name)?),
+        Err(FileFault::NoMemory) => return Err(NoMemory),
+    };
+    explain_calls(
+        alloc,
+        module_name,
+        module.as_slice(),
+        script_name,
+        script.as_slice(),
+    )
+}
+
+/// The answer to the name and the beginning of a module's text.
+fn explain_module(alloc: Global, name: &str, module: &[u8]) -> Result<Answer, NoMemory>
+    ensures { IfOk result (λ a. (whole : List ℕ) → «module».now ≡ take (suc LONGEST_TEXT) whole → IsModuleExplained name.now whole a) }
+{
+    match check_text(alloc, module) {
+        Ok(()) => Ok(Answer::printed(alloc, String::from_str(alloc, "ok\n")?)),
+        Err(fault) => module_wrong(alloc, name, module, fault),
+    }
+}
+
+/// The answer to a fault of a module by itself.
+fn module_wrong(
+    alloc: Global,
+    name: &str,
+    module: &[u8],
+    fault: ModuleFault,
+) -> Result<Answer, NoMemory>
+    ensures fault { IfOk result (λ a. IsRefused a 1 (shown_module_fault name.now «module».now fault)) }
+    ensures memory { IfOk result (λ _. Modules.is_want_of_memory fault ≡ false) }
+{
+    if let ModuleFault::NoMemory = fault {
+        return Err(NoMemory);
+    }
+    let shown = shown_name(alloc, name)?;
+    match module_explanation(alloc, &shown, module, fault)? {
+        Some(text) => Ok(Answer::refused(alloc, 1, text)),
+        None => Ok(refused(alloc, check_fault_line(alloc, fault)?)?),
+    }
+}
+
+/// The answer to the name and the beginning of a module's text, and to the name and the text of a script.
+fn explain_calls(
+    alloc: Global,
+    module_name: &str,
+    module: &[u8],
+    script_name: &str,
+    script: &[u8],
+) -> Result<Answer, NoMemory>
+    ensures { IfOk result (λ a. (whole : List ℕ) → «module».now ≡ take (suc LONGEST_TEXT) whole → IsCallsExplained module_name.now whole script_name.now script.now a) }
+{
+    match seq_text(alloc, module, script) {
+        Ok(_lines) => Ok(Answer::printed(alloc, String::from_str(alloc, "ok\n")?)),
+        Err(fault) => calls_wrong(alloc, module_name, module, script_name, script, fault),
+    }
+}
+
+/// The answer to a fault of a module and a script.
+fn calls_wrong(
+    alloc: Global,
+    module_name: &str,
+    module: &[u8],
+    script_name: &str,
+    script: &[u8],
+    fault: SeqTextFault,
+) -> Result<Answer, NoMemory>
+    ensures fault { IfOk result (λ a. IsRefused a 1 (shown_calls_fault module_name.now «module».now script_name.now script.now fault)) }
+    ensures memory { IfOk result (λ _. is_want_of_memory fault ≡ false) }
+{
+    if let SeqTextFault::NoMemory = fault {
+        return Err(NoMemory);
+    }
+    let module_shown = shown_name(alloc, module_name)?;
+    let script_shown = shown_name(alloc, script_name)?;
+    match calls_explanation(alloc, &module_shown, module, &script_shown, script, fault)? {
+        Some(text) => Ok(Answer::refused(alloc, 1, text)),
+        None => Ok(refused(alloc, seq_fault_line(alloc, fault)?)?),
+    }
+}
+
+/// A file's name as it is shown.
+fn shown_name(alloc: Global, name: &str) -> Result<String, AllocError>
+    ensures { IfOk result (λ text. string_bytes text ≡ shown name.now) }
+{
+    let mut text = String::new(alloc);
+    push_name(&mut text, name)?;
+    Ok(text)
+}

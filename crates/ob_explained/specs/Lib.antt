@@ -1,0 +1,3 @@
+pub mod ScriptPlaces
+pub mod ScriptRemarks
+pub mod Explained

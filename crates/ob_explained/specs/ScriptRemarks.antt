@@ -1,0 +1,17 @@
+-- What each fault of a script says to people.
+use Rattle.std.specs.Prelude.{ℕ, List, Option, None, codes}
+use Rattle.ob_calls.specs.declared.script.ScriptFault.{ScriptFault}
+use Rattle.ob_calls.specs.declared.script.ScriptFault.TheVariants as Script
+use Rattle.ob_explain.specs.Remarks.{Remark, at}
+use Rattle.ob_explained.specs.ScriptPlaces.{first_place, form_place, in_line, second_place}
+
+-- at the word of the line that the rule is about: the process, or the procedure's name
+abbrev pub script_remark : List ℕ → ScriptFault → Option Remark
+script_remark script (Script.Form line) =
+    at (in_line form_place script line) (codes "a line is a call: a process of one to nine digits, the name of a procedure, and its values, with blanks between them")
+script_remark script (Script.Procedure line) =
+    at (in_line second_place script line) (codes "a call names a procedure that the module exports, which has a * behind its name there")
+script_remark script (Script.Arguments line) =
+    at (in_line second_place script line) (codes "a call has a value for each parameter but those with VAR: a number from -2147483648 to 2147483647, or TRUE or FALSE")
+script_remark script (Script.Process line) = at (in_line first_place script line) (codes "the processes of a script are 0 to 15")
+script_remark script Script.NoMemory = None

@@ -1,0 +1,8 @@
+//! What is wrong with a module, or with a module and a script, as people read it: each fault that has a place, with its line.
+#![tactic(auto)]
+
+pub mod explained;
+pub mod script_place;
+pub mod script_remark;
+
+pub use explained::{calls_explanation, module_explanation};

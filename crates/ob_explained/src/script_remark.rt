@@ -1,0 +1,65 @@
+//! What is wrong in a line of a script, in a sentence.
+
+ghost use Rattle.std.specs.Prelude.{◌≡◌, Some, option_map};
+ghost use Rattle.ob_explain.specs.Remarks.{remark_of};
+ghost use Rattle.ob_explained.specs.ScriptPlaces.{first_place, form_place, in_line, second_place};
+ghost use Rattle.ob_explained.specs.ScriptRemarks.{script_remark};
+
+use crate::script_place::{first_place, form_place, script_line, second_place};
+use ob_calls::script::ScriptFault;
+use ob_explain::remark::Remark;
+
+/// The remark on a fault of a script; `None` for want of memory.
+pub fn script_remark(script: &[u8], fault: ScriptFault) -> Option<Remark>
+    ensures { option_map remark_of result ≡ script_remark script.now fault }
+{
+    match fault {
+        ScriptFault::Form(line) => told(
+            place_of_form(script, line),
+            "a line is a call: a process of one to nine digits, the name of a procedure, and its values, with blanks between them",
+        ),
+        ScriptFault::Procedure(line) => told(
+            place_of_name(script, line),
+            "a call names a procedure that the module exports, which has a * behind its name there",
+        ),
+        ScriptFault::Arguments(line) => told(
+            place_of_name(script, line),
+            "a call has a value for each parameter but those with VAR: a number from -2147483648 to 2147483647, or TRUE or FALSE",
+        ),
+        ScriptFault::Process(line) => told(
+            place_of_process(script, line),
+            "the processes of a script are 0 to 15",
+        ),
+        ScriptFault::NoMemory => None,
+    }
+}
+
+/// Where a line is no call any more.
+fn place_of_form(script: &[u8], line: usize) -> usize
+    ensures { result ≡ in_line form_place script.now line }
+{
+    let (begin, text) = script_line(script, line);
+    begin + form_place(text)
+}
+
+/// Where the name of a line's procedure stands.
+fn place_of_name(script: &[u8], line: usize) -> usize
+    ensures { result ≡ in_line second_place script.now line }
+{
+    let (begin, text) = script_line(script, line);
+    begin + second_place(text)
+}
+
+/// Where a line's process stands.
+fn place_of_process(script: &[u8], line: usize) -> usize
+    ensures { result ≡ in_line first_place script.now line }
+{
+    let (begin, text) = script_line(script, line);
+    begin + first_place(text)
+}
+
+fn told(place: usize, sentence: &'static str) -> Option<Remark>
+    ensures { option_map remark_of result ≡ Some (record { place = place; sentence = sentence.now }) }
+{
+    Some(Remark { place, sentence })
+}
