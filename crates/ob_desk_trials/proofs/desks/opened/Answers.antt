@@ -9,7 +9,7 @@ use Rattle.ob_object.proofs.ScriptFits.{callers_below, calls_fit}
 use Rattle.ob_object.specs.View.{object_in}
 use Rattle.ob_text.specs.Script.{IsScript}
 use Rattle.ob_text.specs.ScriptView.{object_call, script_call_of}
-use Rattle.ob_code_trials.proofs.desks.opened.Goals as goal
+use Rattle.ob_desk_trials.proofs.desks.opened.Goals as goal
 
 pub open-requires-clause-sound : goal.open-requires-clause-sound
 open-requires-clause-sound c = sound_of c.args.text.now 2 (object_in c.in_ok-object.object) c.in_ok-object.ensures.object

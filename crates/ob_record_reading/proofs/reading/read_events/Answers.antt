@@ -1,11 +1,11 @@
 use Rattle.std.proofs.Common.{◌+◌, refl}
 use Rattle.ob_record_reading.proofs.LineRuns.{nothing}
 use Rattle.ob_record_reading.proofs.Places.{all_events, applied_more, event_more, no_line, order_fails, order_told, rest_of}
-use Rattle.ob_record_reading.proofs.reading.read_behind.Goals as goal
-use Rattle.ob_record_reading.proofs.reading.read_behind.Goals.{in-Begin+in_ok-begin-in-Begin, in-End+in_ok-end-in-End, in-Applied}
+use Rattle.ob_record_reading.proofs.reading.read_events.Goals as goal
+use Rattle.ob_record_reading.proofs.reading.read_events.Goals.{in-Begin+in_ok-begin-in-Begin, in-End+in_ok-end-in-End, in-Applied}
 
 pub loop-index-init : goal.loop-index-init
-loop-index-init c = record { events = rw c.in_ok-calls.ensures.1 nothing; processes = c.in_ok-calls.ensures.0 }
+loop-index-init c = record { events = rw c.requires nothing; processes = refl }
 
 pub returns-in_default-clause-fault : goal.returns-in_default-clause-fault
 returns-in_default-clause-fault c =
@@ -17,11 +17,10 @@ returns-in-Some-first_other-clause-fault c =
     order_fails _ _ _ c.args.lines.now c.loop-index.index _ _ _ c.loop-index-test.true c.index-lines-index.is c.loop-index.invariant.events
     _ _ c.in-Some-first_other.other _ (rest_of c.args.lines.now (c.loop-index.index + 1)) (rw (c.deref.ensures.value, c.loop-index.invariant.processes, c.in-Some.is, c.in-Order.is) at c.in_ok-said.ensures) c.in-Some-first_other.ensures.place refl
 
-pub returns-in-Order-clause-record : goal.returns-in-Order-clause-record
-returns-in-Order-clause-record c =
-    rw c.into_history.ensures
-    (order_told _ _ _ c.args.lines.now c.loop-index.index _ _ _ c.loop-index-test.true c.index-lines-index.is c.loop-index.invariant.events
-    _ _ (rest_of c.args.lines.now (c.loop-index.index + 1)) (rw (c.deref.ensures.value, c.loop-index.invariant.processes, c.in-Some.is, c.in-Order.is) at c.in_ok-said.ensures) c.in_default-first_other.ensures.place)
+pub returns-in-None-clause-record : goal.returns-in-None-clause-record
+returns-in-None-clause-record c =
+    order_told _ _ _ c.args.lines.now c.loop-index.index _ _ _ c.loop-index-test.true c.index-lines-index.is c.loop-index.invariant.events
+    _ _ (rest_of c.args.lines.now (c.loop-index.index + 1)) (rw (c.deref.ensures.value, c.loop-index.invariant.processes, c.in-Some.is, c.in-Order.is) at c.in_ok-said.ensures) (rw c.in-None.is at c.first_other.ensures.place)
 
 pub loop-index-preserved : goal.loop-index-preserved
 loop-index-preserved c =
