@@ -10,5 +10,3 @@ mod explanations;
 mod nesting;
 #[cfg(test)]
 mod printing;
-#[cfg(test)]
-mod replies;
