@@ -1,17 +1,16 @@
 -- What an instruction leaves of sizes: the block has as many words as before, and a trap is from 1 to 4.
-use Rattle.std.proofs.Common.{◌≡◌, ℕ, ◌+◌, ◌-◌, ◌<◌, ◌≤◌, Bool, true, false, ◌||◌, cond, ℤ, pos, negsuc, List, [], ◌∷◌, ◌++◌, length, take, replicate, length-set, refl, arith}
+use Rattle.std.proofs.Common.{◌≡◌, ℕ, ◌+◌, ◌-◌, ◌<◌, ◌≤◌, Bool, true, false, ◌||◌, ℤ, pos, negsuc, List, [], ◌∷◌, ◌++◌, length, take, replicate, length-set, refl, arith}
 use Rattle.std.specs.Prelude.{◌+ℤ◌, ◌-ℤ◌, ◌*ℤ◌, neg_ℤ, nat_lt, nat_le, int_lt, int_le, slice_set, slice_get, slice_index_or, Option, Some, None, if◌then◌else◌}
 use Rattle.std.specs.Ordering.{int_eq}
-use Rattle.std.specs.Int.{int_div_euclid, int_rem_euclid}
 use Rattle.ob_code.specs.declared.instr.Instr.{Instr}
 use Rattle.ob_code.specs.declared.instr.Instr.TheVariants.{Literal, Global, Local, Field, Index, Get, Put, Add, Subtract, Multiply, Divide, Modulo, Negate, Not, Equal, NotEqual, Less, LessOrEqual, Greater, GreaterOrEqual, Jump, JumpIfFalse, AndJump, OrJump, Call, Frame, Return}
 use Rattle.ob_code.specs.declared.saved.Saved.{Saved}
 use Rattle.ob_code.specs.declared.turn.BodyTurn.TheVariants as Answer
 use Rattle.ob_code.specs.Words.{Made, Gives, Traps, Sticks, ◌>>=◌, is_integer, is_word, integer, address, other_truth, made_of_one, made_of_two}
 use Rattle.ob_code.specs.Effect.{word_at, put_at, popped, pushed, of_one, of_two, loaded, stored, cleared, stack_effect, effect}
-use Rattle.ob_code.specs.Machine.{Configuration, Outcome, Unfinished, Returned, Trapped, Stuck, made_then, goes_on, jump_if_false, jump_if_decided, called, back_to, returned, computed, act, act_at, turn}
-use Rattle.ob_code.specs.Body.{Run, shown, at, step_of}
-use Rattle.ob_code.specs.Laws.{StepsKeepSizes, KeepsSizes}
+use Rattle.ob_code.specs.Machine.{Configuration, Outcome, Unfinished, Returned, Trapped, Stuck, made_then, goes_on, back_to, computed, act, act_at, turn}
+use Rattle.ob_code.specs.Body.{Run, shown, at}
+use Rattle.ob_code.specs.Laws.{StepsKeepSizes}
 
 -- ---- what is made
 

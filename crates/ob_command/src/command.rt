@@ -211,23 +211,23 @@ fn stop_of(alloc: Global, error: &clap::Error) -> Result<Stop, AllocError>
 fn command_line<'a>(alloc: Global) -> Result<clap::Command<'a>, AllocError>
     ensures { IfOk result (λ c. app_of c ≡ obl0_app) }
 {
+    // Each command is added before the next one is made, so that want of memory finds no more than two to let go.
     let check = module_line(alloc, "check", "Tells whether a module keeps the rules")?;
+    let program = program_line(alloc)?.subcommand(check)?;
     let list = module_line(alloc, "list", "Prints the code of a module")?;
+    let program = program.subcommand(list)?;
     let seq = script_line(alloc, "seq", ABOUT_SEQ)?;
+    let program = program.subcommand(seq)?;
     let run = run_line(alloc, "run", ABOUT_RUN)?;
+    let program = program.subcommand(run)?;
     let serve = serve_line(alloc, "serve", ABOUT_SERVE)?;
+    let program = program.subcommand(serve)?;
     let draw = run_line(alloc, "draw", ABOUT_DRAW)?;
+    let program = program.subcommand(draw)?;
     let verify = record_line(alloc, "verify", ABOUT_VERIFY)?;
+    let program = program.subcommand(verify)?;
     let explain = explain_line(alloc, "explain", ABOUT_EXPLAIN)?;
-    program_line(alloc)?
-        .subcommand(check)?
-        .subcommand(list)?
-        .subcommand(seq)?
-        .subcommand(run)?
-        .subcommand(serve)?
-        .subcommand(draw)?
-        .subcommand(verify)?
-        .subcommand(explain)
+    program.subcommand(explain)
 }
 
 /// The command line before any command.

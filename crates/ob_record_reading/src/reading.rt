@@ -194,8 +194,27 @@ fn read_behind(
     ensures fault { IfErr result (λ e. FaultBehind processes (map export_of exports.now) (map (λ l. map (λ w. w.now) l.items) lines.now) e) }
 {
     let mut calls = Calls::new(alloc, processes)?;
+    let order = read_events(alloc, exports, &mut calls, lines)?;
+    Ok(ReadRecord {
+        processes,
+        history: calls.into_history(),
+        order,
+    })
+}
+
+/// The order that lines tell behind the first two, with the events before it.
+fn read_events(
+    alloc: Global,
+    exports: &[Export],
+    calls: &mut Calls,
+    lines: &[Vec<&[u8]>],
+) -> Result<Vec<CallId>, RecordFault>
+    requires { calls.old.events ≡ [] }
+    ensures record { IfOk result (λ ids. AreLines calls.old.processes (map export_of exports.now) [] (map (λ l. map (λ w. w.now) l.items) lines.now) calls.new.events ids.items) }
+    ensures fault { IfErr result (λ e. FaultBehind calls.old.processes (map export_of exports.now) (map (λ l. map (λ w. w.now) l.items) lines.now) e) }
+{
     for (index, line) in lines.iter().enumerate() {
-        let Some(said) = read_line(alloc, exports, &calls, line)? else {
+        let Some(said) = read_line(alloc, exports, calls, line)? else {
             return Err(RecordFault::Form(index + 3));
         };
         match said {
@@ -203,14 +222,10 @@ fn read_behind(
             Line::End(id, reply) => calls.end(id, reply)?,
             Line::Applied => {}
             Line::Order(order) => {
-                if let Some(other) = first_other(&lines[index + 1..]) {
-                    return Err(RecordFault::Form(index + other + 4));
-                }
-                return Ok(ReadRecord {
-                    processes,
-                    history: calls.into_history(),
-                    order,
-                });
+                return match first_other(&lines[index + 1..]) {
+                    Some(other) => Err(RecordFault::Form(index + other + 4)),
+                    None => Ok(order),
+                };
             }
         }
     }

@@ -1,35 +1,16 @@
 //! Reply lines: what is printed of the replies to calls.
 
-ghost use Rattle.std.specs.Prelude.{◌≡◌, ◌<◌, ◌++◌, [], map, codes, decimal, All, IfOk, OnOk, string_bytes};
+ghost use Rattle.std.specs.Prelude.{◌≡◌, ◌++◌, codes, decimal, OnOk, string_bytes};
 ghost use Rattle.std.specs.List.{flat_map};
 ghost use Rattle.ob_mean.specs.View.{reply_of};
-ghost use Rattle.ob_reply.specs.ReplyLines.{reply_text, reply_line, reply_lines};
+ghost use Rattle.ob_reply.specs.ReplyLines.{reply_line};
 ghost use Rattle.ob_text.specs.Values.{scalar_text};
 
 use ob_check::program::Scalar;
 use ob_mean::call::Reply;
 use ob_text::numbers::push_number;
 use ob_text::values::push_value;
-use std::alloc::{AllocError, Global};
-
-/// The lines of replies to the calls of these callers, processes below `processes`.
-pub fn print_replies(
-    alloc: Global,
-    processes: usize,
-    callers: &[usize],
-    replies: &[Reply],
-) -> Result<String, AllocError>
-    requires { All (λ p. p < processes) callers.now }
-    ensures { IfOk result (λ text. string_bytes text ≡ reply_lines [] callers.now (map reply_of replies.now)) }
-{
-    let mut text = String::new(alloc);
-    let mut made = vec![in alloc; 0u64; processes]?;
-    for (caller, reply) in callers.iter().zip(replies) {
-        made[*caller] += 1;
-        push_reply_line(&mut text, *caller, made[*caller], reply)?;
-    }
-    Ok(text)
-}
+use std::alloc::AllocError;
 
 /// Appends the line of a reply to a process's call of a number.
 pub fn push_reply_line(

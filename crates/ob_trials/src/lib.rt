@@ -1,18 +1,12 @@
-//! Tests of what no row of the program shows: trees with their places, printed texts, values that the program doesn't
-//! print, and compiled code. Nothing stands on this crate.
+//! Tests of what no row of the program shows: printed texts, faults as people read them, and a call on its own. Nothing
+//! stands on this crate.
 #![tactic(auto)]
 
 #[cfg(test)]
-mod checking;
+mod calls;
 #[cfg(test)]
-mod code;
+mod explanations;
 #[cfg(test)]
 mod nesting;
 #[cfg(test)]
-mod orders;
-#[cfg(test)]
 mod printing;
-#[cfg(test)]
-mod replies;
-#[cfg(test)]
-mod trees;

@@ -1,5 +1,5 @@
 -- The verdict on a heading, step by step.
-use Rattle.std.proofs.Common.{◌≡◌, ℕ, List, [], ◌∷◌, Bool, true, false, refl, sym, ap, ◌∙◌}
+use Rattle.std.proofs.Common.{◌≡◌, ℕ, List, ◌∷◌, Bool, true, false, refl, sym, ap, ◌∙◌}
 use Rattle.std.specs.Prelude.{not, ◌||◌}
 use Rattle.ob_grammar.specs.Tree.{Heading, Section}
 use Rattle.ob_typing.specs.declared.rule.Rule.TheVariants.{BadExport}

@@ -3,9 +3,7 @@
 
 pub mod adder;
 pub mod spin;
-pub mod tally;
 pub mod words;
 
 pub use adder::Adder;
 pub use spin::Spin;
-pub use tally::Tally;

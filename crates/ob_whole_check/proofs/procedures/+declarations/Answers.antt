@@ -8,7 +8,7 @@ use Rattle.ob_typing.specs.Declarations.{declared_by, with_procedure}
 use Rattle.ob_typing.proofs.Verdict.{Right}
 use Rattle.ob_typing.proofs.CheckedModules.{constants, types, variables, procedures}
 use Rattle.ob_checked.specs.declared.program.Procedure.{Procedure}
-use Rattle.ob_checked.specs.View.{parameter_of, variable_of, procedure_of}
+use Rattle.ob_checked.specs.View.{parameter_of, procedure_of}
 use Rattle.ob_scopes.specs.Names.{types_in, env_of}
 use Rattle.ob_rules.specs.Checking.{and_then}
 use Rattle.ob_rules.specs.CheckingVariables.{room_of}

@@ -1,0 +1,87 @@
+//! Desks at which turns are taken by hand.
+
+use ob_desk::{CloseFault, Desk, Seat};
+use ob_object::{compile, perform};
+use ob_text::script::read_scripts;
+use std::alloc::Global;
+use std::sync::Wait;
+use std::test::Fail;
+
+/// A counter.
+const COUNTER: &[u8] = b"MODULE C; VAR x: INTEGER;
+  PROCEDURE Inc*; BEGIN x := x + 1 END Inc;
+  PROCEDURE Get*(VAR v: INTEGER); BEGIN v := x END Get;
+END C.";
+
+/// Process 1 gets 1 where process 0 was there before it, and else 0.
+const CALLS: &[u8] = b"0 Inc\n1 Get\n";
+
+/// The tag of the seats.
+const TAG: u64 = 7;
+
+/// A desk of two processes, and its seats.
+fn opened(alloc: Global, text: &[u8], calls: &[u8]) -> Result<(Desk, Vec<Seat>), Fail> {
+    let object = compile(alloc, text, 2)?;
+    let scripts = read_scripts(alloc, object.checked(), 2, calls)?;
+    Ok(Desk::open(alloc, object, scripts.into_calls(), TAG)?)
+}
+
+/// So many turns of a process.
+fn take_turns<R: Wait>(
+    rt: &R,
+    desk: &Desk,
+    seats: &mut Vec<Seat>,
+    process: usize,
+    count: usize,
+) -> Result<(), Fail> {
+    for _ in 0..count {
+        if let Some(seat) = seats.get_mut(process)
+            && seat.turns() < u128::MAX
+        {
+            desk.turn(rt, seat)?;
+        }
+    }
+    Ok(())
+}
+
+/// A desk at which the first process took its turns before the other one.
+fn used<R: Wait>(
+    rt: &R,
+    alloc: Global,
+    first: usize,
+    other: usize,
+) -> Result<(Desk, Vec<Seat>), Fail> {
+    let (desk, mut seats) = opened(alloc, COUNTER, CALLS)?;
+    take_turns(rt, &desk, &mut seats, first, 100)?;
+    take_turns(rt, &desk, &mut seats, other, 100)?;
+    Ok((desk, seats))
+}
+
+#[test]
+fn turns_by_hand_are_the_run_of_their_schedule(rt: HostRuntime) -> Result<(), Fail> {
+    let alloc = rt.alloc();
+    let (desk, seats) = used(&rt, alloc, 0, 1)?;
+    let closed = desk.close(alloc, seats)?;
+    let performed = perform(alloc, COUNTER, 2, CALLS, b"0*100 1*100")?;
+    assert_eq!(rt; closed.history.len(), performed.history.len());
+    assert_eq!(rt; closed.order.as_slice(), performed.order.as_slice());
+    assert_eq!(rt; closed.schedule.as_slice(), performed.schedule.as_slice());
+    Ok(())
+}
+
+/// As many turns, but another answer.
+#[test]
+fn a_seat_that_was_at_another_desk(rt: HostRuntime) -> Result<(), Fail> {
+    let alloc = rt.alloc();
+    let (desk, mut seats) = used(&rt, alloc, 0, 1)?;
+    let (_, mut others) = used(&rt, alloc, 1, 0)?;
+    seats.pop();
+    if let Some(other) = others.pop() {
+        seats.push(other)?;
+    }
+    assert_eq!(rt;
+        desk.close(alloc, seats).err(),
+        Some(CloseFault::Disagrees(1))
+    );
+    Ok(())
+}

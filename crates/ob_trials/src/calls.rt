@@ -1,0 +1,23 @@
+//! One call on the opening state of a module, without a script.
+
+use ob_interpreter::call::{Call, Reply};
+use ob_interpreter::object::interpret;
+use ob_sequential::{TURNS, opened_text};
+use ob_typing::scalar::Scalar;
+use std::test::Fail;
+
+const DEPTH: &[u8] = b"MODULE R; PROCEDURE Down*(k: INTEGER); \
+    BEGIN IF k > 1 THEN Down(k - 1) END END Down; END R.";
+
+#[test]
+fn a_call_is_made_on_the_opening_state(rt: HostRuntime) -> Result<(), Fail> {
+    let alloc = rt.alloc();
+    let (checked, state) = opened_text(alloc, DEPTH)?;
+    let call = Call {
+        export: 0,
+        arguments: vec![in alloc; Scalar::Int(65)]?,
+    };
+    let (_, reply) = interpret(alloc, &checked, &state, &call, TURNS)?.ok_or("more turns")?;
+    assert!(rt; matches!(reply, Reply::Trapped(4)));
+    Ok(())
+}
