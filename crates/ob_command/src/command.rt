@@ -90,7 +90,7 @@ const ABOUT_VERIFY: &str = "Tells whether the order of a record is a legal order
 /// What stands below the help.
 const AFTER_HELP: &str = "\
 `help` and `--version` are understood alone.
-docs/FAULTS.md lists the faults, such as S3 or C12.";
+docs/FAULTS.md lists the faults, such as S3 or O2.";
 
 /// Words that ask for help.
 const ASKING_HELP: &[&str] = &["--help"];
