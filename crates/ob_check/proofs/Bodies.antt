@@ -16,7 +16,7 @@ use Rattle.ob_check.specs.Program.{Statements}
 use Rattle.ob_check.specs.Scopes.{Environment}
 use Rattle.ob_check.specs.Typing as Typing
 use Rattle.ob_check.specs.Typing.{IsVariable, HasType, AreStatements}
-use Rattle.ob_check.specs.FirstPath.{outside_stmt, outside_stmts}
+use Rattle.ob_check.specs.CompiledPart.{outside_stmt, outside_stmts}
 use Rattle.ob_check.specs.Parts as Parts
 use Rattle.ob_check.specs.Parts.{AVariable, AnExpression, SomeStatements}
 use Rattle.ob_check.specs.View.{statement_of, statements_in}

@@ -21,7 +21,7 @@ use Rattle.ob_check.specs.Program as Program
 use Rattle.ob_check.specs.Scopes.{Environment}
 use Rattle.ob_check.specs.Typing as Typing
 use Rattle.ob_check.specs.Typing.{IsVariable, HasType, AreOperands, IsArithmetic, with_sign}
-use Rattle.ob_check.specs.FirstPath.{is_arithmetic, all_arithmetic}
+use Rattle.ob_check.specs.CompiledPart.{is_arithmetic, all_arithmetic}
 use Rattle.ob_check.specs.Parts as Parts
 use Rattle.ob_check.specs.Parts.{AVariable, AnExpression, SomeOperands}
 use Rattle.ob_check.specs.View.{expression_of}

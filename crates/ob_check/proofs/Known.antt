@@ -9,7 +9,7 @@ use Rattle.ob_check.specs.Program.{Variable, Parameter, Procedure}
 use Rattle.ob_check.specs.Scopes.{Environment}
 use Rattle.ob_check.specs.Typing as Typing
 use Rattle.ob_check.specs.Typing.{HasType, AreOperands, Denotes, IsStatement, AreStatements, IsBody, Variables, Parameters, DeclareNothing, DeclaresProcedures, Declares, WellTyped, IsArithmetic, listed}
-use Rattle.ob_check.specs.FirstPath.{is_arithmetic, all_arithmetic, first_place, outside_expr, outside_operands, outside_type, outside_stmt, outside_stmts, outside_body, outside_variables, outside_sections, part_place, first_procedure, first_declared, outside_procedure, outside_procedures, outside_declarations, outside}
+use Rattle.ob_check.specs.CompiledPart.{is_arithmetic, all_arithmetic, first_place, outside_expr, outside_operands, outside_type, outside_stmt, outside_stmts, outside_body, outside_variables, outside_sections, part_place, first_procedure, first_declared, outside_procedure, outside_procedures, outside_declarations, outside}
 use Rattle.ob_check.specs.Parts as Parts
 use Rattle.ob_check.specs.Parts.{Part, Holds}
 use Rattle.ob_check.specs.Checking.{IsKnown}

@@ -14,7 +14,7 @@ use Rattle.ob_check.specs.Program.{Variable, exports}
 use Rattle.ob_check.specs.Scopes.{Environment, variable_words}
 use Rattle.ob_check.specs.Typing as Typing
 use Rattle.ob_check.specs.Typing.{Variables, DeclaresProcedures, IsBody, WellTyped, declared_by, opening_names}
-use Rattle.ob_check.specs.FirstPath.{part_place, outside_variables, outside_procedures, outside_declarations, outside_body, outside}
+use Rattle.ob_check.specs.CompiledPart.{part_place, outside_variables, outside_procedures, outside_declarations, outside_body, outside}
 use Rattle.ob_check.specs.Parts as Parts
 use Rattle.ob_check.specs.Parts.{Part, SomeVariables, SomeProcedures, SomeStatements, Within, Stands}
 use Rattle.ob_check.specs.CheckFaults.{BreaksRule, IsCheckFault}

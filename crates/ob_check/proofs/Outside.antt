@@ -15,7 +15,7 @@ use Rattle.ob_grammar.specs.Tree
 use Rattle.ob_grammar.specs.View.{name_of, expr_of, operands_in, selectors_in, stmt_of}
 use Rattle.ob_grammar.proofs.Rows.{expr_of-named, expr_of-sum}
 use Rattle.ob_check.specs.Typing.{listed}
-use Rattle.ob_check.specs.FirstPath.{is_arithmetic, all_arithmetic, first_place, outside_expr, outside_operands, outside_stmt}
+use Rattle.ob_check.specs.CompiledPart.{is_arithmetic, all_arithmetic, first_place, outside_expr, outside_operands, outside_stmt}
 
 -- a list whose keyword may not stand, seen part by part
 pub listed_seen : {X Y : Type 0} (f : X → Y) (o : Option (Vec X Global)) → map f (listed (option_map (λ v. v.items) o)) ≡ listed (option_map (λ v. map f v.items) o)

@@ -14,7 +14,7 @@ use Rattle.ob_check.specs.Program.{Name, Parameter, Variable, formal_of}
 use Rattle.ob_check.specs.Scopes.{Environment, Scope, ProcedureName, no_names, with_name, IsNew, declared, variable_in}
 use Rattle.ob_check.specs.Typing as Typing
 use Rattle.ob_check.specs.Typing.{Names, Parameters, IsBody, DeclareNothing, DeclaresProcedures, listed, inner_scope}
-use Rattle.ob_check.specs.FirstPath.{outside_sections, outside_body, first_declared, outside_procedure, outside_procedures}
+use Rattle.ob_check.specs.CompiledPart.{outside_sections, outside_body, first_declared, outside_procedure, outside_procedures}
 use Rattle.ob_check.specs.Parts as Parts
 use Rattle.ob_check.specs.Parts.{SomeProcedures, SomeSections, SomeStatements}
 use Rattle.ob_check.specs.CheckFaults as Rules

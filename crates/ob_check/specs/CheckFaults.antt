@@ -9,7 +9,7 @@ use Rattle.ob_check.specs.declared.program.Formal.{Formal}
 use Rattle.ob_check.specs.Program
 use Rattle.ob_check.specs.Scopes.{Environment, Object, TypeName, ModuleVariable, LocalVariable, ProcedureName, found, IsNew, words}
 use Rattle.ob_check.specs.Typing.{Denotes, WellTyped}
-use Rattle.ob_check.specs.FirstPath.{outside}
+use Rattle.ob_check.specs.CompiledPart.{outside}
 use Rattle.ob_check.specs.Parts.{Part, New, AVariable, AType, SomeVariables, SomeSections, SomeProcedures, Stands}
 
 -- a name that stands for no variable
@@ -59,7 +59,7 @@ pub record BreaksRule (m : Module) (fault : CheckFault) : Type 0 where
   pub stands : Stands m env part
   pub fails : Fails env part fault
 
--- want of memory is the fault of no rule, and what the checker does not know yet is told at the first place of the text
+-- want of memory is the fault of no rule, and what is beyond the compiled part is told at the first place of the text
 abbrev pub FailsAt : Module → CheckFault → Type 0
 FailsAt m NoMemory = Unit {0}
 FailsAt m (NotSupported place) = outside m ≡ Some place

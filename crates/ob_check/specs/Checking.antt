@@ -15,7 +15,7 @@ use Rattle.ob_check.specs.Program.{Name, Variable, Parameter}
 use Rattle.ob_check.specs.Scopes as Declared
 use Rattle.ob_check.specs.Scopes.{Environment, Scope, TypeName, ModuleVariable, LocalVariable, ProcedureName}
 use Rattle.ob_check.specs.Typing.{Denotes, Names, section_parameters}
-use Rattle.ob_check.specs.FirstPath.{all_arithmetic, outside_expr, outside_operands, outside_type, outside_stmt, outside_stmts, outside_variables, outside_sections, outside_procedures}
+use Rattle.ob_check.specs.CompiledPart.{all_arithmetic, outside_expr, outside_operands, outside_type, outside_stmt, outside_stmts, outside_variables, outside_sections, outside_procedures}
 use Rattle.ob_check.specs.Parts.{Part, New, AVariable, AnExpression, SomeOperands, AType, AStatement, SomeStatements, SomeVariables, SomeSections, SomeProcedures, Within}
 use Rattle.ob_check.specs.CheckFaults.{Fails}
 use Rattle.ob_check.specs.View.{expression_of}

@@ -3,7 +3,7 @@ pub mod View
 pub mod Arithmetic
 pub mod Scopes
 pub mod Typing
-pub mod FirstPath
+pub mod CompiledPart
 pub mod Parts
 pub mod CheckFaults
 pub mod Exports

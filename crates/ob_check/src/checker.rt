@@ -3,15 +3,15 @@
 ghost use Rattle.std.specs.Prelude.{◌≡◌, ℕ, IfOk, IfErr, map, option_map};
 ghost use Rattle.ob_grammar.specs.View.{var_decl_of, variables_of, module_of};
 ghost use Rattle.ob_check.specs.Typing.{WellTyped, listed, declared_by};
-ghost use Rattle.ob_check.specs.FirstPath.{outside};
+ghost use Rattle.ob_check.specs.CompiledPart.{outside};
 ghost use Rattle.ob_check.specs.CheckedModule.{tree_in, program_in};
 ghost use Rattle.ob_check.specs.CheckFaults.{IsCheckFault};
 ghost use Rattle.ob_check.specs.Program.{Program as CheckedProgram};
 ghost use Rattle.ob_check.specs.View.{program_of};
 
+mod compiled_part;
 mod exports;
 mod expressions;
-mod first_path;
 mod names;
 mod procedures;
 mod scopes;
@@ -20,8 +20,8 @@ mod variables;
 
 use crate::checked::Checked;
 use crate::program::Program;
+use compiled_part::outside;
 use exports::exports_of;
-use first_path::outside;
 use ob_grammar::module::Module;
 use ob_grammar::tree::{ModuleTree, VarDecl, Variables};
 use procedures::declare_procedures;
@@ -47,9 +47,9 @@ pub enum CheckFault {
     /// export, at the name.
     #[error("C9 at {0}")]
     PassesLimit(usize),
-    /// C12: the first construct of the text that the checker does not know yet, at its first
-    /// token. It comes before each other fault.
-    #[error("C12 at {0}")]
+    /// G3: the first construct of the text beyond the compiled part, at its first token. It comes
+    /// before each other fault.
+    #[error("G3 at {0}")]
     NotSupported(usize),
     /// Want of memory.
     #[error("NoMemory")]
@@ -78,8 +78,8 @@ impl<T: Drop> From<AllocFailed<T>> for CheckFault {
     }
 }
 
-/// The checked program of a module that is well typed, with its tree unchanged. What the checker does
-/// not know yet is told before all other faults. Of those the first in the text is meant to be told,
+/// The checked program of a module that is well typed, with its tree unchanged. What is beyond the
+/// compiled part is told before all other faults. Of those the first in the text is meant to be told,
 /// which no clause says.
 pub fn check(alloc: Global, module: Module) -> Result<Checked, CheckFault>
     ensures unchanged { IfOk result (λ c. tree_in c ≡ module_of «module») }
@@ -90,7 +90,7 @@ pub fn check(alloc: Global, module: Module) -> Result<Checked, CheckFault>
     // The rule fails at its place, and the module is not well typed.
     ensures fault { IfErr result (λ e. IsCheckFault (module_of «module») e) }
 
-    // The first construct that is not known is told, whatever else fails.
+    // The first construct beyond the compiled part is told, whatever else fails.
     ensures first { (place : ℕ) → outside (module_of «module») ≡ Some place → result ≡ Err (CheckFault.NotSupported place) }
 {
     let tree = module.tree();
@@ -102,7 +102,7 @@ pub fn check(alloc: Global, module: Module) -> Result<Checked, CheckFault>
     Ok(Checked::new(module, program, exports))
 }
 
-/// The program of a module in which each construct is known.
+/// The program of a module of the compiled part.
 fn checked_program(alloc: Global, tree: &ModuleTree) -> Result<Program, CheckFault>
     requires { outside (module_of tree.now) ≡ None }
     ensures typed { IfOk result (λ p. WellTyped (module_of tree.now) (program_of p)) }

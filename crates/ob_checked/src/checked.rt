@@ -41,6 +41,13 @@ impl Checked {
         &self.module
     }
 
+    /// The module alone, for another check.
+    pub fn into_module(self) -> Module
+        ensures { module_of result ≡ tree_in self }
+    {
+        self.module
+    }
+
     /// Its tree, in which nothing stands too deep.
     pub fn tree(&self) -> &ModuleTree
         ensures tree { module_of result.now ≡ tree_in self.now }

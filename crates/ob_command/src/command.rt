@@ -99,7 +99,7 @@ const HELP_SCRIPT: &str = "The file of the calls, one a line: PROCESS PROCEDURE 
 /// What stands below the help.
 const AFTER_HELP: &str = "\
 `help` and `--version` are understood alone.
-docs/FAULTS.md lists the faults, such as S3 or C12.";
+docs/FAULTS.md lists the faults, such as S3 or O2.";
 
 /// Words that ask for help.
 const ASKING_HELP: &[&str] = &["--help"];

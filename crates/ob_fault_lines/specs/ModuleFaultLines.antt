@@ -4,8 +4,10 @@ use Rattle.ob_scan.specs.declared.fault.ScanFault.{ScanFault}
 use Rattle.ob_scan.specs.declared.fault.ScanFault.TheVariants as Scan
 use Rattle.ob_parser.specs.declared.parser.ParseFault.{ParseFault}
 use Rattle.ob_parser.specs.declared.parser.ParseFault.TheVariants as Parse
-use Rattle.ob_check.specs.declared.checker.CheckFault.{CheckFault}
-use Rattle.ob_check.specs.declared.checker.CheckFault.TheVariants as Check
+use Rattle.ob_typing.specs.declared.rule.Rule.{Rule}
+use Rattle.ob_typing.specs.declared.rule.Rule.TheVariants as Rules
+use Rattle.ob_scopes.specs.declared.fault.CheckFault.{CheckFault}
+use Rattle.ob_scopes.specs.declared.fault.CheckFault.TheVariants as Check
 use Rattle.ob_mean.specs.declared.opening.OpenFault.{OpenFault}
 use Rattle.ob_mean.specs.declared.opening.OpenFault.TheVariants as Open
 use Rattle.ob_opened.specs.declared.checked_text.TextFault.{TextFault}
@@ -35,18 +37,28 @@ parse_line (Parse.TooDeep place) = at_place (codes "P2") place
 parse_line (Parse.NameDiffers place) = at_place (codes "P3") place
 parse_line Parse.NoMemory = no_memory_line
 
-abbrev pub check_line : CheckFault → Text
-check_line (Check.UnknownName place) = at_place (codes "C1") place
-check_line (Check.DeclaredTwice place) = at_place (codes "C2") place
-check_line (Check.WrongKind place) = at_place (codes "C3") place
-check_line (Check.PassesLimit place) = at_place (codes "C9") place
-check_line (Check.NotSupported place) = at_place (codes "C12") place
-check_line Check.NoMemory = no_memory_line
+abbrev pub rule_number : Rule → Text
+rule_number Rules.UnknownName = codes "C1"
+rule_number Rules.DeclaredTwice = codes "C2"
+rule_number Rules.WrongKind = codes "C3"
+rule_number Rules.TypesDiffer = codes "C4"
+rule_number Rules.BadConstant = codes "C5"
+rule_number Rules.BadLength = codes "C6"
+rule_number Rules.BadActuals = codes "C7"
+rule_number Rules.WrongLevel = codes "C8"
+rule_number Rules.PassesLimit = codes "C9"
+rule_number Rules.BadExport = codes "C10"
 
+abbrev pub rule_line : CheckFault → Text
+rule_line (Check.Broken fault) = at_place (rule_number fault.rule) fault.place
+rule_line Check.NoMemory = no_memory_line
+
+-- a module that goes beyond what the compiler knows is told at the first construct beyond
 abbrev pub text_line : TextFault → Text
 text_line (Texts.Scan e) = scan_line e
 text_line (Texts.Parse e) = parse_line e
-text_line (Texts.Check e) = check_line e
+text_line (Texts.Check e) = rule_line e
+text_line (Texts.Beyond place) = at_place (codes "G3") place
 text_line Texts.NoMemory = no_memory_line
 
 abbrev pub open_line : OpenFault → Text

@@ -1,9 +1,5 @@
 -- The line that tells each fault of a module of the whole language: by itself, and with its calls made one after the other.
 use Rattle.std.specs.Prelude.{ℕ, ◌++◌, codes, decimal}
-use Rattle.ob_typing.specs.declared.rule.Rule.{Rule}
-use Rattle.ob_typing.specs.declared.rule.Rule.TheVariants as Rules
-use Rattle.ob_scopes.specs.declared.fault.CheckFault.{CheckFault}
-use Rattle.ob_scopes.specs.declared.fault.CheckFault.TheVariants as Check
 use Rattle.ob_interpreter.specs.declared.opening.OpenFault.{OpenFault}
 use Rattle.ob_interpreter.specs.declared.opening.OpenFault.TheVariants as Open
 use Rattle.ob_calls.specs.declared.script.ScriptFault.{ScriptFault}
@@ -14,24 +10,8 @@ use Rattle.ob_sequential.specs.declared.opened.ModuleFault.{ModuleFault}
 use Rattle.ob_sequential.specs.declared.opened.ModuleFault.TheVariants as Modules
 use Rattle.ob_sequential.specs.declared.sequential.SeqTextFault.{SeqTextFault}
 use Rattle.ob_sequential.specs.declared.sequential.SeqTextFault.TheVariants as Runs
-use Rattle.ob_fault_lines.specs.ModuleFaultLines.{Text, at_place, no_memory_line, parse_line, scan_line}
+use Rattle.ob_fault_lines.specs.ModuleFaultLines.{Text, no_memory_line, parse_line, rule_line, scan_line}
 use Rattle.ob_fault_lines.specs.ScriptFaultLines.{at_line}
-
-abbrev pub rule_number : Rule → Text
-rule_number Rules.UnknownName = codes "C1"
-rule_number Rules.DeclaredTwice = codes "C2"
-rule_number Rules.WrongKind = codes "C3"
-rule_number Rules.TypesDiffer = codes "C4"
-rule_number Rules.BadConstant = codes "C5"
-rule_number Rules.BadLength = codes "C6"
-rule_number Rules.BadActuals = codes "C7"
-rule_number Rules.WrongLevel = codes "C8"
-rule_number Rules.PassesLimit = codes "C9"
-rule_number Rules.BadExport = codes "C10"
-
-abbrev pub rule_line : CheckFault → Text
-rule_line (Check.Broken fault) = at_place (rule_number fault.rule) fault.place
-rule_line Check.NoMemory = no_memory_line
 
 abbrev pub whole_text_line : TextFault → Text
 whole_text_line (Texts.Scan e) = scan_line e

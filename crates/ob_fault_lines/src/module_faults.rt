@@ -1,15 +1,16 @@
 //! The lines of a module's faults: of its text and of its opening.
 
 ghost use Rattle.std.specs.Prelude.{◌≡◌, ◌++◌, OnOk, string_bytes};
-ghost use Rattle.ob_fault_lines.specs.ModuleFaultLines.{at_place, check_line, open_line, parse_line, scan_line, text_line};
+ghost use Rattle.ob_fault_lines.specs.ModuleFaultLines.{at_place, open_line, parse_line, rule_line, rule_number, scan_line, text_line};
 
-use ob_check::checker::CheckFault;
 use ob_mean::opening::OpenFault;
 use ob_opened::checked_text::TextFault;
 use ob_parser::parser::ParseFault;
 use ob_scan::ScanFault;
 use ob_scan::scanner::LONGEST_TEXT;
+use ob_scopes::fault::CheckFault;
 use ob_text::numbers::push_number;
+use ob_typing::rule::Rule;
 use std::alloc::AllocError;
 
 /// Appends the line of a fault of a module's text, without a line feed.
@@ -19,7 +20,8 @@ pub fn push_text_fault(line: &mut String, fault: TextFault) -> Result<(), AllocE
     match fault {
         TextFault::Scan(fault) => push_scan_fault(line, fault),
         TextFault::Parse(fault) => push_parse_fault(line, fault),
-        TextFault::Check(fault) => push_check_fault(line, fault),
+        TextFault::Check(fault) => push_broken_rule(line, fault),
+        TextFault::Beyond(place) => push_place(line, "G3", place),
         TextFault::NoMemory => line.push_str("NoMemory"),
     }
 }
@@ -62,16 +64,31 @@ pub(crate) fn push_parse_fault(line: &mut String, fault: ParseFault) -> Result<(
     }
 }
 
-fn push_check_fault(line: &mut String, fault: CheckFault) -> Result<(), AllocError>
-    ensures { OnOk result (string_bytes line.new ≡ string_bytes line.old ++ check_line fault) }
+/// Appends the line of a rule that is broken.
+pub(crate) fn push_broken_rule(line: &mut String, fault: CheckFault) -> Result<(), AllocError>
+    ensures { OnOk result (string_bytes line.new ≡ string_bytes line.old ++ rule_line fault) }
 {
     match fault {
-        CheckFault::UnknownName(place) => push_place(line, "C1", place),
-        CheckFault::DeclaredTwice(place) => push_place(line, "C2", place),
-        CheckFault::WrongKind(place) => push_place(line, "C3", place),
-        CheckFault::PassesLimit(place) => push_place(line, "C9", place),
-        CheckFault::NotSupported(place) => push_place(line, "C12", place),
+        CheckFault::Broken(broken) => push_place(line, rule_number(broken.rule), broken.place),
         CheckFault::NoMemory => line.push_str("NoMemory"),
+    }
+}
+
+/// The number of a rule.
+fn rule_number(rule: Rule) -> &'static str
+    ensures { result.now ≡ rule_number rule }
+{
+    match rule {
+        Rule::UnknownName => "C1",
+        Rule::DeclaredTwice => "C2",
+        Rule::WrongKind => "C3",
+        Rule::TypesDiffer => "C4",
+        Rule::BadConstant => "C5",
+        Rule::BadLength => "C6",
+        Rule::BadActuals => "C7",
+        Rule::WrongLevel => "C8",
+        Rule::PassesLimit => "C9",
+        Rule::BadExport => "C10",
     }
 }
 

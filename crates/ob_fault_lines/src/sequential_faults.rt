@@ -1,16 +1,14 @@
 //! The lines of faults of a module of the whole language: by itself, and with its calls made one after the other.
 
 ghost use Rattle.std.specs.Prelude.{◌≡◌, ◌++◌, IfOk, OnOk, string_bytes};
-ghost use Rattle.ob_fault_lines.specs.SequentialFaultLines.{calls_line, check_fault_line, more_turns_line, opening_line, rule_line, rule_number, seq_fault_line, whole_text_line};
+ghost use Rattle.ob_fault_lines.specs.SequentialFaultLines.{calls_line, check_fault_line, more_turns_line, opening_line, seq_fault_line, whole_text_line};
 
-use crate::module_faults::{push_parse_fault, push_place, push_scan_fault};
+use crate::module_faults::{push_broken_rule, push_parse_fault, push_scan_fault};
 use crate::script_faults::push_line_number;
 use ob_calls::script::ScriptFault;
 use ob_interpreter::opening::OpenFault;
-use ob_scopes::fault::CheckFault;
 use ob_sequential::{ModuleFault, SeqTextFault, TextFault};
 use ob_text::numbers::push_number;
-use ob_typing::rule::Rule;
 use std::alloc::{AllocError, Global};
 
 /// The line of a fault of a module by itself, without a line feed.
@@ -50,34 +48,6 @@ fn push_whole_text_fault(line: &mut String, fault: TextFault) -> Result<(), Allo
         TextFault::Parse(fault) => push_parse_fault(line, fault),
         TextFault::Check(fault) => push_broken_rule(line, fault),
         TextFault::NoMemory => line.push_str("NoMemory"),
-    }
-}
-
-/// Appends the line of a rule that is broken.
-fn push_broken_rule(line: &mut String, fault: CheckFault) -> Result<(), AllocError>
-    ensures { OnOk result (string_bytes line.new ≡ string_bytes line.old ++ rule_line fault) }
-{
-    match fault {
-        CheckFault::Broken(broken) => push_place(line, rule_number(broken.rule), broken.place),
-        CheckFault::NoMemory => line.push_str("NoMemory"),
-    }
-}
-
-/// The number of a rule.
-fn rule_number(rule: Rule) -> &'static str
-    ensures { result.now ≡ rule_number rule }
-{
-    match rule {
-        Rule::UnknownName => "C1",
-        Rule::DeclaredTwice => "C2",
-        Rule::WrongKind => "C3",
-        Rule::TypesDiffer => "C4",
-        Rule::BadConstant => "C5",
-        Rule::BadLength => "C6",
-        Rule::BadActuals => "C7",
-        Rule::WrongLevel => "C8",
-        Rule::PassesLimit => "C9",
-        Rule::BadExport => "C10",
     }
 }
 

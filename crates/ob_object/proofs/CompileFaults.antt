@@ -1,12 +1,12 @@
 -- What the faults of a compilation say, from what those of its parts say.
 use Rattle.std.proofs.Common.{◌≡◌, ◌≢◌, ℕ, List, true, false, subst, refl, arith}
-use Rattle.ob_check.specs.ModuleText.{IsModule}
 use Rattle.ob_check.specs.Program.{Program}
 use Rattle.ob_mean.specs.Faults.{IsOpenFault}
 use Rattle.ob_mean.specs.Object.{State, IsOpening}
 use Rattle.ob_mean.specs.declared.opening.OpenFault.{OpenFault}
 use Rattle.ob_mean.specs.declared.opening.OpenFault.TheVariants as Open
 use Rattle.ob_opened.specs.CheckedText.{IsNumberedText}
+use Rattle.ob_opened.specs.ModuleText.{IsModule}
 use Rattle.ob_opened.specs.declared.checked_text.TextFault.{TextFault}
 use Rattle.ob_opened.specs.declared.checked_text.TextFault.TheVariants as Text
 use Rattle.ob_opened.specs.declared.opened.TheConstants.{TURNS}
@@ -21,6 +21,7 @@ numbered_text : (e : TextFault) → IsNumbered (of_text e) → IsNumberedText e
 numbered_text (Text.Scan e) h = (refl, h.1.0)
 numbered_text (Text.Parse e) h = (refl, h.1.0)
 numbered_text (Text.Check e) h = (refl, h.1.0)
+numbered_text (Text.Beyond place) h = (refl, h.1.0)
 numbered_text Text.NoMemory h = let bad : true ≡ false = h.0 in cc
 
 pub text_none : (text : List ℕ) (n : ℕ) (e : TextFault) → (IsNumberedText e → (program : Program) → IsModule text program → ⊥) → IsNumbered (of_text e) → HasNoObject text n

@@ -1,7 +1,6 @@
 -- Where a fault with a number is true, the texts have no run.
 use Rattle.std.proofs.Common.{◌≡◌, ◌≢◌, ◌∙◌, ◌⊎◌, ℕ, ◌<◌, ◌≤◌, List, true, false, inl, inr, sym, ap, refl, subst, arith}
 use Rattle.ob_check.specs.Exports.{signatures}
-use Rattle.ob_check.specs.ModuleText.{IsModule}
 use Rattle.ob_check.specs.Program.{Program}
 use Rattle.ob_engine.specs.CodeMeaning.{EngineParts}
 use Rattle.ob_engine.specs.Compiled.{parts_of}
@@ -12,6 +11,7 @@ use Rattle.ob_object.specs.Compilation.{HasNoObject, IsCompilation, ObjectParts}
 use Rattle.ob_object.specs.Performance.{HasNoPerformance, IsNumbered, IsPerformance, IsRunFault, Shows, ShowsNone, of_compile, of_play, of_schedule, of_script}
 use Rattle.ob_object.specs.declared.compiling.CompileFault.{CompileFault}
 use Rattle.ob_object.specs.declared.compiling.CompileFault.TheVariants as Compile
+use Rattle.ob_opened.specs.ModuleText.{IsModule}
 use Rattle.ob_opened.specs.declared.opened.TheConstants.{TURNS}
 use Rattle.ob_record.specs.Record.{Record}
 use Rattle.ob_schedule.specs.Schedule.{IsSchedule, IsScheduleFault}

@@ -1,6 +1,5 @@
 -- What a module's text is compiled to, and why it can't be.
 use Rattle.std.specs.Prelude.{◌≡◌, ◌≢◌, ℕ, ◌<◌, ◌≤◌, ◌⊎◌, Bool, true, false, List, length}
-use Rattle.ob_check.specs.ModuleText.{IsModule}
 use Rattle.ob_check.specs.Program.{Program}
 use Rattle.ob_engine.specs.CodeMeaning.{EngineParts}
 use Rattle.ob_engine.specs.Compiled.{IsCompiled}
@@ -11,6 +10,7 @@ use Rattle.ob_mean.specs.Object.{State, IsOpening}
 use Rattle.ob_mean.specs.declared.opening.OpenFault.{OpenFault}
 use Rattle.ob_mean.specs.declared.opening.OpenFault.TheVariants as Open
 use Rattle.ob_opened.specs.CheckedText.{IsTextFault, TellsTextMemoryApart}
+use Rattle.ob_opened.specs.ModuleText.{IsModule}
 use Rattle.ob_opened.specs.declared.checked_text.TextFault.TheVariants as Text
 use Rattle.ob_opened.specs.declared.opened.TheConstants.{TURNS}
 use Rattle.ob_object.specs.declared.compiling.CompileFault.{CompileFault}

@@ -1,7 +1,6 @@
 -- A run from the texts of a module, of scripts and of a schedule: what its record is, and why there is none.
 use Rattle.std.specs.Prelude.{◌≡◌, ◌≢◌, ℕ, Bool, true, false, List}
 use Rattle.ob_check.specs.Exports.{signatures}
-use Rattle.ob_check.specs.ModuleText.{IsModule}
 use Rattle.ob_check.specs.Program.{Program}
 use Rattle.ob_engine.specs.CodeMeaning.{EngineParts, code_meaning}
 use Rattle.ob_engine.specs.Compiled.{IsCompiled, IsFitting, HasReserve, IsLawfulBlock}
@@ -13,6 +12,7 @@ use Rattle.ob_object.specs.declared.compiling.CompileFault.{CompileFault}
 use Rattle.ob_object.specs.declared.compiling.CompileFault.TheVariants as Compile
 use Rattle.ob_object.specs.declared.performing.PerformFault.{PerformFault}
 use Rattle.ob_object.specs.declared.performing.PerformFault.TheVariants as Faults
+use Rattle.ob_opened.specs.ModuleText.{IsModule}
 use Rattle.ob_record.specs.Record.{Record}
 use Rattle.ob_run.specs.Recorded.{IsRecorded}
 use Rattle.ob_schedule.specs.Schedule.{IsSchedule, IsScheduleFault}

@@ -2,7 +2,6 @@
 
 ghost use Rattle.std.specs.Prelude.{◌≡◌, ◌<◌, ◌≤◌, ◌⊎◌, ◌↔◌, Err, IfOk, IfErr, OnOk, length};
 ghost use Rattle.ob_check.specs.CheckedModule.{program_in};
-ghost use Rattle.ob_check.specs.ModuleText.{IsModule};
 ghost use Rattle.ob_check.specs.Program.{Program};
 ghost use Rattle.ob_engine.specs.Compiled.{parts_of};
 ghost use Rattle.ob_engine.specs.Parts.{parts_in};
@@ -13,6 +12,7 @@ ghost use Rattle.ob_mean.specs.View.{state_of};
 ghost use Rattle.ob_object.specs.Compilation.{IsCompilation, IsCompileFault, IsNumbered, IsShort, HasNoObject, TellsMemoryApart};
 ghost use Rattle.ob_object.specs.CompilationParts.{IsEngineFault, IsOpeningFault};
 ghost use Rattle.ob_object.specs.View.{object_in};
+ghost use Rattle.ob_opened.specs.ModuleText.{IsModule};
 ghost use Rattle.ob_scheme.specs.Literals.{ProceduresLiteralsFit};
 
 use ob_check::checked::Checked;

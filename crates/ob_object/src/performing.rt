@@ -3,12 +3,12 @@
 ghost use Rattle.std.specs.Prelude.{◌≡◌, ◌<◌, ◌≤◌, ◌^◌, ◌⊎◌, All, Err, IfOk, IfErr, length, map};
 ghost use Rattle.ob_check.specs.CheckedModule.{program_in};
 ghost use Rattle.ob_check.specs.Exports.{signatures};
-ghost use Rattle.ob_check.specs.ModuleText.{IsModule};
 ghost use Rattle.ob_check.specs.Program.{Program};
 ghost use Rattle.ob_engine.specs.Compiled.{IsFitting};
 ghost use Rattle.ob_mean.specs.View.{state_of};
 ghost use Rattle.ob_object.specs.Performance.{AreRead, HasNoPerformance, IsNumbered, IsPerformance, IsPerformFault, IsRunFault, IsSoundObject, Shows, ShowsNone, TellsMemoryApart};
 ghost use Rattle.ob_object.specs.View.{object_in};
+ghost use Rattle.ob_opened.specs.ModuleText.{IsModule};
 ghost use Rattle.ob_record.specs.Record.{AreOfExports, record_of};
 ghost use Rattle.ob_schedule.specs.Schedule.{process_of};
 ghost use Rattle.ob_text.specs.ScriptView.{object_call, script_call_of};

@@ -1,59 +1,107 @@
 -- A fault of a module's text rules out that it is one, and a fault of the opening that there is one.
-use Rattle.std.proofs.Common.{◌≡◌, ◌≢◌, ℕ, ◌<◌, suc, List, ◌++◌, length, take, drop, true, false, ap, refl, sym, subst, inl, inr, arith}
-use Rattle.std.proofs.lemmas.List.{take-append-drop}
-use Rattle.ob_scan.specs.declared.token.Token.{Token}
-use Rattle.ob_scan.specs.Lexemes.{lexemes}
-use Rattle.ob_scan.specs.Tokens.{HasTokens, TokenizedText}
-use Rattle.ob_parser.specs.declared.parser.ParseFault.{ParseFault}
-use Rattle.ob_parser.specs.declared.parser.ParseFault.TheVariants as Parse
-use Rattle.ob_grammar.specs.Conditions.{KeepsConditions, breaches}
-use Rattle.ob_grammar.specs.Grammar.{Derives, Lexemes}
-use Rattle.ob_parser.specs.ParseFaults.{BreaksCondition, IsParseFault}
-use Rattle.ob_grammar.specs.Tree.{Module}
-use Rattle.ob_check.specs.ModuleText.{IsModule}
+use Rattle.std.proofs.Common.{◌≡◌, ◌≢◌, ℕ, List, Option, Some, None, true, false, refl, sym, subst}
+use Rattle.ob_scan.specs.declared.fault.ScanFault.TheVariants as Scan
+use Rattle.ob_grammar.specs.Texts.{IsTextOf}
+use Rattle.ob_grammar.specs.Tree as Tree
+use Rattle.ob_check.specs.CheckFaults.{IsCheckFault, IsOfRule}
+use Rattle.ob_check.specs.CompiledPart.{outside}
 use Rattle.ob_check.specs.Program.{Program}
+use Rattle.ob_check.specs.Typing.{WellTyped}
+use Rattle.ob_check.specs.declared.checker.CheckFault.{CheckFault}
+use Rattle.ob_check.specs.declared.checker.CheckFault.TheVariants as Part
 use Rattle.ob_mean.specs.declared.opening.OpenFault.{OpenFault}
 use Rattle.ob_mean.specs.declared.opening.OpenFault.TheVariants as Open
 use Rattle.ob_mean.specs.Faults.{IsOpenFault}
 use Rattle.ob_mean.specs.Object.{IsOpening, State}
-use Rattle.ob_opened.specs.CheckedText.{IsNumberedText, of_parse}
+use Rattle.ob_sequential.specs.CheckedText as WholeTexts
+use Rattle.ob_sequential.specs.ModuleText as Whole
+use Rattle.ob_sequential.specs.declared.checked_text.TextFault as Wholes
+use Rattle.ob_sequential.specs.declared.checked_text.TextFault.TheVariants as Faults
+use Rattle.ob_typing.specs.Program as Meant
+use Rattle.ob_opened.specs.CheckedText.{IsNumberedText, IsTextFault, TellsTextMemoryApart, of_part, of_whole}
 use Rattle.ob_opened.specs.ModuleFaults.{HasNoOpening, IsNumbered, of_open, of_text}
+use Rattle.ob_opened.specs.ModuleText.{IsBeyond, IsModule, place_of}
 use Rattle.ob_opened.specs.declared.checked_text.TextFault.{TextFault}
 use Rattle.ob_opened.specs.declared.checked_text.TextFault.TheVariants as Texts
 use Rattle.ob_opened.specs.declared.opened.TheConstants.{TURNS}
 
--- ---- no module
+-- ---- no module, by all rules of the language
 
--- the tokens up to one and those behind it
-parted : (tokens : Lexemes) (m : Module) (n : ℕ) → Derives tokens m → Derives (take n tokens ++ drop n tokens) m
-parted tokens m n h = subst (λ (ts : Lexemes). Derives ts m) (sym (take-append-drop n tokens)) h
+pub whole_fault : (text : List ℕ) (e : Wholes.TextFault) → WholeTexts.IsTextFault text e → IsTextFault text (of_whole e)
+whole_fault text (Faults.Scan e) h = h
+whole_fault text (Faults.Parse e) h = h
+whole_fault text (Faults.Check e) h = h
+whole_fault text Faults.NoMemory h = tt
 
-breaks : {IsBroken : Module → ℕ → Type 0} (tokens : Lexemes) (place : ℕ) → BreaksCondition IsBroken tokens place → (m : Module) → Derives tokens m → IsBroken m place
-breaks tokens place b m h = b.broken (drop (suc b.index) tokens) m (parted tokens m (suc b.index) h)
+pub whole_apart : (e : Wholes.TextFault) → WholeTexts.TellsTextMemoryApart e → TellsTextMemoryApart (of_whole e)
+whole_apart (Faults.Scan e) h = h
+whole_apart (Faults.Parse e) h = h
+whole_apart (Faults.Check e) h = h
+whole_apart Faults.NoMemory h = tt
 
-no_tree : (t : TokenizedText) (e : ParseFault) → IsParseFault t e → IsNumberedText (of_parse e)
-    → (m : Module) → Derives (lexemes t.text t.tokens) m → KeepsConditions m → ⊥
-no_tree t (Parse.Unexpected place) (inl r) numbered m h keeps =
-    r.none (drop (suc r.index) (lexemes t.text t.tokens), m, parted (lexemes t.text t.tokens) m (suc r.index) h)
-no_tree t (Parse.Unexpected place) (inr r) numbered m h keeps = r.none m h
-no_tree t (Parse.TooDeep place) b numbered m h keeps =
-    let broken = breaks (lexemes t.text t.tokens) place b m h in
-    let within : broken.0 < length (breaches m) = broken.1 in
-    let none : length (breaches m) ≡ 0 = ap length keeps in
-    omega (arith, within, none)
-no_tree t (Parse.NameDiffers place) b numbered m h keeps =
-    let broken = breaks (lexemes t.text t.tokens) place b m h in
-    let within : broken.0 < length (breaches m) = broken.1 in
-    let none : length (breaches m) ≡ 0 = ap length keeps in
-    omega (arith, within, none)
-no_tree t Parse.NoMemory b numbered m h keeps = let bad : true ≡ false = numbered.0 in cc
+whole_numbered : (e : Wholes.TextFault) → IsNumberedText (of_whole e) → WholeTexts.IsNumberedText e
+whole_numbered (Faults.Scan e) h = (refl, h.1)
+whole_numbered (Faults.Parse e) h = (refl, h.1)
+whole_numbered (Faults.Check e) h = (refl, h.1)
+whole_numbered Faults.NoMemory h = let bad : true ≡ false = h.0 in cc
 
-pub no_module_parse : (text : List ℕ) (t : TokenizedText) (e : ParseFault) → t.text ≡ text → ((others : List Token) → HasTokens text others → others ≡ t.tokens)
-    → IsParseFault t e → IsNumberedText (of_parse e) → (program : Program) → IsModule text program → ⊥
-no_module_parse text t e is alone h numbered program m =
-    let of = m.text_of in
-    let derived : Derives (lexemes t.text of.tokens) m.tree = subst (λ (x : List ℕ). Derives (lexemes x of.tokens) m.tree) (sym is) of.derives in
-    no_tree t e h numbered m.tree (subst (λ (ts : List Token). Derives (lexemes t.text ts) m.tree) (alone of.tokens of.scanned) derived) of.keeps
+pub no_whole : (text : List ℕ) (e : Wholes.TextFault) → (WholeTexts.IsNumberedText e → (meant : Meant.Program) → Whole.IsModule text meant → ⊥)
+    → IsNumberedText (of_whole e) → (program : Program) → IsModule text program → ⊥
+no_whole text e none numbered program m = none (whole_numbered e numbered) m.meant m.whole
+
+-- ---- no module of the compiled part
+
+of_rule : (e : CheckFault) → IsNumberedText (of_part e) → IsOfRule e
+of_rule (Part.UnknownName place) numbered = tt
+of_rule (Part.DeclaredTwice place) numbered = tt
+of_rule (Part.WrongKind place) numbered = tt
+of_rule (Part.PassesLimit place) numbered = tt
+of_rule (Part.NotSupported place) numbered = tt
+of_rule Part.NoMemory numbered = let bad : true ≡ false = numbered.0 in cc
+
+pub part_apart : (e : CheckFault) → TellsTextMemoryApart (of_part e)
+part_apart (Part.UnknownName place) = tt
+part_apart (Part.DeclaredTwice place) = tt
+part_apart (Part.WrongKind place) = tt
+part_apart (Part.PassesLimit place) = tt
+part_apart (Part.NotSupported place) = tt
+part_apart Part.NoMemory = tt
+
+-- the place of the first construct beyond
+same_place : (e : CheckFault) (place construct : ℕ) → place_of e ≡ Some place → e ≡ Part.NotSupported construct → place ≡ construct
+same_place e place construct stands is = cc
+
+-- the text has this tree alone
+module _ (text : List ℕ) (tree : Tree.Module) (one_tree : (other : Tree.Module) → IsTextOf text other → other ≡ tree) where
+  typed_here : (program : Program) → IsModule text program → WellTyped tree program
+  typed_here program m = subst (λ (t : Tree.Module). WellTyped t program) (one_tree m.part.tree m.part.text_of) m.part.typed
+
+  pub one_program : (program : Program) → ((other : Program) → WellTyped tree other → other ≡ program)
+      → (other : Program) → IsModule text other → other ≡ program
+  one_program program alone other m = alone other (typed_here other m)
+
+  pub no_part : (e : CheckFault) → IsCheckFault tree e → IsNumberedText (of_part e) → (program : Program) → IsModule text program → ⊥
+  no_part e h numbered program m = h.ill_typed (of_rule e numbered) program (typed_here program m)
+
+  module _ (meant : Meant.Program) (whole : Whole.IsModule text meant) where
+    beyond : (e : CheckFault) (place : ℕ) → place_of e ≡ Some place → IsCheckFault tree e
+        → ((construct : ℕ) → outside tree ≡ Some construct → e ≡ Part.NotSupported construct) → IsBeyond text place
+    beyond e place stands h first =
+        let same : whole.tree ≡ tree = one_tree whole.tree whole.text_of in
+        record {
+          meant = meant; whole = whole; fault = e; stands = stands;
+          fails = subst (λ (t : Tree.Module). IsCheckFault t e) (sym same) h;
+          first = λ construct is. same_place e place construct stands (first construct (subst (λ (t : Tree.Module). outside t ≡ Some construct) same is))
+        }
+
+    pub part_fault : (e : CheckFault) → IsCheckFault tree e
+        → ((construct : ℕ) → outside tree ≡ Some construct → e ≡ Part.NotSupported construct) → IsTextFault text (of_part e)
+    part_fault (Part.UnknownName place) h first = beyond (Part.UnknownName place) place refl h first
+    part_fault (Part.DeclaredTwice place) h first = beyond (Part.DeclaredTwice place) place refl h first
+    part_fault (Part.WrongKind place) h first = beyond (Part.WrongKind place) place refl h first
+    part_fault (Part.PassesLimit place) h first = beyond (Part.PassesLimit place) place refl h first
+    part_fault (Part.NotSupported place) h first = beyond (Part.NotSupported place) place refl h first
+    part_fault Part.NoMemory h first = tt
 
 -- ---- no opening
 
@@ -78,4 +126,5 @@ pub text_numbered : (e : TextFault) → IsNumbered (of_text e) → IsNumberedTex
 text_numbered (Texts.Scan e) h = h.1
 text_numbered (Texts.Parse e) h = h.1
 text_numbered (Texts.Check e) h = h.1
+text_numbered (Texts.Beyond place) h = h.1
 text_numbered Texts.NoMemory h = let bad : true ≡ false = h.0 in cc

@@ -1,14 +1,16 @@
--- The faults of a text that is no module.
+-- The faults of a text that the compiler has no module of.
 use Rattle.std.specs.Prelude.{◌≡◌, ◌≢◌, ℕ, Bool, true, false, List}
 use Rattle.ob_scan.specs.ScanFaults.{IsScanFault}
-use Rattle.ob_scan.specs.declared.fault.ScanFault.{ScanFault}
 use Rattle.ob_scan.specs.declared.fault.ScanFault.TheVariants as Scan
 use Rattle.ob_parser.specs.ParseFaults.{IsParseFaultOf}
-use Rattle.ob_parser.specs.declared.parser.ParseFault.{ParseFault}
 use Rattle.ob_parser.specs.declared.parser.ParseFault.TheVariants as Parse
-use Rattle.ob_check.specs.ModuleText.{IsCheckFaultOf}
-use Rattle.ob_check.specs.declared.checker.CheckFault.{CheckFault}
-use Rattle.ob_check.specs.declared.checker.CheckFault.TheVariants as Check
+use Rattle.ob_scopes.specs.declared.fault.CheckFault.TheVariants as Check
+use Rattle.ob_sequential.specs.ModuleText.{IsCheckFaultOf}
+use Rattle.ob_sequential.specs.declared.checked_text.TextFault as Wholes
+use Rattle.ob_sequential.specs.declared.checked_text.TextFault.TheVariants as Whole
+use Rattle.ob_check.specs.declared.checker.CheckFault as Parts
+use Rattle.ob_check.specs.declared.checker.CheckFault.TheVariants as Part
+use Rattle.ob_opened.specs.ModuleText.{IsBeyond}
 use Rattle.ob_opened.specs.declared.checked_text.TextFault.{TextFault}
 use Rattle.ob_opened.specs.declared.checked_text.TextFault.TheVariants as Faults
 
@@ -17,6 +19,7 @@ abbrev pub IsTextFault : List ℕ → TextFault → Type 0
 IsTextFault text (Faults.Scan e) = IsScanFault text e
 IsTextFault text (Faults.Parse e) = IsParseFaultOf text e
 IsTextFault text (Faults.Check e) = IsCheckFaultOf text e
+IsTextFault text (Faults.Beyond place) = IsBeyond text place
 IsTextFault text Faults.NoMemory = Unit {0}
 
 -- want of memory is told by its own variant alone
@@ -24,6 +27,7 @@ abbrev pub TellsTextMemoryApart : TextFault → Type 0
 TellsTextMemoryApart (Faults.Scan e) = e ≢ Scan.NoMemory
 TellsTextMemoryApart (Faults.Parse e) = e ≢ Parse.NoMemory
 TellsTextMemoryApart (Faults.Check e) = e ≢ Check.NoMemory
+TellsTextMemoryApart (Faults.Beyond place) = Unit {0}
 TellsTextMemoryApart Faults.NoMemory = Unit {0}
 
 abbrev pub is_text_memory : TextFault → Bool
@@ -34,16 +38,20 @@ is_text_memory _ = false
 abbrev pub IsNumberedText : TextFault → Type 0
 IsNumberedText fault = (is_text_memory fault ≡ false) × TellsTextMemoryApart fault
 
--- want of memory is told in one place
+-- how the faults below are told
 
-abbrev pub of_scan : ScanFault → TextFault
-of_scan Scan.NoMemory = Faults.NoMemory
-of_scan e = Faults.Scan e
+-- a fault by all rules of the language
+abbrev pub of_whole : Wholes.TextFault → TextFault
+of_whole (Whole.Scan e) = Faults.Scan e
+of_whole (Whole.Parse e) = Faults.Parse e
+of_whole (Whole.Check e) = Faults.Check e
+of_whole Whole.NoMemory = Faults.NoMemory
 
-abbrev pub of_parse : ParseFault → TextFault
-of_parse Parse.NoMemory = Faults.NoMemory
-of_parse e = Faults.Parse e
-
-abbrev pub of_check : CheckFault → TextFault
-of_check Check.NoMemory = Faults.NoMemory
-of_check e = Faults.Check e
+-- a rule of the compiled part, of which the place alone is told
+abbrev pub of_part : Parts.CheckFault → TextFault
+of_part (Part.UnknownName place) = Faults.Beyond place
+of_part (Part.DeclaredTwice place) = Faults.Beyond place
+of_part (Part.WrongKind place) = Faults.Beyond place
+of_part (Part.PassesLimit place) = Faults.Beyond place
+of_part (Part.NotSupported place) = Faults.Beyond place
+of_part Part.NoMemory = Faults.NoMemory

@@ -1,2 +1,3 @@
+pub mod ModuleText
 pub mod CheckedText
 pub mod ModuleFaults

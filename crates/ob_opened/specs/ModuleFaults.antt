@@ -1,6 +1,6 @@
 -- What each fault of a module and its opening says.
 use Rattle.std.specs.Prelude.{◌≡◌, ◌≢◌, ℕ, Bool, true, false, List}
-use Rattle.ob_check.specs.ModuleText.{IsModule}
+use Rattle.ob_opened.specs.ModuleText.{IsModule}
 use Rattle.ob_check.specs.Program.{Program}
 use Rattle.ob_mean.specs.Faults.{IsOpenFault}
 use Rattle.ob_mean.specs.Object.{State, IsOpening}

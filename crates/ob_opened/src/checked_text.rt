@@ -1,20 +1,23 @@
-//! The checked module of a text.
+//! The checked module of a text, as the compiler knows it.
 
 ghost use Rattle.std.specs.Prelude.{◌≡◌, Err, ◌<◌, length, IfOk, IfErr};
 ghost use Rattle.ob_check.specs.CheckedModule.{program_in};
-ghost use Rattle.ob_check.specs.ModuleText.{IsModule};
 ghost use Rattle.ob_check.specs.Program.{Program};
 ghost use Rattle.ob_opened.specs.CheckedText.{IsTextFault, IsNumberedText, TellsTextMemoryApart};
+ghost use Rattle.ob_opened.specs.ModuleText.{IsModule};
 
 use ob_check::checked::Checked;
-use ob_check::checker::{CheckFault, check};
-use ob_parser::parser::{ParseFault, parse};
+use ob_check::checker::{CheckFault as PartFault, check};
+use ob_parser::parser::ParseFault;
+use ob_scan::ScanFault;
 use ob_scan::scanner::LONGEST_TEXT;
-use ob_scan::{ScanFault, scan};
+use ob_scopes::fault::CheckFault;
+use ob_sequential::TextFault as WholeFault;
+use ob_sequential::checked_text::checked_text as whole_text;
 use std::alloc::Global;
 use thiserror::Error;
 
-/// Why a text is no module: the first fault, in the order of the variants.
+/// Why the compiler has no module of a text: the first fault, in the order of the variants.
 #[derive(Clone, Copy, Debug, PartialEq, Eq, Error)]
 pub enum TextFault {
     #[error("{0}")]
@@ -23,54 +26,51 @@ pub enum TextFault {
     Parse(ParseFault),
     #[error("{0}")]
     Check(CheckFault),
+    /// G3: a module, which goes beyond what the compiler knows: the place of the first construct
+    /// beyond, at its first token.
+    #[error("G3 at {0}")]
+    Beyond(usize),
     /// Want of memory.
     #[error("NoMemory")]
     NoMemory,
 }
 
-impl From<ScanFault> for TextFault {
+impl From<WholeFault> for TextFault {
     ghost use Rattle.std.specs.Prelude.{◌≡◌};
-    ghost use Rattle.ob_opened.specs.CheckedText.{of_scan};
+    ghost use Rattle.ob_opened.specs.CheckedText.{of_whole};
 
-    ghost from_gives = { λ e f. f ≡ of_scan e };
+    ghost from_gives = { λ e f. f ≡ of_whole e };
 
-    fn from(fault: ScanFault) -> TextFault {
+    fn from(fault: WholeFault) -> TextFault {
         match fault {
-            ScanFault::NoMemory => TextFault::NoMemory,
-            other => TextFault::Scan(other),
+            WholeFault::Scan(fault) => TextFault::Scan(fault),
+            WholeFault::Parse(fault) => TextFault::Parse(fault),
+            WholeFault::Check(fault) => TextFault::Check(fault),
+            WholeFault::NoMemory => TextFault::NoMemory,
         }
     }
 }
 
-impl From<ParseFault> for TextFault {
+impl From<PartFault> for TextFault {
     ghost use Rattle.std.specs.Prelude.{◌≡◌};
-    ghost use Rattle.ob_opened.specs.CheckedText.{of_parse};
+    ghost use Rattle.ob_opened.specs.CheckedText.{of_part};
 
-    ghost from_gives = { λ e f. f ≡ of_parse e };
+    ghost from_gives = { λ e f. f ≡ of_part e };
 
-    fn from(fault: ParseFault) -> TextFault {
+    fn from(fault: PartFault) -> TextFault {
         match fault {
-            ParseFault::NoMemory => TextFault::NoMemory,
-            other => TextFault::Parse(other),
+            PartFault::UnknownName(place)
+            | PartFault::DeclaredTwice(place)
+            | PartFault::WrongKind(place)
+            | PartFault::PassesLimit(place)
+            | PartFault::NotSupported(place) => TextFault::Beyond(place),
+            PartFault::NoMemory => TextFault::NoMemory,
         }
     }
 }
 
-impl From<CheckFault> for TextFault {
-    ghost use Rattle.std.specs.Prelude.{◌≡◌};
-    ghost use Rattle.ob_opened.specs.CheckedText.{of_check};
-
-    ghost from_gives = { λ e f. f ≡ of_check e };
-
-    fn from(fault: CheckFault) -> TextFault {
-        match fault {
-            CheckFault::NoMemory => TextFault::NoMemory,
-            other => TextFault::Check(other),
-        }
-    }
-}
-
-/// The checked module of a text.
+/// The checked module of a text. All rules of the language are tested before those of the part that
+/// is compiled, so that what a module breaks is told wherever it goes beyond.
 pub fn checked_text(alloc: Global, text: &[u8]) -> Result<Checked, TextFault>
     ensures program { IfOk result (λ c. IsModule text.now (program_in c)) }
     ensures alone { IfOk result (λ c. (other : Program) → IsModule text.now other → other ≡ program_in c) }
@@ -83,7 +83,6 @@ pub fn checked_text(alloc: Global, text: &[u8]) -> Result<Checked, TextFault>
     // A text over the scanner's bound is refused, whatever it says.
     ensures too_long { LONGEST_TEXT < length text.now → result ≡ Err (TextFault.Scan ScanFault.TooLong) }
 {
-    let tokens = scan(alloc, text)?;
-    let tree = parse(alloc, &tokens)?;
-    Ok(check(alloc, tree)?)
+    let whole = whole_text(alloc, text)?;
+    Ok(check(alloc, whole.into_module())?)
 }

@@ -2,7 +2,7 @@
 
 ghost use Rattle.std.specs.Prelude.{◌≡◌, ◌<◌, Err, IfOk, IfErr, length};
 ghost use Rattle.ob_check.specs.CheckedModule.{program_in};
-ghost use Rattle.ob_check.specs.ModuleText.{IsModule};
+ghost use Rattle.ob_opened.specs.ModuleText.{IsModule};
 ghost use Rattle.ob_check.specs.Program.{Program};
 ghost use Rattle.ob_mean.specs.Object.{IsOpening};
 ghost use Rattle.ob_mean.specs.View.{state_of};

@@ -6,7 +6,6 @@ use Rattle.std.specs.Char.{is_ascii_alphanumeric}
 use Rattle.std.proofs.lemmas.Bool.{and_parts}
 use Rattle.std.proofs.lemmas.Bool.Decides.{nat_tests}
 use Rattle.std.proofs.lemmas.List.Elements.{All-cons, All-head, All-nil, All-tail}
-use Rattle.ob_check.specs.ModuleText.{IsModule}
 use Rattle.ob_check.specs.Program.{Procedure, Program, Variable}
 use Rattle.ob_check.specs.declared.program.DataType.{DataType}
 use Rattle.ob_check.specs.Scopes.{Environment}
@@ -14,6 +13,7 @@ use Rattle.ob_check.specs.Typing as Typing
 use Rattle.ob_check.specs.Typing.{Declares, DeclaresProcedures, Names, Variables, WellTyped, declared_by}
 use Rattle.ob_grammar.specs.Tree as Tree
 use Rattle.ob_grammar.specs.Tree.{Declarations, DeclarationPart, Procedures, VarDecl}
+use Rattle.ob_opened.specs.ModuleText.{IsModule}
 use Rattle.ob_read_back.specs.Writable.{IsWord}
 use Rattle.ob_scan.proofs.TokenFacts.{IsSpelledWithin, ident_bytes, tokens_spelled}
 use Rattle.ob_scan.specs.Lexemes.{lexemes}
@@ -142,7 +142,8 @@ typed_words : {tree : Tree.Module} {program : Program} → WellTyped tree progra
 typed_words (Typing.well_typed declares words limit body) h = declared_words declares h
 
 pub module_words : (text : List ℕ) (program : Program) → IsModule text program → DeclareWords program.variables program.procedures
-module_words text program m =
+module_words text program is =
+    let m = is.part in
     let t = m.text_of in
     let all : AreNamed (fixed Kind.Module ∷ words_behind m.tree) = subst AreNamed (derived_words t.derives) (tokens_named text t.tokens (tokens_spelled t.scanned)) in
     typed_words m.typed (left IsNamed (declaration_words m.tree.declarations) (body_words m.tree.body ++ fixed Kind.End ∷ ident m.tree.end_name ∷ fixed Kind.Dot ∷ []) all.1.1.1)

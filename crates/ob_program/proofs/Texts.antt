@@ -2,7 +2,6 @@
 use Rattle.std.proofs.Common.{◌≡◌, ◌≢◌, ◌<◌, ◌≤◌, ℕ, List, [], ◌∷◌, ap, map, length, true, false, arith, refl, subst}
 use Rattle.ob_code.specs.declared.fault.CodeFault.{CodeFault}
 use Rattle.ob_code.specs.declared.fault.CodeFault.TheVariants as Code
-use Rattle.ob_check.specs.ModuleText.{IsModule}
 use Rattle.ob_check.specs.View.{procedure_of}
 use Rattle.ob_check.specs.declared.program.Procedure.{Procedure}
 use Rattle.ob_check.specs.Program.{Program}
@@ -13,6 +12,7 @@ use Rattle.ob_mean.specs.Object.{IsOpening}
 use Rattle.ob_scheme.specs.Scheme.{code_of}
 use Rattle.ob_opened.proofs.NoModule.{opens_not}
 use Rattle.ob_opened.specs.CheckedText.{IsNumberedText}
+use Rattle.ob_opened.specs.ModuleText.{IsModule}
 use Rattle.ob_opened.specs.declared.checked_text.TextFault.{TextFault}
 use Rattle.ob_opened.specs.declared.checked_text.TextFault.TheVariants as Texts
 use Rattle.ob_opened.specs.declared.opened.TheConstants.{TURNS}
@@ -23,6 +23,7 @@ module_numbered : (e : TextFault) → IsNumberedModule (of_text_fault e) → IsN
 module_numbered (Texts.Scan e) h = h.1
 module_numbered (Texts.Parse e) h = h.1
 module_numbered (Texts.Check e) h = h.1
+module_numbered (Texts.Beyond place) h = h.1
 module_numbered Texts.NoMemory h = let bad : true ≡ false = h.0 in cc
 
 pub no_code : (text : List ℕ) (e : TextFault) → (IsNumberedText e → (program : Program) → IsModule text program → ⊥)

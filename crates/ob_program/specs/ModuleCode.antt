@@ -1,6 +1,5 @@
 -- A text whose module has code and opens, and the listing of that code.
 use Rattle.std.specs.Prelude.{◌≡◌, ◌≢◌, ◌<◌, ◌≤◌, ℕ, Bool, true, false, List, length, map}
-use Rattle.ob_check.specs.ModuleText.{IsModule}
 use Rattle.ob_check.specs.Program.{Program}
 use Rattle.ob_mean.specs.Object.{State, IsOpening}
 use Rattle.ob_mean.specs.Faults.{IsOpenFault}
@@ -9,6 +8,7 @@ use Rattle.ob_mean.specs.declared.opening.OpenFault.TheVariants as Open
 use Rattle.ob_code.specs.Listing.{listing}
 use Rattle.ob_scheme.specs.Scheme.{code_of}
 use Rattle.ob_opened.specs.CheckedText.{IsNumberedText, IsTextFault}
+use Rattle.ob_opened.specs.ModuleText.{IsModule}
 use Rattle.ob_opened.specs.declared.opened.TheConstants.{TURNS}
 use Rattle.ob_program.specs.declared.module_code.ModuleTextFault.{ModuleTextFault}
 use Rattle.ob_program.specs.declared.module_code.ModuleTextFault.TheVariants as Faults

@@ -6,11 +6,11 @@ use Rattle.ob_check.specs.declared.program.Formal.{Formal}
 use Rattle.ob_check.specs.declared.program.Scalar.{Scalar}
 use Rattle.ob_check.specs.declared.program.Scalar.TheVariants as Scalars
 use Rattle.ob_check.specs.Exports.{Signature, signatures}
-use Rattle.ob_check.specs.ModuleText.{IsModule}
 use Rattle.ob_check.specs.Program.{Program}
 use Rattle.ob_mean.specs.Object.{IsOpening, ObjectCall, Reply, Answers, State, Trapped}
 use Rattle.ob_mean.specs.Store.{Binding, value_held}
 use Rattle.ob_mean.specs.Value.{Value, Single}
+use Rattle.ob_opened.specs.ModuleText.{IsModule}
 use Rattle.ob_opened.specs.declared.opened.TheConstants.{TURNS}
 use Rattle.ob_record.specs.Record.{Record}
 use Rattle.ob_record.specs.RecordText.{record_text}

@@ -1,7 +1,9 @@
 //! The checked module of a text.
 
 ghost use Rattle.std.specs.Prelude.{◌≡◌, Err, ◌<◌, length, IfOk, IfErr};
-ghost use Rattle.ob_checked.specs.CheckedModule.{program_in};
+ghost use Rattle.ob_checked.specs.CheckedModule.{program_in, tree_in};
+ghost use Rattle.ob_grammar.specs.Texts.{IsTextOf};
+ghost use Rattle.ob_grammar.specs.Tree as Tree;
 ghost use Rattle.ob_typing.specs.Program.{Program};
 ghost use Rattle.ob_sequential.specs.ModuleText.{IsModule};
 ghost use Rattle.ob_sequential.specs.CheckedText.{IsTextFault, IsNumberedText, TellsTextMemoryApart};
@@ -77,6 +79,10 @@ pub fn checked_text(alloc: Global, text: &[u8]) -> Result<Checked, TextFault>
     ensures alone { IfOk result (λ c. (other : Program) → IsModule text.now other → other ≡ program_in c) }
     ensures none { IfErr result (λ e. IsNumberedText e → (program : Program) → IsModule text.now program → ⊥) }
     ensures fault { IfErr result (λ e. IsTextFault text.now e) }
+
+    // Its tree is that of the text, which has no other one.
+    ensures tree { IfOk result (λ c. IsTextOf text.now (tree_in c)) }
+    ensures one_tree { IfOk result (λ c. (other : Tree.Module) → IsTextOf text.now other → other ≡ tree_in c) }
 
     // Want of memory is told by its own variant alone.
     ensures memory { IfErr result TellsTextMemoryApart }

@@ -1,12 +1,12 @@
 -- What the faults of serving texts say, from what those of its parts say.
 use Rattle.std.proofs.Common.{◌≡◌, ℕ, List, subst}
 use Rattle.ob_check.specs.Exports.{signatures}
-use Rattle.ob_check.specs.ModuleText.{IsModule}
 use Rattle.ob_check.specs.Program.{Program}
 use Rattle.ob_object.specs.Compilation as Compilation
 use Rattle.ob_object.specs.Compilation.{HasNoObject, IsCompilation, IsCompileFault, ObjectParts}
 use Rattle.ob_object.specs.declared.compiling.CompileFault.{CompileFault}
 use Rattle.ob_object.specs.declared.compiling.CompileFault.TheVariants as Compile
+use Rattle.ob_opened.specs.ModuleText.{IsModule}
 use Rattle.ob_serve.specs.Served as Served
 use Rattle.ob_serve.specs.ServedTexts.{HasCalls, HasNoCalls, IsOfTexts, IsServeTextFault, TellsMemoryApart, of_compile, of_script, of_serve}
 use Rattle.ob_serve.specs.declared.fault.ServeFault.{ServeFault}

@@ -1,7 +1,6 @@
 -- Workers served from the texts of a module and of scripts: what is printed of them, and why there is nothing.
 use Rattle.std.specs.Prelude.{◌≡◌, ◌≢◌, ℕ, ◌<◌, ◌^◌, List, length}
 use Rattle.ob_check.specs.Exports.{signatures}
-use Rattle.ob_check.specs.ModuleText.{IsModule}
 use Rattle.ob_check.specs.Program.{Program}
 use Rattle.ob_desk.specs.Close.{IsRecordOf}
 use Rattle.ob_object.specs.Compilation as Compilation
@@ -9,6 +8,7 @@ use Rattle.ob_object.specs.Compilation.{ObjectParts, IsCompilation, IsCompileFau
 use Rattle.ob_object.specs.Performance.{IsScriptFaultOf}
 use Rattle.ob_object.specs.declared.compiling.CompileFault.{CompileFault}
 use Rattle.ob_object.specs.declared.compiling.CompileFault.TheVariants as Compile
+use Rattle.ob_opened.specs.ModuleText.{IsModule}
 use Rattle.ob_record.specs.Record.{Record}
 use Rattle.ob_record.specs.RecordText.{record_text}
 use Rattle.ob_serve.specs.Served as Served

@@ -1,9 +1,9 @@
 -- What is found of a module's text and of a record of its program, as what is answered of both texts.
 use Rattle.std.proofs.Common.{◌≡◌, List, ℕ, Bool, true, false, ◌⊎◌, inl, inr, refl, subst, sym}
-use Rattle.ob_check.specs.ModuleText.{IsModule}
 use Rattle.ob_check.specs.Program.{Program}
 use Rattle.ob_mean.specs.Object.{IsOpening, ObjectCall, Reply, State}
 use Rattle.ob_opened.specs.ModuleFaults as Modules
+use Rattle.ob_opened.specs.ModuleText.{IsModule}
 use Rattle.ob_opened.specs.declared.opened.ModuleFault.{ModuleFault}
 use Rattle.ob_opened.specs.declared.opened.TheConstants.{TURNS}
 use Rattle.ob_verify.specs.Verified.{IsLegalRecord, IsLegalRun}

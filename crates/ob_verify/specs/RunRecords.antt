@@ -1,9 +1,9 @@
 -- Records of runs: what a run's events and order come to where a record tells them.
 use Rattle.std.specs.Prelude.{◌≡◌, ℕ, List, [], ◌∷◌}
 use Rattle.ob_check.specs.Exports.{signatures}
-use Rattle.ob_check.specs.ModuleText.{IsModule}
 use Rattle.ob_check.specs.Program.{Program}
 use Rattle.ob_mean.specs.Object.{IsOpening, ObjectCall, Reply, State}
+use Rattle.ob_opened.specs.ModuleText.{IsModule}
 use Rattle.ob_opened.specs.declared.opened.TheConstants.{TURNS}
 use Rattle.ob_record_reading.specs.RecordLines.{IsRecord, Told}
 use Rattle.ob_verify.specs.Verified.{IsVerified}

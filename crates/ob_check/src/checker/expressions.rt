@@ -4,13 +4,13 @@ ghost use Rattle.std.specs.Prelude.{◌≡◌, is_some, IfOk, IfErr, IfSome};
 ghost use Rattle.ob_grammar.specs.View.{expr_of, operands_in};
 ghost use Rattle.ob_check.specs.declared.program.DataType.TheVariants.{Integer};
 ghost use Rattle.ob_check.specs.Typing.{HasType, AreOperands, IsArithmetic, with_sign};
-ghost use Rattle.ob_check.specs.FirstPath.{is_arithmetic};
+ghost use Rattle.ob_check.specs.CompiledPart.{is_arithmetic};
 ghost use Rattle.ob_check.specs.Parts.{AnExpression, SomeOperands};
 ghost use Rattle.ob_check.specs.Checking.{env_of, IsFaultIn, operations_in};
 ghost use Rattle.ob_check.specs.View.{expression_of};
 
 use super::CheckFault;
-use super::first_path::first_place;
+use super::compiled_part::first_place;
 use super::names::variable_named;
 use super::scopes::Scopes;
 use crate::program::{Arithmetic, Expression, Operation, Scalar};

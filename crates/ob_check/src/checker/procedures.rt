@@ -10,8 +10,8 @@ ghost use Rattle.ob_check.specs.Parts.{SomeSections, SomeProcedures};
 ghost use Rattle.ob_check.specs.Checking.{env_of, called, AddsParameters, IsFaultIn};
 ghost use Rattle.ob_check.specs.View.{parameter_of, procedure_of};
 
+use super::compiled_part::first_declared;
 use super::exports::formals_of;
-use super::first_path::first_declared;
 use super::names::type_denoted;
 use super::scopes::Scopes;
 use super::statements::checked_body;

@@ -1,6 +1,6 @@
 use Rattle.std.proofs.Common.{sym, ap, ◌∙◌}
 use Rattle.ob_grammar.specs.View.{module_of}
-use Rattle.ob_check.specs.FirstPath.{outside}
+use Rattle.ob_check.specs.CompiledPart.{outside}
 use Rattle.ob_check.proofs.Modules.{not_supported}
 use Rattle.ob_check.proofs.OneProgram.{one_program}
 use Rattle.ob_check.proofs.checker.check.Goals as goal

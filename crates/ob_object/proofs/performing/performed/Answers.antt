@@ -1,10 +1,10 @@
 use Rattle.std.proofs.Common.{◌≡◌, map, sym, subst}
 use Rattle.std.proofs.lemmas.Result.{err_from_is_err_and}
-use Rattle.ob_check.specs.ModuleText.{IsModule}
 use Rattle.ob_check.specs.Program.{Program}
 use Rattle.ob_object.proofs.Readings as Read
 use Rattle.ob_object.specs.View.{object_in}
 use Rattle.ob_object.proofs.performing.performed.Goals as goal
+use Rattle.ob_opened.specs.ModuleText.{IsModule}
 
 pub run_on-requires-clause-callers : goal.run_on-requires-clause-callers
 run_on-requires-clause-callers c =

@@ -11,7 +11,7 @@ use Rattle.ob_check.specs.Program.{Statements}
 use Rattle.ob_check.specs.Typing as Typing
 use Rattle.ob_check.specs.Typing.{AreStatements}
 use Rattle.ob_check.specs.Checking.{env_of}
-use Rattle.ob_check.specs.FirstPath.{outside_stmt}
+use Rattle.ob_check.specs.CompiledPart.{outside_stmt}
 use Rattle.ob_grammar.proofs.Exits.{passed_on}
 use Rattle.ob_check.proofs.Outside.{is_bare, is_not_bare, selected_assignment}
 use Rattle.ob_check.proofs.Lists.{next_left}

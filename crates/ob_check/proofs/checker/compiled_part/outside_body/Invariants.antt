@@ -1,7 +1,7 @@
 use Rattle.std.proofs.Common.{◌≡◌, drop}
 use Rattle.ob_grammar.specs.View.{stmts_in}
-use Rattle.ob_check.specs.FirstPath.{outside_stmts}
-use Rattle.ob_check.proofs.checker.first_path.outside_body.Given as goal
+use Rattle.ob_check.specs.CompiledPart.{outside_stmts}
+use Rattle.ob_check.proofs.checker.compiled_part.outside_body.Given as goal
 
 -- nothing has been found so far
 abbrev pub invariant-loop-statement : goal.invariant-loop-statement

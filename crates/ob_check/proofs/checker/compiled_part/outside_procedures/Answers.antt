@@ -1,10 +1,10 @@
 use Rattle.std.proofs.Common.{ap, sym, ◌∙◌, arith}
 use Rattle.std.proofs.lemmas.List.{at_drop_all}
 use Rattle.ob_grammar.specs.View.{procedures_in}
-use Rattle.ob_check.specs.FirstPath.{outside_procedures}
+use Rattle.ob_check.specs.CompiledPart.{outside_procedures}
 use Rattle.ob_check.proofs.Lists.{next_left}
 use Rattle.ob_check.proofs.Outside.{first_found, first_behind}
-use Rattle.ob_check.proofs.checker.first_path.outside_procedures.Goals as goal
+use Rattle.ob_check.proofs.checker.compiled_part.outside_procedures.Goals as goal
 
 pub returns-in-Some : goal.returns-in-Some
 returns-in-Some c =

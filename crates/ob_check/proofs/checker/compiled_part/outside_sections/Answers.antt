@@ -1,10 +1,10 @@
 use Rattle.std.proofs.Common.{ap, sym, ◌∙◌, map, arith}
 use Rattle.std.proofs.lemmas.List.{at_drop_all}
 use Rattle.ob_grammar.specs.View.{section_of}
-use Rattle.ob_check.specs.FirstPath.{outside_sections}
+use Rattle.ob_check.specs.CompiledPart.{outside_sections}
 use Rattle.ob_check.proofs.Lists.{next_left}
 use Rattle.ob_check.proofs.Outside.{first_found, first_behind}
-use Rattle.ob_check.proofs.checker.first_path.outside_sections.Goals as goal
+use Rattle.ob_check.proofs.checker.compiled_part.outside_sections.Goals as goal
 
 pub returns-in-Some : goal.returns-in-Some
 returns-in-Some c =

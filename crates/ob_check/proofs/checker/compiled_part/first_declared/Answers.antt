@@ -1,9 +1,9 @@
 use Rattle.std.proofs.Common.{sym, ap, ◌∙◌}
 use Rattle.ob_grammar.specs.View.{procedures_in}
-use Rattle.ob_check.specs.FirstPath.{first_procedure, first_declared}
+use Rattle.ob_check.specs.CompiledPart.{first_procedure, first_declared}
 use Rattle.ob_grammar.proofs.Rows.{declarations_of-parts}
 use Rattle.ob_check.proofs.Outside.{or_four}
-use Rattle.ob_check.proofs.checker.first_path.first_declared.Goals as goal
+use Rattle.ob_check.proofs.checker.compiled_part.first_declared.Goals as goal
 
 pub returns : goal.returns
 returns c =

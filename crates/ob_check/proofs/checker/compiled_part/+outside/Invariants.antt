@@ -1,7 +1,7 @@
 use Rattle.std.proofs.Common.{◌≡◌, drop}
 use Rattle.ob_grammar.specs.View.{operands_in}
-use Rattle.ob_check.specs.FirstPath.{outside_operands}
-use Rattle.ob_check.proofs.checker.first_path.+outside.Given as goal
+use Rattle.ob_check.specs.CompiledPart.{outside_operands}
+use Rattle.ob_check.proofs.checker.compiled_part.+outside.Given as goal
 
 -- nothing has been found so far
 abbrev pub invariant-outside_operands-loop-operand : goal.invariant-outside_operands-loop-operand

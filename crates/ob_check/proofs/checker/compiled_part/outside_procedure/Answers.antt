@@ -1,9 +1,9 @@
 use Rattle.std.proofs.Common.{ap, ◌∙◌, map}
 use Rattle.ob_grammar.specs.declared.tree.Procedure.{out-Procedure}
 use Rattle.ob_grammar.specs.View.{section_of}
-use Rattle.ob_check.specs.FirstPath.{outside_sections}
+use Rattle.ob_check.specs.CompiledPart.{outside_sections}
 use Rattle.ob_check.proofs.Outside.{listed_seen, or_three}
-use Rattle.ob_check.proofs.checker.first_path.outside_procedure.Goals as goal
+use Rattle.ob_check.proofs.checker.compiled_part.outside_procedure.Goals as goal
 
 pub returns : goal.returns
 returns c =

@@ -1,10 +1,10 @@
 use Rattle.std.proofs.Common.{ap, sym, ◌∙◌, map, arith}
 use Rattle.std.proofs.lemmas.List.{at_drop_all}
 use Rattle.ob_grammar.specs.View.{var_decl_of}
-use Rattle.ob_check.specs.FirstPath.{outside_variables}
+use Rattle.ob_check.specs.CompiledPart.{outside_variables}
 use Rattle.ob_check.proofs.Lists.{next_left}
 use Rattle.ob_check.proofs.Outside.{first_found, first_behind}
-use Rattle.ob_check.proofs.checker.first_path.outside_variables.Goals as goal
+use Rattle.ob_check.proofs.checker.compiled_part.outside_variables.Goals as goal
 
 pub returns-in-Some : goal.returns-in-Some
 returns-in-Some c =

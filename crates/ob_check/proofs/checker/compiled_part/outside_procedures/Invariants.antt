@@ -1,7 +1,7 @@
 use Rattle.std.proofs.Common.{◌≡◌, drop}
 use Rattle.ob_grammar.specs.View.{procedures_in}
-use Rattle.ob_check.specs.FirstPath.{outside_procedures}
-use Rattle.ob_check.proofs.checker.first_path.outside_procedures.Given as goal
+use Rattle.ob_check.specs.CompiledPart.{outside_procedures}
+use Rattle.ob_check.proofs.checker.compiled_part.outside_procedures.Given as goal
 
 -- nothing has been found so far
 abbrev pub invariant-loop-procedure : goal.invariant-loop-procedure

@@ -1,7 +1,7 @@
 use Rattle.std.proofs.Common.{◌≡◌, map, drop}
 use Rattle.ob_grammar.specs.View.{section_of}
-use Rattle.ob_check.specs.FirstPath.{outside_sections}
-use Rattle.ob_check.proofs.checker.first_path.outside_sections.Given as goal
+use Rattle.ob_check.specs.CompiledPart.{outside_sections}
+use Rattle.ob_check.proofs.checker.compiled_part.outside_sections.Given as goal
 
 -- nothing has been found so far
 abbrev pub invariant-loop-section : goal.invariant-loop-section

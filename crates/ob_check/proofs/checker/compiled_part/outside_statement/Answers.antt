@@ -1,6 +1,6 @@
 use Rattle.std.proofs.Common.{sym}
 use Rattle.ob_check.proofs.Outside.{is_not_bare, selected_assignment}
-use Rattle.ob_check.proofs.checker.first_path.outside_statement.Goals as goal
+use Rattle.ob_check.proofs.checker.compiled_part.outside_statement.Goals as goal
 
 pub returns-else-is_empty : goal.returns-else-is_empty
 returns-else-is_empty c =

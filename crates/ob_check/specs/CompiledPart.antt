@@ -1,6 +1,6 @@
--- The place of the first construct in a part of the tree that the checker does not know yet, in the order of the text. Those are
--- CONST and TYPE with what they declare, types that are no names, declarations of a procedure's own, calls, IF, WHILE, selectors,
--- and expressions that are neither names, numbers nor sums by `+` and `-`. A construct's place is that of its first token.
+-- The place of the first construct in a part of the tree beyond what is compiled, in the order of the text. Those are CONST and
+-- TYPE with what they declare, types that are no names, declarations of a procedure's own, calls, IF, WHILE, selectors, and
+-- expressions that are neither names, numbers nor sums by `+` and `-`. A construct's place is that of its first token.
 use Rattle.std.specs.Prelude.{ℕ, Bool, true, false, List, [], ◌∷◌, Option, Some, None, if◌then◌else◌}
 use Rattle.std.specs.Option.{option_or}
 use Rattle.ob_grammar.specs.declared.tree.Operator.{Operator}
@@ -74,7 +74,7 @@ abbrev pub outside_sections : List Section → Option ℕ
 outside_sections [] = None
 outside_sections (x ∷ xs) = option_or (outside_type x.of_type) (outside_sections xs)
 
--- declarations of which none is known
+-- declarations that are all beyond
 
 -- the keyword of a part
 abbrev pub part_place : {A : Type 0} → Option (DeclarationPart A) → Option ℕ

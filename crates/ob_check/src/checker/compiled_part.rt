@@ -1,9 +1,9 @@
-//! The first construct of a text that the checker does not know yet. Nothing here takes memory.
+//! The first construct of a text beyond the part of the language that is compiled. Nothing here takes memory.
 
 ghost use Rattle.std.specs.Prelude.{◌≡◌, IsTrue, map, option_map};
 ghost use Rattle.std.specs.List.{list_all};
 ghost use Rattle.ob_grammar.specs.View.{expr_of, operands_in, type_of, stmt_of, stmts_in, var_decl_of, section_of, constants_of, types_of, variables_of, procedures_in, declarations_of, heading_of, inner_of, body_of, module_of};
-ghost use Rattle.ob_check.specs.FirstPath as rules;
+ghost use Rattle.ob_check.specs.CompiledPart as rules;
 
 use super::expressions::arithmetic;
 use super::{declared_variables, listed};
@@ -12,14 +12,14 @@ use ob_grammar::tree::{
     VarDecl, Variables,
 };
 
-/// Where the first construct stands that is not known, at its first token.
+/// Where the first construct beyond the compiled part stands, at its first token.
 pub fn outside(tree: &ModuleTree) -> Option<usize>
     ensures { result ≡ rules.outside (module_of tree.now) }
 {
     outside_declarations(&tree.declarations).or(outside_body(&tree.body))
 }
 
-/// In the declarations of a module: of these, CONST and TYPE are not known.
+/// In the declarations of a module: of these, CONST and TYPE are beyond.
 fn outside_declarations(declarations: &Declarations) -> Option<usize>
     ensures { result ≡ rules.outside_declarations (declarations_of declarations.now) }
 {
@@ -29,7 +29,7 @@ fn outside_declarations(declarations: &Declarations) -> Option<usize>
         .or(outside_procedures(&declarations.procedures))
 }
 
-/// Where the declarations within a procedure begin; none of them is known.
+/// Where the declarations within a procedure begin; each of them is beyond.
 pub fn first_declared(declarations: &Declarations) -> Option<usize>
     ensures { result ≡ rules.first_declared (declarations_of declarations.now) }
 {

@@ -1,9 +1,9 @@
 use Rattle.std.proofs.Common.{ap, sym, ◌∙◌, Some}
 use Rattle.std.specs.Option.{option_or}
 use Rattle.ob_grammar.specs.View.{expr_of, operands_in}
-use Rattle.ob_check.specs.FirstPath.{outside_expr, outside_operands}
+use Rattle.ob_check.specs.CompiledPart.{outside_expr, outside_operands}
 use Rattle.ob_check.proofs.Outside.{is_bare, is_not_bare, bare_name_known, selected_outside, sum_outside, sum_inside}
-use Rattle.ob_check.proofs.checker.first_path.+outside.Goals as goal
+use Rattle.ob_check.proofs.checker.compiled_part.+outside.Goals as goal
 
 pub outside_expression-returns-then-is_empty : goal.outside_expression-returns-then-is_empty
 outside_expression-returns-then-is_empty t c =
