@@ -1,5 +1,5 @@
 -- What the interpreter finds by position, as the meaning says it by name.
-use Rattle.std.proofs.Common.{◌≡◌, refl, ap, sym, subst, ◌∙◌, arith, ℕ, zero, suc, ◌+◌, Bool, true, false, List, [], ◌∷◌, map, take, bytes_eq, Option, Some, None, option_map}
+use Rattle.std.proofs.Common.{◌≡◌, refl, ap, subst, ◌∙◌, arith, ℕ, zero, suc, ◌+◌, Bool, true, false, List, [], ◌∷◌, map, take, bytes_eq, Option, Some, None, option_map}
 use Rattle.std.specs.Prelude.{slice_get, if◌then◌else◌}
 use Rattle.std.specs.List.{find, enumerate_from}
 use Rattle.ob_typing.specs.declared.scalar.Scalar.{Scalar}
@@ -9,8 +9,8 @@ use Rattle.ob_meaning.specs.Statements as Meanings
 use Rattle.ob_meaning.specs.Object as Objects
 use Rattle.ob_meaning.specs.Object.{State, ObjectCall, Reply}
 use Rattle.ob_positions.specs.Store.{Activation}
-use Rattle.ob_positions.specs.Statements.{Outcome, Done, Trap, NotYet}
-use Rattle.ob_positions.specs.Object.{Effect, Ends, NeedsMore, effect, opening}
+use Rattle.ob_positions.specs.Statements.{Done, Trap, NotYet}
+use Rattle.ob_positions.specs.Object.{Effect, Ends, NeedsMore, effect}
 use Rattle.ob_agreement.specs.Resolved.{module_scope, IsResolved}
 use Rattle.ob_agreement.specs.Same.{SameOutcome, SameState, SameEffect, AreValuesOf, FitsExport}
 use Rattle.ob_agreement.proofs.ResolvedModules.{resolved}
@@ -22,7 +22,7 @@ use Rattle.ob_interpreter.specs.declared.opening.OpenFault.TheVariants as Open
 use Rattle.ob_interpreter.specs.Sequences as Sequences
 use Rattle.ob_interpreter.specs.Sequences.{one_at_a_time}
 use Rattle.ob_interpreter.specs.Faults as Faults
-use Rattle.ob_calls.specs.Values.{IsValue, integer, boolean, AreValues, none, more, by_value}
+use Rattle.ob_calls.specs.Values.{IsValue, integer, boolean, AreValues, none, more}
 use Rattle.ob_calls.specs.ExportNames.{export_named}
 use Rattle.ob_calls.specs.Script as Scripts
 use Rattle.ob_calls.specs.Script.{ScriptCall, Makes, makes, AreLines}

@@ -1,5 +1,5 @@
 -- The opening of a module's text, as the meaning says it, by what the interpreter finds.
-use Rattle.std.proofs.Common.{◌≡◌, ℕ, List}
+use Rattle.std.proofs.Common.{ℕ, List}
 use Rattle.ob_typing.specs.Program.{Program}
 use Rattle.ob_positions.specs.Store.{Activation}
 use Rattle.ob_interpreter.specs.declared.opening.OpenFault.{OpenFault}
