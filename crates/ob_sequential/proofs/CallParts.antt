@@ -5,10 +5,8 @@ use Rattle.std.proofs.lemmas.List.Elements.{All-cons, All-nil, All-map}
 use Rattle.std.proofs.lemmas.Option.{slice_get_within, slice_get_cases}
 use Rattle.std.proofs.Math.ListN.{get_or-map}
 use Rattle.ob_typing.specs.Program.{Program}
-use Rattle.ob_meaning.specs.Object.{ObjectCall, Reply}
-use Rattle.ob_interpreter.specs.Sequences.{AreReplies}
+use Rattle.ob_meaning.specs.Object.{ObjectCall, Reply, AreReplies}
 use Rattle.ob_interpreter.specs.View.{call_of}
-use Rattle.ob_interpreter.specs.Faults.{NeedsMoreAt}
 use Rattle.ob_calls.specs.declared.script.ScriptCall.{ScriptCall}
 use Rattle.ob_calls.specs.Script
 use Rattle.ob_text.specs.Words.{Word}
@@ -16,13 +14,13 @@ use Rattle.ob_calls.specs.Script.{AreLines, none, skipped, call, Makes, makes}
 use Rattle.ob_sequential.specs.declared.opened.TheConstants.{TURNS}
 use Rattle.ob_calls.specs.ScriptView.{script_call_of}
 use Rattle.ob_calls.specs.ReplyLines.{reply_lines, count_of}
-use Rattle.ob_sequential.specs.SequentialRun.{NeedsMoreTurnsIn, PrintsReplies}
+use Rattle.ob_sequential.specs.SequentialRun.{NeedsMoreAt, NeedsMoreTurnsIn, PrintsReplies}
 
 callers_in : (xs : List ScriptCall) → map (λ c. c.process) (map script_call_of xs) ≡ map (λ c. c.process) xs
 callers_in [] = refl
 callers_in (x ∷ xs) = ap (λ ps. x.process ∷ ps) (callers_in xs)
 
-calls_in : (xs : List ScriptCall) → map (λ c. c.call) (map script_call_of xs) ≡ map (λ c. call_of c.call) xs
+pub calls_in : (xs : List ScriptCall) → map (λ c. c.call) (map script_call_of xs) ≡ map (λ c. call_of c.call) xs
 calls_in [] = refl
 calls_in (x ∷ xs) = ap (λ cs. call_of x.call ∷ cs) (calls_in xs)
 

@@ -17,14 +17,12 @@ use Rattle.ob_typing.proofs.OneVerdict.{no_fault}
 use Rattle.ob_scopes.specs.declared.fault.CheckFault.{CheckFault}
 use Rattle.ob_scopes.specs.declared.fault.CheckFault.TheVariants as Check
 use Rattle.ob_whole_check.specs.CheckingModules.{IsRefused}
-use Rattle.ob_positions.specs.Store.{Activation}
+use Rattle.ob_meaning.specs.Object.{State, IsOpening}
 use Rattle.ob_interpreter.specs.declared.opening.OpenFault.{OpenFault}
 use Rattle.ob_interpreter.specs.declared.opening.OpenFault.TheVariants as Open
-use Rattle.ob_interpreter.specs.Faults.{IsOpenFault}
-use Rattle.ob_interpreter.specs.Sequences.{IsOpening}
 use Rattle.ob_sequential.specs.ModuleText.{IsModule}
 use Rattle.ob_sequential.specs.CheckedText.{IsNumberedText, of_check, of_parse}
-use Rattle.ob_sequential.specs.ModuleFaults.{HasNoOpening, IsNumbered, of_open, of_text}
+use Rattle.ob_sequential.specs.ModuleFaults.{HasNoOpening, IsNumbered, OpeningFails, of_open, of_text}
 use Rattle.ob_sequential.specs.declared.checked_text.TextFault.{TextFault}
 use Rattle.ob_sequential.specs.declared.checked_text.TextFault.TheVariants as Texts
 use Rattle.ob_sequential.specs.declared.opened.TheConstants.{TURNS}
@@ -84,7 +82,7 @@ no_module_check text t tree e is alone only h numbered program m =
 
 -- ---- no opening
 
-pub opens_not : (program : Program) (e : OpenFault) (state : Activation) → IsOpenFault program TURNS e → e ≢ Open.NoMemory → IsOpening program TURNS state → ⊥
+pub opens_not : (program : Program) (e : OpenFault) (state : State) → OpeningFails program TURNS e → e ≢ Open.NoMemory → IsOpening program TURNS state → ⊥
 opens_not program (Open.Trap k) state h told opens = let is = opens.1 in cc
 opens_not program Open.NeedsMore state h told opens = let is = opens.1 in cc
 opens_not program Open.NoMemory state h told opens = told refl
@@ -95,7 +93,7 @@ open_told Open.NeedsMore numbered = numbered.1
 open_told Open.NoMemory numbered = let bad : true ≡ false = numbered.0 in cc
 
 pub no_opening : (text : List ℕ) (program : Program) (e : OpenFault) → ((other : Program) → IsModule text other → other ≡ program)
-    → IsOpenFault program TURNS e → IsNumbered (of_open e) → HasNoOpening text
+    → OpeningFails program TURNS e → IsNumbered (of_open e) → HasNoOpening text
 no_opening text program e alone h numbered o =
     opens_not program e o.state h (open_told e numbered) (subst (λ (p : Program). IsOpening p TURNS o.state) (alone o.program o.is_module) o.opens)
 

@@ -1,9 +1,8 @@
 -- What each fault of a module and its opening says.
 use Rattle.std.specs.Prelude.{◌≡◌, ◌≢◌, ℕ, Bool, true, false, List}
 use Rattle.ob_typing.specs.Program.{Program}
-use Rattle.ob_positions.specs.Store.{Activation}
-use Rattle.ob_interpreter.specs.Sequences.{IsOpening}
-use Rattle.ob_interpreter.specs.Faults.{IsOpenFault}
+use Rattle.ob_meaning.specs.Statements as Statements
+use Rattle.ob_meaning.specs.Object.{State, IsOpening, opening}
 use Rattle.ob_interpreter.specs.declared.opening.OpenFault.{OpenFault}
 use Rattle.ob_interpreter.specs.declared.opening.OpenFault.TheVariants as Open
 use Rattle.ob_sequential.specs.ModuleText.{IsModule}
@@ -17,18 +16,24 @@ use Rattle.ob_sequential.specs.declared.opened.TheConstants.{TURNS}
 -- the text is of a module whose opening ends
 pub record HasOpening (text : List ℕ) : Type 0 where
   pub program : Program
-  pub state : Activation
+  pub state : State
   pub is_module : IsModule text program
   pub opens : IsOpening program TURNS state
 
 abbrev pub HasNoOpening : List ℕ → Type 0
 HasNoOpening text = HasOpening text → ⊥
 
+-- what each fault of an opening says of the meaning of a program
+abbrev pub OpeningFails : Program → ℕ → OpenFault → Type 0
+OpeningFails program turns (Open.Trap k) = opening program turns ≡ Statements.Trap k
+OpeningFails program turns Open.NeedsMore = opening program turns ≡ Statements.NotYet
+OpeningFails program turns Open.NoMemory = Unit {0}
+
 -- the opening of a text's program fails
 pub record IsOpenFaultOf (text : List ℕ) (fault : OpenFault) : Type 0 where
   pub program : Program
   pub is_module : IsModule text program
-  pub fails : IsOpenFault program TURNS fault
+  pub fails : OpeningFails program TURNS fault
 
 -- what each fault says of a text
 abbrev pub IsModuleFault : List ℕ → ModuleFault → Type 0

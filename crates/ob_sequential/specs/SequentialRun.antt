@@ -2,10 +2,7 @@
 use Rattle.std.specs.Prelude.{◌≡◌, ◌≢◌, ℕ, suc, Bool, true, false, List, [], map, take, slice_get, Some}
 use Rattle.ob_typing.specs.Program.{Program}
 use Rattle.ob_sequential.specs.ModuleText.{IsModule}
-use Rattle.ob_meaning.specs.Object.{Reply}
-use Rattle.ob_positions.specs.Store.{Activation}
-use Rattle.ob_interpreter.specs.Sequences.{IsOpening, AreReplies}
-use Rattle.ob_interpreter.specs.Faults.{NeedsMoreAt}
+use Rattle.ob_meaning.specs.Object.{State, ObjectCall, Reply, NeedsMore, effect, IsOpening, one_at_a_time, AreReplies}
 use Rattle.ob_sequential.specs.CheckedText.{IsNumberedText, IsTextFault}
 use Rattle.ob_sequential.specs.ModuleFaults.{IsOpenFaultOf}
 use Rattle.ob_sequential.specs.declared.opened.TheConstants.{TURNS}
@@ -38,10 +35,21 @@ pub record IsSequentialRun (module_text script output : List ℕ) : Type 0 where
 -- the script is none for a text's program, whose opening ends
 pub record IsScriptFaultOf (text script : List ℕ) (fault : _) : Type 0 where
   pub program : Program
-  pub state : Activation
+  pub state : State
   pub is_module : IsModule text program
   pub opens : IsOpening program TURNS state
   pub fails : IsScriptFault program processes script fault
+
+-- the calls before this one end, one at a time from the opening state, and it needs more turns
+pub record NeedsMoreAt (program : Program) (turns : ℕ) (calls : List ObjectCall) (position : ℕ) : Type 0 where
+  pub state : State
+  pub opens : IsOpening program turns state
+  pub replies : List Reply
+  pub before : State
+  pub made : one_at_a_time program turns state (take position calls) ≡ Some (replies, before)
+  pub call : ObjectCall
+  pub here : slice_get calls position ≡ Some call
+  pub more : effect program call turns before ≡ NeedsMore
 
 -- a call of a script needs more turns: its process, and its number among the calls of that process
 pub record NeedsMoreTurnsIn (program : Program) (calls : List ScriptCall) (process number : ℕ) : Type 0 where

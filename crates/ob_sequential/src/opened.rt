@@ -63,6 +63,7 @@ pub fn opened_text(alloc: Global, text: &[u8]) -> Result<(Checked, State), Modul
     ensures program { IfOk result (λ r. IsModule text.now (program_in r.0)) }
     ensures alone { IfOk result (λ r. (other : Program) → IsModule text.now other → other ≡ program_in r.0) }
     ensures opening { IfOk result (λ r. IsOpening (program_in r.0) TURNS (state_of r.1)) }
+    ensures meant { IfOk result (λ _. HasOpening text.now) }
     ensures fault { IfErr result (IsModuleFault text.now) }
 
     // With a fault that has a number there is no opening of a module of this text.

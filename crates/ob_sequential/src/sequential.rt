@@ -3,7 +3,8 @@
 ghost use Rattle.std.specs.Prelude.{◌≡◌, Err, suc, ◌<◌, All, IfOk, IfErr, map, take, length, slice_index, string_bytes};
 ghost use Rattle.ob_checked.specs.CheckedModule.{program_in};
 ghost use Rattle.ob_interpreter.specs.View.{call_of};
-ghost use Rattle.ob_sequential.specs.SequentialParts.{IsReplyFault};
+ghost use Rattle.ob_agreement.specs.Resolved.{IsResolved};
+ghost use Rattle.ob_sequential.specs.SequentialParts.{FitExports, IsReplyFault};
 ghost use Rattle.ob_sequential.specs.SequentialRun.{HasNoRun, IsNumbered, IsSequentialRun, IsSeqTextFault, PrintsReplies, TellsMemoryApart};
 ghost use Rattle.ob_calls.specs.ReplyLines.{count_of};
 ghost use Rattle.ob_calls.specs.ScriptView.{script_call_of};
@@ -112,7 +113,9 @@ fn replies_text(
     checked: &Checked,
     calls: Vec<ScriptCall>,
 ) -> Result<String, SeqTextFault>
-    requires { All (λ c. c.process < PROCESSES) calls.items }
+    requires processes { All (λ c. c.process < PROCESSES) calls.items }
+    requires program { IsResolved (program_in checked.now) }
+    requires calls { FitExports (program_in checked.now) (map (λ c. call_of c.call) calls.items) }
     ensures run { IfOk result (λ text. PrintsReplies (program_in checked.now) (map script_call_of calls.items) (string_bytes text)) }
     ensures fault { IfErr result (λ e. IsReplyFault (program_in checked.now) (map script_call_of calls.items) e) }
     ensures memory { IfErr result TellsMemoryApart }
