@@ -2,8 +2,10 @@
 
 use ob_interpreter::call::{Call, Reply};
 use ob_interpreter::object::interpret;
-use ob_sequential::{TURNS, opened_text};
+use ob_interpreter::opening::opening;
+use ob_syntax::reader::read;
 use ob_typing::scalar::Scalar;
+use ob_whole_check::modules::check;
 use std::test::Fail;
 
 const DEPTH: &[u8] = b"MODULE R; PROCEDURE Down*(k: INTEGER); \
@@ -12,12 +14,13 @@ const DEPTH: &[u8] = b"MODULE R; PROCEDURE Down*(k: INTEGER); \
 #[test]
 fn a_call_is_made_on_the_opening_state(rt: HostRuntime) -> Result<(), Fail> {
     let alloc = rt.alloc();
-    let (checked, state) = opened_text(alloc, DEPTH)?;
+    let checked = check(alloc, read(alloc, DEPTH)?)?;
+    let state = opening(alloc, &checked, 0)?;
     let call = Call {
         export: 0,
         arguments: vec![in alloc; Scalar::Int(65)]?,
     };
-    let (_, reply) = interpret(alloc, &checked, &state, &call, TURNS)?.ok_or("more turns")?;
+    let (_, reply) = interpret(alloc, &checked, &state, &call, 100)?.ok_or("more turns")?;
     assert!(rt; matches!(reply, Reply::Trapped(4)));
     Ok(())
 }

@@ -1,6 +1,6 @@
 //! Runs of the step machine over small engines, by schedules that were worked out by hand.
 
-ghost use Rattle.std.specs.Prelude.{◌≡◌, ◌<◌};
+ghost use Rattle.std.specs.Prelude.{◌≡◌, ◌<◌, IfOk};
 
 use ob_check::program::Scalar;
 use ob_grammar::NoMemory;
