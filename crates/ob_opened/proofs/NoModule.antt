@@ -71,6 +71,11 @@ part_apart Part.NoMemory = tt
 same_place : (e : CheckFault) (place construct : ℕ) → place_of e ≡ Some place → e ≡ Part.NotSupported construct → place ≡ construct
 same_place e place construct stands is = cc
 
+pub is_module : (text : List ℕ) (tree : Tree.Module) (meant : Meant.Program) (program : Program) → Whole.IsModule text meant
+    → IsTextOf text tree → WellTyped tree program → IsModule text program
+is_module text tree meant program whole of typed =
+    record { meant = meant; whole = whole; part = record { short = whole.short; tree = tree; text_of = of; typed = typed } }
+
 -- the text has this tree alone
 module _ (text : List ℕ) (tree : Tree.Module) (one_tree : (other : Tree.Module) → IsTextOf text other → other ≡ tree) where
   typed_here : (program : Program) → IsModule text program → WellTyped tree program
