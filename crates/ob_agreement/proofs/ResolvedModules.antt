@@ -1,16 +1,23 @@
 -- A well typed module's program is resolved.
 use Rattle.std.proofs.Common.{◌≡◌, refl, ap, sym, subst, ◌∙◌, arith, ℕ, zero, suc, ◌+◌, ◌≤◌, Bool, true, false, List, [], ◌∷◌, ◌++◌, map, length, codes, bytes_eq, if◌then◌else◌, Option, Some, None}
-use Rattle.std.specs.Prelude.{slice_get}
-use Rattle.ob_grammar.specs.Tree.{Declarations, Procedures, Module}
+use Rattle.std.specs.Prelude.{slice_get, nat_eq, ◌&&◌}
+use Rattle.std.specs.List.{filter}
+use Rattle.std.proofs.lemmas.Bool.{ne_eqb}
+use Rattle.std.proofs.lemmas.List.{map-append}
+use Rattle.ob_grammar.specs.Tree
+use Rattle.ob_grammar.specs.Tree.{Stmts, Section, Heading, Declarations, Procedures, Module}
+use Rattle.ob_typing.specs.declared.rule.Rule.TheVariants.{DeclaredTwice, PassesLimit, BadExport}
 use Rattle.ob_typing.specs.declared.scalar.Scalar.{Scalar}
 use Rattle.ob_typing.specs.declared.scalar.Scalar.TheVariants as Scalars
 use Rattle.ob_typing.specs.declared.scalar.ScalarType.TheVariants.{Integer, Boolean}
 use Rattle.ob_typing.specs.Program
-use Rattle.ob_typing.specs.Program.{Name, DataType, Simple, Parameter, Variable, Procedure}
-use Rattle.ob_typing.specs.Scopes.{Object, Constant, TypeName, ModuleVariable, LocalVariable, ProcedureName, Scope, no_names, with_name, Environment, or_else, declared, level, variable_in, outermost, opening_names}
+use Rattle.ob_typing.specs.Program.{exports, Name, DataType, Simple, Parameter, Variable, Procedure}
+use Rattle.ob_typing.specs.Scopes.{Object, Constant, TypeName, ModuleVariable, LocalVariable, ProcedureName, Scope, no_names, with_name, Environment, or_else, is_declared, declared, level, variable_in, outermost, opening_names}
+use Rattle.ob_typing.specs.Statements.{listed}
 use Rattle.ob_typing.specs.Declarations as Typing
-use Rattle.ob_typing.specs.Declarations.{Room, inner_scope, with_procedure, frame_room, DeclaresProcedures, Declares, WellTyped}
+use Rattle.ob_typing.specs.Declarations.{Room, most_exports, is_nested, heading_broken, parameters_of, Parameters, inner_scope, with_procedure, frame_room, DeclaresProcedures, Declares, WellTyped}
 use Rattle.ob_agreement.specs.Resolved.{as_parameter, module_scope, AreDistinct, IsProcedure, IsResolved}
+use Rattle.ob_agreement.specs.Exported.{Formal, Export, formals_in, exports_in, exports_declared, exports_of, seen}
 use Rattle.ob_agreement.proofs.Known.{Stands, IsRight, Knows, knows_more}
 use Rattle.ob_agreement.proofs.ResolvedStatements.{good_body}
 use Rattle.ob_agreement.proofs.ResolvedScopes.{AreDeclared, Scoped, stands_before, variables_scoped, parameters_scoped, constants_scoped, types_scoped}
@@ -107,6 +114,82 @@ get_right [] qs k = let e : length {A = Procedure} [] + k ≡ k = omega arith in
 get_right (q ∷ ps) qs k =
     let e : length (q ∷ ps) + k ≡ suc (length ps + k) = omega arith in
     ap (slice_get (q ∷ ps ++ qs)) e ∙ get_right ps qs k
+
+-- exports
+
+abbrev marked : List Procedure → List Procedure
+marked = filter (λ p. p.is_exported)
+
+marked_if : (b : Bool) (p : Procedure) (fs gs : List Procedure) → (if b then p ∷ (fs ++ gs) else fs ++ gs) ≡ (if b then p ∷ fs else fs) ++ gs
+marked_if true p fs gs = refl
+marked_if false p fs gs = refl
+
+marked_both : (ps qs : List Procedure) → marked (ps ++ qs) ≡ marked ps ++ marked qs
+marked_both [] qs = refl
+marked_both (p ∷ ps) qs =
+    ap (λ fs. if p.is_exported then p ∷ fs else fs) (marked_both ps qs) ∙ marked_if p.is_exported p (marked ps) (marked qs)
+
+-- at the module's level the exports are those of the text, and further in there are none
+abbrev ExportsAt : ℕ → Procedures → List Procedure → Type 0
+ExportsAt zero xs ps = map seen (marked ps) ≡ exports_in xs
+ExportsAt (suc more) xs ps = marked ps ≡ []
+
+no_exports : (more : ℕ) → ExportsAt more Tree.no_procedure []
+no_exports zero = refl
+no_exports (suc more) = refl
+
+abbrev seen_parameter : Parameter → Formal
+seen_parameter q = record { name = q.name; is_var = q.is_var }
+
+abbrev seen_name : Bool → Tree.Name → Formal
+seen_name is_var name = record { name = name.text; is_var = is_var }
+
+formals_seen : (is_var : Bool) (t : DataType) (names : List Tree.Name) →
+    map seen_parameter (parameters_of is_var t names) ≡ map (seen_name is_var) names
+formals_seen is_var t [] = refl
+formals_seen is_var t (name ∷ names) = ap (λ fs. seen_name is_var name ∷ fs) (formals_seen is_var t names)
+
+parameters_seen : {env after : Environment} {count : ℕ} {xs : List Section} {ps : List Parameter} → Parameters env count xs after ps →
+    map seen_parameter ps ≡ formals_in xs
+parameters_seen Typing.none = refl
+parameters_seen (Typing.more {x = x} {xs = xs} {t = t} {ps = ps} new d name simple k) =
+    map-append seen_parameter (parameters_of x.is_var t x.names) ps
+    ∙ ap (λ fs. fs ++ map seen_parameter ps) (formals_seen x.is_var t x.names)
+    ∙ ap (λ fs. map (seen_name x.is_var) x.names ++ fs) (parameters_seen k)
+
+first_seen : (b : Bool) (p : Procedure) (e : Export) (fs : List Procedure) (es : List Export) → seen p ≡ e → map seen fs ≡ es →
+    map seen (if b then p ∷ fs else fs) ≡ (if b then e ∷ es else es)
+first_seen true p e fs es h k = ap (λ x. x ∷ map seen fs) h ∙ ap (λ xs. e ∷ xs) k
+first_seen false p e fs es h k = k
+
+-- a procedure within another one is not exported
+unmarked : (old exported nested full : Bool) →
+    (if old then Some DeclaredTwice else if exported && nested then Some BadExport else if exported && full then Some PassesLimit else None) ≡ None → nested ≡ true → exported ≡ false
+unmarked old false nested full h k = refl
+unmarked true true nested full h k = absurd cc
+unmarked false true true full h k = absurd cc
+unmarked false true false full h k = absurd cc
+
+within_others : (env : Environment) (more : ℕ) → level env ≡ suc (suc (suc more)) → is_nested env ≡ true
+within_others env more l = rw (ne_eqb (level env) 2 (λ e. omega (arith, l, e))) refl
+
+none_marked : (b : Bool) (p : Procedure) (fs : List Procedure) → b ≡ false → fs ≡ [] → (if b then p ∷ fs else fs) ≡ []
+none_marked true p fs h k = absurd cc
+none_marked false p fs h k = k
+
+one_more_export : (more : ℕ) (env : Environment) (exported : ℕ) (heading : Heading) (inner : Declarations) (body : Option Stmts) (end_name : Tree.Name) (rest : Procedures)
+    (p : Procedure) (nested others : List Procedure) → heading_broken env exported heading ≡ None → level env ≡ suc (suc more) → p.is_exported ≡ heading.is_exported →
+    seen p ≡ record { name = heading.name.text; parameters = formals_in (listed heading.parameters) } → marked nested ≡ [] → ExportsAt more rest others →
+    ExportsAt more (Tree.procedure heading inner body end_name rest) (p ∷ nested ++ others)
+one_more_export zero env exported heading inner body end_name rest p nested others new l same is none h =
+    let behind : marked (nested ++ others) ≡ marked others = marked_both nested others ∙ ap (λ fs. fs ++ marked others) none in
+    ap (λ fs. map seen (if p.is_exported then p ∷ fs else fs)) behind
+    ∙ first_seen p.is_exported p _ (marked others) (exports_in rest) is h
+    ∙ ap (λ b. if b then record { name = heading.name.text; parameters = formals_in (listed heading.parameters) } ∷ exports_in rest else exports_in rest) same
+one_more_export (suc more) env exported heading inner body end_name rest p nested others new l same is none h =
+    let behind : marked (nested ++ others) ≡ [] = marked_both nested others ∙ ap (λ fs. fs ++ marked others) none ∙ h in
+    none_marked p.is_exported p (marked (nested ++ others))
+    (same ∙ unmarked (is_declared env heading.name.text) heading.is_exported (is_nested env) (nat_eq exported most_exports) new (within_others env more l)) behind
 
 module _ (program : Program.Program) where
   abbrev outer : List Parameter
@@ -236,9 +319,9 @@ module _ (program : Program.Program) where
 
   mutual
     procedures_good : {env after : Environment} {n exported : ℕ} {xs : Procedures} {ps : List Procedure} → DeclaresProcedures env n exported xs after ps →
-        (more : ℕ) (own : List Parameter) → InScope (suc more) own env → StandFrom n ps → InScope (suc more) own after × AreProcedures ps
-    procedures_good Typing.none more own h stand = (h, tt)
-    procedures_good (Typing.procedure {env = env} {within = within} {inside = inside} {n = n} {heading = heading} {ps = ps} {vs = vs} {nested = nested} {others = others} {ss = ss} new params simple d body k)
+        (more : ℕ) (own : List Parameter) → InScope (suc more) own env → StandFrom n ps → InScope (suc more) own after × (AreProcedures ps × ExportsAt more xs ps)
+    procedures_good Typing.none more own h stand = (h, (tt, no_exports more))
+    procedures_good (Typing.procedure {env = env} {within = within} {inside = inside} {n = n} {exported = exported} {heading = heading} {inner = declarations} {body = statements} {end_name = end_name} {rest = others_in} {ps = ps} {vs = vs} {nested = nested} {others = others} {ss = ss} new params simple d body k)
         more own h stand =
         let p : Procedure = record { name = heading.name.text; is_exported = heading.is_exported; parameters = ps; variables = vs; body = ss } in
         let target = with_procedure env n heading ps in
@@ -252,12 +335,18 @@ module _ (program : Program.Program) where
         let inner = declares_good d more ps refl formal (left_stand (suc n) nested others behind) in
         let good : IsProcedure program p =
         record { distinct = inner.1.0; body = good_body outer procedures (ps ++ map as_parameter vs) inside inner.0.0 body } in
-        let rest = procedures_good k more own here (right_stand (suc n) nested others behind) in
-        (rest.0, (good, both_procedures nested others inner.1.1 rest.1))
+        let rest = procedures_good k more own here (right_stand (suc n) nested others behind) in (
+          rest.0,
+          (
+            (good, both_procedures nested others inner.1.1.0 rest.1.0),
+            one_more_export more env exported heading declarations statements end_name others_in p nested others new h.1 refl
+                (ap (λ fs. record { name = heading.name.text; parameters = fs }) (parameters_seen params)) inner.1.1.1 rest.1.1,
+          ),
+        )
 
     declares_good : {env after : Environment} {n : ℕ} {room : Room} {d : Declarations} {vs : List Variable} {ps : List Procedure} → Declares env n room d after vs ps →
         (more : ℕ) (own : List Parameter) → length own ≡ room.names → Scoped (InScope (suc (suc more))) own env → StandFrom n ps →
-        InScope (suc (suc more)) (own ++ map as_parameter vs) after × (AreDistinct (own ++ map as_parameter vs) × AreProcedures ps)
+        InScope (suc (suc more)) (own ++ map as_parameter vs) after × (AreDistinct (own ++ map as_parameter vs) × (AreProcedures ps × (marked ps ≡ [])))
     declares_good (Typing.declarations {vs = vs} c t v p) more own count s stand =
         let R = InScope (suc (suc more)) in
         let constants = constants_scoped R (λ own env name value h. scope_more (suc (suc more)) own env name (Constant value) h tt)
@@ -272,7 +361,7 @@ module _ (program : Program.Program) where
   from_start k = omega arith
 
   declarations_good : {after : Environment} {room : Room} {d : Declarations} {ps : List Procedure} → Declares opening_names 0 room d after program.variables ps → room.names ≡ 0 → ps ≡ procedures →
-      InScope 1 outer after × (AreDistinct outer × AreProcedures ps)
+      InScope 1 outer after × (AreDistinct outer × (AreProcedures ps × (map seen (marked ps) ≡ exports_declared d)))
   declarations_good (Typing.declarations c t v p) none same =
       let R = InModule procedures in
       let empty : Scoped R [] opening_names = record { right = (opening_knows procedures, refl); named = tt; distinct = tt } in
@@ -287,6 +376,9 @@ resolved m program (Typing.well_typed {inside = inside} d b) =
     let all = declarations_good program d refl refl in
     record {
       distinct = all.1.0;
-      procedures = procedure_at program program.procedures all.1.1;
+      procedures = procedure_at program program.procedures all.1.1.0;
       body = good_body (module_scope program) program.procedures (module_scope program) inside all.0.0 b;
     }
+
+pub exports_are_seen : (m : Module) (program : Program.Program) → WellTyped m program → map seen (exports program) ≡ exports_of m
+exports_are_seen m program (Typing.well_typed d b) = (declarations_good program d refl refl).1.1.1

@@ -1,2 +1,3 @@
 pub mod Resolved
 pub mod Same
+pub mod Exported

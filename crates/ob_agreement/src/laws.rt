@@ -1,9 +1,9 @@
 //! What holds of the two meanings, as functions that do nothing: their contracts are the laws.
 
-ghost use Rattle.std.specs.Prelude.{◌≡◌, ℕ, ◌<◌, List, [], ◌∷◌, length, slice_get, Some};
+ghost use Rattle.std.specs.Prelude.{◌≡◌, ℕ, ◌<◌, List, [], ◌∷◌, length, map, slice_get, Some};
 ghost use Rattle.ob_grammar.specs.Tree.{Module};
 ghost use Rattle.ob_typing.specs.Declarations.{WellTyped};
-ghost use Rattle.ob_typing.specs.Program.{Procedure, Program};
+ghost use Rattle.ob_typing.specs.Program.{Procedure, Program, exports};
 ghost use Rattle.ob_meaning.specs.Object as Objects;
 ghost use Rattle.ob_meaning.specs.Object.{ObjectCall, State};
 ghost use Rattle.ob_meaning.specs.Statements as Meanings;
@@ -11,6 +11,7 @@ ghost use Rattle.ob_meaning.specs.Store as Names;
 ghost use Rattle.ob_positions.specs.Object as ObjectsByPosition;
 ghost use Rattle.ob_positions.specs.Statements as Positions;
 ghost use Rattle.ob_positions.specs.Store.{Activation, Store, Held};
+ghost use Rattle.ob_agreement.specs.Exported.{exports_of, seen};
 ghost use Rattle.ob_agreement.specs.Resolved.{IsResolved, module_scope};
 ghost use Rattle.ob_agreement.specs.Same.{Scopes, scope_at, SameStore, SameHanded, SameOutcome, SameState, SameEffect, FitsExport};
 
@@ -29,6 +30,11 @@ pub fn openings_agree()
 /// The program of a well typed module is resolved.
 pub fn well_typed_is_resolved()
     ensures { (m : Module) (program : Program) → WellTyped m program → IsResolved program }
+{}
+
+/// The exports of a well typed module's program are those of its text, in text order, with their parameters.
+pub fn exports_are_those_of_the_text()
+    ensures { (m : Module) (program : Program) → WellTyped m program → map seen (exports program) ≡ exports_of m }
 {}
 
 /// A call from outside that fits an export comes to the same by position as by name: one state and one reply.
