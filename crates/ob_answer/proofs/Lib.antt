@@ -1,4 +1,4 @@
 pub mod Beginnings
 pub mod Made
-pub mod Explaining
+pub mod FaultsShown
 pub mod PlainWords

@@ -28,7 +28,7 @@ pub(crate) fn obey_explain<F: Files>(
     script_name: Option<&str>,
     files: &mut F,
 ) -> Result<Answer, NoMemory>
-    ensures { IfOk result (λ a. IsAnswer F.reads (Explain module_name.now (option_map (λ name. name.now) script_name)) files.old a files.new) }
+    ensures { IfOk result (λ a. IsAnswer F.reads (Explain module_name.now (option_map (λ name. name.now) script_name.entry)) files.old a files.new) }
 {
     match script_name {
         None => obey_explain_module(alloc, module_name, files),

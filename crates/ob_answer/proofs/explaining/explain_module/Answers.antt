@@ -2,7 +2,7 @@ use Rattle.std.proofs.Common.{◌≡◌, codes, rules, string_bytes}
 use Rattle.ob_answer.specs.Explains.{right}
 use Rattle.ob_sequential.specs.ModuleFaults.{HasOpening}
 use Rattle.ob_answer.proofs.Beginnings.{of_whole}
-use Rattle.ob_answer.proofs.Explaining.{module_wrong_made}
+use Rattle.ob_answer.proofs.FaultsShown.{module_wrong_made}
 use Rattle.ob_answer.proofs.explaining.explain_module.Goals as goal
 
 pub returns-in_ok-from_str-in-Ok : goal.returns-in_ok-from_str-in-Ok

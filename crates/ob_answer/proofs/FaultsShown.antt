@@ -1,6 +1,5 @@
 -- Explanations made of the beginning of a module's text.
-use Rattle.std.proofs.Common.{◌≡◌, ◌<◌, ℕ, List, Result, Ok, Err, IfOk, length, codes, false, subst, sym}
-use Rattle.ob_scan.specs.ScanFaults.{IsScanFault}
+use Rattle.std.proofs.Common.{◌≡◌, ◌<◌, ℕ, List, Result, Ok, Err, IfOk, length, false, subst, sym}
 use Rattle.ob_scan.specs.declared.fault.ScanFault.TheVariants as Scan
 use Rattle.ob_answer.specs.Explains.{IsCallsExplained, IsModuleExplained, shown_calls_fault, shown_module_fault, wrong}
 use Rattle.ob_answer.specs.Printed.{IsRefused}
