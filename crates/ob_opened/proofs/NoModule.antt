@@ -94,9 +94,12 @@ module _ (text : List ℕ) (tree : Tree.Module) (one_tree : (other : Tree.Module
     beyond e place stands h first =
         let same : whole.tree ≡ tree = one_tree whole.tree whole.text_of in
         record {
-          meant = meant; whole = whole; fault = e; stands = stands;
+          meant = meant;
+          whole = whole;
+          fault = e;
+          stands = stands;
           fails = subst (λ (t : Tree.Module). IsCheckFault t e) (sym same) h;
-          first = λ construct is. same_place e place construct stands (first construct (subst (λ (t : Tree.Module). outside t ≡ Some construct) same is))
+          first = λ construct is. same_place e place construct stands (first construct (subst (λ (t : Tree.Module). outside t ≡ Some construct) same is));
         }
 
     pub part_fault : (e : CheckFault) → IsCheckFault tree e
