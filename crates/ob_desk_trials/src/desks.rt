@@ -71,6 +71,33 @@ fn turns_by_hand_are_the_run_of_their_schedule(rt: HostRuntime) -> Result<(), Fa
 
 /// As many turns, but another answer.
 #[test]
+fn a_seat_is_missing(rt: HostRuntime) -> Result<(), Fail> {
+    let alloc = rt.alloc();
+    let (desk, mut seats) = used(&rt, alloc, 0, 1)?;
+    seats.pop();
+    assert_eq!(rt; desk.close(alloc, seats).err(), Some(CloseFault::Uneven(1)));
+    Ok(())
+}
+
+#[test]
+fn a_seat_of_another_tag(rt: HostRuntime) -> Result<(), Fail> {
+    let alloc = rt.alloc();
+    let (desk, seats) = used(&rt, alloc, 0, 1)?;
+    let mut given = Vec::new(alloc);
+    given.push(Seat::new(alloc, 0, 8))?;
+    for seat in seats {
+        if seat.process() == 1 {
+            given.push(seat)?;
+        }
+    }
+    assert_eq!(rt;
+        desk.close(alloc, given).err(),
+        Some(CloseFault::Stranger(0))
+    );
+    Ok(())
+}
+
+#[test]
 fn a_seat_that_was_at_another_desk(rt: HostRuntime) -> Result<(), Fail> {
     let alloc = rt.alloc();
     let (desk, mut seats) = used(&rt, alloc, 0, 1)?;
