@@ -16,7 +16,7 @@ use Rattle.ob_opened.specs.ModuleText.{IsModule}
 use Rattle.ob_opened.specs.declared.checked_text.TextFault.{TextFault}
 use Rattle.ob_opened.specs.declared.checked_text.TextFault.TheVariants as Texts
 use Rattle.ob_opened.specs.declared.opened.TheConstants.{TURNS}
-use Rattle.ob_program.specs.ModuleCode.{HasNoCode, IsModuleTextFault, IsNumberedModule}
+use Rattle.ob_program.specs.ModuleCode.{HasNoCode, IsModuleTextFault, IsNumberedModule, TellsModuleMemoryApart}
 use Rattle.ob_program.specs.ModuleCodeParts.{of_code_fault, of_open_fault, of_text_fault}
 
 module_numbered : (e : TextFault) → IsNumberedModule (of_text_fault e) → IsNumberedText e
@@ -34,6 +34,12 @@ open_told : (e : OpenFault) → IsNumberedModule (of_open_fault e) → e ≢ Ope
 open_told (Open.Trap k) numbered = numbered.1
 open_told Open.NeedsMore numbered = numbered.1
 open_told Open.NoMemory numbered = let bad : true ≡ false = numbered.0 in cc
+
+-- a fault of the opening that is told as one is no want of memory
+pub open_apart : (e : OpenFault) → TellsModuleMemoryApart (of_open_fault e)
+open_apart (Open.Trap k) = λ (is : Open.Trap k ≡ Open.NoMemory). cc
+open_apart Open.NeedsMore = λ (is : Open.NeedsMore ≡ Open.NoMemory). cc
+open_apart Open.NoMemory = tt
 
 module _ (text : List ℕ) (program : Program) (alone : (other : Program) → IsModule text other → other ≡ program) where
   no_long_code : 65535 < length (code_of program).instructions → HasNoCode text

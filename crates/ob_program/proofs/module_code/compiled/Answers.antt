@@ -3,7 +3,7 @@ use Rattle.std.proofs.lemmas.Result.{err_from_is_err_and}
 use Rattle.ob_check.specs.CheckedModule.{program_in}
 use Rattle.ob_layout.specs.Layout.{LayoutParts}
 use Rattle.ob_scheme.specs.Scheme.{code_by}
-use Rattle.ob_program.proofs.Texts.{fails_to_open, long_code, no_code, no_code_fault, no_opening_code}
+use Rattle.ob_program.proofs.Texts.{fails_to_open, long_code, no_code, no_code_fault, no_opening_code, open_apart}
 use Rattle.ob_program.proofs.module_code.compiled.Goals as goal
 
 pub returns-in_err-checked-clause-none : goal.returns-in_err-checked-clause-none
@@ -36,3 +36,8 @@ returns-in_err-opening-clause-fault c =
     rw (p.1, p.2) (fails_to_open c.args.text.now (program_in c.in_ok-checked.checked) c.in_ok-checked.ensures.program
     (subst (λ (l : LayoutParts). length (code_by l.variables (program_in c.in_ok-checked.checked)).instructions ≤ 65535) c.in_ok-layout.ensures c.in_ok-code.ensures.fits)
     c.in_err-opening.field-0.0 c.in_err-opening.ensures.fault)
+
+pub returns-in_err-opening-clause-memory : goal.returns-in_err-opening-clause-memory
+returns-in_err-opening-clause-memory c =
+    let p = err_from_is_err_and c.from_residual-in_err-opening.result c.from_residual-in_err-opening.ensures.1 in
+    rw (p.1, p.2) (open_apart c.in_err-opening.field-0.0)
