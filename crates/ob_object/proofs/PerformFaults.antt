@@ -28,3 +28,10 @@ pub schedule_memory : (e : ScheduleFault) → TellsMemoryApart (of_schedule e)
 schedule_memory (Schedule.Form number) = λ bad. cc
 schedule_memory (Schedule.Process number) = λ bad. cc
 schedule_memory Schedule.NoMemory = tt
+
+pub script_memory : (e : ScriptFault) → TellsMemoryApart (of_script e)
+script_memory (Script.Form line) = λ bad. cc
+script_memory (Script.Procedure line) = λ bad. cc
+script_memory (Script.Arguments line) = λ bad. cc
+script_memory (Script.Process line) = λ bad. cc
+script_memory Script.NoMemory = tt
