@@ -184,7 +184,7 @@ module _ (text : List ℕ) (n : ℕ) (scripts : List ℕ) (o : ObjectParts) (com
       least = subst (λ (k : ℕ). 1 ≤ k) (sym processes) runs.some;
       most = subst (λ (k : ℕ). k ≤ 16) (sym processes) runs.few;
       words = words;
-      names = own_names (exports program) (exports_apart program.procedures (typed_apart compiled.is_module.tree program compiled.is_module.typed));
+      names = own_names (exports program) (exports_apart program.procedures (typed_apart compiled.is_module.part.tree program compiled.is_module.part.typed));
       whole = whole;
       events = λ before behind e is.
           let has = member_of before behind e r.history is in
