@@ -9,7 +9,7 @@ pub enum CellFault {
     /// N1: the number of processes is not 1 to 16.
     #[error("N1")]
     Processes,
-    /// N2: want of memory.
+    /// Want of memory.
     #[error("NoMemory")]
     NoMemory,
 }

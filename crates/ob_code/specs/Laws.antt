@@ -55,15 +55,15 @@ abbrev pub DividesAll : Type 0
 DividesAll = (x y : ℤ) → pos 0 <ℤ y → DividesDown x y
 
 -- a body stands so where instructions have come so far
-abbrev pub StandsAt : ℕ → Outcome → Step → Type 0
-StandsAt reserve (Unfinished c) s = s ≡ record { turn = Answer.On; run = record { reserve = reserve; is_over = false; body = c.body }; block = c.block }
-StandsAt reserve (Returned block stack) s = (s.turn ≡ Answer.Returned) × (s.block ≡ block) × (s.run.body.stack ≡ stack)
-StandsAt reserve (Trapped k) s = s.turn ≡ Answer.Trapped k
-StandsAt reserve Stuck s = s.turn ≡ Answer.Stuck
+abbrev pub HasCome : ℕ → Outcome → Step → Type 0
+HasCome reserve (Unfinished c) s = s ≡ record { turn = Answer.On; run = record { reserve = reserve; is_over = false; body = c.body }; block = c.block }
+HasCome reserve (Returned block stack) s = (s.turn ≡ Answer.Returned) × (s.block ≡ block) × (s.run.body.stack ≡ stack)
+HasCome reserve (Trapped k) s = s.turn ≡ Answer.Trapped k
+HasCome reserve Stuck s = s.turn ≡ Answer.Stuck
 
 -- so many steps of a body that goes on are so many instructions
 abbrev pub StepsAreInstructions : Type 0
-StepsAreInstructions = (code : List Instr) (reserve k : ℕ) (body : BodyState) (block : List ℤ) → StandsAt reserve (exec code reserve k (record { block = block; body = body })) (steps code k (record { reserve = reserve; is_over = false; body = body }) block)
+StepsAreInstructions = (code : List Instr) (reserve k : ℕ) (body : BodyState) (block : List ℤ) → HasCome reserve (exec code reserve k (record { block = block; body = body })) (steps code k (record { reserve = reserve; is_over = false; body = body }) block)
 
 -- a word that was written at an address: block and stack are the one list with that word, divided where they were
 pub record WritesOne (block stack : List ℤ) (a : ℕ) (w : ℤ) : Type 0 where

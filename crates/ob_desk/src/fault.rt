@@ -18,7 +18,7 @@ pub enum CloseFault {
     /// K3: the process's seat took other turns, or has other answers, than the floor shows.
     #[error("K3 process {0}")]
     Disagrees(usize),
-    /// K4: want of memory.
+    /// Want of memory.
     #[error("NoMemory")]
     NoMemory,
 }

@@ -31,7 +31,7 @@ use Rattle.ob_code.specs.declared.argument.Argument.TheVariants as Arguments
 use Rattle.ob_code.specs.declared.turn.BodyTurn.TheVariants as Answer
 use Rattle.ob_code.specs.Machine as Machine
 use Rattle.ob_code.specs.Body.{Run, Step, result_count as results_of, enter, entered, steps as body_steps}
-use Rattle.ob_code.specs.Laws.{StandsAt}
+use Rattle.ob_code.specs.Laws.{HasCome}
 use Rattle.ob_code.proofs.Steps.{steps_stand}
 use Rattle.wf_table.specs.declared.engine_turn.EngineTurn.TheVariants as Turn
 use Rattle.wf_table.specs.Meaning.{Meaning, Turned, steps, body, kept, kept_trap}
@@ -174,7 +174,7 @@ module _ (program : Program) (parts : EngineParts) (compiled : IsCompiled progra
   abbrev reached : ℕ → Machine.Outcome
   reached n = after instructions reserve entry program.variables p state call.arguments n
 
-  stands : (n : ℕ) → StandsAt reserve (reached n) (stood n)
+  stands : (n : ℕ) → HasCome reserve (reached n) (stood n)
   stands n = steps_stand instructions reserve n (enter entry (variable_words program.variables) (arguments_of p.parameters call.arguments)) (encoded state)
 
   body_is : (n : ℕ) → body m n (encoded state) call ≡ turned (stood n)
@@ -234,7 +234,7 @@ module _ (program : Program) (parts : EngineParts) (compiled : IsCompiled progra
 
     reaches_by : (n : ℕ) (o : Machine.Outcome) → reached n ≡ o → o ≡ Machine.Returned (encoded next) (words_of values) → Reaches m (encoded state) call (encoded next) values
     reaches_by n o e is =
-        let s = subst (λ (q : Machine.Outcome). StandsAt reserve q (stood n)) (e ∙ is) (stands n) in
+        let s = subst (λ (q : Machine.Outcome). HasCome reserve q (stood n)) (e ∙ is) (stands n) in
         record {
           count = n;
           turn = turn_is n ∙ ap turn_of s.0;
@@ -247,7 +247,7 @@ module _ (program : Program) (parts : EngineParts) (compiled : IsCompiled progra
 
   -- ---- how a body ended
 
-  returned_by : (n : ℕ) (o : Machine.Outcome) → reached n ≡ o → StandsAt reserve o (stood n) → (stood n).turn ≡ Answer.Returned → HasReturned m (IsEffect parts) (encoded state) call (turned (stood n))
+  returned_by : (n : ℕ) (o : Machine.Outcome) → reached n ≡ o → HasCome reserve o (stood n) → (stood n).turn ≡ Answer.Returned → HasReturned m (IsEffect parts) (encoded state) call (turned (stood n))
   returned_by n (Machine.Unfinished c) e s h = let on = ap (λ (t : Step). t.turn) s in absurd (cc)
   returned_by n (Machine.Returned block stack) e s h =
       let a = behaves.answers_only n block stack e in
@@ -270,7 +270,7 @@ module _ (program : Program) (parts : EngineParts) (compiled : IsCompiled progra
     pub block : (body m n (encoded state) call).block ≡ encoded next
     pub reply : m.reply call (kept m (body m n (encoded state) call).run) ≡ Answers values
 
-  done_by : (n : ℕ) (o : Machine.Outcome) → reached n ≡ o → StandsAt reserve o (stood n) → (stood n).turn ≡ Answer.Returned → Done n
+  done_by : (n : ℕ) (o : Machine.Outcome) → reached n ≡ o → HasCome reserve o (stood n) → (stood n).turn ≡ Answer.Returned → Done n
   done_by n (Machine.Unfinished c) e s h = let on = ap (λ (t : Step). t.turn) s in absurd (cc)
   done_by n (Machine.Returned block stack) e s h =
       let a = behaves.answers_only n block stack e in
@@ -289,7 +289,7 @@ module _ (program : Program) (parts : EngineParts) (compiled : IsCompiled progra
   pub done : (n : ℕ) → (body m n (encoded state) call).turn ≡ Turn.Returned → Done n
   done n h = done_by n (reached n) refl (stands n) (was_returned (stood n).turn (sym (turn_is n) ∙ h))
 
-  trap_done_by : (n k : ℕ) (o : Machine.Outcome) → reached n ≡ o → StandsAt reserve o (stood n) → (stood n).turn ≡ Answer.Trapped k → (turns : ℕ) × (effect program call turns state ≡ Ends state (TrapReply k))
+  trap_done_by : (n k : ℕ) (o : Machine.Outcome) → reached n ≡ o → HasCome reserve o (stood n) → (stood n).turn ≡ Answer.Trapped k → (turns : ℕ) × (effect program call turns state ≡ Ends state (TrapReply k))
   trap_done_by n k (Machine.Unfinished c) e s h = let on = ap (λ (t : Step). t.turn) s in absurd (cc)
   trap_done_by n k (Machine.Returned block stack) e s h = let on = s.0 in absurd (cc)
   trap_done_by n k (Machine.Trapped j) e s h =
@@ -305,7 +305,7 @@ module _ (program : Program) (parts : EngineParts) (compiled : IsCompiled progra
       ap (λ (b : Bool). cond b (Answers (values_of (parameters_of (slice_get parts.exports call.export)) (replicate m.replies (pos 0)))) (TrapReply (trap_in (pos k)))) (above_0 k some)
       ∙ ap TrapReply (byte_is k small)
 
-  trapped_by : (n k : ℕ) (o : Machine.Outcome) → reached n ≡ o → StandsAt reserve o (stood n) → (stood n).turn ≡ Answer.Trapped k → HasTrapped m (IsEffect parts) (encoded state) call k
+  trapped_by : (n k : ℕ) (o : Machine.Outcome) → reached n ≡ o → HasCome reserve o (stood n) → (stood n).turn ≡ Answer.Trapped k → HasTrapped m (IsEffect parts) (encoded state) call k
   trapped_by n k (Machine.Unfinished c) e s h = let on = ap (λ (t : Step). t.turn) s in absurd (cc)
   trapped_by n k (Machine.Returned block stack) e s h = let on = s.0 in absurd (cc)
   trapped_by n k (Machine.Trapped j) e s h =
@@ -330,7 +330,7 @@ module _ (program : Program) (parts : EngineParts) (compiled : IsCompiled progra
   pub trapped : (n k : ℕ) → (body m n (encoded state) call).turn ≡ Turn.Trapped k → HasTrapped m (IsEffect parts) (encoded state) call k
   trapped n k h = trapped_by n k (reached n) refl (stands n) (was_trapped (stood n).turn k (sym (turn_is n) ∙ h))
 
-  stuck_by : (n : ℕ) (o : Machine.Outcome) → reached n ≡ o → StandsAt reserve o (stood n) → (stood n).turn ≡ Answer.Stuck → ⊥
+  stuck_by : (n : ℕ) (o : Machine.Outcome) → reached n ≡ o → HasCome reserve o (stood n) → (stood n).turn ≡ Answer.Stuck → ⊥
   stuck_by n (Machine.Unfinished c) e s h = let on = ap (λ (t : Step). t.turn) s in cc
   stuck_by n (Machine.Returned block stack) e s h = let on = s.0 in cc
   stuck_by n (Machine.Trapped k) e s h = cc
@@ -346,7 +346,7 @@ module _ (program : Program) (parts : EngineParts) (compiled : IsCompiled progra
 
   traps_at : (n k : ℕ) (next : State) → state ≡ next → reached n ≡ Machine.Trapped k → ReachesTrap m (encoded state) call (encoded next) k
   traps_at n k next same e =
-      let s = subst (λ (q : Machine.Outcome). StandsAt reserve q (stood n)) e (stands n) in
+      let s = subst (λ (q : Machine.Outcome). HasCome reserve q (stood n)) e (stands n) in
       let small = trap_small instructions n run (encoded state) k s in
       record { count = n; turn = turn_is n ∙ ap turn_of s; block_is = ap encoded same; reply = trap_reply k small.0 small.1 }
 

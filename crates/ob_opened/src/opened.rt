@@ -18,7 +18,7 @@ use std::alloc::Global;
 use thiserror::Error;
 
 /// The turns of an opening, and of each call that is made one at a time.
-pub const TURNS: u64 = 1_000_000;
+pub const TURNS: u64 = ob_sequential::TURNS;
 
 /// Why a text is no module, or has no opening: the first fault, in the order of the variants.
 #[derive(Clone, Copy, Debug, PartialEq, Eq, Error)]

@@ -8,7 +8,7 @@ use Rattle.ob_check.specs.Program.{Procedure, Program, exports}
 use Rattle.ob_check.specs.Scopes.{variable_words}
 use Rattle.ob_code.proofs.Steps.{steps_stand}
 use Rattle.ob_code.specs.Body.{Run, enter, steps as body_steps}
-use Rattle.ob_code.specs.Laws.{StandsAt}
+use Rattle.ob_code.specs.Laws.{HasCome}
 use Rattle.ob_code.specs.Machine as Machine
 use Rattle.ob_code.specs.declared.instr.Instr.{Instr}
 use Rattle.ob_engine.specs.CodeMeaning.{EngineParts}
@@ -67,7 +67,7 @@ module _ (program : Program) (parts : EngineParts) (compiled : IsCompiled progra
       let body = enter entry_at.0 (variable_words program.variables) (arguments_of p.parameters call.arguments) in
       let run : Run = record { reserve = reserve; is_over = false; body = body } in
       let stood = body_steps instructions trapped.0 run (encoded state) in
-      let stands = subst (λ (o : Machine.Outcome). StandsAt reserve o stood) trapped.1 (steps_stand instructions reserve trapped.0 body (encoded state)) in
+      let stands = subst (λ (o : Machine.Outcome). HasCome reserve o stood) trapped.1 (steps_stand instructions reserve trapped.0 body (encoded state)) in
       let small = trap_small instructions trapped.0 run (encoded state) k stands in
       (omega (arith, small.0), small.1)
 

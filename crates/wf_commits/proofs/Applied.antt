@@ -60,7 +60,7 @@ module _ {Run : Type 0} (z : Sizes) (c : Cell) (ps : List (Process Run)) (r : Re
           | inr d ↦ flips_other ps p k after d
         ];
         announced = λ k. refl;
-        flipped = λ k. refl;
+        flip_mark = λ k. refl;
         root = λ k lt. refl;
         stays = λ k lt e. omega (arith, applied_more k r.order new_ids, ap length (no_number k lt e));
         one_more = λ k lt d. omega (arith, applied_more k r.order new_ids, ap length (its_number k lt d));

@@ -125,8 +125,8 @@ module _ {Run : Type 0} (m : Meaning Run) (z : Sizes) (c : Cell) (ps : List (Pro
         applied = λ k. refl;
         root = λ k. refl;
         announced = λ k d. ap (λ (ws : List ℤ). word_at ws z.arguments) (get_or-set_other c.announcements p k _ [] d);
-        flipped = λ k d. get_or-set_other r.flip_marks p k (length r.history) 0 d;
-        rooted = refl;
+        flip_mark = λ k d. get_or-set_other r.flip_marks p k (length r.history) 0 d;
+        root_mark = refl;
         latest = omega (arith, marked, founded.marks.newest);
       } in
       record {

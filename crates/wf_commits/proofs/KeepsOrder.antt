@@ -70,9 +70,9 @@ module _ {Run : Type 0} (m : Meaning Run) (z : Sizes) (c : Cell) (ps : List (Pro
         in_turn = λ k. ap (own_numbers k) order ∙ h.in_turn k ∙ ap (range_with_len 1) (sym (same.applied k));
         of_object = λ k le. ap (own_numbers k) order ∙ h.of_object k le;
         none_empty = none_empty_after r.history event silent h.none_empty;
-        none_later = ap (λ (a : ℕ). exchanges_in (drop a (history_after r.history event))) same.rooted ∙ exchanges_same r.history event _ founded.marks.newest silent ∙ h.none_later;
+        none_later = ap (λ (a : ℕ). exchanges_in (drop a (history_after r.history event))) same.root_mark ∙ exchanges_same r.history event _ founded.marks.newest silent ∙ h.none_later;
         one_passed = λ k lt pending. (let before = h.one_passed k lt (omega (arith, pending, same.applied k, same.flips k)) in
-            omega (arith, before, ap (λ (a : ℕ). exchanges_in (drop a (history_after r.history event))) (same.flipped k), exchanges_same r.history event (get_or r.flip_marks k 0) (founded.marks.flips k lt) silent));
+            omega (arith, before, ap (λ (a : ℕ). exchanges_in (drop a (history_after r.history event))) (same.flip_mark k), exchanges_same r.history event (get_or r.flip_marks k 0) (founded.marks.flips k lt) silent));
       }
 
   flipping : slice_get ps p ≡ Some q → IsFounded z c ps r → IsOrdered z c ps r → Then Flip

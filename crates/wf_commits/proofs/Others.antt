@@ -12,7 +12,7 @@ module _ (n : ℕ) (s t : Standing) (p : ℕ) (linked : Bool) (own : ℕ → ℤ
   same_helping own' same kept =
       let pends : (k : ℕ) → IsPending s k → IsPending t k = λ k pending. omega (arith, pending, same.applied k, same.flips k) in
       let pended : (k : ℕ) → IsPending t k → IsPending s k = λ k pending. omega (arith, pending, same.applied k, same.flips k) in
-      let newer : (k : ℕ) → IsNewer t k → IsNewer s k = λ k late. omega (arith, late, same.flipped k, same.rooted) in
+      let newer : (k : ℕ) → IsNewer t k → IsNewer s k = λ k late. omega (arith, late, same.flip_mark k, same.root_mark) in
       record {
         settled = λ e pending. h.settled e (pended p pending);
         own_toggles = λ e l k lt. elim (h.own_toggles e l k lt) [
@@ -24,7 +24,7 @@ module _ (n : ℕ) (s t : Standing) (p : ℕ) (linked : Bool) (own : ℕ → ℤ
         older_helped = λ e l k lt late. kept k ∙ h.older_helped e l k lt (newer k late) ∙ sym (same.announced k);
         found_applied = λ e f pending. h.found_applied e (sym (kept p) ∙ f ∙ same.announced p) (pended p pending);
         own_open = λ e l. pends p (h.own_open e l);
-        lost_one = λ lt. omega (arith, h.lost_one lt, same.flipped p, same.rooted);
+        lost_one = λ lt. omega (arith, h.lost_one lt, same.flip_mark p, same.root_mark);
         lost_two = λ lt pending. h.lost_two lt (pended p pending);
       }
 
@@ -46,10 +46,10 @@ module _ (n : ℕ) (s t : Standing) (p : ℕ) (linked : Bool) (own : ℕ → ℤ
         own_helped = λ e l lt. h.own_helped e l lt ∙ sym (flips.announced p apart);
         older_helped = λ e l k lt late. elim (cases_eq k q) [
           | inl is ↦ absurd (omega (arith, flips.latest, subst (IsNewer t) is late))
-          | inr d ↦ h.older_helped e l k lt (omega (arith, late, flips.flipped k d, flips.rooted)) ∙ sym (flips.announced k d)
+          | inr d ↦ h.older_helped e l k lt (omega (arith, late, flips.flip_mark k d, flips.root_mark)) ∙ sym (flips.announced k d)
         ];
         found_applied = λ e f pending. h.found_applied e (f ∙ flips.announced p apart) (pended pending);
         own_open = λ e l. pends p (h.own_open e l);
-        lost_one = λ lt. omega (arith, h.lost_one lt, flips.flipped p apart, flips.rooted);
+        lost_one = λ lt. omega (arith, h.lost_one lt, flips.flip_mark p apart, flips.root_mark);
         lost_two = λ lt pending. h.lost_two lt (pended pending);
       }

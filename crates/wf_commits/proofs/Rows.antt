@@ -45,7 +45,7 @@ serving_lost Keep linked round e = refl
 serving_lost l linked round e = absurd (cc)
 
 nothing_moves : (s : Standing) → IsSame s s
-nothing_moves s = record { flips = λ k. refl; applied = λ k. refl; root = λ k. refl; announced = λ k. refl; flipped = λ k. refl; rooted = refl }
+nothing_moves s = record { flips = λ k. refl; applied = λ k. refl; root = λ k. refl; announced = λ k. refl; flip_mark = λ k. refl; root_mark = refl }
 
 -- a bit that is not the parity, inverted
 inverts : (a : ℤ) (k : ℕ) → IsBit a → a ≢ pos (k % 2) → inverted a ≡ pos (k % 2)

@@ -94,7 +94,7 @@ module _ {Run : Type 0} where
         | inl e ↦ subst (λ (n : ℕ). flips_at (set ps p longer) n ≡ flips_at ps n) (sym e) (flips_own ps p longer (slice_get_within ps p q at) ∙ sym (flips_is ps p q at))
         | inr d ↦ flips_other ps p k longer d
       ] in
-      let same : IsSame (standing z c ps r) new = record { flips = same_flips; applied = λ k. refl; root = λ k. refl; announced = λ k. refl; flipped = λ k. refl; rooted = refl } in
+      let same : IsSame (standing z c ps r) new = record { flips = same_flips; applied = λ k. refl; root = λ k. refl; announced = λ k. refl; flip_mark = λ k. refl; root_mark = refl } in
       let keeps : (k : ℕ) (o : Process Run) → AllHelp z c ps r k o → AllHelp z c (set ps p longer) r k o = λ k o old. same_helping z.processes (standing z c ps r) new k (is_linked c k) (own_toggles z c k) (phase o.label) o.registers.j (lost_rounds o.label (is_linked c k) o.registers.round) old (own_toggles z c k) same (λ i. refl) in
       record {
         helpful = record {

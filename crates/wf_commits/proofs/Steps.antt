@@ -173,6 +173,6 @@ module _ {Run : Type 0} where
         applied = λ k. ap (λ (order : List CallId). applied_count order k) (same_order r.order event silent);
         root = λ k. ap (λ (b : List ℤ). toggle_in z b k) (same_root c p change lt numbers quiet);
         announced = λ k. same_announced z c p k change (row_announces l m z c p q other is range);
-        flipped = λ k. ap (λ (b : Bool). get_or (cond b (set r.flip_marks p (length r.history)) r.flip_marks) k 0) (not_flip l other);
-        rooted = ap (λ (marks : List ℕ). get_or marks (cell_after c p change).root 0) (same_marks r.root_marks (own_of c p) (length r.history + 1) event silent) ∙ ap (λ (b : ℕ). get_or r.root_marks b 0) (same_rooted c p change quiet);
+        flip_mark = λ k. ap (λ (b : Bool). get_or (cond b (set r.flip_marks p (length r.history)) r.flip_marks) k 0) (not_flip l other);
+        root_mark = ap (λ (marks : List ℕ). get_or marks (cell_after c p change).root 0) (same_marks r.root_marks (own_of c p) (length r.history + 1) event silent) ∙ ap (λ (b : ℕ). get_or r.root_marks b 0) (same_rooted c p change quiet);
       }

@@ -73,8 +73,8 @@ module _ {Run : Type 0} where
     applied = λ k. applied_count r.order k;
     root = λ k. toggle_in z (block_of c c.root) k;
     announced = λ k. announced_toggle z c k;
-    flipped = λ k. slice_index r.flip_marks k;
-    rooted = slice_index r.root_marks c.root;
+    flip_mark = λ k. slice_index r.flip_marks k;
+    root_mark = slice_index r.root_marks c.root;
   }
 
   -- of process p, which stands at q

@@ -9,8 +9,8 @@ pub record Standing : Type 0 where
   pub applied : ℕ → ℕ
   pub root : ℕ → ℤ
   pub announced : ℕ → ℤ
-  pub flipped : ℕ → ℕ
-  pub rooted : ℕ
+  pub flip_mark : ℕ → ℕ
+  pub root_mark : ℕ
 
 -- a call of the process is announced that is not in the order
 abbrev pub IsPending : Standing → ℕ → Type 0
@@ -18,7 +18,7 @@ IsPending s p = s.applied p < s.flips p
 
 -- an exchange came after the process's last FLIP
 abbrev pub IsNewer : Standing → ℕ → Type 0
-IsNewer s p = s.flipped p < s.rooted
+IsNewer s p = s.flip_mark p < s.root_mark
 
 -- of n processes: an announced call is pending at most while no later one is announced, and toggles are parities
 pub record IsCounted (n : ℕ) (s : Standing) : Type 0 where
