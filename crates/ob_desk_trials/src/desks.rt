@@ -69,7 +69,6 @@ fn turns_by_hand_are_the_run_of_their_schedule(rt: HostRuntime) -> Result<(), Fa
     Ok(())
 }
 
-/// As many turns, but another answer.
 #[test]
 fn a_seat_is_missing(rt: HostRuntime) -> Result<(), Fail> {
     let alloc = rt.alloc();
@@ -97,6 +96,7 @@ fn a_seat_of_another_tag(rt: HostRuntime) -> Result<(), Fail> {
     Ok(())
 }
 
+/// As many turns, but another answer.
 #[test]
 fn a_seat_that_was_at_another_desk(rt: HostRuntime) -> Result<(), Fail> {
     let alloc = rt.alloc();
