@@ -1,12 +1,12 @@
 -- The parts of a value: a vector within a value as a list, and one of them read or replaced.
-use Rattle.std.proofs.Common.{◌≡◌, List, [], ◌∷◌, ◌++◌, refl, ap, sym, ◌∙◌, ℕ, zero, suc, Vec, get_or, set, take, drop, length, ◌+◌, ◌<◌, ◌≤◌, arith}
+use Rattle.std.proofs.Common.{◌≡◌, List, [], ◌∷◌, ◌++◌, refl, ap, sym, ◌∙◌, ℕ, zero, suc, Vec, Option, Some, None, get_or, set, take, drop, length, ◌+◌, ◌<◌, ◌≤◌, arith}
 use Rattle.std.specs.declared.alloc.Global.{Global}
 use Rattle.std.proofs.lemmas.List.{take_more}
 use mathlib.Core.Former.{Count}
 use Rattle.ob_store.specs.declared.value.Value.{Value, Row_of-Value, end_of-Value, more_of-Value, items-the_row-Value, items_hidden-the_row-Value-0}
 use Rattle.ob_store.specs.declared.value.Value.TheVariants as Variants
 use Rattle.ob_typing.specs.declared.scalar.Scalar.{Scalar}
-use Rattle.ob_store.specs.View.{value_in, parts_in, values_in}
+use Rattle.ob_store.specs.View.{value_in, parts_in, values_in, put_back}
 use Rattle.ob_positions.specs.Value as Values
 
 parts_row : (n : _) (row : Row_of-Value n) → parts_in row ≡ values_in (items-the_row-Value n row)
@@ -80,24 +80,67 @@ selected-none v [] i h e = absurd (omega (arith, h))
 selected-none v (p ∷ path) zero h e = sym (ap (λ w. Values.selected w path) (sym e) ∙ selected-single _ path)
 selected-none v (p ∷ path) (suc i) h e = selected-none v path i (omega (arith, h)) e
 
--- a scalar in the place of a part of one of the parts
-pub replaced_here : (parts next : Vec Value Global) (whole new old : Value) (i : ℕ) (rest : List ℕ) (s : Scalar) →
-    whole ≡ Variants.Parts parts → next.items ≡ set parts.items i new → i < length parts.items → old ≡ get_or parts.items i old →
-    value_in new ≡ Values.replaced (value_in old) rest (Values.Single s) →
-    value_in (Variants.Parts next) ≡ Values.replaced (value_in whole) (i ∷ rest) (Values.Single s)
-replaced_here parts next whole new old i rest s is written below read replaced =
-    let w = Values.Single s in
-    value_in-parts next
-    ∙ ap Values.Parts (ap values_in written ∙ values_in-set parts.items i new
-    ∙ ap (Values.with_part (values_in parts.items) i) (replaced ∙ ap (λ v. Values.replaced v rest w) (ap value_in read ∙ part_at-read parts.items i old below)))
-    ∙ sym (ap (λ v. Values.replaced v (i ∷ rest) w) (ap value_in is ∙ value_in-parts parts))
+-- parts with others at a position, one behind the other
+with_part-twice : (vs : Values.Values) (i : ℕ) (v w : Values.Value) → Values.with_part (Values.with_part vs i v) i w ≡ Values.with_part vs i w
+with_part-twice Values.no_part i v w = refl
+with_part-twice (Values.part u vs) zero v w = refl
+with_part-twice (Values.part u vs) (suc i) v w = ap (Values.part u) (with_part-twice vs i v w)
 
--- where there is no such part, nothing is replaced
-pub replaced_nowhere : (parts next : Vec Value Global) (whole : Value) (i : ℕ) (rest : List ℕ) (s : Scalar) →
-    whole ≡ Variants.Parts parts → next.items ≡ parts.items → length parts.items ≤ i →
-    value_in (Variants.Parts next) ≡ Values.replaced (value_in whole) (i ∷ rest) (Values.Single s)
-replaced_nowhere parts next whole i rest s is same beyond =
-    let w = Values.Single s in
-    value_in-parts next
-    ∙ ap Values.Parts (ap values_in same ∙ sym (with_part-beyond parts.items i (Values.replaced (Values.part_at (values_in parts.items) i) rest w) beyond))
-    ∙ sym (ap (λ v. Values.replaced v (i ∷ rest) w) (ap value_in is ∙ value_in-parts parts))
+with_part-itself : (vs : Values.Values) (i : ℕ) → Values.with_part vs i (Values.part_at vs i) ≡ vs
+with_part-itself Values.no_part i = refl
+with_part-itself (Values.part u vs) zero = refl
+with_part-itself (Values.part u vs) (suc i) = ap (Values.part u) (with_part-itself vs i)
+
+part_at-with : (vs : List Value) (i : ℕ) (w : Values.Value) → i < length vs → Values.part_at (Values.with_part (values_in vs) i w) i ≡ w
+part_at-with [] i w h = absurd (omega (arith, h))
+part_at-with (v ∷ vs) zero w h = refl
+part_at-with (v ∷ vs) (suc i) w h = part_at-with vs i w (omega (arith, h))
+
+-- the parts of a value with another part of one of them
+parts_set : (parts next : Vec Value Global) (i : ℕ) (new : Value) → next.items ≡ set parts.items i new →
+    value_in (Variants.Parts next) ≡ Values.Parts (Values.with_part (values_in parts.items) i (value_in new))
+parts_set parts next i new written = value_in-parts next ∙ ap Values.Parts (ap values_in written ∙ values_in-set parts.items i new)
+
+module _ (parts next : Vec Value Global) (whole : Value) (i : ℕ) (rest : List ℕ) (is : whole ≡ Variants.Parts parts) where
+  whole_is : value_in whole ≡ Values.Parts (values_in parts.items)
+  whole_is = ap value_in is ∙ value_in-parts parts
+
+  module _ (new old : Value) (written : next.items ≡ set parts.items i new) (below : i < length parts.items) (read : old ≡ get_or parts.items i old) where
+    old_is : value_in old ≡ Values.part_at (values_in parts.items) i
+    old_is = ap value_in read ∙ part_at-read parts.items i old below
+
+    -- a value in the place of a part of one of the parts
+    pub replaced_here : (w : Values.Value) → value_in new ≡ Values.replaced (value_in old) rest w →
+        value_in (Variants.Parts next) ≡ Values.replaced (value_in whole) (i ∷ rest) w
+    replaced_here w replaced =
+        parts_set parts next i new written
+        ∙ ap (λ v. Values.Parts (Values.with_part (values_in parts.items) i v)) (replaced ∙ ap (λ v. Values.replaced v rest w) old_is)
+        ∙ sym (ap (λ v. Values.replaced v (i ∷ rest) w) whole_is)
+
+    back_to : (v : Values.Value) → v ≡ value_in old → Values.Parts (Values.with_part (values_in parts.items) i v) ≡ value_in whole
+    back_to v same =
+        ap (λ x. Values.Parts (Values.with_part (values_in parts.items) i x)) (same ∙ old_is)
+        ∙ ap Values.Parts (with_part-itself (values_in parts.items) i) ∙ sym whole_is
+
+    -- and what was there put back
+    pub back_here : (was : Option Value) → put_back (value_in new) rest was ≡ value_in old → put_back (value_in (Variants.Parts next)) (i ∷ rest) was ≡ value_in whole
+    back_here None back = parts_set parts next i new written ∙ back_to (value_in new) back
+    back_here (Some was) back =
+        let vs = values_in parts.items in
+        let w = value_in was in
+        ap (λ v. Values.replaced v (i ∷ rest) w) (parts_set parts next i new written)
+        ∙ ap Values.Parts (with_part-twice vs i (value_in new) _)
+        ∙ ap (λ v. Values.Parts (Values.with_part vs i (Values.replaced v rest w))) (part_at-with parts.items i (value_in new) below)
+        ∙ back_to (Values.replaced (value_in new) rest w) back
+
+  module _ (same : next.items ≡ parts.items) where
+    -- where there is no such part, nothing is replaced
+    pub replaced_nowhere : (w : Values.Value) → length parts.items ≤ i → value_in (Variants.Parts next) ≡ Values.replaced (value_in whole) (i ∷ rest) w
+    replaced_nowhere w beyond =
+        value_in-parts next
+        ∙ ap Values.Parts (ap values_in same ∙ sym (with_part-beyond parts.items i (Values.replaced (Values.part_at (values_in parts.items) i) rest w) beyond))
+        ∙ sym (ap (λ v. Values.replaced v (i ∷ rest) w) whole_is)
+
+    -- and nothing is put back
+    pub back_nowhere : value_in (Variants.Parts next) ≡ value_in whole
+    back_nowhere = value_in-parts next ∙ ap Values.Parts (ap values_in same) ∙ sym whole_is

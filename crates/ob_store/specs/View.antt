@@ -1,6 +1,6 @@
 -- What the interpreter's values stand for: no pointers, and vectors as lists.
 use Rattle.std.specs.Borrow.{Bor}
-use Rattle.std.specs.Prelude.{List, [], ◌∷◌, map, Option, Some, None, Vec}
+use Rattle.std.specs.Prelude.{ℕ, List, [], ◌∷◌, map, Option, Some, None, Vec}
 use Rattle.std.specs.Global.{Global}
 use Rattle.ob_store.specs.declared.value.Value.{Value, Row_of-Value, end_of-Value, more_of-Value}
 use Rattle.ob_store.specs.declared.value.Value.TheVariants.{Single, Parts'}
@@ -30,6 +30,11 @@ abbrev pub value_or_zero : Option (Bor Value) → Values.Value
 value_or_zero None = Values.zero_value
 value_or_zero (Some v) = value_in v.now
 
+-- the value with what was behind positions put back there, if there was something
+abbrev pub put_back : Values.Value → List ℕ → Option Value → Values.Value
+put_back v path None = v
+put_back v path (Some was) = Values.replaced v path (value_in was)
+
 abbrev pub place_in : Place → Stores.Place
 place_in p = record { activation = p.activation; position = p.position; path = p.path.items }
 
@@ -46,4 +51,4 @@ abbrev pub activation_in : Vec Held Global → Stores.Activation
 activation_in held = map held_in held.items
 
 abbrev pub store_in : Store → Stores.Store
-store_in s = map activation_in s.activations.items
+store_in s = activation_in s.variables ∷ map activation_in s.others.items

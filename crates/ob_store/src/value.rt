@@ -2,7 +2,7 @@
 
 ghost use Rattle.std.specs.Prelude.{◌≡◌, ◌∷◌, IfOk};
 ghost use Rattle.ob_positions.specs.Value as Values;
-ghost use Rattle.ob_store.specs.View.{value_in, values_in, value_or_zero};
+ghost use Rattle.ob_store.specs.View.{value_in, values_in, value_or_zero, put_back};
 
 use ob_typing::scalar::Scalar;
 use std::alloc::{AllocError, Global};
@@ -62,34 +62,39 @@ fn part_at(parts: &[Value], position: usize) -> Option<&Value>
     }
 }
 
-/// Puts a scalar in the place of the part behind positions.
+/// Puts a value in the place of the part behind positions, and gives the part back, if there is one.
 #[cycle(replace)]
-pub fn replace(value: &mut Value, path: &[usize], scalar: Scalar)
-    ensures { value_in value.new
-        ≡ Values.replaced (value_in value.old) path.now (Values.Single scalar) }
+pub fn replace(value: &mut Value, path: &[usize], new: Value) -> Option<Value>
+    ensures written { value_in value.new ≡ Values.replaced (value_in value.old) path.now (value_in new) }
+    ensures back { put_back (value_in value.new) path.now result ≡ value_in value.old }
 {
     match path.split_first() {
-        None => *value = Value::Single(scalar),
+        None => Some(mem::replace(value, new)),
         Some((first, rest)) => {
-            let whole = mem::replace(value, Value::Single(scalar));
-            *value = with_part(whole, *first, rest, scalar);
+            let whole = mem::replace(value, Value::Single(Scalar::Int(0)));
+            let (next, was) = with_part(whole, *first, rest, new);
+            *value = next;
+            was
         }
     }
 }
 
-/// The value with a scalar in the place of the part behind a position and further ones.
+/// The value with another one in the place of the part behind a position and further ones, and that part, if there is
+/// one.
 #[cycle(replace)]
-fn with_part(whole: Value, first: usize, rest: &[usize], scalar: Scalar) -> Value
-    ensures { value_in result
-        ≡ Values.replaced (value_in whole) (first ∷ rest.now) (Values.Single scalar) }
+fn with_part(whole: Value, first: usize, rest: &[usize], new: Value) -> (Value, Option<Value>)
+    ensures written { value_in result.0 ≡ Values.replaced (value_in whole) (first ∷ rest.now) (value_in new) }
+    ensures back { put_back (value_in result.0) (first ∷ rest.now) result.1 ≡ value_in whole }
 {
     match whole {
-        Value::Single(own) => Value::Single(own),
+        Value::Single(own) => (Value::Single(own), None),
         Value::Parts(mut parts) => {
-            if first < parts.len() {
-                replace(&mut parts[first], rest, scalar);
-            }
-            Value::Parts(parts)
+            let was = if first < parts.len() {
+                replace(&mut parts[first], rest, new)
+            } else {
+                None
+            };
+            (Value::Parts(parts), was)
         }
     }
 }

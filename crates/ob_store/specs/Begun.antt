@@ -1,0 +1,33 @@
+-- How the module's activation was when a call began, from the writes since then.
+use Rattle.std.specs.Prelude.{ℕ, List, [], ◌∷◌, Option, Some, None}
+use Rattle.ob_positions.specs.Store as Stores
+use Rattle.ob_store.specs.declared.value.Value.{Value}
+use Rattle.ob_store.specs.declared.before.Written.{Written}
+use Rattle.ob_store.specs.declared.before.Before.{Before}
+use Rattle.ob_store.specs.declared.before.Before.TheVariants.{Writes, Whole}
+use Rattle.ob_store.specs.declared.store.Store.{Store}
+use Rattle.ob_store.specs.View.{value_in, activation_in}
+
+-- what is held with what was behind positions put back there, if there was something
+abbrev pub put_back_held : Stores.Held → List ℕ → Option Value → Stores.Held
+put_back_held h path None = h
+put_back_held h path (Some was) = Stores.with_value h path (value_in was)
+
+-- the same at a position of an activation
+abbrev pub put_back_at : Stores.Activation → ℕ → List ℕ → Option Value → Stores.Activation
+put_back_at a position path None = a
+put_back_at a position path (Some was) = Stores.with_held a position path (value_in was)
+
+-- an activation without these writes, which are listed from the first to the last: the last one is taken back first
+abbrev pub taken_back : List Written → Stores.Activation → Stores.Activation
+taken_back [] a = a
+taken_back (w ∷ writes) a = Stores.with_held (taken_back writes a) w.position w.path.items (value_in w.was)
+
+-- the activation as it was, from what it is
+abbrev pub begun_by : Before → Stores.Activation → Stores.Activation
+begun_by (Writes writes) a = taken_back writes.items a
+begun_by (Whole begun) a = activation_in begun
+
+-- the module's activation as it was when the call began
+abbrev pub begun_in : Store → Stores.Activation
+begun_in s = begun_by s.before (activation_in s.variables)

@@ -1,0 +1,128 @@
+//! How the module's activation was when a call began.
+
+ghost use Rattle.std.specs.Prelude.{◌≡◌, IfErr, IfOk, map};
+ghost use Rattle.ob_positions.specs.Store as Stores;
+ghost use Rattle.ob_store.specs.View.{value_in, held_in, place_in, activation_in};
+ghost use Rattle.ob_store.specs.Begun.{taken_back, begun_by};
+
+use crate::store::{Held, Path, Place, put_at};
+use crate::value::{Value, copy};
+use smallvec::SmallVec;
+use std::alloc::{AllocError, AllocFailed, Global};
+
+/// How many writes are listed: behind so many the module's activation is copied once, so that a loop takes no memory
+/// without end. No module has more words.
+const MOST_WRITES: usize = 4096;
+
+/// A write to the module's activation: where, and what was there before.
+#[derive(Drop)]
+pub struct Written {
+    pub position: usize,
+    pub path: Path,
+    pub was: Value,
+}
+
+/// What leads back to the module's activation as it was when the call began.
+#[derive(Drop)]
+pub enum Before {
+    /// The writes since then, from the first to the last.
+    Writes(Vec<Written>),
+    /// The activation itself.
+    Whole(Vec<Held>),
+}
+
+/// An equal place.
+pub fn copy_place(alloc: Global, place: &Place) -> Result<Place, AllocError>
+    ensures { IfOk result (λ p. place_in p ≡ place_in place.now) }
+{
+    Ok(Place {
+        activation: place.activation,
+        position: place.position,
+        path: SmallVec::from_slice(alloc, place.path.as_slice())?,
+    })
+}
+
+/// The same as what a position has.
+fn copy_held(alloc: Global, held: &Held) -> Result<Held, AllocError>
+    ensures { IfOk result (λ h. held_in h ≡ held_in held.now) }
+{
+    match held {
+        Held::Holds(value) => Ok(Held::Holds(copy(alloc, value)?)),
+        Held::Refers(place) => Ok(Held::Refers(copy_place(alloc, place)?)),
+    }
+}
+
+/// An equal activation.
+pub fn copy_activation(alloc: Global, activation: &[Held]) -> Result<Vec<Held>, AllocError>
+    ensures { IfOk result (λ held. activation_in held ≡ map held_in activation.now) }
+{
+    let mut copies = Vec::with_capacity(alloc, activation.len())?;
+    for held in activation {
+        copies.push(copy_held(alloc, held)?)?;
+    }
+    Ok(copies)
+}
+
+/// Takes all writes back, from the last to the first.
+fn take_all_back(variables: &mut [Held], writes: &mut Vec<Written>)
+    ensures { map held_in variables.new ≡ taken_back writes.old.items (map held_in variables.old) }
+{
+    'left: while let Some(written) = writes.pop() {
+        written.take_back(variables);
+    }
+}
+
+impl Written {
+    /// Puts back what was there.
+    pub fn take_back(self, variables: &mut [Held])
+        ensures { map held_in variables.new
+            ≡ Stores.with_held (map held_in variables.old) self.position self.path.items (value_in self.was) }
+    {
+        let path = self.path;
+        let was = self.was;
+        put_at(variables, self.position, path.as_slice(), was);
+    }
+}
+
+impl Before {
+    /// Copies the module's activation as it was, where as many writes are listed as may be.
+    pub fn shorten(&mut self, alloc: Global, variables: &[Held]) -> Result<(), AllocError>
+        ensures { begun_by self.new (map held_in variables.now) ≡ begun_by self.old (map held_in variables.now) }
+    {
+        if let Before::Writes(writes) = self
+            && writes.len() >= MOST_WRITES
+        {
+            let mut begun = copy_activation(alloc, variables)?;
+            take_all_back(begun.as_mut_slice(), writes);
+            *self = Before::Whole(begun);
+        }
+        Ok(())
+    }
+
+    /// Lists a write that was made, where writes are listed.
+    pub fn list(&mut self, written: Written) -> Result<(), AllocFailed<Written>>
+        ensures listed { IfOk result (λ _. (a : Stores.Activation) → begun_by self.new a
+            ≡ begun_by self.old (Stores.with_held a written.position written.path.items (value_in written.was))) }
+        ensures refused { IfErr result (λ e. e.value ≡ written) }
+        ensures kept { IfErr result (λ _. begun_by self.new ≡ begun_by self.old) }
+    {
+        match self {
+            Before::Writes(writes) => writes.push(written),
+            Before::Whole(_) => Ok(()),
+        }
+    }
+
+    /// The module's activation as it was, from what it is.
+    pub fn take_back(self, variables: Vec<Held>) -> Vec<Held>
+        ensures { activation_in result ≡ begun_by self (activation_in variables) }
+    {
+        match self {
+            Before::Writes(mut writes) => {
+                let mut begun = variables;
+                take_all_back(begun.as_mut_slice(), &mut writes);
+                begun
+            }
+            Before::Whole(begun) => begun,
+        }
+    }
+}
