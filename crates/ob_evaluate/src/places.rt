@@ -10,6 +10,7 @@ ghost use Rattle.ob_evaluate.specs.Evaluating.{Answers};
 use crate::expressions::{evaluate, selected_position};
 use ob_checked::program::{Actual, Designator, Owner, Slot};
 use ob_scalars::trap::{Trap, trap_number};
+use ob_store::before::copy_place;
 use ob_store::store::{Held, Place, Store};
 use ob_store::value::Value;
 use smallvec::SmallVec;
@@ -60,17 +61,6 @@ impl<T: Drop> From<AllocFailed<T>> for Stop {
     }
 }
 
-/// An equal place.
-fn copied(alloc: Global, place: &Place) -> Result<Place, AllocError>
-    ensures { IfOk result (λ p. place_in p ≡ place_in place.now) }
-{
-    Ok(Place {
-        activation: place.activation,
-        position: place.position,
-        path: SmallVec::from_slice(alloc, place.path.as_slice())?,
-    })
-}
-
 /// The place that the variable of a slot stands for: its own, or the one that it refers to.
 fn place_of_slot(alloc: Global, store: &Store, slot: &Slot) -> Result<Place, AllocError>
     ensures { IfOk result (λ p. place_in p ≡ Stores.place_of_slot (store_in store.now) (slot_of slot.now)) }
@@ -83,7 +73,7 @@ fn place_of_slot(alloc: Global, store: &Store, slot: &Slot) -> Result<Place, All
     if let Owner::Own = slot.owner
         && let Some(Held::Refers(place)) = store.held_at(activation, position)
     {
-        return copied(alloc, place);
+        return copy_place(alloc, place);
     }
     Ok(Place {
         activation,

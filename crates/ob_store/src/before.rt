@@ -5,7 +5,7 @@ ghost use Rattle.ob_positions.specs.Store as Stores;
 ghost use Rattle.ob_store.specs.View.{value_in, held_in, place_in, activation_in};
 ghost use Rattle.ob_store.specs.Begun.{taken_back, begun_by};
 
-use crate::store::{Held, Path, Place, put_at};
+use crate::store::{Held, Path, Place, overwrite};
 use crate::value::{Value, copy};
 use smallvec::SmallVec;
 use std::alloc::{AllocError, AllocFailed, Global};
@@ -80,7 +80,7 @@ impl Written {
     {
         let path = self.path;
         let was = self.was;
-        put_at(variables, self.position, path.as_slice(), was);
+        overwrite(variables, self.position, path.as_slice(), was);
     }
 }
 

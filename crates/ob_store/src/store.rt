@@ -61,12 +61,7 @@ fn put(held: &mut Held, path: &[usize], new: Value) -> Option<Value>
 }
 
 /// The same at a position of an activation.
-pub fn put_at(
-    activation: &mut [Held],
-    position: usize,
-    path: &[usize],
-    new: Value,
-) -> Option<Value>
+fn put_at(activation: &mut [Held], position: usize, path: &[usize], new: Value) -> Option<Value>
     ensures written { map held_in activation.new
         ≡ Stores.with_held (map held_in activation.old) position path.now (value_in new) }
     ensures back { put_back_at (map held_in activation.new) position path.now result ≡ map held_in activation.old }
@@ -76,6 +71,14 @@ pub fn put_at(
     } else {
         None
     }
+}
+
+/// The same, with what was there dropped.
+pub fn overwrite(activation: &mut [Held], position: usize, path: &[usize], new: Value)
+    ensures { map held_in activation.new
+        ≡ Stores.with_held (map held_in activation.old) position path.now (value_in new) }
+{
+    put_at(activation, position, path, new);
 }
 
 impl Store {
@@ -151,7 +154,7 @@ impl Store {
         }
         let behind = place.activation - 1;
         if behind < self.others.len() {
-            put_at(
+            overwrite(
                 self.others[behind].as_mut_slice(),
                 place.position,
                 place.path.as_slice(),
