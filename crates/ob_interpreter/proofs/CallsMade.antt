@@ -1,18 +1,21 @@
 -- A call that is made, and outcomes that another one passes on.
-use Rattle.std.proofs.Common.{◌≡◌, ap, sym, subst, ◌∙◌, refl, ℕ, ◌-◌, ◌<◌, List, [], ◌∷◌, ◌++◌, length, get_or, map, Some, option_map, Result, Err}
+use Rattle.std.proofs.Common.{◌≡◌, ap, sym, subst, ◌∙◌, refl, arith, ℕ, suc, ◌-◌, ◌<◌, List, [], ◌∷◌, ◌++◌, length, get_or, map, Some, option_map, Result, Err}
 use Rattle.std.specs.Prelude.{slice_get}
+use Rattle.std.proofs.lemmas.List.{length-append}
+use Rattle.ob_typing.specs.Program as Programs
 use Rattle.std.proofs.lemmas.Option.{slice_get-map, slice_get_read}
 use Rattle.ob_checked.specs.declared.program.Procedure.{Procedure}
 use Rattle.ob_checked.specs.declared.program.Program.{Program}
 use Rattle.ob_checked.specs.declared.program.Statement.{Statement}
 use Rattle.ob_checked.specs.declared.program.Variable.{Variable}
 use Rattle.ob_checked.specs.View.{program_of, procedure_of, variable_of, statements_in, table_of}
-use Rattle.ob_positions.specs.Store.{Activation, Held, Store}
-use Rattle.ob_positions.specs.Statements.{Outcome, left, begun, calls, meaning_of_all, activated}
+use Rattle.ob_positions.specs.Store.{Activation, Held, Store, running}
+use Rattle.ob_positions.specs.Statements.{Outcome, Done, left, begun, calls, meaning_of_all, activated}
 use Rattle.ob_evaluate.specs.declared.places.Stop.{Stop}
 use Rattle.ob_evaluate.specs.declared.places.Stop.TheVariants as Stops
 use Rattle.ob_interpreter.specs.Running.{Comes}
 use Rattle.ob_interpreter.proofs.Runs.{call_goes}
+use Rattle.ob_interpreter.proofs.Kept.{kept_where_done}
 
 pub comes_as : (a b : Outcome) (r : Result ℕ Stop) (store : Store) → a ≡ b → Comes b r store → Comes a r store
 comes_as a b r store h comes = subst (λ o. Comes o r store) (sym h) comes
@@ -43,3 +46,16 @@ module _ (program : Program) (ps : List Procedure) (n : ℕ) (p : Procedure) (sa
       ∙ ap (λ a. run p.body.items (store ++ a ∷ [])) (sym begins)
       ∙ ap (run p.body.items) (sym enters)
       ∙ ap (λ ss. run ss entered) (sym bodies)
+
+runs_behind : (store : Store) → 1 < length store → 0 < running store
+runs_behind [] h = absurd (omega (arith, h))
+runs_behind (a ∷ store) h = omega (arith, h)
+
+-- where a procedure is done, it stands behind the module's activation
+pub some_behind : (program : Programs.Program) (more t l : ℕ) (ss : Programs.Statements) (first activation : Activation) (others entered next : Store) →
+    entered ≡ first ∷ others ++ activation ∷ [] → meaning_of_all (calls program more) ss t entered ≡ Done l next → 0 < running next
+some_behind program more t l ss first activation others entered next enters done =
+    let kept : length next ≡ length entered = kept_where_done program more ss t l entered next done in
+    let count : length entered ≡ suc (length (others ++ activation ∷ [])) = ap length enters in
+    let behind = length-append others (activation ∷ []) in
+    runs_behind next (omega (arith, kept, count, behind))

@@ -1,62 +1,20 @@
--- What a run that is done keeps: the number of activations, and that the module's variables have values of their own.
+-- What a run that is done keeps: the number of activations.
 use Rattle.std.proofs.Common.{◌≡◌, refl, ap, sym, subst, ◌∙◌, arith, ℕ, zero, suc, pred, ◌<◌, Bool, true, false, List, [], ◌∷◌, ◌++◌, length, take, if◌then◌else◌, Option, Some, None}
 use Rattle.std.specs.Prelude.{slice_get}
 use Rattle.std.proofs.lemmas.List.{length-set, length-append}
 use Rattle.ob_typing.specs.Program.{Expression, Statement, Assign, Call, If, While, Statements, no_statement, statement, Branches, no_branch, otherwise, branch, Procedure, Program}
 use Rattle.ob_typing.specs.Arithmetic.{Evaluated, Gives, Traps, truth_of}
 use Rattle.ob_positions.specs.Value.{Value, Single}
-use Rattle.ob_positions.specs.Store.{Place, Held, Holds, Refers, Activation, Store, activation_at, value_held, with_value, with_held, stored}
+use Rattle.ob_positions.specs.Store.{Place, Held, Activation, Store, activation_at, with_held, stored}
 use Rattle.ob_positions.specs.Evaluation.{place_of, value_of, all_handed}
 use Rattle.ob_positions.specs.Statements.{Outcome, Done, Trap, NotYet, Run, Calls, after, then_run, with_turn, loop_once, loop, meaning, meaning_of_all, meaning_of_branches, activation_of, left, activated, calls}
-use Rattle.ob_interpreter.specs.Values.{settled}
 
--- each variable has a value of its own
-abbrev pub IsSettled : Activation → Type 0
-IsSettled a = settled a ≡ a
-
-settled_value : (h : Held) (path : List ℕ) (w : Value) → Holds (value_held h) ≡ h → Holds (value_held (with_value h path w)) ≡ with_value h path w
-settled_value (Holds v) path w e = refl
-settled_value (Refers p) path w e = absurd cc
-
-settled_written : (a : Activation) (i : ℕ) (path : List ℕ) (w : Value) → IsSettled a → IsSettled (with_held a i path w)
-settled_written [] i path w h = refl
-settled_written (g ∷ a) zero path w h =
-    let first : Holds (value_held g) ≡ g = cc in
-    let rest : settled a ≡ a = cc in
-    ap (λ x. x ∷ settled a) (settled_value g path w first) ∙ ap (λ xs. with_value g path w ∷ xs) rest
-settled_written (g ∷ a) (suc i) path w h =
-    let first : Holds (value_held g) ≡ g = cc in
-    let rest : settled a ≡ a = cc in
-    let more = settled_written a i path w rest in
-    ap (λ x. x ∷ settled (with_held a i path w)) first ∙ ap (λ xs. g ∷ xs) more
-
--- the module is the first activation, where there is one
-pub record Kept (was next : Store) : Type 0 where
-  pub count : length next ≡ length was
-  pub values : 0 < length was → IsSettled (activation_at was 0) → IsSettled (activation_at next 0)
-
-kept_itself : (a : Store) → Kept a a
-kept_itself a = record { count = refl; values = λ p h. h }
-
-kept_both : (a b c : Store) → Kept a b → Kept b c → Kept a c
-kept_both a b c h k =
-    record {
-      count = k.count ∙ h.count;
-      values = λ p v. k.values (subst (λ n. 0 < n) (sym h.count) p) (h.values p v);
-    }
-
-values_stored : (store : Store) (k i : ℕ) (path : List ℕ) (w : Value) →
-    IsSettled (activation_at store 0) → IsSettled (activation_at (stored store (record { activation = k; position = i; path = path }) w) 0)
-values_stored [] k i path w h = h
-values_stored (a ∷ store) zero i path w h = settled_written a i path w h
-values_stored (a ∷ store) (suc k) i path w h = h
+-- a run that is done leaves as many activations
+abbrev pub Kept : Store → Store → Type 0
+Kept was next = length next ≡ length was
 
 kept_stored : (store : Store) (place : Place) (w : Value) → Kept store (stored store place w)
-kept_stored store place w =
-    record {
-      count = length-set store place.activation (with_held (activation_at store place.activation) place.position place.path w);
-      values = λ p h. values_stored store place.activation place.position place.path w h;
-    }
+kept_stored store place w = length-set store place.activation (with_held (activation_at store place.activation) place.position place.path w)
 
 -- without the last activation
 shorter : (a : Activation) (next : Store) → length (take (pred (length (a ∷ next))) (a ∷ next)) ≡ length next
@@ -64,15 +22,8 @@ shorter a [] = refl
 shorter a (b ∷ next) = ap suc (shorter b next)
 
 kept_left : (store : Store) (a : Activation) (next : Store) → Kept (store ++ a ∷ []) next → Kept store (take (pred (length next)) next)
-kept_left store a [] h = absurd (let e = h.count in let f = length-append store (a ∷ []) in omega (arith, e, f))
-kept_left [] a (n ∷ next) h =
-    record { count = shorter n next ∙ (let e : suc (length next) ≡ 1 = h.count in omega (arith, e)); values = λ p. absurd (omega (arith, p)) }
-kept_left (m ∷ store) a (n ∷ []) h = absurd (let e = h.count in let f = length-append store (a ∷ []) in omega (arith, e, f))
-kept_left (m ∷ store) a (n ∷ o ∷ next) h =
-    record {
-      count = shorter n (o ∷ next) ∙ (let e : suc (suc (length next)) ≡ suc (length (store ++ a ∷ [])) = h.count in let f = length-append store (a ∷ []) in omega (arith, e, f));
-      values = λ p. h.values (omega arith);
-    }
+kept_left store a [] h = absurd (let f = length-append store (a ∷ []) in omega (arith, h, f))
+kept_left store a (n ∷ next) h = shorter n next ∙ (let e : suc (length next) ≡ length (store ++ a ∷ []) = h in let f = length-append store (a ∷ []) in omega (arith, e, f))
 
 -- what an outcome keeps
 abbrev Leaves : Store → Outcome → Type 0
@@ -84,7 +35,7 @@ abbrev Keeps : Run → Type 0
 Keeps run = (turns : ℕ) (store : Store) → Leaves store (run turns store)
 
 leaves_later : (a b : Store) (o : Outcome) → Kept a b → Leaves b o → Leaves a o
-leaves_later a b (Done turns c) h k = kept_both a b c h k
+leaves_later a b (Done turns c) h k = k ∙ h
 leaves_later a b (Trap n) h k = tt
 leaves_later a b NotYet h k = tt
 
@@ -115,7 +66,7 @@ once_keeps c body again x y t s =
     leaves_after s (value_of s c) _ (λ v.
     keeps_if (truth_of v) (λ t s. with_turn (λ l. then_run (body l s) again) t) Done
     (λ t s. leaves_turn s (λ l. then_run (body l s) again) (λ l. leaves_then s (body l s) again (x l s) y) t)
-    (λ t s. kept_itself s) t s)
+    (λ t s. refl) t s)
 
 loop_keeps : (n : ℕ) (c : Expression) (body : Run) → Keeps body → Keeps (loop n c body)
 loop_keeps zero c body x = once_keeps c body (λ t s. NotYet) x (λ t s. tt)
@@ -131,18 +82,18 @@ module _ (call : Calls) (x : (p : ℕ) (hs : List Held) → Keeps (call p hs)) w
     statement_keeps (While c body) t s = loop_keeps t c (meaning_of_all call body) (statements_keep body) t s
 
     statements_keep : (ss : Statements) → Keeps (meaning_of_all call ss)
-    statements_keep no_statement t s = kept_itself s
+    statements_keep no_statement t s = refl
     statements_keep (statement first rest) t s =
         leaves_then s (meaning call first t s) (meaning_of_all call rest) (statement_keeps first t s) (statements_keep rest)
 
     branches_keep : (bs : Branches) → Keeps (meaning_of_branches call bs)
-    branches_keep no_branch t s = kept_itself s
+    branches_keep no_branch t s = refl
     branches_keep (otherwise ss) t s = statements_keep ss t s
     branches_keep (branch c ss rest) t s =
         leaves_after s (value_of s c) _ (λ v. keeps_if (truth_of v) _ _ (statements_keep ss) (branches_keep rest) t s)
 
   activated_keeps : (p : Option Procedure) (hs : List Held) → Keeps (activated call p hs)
-  activated_keeps None hs t s = kept_itself s
+  activated_keeps None hs t s = refl
   activated_keeps (Some p) hs t s =
       leaves_left s (activation_of p hs) (meaning_of_all call p.body t (s ++ activation_of p hs ∷ [])) (statements_keep p.body t (s ++ activation_of p hs ∷ []))
 
@@ -165,4 +116,4 @@ alone (a ∷ b ∷ store) h = absurd (let e : suc (suc (length store)) ≡ 1 = h
 
 -- a run on the module alone leaves the module alone
 pub module_alone : (a : Activation) (next : Store) → Kept (a ∷ []) next → next ≡ activation_at next 0 ∷ []
-module_alone a next kept = alone next kept.count
+module_alone a next kept = alone next kept

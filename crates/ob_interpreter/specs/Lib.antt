@@ -1,5 +1,4 @@
 pub mod Running
-pub mod Values
 pub mod View
 pub mod Outside
 pub mod Sequences

@@ -6,8 +6,6 @@ use Rattle.ob_meaning.specs.Object.{most_activations}
 use Rattle.ob_positions.specs.Store as Stores
 use Rattle.ob_positions.specs.Statements as Statements
 use Rattle.ob_positions.specs.Object.{results_begun, outside_handed}
-use Rattle.ob_store.specs.declared.store.Store.{Store}
-use Rattle.ob_store.specs.View.{store_in}
 use Rattle.ob_positions.specs.Object as Objects
 use Rattle.ob_interpreter.specs.declared.state.State.{State}
 use Rattle.ob_interpreter.specs.View.{state_of}
@@ -20,17 +18,9 @@ abbrev pub outside_store : Procedure → Stores.Activation → List Scalar → S
 outside_store p state arguments =
     state ∷ results_begun p.parameters ∷ Statements.activation_of p (outside_handed 0 p.parameters arguments) ∷ []
 
--- what the procedure's statements come to there
-abbrev pub run_of : Program → Procedure → List Scalar → ℕ → Stores.Activation → Statements.Outcome
-run_of program p arguments turns state =
-    Statements.meaning_of_all (Statements.calls program (most_activations - 1)) p.body turns (outside_store p state arguments)
-
--- a run left this store, or stopped so
-abbrev pub Leaves : Statements.Outcome → Result Store Stop → Type 0
-Leaves o (Ok store) = (turns : ℕ) × (o ≡ Statements.Done turns (store_in store))
-Leaves o (Err (Stops.Trap k)) = o ≡ Statements.Trap k
-Leaves o (Err Stops.NotYet) = o ≡ Statements.NotYet
-Leaves o (Err Stops.NoMemory) = Unit {0}
+-- what the procedure's statements come to in a store
+abbrev pub run_of : Program → Procedure → ℕ → Stores.Store → Statements.Outcome
+run_of program p turns store = Statements.meaning_of_all (Statements.calls program (most_activations - 1)) p.body turns store
 
 -- the opening ended in this state, or stopped so
 abbrev pub Opens : Program → ℕ → Result State Stop → Type 0

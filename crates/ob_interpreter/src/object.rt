@@ -7,9 +7,11 @@ ghost use Rattle.ob_meaning.specs.Object.{results_position};
 ghost use Rattle.ob_positions.specs.Object as Objects;
 ghost use Rattle.ob_positions.specs.Store as Stores;
 ghost use Rattle.ob_store.specs.View.{store_in};
+ghost use Rattle.ob_store.specs.Begun.{begun_in};
 ghost use Rattle.ob_typing.specs.Program.{exports};
-ghost use Rattle.ob_interpreter.specs.Outside.{outside_store, run_of, Leaves};
-ghost use Rattle.ob_interpreter.specs.View.{state_of, call_of, effect_by, effect_in};
+ghost use Rattle.ob_interpreter.specs.Outside.{outside_store, run_of};
+ghost use Rattle.ob_interpreter.specs.Running.{Comes};
+ghost use Rattle.ob_interpreter.specs.View.{state_of, call_of, effect_in};
 
 use crate::call::{Call, Reply};
 use crate::outside::{RESULTS, outside_handed, results_begun};
@@ -28,15 +30,6 @@ use std::alloc::{AllocError, Global};
 /// How many activations may be active.
 pub const MOST_ACTIVATIONS: usize = 64;
 
-/// What a call leaves, where the turns suffice: the new state with the answers, or the state as it was.
-#[derive(Drop)]
-pub enum Ended {
-    Done(State, Vec<Scalar>),
-    /// The number of the trap.
-    Trapped(u8),
-    NeedsMore,
-}
-
 /// The export of a number.
 fn export(program: &Program, number: usize) -> Option<&Procedure>
     ensures { option_map (λ p. procedure_of (table_of program.now.types) p.now) result
@@ -54,14 +47,14 @@ fn store_begun(
     alloc: Global,
     program: &Program,
     procedure: &Procedure,
-    state: &State,
+    state: State,
     arguments: &[Scalar],
 ) -> Result<Store, AllocError>
-    ensures { IfOk result (λ s. store_in s
-        ≡ outside_store (procedure_of (table_of program.now.types) procedure.now) (state_of state.now) arguments.now) }
+    ensures store { IfOk result (λ s. store_in s
+        ≡ outside_store (procedure_of (table_of program.now.types) procedure.now) (state_of state) arguments.now) }
+    ensures begun { IfOk result (λ s. begun_in s ≡ state_of state) }
 {
     let parameters = procedure.parameters.as_slice();
-    let module = state.activation(alloc)?;
     let results = results_begun(alloc, &program.types, parameters)?;
     let handed = outside_handed(alloc, &program.types, parameters, arguments)?;
     let own = variables_begun(
@@ -70,7 +63,8 @@ fn store_begun(
         handed,
         procedure.variables.as_slice(),
     )?;
-    Ok(Store::new(vec![in alloc; module, results, own]?))
+    let others = vec![in alloc; results, own]?;
+    Ok(Store::new(alloc, state.into_variables(), others))
 }
 
 /// The values of the results.
@@ -85,61 +79,27 @@ fn answers(alloc: Global, store: &Store) -> Result<Vec<Scalar>, AllocError>
     Ok(all)
 }
 
-/// Runs a procedure from outside: what it leaves in its store, where it is done.
+/// Runs a procedure from outside in its store.
 fn run_outside(
     alloc: Global,
     program: &Program,
     procedure: &Procedure,
-    state: &State,
-    arguments: &[Scalar],
+    store: &mut Store,
     turns: u64,
-) -> Result<Store, Stop>
-    ensures { Leaves (run_of (program_of program.now) (procedure_of (table_of program.now.types) procedure.now) arguments.now turns (state_of state.now)) result }
+) -> Result<u64, Stop>
+    ensures outcome { Comes (run_of (program_of program.now) (procedure_of (table_of program.now.types) procedure.now) turns (store_in store.old)) result (store_in store.new) }
+    ensures begun { begun_in store.new ≡ begun_in store.old }
 {
-    let mut store = store_begun(alloc, program, procedure, state, arguments)?;
     let context = Context {
         alloc,
         program,
         more: MOST_ACTIVATIONS - 1,
     };
-    run(context, &mut store, procedure.body.as_slice(), turns)?;
-    Ok(store)
-}
-
-/// One call on the object.
-pub fn call_outside(
-    alloc: Global,
-    program: &Program,
-    state: &State,
-    call: &Call,
-    turns: u64,
-) -> Result<Ended, NoMemory>
-    ensures { IfOk result (λ e. Objects.effect (program_of program.now) (call_of call.now) turns (state_of state.now) ≡ effect_by (state_of state.now) e) }
-{
-    let Some(procedure) = export(program, call.export) else {
-        return Ok(Ended::Done(state.copy(alloc)?, Vec::new(alloc)));
-    };
-    match run_outside(
-        alloc,
-        program,
-        procedure,
-        state,
-        call.arguments.as_slice(),
-        turns,
-    ) {
-        Ok(store) => {
-            let values = answers(alloc, &store)?;
-            let next = State::left(alloc, store.into_activation(alloc, 0))?;
-            Ok(Ended::Done(next, values))
-        }
-        Err(Stop::Trap(number)) => Ok(Ended::Trapped(number)),
-        Err(Stop::NotYet) => Ok(Ended::NeedsMore),
-        Err(Stop::NoMemory) => Err(NoMemory),
-    }
+    run(context, store, procedure.body.as_slice(), turns)
 }
 
 /// What one call on the object makes of a state that is given up, and what it answers; `None` where more turns are
-/// needed.
+/// needed. The state is not copied: what a call that traps has written is taken back.
 pub fn step(
     alloc: Global,
     program: &Program,
@@ -149,15 +109,28 @@ pub fn step(
 ) -> Result<Option<(State, Reply)>, NoMemory>
     ensures { IfOk result (λ o. Objects.effect (program_of program.now) (call_of call.now) turns (state_of state) ≡ effect_in o) }
 {
-    match call_outside(alloc, program, &state, call, turns)? {
-        Ended::Done(next, values) => Ok(Some((next, Reply::Answers(values)))),
-        Ended::Trapped(number) => Ok(Some((state, Reply::Trapped(number)))),
-        Ended::NeedsMore => Ok(None),
+    let Some(procedure) = export(program, call.export) else {
+        return Ok(Some((state, Reply::Answers(Vec::new(alloc)))));
+    };
+    let arguments = call.arguments.as_slice();
+    let mut store = store_begun(alloc, program, procedure, state, arguments)?;
+    match run_outside(alloc, program, procedure, &mut store, turns) {
+        Ok(_) => {
+            let values = answers(alloc, &store)?;
+            let next = State::new(store.into_module());
+            Ok(Some((next, Reply::Answers(values))))
+        }
+        Err(Stop::Trap(number)) => {
+            let before = State::new(store.into_begun());
+            Ok(Some((before, Reply::Trapped(number))))
+        }
+        Err(Stop::NotYet) => Ok(None),
+        Err(Stop::NoMemory) => Err(NoMemory),
     }
 }
 
 /// What one call on the object leaves and answers: the new state and the answers, or the old state and the trap;
-/// `None` where more turns are needed.
+/// `None` where more turns are needed. The state is copied once.
 pub fn interpret(
     alloc: Global,
     checked: &Checked,
@@ -167,9 +140,6 @@ pub fn interpret(
 ) -> Result<Option<(State, Reply)>, NoMemory>
     ensures { IfOk result (λ o. Objects.effect (program_in checked.now) (call_of call.now) turns (state_of state.now) ≡ effect_in o) }
 {
-    match call_outside(alloc, checked.program(), state, call, turns)? {
-        Ended::Done(next, values) => Ok(Some((next, Reply::Answers(values)))),
-        Ended::Trapped(number) => Ok(Some((state.copy(alloc)?, Reply::Trapped(number)))),
-        Ended::NeedsMore => Ok(None),
-    }
+    let copy = state.copy(alloc)?;
+    step(alloc, checked.program(), copy, call, turns)
 }

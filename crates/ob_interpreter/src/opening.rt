@@ -58,15 +58,14 @@ fn run_body(alloc: Global, program: &Program, turns: u64) -> Result<State, Stop>
         Vec::new(alloc),
         program.variables.as_slice(),
     )?;
-    let mut store = Store::new(vec![in alloc; module]?);
+    let mut store = Store::new(alloc, module, Vec::new(alloc));
     let context = Context {
         alloc,
         program,
         more: MOST_ACTIVATIONS,
     };
     run(context, &mut store, program.body.as_slice(), turns)?;
-    let state = State::left(alloc, store.into_activation(alloc, 0))?;
-    Ok(state)
+    Ok(State::new(store.into_module()))
 }
 
 /// The opening state: all variables 0 or FALSE, and then what the module's body makes of them with so many turns.

@@ -1,9 +1,10 @@
 //! The outcomes of statements and of calls in the text.
 
-ghost use Rattle.std.specs.Prelude.{◌≤◌, IfOk};
+ghost use Rattle.std.specs.Prelude.{◌≡◌, ◌≤◌, IfOk};
 ghost use Rattle.ob_checked.specs.View.{designator_of, expression_of, statement_of, statements_in, branches_in, otherwise_of};
 ghost use Rattle.ob_positions.specs.Statements as Statements;
 ghost use Rattle.ob_store.specs.View.{activation_in, store_in};
+ghost use Rattle.ob_store.specs.Begun.{begun_in};
 ghost use Rattle.ob_typing.specs.Program as Programs;
 ghost use Rattle.ob_interpreter.specs.Running.{Comes, calls_of};
 
@@ -34,10 +35,11 @@ fn assign(
 ) -> Result<u64, Stop>
     ensures outcome { (calls : Statements.Calls) → Comes (Statements.meaning calls (Programs.Assign (designator_of target.now) (expression_of value.now)) turns (store_in store.old)) result (store_in store.new) }
     ensures turns { IfOk result (λ left. left ≤ turns) }
+    ensures begun { begun_in store.new ≡ begun_in store.old }
 {
     let place = place_of(alloc, store, target)?;
     let scalar = evaluate(store, value)?;
-    store.set(&place, scalar);
+    store.set(alloc, place, scalar)?;
     Ok(turns)
 }
 
@@ -51,6 +53,7 @@ pub fn run(
 ) -> Result<u64, Stop>
     ensures outcome { Comes (Statements.meaning_of_all (calls_of context.entry) (statements_in statements.now) turns (store_in store.old)) result (store_in store.new) }
     ensures turns { IfOk result (λ left. left ≤ turns) }
+    ensures begun { begun_in store.new ≡ begun_in store.old }
 {
     let mut left = turns;
     for statement in statements {
@@ -69,6 +72,7 @@ fn execute(
 ) -> Result<u64, Stop>
     ensures outcome { Comes (Statements.meaning (calls_of context.entry) (statement_of statement.now) turns (store_in store.old)) result (store_in store.new) }
     ensures turns { IfOk result (λ left. left ≤ turns) }
+    ensures begun { begun_in store.new ≡ begun_in store.old }
 {
     match statement {
         Statement::Assign { target, value } => assign(context.alloc, store, target, value, turns),
@@ -97,6 +101,7 @@ fn choose(
 ) -> Result<u64, Stop>
     ensures outcome { Comes (Statements.meaning_of_branches (calls_of context.entry) (branches_in branches.now (otherwise_of otherwise.now)) turns (store_in store.old)) result (store_in store.new) }
     ensures turns { IfOk result (λ left. left ≤ turns) }
+    ensures begun { begun_in store.new ≡ begun_in store.old }
 {
     for branch in branches {
         let condition = evaluate(store, &branch.condition)?;
@@ -121,6 +126,7 @@ fn repeat(
 ) -> Result<u64, Stop>
     ensures outcome { Comes (Statements.meaning (calls_of context.entry) (Programs.While (expression_of condition.now) (statements_in body.now)) turns (store_in store.old)) result (store_in store.new) }
     ensures turns { IfOk result (λ left. left ≤ turns) }
+    ensures begun { begun_in store.new ≡ begun_in store.old }
 {
     let mut left = turns;
     'again: while truth_of(evaluate(store, condition)?) {
@@ -144,6 +150,7 @@ fn call(
 ) -> Result<u64, Stop>
     ensures outcome { Comes (calls_of context.entry number (activation_in handed) turns (store_in store.old)) result (store_in store.new) }
     ensures turns { IfOk result (λ left. left ≤ turns) }
+    ensures begun { begun_in store.new ≡ begun_in store.old }
 {
     if context.more == 0 {
         return Err(Stop::from(Trap::TooManyActivations));

@@ -1,11 +1,11 @@
-use Rattle.std.proofs.Common.{◌-◌, ◌*◌, ◌<◌, ap, sym, ◌∙◌, arith}
+use Rattle.std.proofs.Common.{◌-◌, ◌*◌, ◌<◌, map, ap, sym, ◌∙◌, arith}
 use Rattle.std.proofs.lemmas.Result.{err_from_is_err_and}
 use Rattle.ob_checked.specs.View.{expression_of, statement_of, statements_in, branches_in, otherwise_of, program_of, procedure_of, table_of}
 use Rattle.ob_positions.specs.Statements as Statements
 use Rattle.ob_scalars.specs.Traps.{trap_number}
 use Rattle.ob_store.specs.View.{store_in, activation_in}
 use Rattle.ob_interpreter.specs.Running.{calls_of}
-use Rattle.ob_interpreter.proofs.CallsMade.{comes_as, stops_call, procedure_here, call_made}
+use Rattle.ob_interpreter.proofs.CallsMade.{comes_as, stops_call, procedure_here, call_made, some_behind}
 use Rattle.ob_checked.proofs.Rows.{statement_of-if, statement_of-while}
 use Rattle.ob_interpreter.proofs.Runs.{branch_traps, branch_taken, branches_end, loop_goes, loop_ends}
 use Rattle.ob_interpreter.proofs.Sizes.{size, size_of_all, size_of_branches, turn_of, size_at, branch_at, last_at, body_at, within_less}
@@ -40,14 +40,18 @@ call-returns-clause-outcome t c =
     c.args.context.more c.args.turns (activation_in c.args.handed) (store_in c.args.store.now) (store_in c.enter.new.self) (activation_in c.in_ok-activation.activation) c.as_slice-2.result.now c.as_slice.result.now
     (omega arith) (omega arith) c.as_slice-2.ensures.value c.as_slice.ensures.value c.in_ok-activation.ensures c.in_ok-enter.ensures.entered
     ∙ ap Statements.left c.in_ok-left.ensures.outcome
-    ∙ ap (Statements.Done c.in_ok-left.left) (sym c.leave.ensures)
+    ∙ ap (Statements.Done c.in_ok-left.left)
+    (sym (c.leave.ensures.left
+    (some_behind (program_of c.args.context.program.now) (c.args.context.more - 1) (c.args.turns - 1) c.in_ok-left.left (statements_in c.as_slice-2.result.now)
+    (activation_in c.args.store.now.variables) (activation_in c.in_ok-activation.activation) (map activation_in c.args.store.now.others.items)
+    (store_in c.enter.new.self) (store_in c.run.new.store) c.in_ok-enter.ensures.entered c.in_ok-left.ensures.outcome)))
 
 pub choose-returns-in_err-condition-clause-outcome : goal.choose-returns-in_err-condition-clause-outcome
 choose-returns-in_err-condition-clause-outcome t c =
     let q = err_from_is_err_and c.from_residual.result c.from_residual.ensures.1 in
     rw (q.1, q.2)
     (branch_traps (calls_of c.args.context) c.args.branches.now (otherwise_of c.args.otherwise.now) c.loop-branch.branch-index c.args.turns (trap_number c.in_err-condition.field-0.0)
-    c.branch-item.result (store_in c.loop-branch.store) _ c.loop-branch-test.true c.branch-item.is c.in_err-condition.ensures c.loop-branch.invariant)
+    c.branch-item.result (store_in c.loop-branch.store) _ c.loop-branch-test.true c.branch-item.is c.in_err-condition.ensures c.loop-branch.invariant.0)
 
 pub choose-run-requires : goal.choose-run-requires
 choose-run-requires t c =
@@ -62,7 +66,7 @@ choose-returns-then-truth_of-clause-outcome t c =
     let store = store_in c.loop-branch.store in
     comes_as _ _ c.run.result (store_in c.run.new.store)
     (branch_taken calls c.args.branches.now (otherwise_of c.args.otherwise.now) c.loop-branch.branch-index c.args.turns c.branch-item.result store
-    c.in_ok-condition.condition _ c.loop-branch-test.true c.branch-item.is c.in_ok-condition.ensures (sym c.truth_of.ensures ∙ c.if-truth_of.true) c.loop-branch.invariant
+    c.in_ok-condition.condition _ c.loop-branch-test.true c.branch-item.is c.in_ok-condition.ensures (sym c.truth_of.ensures ∙ c.if-truth_of.true) c.loop-branch.invariant.0
     ∙ ap (λ ss. Statements.meaning_of_all calls (statements_in ss) c.args.turns store) (sym c.as_slice.ensures.value))
     c.run.ensures.outcome
 
@@ -78,7 +82,7 @@ choose-returns-in-Some-clause-outcome t c =
     let calls = calls_of c.args.context in
     let store = store_in c.loop-branch.store in
     comes_as _ _ c.run-in-Some.result (store_in c.run-in-Some.new.store)
-    (branches_end calls c.args.branches.now (otherwise_of c.args.otherwise.now) c.loop-branch.branch-index c.args.turns store _ c.loop-branch-test.false c.loop-branch.invariant
+    (branches_end calls c.args.branches.now (otherwise_of c.args.otherwise.now) c.loop-branch.branch-index c.args.turns store _ c.loop-branch-test.false c.loop-branch.invariant.0
     ∙ ap (λ o. Statements.meaning_of_branches calls (otherwise_of o) c.args.turns store) c.in-Some.is
     ∙ ap (λ ss. Statements.meaning_of_all calls (statements_in ss) c.args.turns store) (sym c.as_slice-in-Some.ensures.value))
     c.run-in-Some.ensures.outcome
@@ -87,7 +91,7 @@ pub choose-returns-in-None-clause-outcome : goal.choose-returns-in-None-clause-o
 choose-returns-in-None-clause-outcome t c =
     let calls = calls_of c.args.context in
     let store = store_in c.loop-branch.store in
-    branches_end calls c.args.branches.now (otherwise_of c.args.otherwise.now) c.loop-branch.branch-index c.args.turns store _ c.loop-branch-test.false c.loop-branch.invariant
+    branches_end calls c.args.branches.now (otherwise_of c.args.otherwise.now) c.loop-branch.branch-index c.args.turns store _ c.loop-branch-test.false c.loop-branch.invariant.0
     ∙ ap (λ o. Statements.meaning_of_branches calls (otherwise_of o) c.args.turns store) c.in-None.is
 
 pub execute-choose-requires : goal.execute-choose-requires
@@ -146,7 +150,7 @@ repeat-again-preserved t c =
           sym (ap (λ o. Statements.then_run o (Statements.loop (n - 1) condition body)) c.in_ok-left.ensures.outcome) ∙ sym goes ∙ c.again.invariant.0.1.1,
         ),
       ),
-      omega (arith, fewer, c.again.invariant.1),
+      (omega (arith, fewer, c.again.invariant.1.0), c.run.ensures.begun ∙ c.again.invariant.1.1),
     )
 
 pub repeat-returns-clause-outcome : goal.repeat-returns-clause-outcome

@@ -3,6 +3,7 @@ use Rattle.ob_typing.specs.Program as Programs
 use Rattle.ob_checked.specs.View.{expression_of, statement_of, statements_in, branches_in, otherwise_of, program_of}
 use Rattle.ob_positions.specs.Statements as Statements
 use Rattle.ob_store.specs.View.{store_in}
+use Rattle.ob_store.specs.Begun.{begun_in}
 use Rattle.ob_interpreter.specs.Running.{calls_of}
 use Rattle.ob_interpreter.proofs.Sizes.{size, size_of_all, size_of_branches, turn_of}
 use Rattle.ob_interpreter.proofs.statements.+running.Given as goal
@@ -28,13 +29,14 @@ abbrev pub invariant-run-loop-statement : goal.invariant-run-loop-statement
 invariant-run-loop-statement l =
     (Statements.meaning_of_all (calls_of l.context) (statements_in (drop l.statement-index l.statements)) l.left (store_in l.store)
     ≡ Statements.meaning_of_all (calls_of l.context) (statements_in l.statements) l.turns (store_in l.initial.store))
-    × (l.left ≤ l.turns)
+    × ((l.left ≤ l.turns) × (begun_in l.store ≡ begun_in l.initial.store))
 
 -- what the branches that are left come to is what all come to
 abbrev pub invariant-choose-loop-branch : goal.invariant-choose-loop-branch
 invariant-choose-loop-branch l =
-    Statements.meaning_of_branches (calls_of l.context) (branches_in (drop l.branch-index l.branches) (otherwise_of l.otherwise)) l.turns (store_in l.store)
-    ≡ Statements.meaning_of_branches (calls_of l.context) (branches_in l.branches (otherwise_of l.otherwise)) l.turns (store_in l.initial.store)
+    (Statements.meaning_of_branches (calls_of l.context) (branches_in (drop l.branch-index l.branches) (otherwise_of l.otherwise)) l.turns (store_in l.store)
+    ≡ Statements.meaning_of_branches (calls_of l.context) (branches_in l.branches (otherwise_of l.otherwise)) l.turns (store_in l.initial.store))
+    × (begun_in l.store ≡ begun_in l.initial.store)
 
 -- the loop goes on with at least as many turns to take as there are left
 abbrev pub invariant-repeat-again : goal.invariant-repeat-again
@@ -42,7 +44,7 @@ invariant-repeat-again l =
     ((n : ℕ) × ((l.left ≤ n)
     × (Statements.loop n (expression_of l.condition) (Statements.meaning_of_all (calls_of l.context) (statements_in l.body)) l.left (store_in l.store)
     ≡ Statements.meaning (calls_of l.context) (Programs.While (expression_of l.condition) (statements_in l.body)) l.turns (store_in l.initial.store))))
-    × (l.left ≤ l.turns)
+    × ((l.left ≤ l.turns) × (begun_in l.store ≡ begun_in l.initial.store))
 
 abbrev pub decreases-repeat-again : goal.decreases-repeat-again
 decreases-repeat-again l = l.left
