@@ -1,4 +1,4 @@
--- What an opening and a call that are done leave, and what stops an opening.
+-- What an opening that is done leaves, and what stops one.
 use Rattle.std.proofs.Common.{◌≡◌, refl, ap, sym, ◌∙◌, arith, ℕ, ◌-◌, List, [], ◌∷◌, map, Some, Err}
 use Rattle.std.specs.Prelude.{slice_get}
 use Rattle.ob_typing.specs.declared.scalar.Scalar.{Scalar}
@@ -17,27 +17,6 @@ use Rattle.ob_interpreter.specs.Outside.{outside_store, run_of, Opens}
 use Rattle.ob_interpreter.specs.Sequences.{IsOpening}
 use Rattle.ob_interpreter.specs.View.{state_of}
 use Rattle.ob_interpreter.proofs.Kept.{kept_where_done, module_alone}
-
--- a call from outside of an export, by what its run comes to
-module _ (program : Program) (call : ObjectCall) (turns : ℕ) (state : Activation) (p : Procedure) (is_export : Some p ≡ slice_get (exports program) call.export) where
-  effect_is : (o : Outcome) → run_of program p turns (outside_store p state call.arguments) ≡ o → effect program call turns state ≡ effect_of state o
-  effect_is o ran = ap (λ q. effect_of_procedure program q call.arguments turns state) (sym is_export) ∙ ap (effect_of state) ran
-
-  pub call_done : (l : ℕ) (last : Activation) (values : List Scalar) (next : Store) → run_of program p turns (outside_store p state call.arguments) ≡ Done l next →
-      last ≡ activation_at next 0 → values ≡ values_of_results (activation_at next results_position) →
-      effect program call turns state ≡ Ends last (Answers values)
-  call_done l last values next done lasts answered =
-      effect_is (Done l next) done
-      ∙ ap (λ s. Ends s (Answers (values_of_results (activation_at next results_position)))) (sym lasts)
-      ∙ ap (λ vs. Ends last (Answers vs)) (sym answered)
-
-  -- the state is as it was
-  pub call_traps : (k : ℕ) (before : Activation) → run_of program p turns (outside_store p state call.arguments) ≡ Trap k → before ≡ state →
-      effect program call turns state ≡ Ends before (Trapped k)
-  call_traps k before traps same = effect_is (Trap k) traps ∙ ap (λ s. Ends s (Trapped k)) (sym same)
-
-  pub call_needs_more : run_of program p turns (outside_store p state call.arguments) ≡ NotYet → effect program call turns state ≡ NeedsMore
-  call_needs_more more = effect_is NotYet more
 
 module _ (program : Program) (turns : ℕ) where
   pub opening_ran : (ss : Statements) (was : Store) → was ≡ begun program.variables ∷ [] → ss ≡ program.body →

@@ -23,7 +23,7 @@ returns-in_err-run c =
 pub returns : goal.returns
 returns c =
     let program = c.args.program.now in
-    opening_done (program_of program) c.args.turns _ (store_in c.run.new.store) c.new-in_ok-run.result
+    opening_done (program_of program) c.args.turns _ (store_in c.run.new.store) c.new-3.result
     (opening_ran (program_of program) c.args.turns (statements_in c.as_slice-2.result.now) (store_in c.new-store.result)
     (c.new-store.ensures.activations
     ∙ ap (λ others. activation_in c.in_ok-module.module ∷ map activation_in others) c.new-2.ensures.items
@@ -31,4 +31,4 @@ returns c =
     ∙ ap (λ vs. begun (map (variable_of (table_of program.types)) vs)) c.as_slice.ensures.value))
     (ap statements_in c.as_slice-2.ensures.value)
     ∙ c.in_ok-run.ensures.outcome)
-    (c.new-in_ok-run.ensures ∙ c.into_module.ensures)
+    (c.new-3.ensures ∙ c.into_module.ensures)
