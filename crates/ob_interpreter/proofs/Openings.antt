@@ -1,19 +1,16 @@
 -- What an opening that is done leaves, and what stops one.
-use Rattle.std.proofs.Common.{◌≡◌, refl, ap, sym, ◌∙◌, arith, ℕ, ◌-◌, List, [], ◌∷◌, map, Some, Err}
-use Rattle.std.specs.Prelude.{slice_get}
-use Rattle.ob_typing.specs.declared.scalar.Scalar.{Scalar}
-use Rattle.ob_typing.specs.Program.{Variable, Procedure, Program, Statements, exports}
-use Rattle.ob_meaning.specs.Object.{ObjectCall, Answers, Trapped, results_position, most_activations}
-use Rattle.ob_positions.specs.Value.{initial}
-use Rattle.ob_positions.specs.Store.{Store, Activation, activation_at}
-use Rattle.ob_positions.specs.Statements.{Outcome, Done, Trap, NotYet, meaning_of_all, begun, calls}
-use Rattle.ob_positions.specs.Object.{Ends, NeedsMore, effect, effect_of, effect_of_procedure, values_of_results, opening}
+use Rattle.std.proofs.Common.{◌≡◌, ap, sym, ◌∙◌, ℕ, [], ◌∷◌, Err}
+use Rattle.ob_typing.specs.Program.{Program, Statements}
+use Rattle.ob_meaning.specs.Object.{most_activations}
+use Rattle.ob_positions.specs.Store.{Store, activation_at}
+use Rattle.ob_positions.specs.Statements.{Outcome, Done, meaning_of_all, begun, calls}
+use Rattle.ob_positions.specs.Object.{opening}
 use Rattle.ob_evaluate.specs.declared.places.Stop.{Stop}
 use Rattle.ob_evaluate.specs.declared.places.Stop.TheVariants as Stops
 use Rattle.ob_interpreter.specs.declared.state.State.{State}
 use Rattle.ob_interpreter.specs.Faults.{IsOpenFault, of_stop}
 use Rattle.ob_interpreter.specs.Running.{Comes}
-use Rattle.ob_interpreter.specs.Outside.{outside_store, run_of, Opens}
+use Rattle.ob_interpreter.specs.Outside.{Opens}
 use Rattle.ob_interpreter.specs.Sequences.{IsOpening}
 use Rattle.ob_interpreter.specs.View.{state_of}
 use Rattle.ob_interpreter.proofs.Kept.{kept_where_done, module_alone}

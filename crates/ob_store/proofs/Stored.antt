@@ -4,7 +4,7 @@ use Rattle.std.specs.Global.{Global}
 use Rattle.std.specs.Prelude.{slice_set}
 use Rattle.std.proofs.lemmas.List.{map-set, length-map}
 use Rattle.ob_store.specs.declared.store.Held.{Held}
-use Rattle.ob_store.specs.View.{value_in, held_in, activation_in}
+use Rattle.ob_store.specs.View.{held_in, activation_in}
 use Rattle.ob_store.specs.Begun.{put_back_held, put_back_at}
 use Rattle.ob_store.specs.declared.value.Value.{Value}
 use Rattle.ob_positions.specs.Value as Values

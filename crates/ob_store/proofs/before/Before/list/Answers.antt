@@ -1,7 +1,3 @@
-use Rattle.std.proofs.Common.{ap, sym, ◌∙◌, subst, IfOk}
-use Rattle.ob_positions.specs.Store as Stores
-use Rattle.ob_store.specs.View.{value_in}
-use Rattle.ob_store.specs.Begun.{taken_back, begun_by}
 use Rattle.ob_store.proofs.TakenBack.{one_listed}
 use Rattle.ob_store.proofs.before.Before.list.Goals as goal
 
