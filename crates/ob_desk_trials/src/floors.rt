@@ -36,27 +36,35 @@ fn floor_of(alloc: Global, text: &[u8], n: usize) -> Result<Floor<CodeEngine>, F
     Ok(Floor::new(alloc, engine, n, terms.opening(), Vec::new(alloc))?)
 }
 
-/// What closing tells of a desk of two processes of the counter, with these calls, over the floor.
-fn told(alloc: Global, calls: &[u8], floor: Floor<CodeEngine>) -> Result<Option<CloseFault>, Fail> {
+/// What a desk of two processes of the counter keeps, with these calls.
+fn terms_of(alloc: Global, calls: &[u8]) -> Result<Terms, Fail> {
     let object = object_of(alloc, COUNTER, 2)?;
     let calls = read_scripts(alloc, object.checked(), 2, calls)?.into_calls();
-    let terms = Terms::new(alloc, object, calls.as_slice(), 0)?;
-    let seats = [Seat::new(alloc, 0, 0), Seat::new(alloc, 1, 0)];
-    Ok(settle(alloc, &terms, floor, &seats).err())
+    Ok(Terms::new(alloc, object, calls.as_slice(), 0)?)
+}
+
+/// What closing tells of such a desk over a floor of the text.
+fn told(alloc: Global, calls: &[u8], text: &[u8], n: usize) -> Result<Option<CloseFault>, Fail> {
+    let terms = terms_of(alloc, calls)?;
+    let floor = floor_of(alloc, text, n)?;
+    let mut seats = Vec::new(alloc);
+    seats.push(Seat::new(alloc, 0, 0))?;
+    seats.push(Seat::new(alloc, 1, 0))?;
+    Ok(settle(alloc, &terms, floor, seats.as_slice()).err())
+}
+
+#[test]
+fn a_floor_of_the_desk(rt: HostRuntime) -> Result<(), Fail> {
+    assert_eq!(rt; told(rt.alloc(), b"", COUNTER, 2)?, None);
+    Ok(())
 }
 
 #[test]
 fn a_floor_that_is_not_the_desks(rt: HostRuntime) -> Result<(), Fail> {
     let other = Some(CloseFault::OtherFloor);
-    for (calls, text, n, fault) in [
-        ("", COUNTER, 2, None),
-        ("", COUNTER, 1, other),
-        ("", BY_TWO, 2, other),
-        ("", FROM_ONE, 2, other),
-        ("0 Inc\n", COUNTER, 2, other),
-    ] {
-        let floor = floor_of(rt.alloc(), text, n)?;
-        assert_eq!(rt; told(rt.alloc(), calls.as_bytes(), floor)?, fault);
-    }
+    assert_eq!(rt; told(rt.alloc(), b"", COUNTER, 1)?, other);
+    assert_eq!(rt; told(rt.alloc(), b"", BY_TWO, 2)?, other);
+    assert_eq!(rt; told(rt.alloc(), b"", FROM_ONE, 2)?, other);
+    assert_eq!(rt; told(rt.alloc(), b"0 Inc\n", COUNTER, 2)?, other);
     Ok(())
 }

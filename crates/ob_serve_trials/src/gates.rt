@@ -1,5 +1,7 @@
 //! Workers whom gates stop, or let pass only together.
 
+ghost use Rattle.std.specs.Prelude.{◌≤◌};
+
 use ob_serve::{Gate, ServeFault, ServeTextFault, serve_text_with};
 use std::alloc::Global;
 use std::sync::Wait;
