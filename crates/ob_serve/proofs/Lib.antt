@@ -3,3 +3,5 @@ mod Faults
 mod TextFaults
 mod ReadCalls
 mod Numbered
+mod Seats
+mod ByProcess

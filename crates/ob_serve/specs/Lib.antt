@@ -1,2 +1,3 @@
+pub mod Gathered
 pub mod Served
 pub mod ServedTexts

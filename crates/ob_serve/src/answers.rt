@@ -1,7 +1,8 @@
 //! Whether the answers that workers sent are those of a record.
 
-ghost use Rattle.std.specs.Prelude.{◌≡◌, ◌<◌, ℕ, IfErr, IfNone, IsTrue, map};
+ghost use Rattle.std.specs.Prelude.{◌≡◌, ◌<◌, ◌⊎◌, ℕ, [], IfErr, IfNone, IfOk, IsTrue, map, replicate};
 ghost use Rattle.ob_desk.specs.Seat.{answered_call};
+ghost use Rattle.ob_serve.specs.Gathered.{AreByProcess, IsOfNone};
 ghost use Rattle.ob_serve.specs.Served.{EndsFirst, HaveEnded, TellsMemoryApart, calls_for};
 ghost use Rattle.ob_text.specs.ScriptView.{script_call_of};
 ghost use Rattle.wf_history.specs.History.{own_answers};
@@ -21,7 +22,9 @@ pub fn by_process(
     processes: usize,
     answers: Vec<CallAnswer>,
 ) -> Result<Vec<Vec<CallAnswer>>, ServeFault>
-    ensures { IfErr result TellsMemoryApart }
+    ensures each { IfOk result (λ lists. AreByProcess processes answers.items (map (λ list. list.items) lists.items)) }
+    ensures fault { IfErr result (λ e. (e ≡ ServeFault.NoMemory) ⊎ ((p : ℕ) × (e ≡ ServeFault.Lost p) × IsOfNone processes answers.items p)) }
+    ensures memory { IfErr result TellsMemoryApart }
 {
     let mut lists = empty_lists(alloc, processes)?;
     for answer in answers {
@@ -37,7 +40,8 @@ pub fn by_process(
 }
 
 fn empty_lists(alloc: Global, processes: usize) -> Result<Vec<Vec<CallAnswer>>, ServeFault>
-    ensures { IfErr result TellsMemoryApart }
+    ensures empty { IfOk result (λ lists. map (λ list. list.items) lists.items ≡ replicate processes []) }
+    ensures memory { IfErr result (λ e. e ≡ ServeFault.NoMemory) }
 {
     let mut lists = Vec::with_capacity(alloc, processes)?;
     for _ in 0..processes {

@@ -1,7 +1,10 @@
 //! The workers of a desk, started, heard and joined.
 
-ghost use Rattle.std.specs.Prelude.{◌≡◌, Err, IfErr, IfSome};
+ghost use Rattle.std.specs.Prelude.{◌≡◌, ◌≢◌, ◌+◌, ◌++◌, All, Any, Err, IfErr, IfNone, IfOk, IfSome, IsFalse, IsTrue, List, None, false, length, map};
+ghost use Rattle.ob_desk.specs.declared.seat.CallAnswer.{CallAnswer};
+ghost use Rattle.ob_serve.specs.Gathered.{AreBack, IsFirstRefused, IsGatherFault, IsShort};
 ghost use Rattle.ob_serve.specs.Served.{TellsMemoryApart};
+ghost use Rattle.ob_serve.specs.declared.worker.Ended.TheVariants as Ended;
 
 use crate::fault::ServeFault;
 use crate::gate::Gate;
@@ -61,7 +64,12 @@ pub fn gather<R: Threads + Wait + Sync, G: Gate + Sync>(
 }
 
 /// Keeps each answer that comes, until every sender is gone. Where memory wants it goes on without keeping.
-fn collect<R: Wait>(rt: &R, receiver: Receiver<CallAnswer, Global>, gathered: &mut Gathered) {
+fn collect<R: Wait>(rt: &R, receiver: Receiver<CallAnswer, Global>, gathered: &mut Gathered)
+    ensures workers { gathered.new.worked ≡ gathered.old.worked }
+    ensures idle { gathered.new.idle ≡ gathered.old.idle }
+    ensures answers { (later : List CallAnswer) × (gathered.new.answers.items ≡ gathered.old.answers.items ++ later) }
+    ensures short { gathered.new.is_short ≡ false → gathered.old.is_short ≡ false }
+{
     for answer in receiver.iter(rt) {
         if !gathered.is_short && gathered.answers.push(answer).is_err() {
             gathered.is_short = true;
@@ -69,7 +77,13 @@ fn collect<R: Wait>(rt: &R, receiver: Receiver<CallAnswer, Global>, gathered: &m
     }
 }
 
-fn join_all<R: Threads + Wait>(rt: &R, handles: Vec<JoinHandle<Worked>>, gathered: &mut Gathered) {
+/// Adds what each worker hands back. Where memory wants it goes on joining.
+fn join_all<R: Threads + Wait>(rt: &R, handles: Vec<JoinHandle<Worked>>, gathered: &mut Gathered)
+    ensures answers { gathered.new.answers ≡ gathered.old.answers }
+    ensures idle { gathered.new.idle ≡ gathered.old.idle }
+    ensures short { gathered.new.is_short ≡ false → gathered.old.is_short ≡ false }
+    ensures all { gathered.new.is_short ≡ false → length gathered.new.worked.items ≡ length gathered.old.worked.items + length handles.items }
+{
     for handle in handles {
         if gathered.worked.push(handle.join(rt)).is_err() {
             gathered.is_short = true;
@@ -83,6 +97,9 @@ pub fn seats_back(
     gathered: Gathered,
 ) -> Result<(Vec<Seat>, Vec<CallAnswer>), ServeFault>
     ensures not_started { IfSome gathered.idle (λ p. result ≡ Err (ServeFault.NotStarted p)) }
+    ensures short { gathered.idle ≡ None → IsShort gathered → result ≡ Err ServeFault.NoMemory }
+    ensures back { IfOk result (λ r. AreBack gathered r.0.items r.1.items) }
+    ensures fault { IfErr result (IsGatherFault gathered) }
     ensures memory { IfErr result TellsMemoryApart }
 {
     if let Some(process) = gathered.idle {
@@ -91,18 +108,39 @@ pub fn seats_back(
     if gathered.is_short || ran_short(&gathered.worked) {
         return Err(ServeFault::NoMemory);
     }
-    let mut seats = Vec::with_capacity(alloc, gathered.worked.len())?;
-    for worked in gathered.worked {
-        if worked.ended == Ended::Refused {
-            return Err(ServeFault::Refused(worked.seat.process()));
-        }
-        if seats.push(worked.seat).is_err() {
-            return Err(ServeFault::NoMemory);
-        }
+    if let Some(process) = first_refused(&gathered.worked) {
+        return Err(ServeFault::Refused(process));
     }
+    let seats = seats_in(alloc, gathered.worked)?;
     Ok((seats, gathered.answers))
 }
 
-fn ran_short(worked: &[Worked]) -> bool {
+fn ran_short(worked: &[Worked]) -> bool
+    ensures yes { IsTrue result → Any (λ w. w.ended ≡ Ended.NoMemory) worked.now }
+    ensures no { IsFalse result → ¬ (Any (λ w. w.ended ≡ Ended.NoMemory) worked.now) }
+{
     worked.iter().any(|it| it.ended == Ended::NoMemory)
+}
+
+/// The process of the first worker that the gate refused too often.
+fn first_refused(worked: &[Worked]) -> Option<usize>
+    ensures none { IfNone result (All (λ w. w.ended ≢ Ended.Refused) worked.now) }
+    ensures some { IfSome result (IsFirstRefused worked.now) }
+{
+    for it in worked {
+        if it.ended == Ended::Refused {
+            return Some(it.seat.process());
+        }
+    }
+    None
+}
+
+fn seats_in(alloc: Global, worked: Vec<Worked>) -> Result<Vec<Seat>, AllocError>
+    ensures { IfOk result (λ seats. seats.items ≡ map (λ w. w.seat) worked.items) }
+{
+    let mut seats = Vec::with_capacity(alloc, worked.len())?;
+    for it in worked {
+        seats.push(it.seat)?;
+    }
+    Ok(seats)
 }

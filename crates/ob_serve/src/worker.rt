@@ -1,6 +1,7 @@
 //! One worker.
 
 ghost use Rattle.std.specs.Prelude.{◌<◌, ◌-◌, ◌^◌};
+ghost use Rattle.ob_serve.specs.Gathered.{IsAfterTurns};
 
 use crate::gate::Gate;
 use crossbeam_channel::Sender;
@@ -36,7 +37,9 @@ pub fn work<R: Wait, G: Gate>(
     limit: u64,
     mut seat: Seat,
     answers: Sender<CallAnswer, Global>,
-) -> Worked {
+) -> Worked
+    ensures { IsAfterTurns seat result.seat }
+{
     let mut refusals = 0u64;
     let mut ended = Ended::Done;
     for _ in rt.forever() {
@@ -81,6 +84,7 @@ fn take_turn<R: Wait, G: Gate>(
     answers: &Sender<CallAnswer, Global>,
 ) -> Turned
     requires { seat.old.turns < 2 ^ 128 - 1 }
+    ensures { IsAfterTurns seat.old seat.new }
 {
     match desk.turn(rt, seat) {
         Err(_) => Turned::NoMemory,
