@@ -12,9 +12,9 @@ is_of p a = nat_eq a.id.process p
 
 pub none_yet : (processes : ℕ) → AreByProcess processes [] (replicate processes [])
 none_yet processes = record {
-      each = length-replicate processes [];
-      own = λ p d lt. get_or-replicate processes p [] d lt;
-    }
+  each = length-replicate processes [];
+  own = λ p d lt. get_or-replicate processes p [] d lt;
+}
 
 same_is : (a b : ℕ) → a ≡ b → nat_eq a b ≡ true
 same_is a b h = grind (arith, nat_tests)

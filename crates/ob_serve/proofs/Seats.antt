@@ -21,9 +21,9 @@ one_turn a s = record { process = refl; tag = refl; later = answers_in a; answer
 
 pub more_turns : (a b c : Seat) → IsAfterTurns a b → IsAfterTurns b c → IsAfterTurns a c
 more_turns a b c one two = record {
-      process = two.process ∙ one.process;
-      tag = two.tag ∙ one.tag;
-      later = one.later ++ two.later;
-      answers = two.answers ∙ ap (λ (l : List (CallId × Reply)). l ++ two.later) one.answers ∙ append_assoc a.answers one.later two.later;
-      turns = omega (arith, one.turns, two.turns, length-append one.later two.later);
-    }
+  process = two.process ∙ one.process;
+  tag = two.tag ∙ one.tag;
+  later = one.later ++ two.later;
+  answers = two.answers ∙ ap (λ (l : List (CallId × Reply)). l ++ two.later) one.answers ∙ append_assoc a.answers one.later two.later;
+  turns = omega (arith, one.turns, two.turns, length-append one.later two.later);
+}
