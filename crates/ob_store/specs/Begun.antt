@@ -1,8 +1,11 @@
 -- How the module's activation was when a call began, from the writes since then.
 use Rattle.std.specs.Prelude.{ℕ, List, [], ◌∷◌, Option, Some, None}
+use Rattle.ob_positions.specs.Value as Values
 use Rattle.ob_positions.specs.Store as Stores
 use Rattle.ob_store.specs.declared.value.Value.{Value}
 use Rattle.ob_store.specs.declared.before.Written.{Written}
+use Rattle.ob_store.specs.declared.before.Listed.{Listed}
+use Rattle.ob_store.specs.declared.before.Listed.TheVariants.{Variable, Part}
 use Rattle.ob_store.specs.declared.before.Before.{Before}
 use Rattle.ob_store.specs.declared.before.Before.TheVariants.{Writes, Whole}
 use Rattle.ob_store.specs.declared.store.Store.{Store}
@@ -18,10 +21,19 @@ abbrev pub put_back_at : Stores.Activation → ℕ → List ℕ → Option Value
 put_back_at a position path None = a
 put_back_at a position path (Some was) = Stores.with_held a position path (value_in was)
 
+-- an activation without a write: what was there before is put back
+abbrev pub without : Written → Stores.Activation → Stores.Activation
+without w a = Stores.with_held a w.position w.path.items (value_in w.was)
+
+-- the same of a write as it is listed
+abbrev pub without_listed : Listed → Stores.Activation → Stores.Activation
+without_listed (Variable position was) a = Stores.with_held a position [] (Values.Single was)
+without_listed (Part w) a = without w.value a
+
 -- an activation without these writes, which are listed from the first to the last: the last one is taken back first
-abbrev pub taken_back : List Written → Stores.Activation → Stores.Activation
+abbrev pub taken_back : List Listed → Stores.Activation → Stores.Activation
 taken_back [] a = a
-taken_back (w ∷ writes) a = Stores.with_held (taken_back writes a) w.position w.path.items (value_in w.was)
+taken_back (w ∷ writes) a = without_listed w (taken_back writes a)
 
 -- the activation as it was, from what it is
 abbrev pub begun_by : Before → Stores.Activation → Stores.Activation

@@ -1,12 +1,13 @@
 //! How the module's activation was when a call began.
 
-ghost use Rattle.std.specs.Prelude.{◌≡◌, IfErr, IfOk, map};
+ghost use Rattle.std.specs.Prelude.{◌≡◌, IfErr, IfOk, OnOk, map};
 ghost use Rattle.ob_positions.specs.Store as Stores;
-ghost use Rattle.ob_store.specs.View.{value_in, held_in, place_in, activation_in};
-ghost use Rattle.ob_store.specs.Begun.{taken_back, begun_by};
+ghost use Rattle.ob_store.specs.View.{held_in, place_in, activation_in};
+ghost use Rattle.ob_store.specs.Begun.{without, without_listed, taken_back, begun_by};
 
 use crate::store::{Held, Path, Place, overwrite};
 use crate::value::{Value, copy};
+use ob_typing::scalar::Scalar;
 use smallvec::SmallVec;
 use std::alloc::{AllocError, AllocFailed, Global};
 
@@ -22,11 +23,19 @@ pub struct Written {
     pub was: Value,
 }
 
+/// A write as it is listed: most are to variables that are scalars, and take little room.
+#[derive(Drop)]
+pub enum Listed {
+    /// To a variable, which was this scalar.
+    Variable { position: usize, was: Scalar },
+    Part(Box<Written>),
+}
+
 /// What leads back to the module's activation as it was when the call began.
 #[derive(Drop)]
 pub enum Before {
     /// The writes since then, from the first to the last.
-    Writes(Vec<Written>),
+    Writes(Vec<Listed>),
     /// The activation itself.
     Whole(Vec<Held>),
 }
@@ -64,23 +73,80 @@ pub fn copy_activation(alloc: Global, activation: &[Held]) -> Result<Vec<Held>, 
 }
 
 /// Takes all writes back, from the last to the first.
-fn take_all_back(variables: &mut [Held], writes: &mut Vec<Written>)
+fn take_all_back(variables: &mut [Held], writes: &mut Vec<Listed>)
     ensures { map held_in variables.new ≡ taken_back writes.old.items (map held_in variables.old) }
 {
-    'left: while let Some(written) = writes.pop() {
-        written.take_back(variables);
+    'left: while let Some(listed) = writes.pop() {
+        listed.take_back(variables);
     }
+}
+
+/// Lists a write that was made. Where there is no memory for that, it is taken back.
+fn list_in(
+    alloc: Global,
+    writes: &mut Vec<Listed>,
+    written: Written,
+    variables: &mut [Held],
+) -> Result<(), AllocError>
+    ensures kept { OnOk result (map held_in variables.new ≡ map held_in variables.old) }
+    ensures listed { taken_back writes.new.items (map held_in variables.new)
+        ≡ taken_back writes.old.items (without written (map held_in variables.old)) }
+{
+    let listed = match written.listed(alloc) {
+        Ok(listed) => listed,
+        Err(refused) => {
+            refused.value.take_back(variables);
+            return Err(AllocError);
+        }
+    };
+    if let Err(refused) = writes.push(listed) {
+        refused.value.take_back(variables);
+        return Err(AllocError);
+    }
+    Ok(())
 }
 
 impl Written {
     /// Puts back what was there.
-    pub fn take_back(self, variables: &mut [Held])
-        ensures { map held_in variables.new
-            ≡ Stores.with_held (map held_in variables.old) self.position self.path.items (value_in self.was) }
+    fn take_back(self, variables: &mut [Held])
+        ensures { map held_in variables.new ≡ without self (map held_in variables.old) }
     {
         let path = self.path;
         let was = self.was;
         overwrite(variables, self.position, path.as_slice(), was);
+    }
+
+    /// As it is listed.
+    fn listed(self, alloc: Global) -> Result<Listed, AllocFailed<Written>>
+        ensures listed { IfOk result (λ l. without_listed l ≡ without self) }
+        ensures refused { IfErr result (λ e. e.value ≡ self) }
+    {
+        if let Value::Single(was) = &self.was
+            && self.path.is_empty()
+        {
+            return Ok(Listed::Variable {
+                position: self.position,
+                was: *was,
+            });
+        }
+        match Box::new(alloc, self) {
+            Ok(part) => Ok(Listed::Part(part)),
+            Err(refused) => Err(refused),
+        }
+    }
+}
+
+impl Listed {
+    /// Puts back what was there.
+    fn take_back(self, variables: &mut [Held])
+        ensures { map held_in variables.new ≡ without_listed self (map held_in variables.old) }
+    {
+        match self {
+            Listed::Variable { position, was } => {
+                overwrite(variables, position, &[], Value::Single(was));
+            }
+            Listed::Part(written) => Box::into_inner(written).take_back(variables),
+        }
     }
 }
 
@@ -99,15 +165,19 @@ impl Before {
         Ok(())
     }
 
-    /// Lists a write that was made, where writes are listed.
-    pub fn list(&mut self, written: Written) -> Result<(), AllocFailed<Written>>
-        ensures listed { IfOk result (λ _. (a : Stores.Activation) → begun_by self.new a
-            ≡ begun_by self.old (Stores.with_held a written.position written.path.items (value_in written.was))) }
-        ensures refused { IfErr result (λ e. e.value ≡ written) }
-        ensures kept { IfErr result (λ _. begun_by self.new ≡ begun_by self.old) }
+    /// Lists a write that was made, where writes are listed. Where there is no memory for that, it is taken back.
+    pub fn list(
+        &mut self,
+        alloc: Global,
+        written: Written,
+        variables: &mut [Held],
+    ) -> Result<(), AllocError>
+        ensures kept { OnOk result (map held_in variables.new ≡ map held_in variables.old) }
+        ensures begun { begun_by self.new (map held_in variables.new)
+            ≡ begun_by self.old (without written (map held_in variables.old)) }
     {
         match self {
-            Before::Writes(writes) => writes.push(written),
+            Before::Writes(writes) => list_in(alloc, writes, written, variables),
             Before::Whole(_) => Ok(()),
         }
     }

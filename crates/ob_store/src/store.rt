@@ -188,11 +188,8 @@ impl Store {
             path,
             was,
         };
-        if let Err(refused) = self.before.list(written) {
-            refused.value.take_back(self.variables.as_mut_slice());
-            return Err(AllocError);
-        }
-        Ok(())
+        self.before
+            .list(alloc, written, self.variables.as_mut_slice())
     }
 
     /// Adds an activation, which is running from now on.

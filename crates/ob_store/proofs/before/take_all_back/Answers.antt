@@ -8,5 +8,5 @@ pub left-preserved : goal.left-preserved
 left-preserved c =
     let variables = map held_in c.left.variables in
     let left = c.pop.new.self.items in
-    ap (taken_back left) c.take_back.ensures ∙ sym (taken_back-last left c.in-Some.written variables)
+    ap (taken_back left) c.take_back.ensures ∙ sym (taken_back-last left c.in-Some.listed variables)
     ∙ ap (λ writes. taken_back writes variables) (sym c.in-Some.ensures.items) ∙ c.left.invariant
