@@ -3,7 +3,7 @@
 use std::alloc::Global;
 
 /// What goes to the two outputs, and the exit status.
-#[derive(Debug, Drop)]
+#[derive(Drop)]
 pub struct Answer {
     /// The exit status: 0 where it did what was asked, 1 at a fault of the module or the script, 2 at
     /// a fault of the words, 3 where a file can't be read.

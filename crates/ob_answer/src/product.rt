@@ -1,7 +1,7 @@
 //! What is printed of a run.
 
 /// What is printed of a run: the text of its record, or a picture.
-#[derive(Clone, Copy, Debug, PartialEq, Eq)]
+#[derive(Clone, Copy)]
 pub enum Product {
     Record,
     Picture,

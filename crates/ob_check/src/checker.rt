@@ -32,7 +32,7 @@ use thiserror::Error;
 use variables::declare_variables;
 
 /// Why a module is refused: the rule that fails. A place is a byte offset from 0.
-#[derive(Clone, Copy, Debug, PartialEq, Eq, Error)]
+#[derive(Clone, Copy, Debug, Error)]
 pub enum CheckFault {
     /// C1: a name that is not declared, at the name.
     #[error("C1 at {0}")]

@@ -1,7 +1,7 @@
 //! The checked program, as the crates above read it.
 
 /// An INTEGER or a BOOLEAN.
-#[derive(Clone, Copy, Debug, PartialEq, Eq)]
+#[derive(Clone, Copy, PartialEq, Eq)]
 pub enum Scalar {
     Int(i32),
     Bool(bool),
@@ -19,7 +19,7 @@ impl Default for Scalar {
 }
 
 /// A type.
-#[derive(Clone, Copy, Debug, PartialEq, Eq)]
+#[derive(Clone, Copy, PartialEq, Eq)]
 pub enum DataType {
     Integer,
 }
@@ -95,7 +95,7 @@ pub struct Operation {
 }
 
 /// An operator that gives an INTEGER.
-#[derive(Clone, Copy, Debug, PartialEq, Eq)]
+#[derive(Clone, Copy)]
 pub enum Arithmetic {
     Plus,
     Minus,
@@ -109,7 +109,7 @@ pub struct Export {
 }
 
 /// The mode and the type of a parameter.
-#[derive(Clone, Copy, Debug, PartialEq, Eq)]
+#[derive(Clone, Copy, PartialEq, Eq)]
 pub struct Formal {
     pub is_var: bool,
     pub data_type: DataType,

@@ -15,7 +15,7 @@ const MOST_WORDS: usize = 4096;
 const DEEPEST: usize = 100;
 
 /// A type: a scalar's, or the number of an array or a record in the table.
-#[derive(Clone, Copy, Debug, PartialEq, Eq)]
+#[derive(Clone, Copy, PartialEq, Eq)]
 pub enum DataType {
     Simple(ScalarType),
     Structured(usize),

@@ -2,7 +2,7 @@
 
 /// One instruction. "x, y" are the words that it pops, y the top; what it leaves of them it pushes.
 /// Then comes the instruction behind it, unless the text says otherwise.
-#[derive(Clone, Copy, Debug, PartialEq, Eq)]
+#[derive(Clone, Copy, PartialEq, Eq)]
 pub enum Instr {
     /// `LIT value`: pushes the value.
     Literal { value: i32 },

@@ -13,7 +13,7 @@ use clap::{Arg, ArgMatches};
 use std::alloc::{AllocError, Global};
 
 /// What the words ask for. The names are of files.
-#[derive(Clone, Copy, Debug, PartialEq, Eq)]
+#[derive(Clone, Copy)]
 pub enum Command<'a> {
     /// `check MODULE`: whether a module is one.
     Check {
@@ -51,7 +51,7 @@ pub enum Command<'a> {
 }
 
 /// What a run is made of: the names of its files, and how many processes there are.
-#[derive(Clone, Copy, Debug, PartialEq, Eq)]
+#[derive(Clone, Copy)]
 pub struct RunCommand<'a> {
     pub module_name: &'a str,
     pub script_name: &'a str,
@@ -60,7 +60,7 @@ pub struct RunCommand<'a> {
 }
 
 /// Why there is no command to obey.
-#[derive(Debug, Drop)]
+#[derive(Drop)]
 pub enum Stop {
     /// Help was asked for: its text.
     Help(String),

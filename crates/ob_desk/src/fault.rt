@@ -4,7 +4,7 @@ use ob_grammar::NoMemory;
 use thiserror::Error;
 
 /// Why closing a desk gives no record: the first fault, in the order of the variants, of the lowest process.
-#[derive(Clone, Copy, Debug, PartialEq, Eq, Error)]
+#[derive(Clone, Copy, Debug, Error)]
 pub enum CloseFault {
     /// K1: a seat has another tag, or is of no process of the desk.
     #[error("K1 process {0}")]

@@ -64,8 +64,8 @@ fn turns_by_hand_are_the_run_of_their_schedule(rt: HostRuntime) -> Result<(), Fa
     let closed = desk.close(alloc, seats)?;
     let performed = perform(alloc, COUNTER, 2, CALLS, b"0*100 1*100")?;
     assert_eq!(rt; closed.history.len(), performed.history.len());
-    assert_eq!(rt; closed.order.as_slice(), performed.order.as_slice());
-    assert_eq!(rt; closed.schedule.as_slice(), performed.schedule.as_slice());
+    assert!(rt; closed.order.as_slice() == performed.order.as_slice());
+    assert!(rt; closed.schedule.as_slice() == performed.schedule.as_slice());
     Ok(())
 }
 
@@ -74,7 +74,8 @@ fn a_seat_is_missing(rt: HostRuntime) -> Result<(), Fail> {
     let alloc = rt.alloc();
     let (desk, mut seats) = used(&rt, alloc, 0, 1)?;
     seats.pop();
-    assert_eq!(rt; desk.close(alloc, seats).err(), Some(CloseFault::Uneven(1)));
+    let fault = desk.close(alloc, seats).err();
+    assert!(rt; matches!(fault, Some(CloseFault::Uneven(1))));
     Ok(())
 }
 
@@ -89,10 +90,8 @@ fn a_seat_of_another_tag(rt: HostRuntime) -> Result<(), Fail> {
             given.push(seat)?;
         }
     }
-    assert_eq!(rt;
-        desk.close(alloc, given).err(),
-        Some(CloseFault::Stranger(0))
-    );
+    let fault = desk.close(alloc, given).err();
+    assert!(rt; matches!(fault, Some(CloseFault::Stranger(0))));
     Ok(())
 }
 
@@ -106,9 +105,7 @@ fn a_seat_that_was_at_another_desk(rt: HostRuntime) -> Result<(), Fail> {
     if let Some(other) = others.pop() {
         seats.push(other)?;
     }
-    assert_eq!(rt;
-        desk.close(alloc, seats).err(),
-        Some(CloseFault::Disagrees(1))
-    );
+    let fault = desk.close(alloc, seats).err();
+    assert!(rt; matches!(fault, Some(CloseFault::Disagrees(1))));
     Ok(())
 }

@@ -53,18 +53,23 @@ fn told(alloc: Global, calls: &[u8], text: &[u8], n: usize) -> Result<Option<Clo
     Ok(settle(alloc, &terms, floor, seats.as_slice()).err())
 }
 
+/// Whether closing tells that the floor is not the desk's.
+fn is_other_floor(alloc: Global, calls: &[u8], text: &[u8], n: usize) -> Result<bool, Fail> {
+    let fault = told(alloc, calls, text, n)?;
+    Ok(matches!(fault, Some(CloseFault::OtherFloor)))
+}
+
 #[test]
 fn a_floor_of_the_desk(rt: HostRuntime) -> Result<(), Fail> {
-    assert_eq!(rt; told(rt.alloc(), b"", COUNTER, 2)?, None);
+    assert!(rt; told(rt.alloc(), b"", COUNTER, 2)?.is_none());
     Ok(())
 }
 
 #[test]
 fn a_floor_that_is_not_the_desks(rt: HostRuntime) -> Result<(), Fail> {
-    let other = Some(CloseFault::OtherFloor);
-    assert_eq!(rt; told(rt.alloc(), b"", COUNTER, 1)?, other);
-    assert_eq!(rt; told(rt.alloc(), b"", BY_TWO, 2)?, other);
-    assert_eq!(rt; told(rt.alloc(), b"", FROM_ONE, 2)?, other);
-    assert_eq!(rt; told(rt.alloc(), b"0 Inc\n", COUNTER, 2)?, other);
+    assert!(rt; is_other_floor(rt.alloc(), b"", COUNTER, 1)?);
+    assert!(rt; is_other_floor(rt.alloc(), b"", BY_TWO, 2)?);
+    assert!(rt; is_other_floor(rt.alloc(), b"", FROM_ONE, 2)?);
+    assert!(rt; is_other_floor(rt.alloc(), b"0 Inc\n", COUNTER, 2)?);
     Ok(())
 }

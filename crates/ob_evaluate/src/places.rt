@@ -17,7 +17,7 @@ use smallvec::SmallVec;
 use std::alloc::{AllocError, AllocFailed, Global};
 
 /// Why a run isn't done.
-#[derive(Clone, Copy, Debug, PartialEq, Eq)]
+#[derive(Clone, Copy)]
 pub enum Stop {
     /// The number of a trap.
     Trap(u8),

@@ -4,7 +4,7 @@ ghost use Rattle.std.specs.Prelude.{◌≡◌, ◌+◌, ◌≤◌, ◌<◌, ◌^
 ghost use Rattle.ob_explain.specs.Places.{behind_byte, line_before, line_from, place_in, up_to_line_feed};
 
 /// A place as people count: its line from 1, and its column, which is one more than the bytes before it in its line.
-#[derive(Clone, Copy, Debug, PartialEq, Eq)]
+#[derive(Clone, Copy)]
 pub struct Place {
     pub line: usize,
     pub column: usize,

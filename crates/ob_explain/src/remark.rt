@@ -10,7 +10,7 @@ use ob_scopes::fault::CheckFault;
 use ob_typing::rule::Rule;
 
 /// What is wrong, and the offset of the byte where.
-#[derive(Clone, Copy, Debug)]
+#[derive(Clone, Copy)]
 pub struct Remark {
     pub place: usize,
     pub sentence: &'static str,

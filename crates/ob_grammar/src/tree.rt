@@ -5,14 +5,14 @@
 pub const DEEPEST_NESTING: usize = 100;
 
 /// An occurrence of a name.
-#[derive(PartialEq, Eq, Drop)]
+#[derive(Drop)]
 pub struct Name {
     pub text: String,
     pub place: usize,
 }
 
 /// An operator between two operands.
-#[derive(Clone, Copy, Debug, PartialEq, Eq)]
+#[derive(Clone, Copy)]
 pub enum Operator {
     Equal,
     NotEqual,
@@ -30,7 +30,7 @@ pub enum Operator {
 }
 
 /// The sign before a first term.
-#[derive(Clone, Copy, Debug, PartialEq, Eq)]
+#[derive(Clone, Copy)]
 pub struct Sign {
     pub is_minus: bool,
     pub place: usize,
@@ -38,7 +38,7 @@ pub struct Sign {
 
 /// An expression as it is written.
 #[cycle(expr)]
-#[derive(PartialEq, Eq, Drop)]
+#[derive(Drop)]
 pub enum Expr {
     /// A number: 0 to 2147483647 in a tree that was parsed.
     Number {
@@ -79,7 +79,7 @@ pub enum Expr {
 
 /// An operator with its place, and the operand to its right.
 #[cycle(expr)]
-#[derive(PartialEq, Eq, Drop)]
+#[derive(Drop)]
 pub struct Operand {
     pub operator: Operator,
     pub place: usize,
@@ -88,7 +88,7 @@ pub struct Operand {
 
 /// A name with its selectors.
 #[cycle(expr)]
-#[derive(PartialEq, Eq, Drop)]
+#[derive(Drop)]
 pub struct Designator {
     pub name: Name,
     pub selectors: Vec<Selector>,
@@ -96,7 +96,7 @@ pub struct Designator {
 
 /// A selector.
 #[cycle(expr)]
-#[derive(PartialEq, Eq, Drop)]
+#[derive(Drop)]
 pub enum Selector {
     /// The place of the `.`, and the field.
     Field { place: usize, name: Name },
@@ -106,7 +106,7 @@ pub enum Selector {
 
 /// A type as it is written.
 #[cycle(types)]
-#[derive(PartialEq, Eq, Drop)]
+#[derive(Drop)]
 pub enum TypeExpr {
     Named(Name),
     /// The place of ARRAY.
@@ -124,7 +124,7 @@ pub enum TypeExpr {
 
 /// Fields of one type, or nothing between two semicolons.
 #[cycle(types)]
-#[derive(PartialEq, Eq, Drop)]
+#[derive(Drop)]
 pub enum FieldList {
     Empty,
     Fields { names: Vec<Name>, of_type: TypeExpr },
@@ -132,7 +132,7 @@ pub enum FieldList {
 
 /// A statement.
 #[cycle(statements)]
-#[derive(PartialEq, Eq, Drop)]
+#[derive(Drop)]
 pub enum Stmt {
     Empty,
     Assign {
@@ -160,56 +160,56 @@ pub enum Stmt {
 
 /// A condition with the statements behind THEN.
 #[cycle(statements)]
-#[derive(PartialEq, Eq, Drop)]
+#[derive(Drop)]
 pub struct Branch {
     pub condition: Expr,
     pub body: Vec<Stmt>,
 }
 
 /// A constant.
-#[derive(PartialEq, Eq, Drop)]
+#[derive(Drop)]
 pub struct ConstDecl {
     pub name: Name,
     pub value: Expr,
 }
 
 /// A name for a type.
-#[derive(PartialEq, Eq, Drop)]
+#[derive(Drop)]
 pub struct TypeDecl {
     pub name: Name,
     pub definition: TypeExpr,
 }
 
 /// Variables of one type.
-#[derive(PartialEq, Eq, Drop)]
+#[derive(Drop)]
 pub struct VarDecl {
     pub names: Vec<Name>,
     pub of_type: TypeExpr,
 }
 
 /// CONST with its place, and the constants behind it.
-#[derive(PartialEq, Eq, Drop)]
+#[derive(Drop)]
 pub struct Constants {
     pub place: usize,
     pub declared: Vec<ConstDecl>,
 }
 
 /// TYPE with its place, and the types behind it.
-#[derive(PartialEq, Eq, Drop)]
+#[derive(Drop)]
 pub struct Types {
     pub place: usize,
     pub declared: Vec<TypeDecl>,
 }
 
 /// VAR with its place, and the variables behind it.
-#[derive(PartialEq, Eq, Drop)]
+#[derive(Drop)]
 pub struct Variables {
     pub place: usize,
     pub declared: Vec<VarDecl>,
 }
 
 /// Formal parameters of one mode and type.
-#[derive(PartialEq, Eq, Drop)]
+#[derive(Drop)]
 pub struct Section {
     pub is_var: bool,
     pub names: Vec<Name>,
@@ -218,7 +218,7 @@ pub struct Section {
 
 /// Declarations; a part is `None` where its keyword does not stand.
 #[cycle(declarations)]
-#[derive(PartialEq, Eq, Drop)]
+#[derive(Drop)]
 pub struct Declarations {
     pub constants: Option<Constants>,
     pub types: Option<Types>,
@@ -228,7 +228,7 @@ pub struct Declarations {
 
 /// A procedure; the place of PROCEDURE, and the name behind its END.
 #[cycle(declarations)]
-#[derive(PartialEq, Eq, Drop)]
+#[derive(Drop)]
 pub struct Procedure {
     pub place: usize,
     pub name: Name,
@@ -240,7 +240,7 @@ pub struct Procedure {
 }
 
 /// A module, and the name behind its END.
-#[derive(PartialEq, Eq, Drop)]
+#[derive(Drop)]
 pub struct ModuleTree {
     pub name: Name,
     pub declarations: Declarations,

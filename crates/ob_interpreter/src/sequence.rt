@@ -15,7 +15,7 @@ use std::alloc::{AllocFailed, Global};
 use thiserror::Error;
 
 /// Why calls have no replies.
-#[derive(Clone, Copy, Debug, PartialEq, Eq, Error)]
+#[derive(Clone, Copy, Debug, Error)]
 pub enum SeqFault {
     /// O2: the module's body traps; the number of the trap.
     #[error("O2 trap {0}")]

@@ -14,7 +14,7 @@ use std::alloc::{AllocError, Global};
 use thiserror::Error;
 
 /// Why a module has no opening state.
-#[derive(Clone, Copy, Debug, PartialEq, Eq, Error)]
+#[derive(Clone, Copy, Debug, Error)]
 pub enum OpenFault {
     /// O2: the module's body traps; the number of the trap.
     #[error("O2 trap {0}")]

@@ -3,7 +3,7 @@
 use ob_check::program::Scalar;
 
 /// The value of a variable.
-#[derive(Clone, Copy, Debug, PartialEq, Eq)]
+#[derive(Clone, Copy)]
 pub enum Value {
     Single(Scalar),
 }

@@ -35,7 +35,7 @@ use thiserror::Error;
 pub const MOST_PROCESSES: usize = 16;
 
 /// Why a text has no object: the first fault, in the order of the variants.
-#[derive(Clone, Copy, Debug, PartialEq, Eq, Error)]
+#[derive(Clone, Copy, Debug, Error)]
 pub enum CompileFault {
     /// N1: the number of processes is not 1 to 16.
     #[error("N1")]

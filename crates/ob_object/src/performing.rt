@@ -33,7 +33,7 @@ use wf_play::PlayFault;
 use wf_play::laws::too_long_items_are_no_run;
 
 /// Why there is no run: the first fault, in the order of the variants.
-#[derive(Clone, Copy, Debug, PartialEq, Eq, Error)]
+#[derive(Clone, Copy, Debug, Error)]
 pub enum PerformFault {
     #[error("{0}")]
     Compile(CompileFault),

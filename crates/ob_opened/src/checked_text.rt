@@ -18,7 +18,7 @@ use std::alloc::Global;
 use thiserror::Error;
 
 /// Why the compiler has no module of a text: the first fault, in the order of the variants.
-#[derive(Clone, Copy, Debug, PartialEq, Eq, Error)]
+#[derive(Clone, Copy, Debug, Error)]
 pub enum TextFault {
     #[error("{0}")]
     Scan(ScanFault),

@@ -21,7 +21,7 @@ use thiserror::Error;
 pub const TURNS: u64 = ob_sequential::TURNS;
 
 /// Why a text is no module, or has no opening: the first fault, in the order of the variants.
-#[derive(Clone, Copy, Debug, PartialEq, Eq, Error)]
+#[derive(Clone, Copy, Debug, Error)]
 pub enum ModuleFault {
     #[error("{0}")]
     Text(TextFault),

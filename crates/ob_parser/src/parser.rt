@@ -30,7 +30,7 @@ use thiserror::Error;
 
 /// Why tokens are no module. A place is a byte offset from 0: that of the token at fault, or the
 /// text's length where the end is at fault.
-#[derive(Clone, Copy, Debug, PartialEq, Eq, Error)]
+#[derive(Clone, Copy, Debug, Error)]
 pub enum ParseFault {
     /// P1: the first token with which the tokens so far begin no module.
     #[error("P1 at {0}")]

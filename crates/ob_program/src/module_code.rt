@@ -22,7 +22,7 @@ use std::alloc::{AllocError, Global};
 use thiserror::Error;
 
 /// Why a text is no module that has code and opens: the first fault, in the order of the variants.
-#[derive(Clone, Copy, Debug, PartialEq, Eq, Error)]
+#[derive(Clone, Copy, Debug, Error)]
 pub enum ModuleTextFault {
     #[error("{0}")]
     Text(TextFault),

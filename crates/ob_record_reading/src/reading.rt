@@ -32,7 +32,7 @@ pub struct ReadRecord {
 }
 
 /// Why a text is no record. Lines count from 1.
-#[derive(Clone, Copy, Debug, PartialEq, Eq, Error)]
+#[derive(Clone, Copy, Debug, Error)]
 pub enum RecordFault {
     /// F1: the line is missing, or not of its form or place.
     #[error("F1 line {0}")]

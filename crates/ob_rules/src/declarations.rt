@@ -30,7 +30,7 @@ use ob_typing::scalar::Scalar;
 use std::alloc::Global;
 
 /// The room for the variables of a scope: how many names stand there, the words that they take, and the most words.
-#[derive(Clone, Copy, Debug, PartialEq, Eq)]
+#[derive(Clone, Copy)]
 pub struct Room {
     pub names: usize,
     pub taken: usize,

@@ -26,7 +26,7 @@ use ob_typing::scalar::ScalarType;
 use std::alloc::Global;
 
 /// A variable that a name stands for, with its type.
-#[derive(Clone, Copy, Debug, PartialEq, Eq)]
+#[derive(Clone, Copy)]
 pub struct KnownVariable {
     pub owner: Owner,
     pub position: usize,

@@ -4,7 +4,7 @@ use std::alloc::{AllocError, AllocFailed};
 use thiserror::Error;
 
 /// Why a text has no tokens. A place is a byte offset from 0: that of the first byte at fault.
-#[derive(Clone, Copy, Debug, PartialEq, Eq, Error)]
+#[derive(Clone, Copy, Debug, Error)]
 pub enum ScanFault {
     /// S1: a byte that begins no token.
     #[error("S1 at {0}")]

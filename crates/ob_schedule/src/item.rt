@@ -9,7 +9,7 @@ use ob_text::numbers::{read_digits, read_process, split_digits};
 use wf_table::Label;
 
 /// Steps of one process.
-#[derive(Clone, Copy, Debug, PartialEq, Eq)]
+#[derive(Clone, Copy)]
 pub enum Item {
     /// So many steps.
     Steps { process: usize, count: u64 },

@@ -9,7 +9,7 @@ use std::alloc::{AllocError, AllocFailed, Global};
 use thiserror::Error;
 
 /// Why a text is no schedule. Items count from 1.
-#[derive(Clone, Copy, Debug, PartialEq, Eq, Error)]
+#[derive(Clone, Copy, Debug, Error)]
 pub enum ScheduleFault {
     /// Q1: the word is no item.
     #[error("Q1 item {0}")]

@@ -74,7 +74,7 @@ pub enum Meant<'s> {
 }
 
 /// A value that a name stands for.
-#[derive(Clone, Copy, Debug, PartialEq, Eq)]
+#[derive(Clone, Copy)]
 pub enum Value {
     Constant(Scalar),
     Variable {

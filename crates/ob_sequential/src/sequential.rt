@@ -26,7 +26,7 @@ use thiserror::Error;
 const PROCESSES: usize = 16;
 
 /// Why there is no sequential run: the first fault, in the order of the variants.
-#[derive(Clone, Copy, Debug, PartialEq, Eq, Error)]
+#[derive(Clone, Copy, Debug, Error)]
 pub enum SeqTextFault {
     #[error("{0}")]
     Text(TextFault),

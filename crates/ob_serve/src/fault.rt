@@ -7,7 +7,7 @@ use thiserror::Error;
 
 /// Why workers give no record. All are joined first. Of several faults V3 is told, else want of memory, else the fault of the
 /// lowest process. V2 and the faults of closing come last, where all workers ended well.
-#[derive(Clone, Copy, Debug, PartialEq, Eq, Error)]
+#[derive(Clone, Copy, Debug, Error)]
 pub enum ServeFault {
     /// V3: the process's worker was not started.
     #[error("V3 process {0}")]

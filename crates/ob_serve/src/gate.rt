@@ -10,7 +10,7 @@ pub trait Gate {
 }
 
 /// The gate that always passes.
-#[derive(Clone, Copy, Debug, PartialEq, Eq)]
+#[derive(Clone, Copy)]
 pub struct Open;
 
 impl Gate for Open {

@@ -22,7 +22,7 @@ use thiserror::Error;
 use wf_history::History;
 
 /// Why workers give no record of texts: the first fault, in the order of the variants.
-#[derive(Clone, Copy, Debug, PartialEq, Eq, Error)]
+#[derive(Clone, Copy, Debug, Error)]
 pub enum ServeTextFault {
     #[error("{0}")]
     Compile(CompileFault),

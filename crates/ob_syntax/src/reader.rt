@@ -16,7 +16,7 @@ use std::alloc::Global;
 use thiserror::Error;
 
 /// Why a text is no module.
-#[derive(Clone, Copy, Debug, PartialEq, Eq, Error)]
+#[derive(Clone, Copy, Debug, Error)]
 pub enum ReadFault {
     /// A fault of the scanner.
     #[error("{0}")]

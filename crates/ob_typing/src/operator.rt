@@ -1,7 +1,7 @@
 //! The operators of the checked program.
 
 /// An operator that takes two scalars of one type and gives one of it.
-#[derive(Clone, Copy, Debug, PartialEq, Eq)]
+#[derive(Clone, Copy)]
 pub enum BinaryOperator {
     Plus,
     Minus,
@@ -13,7 +13,7 @@ pub enum BinaryOperator {
 }
 
 /// An operator that compares two scalars.
-#[derive(Clone, Copy, Debug, PartialEq, Eq)]
+#[derive(Clone, Copy)]
 pub enum Relation {
     Equal,
     NotEqual,

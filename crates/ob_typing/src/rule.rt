@@ -1,7 +1,7 @@
 //! The rules that a module can break.
 
 /// A rule; its number stands beside it.
-#[derive(Clone, Copy, Debug, PartialEq, Eq)]
+#[derive(Clone, Copy, Debug)]
 pub enum Rule {
     /// C1: a name or a field that isn't there.
     UnknownName,
@@ -26,7 +26,7 @@ pub enum Rule {
 }
 
 /// A rule that fails at a byte of the text.
-#[derive(Clone, Copy, Debug, PartialEq, Eq)]
+#[derive(Clone, Copy, Debug)]
 pub struct BrokenRule {
     pub rule: Rule,
     pub place: usize,

@@ -20,7 +20,7 @@ use thiserror::Error;
 use wf_history::{OrderFault, check_order};
 
 /// Why a record isn't verified: the first fault, in the order of the variants.
-#[derive(Clone, Copy, Debug, PartialEq, Eq, Error)]
+#[derive(Clone, Copy, Debug, Error)]
 pub enum VerifyFault {
     /// The module's text is none, or doesn't open.
     #[error("{0}")]

@@ -9,7 +9,7 @@ use std::alloc::AllocError;
 use std::io;
 
 /// What the host refuses.
-#[derive(Clone, Copy, Debug, PartialEq, Eq)]
+#[derive(Clone, Copy)]
 pub enum Refusal {
     /// A word is not UTF-8.
     Words,

@@ -28,7 +28,7 @@ use std::collections::HashSet;
 use thiserror::Error;
 
 /// Why a list of calls is no legal order of a history.
-#[derive(Clone, Copy, Debug, PartialEq, Eq, Error)]
+#[derive(Clone, Copy, Debug, Error)]
 pub enum OrderFault {
     /// H1: the first call, by its End, that has ended and that the list lacks.
     #[error("H1 {0}")]

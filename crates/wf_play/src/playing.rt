@@ -22,7 +22,7 @@ use wf_object::{Engine, Machine, NewFault};
 const MOST_STEPS: u64 = 1_000_000;
 
 /// Why there is no run. Items count from 1.
-#[derive(Clone, Copy, Debug, PartialEq, Eq, Error)]
+#[derive(Clone, Copy, Debug, Error)]
 pub enum PlayFault {
     /// N1: the number of processes is not 1 to 16.
     #[error("N1")]

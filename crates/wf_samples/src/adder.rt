@@ -7,7 +7,7 @@ use smallvec::SmallVec;
 use std::alloc::Global;
 use wf_object::{Engine, EngineTurn};
 
-#[derive(Clone, Copy, Debug)]
+#[derive(Clone, Copy)]
 pub struct AdderRun {
     pub argument: i64,
     pub sum: i64,

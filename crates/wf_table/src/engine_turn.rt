@@ -1,7 +1,7 @@
 //! What one step of a body answers.
 
 /// What one step of a body answers.
-#[derive(Clone, Copy, Debug, PartialEq, Eq)]
+#[derive(Clone, Copy)]
 pub enum EngineTurn {
     /// The body goes on.
     On,

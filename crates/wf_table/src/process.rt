@@ -1,7 +1,7 @@
 //! Where a process stands, its registers, and the numbers of an object.
 
 /// Where a process stands: the row of the table that its next step takes.
-#[derive(Clone, Copy, Debug, PartialEq, Eq)]
+#[derive(Clone, Copy, PartialEq, Eq)]
 pub enum Label {
     /// Takes the next call of the script; halted where there is none.
     Next,
@@ -47,7 +47,7 @@ pub enum Label {
     Give,
 }
 
-#[derive(Clone, Copy, Debug)]
+#[derive(Clone, Copy)]
 pub struct Registers {
     /// The number of the block that is read.
     pub r: usize,
@@ -64,7 +64,7 @@ pub struct Registers {
 }
 
 /// The numbers of an object.
-#[derive(Clone, Copy, Debug)]
+#[derive(Clone, Copy)]
 pub struct Sizes {
     pub processes: usize,
     /// Words of the object's variables.

@@ -11,7 +11,7 @@ use crate::store::left::scalar_of;
 use ob_check::program::{Arithmetic, Expression, Scalar};
 
 /// The number of a trap.
-#[derive(Clone, Copy, Debug, PartialEq, Eq)]
+#[derive(Clone, Copy)]
 pub struct Trap(pub u8);
 
 /// The trap of an INTEGER result out of range.

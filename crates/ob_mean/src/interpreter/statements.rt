@@ -11,7 +11,7 @@ use crate::value::Value;
 use ob_check::program::Statement;
 
 /// Why a run isn't done.
-#[derive(Clone, Copy, Debug, PartialEq, Eq)]
+#[derive(Clone, Copy)]
 pub enum Stop {
     /// The number of a trap.
     Trap(u8),
