@@ -1,6 +1,6 @@
 //! Load-linked and store-conditional over a root, with n + 1 blocks of words and n announcements.
 
-ghost use Rattle.std.specs.Prelude.{◌≡◌, ℕ, ◌+◌, ◌<◌, ◌≤◌, ◌↔◌, IfOk, length, take, slice_index_or, replicate, false, ◌⊎◌, map, pos, slice_set, []};
+ghost use Rattle.std.specs.Prelude.{◌≡◌, ◌+◌, ◌<◌, ◌≤◌, ◌↔◌, IfOk, length, take, slice_index_or, replicate, false, ◌⊎◌, map, pos, slice_set, []};
 ghost use Rattle.std.specs.List.{range_with_len};
 ghost use Rattle.std.specs.Borrow.{sem};
 

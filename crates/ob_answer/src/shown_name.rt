@@ -1,7 +1,7 @@
 //! Names of files as they are shown.
 
 ghost use Rattle.std.specs.Prelude.{◌≡◌, ◌<◌, ◌++◌, true, [], ◌∷◌, OnOk, string_bytes};
-ghost use Rattle.std.specs.Char.{digit_char, encode_utf8};
+ghost use Rattle.std.specs.Char.{digit_char};
 ghost use Rattle.ob_answer.specs.ShownNames.{is_written_out, shown, shown_character, written_out};
 
 use std::alloc::AllocError;

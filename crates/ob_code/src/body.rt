@@ -1,6 +1,6 @@
 //! The body of one call: the stack machine at work on a block of words.
 
-ghost use Rattle.std.specs.Prelude.{◌≡◌, ◌<◌, ◌≤◌, ◌+◌, IfOk, length, slice_get, slice_index_or, true, pos, List, ℤ};
+ghost use Rattle.std.specs.Prelude.{◌≡◌, ◌<◌, ◌+◌, IfOk, slice_get, slice_index_or, true, pos, List, ℤ};
 ghost use Rattle.ob_code.specs.Machine as Machine;
 ghost use Rattle.ob_code.specs.Body.{empty, entered, shown, at, step_of};
 

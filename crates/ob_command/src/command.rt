@@ -1,9 +1,9 @@
 //! The command line.
 
-ghost use Rattle.std.specs.Prelude.{◌≡◌, false, true, IfOk, is_some, map, option_map};
+ghost use Rattle.std.specs.Prelude.{◌≡◌, false, true, IfOk, IsOkAnd, map, option_map};
 ghost use Rattle.clap.specs.Words.{app_of, found_of, kind_of, rows_of, rule_of};
 ghost use Rattle.clap.specs.declared.builder.command.Command.TheViews.{out-Command as fields_of};
-ghost use Rattle.ob_command.specs.ClapCommand.{explain_app, module_app, name_rule, number_rule, obl0_app, record_app, run_app, script_app, serve_app, top_app};
+ghost use Rattle.ob_command.specs.ClapCommand.{explain_app, module_app, name_rule, number_rule, obl0_app, record_app, run_app, script_app, serve_app, top_app, with_command};
 ghost use Rattle.ob_command.specs.CommandLine.{clap_request, command_of, is_alone, request, run_of, serve_of};
 ghost use Rattle.ob_command.specs.Commands.{IsReading, IsStopOf, request_of, run_request_of};
 ghost use Rattle.ob_command.specs.declared.command.Stop.TheVariants.{NoMemory};
@@ -96,9 +96,15 @@ const ABOUT_EXPLAIN: &str = "Shows what is wrong with a module, or with a module
 
 const HELP_SCRIPT: &str = "The file of the calls, one a line: PROCESS PROCEDURE ARGUMENTS";
 
+const HELP_SCHEDULE: &str =
+    "The file of the items that say which process steps: PROCESS*STEPS, PROCESS:LABEL or PROCESS!";
+
+const HELP_RECORD: &str = "The file of the record, as `run` prints it";
+
 /// What stands below the help.
 const AFTER_HELP: &str = "\
 `help` and `--version` are understood alone.
+check, seq and explain take the whole language; the others take a part of it, and tell G3 of what is beyond.
 docs/FAULTS.md lists the faults, such as S3 or O2.";
 
 /// Words that ask for help.
@@ -211,23 +217,29 @@ fn stop_of(alloc: Global, error: &clap::Error) -> Result<Stop, AllocError>
 fn command_line<'a>(alloc: Global) -> Result<clap::Command<'a>, AllocError>
     ensures { IfOk result (λ c. app_of c ≡ obl0_app) }
 {
-    // Each command is added before the next one is made, so that want of memory finds no more than two to let go.
-    let check = module_line(alloc, "check", "Tells whether a module keeps the rules")?;
-    let program = program_line(alloc)?.subcommand(check)?;
-    let list = module_line(alloc, "list", "Prints the code of a module")?;
-    let program = program.subcommand(list)?;
-    let seq = script_line(alloc, "seq", ABOUT_SEQ)?;
-    let program = program.subcommand(seq)?;
-    let run = run_line(alloc, "run", ABOUT_RUN)?;
-    let program = program.subcommand(run)?;
-    let serve = serve_line(alloc, "serve", ABOUT_SERVE)?;
-    let program = program.subcommand(serve)?;
-    let draw = run_line(alloc, "draw", ABOUT_DRAW)?;
-    let program = program.subcommand(draw)?;
-    let verify = record_line(alloc, "verify", ABOUT_VERIFY)?;
-    let program = program.subcommand(verify)?;
-    let explain = explain_line(alloc, "explain", ABOUT_EXPLAIN)?;
-    program.subcommand(explain)
+    // Nothing is held while a command is made, so that want of memory finds nothing to let go.
+    let program = program_line(alloc)?;
+    let check = module_line(alloc, "check", "Tells whether a module keeps the rules");
+    let program = with_command(program, check)?;
+    let list = module_line(alloc, "list", "Prints the code of a module");
+    let program = with_command(program, list)?;
+    let program = with_command(program, script_line(alloc, "seq", ABOUT_SEQ))?;
+    let program = with_command(program, run_line(alloc, "run", ABOUT_RUN))?;
+    let program = with_command(program, serve_line(alloc, "serve", ABOUT_SERVE))?;
+    let program = with_command(program, run_line(alloc, "draw", ABOUT_DRAW))?;
+    let program = with_command(program, record_line(alloc, "verify", ABOUT_VERIFY))?;
+    with_command(program, explain_line(alloc, "explain", ABOUT_EXPLAIN))
+}
+
+/// The command line with one command more, where that could be made.
+fn with_command<'a>(
+    program: clap::Command<'a>,
+    command: Result<clap::Command<'a>, AllocError>,
+) -> Result<clap::Command<'a>, AllocError>
+    requires local { IfOk command (λ c. (fields_of c).has_globals ≡ false) }
+    ensures { IfOk result (λ c. IsOkAnd command.entry (λ added. app_of c ≡ with_command (app_of program.entry) (app_of added))) }
+{
+    program.subcommand(command?)
 }
 
 /// The command line before any command.
@@ -254,13 +266,8 @@ fn run_line<'a>(
     ensures app { IfOk result (λ c. app_of c ≡ run_app command.entry.now) }
     ensures local { IfOk result (λ c. (fields_of c).has_globals ≡ false) }
 {
-    let schedule = file_name(
-        alloc,
-        "SCHEDULE",
-        "The file of the items that say which process steps: PROCESS*STEPS, PROCESS:LABEL or PROCESS!",
-    );
     script_line(alloc, command, about)?
-        .arg(schedule)?
+        .arg(file_name(alloc, "SCHEDULE", HELP_SCHEDULE))?
         .arg(process_count(alloc))
 }
 
@@ -285,8 +292,7 @@ fn script_line<'a>(
     ensures app { IfOk result (λ c. app_of c ≡ script_app command.entry.now) }
     ensures local { IfOk result (λ c. (fields_of c).has_globals ≡ false) }
 {
-    let script = file_name(alloc, "SCRIPT", HELP_SCRIPT);
-    module_line(alloc, command, about)?.arg(script)
+    module_line(alloc, command, about)?.arg(file_name(alloc, "SCRIPT", HELP_SCRIPT))
 }
 
 /// The words behind a command on a module, and on a script where one is named.
@@ -298,8 +304,7 @@ fn explain_line<'a>(
     ensures app { IfOk result (λ c. app_of c ≡ explain_app command.entry.now) }
     ensures local { IfOk result (λ c. (fields_of c).has_globals ≡ false) }
 {
-    let script = Arg::new(alloc, "SCRIPT").help(HELP_SCRIPT);
-    module_line(alloc, command, about)?.arg(script)
+    module_line(alloc, command, about)?.arg(Arg::new(alloc, "SCRIPT").help(HELP_SCRIPT))
 }
 
 /// The words behind a command on a module and the record of a run.
@@ -311,12 +316,7 @@ fn record_line<'a>(
     ensures app { IfOk result (λ c. app_of c ≡ record_app command.entry.now) }
     ensures local { IfOk result (λ c. (fields_of c).has_globals ≡ false) }
 {
-    let record = file_name(
-        alloc,
-        "RECORD",
-        "The file of the record, as `run` prints it",
-    );
-    module_line(alloc, command, about)?.arg(record)
+    module_line(alloc, command, about)?.arg(file_name(alloc, "RECORD", HELP_RECORD))
 }
 
 /// The words behind a command on a module: the module's name.

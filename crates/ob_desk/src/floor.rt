@@ -1,6 +1,6 @@
 //! The machine that a desk keeps under its lock.
 
-ghost use Rattle.std.specs.Prelude.{◌≡◌, ◌-◌, ◌^◌, ◌<◌, ◌≤◌, All, IfOk, OnOk, OnErr, length, map, replicate};
+ghost use Rattle.std.specs.Prelude.{◌≡◌, ◌-◌, ◌^◌, ◌<◌, ◌≤◌, All, IfOk, OnOk, OnErr, length, map};
 ghost use Rattle.ob_mean.specs.View.{call_of};
 ghost use Rattle.ob_text.specs.ScriptView.{object_call, script_call_of};
 ghost use Rattle.wf_play.specs.Played.{IsSameObject, scripts_of};

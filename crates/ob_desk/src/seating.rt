@@ -1,6 +1,6 @@
 //! Whether seats are those of a desk.
 
-ghost use Rattle.std.specs.Prelude.{◌≡◌, ◌≢◌, ℕ, ◌<◌, All, IfNone, IfSome, IsFalse, IsTrue, MatchOption, Some, min};
+ghost use Rattle.std.specs.Prelude.{◌≡◌, ℕ, ◌<◌, All, IfNone, IfSome, IsFalse, IsTrue, MatchOption, Some, min};
 ghost use Rattle.ob_desk.specs.Close.{IsLowestStranger, IsLowestUneven, IsOwn, seats_at};
 ghost use Rattle.ob_desk.specs.Desk.{desk_in};
 

@@ -1,6 +1,6 @@
 //! A line of a text as it is shown, with a mark below one of its columns.
 
-ghost use Rattle.std.specs.Prelude.{◌≡◌, ◌++◌, OnOk, map, string_bytes, codes, take, length, ◌≤◌};
+ghost use Rattle.std.specs.Prelude.{◌≡◌, ◌++◌, OnOk, map, string_bytes, length};
 ghost use Rattle.ob_explain.specs.Shown.{blank_below, named, shown_byte, word_at};
 
 use std::alloc::AllocError;

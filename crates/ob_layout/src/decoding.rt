@@ -1,6 +1,6 @@
 //! States from words.
 
-ghost use Rattle.std.specs.Prelude.{◌≡◌, MatchOption, IfOk, Some, option_map, map};
+ghost use Rattle.std.specs.Prelude.{◌≡◌, IfOk, Some, option_map, map};
 ghost use Rattle.ob_check.specs.View.{variable_of};
 ghost use Rattle.ob_mean.specs.View.{state_of, value_of};
 ghost use Rattle.ob_layout.specs.Decoding as Decoding;

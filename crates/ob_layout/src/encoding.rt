@@ -1,7 +1,7 @@
 //! The words of a state.
 
-ghost use Rattle.std.specs.Prelude.{◌≡◌, ◌∷◌, [], IfOk};
-ghost use Rattle.ob_mean.specs.View.{state_of, value_of};
+ghost use Rattle.std.specs.Prelude.{◌≡◌, IfOk};
+ghost use Rattle.ob_mean.specs.View.{state_of};
 ghost use Rattle.ob_layout.specs.Encoding as Encoding;
 
 use ob_check::program::Scalar;

@@ -1,6 +1,6 @@
 //! The words of variables and of frames.
 
-ghost use Rattle.std.specs.Prelude.{◌≡◌, ◌≤◌, ◌<◌, ◌^◌, map, All, IfOk};
+ghost use Rattle.std.specs.Prelude.{◌≡◌, ◌<◌, ◌^◌, map, All, IfOk};
 ghost use Rattle.ob_check.specs.View.{variable_of, parameter_of, procedure_of};
 ghost use Rattle.ob_check.specs.Scopes as Declared;
 ghost use Rattle.ob_layout.specs.Scopes as Scopes;

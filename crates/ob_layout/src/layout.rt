@@ -6,7 +6,7 @@ ghost use Rattle.ob_check.specs.Scopes as Declared;
 ghost use Rattle.ob_check.specs.View.{variable_of};
 ghost use Rattle.ob_mean.specs.Object as Objects;
 ghost use Rattle.ob_mean.specs.View.{state_of};
-ghost use Rattle.ob_layout.specs.Encoding.{IsEncoding, IsStateOf, encoded};
+ghost use Rattle.ob_layout.specs.Encoding.{IsEncoding};
 ghost use Rattle.ob_layout.specs.Layout as Layouts;
 ghost use Rattle.ob_layout.specs.Temporaries as Temporaries;
 

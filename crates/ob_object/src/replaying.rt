@@ -1,7 +1,6 @@
 //! A run, and which process showed each of its events.
 
 ghost use Rattle.std.specs.Prelude.{◌≡◌, ◌<◌, ◌≤◌, All, IfErr, IfOk, map};
-ghost use Rattle.ob_check.specs.CheckedModule.{program_in};
 ghost use Rattle.ob_engine.specs.Compiled.{IsFitting};
 ghost use Rattle.ob_engine.specs.Parts.{parts_in};
 ghost use Rattle.ob_layout.specs.Encoding.{encoded};

@@ -2,7 +2,6 @@
 
 ghost use Rattle.std.specs.Prelude.{◌≡◌, Err, ◌<◌, IfOk, IfErr, map, length, string_bytes};
 ghost use Rattle.ob_check.specs.CheckedModule.{program_in};
-ghost use Rattle.ob_check.specs.Program.{Program};
 ghost use Rattle.ob_check.specs.View.{procedure_of};
 ghost use Rattle.ob_program.specs.ModuleCode.{Compiles, HasNoCode, IsListing, IsModuleTextFault, IsNumberedModule, TellsModuleMemoryApart};
 ghost use Rattle.ob_scheme.specs.Scheme.{code_of};

@@ -1,6 +1,6 @@
 //! The calls of each process, as the events so far show them.
 
-ghost use Rattle.std.specs.Prelude.{◌≡◌, ◌↔◌, ◌<◌, ◌+◌, [], ◌∷◌, ◌++◌, length, OnOk, OnErr, IfOk, IsTrue, MatchOption};
+ghost use Rattle.std.specs.Prelude.{◌≡◌, ◌↔◌, ◌<◌, ◌+◌, [], ◌∷◌, ◌++◌, length, OnOk, IfOk, IsTrue, MatchOption};
 ghost use Rattle.ob_mean.specs.Object as Object;
 ghost use Rattle.ob_mean.specs.View.{call_of, reply_of};
 ghost use Rattle.ob_record_reading.specs.Seats.{EndsCall};

@@ -1,6 +1,6 @@
 //! The names of calls, as words.
 
-ghost use Rattle.std.specs.Prelude.{◌≡◌, List, map, IfOk, MatchOption};
+ghost use Rattle.std.specs.Prelude.{List, map, IfOk, MatchOption};
 ghost use Rattle.ob_record_reading.specs.RecordLines.{AreIds, IsId};
 ghost use Rattle.wf_history.specs.declared.event.CallId.{CallId};
 

@@ -1,6 +1,6 @@
 //! Records read back.
 
-ghost use Rattle.std.specs.Prelude.{◌≡◌, ◌↔◌, ℕ, [], ◌∷◌, List, All, IfOk, IfErr, IsTrue, MatchOption, IfSome, ◌<◌, codes, length, map};
+ghost use Rattle.std.specs.Prelude.{◌≡◌, ◌↔◌, ℕ, [], ◌∷◌, All, IfOk, IfErr, IsTrue, MatchOption, IfSome, ◌<◌, codes, length, map};
 ghost use Rattle.std.specs.Io.BufRead.{strip_last};
 ghost use Rattle.ob_check.specs.CheckedModule.{program_in};
 ghost use Rattle.ob_check.specs.Exports.{export_of, signatures};

@@ -5,7 +5,7 @@ ghost use Rattle.ob_grammar.specs.Tree as trees;
 ghost use Rattle.ob_grammar.specs.View.{name_of, type_of, section_of};
 ghost use Rattle.ob_typing.specs.Scopes.{is_declared, is_simple};
 ghost use Rattle.ob_typing.specs.TypeFaults.{type_place};
-ghost use Rattle.ob_typing.specs.Declarations.{parameter_broken, most_parameters, with_parameters, parameters_of, is_name};
+ghost use Rattle.ob_typing.specs.Declarations.{parameter_broken, most_parameters, with_parameters, parameters_of};
 ghost use Rattle.ob_typing.proofs.Verdict.{Right, unless_broken};
 ghost use Rattle.ob_typing.proofs.CheckedModules as Verdicts;
 ghost use Rattle.ob_checked.specs.Types.{type_in, is_below, Extends};

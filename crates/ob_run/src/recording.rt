@@ -1,7 +1,7 @@
 //! Runs and their records.
 
 ghost use Rattle.std.specs.Prelude.{◌≡◌, ◌<◌, All, IfOk, IfErr, map};
-ghost use Rattle.ob_layout.specs.Encoding.{IsStateOf, encoded};
+ghost use Rattle.ob_layout.specs.Encoding.{encoded};
 ghost use Rattle.ob_mean.specs.View.{state_of};
 ghost use Rattle.ob_record.specs.Record.{record_of};
 ghost use Rattle.ob_run.specs.Computes.{IsComputed};

@@ -1,6 +1,6 @@
 //! The fields of a record and the elements of an array.
 
-ghost use Rattle.std.specs.Prelude.{◌≡◌, ℕ, List, option_map};
+ghost use Rattle.std.specs.Prelude.{◌≡◌, List, option_map};
 ghost use Rattle.ob_typing.specs.Program as Programs;
 ghost use Rattle.ob_typing.specs.Scopes as Declared;
 ghost use Rattle.ob_checked.specs.Types.{type_by, type_in, types_of, fields_by};

@@ -1,7 +1,7 @@
 //! The names that are declared so far, and the types that they speak of.
 
 ghost use Rattle.std.specs.Prelude.{◌≡◌, ◌&&◌, true, ℕ, length, option_map, List, [], OnOk, IfOk, IfErr, IfSome};
-ghost use Rattle.ob_typing.specs.Scopes.{found, Environment, with_name, outermost};
+ghost use Rattle.ob_typing.specs.Scopes.{found, with_name, outermost};
 ghost use Rattle.ob_checked.specs.Types.{Entry};
 ghost use Rattle.ob_checked.specs.View.{table_of};
 ghost use Rattle.ob_scopes.specs.Objects.{object_of, scope_of, env_behind, known_object, known_names, known_scopes};

@@ -1,14 +1,12 @@
 //! Procedures in the order of their headings, and the declarations in which they stand.
 
-ghost use Rattle.std.specs.Prelude.{◌≡◌, ◌+◌, ℕ, true, length, map, ◌∷◌, None, option_map, OnOk, IfOk, IfErr};
+ghost use Rattle.std.specs.Prelude.{◌≡◌, ◌+◌, true, length, map, OnOk, IfOk, IfErr};
 ghost use Rattle.ob_grammar.specs.Tree as trees;
-ghost use Rattle.ob_grammar.specs.View.{declarations_of, procedures_in, procedure_before, heading_of, inner_of, body_of};
-ghost use Rattle.ob_typing.specs.Declarations.{with_procedure, exports_behind};
-ghost use Rattle.ob_typing.proofs.Verdict.{Right, unless};
+ghost use Rattle.ob_grammar.specs.View.{declarations_of, procedures_in, procedure_before, inner_of, body_of};
+ghost use Rattle.ob_typing.proofs.Verdict.{Right};
 ghost use Rattle.ob_typing.proofs.CheckedModules as Verdicts;
 ghost use Rattle.ob_checked.specs.Types.{Extends};
-ghost use Rattle.ob_checked.specs.View.{parameter_of, variable_of, procedure_of, statements_in};
-ghost use Rattle.ob_scopes.specs.Objects.{known_parameters};
+ghost use Rattle.ob_checked.specs.View.{variable_of, procedure_of, statements_in};
 ghost use Rattle.ob_scopes.specs.Names.{types_in, env_of};
 ghost use Rattle.ob_rules.specs.Checking.{Fails, and_then};
 ghost use Rattle.ob_rules.specs.CheckingVariables.{room_of, known_variables};

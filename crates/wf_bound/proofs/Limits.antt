@@ -11,7 +11,8 @@ use Rattle.wf_table.specs.Table.{Process}
 use Rattle.wf_table.specs.Object.{State}
 use Rattle.wf_table.specs.Runs.{Act}
 use Rattle.wf_table.specs.Each.{Each}
-use Rattle.wf_bound.specs.Spent.{has_more, at_body, body_steps_after}
+use Rattle.wf_bound.specs.Spent.{has_more, body_steps_after}
+use Rattle.wf_table.specs.Labels.{at_body}
 use Rattle.wf_bound.specs.Counted.{Counts, Counted, EachCounts, uncounted, counts_after, counts_of, counted_from, counted_act, counted_run}
 use Rattle.wf_bound.specs.Bound.{IsWithinBound, AllWithinBound}
 use Rattle.wf_bound.specs.Limit.{SumsBodies, AllSumBodies, IsBelow, StaysBelow, IsWithinLimit, AllWithinLimit}

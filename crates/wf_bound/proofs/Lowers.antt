@@ -10,9 +10,9 @@ use Rattle.wf_table.specs.declared.engine_turn.EngineTurn.TheVariants.{On, Retur
 use Rattle.wf_table.specs.Meaning.{Meaning}
 use Rattle.wf_table.specs.Table.{Process, call_at, row, to, after_body, body_turn}
 use Rattle.wf_table.specs.Ranges.{IsSized, IsInRange}
-use Rattle.wf_table.specs.Labels.{at_next}
+use Rattle.wf_table.specs.Labels.{at_next, at_body}
 use Rattle.wf_bound.specs.declared.spent.Spent.{Spent}
-use Rattle.wf_bound.specs.Spent.{spent_after, has_more, at_body}
+use Rattle.wf_bound.specs.Spent.{spent_after, has_more}
 use Rattle.wf_bound.specs.Left.{left_to}
 use Rattle.wf_bound.specs.Bound.{sharp}
 use Rattle.wf_bound.proofs.Sums.{serve_is, lap_is, serves_one, laps_one, laps_two, sharp_is}

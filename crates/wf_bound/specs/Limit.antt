@@ -6,7 +6,7 @@ use Rattle.wf_table.specs.Table.{Process}
 use Rattle.wf_table.specs.Runs.{Act}
 use Rattle.wf_table.specs.Each.{Each}
 use Rattle.wf_bound.specs.declared.spent.Spent.{Spent}
-use Rattle.wf_bound.specs.Spent.{at_body}
+use Rattle.wf_table.specs.Labels.{at_body}
 use Rattle.wf_bound.specs.Counted.{Counted, counts_of, counted_act}
 use Rattle.wf_bound.specs.Bound.{bound}
 

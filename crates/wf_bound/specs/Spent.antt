@@ -2,6 +2,7 @@
 use Rattle.std.specs.Prelude.{ℕ, ◌+◌, Bool, true, false, List, [], ◌∷◌, length, if◌then◌else◌, nat_lt}
 use Rattle.wf_table.specs.declared.process.Label.{Label}
 use Rattle.wf_table.specs.declared.process.Label.TheVariants.{Next, Enter, Body}
+use Rattle.wf_table.specs.Labels.{at_body}
 use Rattle.wf_table.specs.Table.{Process}
 use Rattle.wf_bound.specs.declared.spent.Spent.{Spent}
 
@@ -27,10 +28,6 @@ body_steps_after Next begins steps = if begins then [] else steps
 body_steps_after Enter begins steps = 0 ∷ steps
 body_steps_after Body begins steps = one_more steps
 body_steps_after _ begins steps = steps
-
-abbrev pub at_body : Label → Bool
-at_body Body = true
-at_body _ = false
 
 -- calls of the script have not begun
 abbrev pub has_more : {Run : Type 0} → Process Run → Bool

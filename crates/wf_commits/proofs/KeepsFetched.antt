@@ -20,7 +20,8 @@ use Rattle.wf_table.proofs.Frame.{each_after}
 use Rattle.wf_table.proofs.KeepsLinks.{cleared}
 use Rattle.wf_commits.specs.Helping.{IsPending, Settled, Serving, IsHelping}
 use Rattle.wf_commits.specs.Commits.{phase, lost_rounds, standing, own_toggles, AllHelp, IsFounded, IsHelpful}
-use Rattle.wf_commits.specs.Fetched.{fetching, Fetches, AllFetch}
+use Rattle.wf_commits.specs.Fetched.{Fetches, AllFetch}
+use Rattle.wf_table.specs.Labels.{fetching}
 use Rattle.wf_commits.proofs.Seen.{served_pending}
 use Rattle.wf_commits.proofs.Rows.{on}
 use Rattle.wf_commits.proofs.KeepsHelp.{serving_within}

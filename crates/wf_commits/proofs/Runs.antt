@@ -16,7 +16,7 @@ use Rattle.wf_table.specs.Object.{State, step_by, submit_by}
 use Rattle.wf_table.specs.Runs.{Act, Steps, Submits, ActsFit, act_of, run, IsRun}
 use Rattle.wf_table.specs.Each.{Each}
 use Rattle.wf_table.specs.Toggles.{flips}
-use Rattle.wf_table.specs.Labels.{unannounced}
+use Rattle.wf_table.specs.Labels.{unannounced, fetching}
 use Rattle.wf_table.specs.Sound.{IsSound}
 use Rattle.wf_table.specs.Start.{IsIdle, sizes_of, cell_at_start, records_at_start}
 use Rattle.wf_table.proofs.Runs.{run_sound}
@@ -32,7 +32,7 @@ use Rattle.wf_commits.proofs.Rows.{rests}
 use Rattle.wf_commits.proofs.KeepsHelp.{keeps_help, same_counts}
 use Rattle.wf_commits.proofs.KeepsOrder.{keeps_order}
 use Rattle.wf_commits.proofs.KeepsTime.{keeps_time}
-use Rattle.wf_commits.specs.Fetched.{fetching, AllFetch}
+use Rattle.wf_commits.specs.Fetched.{AllFetch}
 use Rattle.wf_commits.proofs.KeepsFetched.{out, keeps_fetched}
 
 -- what the second commit stands on, of every sound object

@@ -12,13 +12,13 @@ use Rattle.wf_table.specs.Meaning.{Meaning}
 use Rattle.wf_table.specs.Law.{Effects, IsLawful}
 use Rattle.wf_table.specs.Table.{Process, open_call, announced_toggle}
 use Rattle.wf_table.specs.Object.{State}
-use Rattle.wf_table.specs.Labels.{at_next}
+use Rattle.wf_table.specs.Labels.{at_next, fetching}
 use Rattle.wf_table.specs.Ranges.{index_in}
 use Rattle.wf_table.specs.Announcements.{words_laid}
 use Rattle.wf_table.specs.Sound.{IsSound}
 use Rattle.wf_commits.specs.Helping.{IsPending, Settled, Serving, IsHelping}
 use Rattle.wf_commits.specs.Commits.{phase, lost_rounds, flips_at, standing, own_toggles, IsCommitted}
-use Rattle.wf_commits.specs.Fetched.{fetching, ServesCall}
+use Rattle.wf_commits.specs.Fetched.{ServesCall}
 use Rattle.wf_commits.proofs.Seen.{served_pending}
 use Rattle.wf_commits.proofs.Steps.{flips_is}
 use Rattle.wf_commits.proofs.Numbers.{order_below}

@@ -3,13 +3,9 @@ use Rattle.std.specs.Prelude.{◌≡◌, ℕ, ◌<◌, Bool, true, false, ℤ, L
 use Rattle.ll_cell.specs.Cell.{Cell, is_linked, announcement_of, word_at}
 use Rattle.wf_table.specs.declared.process.Label.{Label}
 use Rattle.wf_table.specs.declared.process.Label.TheVariants.{Fetch, Check2}
+use Rattle.wf_table.specs.Labels.{fetching}
 use Rattle.wf_table.specs.Table.{Process}
 use Rattle.wf_table.specs.Object.{State}
-
-abbrev pub fetching : Label → Bool
-fetching Fetch = true
-fetching Check2 = true
-fetching _ = false
 
 -- fetched front, of a process that stands at q and is linked or not, with the announcement of the process that it serves
 pub record Fetches {Run : Type 0} (linked : Bool) (said : List ℤ) (q : Process Run) : Type 0 where

@@ -17,7 +17,8 @@ use Rattle.wf_commits.specs.Helping.{looked_at}
 use Rattle.wf_commits.specs.Order.{applied_count}
 use Rattle.wf_commits.specs.Commits.{phase}
 use Rattle.wf_help.specs.Contents.{RootHolds}
-use Rattle.wf_help.specs.Helps.{holding, holds_variables, at_keep, Witness, calls_of, Works, IsPacked}
+use Rattle.wf_help.specs.Helps.{Witness, calls_of, Works, IsPacked}
+use Rattle.wf_table.specs.Labels.{holding, holds_variables, at_keep}
 use Rattle.wf_help.proofs.Orders.{upto_all}
 use Rattle.wf_help.proofs.Ids.{made_below-skip}
 

@@ -10,7 +10,8 @@ use Rattle.wf_table.specs.Meaning.{Meaning}
 use Rattle.wf_table.specs.Table.{Process, toggle_in}
 use Rattle.wf_commits.specs.Helping.{has_copied, looked_at}
 use Rattle.wf_commits.specs.Commits.{phase}
-use Rattle.wf_help.specs.Helps.{holding, calls_of, served, Packs}
+use Rattle.wf_help.specs.Helps.{calls_of, served, Packs}
+use Rattle.wf_table.specs.Labels.{holding}
 use Rattle.wf_help.proofs.Orders.{upto-append, begun_more, made_longer}
 use Rattle.wf_help.proofs.Ids.{made_below-same}
 

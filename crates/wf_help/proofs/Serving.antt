@@ -19,7 +19,8 @@ use Rattle.wf_table.specs.Table.{Process, toggle_in}
 use Rattle.wf_commits.specs.Helping.{looked_at}
 use Rattle.wf_commits.specs.Commits.{phase}
 use Rattle.wf_help.specs.Contents.{reply_word}
-use Rattle.wf_help.specs.Helps.{holding, holds_variables, at_keep, Witness, Works}
+use Rattle.wf_help.specs.Helps.{Witness, Works}
+use Rattle.wf_table.specs.Labels.{holding, holds_variables, at_keep}
 use Rattle.wf_help.proofs.Orders.{upto_all}
 use Rattle.wf_help.proofs.Ids.{made_below-same}
 use Rattle.wf_help.proofs.Looking.{Packed}

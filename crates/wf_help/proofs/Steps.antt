@@ -30,12 +30,13 @@ use Rattle.wf_commits.proofs.KeepsHelp.{Kind, Flips, Exchanges, Neither, kind, s
 use Rattle.wf_commits.proofs.KeepsOrder.{pending_begun}
 use Rattle.wf_commits.proofs.Runs.{founded}
 use Rattle.wf_help.specs.Contents.{RootHolds}
-use Rattle.wf_help.specs.Helps.{holding, made_below, calls_of, Packs, AllFetched, AllPacked, IsHelped}
+use Rattle.wf_help.specs.Helps.{made_below, calls_of, Packs, AllFetched, AllPacked, IsHelped}
+use Rattle.wf_table.specs.Labels.{holding, fetching}
 use Rattle.wf_help.proofs.Orders.{made_longer}
 use Rattle.wf_help.proofs.Ids.{made_below-same}
 use Rattle.wf_help.proofs.Others.{others_packed}
 use Rattle.wf_help.proofs.Acting.{acts}
-use Rattle.wf_help.proofs.Fetched.{no_link, linked_before, announces, fetches, others_fetched, own_fetched}
+use Rattle.wf_help.proofs.Fetched.{no_link, linked_before, announces, others_fetched, own_fetched}
 
 -- the events that a step adds to the history
 abbrev pub new_events : Option (Event ObjectCall Reply) → List (Event ObjectCall Reply)
@@ -59,7 +60,7 @@ looked_within z Keep g index e = omega (arith, index.1)
 looked_within z Commit g index e = omega (arith, index)
 looked_within z l g index e = absurd (false≢true e)
 
-fetches_serves : (l : Label) → fetches l ≡ true → phase l ≡ Serving
+fetches_serves : (l : Label) → fetching l ≡ true → phase l ≡ Serving
 fetches_serves Fetch e = refl
 fetches_serves Check2 e = refl
 fetches_serves l e = absurd (false≢true e)
@@ -124,7 +125,7 @@ module _ {Run : Type 0} (m : Meaning Run) (lawful : List ℤ → Type 0) (fits :
   -- what was fetched
   fetched_by : (l : Label) → q.label ≡ l → Each (AllFetched z (new_cell l)) (set s.processes p (after l))
   fetched_by l is =
-      each_after (λ k o. AllFetched z s.cell k o × (announces l ≡ true → is_linked s.cell k ≡ true → fetches o.label ≡ true → o.registers.j ≢ p)) (AllFetched z (new_cell l)) s.processes p (after l)
+      each_after (λ k o. AllFetched z s.cell k o × (announces l ≡ true → is_linked s.cell k ≡ true → fetching o.label ≡ true → o.registers.j ≢ p)) (AllFetched z (new_cell l)) s.processes p (after l)
       (λ k o e. (h.fetched k o e, λ says linked fetching same. (committed.helpful.helping p q at).settled (ap phase is ∙ announces_settled l says) (subst (IsPending now) same (serves_pending k o e linked (fetches_serves o.label fetching)))))
       (own_fetched m z s.cell p q l is (λ e. (let places = subst (λ (n : Label). index_in z n q.registers) (is ∙ e) (sound.in_range p q at).index in (omega (arith, places.0, (sound.in_range p q at).list), places.0))) (h.fetched p q at))
       (λ k o d both. others_fetched m z s.cell p q l k o d both.1 both.0)

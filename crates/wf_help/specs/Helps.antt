@@ -9,6 +9,7 @@ use Rattle.wf_history.specs.History.{Event}
 use Rattle.wf_history.specs.Legal.{HasBegun}
 use Rattle.wf_table.specs.declared.process.Label.{Label}
 use Rattle.wf_table.specs.declared.process.Label.TheVariants.{Fetch, Check2, Save, Enter, Body, Undo, Keep}
+use Rattle.wf_table.specs.Labels.{holding, holds_variables, at_keep}
 use Rattle.wf_table.specs.declared.process.Sizes.{Sizes}
 use Rattle.wf_table.specs.declared.engine_turn.EngineTurn.TheVariants.{On}
 use Rattle.wf_table.specs.Meaning.{Meaning, body, kept}
@@ -22,27 +23,6 @@ use Rattle.wf_commits.specs.Order.{applied_count}
 use Rattle.wf_commits.specs.Commits.{phase}
 use Rattle.wf_help.specs.Alone.{Alone}
 use Rattle.wf_help.specs.Contents.{last_words, no_words, reply_word, IsMade, RootHolds}
-
--- behind CHECK2, with the words of a call
-abbrev pub holding : Label → Bool
-holding Save = true
-holding Enter = true
-holding Body = true
-holding Undo = true
-holding Keep = true
-holding _ = false
-
--- the own block holds the variables of the calls made in it, but where one more is being made
-abbrev pub holds_variables : Label → Bool
-holds_variables Body = false
-holds_variables Undo = false
-holds_variables Keep = false
-holds_variables _ = true
-
--- the reply of one more call is being written
-abbrev pub at_keep : Label → Bool
-at_keep Keep = true
-at_keep _ = false
 
 -- calls that the first so many events of a history applied
 abbrev pub upto : ℕ → List (Event ObjectCall Reply) → List CallId

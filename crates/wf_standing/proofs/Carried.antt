@@ -7,10 +7,10 @@ use Rattle.wf_table.specs.declared.process.Label.{Label}
 use Rattle.wf_table.specs.declared.process.Label.TheVariants.{Store, Take, Give}
 use Rattle.wf_table.specs.declared.process.Sizes.{Sizes}
 use Rattle.wf_table.specs.Table.{Process, part}
-use Rattle.wf_table.specs.Labels.{copying, at_store}
+use Rattle.wf_table.specs.Labels.{copying, at_store, taking}
 use Rattle.wf_commits.specs.Helping.{Serving, has_copied}
 use Rattle.wf_commits.specs.Commits.{phase}
-use Rattle.wf_standing.specs.Stands.{InPart, taking, words_taken, Carries}
+use Rattle.wf_standing.specs.Stands.{InPart, words_taken, Carries}
 use Rattle.wf_standing.proofs.Places.{place_in}
 
 pub store_copies : (l : Label) → at_store l ≡ true → copying l ≡ true

@@ -16,7 +16,7 @@ use Rattle.wf_table.specs.Table.{Process, own_block, body_turn}
 use Rattle.wf_table.specs.Object.{State, Records, step_by, submit_by}
 use Rattle.wf_table.specs.Runs.{Act, Steps, Submits, ActsFit, act_of, run, IsRun}
 use Rattle.wf_table.specs.Each.{Each}
-use Rattle.wf_table.specs.Labels.{copying}
+use Rattle.wf_table.specs.Labels.{copying, taking}
 use Rattle.wf_table.specs.Sound.{IsSound}
 use Rattle.wf_table.specs.Start.{IsIdle, sizes_of, records_at_start}
 use Rattle.wf_table.proofs.Frame.{each_after}
@@ -25,7 +25,7 @@ use Rattle.wf_commits.specs.Helping.{has_copied}
 use Rattle.wf_commits.specs.Commits.{phase, flips_at, announced_call, IsFounded, IsCommitted}
 use Rattle.wf_commits.proofs.Runs.{founded, act_committed, run_committed}
 use Rattle.wf_commits.proofs.Steps.{flips_other, flips_own, flips_is}
-use Rattle.wf_standing.specs.Stands.{since, Stands, word_in, taking, Carries, AllCarry, IsStanding}
+use Rattle.wf_standing.specs.Stands.{since, Stands, word_in, Carries, AllCarry, IsStanding}
 use Rattle.wf_standing.proofs.Since.{in_order}
 use Rattle.wf_standing.proofs.Carried.{rests, others_carry}
 use Rattle.wf_standing.proofs.Keeps.{keeps_standing}

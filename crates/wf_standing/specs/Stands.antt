@@ -9,7 +9,7 @@ use Rattle.wf_table.specs.declared.process.Sizes.{Sizes}
 use Rattle.wf_table.specs.Table.{Process, part}
 use Rattle.wf_table.specs.Object.{Records}
 use Rattle.wf_table.specs.Marks.{applied_in}
-use Rattle.wf_table.specs.Labels.{copying, at_store}
+use Rattle.wf_table.specs.Labels.{copying, at_store, taking}
 use Rattle.wf_table.specs.Each.{Each}
 use Rattle.wf_commits.specs.Helping.{Serving, has_copied}
 use Rattle.wf_commits.specs.Commits.{phase, announced_call}
@@ -29,12 +29,6 @@ word_in c b i = word_at (block_of c b) i
 -- the place is in the process's part
 abbrev pub InPart : Sizes → ℕ → ℕ → Type 0
 InPart z k i = (part z k ≤ i) × (i < part z k + (z.replies + 2))
-
--- while the reply is taken, and behind
-abbrev pub taking : Label → Bool
-taking Take = true
-taking Give = true
-taking _ = false
 
 -- how many words of the reply are taken
 abbrev pub words_taken : Sizes → Label → ℕ → ℕ

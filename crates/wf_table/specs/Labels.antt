@@ -60,3 +60,40 @@ copying Load = true
 copying Store = true
 copying Check1 = true
 copying _ = false
+
+-- while the words of a call are fetched
+abbrev pub fetching : Label → Bool
+fetching Fetch = true
+fetching Check2 = true
+fetching _ = false
+
+-- behind CHECK2, with the words of a call
+abbrev pub holding : Label → Bool
+holding Save = true
+holding Enter = true
+holding Body = true
+holding Undo = true
+holding Keep = true
+holding _ = false
+
+abbrev pub at_body : Label → Bool
+at_body Body = true
+at_body _ = false
+
+-- the reply of one more call is being written
+abbrev pub at_keep : Label → Bool
+at_keep Keep = true
+at_keep _ = false
+
+-- the own block holds the variables of the calls made in it, but where one more is being made
+abbrev pub holds_variables : Label → Bool
+holds_variables Body = false
+holds_variables Undo = false
+holds_variables Keep = false
+holds_variables _ = true
+
+-- while the reply is taken, and behind
+abbrev pub taking : Label → Bool
+taking Take = true
+taking Give = true
+taking _ = false

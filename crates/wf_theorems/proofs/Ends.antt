@@ -22,7 +22,7 @@ use Rattle.wf_table.specs.Start.{sizes_of}
 use Rattle.wf_table.specs.Toggles.{flips}
 use Rattle.wf_table.specs.Sound.{IsSound}
 use Rattle.wf_table.proofs.Runs.{run_sound}
-use Rattle.wf_bound.specs.Spent.{at_body}
+use Rattle.wf_table.specs.Labels.{at_body}
 use Rattle.wf_bound.specs.Counted.{Counted, EachCounts, uncounted, counts_after, counts_of, counted_from, counted_act}
 use Rattle.wf_bound.specs.Ends.{AllEndWithin, EndsWithin, IsCallOf}
 use Rattle.wf_bound.specs.Limit.{StaysBelow}

@@ -22,7 +22,8 @@ use Rattle.wf_table.specs.Sound.{IsSound}
 use Rattle.wf_table.proofs.Frame.{each_after}
 use Rattle.wf_table.specs.Toggles.{flips}
 use Rattle.wf_commits.proofs.Steps.{same_own}
-use Rattle.wf_bound.specs.Spent.{at_body, has_more, one_more, body_steps_after}
+use Rattle.wf_bound.specs.Spent.{has_more, one_more, body_steps_after}
+use Rattle.wf_table.specs.Labels.{at_body}
 use Rattle.wf_bound.specs.Counted.{Counts, uncounted, counts_after, counts_of, count_by, count_act}
 use Rattle.wf_help.specs.Helps.{Witness, Packs, IsHelped}
 use Rattle.wf_help.proofs.Blocks.{take_refilled}

@@ -7,7 +7,7 @@ ghost use Rattle.wf_history.specs.declared.event.CallId.{CallId};
 ghost use Rattle.wf_table.specs.declared.engine_turn.EngineTurn.TheVariants as Turn;
 ghost use Rattle.wf_table.specs.declared.process.Label.TheVariants as At;
 ghost use Rattle.wf_table.specs.declared.process.Sizes.{Sizes};
-ghost use Rattle.wf_table.specs.Labels.{at_next};
+ghost use Rattle.wf_table.specs.Labels.{at_next, at_body};
 ghost use Rattle.wf_table.specs.Meaning.{body};
 ghost use Rattle.wf_table.specs.Object.{State, script_of};
 ghost use Rattle.wf_table.specs.Ranges.{IsSized, IsInRange};
@@ -20,7 +20,6 @@ ghost use Rattle.wf_bound.specs.Counted.{counted_from, counted_run, counts_of};
 ghost use Rattle.wf_bound.specs.Ends.{AllEndWithin, IsCallOf, IsReachedWithout};
 ghost use Rattle.wf_bound.specs.Left.{left_to};
 ghost use Rattle.wf_bound.specs.Limit.{AllSumBodies, AllWithinLimit, IsWithinLimit, StaysBelow};
-ghost use Rattle.wf_bound.specs.Spent.{at_body};
 
 use crate::runs::every_run;
 use wf_object::engine::Engine;

@@ -17,7 +17,7 @@ ghost use Rattle.wf_table.specs.Start.{sizes_of};
 ghost use Rattle.wf_commits.specs.Helping.{IsNewer};
 ghost use Rattle.wf_commits.specs.Fetched.{ServesCall};
 ghost use Rattle.wf_commits.specs.Commits.{IsCommitted, announced_call, flips_at, own_toggles, standing};
-ghost use Rattle.wf_commits.specs.Order.{applied_count, exchanges_in};
+ghost use Rattle.wf_commits.specs.Order.{exchanges_in};
 
 use wf_object::engine::Engine;
 

@@ -1,8 +1,7 @@
 //! What holds of help and of the root in every run.
 
-ghost use Rattle.std.specs.Prelude.{◌≡◌, ℕ, ◌%◌, ◌<◌, ◌+◌, ℤ, pos, true, List, slice_get, Some, take};
-ghost use Rattle.ll_cell.specs.Cell.{is_linked, block_of, word_at};
-ghost use Rattle.wf_history.specs.Legal.{NoRepeats, OneAtATime, HasBegun};
+ghost use Rattle.std.specs.Prelude.{◌≡◌, ℕ, ◌%◌, ◌<◌, ℤ, pos, true, List, slice_get, Some, take};
+ghost use Rattle.ll_cell.specs.Cell.{is_linked, block_of};
 ghost use Rattle.wf_table.specs.declared.process.Sizes.{Sizes};
 ghost use Rattle.wf_table.specs.declared.process.Label.TheVariants as Place;
 ghost use Rattle.wf_table.specs.Table.{Process, toggle_in};

@@ -1,6 +1,6 @@
 //! The first construct of a text beyond the part of the language that is compiled. Nothing here takes memory.
 
-ghost use Rattle.std.specs.Prelude.{◌≡◌, IsTrue, map, option_map};
+ghost use Rattle.std.specs.Prelude.{◌≡◌, map, option_map};
 ghost use Rattle.std.specs.List.{list_all};
 ghost use Rattle.ob_grammar.specs.View.{expr_of, operands_in, type_of, stmt_of, stmts_in, var_decl_of, section_of, constants_of, types_of, variables_of, procedures_in, declarations_of, heading_of, inner_of, body_of, module_of};
 ghost use Rattle.ob_check.specs.CompiledPart as rules;

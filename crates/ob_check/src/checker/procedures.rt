@@ -1,6 +1,6 @@
 //! The procedures of a module.
 
-ghost use Rattle.std.specs.Prelude.{◌≡◌, ◌≤◌, ℕ, suc, ◌∷◌, ◌++◌, List, map, filter, length, is_some, true, false, IfOk, OnOk, IfErr, vec_len, if◌then◌else◌};
+ghost use Rattle.std.specs.Prelude.{◌≡◌, ◌≤◌, ℕ, suc, ◌∷◌, ◌++◌, List, map, filter, length, is_some, false, IfOk, OnOk, IfErr, vec_len, if◌then◌else◌};
 ghost use Rattle.ob_grammar.specs.Tree as trees;
 ghost use Rattle.ob_grammar.specs.View.{section_of, heading_of, procedure_before, procedures_in};
 ghost use Rattle.ob_check.specs.Scopes.{Environment, IsNew};

@@ -2,7 +2,7 @@
 
 ghost use Rattle.std.specs.Prelude.{◌≡◌, ◌≤◌, ℕ, ◌∷◌, ◌++◌, List, map, is_some, IfOk, OnOk, IfErr};
 ghost use Rattle.ob_grammar.specs.Tree as trees;
-ghost use Rattle.ob_grammar.specs.View.{name_of, type_of, var_decl_of};
+ghost use Rattle.ob_grammar.specs.View.{name_of, var_decl_of};
 ghost use Rattle.ob_check.specs.Scopes.{Environment, words, variable_words};
 ghost use Rattle.ob_check.specs.Typing.{Denotes, Names, Variables};
 ghost use Rattle.ob_check.specs.Parts.{SomeVariables};

@@ -1,8 +1,8 @@
 //! What a run leaves in its store.
 
-ghost use Rattle.std.specs.Prelude.{◌≡◌, IfOk, map};
+ghost use Rattle.std.specs.Prelude.{◌≡◌, IfOk};
 ghost use Rattle.ob_mean.specs.Object.{results_position, values_of};
-ghost use Rattle.ob_mean.specs.Running.{binding_of, store_of, settled};
+ghost use Rattle.ob_mean.specs.Running.{store_of, settled};
 ghost use Rattle.ob_mean.specs.Store as Stores;
 ghost use Rattle.ob_mean.specs.Value as Values;
 ghost use Rattle.ob_mean.specs.View.{value_of, state_of};

@@ -1,6 +1,6 @@
 //! The printed text of expressions.
 
-ghost use Rattle.std.specs.Prelude.{◌≡◌, ◌∷◌, [], ◌++◌, ℤ, string_bytes, OnOk};
+ghost use Rattle.std.specs.Prelude.{◌≡◌, ◌∷◌, [], ◌++◌, string_bytes, OnOk};
 ghost use Rattle.ob_grammar.specs.View.{expr_of, operands_in, selectors_in};
 ghost use Rattle.ob_syntax.specs.Printing.{spaced, number, fixed, operator_kind, sign_words, expr_words, operand_words, selector_words};
 
