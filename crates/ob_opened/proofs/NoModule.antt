@@ -14,7 +14,7 @@ use Rattle.ob_mean.specs.declared.opening.OpenFault.TheVariants as Open
 use Rattle.ob_mean.specs.Faults.{IsOpenFault}
 use Rattle.ob_mean.specs.Object.{IsOpening, State}
 use Rattle.ob_sequential.specs.CheckedText as WholeTexts
-use Rattle.ob_sequential.specs.ModuleText as Whole
+use Rattle.ob_typing.specs.ModuleText as Whole
 use Rattle.ob_sequential.specs.declared.checked_text.TextFault as Wholes
 use Rattle.ob_sequential.specs.declared.checked_text.TextFault.TheVariants as Faults
 use Rattle.ob_typing.specs.Program as Meant

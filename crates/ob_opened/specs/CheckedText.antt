@@ -5,7 +5,7 @@ use Rattle.ob_scan.specs.declared.fault.ScanFault.TheVariants as Scan
 use Rattle.ob_parser.specs.ParseFaults.{IsParseFaultOf}
 use Rattle.ob_parser.specs.declared.parser.ParseFault.TheVariants as Parse
 use Rattle.ob_scopes.specs.declared.fault.CheckFault.TheVariants as Check
-use Rattle.ob_sequential.specs.ModuleText.{IsCheckFaultOf}
+use Rattle.ob_whole_check.specs.ModuleText.{IsCheckFaultOf}
 use Rattle.ob_sequential.specs.declared.checked_text.TextFault as Wholes
 use Rattle.ob_sequential.specs.declared.checked_text.TextFault.TheVariants as Whole
 use Rattle.ob_check.specs.declared.checker.CheckFault as Parts

@@ -6,7 +6,7 @@ use Rattle.ob_check.specs.ModuleText as Part
 use Rattle.ob_check.specs.Program.{Program}
 use Rattle.ob_check.specs.declared.checker.CheckFault.{CheckFault}
 use Rattle.ob_check.specs.declared.checker.CheckFault.TheVariants as Check
-use Rattle.ob_sequential.specs.ModuleText as Whole
+use Rattle.ob_typing.specs.ModuleText as Whole
 use Rattle.ob_typing.specs.Program as Wholes
 
 -- the text is a module by all rules of the language, and by those of the compiled part it stands for this checked program

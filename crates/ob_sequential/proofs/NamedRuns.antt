@@ -26,7 +26,7 @@ use Rattle.ob_calls.specs.Values.{IsValue, integer, boolean, AreValues, none, mo
 use Rattle.ob_calls.specs.ExportNames.{export_named}
 use Rattle.ob_calls.specs.Script as Scripts
 use Rattle.ob_calls.specs.Script.{ScriptCall, Makes, makes, AreLines}
-use Rattle.ob_sequential.specs.ModuleText.{IsModule}
+use Rattle.ob_typing.specs.ModuleText.{IsModule}
 use Rattle.ob_sequential.specs.ModuleFaults.{OpeningFails}
 use Rattle.ob_sequential.specs.SequentialRun.{NeedsMoreAt}
 use Rattle.ob_sequential.specs.SequentialParts.{FitExports}

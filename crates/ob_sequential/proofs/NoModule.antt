@@ -20,7 +20,7 @@ use Rattle.ob_whole_check.specs.CheckingModules.{IsRefused}
 use Rattle.ob_meaning.specs.Object.{State, IsOpening}
 use Rattle.ob_interpreter.specs.declared.opening.OpenFault.{OpenFault}
 use Rattle.ob_interpreter.specs.declared.opening.OpenFault.TheVariants as Open
-use Rattle.ob_sequential.specs.ModuleText.{IsModule}
+use Rattle.ob_typing.specs.ModuleText.{IsModule}
 use Rattle.ob_sequential.specs.CheckedText.{IsNumberedText, of_check, of_parse}
 use Rattle.ob_sequential.specs.ModuleFaults.{HasNoOpening, IsNumbered, OpeningFails, of_open, of_text}
 use Rattle.ob_sequential.specs.declared.checked_text.TextFault.{TextFault}

@@ -1,6 +1,6 @@
 -- Faults rule out each output.
 use Rattle.std.proofs.Common.{◌≡◌, ◌≢◌, ◌∙◌, ℕ, suc, zero, List, [], ◌∷◌, map, take, true, false, Option, Some, None, option_map, slice_get, refl, sym, ap, ap₂, subst}
-use Rattle.ob_sequential.specs.ModuleText.{IsModule}
+use Rattle.ob_typing.specs.ModuleText.{IsModule}
 use Rattle.ob_typing.specs.Program.{Program}
 use Rattle.ob_interpreter.specs.declared.opening.OpenFault.{OpenFault}
 use Rattle.ob_interpreter.specs.declared.opening.OpenFault.TheVariants as Open

@@ -6,7 +6,7 @@ use Rattle.ob_interpreter.specs.declared.opening.OpenFault.{OpenFault}
 use Rattle.ob_interpreter.specs.declared.opening.OpenFault.TheVariants as Open
 use Rattle.ob_interpreter.specs.Faults.{IsOpenFault}
 use Rattle.ob_interpreter.specs.Sequences as Sequences
-use Rattle.ob_sequential.specs.ModuleText.{IsModule}
+use Rattle.ob_typing.specs.ModuleText.{IsModule}
 use Rattle.ob_sequential.specs.ModuleFaults.{HasOpening, OpeningFails, IsModuleFault}
 use Rattle.ob_sequential.specs.ModuleFaults as Modules
 use Rattle.ob_calls.specs.Script.{IsScriptFault}

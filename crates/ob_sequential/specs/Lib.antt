@@ -1,4 +1,3 @@
-pub mod ModuleText
 pub mod CheckedText
 pub mod ModuleFaults
 pub mod SequentialRun

@@ -5,7 +5,7 @@ use Rattle.ob_meaning.specs.Statements as Statements
 use Rattle.ob_meaning.specs.Object.{State, IsOpening, opening}
 use Rattle.ob_interpreter.specs.declared.opening.OpenFault.{OpenFault}
 use Rattle.ob_interpreter.specs.declared.opening.OpenFault.TheVariants as Open
-use Rattle.ob_sequential.specs.ModuleText.{IsModule}
+use Rattle.ob_typing.specs.ModuleText.{IsModule}
 use Rattle.ob_sequential.specs.CheckedText.{IsNumberedText, IsTextFault}
 use Rattle.ob_sequential.specs.declared.checked_text.TextFault.{TextFault}
 use Rattle.ob_sequential.specs.declared.checked_text.TextFault.TheVariants as Texts

@@ -1,7 +1,7 @@
 -- A sequential run: from the bytes of a module and of a script to the bytes that are printed.
 use Rattle.std.specs.Prelude.{◌≡◌, ◌≢◌, ℕ, suc, Bool, true, false, List, [], map, take, slice_get, Some}
 use Rattle.ob_typing.specs.Program.{Program}
-use Rattle.ob_sequential.specs.ModuleText.{IsModule}
+use Rattle.ob_typing.specs.ModuleText.{IsModule}
 use Rattle.ob_meaning.specs.Object.{State, ObjectCall, Reply, NeedsMore, effect, IsOpening, one_at_a_time, AreReplies}
 use Rattle.ob_sequential.specs.CheckedText.{IsNumberedText, IsTextFault}
 use Rattle.ob_sequential.specs.ModuleFaults.{IsOpenFaultOf}

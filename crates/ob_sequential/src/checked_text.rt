@@ -5,7 +5,7 @@ ghost use Rattle.ob_checked.specs.CheckedModule.{program_in, tree_in};
 ghost use Rattle.ob_grammar.specs.Texts.{IsTextOf};
 ghost use Rattle.ob_grammar.specs.Tree as Tree;
 ghost use Rattle.ob_typing.specs.Program.{Program};
-ghost use Rattle.ob_sequential.specs.ModuleText.{IsModule};
+ghost use Rattle.ob_typing.specs.ModuleText.{IsModule};
 ghost use Rattle.ob_sequential.specs.CheckedText.{IsTextFault, IsNumberedText, TellsTextMemoryApart};
 
 use ob_checked::checked::Checked;

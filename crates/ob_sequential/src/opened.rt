@@ -5,7 +5,7 @@ ghost use Rattle.ob_checked.specs.CheckedModule.{program_in};
 ghost use Rattle.ob_typing.specs.Program.{Program};
 ghost use Rattle.ob_interpreter.specs.Sequences.{IsOpening};
 ghost use Rattle.ob_interpreter.specs.View.{state_of};
-ghost use Rattle.ob_sequential.specs.ModuleText.{IsModule};
+ghost use Rattle.ob_typing.specs.ModuleText.{IsModule};
 ghost use Rattle.ob_sequential.specs.ModuleFaults.{HasOpening, HasNoOpening, IsModuleFault, IsNumbered, TellsMemoryApart};
 
 use crate::checked_text::{TextFault, checked_text};

@@ -10,3 +10,4 @@ pub mod TypeFaults
 pub mod StatementFaults
 pub mod DeclarationFaults
 pub mod Limits
+pub mod ModuleText

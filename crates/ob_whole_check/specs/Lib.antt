@@ -1,2 +1,3 @@
 pub mod CheckingProcedures
 pub mod CheckingModules
+pub mod ModuleText

@@ -1,12 +1,10 @@
--- What the text of a module is, and what a fault of its rules says of a text.
+-- What the text of a module is.
 use Rattle.std.specs.Prelude.{ℕ, ◌≤◌, List, length}
 use Rattle.ob_scan.specs.declared.scanner.TheConstants.{LONGEST_TEXT}
 use Rattle.ob_grammar.specs.Texts.{IsTextOf}
 use Rattle.ob_grammar.specs.Tree
 use Rattle.ob_typing.specs.Declarations.{WellTyped}
 use Rattle.ob_typing.specs.Program.{Program}
-use Rattle.ob_scopes.specs.declared.fault.CheckFault.{CheckFault}
-use Rattle.ob_whole_check.specs.CheckingModules.{IsRefused}
 
 -- the text, which is not over the limit, stands for this checked program
 pub record IsModule (text : List ℕ) (program : Program) : Type 0 where
@@ -14,9 +12,3 @@ pub record IsModule (text : List ℕ) (program : Program) : Type 0 where
   pub tree : Tree.Module
   pub text_of : IsTextOf text tree
   pub typed : WellTyped tree program
-
--- the rule that the tree of a text breaks first
-pub record IsCheckFaultOf (text : List ℕ) (fault : CheckFault) : Type 0 where
-  pub tree : Tree.Module
-  pub text_of : IsTextOf text tree
-  pub fails : IsRefused fault tree
