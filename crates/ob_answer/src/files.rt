@@ -8,7 +8,7 @@ ghost use Rattle.ob_answer.specs.Reads.{ReadsBeginning};
 use thiserror::Error;
 
 /// Why a file gives no bytes.
-#[derive(Clone, Copy, Debug, Error)]
+#[derive(Clone, Copy, Debug, PartialEq, Eq, Error)]
 pub enum FileFault {
     /// There is no such file, or it can't be read.
     #[error("cannot read")]

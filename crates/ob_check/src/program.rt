@@ -95,7 +95,7 @@ pub struct Operation {
 }
 
 /// An operator that gives an INTEGER.
-#[derive(Clone, Copy)]
+#[derive(Clone, Copy, PartialEq, Eq)]
 pub enum Arithmetic {
     Plus,
     Minus,

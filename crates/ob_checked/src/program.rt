@@ -36,7 +36,7 @@ pub struct Procedure {
 }
 
 /// Whose a variable is: the module's, or the procedure's own.
-#[derive(Clone, Copy)]
+#[derive(Clone, Copy, PartialEq, Eq)]
 pub enum Owner {
     Module,
     Own,

@@ -12,7 +12,7 @@ pub struct Name {
 }
 
 /// An operator between two operands.
-#[derive(Clone, Copy)]
+#[derive(Clone, Copy, PartialEq, Eq)]
 pub enum Operator {
     Equal,
     NotEqual,

@@ -4,7 +4,7 @@ ghost use Rattle.std.specs.Prelude.{◌≡◌};
 ghost use Rattle.ob_scalars.specs.Traps.{trap_number};
 
 /// The trap that ends a call.
-#[derive(Clone, Copy)]
+#[derive(Clone, Copy, PartialEq, Eq)]
 pub enum Trap {
     /// Trap 1: an INTEGER out of range.
     OutOfRange,

@@ -13,7 +13,7 @@ use ob_typing::operator::{BinaryOperator, Relation};
 use ob_typing::scalar::Scalar;
 
 /// Where an expression stands.
-#[derive(Clone, Copy)]
+#[derive(Clone, Copy, PartialEq, Eq)]
 pub enum Usage {
     /// In a statement: its value is found when the program runs.
     InStatement,

@@ -11,7 +11,7 @@ use std::sync::Wait;
 use wf_object::StepOut;
 
 /// How a worker ended.
-#[derive(Clone, Copy)]
+#[derive(Clone, Copy, PartialEq, Eq)]
 pub enum Ended {
     /// The process is halted, or its seat can count no more turns.
     Done,
@@ -68,7 +68,7 @@ pub fn work<R: Wait, G: Gate>(
 }
 
 /// What came of a worker's turn.
-#[derive(Clone, Copy)]
+#[derive(Clone, Copy, PartialEq, Eq)]
 enum Turned {
     On,
     Halted,

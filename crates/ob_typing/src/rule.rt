@@ -1,7 +1,7 @@
 //! The rules that a module can break.
 
 /// A rule; its number stands beside it.
-#[derive(Clone, Copy, Debug)]
+#[derive(Clone, Copy, Debug, PartialEq, Eq)]
 pub enum Rule {
     /// C1: a name or a field that isn't there.
     UnknownName,

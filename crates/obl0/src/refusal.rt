@@ -9,7 +9,7 @@ use std::alloc::AllocError;
 use std::io;
 
 /// What the host refuses.
-#[derive(Clone, Copy)]
+#[derive(Clone, Copy, PartialEq, Eq)]
 pub enum Refusal {
     /// A word is not UTF-8.
     Words,

@@ -6,7 +6,7 @@ use std::alloc::AllocError;
 use thiserror::Error;
 
 /// Why there is no machine.
-#[derive(Clone, Copy, Debug, Error)]
+#[derive(Clone, Copy, Debug, PartialEq, Eq, Error)]
 pub enum NewFault {
     /// N1: the number of processes is not 1 to 16.
     #[error("N1")]
