@@ -79,33 +79,44 @@ fn a_seat_is_missing(rt: HostRuntime) -> Result<(), Fail> {
     Ok(())
 }
 
+/// A seat of process 0 with another tag in the place of its own.
+fn with_stranger(alloc: Global, mut seats: Vec<Seat>) -> Result<Vec<Seat>, Fail> {
+    let own = seats.pop();
+    seats.clear();
+    seats.push(Seat::new(alloc, 0, 8))?;
+    seats.extend(own)?;
+    Ok(seats)
+}
+
 #[test]
 fn a_seat_of_another_tag(rt: HostRuntime) -> Result<(), Fail> {
     let alloc = rt.alloc();
     let (desk, seats) = used(&rt, alloc, 0, 1)?;
-    let mut given = Vec::new(alloc);
-    given.push(Seat::new(alloc, 0, 8))?;
-    for seat in seats {
-        if seat.process() == 1 {
-            given.push(seat)?;
-        }
-    }
-    let fault = desk.close(alloc, given).err();
+    let fault = desk.close(alloc, with_stranger(alloc, seats)?).err();
     assert!(rt; matches!(fault, Some(CloseFault::Stranger(0))));
     Ok(())
+}
+
+/// The seats of a desk at which process 1 took its turns first.
+fn other_seats<R: Wait>(rt: &R, alloc: Global) -> Result<Vec<Seat>, Fail> {
+    let (_, seats) = used(rt, alloc, 1, 0)?;
+    Ok(seats)
+}
+
+/// The last seat of others in the place of the last one.
+fn with_last_of(mut seats: Vec<Seat>, mut others: Vec<Seat>) -> Result<Vec<Seat>, Fail> {
+    seats.pop();
+    seats.extend(others.pop())?;
+    Ok(seats)
 }
 
 /// As many turns, but another answer.
 #[test]
 fn a_seat_that_was_at_another_desk(rt: HostRuntime) -> Result<(), Fail> {
     let alloc = rt.alloc();
-    let (desk, mut seats) = used(&rt, alloc, 0, 1)?;
-    let (_, mut others) = used(&rt, alloc, 1, 0)?;
-    seats.pop();
-    if let Some(other) = others.pop() {
-        seats.push(other)?;
-    }
-    let fault = desk.close(alloc, seats).err();
+    let others = other_seats(&rt, alloc)?;
+    let (desk, seats) = used(&rt, alloc, 0, 1)?;
+    let fault = desk.close(alloc, with_last_of(seats, others)?).err();
     assert!(rt; matches!(fault, Some(CloseFault::Disagrees(1))));
     Ok(())
 }

@@ -43,13 +43,18 @@ fn terms_of(alloc: Global, calls: &[u8]) -> Result<Terms, Fail> {
     Ok(Terms::new(alloc, object, calls.as_slice(), 0)?)
 }
 
-/// What closing tells of such a desk over a floor of the text.
-fn told(alloc: Global, calls: &[u8], text: &[u8], n: usize) -> Result<Option<CloseFault>, Fail> {
-    let terms = terms_of(alloc, calls)?;
-    let floor = floor_of(alloc, text, n)?;
+fn two_seats(alloc: Global) -> Result<Vec<Seat>, Fail> {
     let mut seats = Vec::new(alloc);
     seats.push(Seat::new(alloc, 0, 0))?;
     seats.push(Seat::new(alloc, 1, 0))?;
+    Ok(seats)
+}
+
+/// What closing tells of such a desk over a floor of the text.
+fn told(alloc: Global, calls: &[u8], text: &[u8], n: usize) -> Result<Option<CloseFault>, Fail> {
+    let seats = two_seats(alloc)?;
+    let terms = terms_of(alloc, calls)?;
+    let floor = floor_of(alloc, text, n)?;
     Ok(settle(alloc, &terms, floor, seats.as_slice()).err())
 }
 
