@@ -8,11 +8,10 @@ TOP = pathlib.Path(__file__).resolve().parent.parent
 
 
 def proved_program():
-    """The path of the proved program, which is built where it isn't, or of OBL0 where that is set."""
+    """The path of the program of these sources, or of OBL0 where that is set."""
     if "OBL0" in os.environ:
         return os.environ["OBL0"]
-    subprocess.run([TOP / "obl0", "--help"], stdout=subprocess.DEVNULL, check=True)
-    return str(TOP / "crates/obl0/out/obl0")
+    return subprocess.run([TOP / "dist/program"], stdout=subprocess.PIPE, text=True, check=True).stdout.strip()
 
 
 def cost(words, runs=5):

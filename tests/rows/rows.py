@@ -216,11 +216,12 @@ def found(names):
     return [row for path in files for row in rows_of(path)]
 
 
-def proved_program():
-    """The proved program, which is built where it isn't."""
-    if subprocess.run([TOP / "obl0", "--help"], stdout=subprocess.DEVNULL).returncode:
+def program_of_sources():
+    """The program of these sources: the one that was proved and built here, or the shipped one, or else it is proved and built."""
+    found = subprocess.run([TOP / "dist/program"], stdout=subprocess.PIPE, text=True)
+    if found.returncode:
         sys.exit("rows: there is no program to run")
-    return TOP / "crates/obl0/out/obl0"
+    return found.stdout.strip()
 
 
 def main(about, look, names, read=found):
@@ -234,7 +235,7 @@ def main(about, look, names, read=found):
         rows = read(asked.names)
     except (BadRow, OSError, ValueError) as why:
         sys.exit(f"rows: {why}")
-    program = os.path.abspath(asked.program or proved_program())
+    program = os.path.abspath(asked.program or program_of_sources())
     failed = 0
     with ThreadPoolExecutor(os.cpu_count()) as pool:
         for row, told in zip(rows, pool.map(lambda it: tried(look, it, program), rows)):
