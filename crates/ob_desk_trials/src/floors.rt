@@ -1,0 +1,80 @@
+//! Desks that are closed over a floor.
+
+ghost use Rattle.std.specs.Prelude.{◌<◌, ◌≤◌, IfOk};
+ghost use Rattle.ob_object.specs.Performance.{IsSoundObject};
+ghost use Rattle.ob_object.specs.View.{object_in};
+
+use ob_desk::{CloseFault, Floor, Seat, Terms, settle};
+use ob_engine::CodeEngine;
+use ob_object::{Object, compile};
+use ob_text::script::read_scripts;
+use std::alloc::Global;
+use std::test::Fail;
+
+const COUNTER: &[u8] =
+    b"MODULE C; VAR x: INTEGER; PROCEDURE Inc*; BEGIN x := x + 1 END Inc; END C.";
+
+/// The same with other code, and with another opening.
+const BY_TWO: &[u8] = b"MODULE C; VAR x: INTEGER; PROCEDURE Inc*; BEGIN x := x + 2 END Inc; END C.";
+
+const FROM_ONE: &[u8] =
+    b"MODULE C; VAR x: INTEGER; PROCEDURE Inc*; BEGIN x := x + 1 END Inc; BEGIN x := 1 END C.";
+
+fn object_of(alloc: Global, text: &[u8], n: usize) -> Result<Object, Fail>
+    ensures sound { IfOk result (λ o. IsSoundObject (object_in o)) }
+    ensures some { IfOk result (λ _. 0 < n) }
+    ensures few { IfOk result (λ _. n ≤ 16) }
+{
+    Ok(compile(alloc, text, n)?)
+}
+
+/// A floor of the module's object, without calls.
+fn floor_of(alloc: Global, text: &[u8], n: usize) -> Result<Floor<CodeEngine>, Fail> {
+    let object = object_of(alloc, text, n)?;
+    let engine = object.engine().copy(alloc)?;
+    let terms = Terms::new(alloc, object, &[], 0)?;
+    Ok(Floor::new(alloc, engine, n, terms.opening(), Vec::new(alloc))?)
+}
+
+/// What a desk of two processes of the counter keeps, with these calls.
+fn terms_of(alloc: Global, calls: &[u8]) -> Result<Terms, Fail> {
+    let object = object_of(alloc, COUNTER, 2)?;
+    let calls = read_scripts(alloc, object.checked(), 2, calls)?.into_calls();
+    Ok(Terms::new(alloc, object, calls.as_slice(), 0)?)
+}
+
+fn two_seats(alloc: Global) -> Result<Vec<Seat>, Fail> {
+    let mut seats = Vec::new(alloc);
+    seats.push(Seat::new(alloc, 0, 0))?;
+    seats.push(Seat::new(alloc, 1, 0))?;
+    Ok(seats)
+}
+
+/// What closing tells of such a desk over a floor of the text.
+fn told(alloc: Global, calls: &[u8], text: &[u8], n: usize) -> Result<Option<CloseFault>, Fail> {
+    let seats = two_seats(alloc)?;
+    let terms = terms_of(alloc, calls)?;
+    let floor = floor_of(alloc, text, n)?;
+    Ok(settle(alloc, &terms, floor, seats.as_slice()).err())
+}
+
+/// Whether closing tells that the floor is not the desk's.
+fn is_other_floor(alloc: Global, calls: &[u8], text: &[u8], n: usize) -> Result<bool, Fail> {
+    let fault = told(alloc, calls, text, n)?;
+    Ok(matches!(fault, Some(CloseFault::OtherFloor)))
+}
+
+#[test]
+fn a_floor_of_the_desk(rt: HostRuntime) -> Result<(), Fail> {
+    assert!(rt; told(rt.alloc(), b"", COUNTER, 2)?.is_none());
+    Ok(())
+}
+
+#[test]
+fn a_floor_that_is_not_the_desks(rt: HostRuntime) -> Result<(), Fail> {
+    assert!(rt; is_other_floor(rt.alloc(), b"", COUNTER, 1)?);
+    assert!(rt; is_other_floor(rt.alloc(), b"", BY_TWO, 2)?);
+    assert!(rt; is_other_floor(rt.alloc(), b"", FROM_ONE, 2)?);
+    assert!(rt; is_other_floor(rt.alloc(), b"0 Inc\n", COUNTER, 2)?);
+    Ok(())
+}
