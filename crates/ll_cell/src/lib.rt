@@ -2,7 +2,10 @@
 #![tactic(auto)]
 
 pub mod fault;
+pub mod form;
 pub mod shared;
+mod table;
 
 pub use fault::CellFault;
+pub use form::Form;
 pub use shared::Shared;

@@ -1,21 +1,20 @@
 -- A well typed module's program is resolved.
 use Rattle.std.proofs.Common.{◌≡◌, refl, ap, sym, subst, ◌∙◌, arith, ℕ, zero, suc, ◌+◌, ◌≤◌, Bool, true, false, List, [], ◌∷◌, ◌++◌, map, length, codes, bytes_eq, if◌then◌else◌, Option, Some, None}
-use Rattle.std.specs.Prelude.{slice_get, nat_eq, ◌&&◌}
+use Rattle.std.specs.Prelude.{slice_get, ◌&&◌}
 use Rattle.std.specs.List.{filter}
 use Rattle.std.proofs.lemmas.Bool.{ne_eqb}
 use Rattle.std.proofs.lemmas.List.{map-append}
 use Rattle.ob_grammar.specs.Tree
 use Rattle.ob_grammar.specs.Tree.{Stmts, Section, Heading, Declarations, Procedures, Module}
-use Rattle.ob_typing.specs.declared.rule.Rule.TheVariants.{DeclaredTwice, PassesLimit, BadExport}
-use Rattle.ob_typing.specs.declared.scalar.Scalar.{Scalar}
-use Rattle.ob_typing.specs.declared.scalar.Scalar.TheVariants as Scalars
-use Rattle.ob_typing.specs.declared.scalar.ScalarType.TheVariants.{Integer, Boolean}
+use Rattle.ob_interface.specs.declared.scalar.Scalar.{Scalar}
+use Rattle.ob_interface.specs.declared.scalar.Scalar.TheVariants as Scalars
+use Rattle.ob_interface.specs.declared.scalar.ScalarType.TheVariants.{Integer, Boolean}
 use Rattle.ob_typing.specs.Program
 use Rattle.ob_typing.specs.Program.{exports, Name, DataType, Simple, Parameter, Variable, Procedure}
-use Rattle.ob_typing.specs.Scopes.{Object, Constant, TypeName, ModuleVariable, LocalVariable, ProcedureName, Scope, no_names, with_name, Environment, or_else, is_declared, declared, level, variable_in, outermost, opening_names}
+use Rattle.ob_typing.specs.Scopes.{Object, Constant, TypeName, ModuleVariable, LocalVariable, ProcedureName, Scope, no_names, with_name, Environment, or_else, declared, level, variable_in, outermost, opening_names}
 use Rattle.ob_typing.specs.Statements.{listed}
 use Rattle.ob_typing.specs.Declarations as Typing
-use Rattle.ob_typing.specs.Declarations.{Room, most_exports, is_nested, heading_broken, parameters_of, Parameters, inner_scope, with_procedure, frame_room, DeclaresProcedures, Declares, WellTyped}
+use Rattle.ob_typing.specs.Declarations.{Room, is_nested, NewProcedure, parameters_of, Parameters, inner_scope, with_procedure, frame_room, DeclaresProcedures, Declares, WellTyped}
 use Rattle.ob_agreement.specs.Resolved.{as_parameter, module_scope, AreDistinct, IsProcedure, IsResolved}
 use Rattle.ob_agreement.specs.Exported.{Formal, Export, formals_in, exports_in, exports_declared, exports_of, seen}
 use Rattle.ob_agreement.proofs.Known.{Stands, IsRight, Knows, knows_more}
@@ -163,12 +162,10 @@ first_seen true p e fs es h k = ap (λ x. x ∷ map seen fs) h ∙ ap (λ xs. e 
 first_seen false p e fs es h k = k
 
 -- a procedure within another one is not exported
-unmarked : (old exported nested full : Bool) →
-    (if old then Some DeclaredTwice else if exported && nested then Some BadExport else if exported && full then Some PassesLimit else None) ≡ None → nested ≡ true → exported ≡ false
-unmarked old false nested full h k = refl
-unmarked true true nested full h k = absurd cc
-unmarked false true true full h k = absurd cc
-unmarked false true false full h k = absurd cc
+unmarked : (exported nested : Bool) → (exported && nested) ≡ false → nested ≡ true → exported ≡ false
+unmarked false nested h k = refl
+unmarked true true h k = absurd cc
+unmarked true false h k = absurd cc
 
 within_others : (env : Environment) (more : ℕ) → level env ≡ suc (suc (suc more)) → is_nested env ≡ true
 within_others env more l = rw (ne_eqb (level env) 2 (λ e. omega (arith, l, e))) refl
@@ -178,7 +175,7 @@ none_marked true p fs h k = absurd cc
 none_marked false p fs h k = k
 
 one_more_export : (more : ℕ) (env : Environment) (exported : ℕ) (heading : Heading) (inner : Declarations) (body : Option Stmts) (end_name : Tree.Name) (rest : Procedures)
-    (p : Procedure) (nested others : List Procedure) → heading_broken env exported heading ≡ None → level env ≡ suc (suc more) → p.is_exported ≡ heading.is_exported →
+    (p : Procedure) (nested others : List Procedure) → NewProcedure env exported heading → level env ≡ suc (suc more) → p.is_exported ≡ heading.is_exported →
     seen p ≡ record { name = heading.name.text; parameters = formals_in (listed heading.parameters) } → marked nested ≡ [] → ExportsAt more rest others →
     ExportsAt more (Tree.procedure heading inner body end_name rest) (p ∷ nested ++ others)
 one_more_export zero env exported heading inner body end_name rest p nested others new l same is none h =
@@ -189,7 +186,7 @@ one_more_export zero env exported heading inner body end_name rest p nested othe
 one_more_export (suc more) env exported heading inner body end_name rest p nested others new l same is none h =
     let behind : marked (nested ++ others) ≡ [] = marked_both nested others ∙ ap (λ fs. fs ++ marked others) none ∙ h in
     none_marked p.is_exported p (marked (nested ++ others))
-    (same ∙ unmarked (is_declared env heading.name.text) heading.is_exported (is_nested env) (nat_eq exported most_exports) new (within_others env more l)) behind
+    (same ∙ unmarked heading.is_exported (is_nested env) new.of_module (within_others env more l)) behind
 
 module _ (program : Program.Program) where
   abbrev outer : List Parameter

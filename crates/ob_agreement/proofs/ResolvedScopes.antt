@@ -1,18 +1,17 @@
 -- What a scope declares, name by name: each variable stands at its position, and no two have one name.
-use Rattle.std.proofs.Common.{◌≡◌, refl, ap, sym, subst, ◌∙◌, arith, ℕ, zero, suc, pred, ◌+◌, ◌-◌, Bool, true, false, List, [], ◌∷◌, ◌++◌, map, length, bytes_eq, if◌then◌else◌, Option, Some, None}
-use Rattle.std.specs.Prelude.{is_some, nat_eq}
+use Rattle.std.proofs.Common.{◌≡◌, refl, ap, sym, subst, ◌∙◌, arith, ℕ, zero, suc, pred, ◌+◌, Bool, true, false, List, [], ◌∷◌, ◌++◌, map, length, bytes_eq, if◌then◌else◌, Option, Some, None}
+use Rattle.std.specs.Prelude.{is_some}
 use Rattle.std.proofs.lemmas.Bool.{false_from_ne_true}
 use Rattle.std.proofs.lemmas.List.{append-nil, append_assoc, map-append}
 use Rattle.std.proofs.lemmas.Slice.Eq.{bytes_eq-Decides}
 use Rattle.ob_grammar.specs.Tree
 use Rattle.ob_grammar.specs.Tree.{ConstDecl, TypeDecl, VarDecl, Section}
-use Rattle.ob_typing.specs.declared.scalar.Scalar.{Scalar}
-use Rattle.ob_typing.specs.declared.rule.Rule.TheVariants.{DeclaredTwice, PassesLimit}
+use Rattle.ob_interface.specs.declared.scalar.Scalar.{Scalar}
 use Rattle.ob_typing.specs.Program.{Name, DataType, Parameter, Variable}
 use Rattle.ob_typing.specs.Scopes.{Object, Constant, TypeName, Environment, is_declared, declared, variable_in, words}
 use Rattle.ob_typing.specs.Types.{Taken, and_taken, second}
 use Rattle.ob_typing.specs.Declarations as Typing
-use Rattle.ob_typing.specs.Declarations.{Room, with_words, with_variables, room_behind, variables_of, with_parameters, parameters_of, parameter_broken, most_parameters, Constants, Types, Variables, Parameters}
+use Rattle.ob_typing.specs.Declarations.{Room, with_words, with_variables, room_behind, variables_of, with_parameters, parameters_of, most_parameters, Constants, Types, Variables, Parameters}
 use Rattle.ob_agreement.specs.Resolved.{as_parameter, IsAt, NoneCalled, AreDistinct}
 use Rattle.ob_agreement.proofs.Known.{Stands, same_name}
 
@@ -31,14 +30,6 @@ second_new taken [] h = tt
 second_new taken (name ∷ names) h =
     let new = else_none (taken name.text) (second (and_taken taken name.text) names) name h in
     (new.0, second_new (and_taken taken name.text) names new.1)
-
-parameters_new : (taken : Taken) (left : ℕ) (names : List Tree.Name) → parameter_broken taken left names ≡ None → AreNew taken names
-parameters_new taken left [] h = tt
-parameters_new taken left (name ∷ names) h =
-    let new = else_none (taken name.text) (if nat_eq left 0 then Some (record { rule = PassesLimit; place = name.place }) else parameter_broken (and_taken taken name.text) (pred left) names)
-    (record { rule = DeclaredTwice; place = name.place }) h in
-    let room = else_none (nat_eq left 0) (parameter_broken (and_taken taken name.text) (pred left) names) (record { rule = PassesLimit; place = name.place }) new.1 in
-    (new.0, parameters_new (and_taken taken name.text) (pred left) names room.1)
 
 -- names that are declared
 
@@ -206,7 +197,7 @@ module _ (R : List Parameter → Environment → Type 0)
   parameters_scoped (Typing.more {env = env} {after = after} {count = count} {x = x} {t = t} {ps = ps} new d name simple k) own same s =
       let group = parameters_of x.is_var t x.names in
       let first : Scoped R (own ++ group) (with_parameters env count t x.names) =
-      names_scoped x.is_var t x.names own env (is_declared env) count (λ name. refl) (parameters_new (is_declared env) (most_parameters - count) x.names new) same s in
+      names_scoped x.is_var t x.names own env (is_declared env) count (λ name. refl) (second_new (is_declared env) x.names new.new) same s in
       let l = length_names x.is_var t x.names own in
       subst (λ qs. Scoped R qs after) (append_assoc own group ps) (parameters_scoped k (own ++ group) (omega (arith, l, same)) first)
 

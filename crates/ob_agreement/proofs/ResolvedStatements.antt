@@ -4,7 +4,7 @@ use Rattle.std.specs.Prelude.{nat_eq, ◌&&◌}
 use Rattle.std.proofs.lemmas.Bool.{and_parts}
 use Rattle.ob_grammar.specs.Tree
 use Rattle.ob_grammar.specs.Tree.{Expr, Stmt, Stmts, Otherwise}
-use Rattle.ob_typing.specs.declared.scalar.ScalarType.{ScalarType}
+use Rattle.ob_interface.specs.declared.scalar.ScalarType.{ScalarType}
 use Rattle.ob_typing.specs.Program.{DataType, Simple, Array, Record, Fields, no_field, field, Actual, Statement, Statements, Branches, Parameter, Procedure}
 use Rattle.ob_typing.specs.Scopes.{Environment, same_type, same_fields, holds}
 use Rattle.ob_typing.specs.Statements as Typing
@@ -65,6 +65,7 @@ module _ (outer : List Parameter) (procedures : List Procedure) (own : List Para
         (p, (is, subst (λ ps. Fit outer own ps cs) (sym same) (actuals fits)))
     good (Typing.if' h) = good_branches h
     good (Typing.while h k) = (typed outer procedures own env known h, good_all k)
+    good (Typing.repeat h k) = (good_all h, typed outer procedures own env known k)
 
     good_all : {ss : Stmts} {cs : Statements} → AreStatements env ss cs → AreGood outer own procedures cs
     good_all Typing.no_statement = tt

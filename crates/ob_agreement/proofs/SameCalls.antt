@@ -4,17 +4,19 @@ use Rattle.std.specs.Prelude.{slice_get}
 use Rattle.std.specs.List.{filter}
 use Rattle.std.proofs.lemmas.Bool.{false_from_ne_true}
 use Rattle.std.proofs.lemmas.Slice.Eq.{bytes_eq-Decides}
-use Rattle.ob_typing.specs.declared.scalar.Scalar.{Scalar}
+use Rattle.ob_interface.specs.declared.scalar.Scalar.{Scalar}
 use Rattle.ob_typing.specs.Program.{Name, DataType, Simple, Array, Record, Parameter, Procedure, Program}
 use Rattle.ob_typing.specs.Arithmetic.{type_of}
 use Rattle.ob_meaning.specs.Value as Named
 use Rattle.ob_meaning.specs.Store as Names
 use Rattle.ob_meaning.specs.Statements as Meanings
+use Rattle.ob_interface.specs.Call as Calls
 use Rattle.ob_meaning.specs.Object as Objects
-use Rattle.ob_meaning.specs.Object.{State, ObjectCall, Answers, most_activations}
+use Rattle.ob_interface.specs.Call.{ObjectCall, Answers}
+use Rattle.ob_meaning.specs.Object.{State, most_activations}
 use Rattle.ob_positions.specs.Value.{Value, Single, Parts, initial, scalar_of}
 use Rattle.ob_positions.specs.Store.{Held, Holds, Refers, Activation, activation_at, value_held}
-use Rattle.ob_positions.specs.Statements.{Outcome, Done, Trap, NotYet, calls}
+use Rattle.ob_positions.specs.Statements.{Outcome, Done, Trap, calls}
 use Rattle.ob_positions.specs.Object.{results_begun, outside_handed, values_of_results, effect_of, effect_of_procedure, effect}
 use Rattle.ob_agreement.specs.Resolved.{as_parameter, scope_of, module_scope, IsAt, NoneCalled, AreDistinct, IsProcedure, IsResolved}
 use Rattle.ob_agreement.specs.Same.{SameValue, Scopes, SameHeld, SameHanded, SameActivation, SameStore, SameOutcome, SameState, SameEffect, AreValuesOf, FitsExport}
@@ -181,18 +183,14 @@ module _ (program : Program) (good : IsResolved program) where
   effect_same p state activation (Meanings.Done t ms) (Done u ss) same h =
       let scopes : Scopes = outside p ++ scope_of p ∷ [] in
       let first = activation_same scopes 0 0 0 scopes ms ss (omega arith) h.1 in
-      let second = activation_same scopes 0 1 1 scopes ms ss (omega arith) h.1 in (
-        state_moved scopes (module_scope program ∷ []) (Names.activation_at ms 0) (activation_at ss 0) first,
-        ap Answers (results_same scopes 1 (results_scope p.parameters) (Names.activation_at ms 1) (activation_at ss 1) second),
-      )
-  effect_same p state activation (Meanings.Trap n) (Trap m) same h = (same, ap Objects.Trapped h)
-  effect_same p state activation Meanings.NotYet NotYet same h = tt
+      let second = activation_same scopes 0 1 1 scopes ms ss (omega arith) h.1 in
+      record {
+        state = state_moved scopes (module_scope program ∷ []) (Names.activation_at ms 0) (activation_at ss 0) first;
+        reply = ap Answers (results_same scopes 1 (results_scope p.parameters) (Names.activation_at ms 1) (activation_at ss 1) second);
+      }
+  effect_same p state activation (Meanings.Trap n) (Trap m) same h = record { state = same; reply = ap Calls.Trapped h }
   effect_same p state activation (Meanings.Done t ms) (Trap m) same h = absurd h
-  effect_same p state activation (Meanings.Done t ms) NotYet same h = absurd h
   effect_same p state activation (Meanings.Trap n) (Done u ss) same h = absurd h
-  effect_same p state activation (Meanings.Trap n) NotYet same h = absurd h
-  effect_same p state activation Meanings.NotYet (Done u ss) same h = absurd h
-  effect_same p state activation Meanings.NotYet (Trap m) same h = absurd h
 
   procedure_same : (p : Procedure) → IsProcedure program p → (arguments : List Scalar) → AreValuesOf (filter (λ q. not q.is_var) p.parameters) arguments →
       (turns : ℕ) (state : State) (activation : Activation) → SameState program state activation →

@@ -2,18 +2,19 @@
 use Rattle.std.proofs.Common.{◌≡◌, refl, ap, sym, subst, ◌∙◌, arith, ℕ, ℤ, pos, negsuc, zero, suc, pred, ◌<◌, Bool, true, false, List, [], ◌∷◌, length, if◌then◌else◌, ltb-true}
 use Rattle.std.specs.Prelude.{nat_lt, ◌&&◌, int_le, int_lt, ◌+ℤ◌, ◌-ℤ◌, ◌*ℤ◌, neg_ℤ}
 use Rattle.std.specs.Int.{int_div_euclid, int_rem_euclid}
-use Rattle.ob_typing.specs.declared.scalar.Scalar.{Scalar}
-use Rattle.ob_typing.specs.declared.scalar.Scalar.TheVariants as Scalars
+use Rattle.ob_interface.specs.declared.scalar.Scalar.{Scalar}
+use Rattle.ob_interface.specs.declared.scalar.Scalar.TheVariants as Scalars
 use Rattle.ob_typing.specs.declared.operator.Relation.{Relation}
 use Rattle.ob_typing.specs.declared.operator.Relation.TheVariants as Relations
-use Rattle.ob_typing.specs.declared.scalar.ScalarType.{ScalarType}
-use Rattle.ob_typing.specs.declared.scalar.ScalarType.TheVariants.{Integer, Boolean}
+use Rattle.ob_interface.specs.declared.scalar.ScalarType.{ScalarType}
+use Rattle.ob_interface.specs.declared.scalar.ScalarType.TheVariants.{Integer, Boolean}
 use Rattle.ob_typing.specs.declared.operator.BinaryOperator.{BinaryOperator}
 use Rattle.ob_typing.specs.declared.operator.BinaryOperator.TheVariants.{Plus, Minus, Times, Div, Mod, And, Or}
 use Rattle.ob_typing.specs.Program.{Name, DataType, Simple, Array, Record, Owner, OfModule, Own, Slot, Expression, Literal, ValueOf, Negated, Complement, Computed, Compared, Operations, no_operation, operation, Designator, Designated, Selectors, no_selector, field_of, element_of, Actual, ByValue, ByPlace, Parameter}
 use Rattle.ob_typing.specs.Arithmetic.{Evaluated, Gives, Traps, ◌>>=◌, type_of, number_of, takes, computed, decides, applied, negated, complement, compared, in_range}
 use Rattle.ob_meaning.specs.Value as Named
 use Rattle.ob_meaning.specs.Store as Names
+use Rattle.ob_meaning.specs.OverStore as OverStore
 use Rattle.ob_meaning.specs.Evaluation as Meanings
 use Rattle.ob_positions.specs.Value.{Value, Single, Parts, scalar_of}
 use Rattle.ob_positions.specs.Store.{Place, Held, Holds, Refers, Store, place_held, place_owned, place_of_slot, further_in, value_at, running}
@@ -109,7 +110,7 @@ within_if : (n i : ℕ) (b : Bool) → nat_lt i n ≡ b → SameEvaluated (SameI
 within_if n i true e = (refl, ltb-true i n e)
 within_if n i false e = refl
 
-within_same : (n : ℕ) (z : ℤ) → SameEvaluated (SameIndex n) (Meanings.within n z) (Meanings.within n z)
+within_same : (n : ℕ) (z : ℤ) → SameEvaluated (SameIndex n) (OverStore.within n z) (OverStore.within n z)
 within_same n (pos i) = within_if n i (nat_lt i n) refl
 within_same n (negsuc i) = refl
 
@@ -211,8 +212,8 @@ module _ (scopes : Scopes) (ms : Names.Store) (ss : Store) (same : SameStore sco
       path_same (element_of n e rest) t u h =
           same_bind (SameScalar Integer) (λ xs ys. SamePath t xs ys u) (Meanings.value_of ms e) (Evaluation.value_of ss e) _ _ (value_same e Integer h.1.1.0)
           (λ a b k.
-          same_bind (SameIndex n) (λ xs ys. SamePath t xs ys u) (Meanings.within n (number_of a)) (Meanings.within n (number_of b)) _ _
-          (subst (λ z. SameEvaluated (SameIndex n) (Meanings.within n (number_of z)) (Meanings.within n (number_of b))) (sym k.0) (within_same n (number_of b)))
+          same_bind (SameIndex n) (λ xs ys. SamePath t xs ys u) (OverStore.within n (number_of a)) (OverStore.within n (number_of b)) _ _
+          (subst (λ z. SameEvaluated (SameIndex n) (OverStore.within n (number_of z)) (OverStore.within n (number_of b))) (sym k.0) (within_same n (number_of b)))
           (λ i j q.
           same_bind (λ xs ys. SamePath h.0 xs ys u) (λ xs ys. SamePath t xs ys u) (Meanings.values_of ms rest) (Evaluation.path_of ss rest) _ _
           (path_same rest h.0 u h.1.1.1) (λ xs ys z. (h.0, (step_element t h.0 n i j h.1.0 q, z)))))

@@ -2,11 +2,11 @@
 use Rattle.std.proofs.Common.{◌≡◌, refl, ap, sym, subst, ◌∙◌, arith, ℕ, zero, suc, pred, ◌<◌, ◌≤◌, ◌+◌, Bool, true, false, List, [], ◌∷◌, ◌++◌, map, length, take, if◌then◌else◌}
 use Rattle.std.specs.Prelude.{slice_get, Some}
 use Rattle.std.proofs.lemmas.List.{length-append}
-use Rattle.ob_typing.specs.declared.scalar.ScalarType.{ScalarType}
-use Rattle.ob_typing.specs.declared.scalar.ScalarType.TheVariants as ScalarTypes
-use Rattle.ob_typing.specs.declared.scalar.ScalarType.TheVariants.{Boolean}
-use Rattle.ob_typing.specs.Program.{Name, DataType, Simple, Array, Record, Fields, no_field, field, Expression, Statement, Assign, Call, If, While, Statements, no_statement, statement, Branches, no_branch, otherwise, branch, Parameter, Variable, Procedure, Program}
-use Rattle.ob_typing.specs.Arithmetic.{Evaluated, Gives, Traps, type_of, truth_of}
+use Rattle.ob_interface.specs.declared.scalar.ScalarType.{ScalarType}
+use Rattle.ob_interface.specs.declared.scalar.ScalarType.TheVariants as ScalarTypes
+use Rattle.ob_interface.specs.declared.scalar.ScalarType.TheVariants.{Boolean}
+use Rattle.ob_typing.specs.Program.{Name, DataType, Simple, Array, Record, Fields, no_field, field, Expression, Statement, Assign, Call, If, While, Repeat, Statements, no_statement, statement, Branches, no_branch, otherwise, branch, Parameter, Variable, Procedure, Program}
+use Rattle.ob_typing.specs.Arithmetic.{Evaluated, Gives, Traps, type_of, truth_of, no_turn_left}
 use Rattle.ob_meaning.specs.Value as Named
 use Rattle.ob_meaning.specs.Store as Names
 use Rattle.ob_meaning.specs.Evaluation as Evaluations
@@ -17,7 +17,7 @@ use Rattle.ob_positions.specs.Object.{opening}
 use Rattle.ob_positions.specs.Value.{Value, Single, copies, initial, initial_fields}
 use Rattle.ob_positions.specs.Store.{Place, Held, Holds, Refers, Activation, Store, running}
 use Rattle.ob_positions.specs.Evaluation as Evaluation
-use Rattle.ob_positions.specs.Statements.{Outcome, Done, Trap, NotYet, Run, Calls, after, then_run, with_turn, loop_once, loop, meaning, meaning_of_all, meaning_of_branches, begun, activation_of, left, activated, calls}
+use Rattle.ob_positions.specs.Statements.{Outcome, Done, Trap, Run, Calls, after, then_run, with_turn, loop_once, loop, rounds_once, rounds, meaning, meaning_of_all, meaning_of_branches, begun, activation_of, left, activated, calls}
 use Rattle.ob_agreement.specs.Resolved.{as_parameter, scope_of, module_scope, IsAt, AreDistinct, IsOf, IsGood, AreGood, AreGoodBranches, IsProcedure, IsResolved}
 use Rattle.ob_agreement.specs.Same.{SameScalar, SameElements, SameValue, SameFields, SamePlace, Scopes, scope_at, SameHeld, SameHanded, SameActivation, SameFrom, SameStore, SameEvaluated, SameOutcome}
 use Rattle.ob_agreement.proofs.SameStores.{stored_same, store_length}
@@ -38,17 +38,12 @@ same_then : (scopes : Scopes) (o : Meanings.Outcome) (p : Outcome) (f : Meanings
     SameOutcome scopes (Meanings.then_run o f) (then_run p g)
 same_then scopes (Meanings.Done t ms) (Done u ss) f g h k = subst (λ x. SameOutcome scopes (f t ms) (g x ss)) h.0 (k t ms ss h.1)
 same_then scopes (Meanings.Done t ms) (Trap n) f g h k = absurd h
-same_then scopes (Meanings.Done t ms) NotYet f g h k = absurd h
 same_then scopes (Meanings.Trap n) (Done u ss) f g h k = absurd h
 same_then scopes (Meanings.Trap n) (Trap m) f g h k = h
-same_then scopes (Meanings.Trap n) NotYet f g h k = absurd h
-same_then scopes Meanings.NotYet (Done u ss) f g h k = absurd h
-same_then scopes Meanings.NotYet (Trap m) f g h k = absurd h
-same_then scopes Meanings.NotYet NotYet f g h k = tt
 
 same_turn : (scopes : Scopes) (f : ℕ → Meanings.Outcome) (g : ℕ → Outcome) → ((t : ℕ) → SameOutcome scopes (f t) (g t)) → (t : ℕ) →
     SameOutcome scopes (Meanings.with_turn f t) (with_turn g t)
-same_turn scopes f g h zero = tt
+same_turn scopes f g h zero = refl
 same_turn scopes f g h (suc t) = h t
 
 same_if : (scopes : Scopes) (a b : Bool) (f f' : Meanings.Run) (g g' : Run) → a ≡ b → SameRun scopes f g → SameRun scopes f' g' →
@@ -190,13 +185,8 @@ left_same scopes s (Meanings.Done t ms) (Done u ss) h =
     let all = scopes ++ s ∷ [] in
     (h.0, from_moved all scopes (length scopes) (scope_before scopes s) 0 scopes _ _ (omega arith) (from_left all 0 scopes s ms ss h.1))
 left_same scopes s (Meanings.Done t ms) (Trap n) h = absurd h
-left_same scopes s (Meanings.Done t ms) NotYet h = absurd h
 left_same scopes s (Meanings.Trap n) (Done u ss) h = absurd h
 left_same scopes s (Meanings.Trap n) (Trap m) h = h
-left_same scopes s (Meanings.Trap n) NotYet h = absurd h
-left_same scopes s Meanings.NotYet (Done u ss) h = absurd h
-left_same scopes s Meanings.NotYet (Trap m) h = absurd h
-left_same scopes s Meanings.NotYet NotYet h = tt
 
 -- statements
 
@@ -242,8 +232,27 @@ module _ (program : Program) (good : IsResolved program) (call : Meanings.Calls)
 
   loop_same : (n : ℕ) (c : Expression) (body : Meanings.Run) (done : Run) → IsOf outer own c Boolean → SameRun all body done →
       SameRun all (Meanings.loop n c body) (loop n c done)
-  loop_same zero c body done k b = loop_step c body (λ t s. Meanings.NotYet) done (λ t s. NotYet) k b (λ t ms ss h. tt)
+  loop_same zero c body done k b = loop_step c body (λ t s. Meanings.Trap no_turn_left) done (λ t s. Trap no_turn_left) k b (λ t ms ss h. refl)
   loop_same (suc n) c body done k b = loop_step c body (Meanings.loop n c body) done (loop n c done) k b (loop_same n c body done k b)
+
+  -- the test of a loop that tests behind its body
+  tested_same : (c : Expression) (again : Meanings.Run) (repeated : Run) → IsOf outer own c Boolean → SameRun all again repeated →
+      SameRun all (λ t s. Meanings.after (Evaluations.value_of s c) (λ v. (if truth_of v then Meanings.Done else again) t s))
+      (λ t s. after (Evaluation.value_of s c) (λ v. (if truth_of v then Done else repeated) t s))
+  tested_same c again repeated k a t ms ss h =
+      same_after all (SameScalar Boolean) (Evaluations.value_of ms c) (Evaluation.value_of ss c) _ _ (condition_same c ms ss h k)
+      (λ x y e. same_if all (truth_of x) (truth_of y) Meanings.Done again Done repeated (ap truth_of e.0) (λ t ms ss h. (refl, h)) a t ms ss h)
+
+  round_step : (body : Meanings.Run) (c : Expression) (again : Meanings.Run) (done repeated : Run) → SameRun all body done → IsOf outer own c Boolean →
+      SameRun all again repeated → SameRun all (Meanings.rounds_once body c again) (rounds_once done c repeated)
+  round_step body c again done repeated b k a t ms ss h =
+      same_turn all _ _ (λ l. same_then all (body l ms) (done l ss) _ _ (b l ms ss h) (tested_same c again repeated k a)) t
+
+  rounds_same : (n : ℕ) (body : Meanings.Run) (c : Expression) (done : Run) → SameRun all body done → IsOf outer own c Boolean →
+      SameRun all (Meanings.rounds n body c) (rounds n done c)
+  rounds_same zero body c done b k t ms ss h = refl
+  rounds_same (suc n) body c done b k t ms ss h =
+      round_step body c (Meanings.rounds n body c) done (rounds n done c) b k (rounds_same n body c done b k) t ms ss h
 
   mutual
     statement_same : (st : Statement) → IsGood outer own program.procedures st → SameRun all (Meanings.meaning call st) (meaning made st)
@@ -261,6 +270,8 @@ module _ (program : Program) (good : IsResolved program) (call : Meanings.Calls)
     statement_same (If branches) k t ms ss h = branches_same branches k t ms ss h
     statement_same (While c body) k t ms ss h =
         loop_same t c (Meanings.meaning_of_all call body) (meaning_of_all made body) k.0 (statements_same body k.1) t ms ss h
+    statement_same (Repeat body c) k t ms ss h =
+        rounds_same t (Meanings.meaning_of_all call body) c (meaning_of_all made body) (statements_same body k.0) k.1 t ms ss h
 
     pub statements_same : (sts : Statements) → AreGood outer own program.procedures sts → SameRun all (Meanings.meaning_of_all call sts) (meaning_of_all made sts)
     statements_same no_statement k t ms ss h = (refl, h)

@@ -1,9 +1,9 @@
 -- What the checked program of a well typed module keeps: each variable stands at its position with its type, each
 -- expression has its type, and each call fits its procedure.
 use Rattle.std.specs.Prelude.{◌≡◌, ℕ, zero, suc, true, false, bytes_eq, List, [], ◌∷◌, ◌++◌, map, slice_get, Some}
-use Rattle.ob_typing.specs.declared.scalar.ScalarType.{ScalarType}
-use Rattle.ob_typing.specs.declared.scalar.ScalarType.TheVariants.{Integer, Boolean}
-use Rattle.ob_typing.specs.Program.{Name, DataType, Simple, Array, Record, Fields, no_field, field, Owner, OfModule, Own, Expression, Literal, ValueOf, Negated, Complement, Computed, Compared, Operations, no_operation, operation, Designator, Designated, Selectors, no_selector, field_of, element_of, Actual, ByValue, ByPlace, Statement, Assign, Call, If, While, Statements, no_statement, statement, Branches, no_branch, otherwise, branch, Parameter, Variable, Procedure, Program}
+use Rattle.ob_interface.specs.declared.scalar.ScalarType.{ScalarType}
+use Rattle.ob_interface.specs.declared.scalar.ScalarType.TheVariants.{Integer, Boolean}
+use Rattle.ob_typing.specs.Program.{Name, DataType, Simple, Array, Record, Fields, no_field, field, Owner, OfModule, Own, Expression, Literal, ValueOf, Negated, Complement, Computed, Compared, Operations, no_operation, operation, Designator, Designated, Selectors, no_selector, field_of, element_of, Actual, ByValue, ByPlace, Statement, Assign, Call, If, While, Repeat, Statements, no_statement, statement, Branches, no_branch, otherwise, branch, Parameter, Variable, Procedure, Program}
 use Rattle.ob_typing.specs.Arithmetic.{type_of, takes}
 
 -- a variable as a scope declares it
@@ -101,6 +101,7 @@ module _ (outer own : List Parameter) where
       IsGood (Call number actuals) = (p : Procedure) × ((slice_get procedures number ≡ Some p) × Fit p.parameters actuals)
       IsGood (If branches) = AreGoodBranches branches
       IsGood (While condition body) = IsOf condition Boolean × AreGood body
+      IsGood (Repeat body condition) = AreGood body × IsOf condition Boolean
 
       pub AreGood : Statements → Type 0
       AreGood no_statement = Unit {0}

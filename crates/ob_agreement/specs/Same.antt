@@ -1,19 +1,20 @@
 -- When a value, a place or a store by position is one by name: the names stand at their positions, and the values are
 -- of their types.
 use Rattle.std.specs.Prelude.{◌≡◌, ℕ, zero, suc, ◌<◌, true, false, not, List, [], ◌∷◌, filter, length, slice_get, Option, Some, None}
-use Rattle.ob_typing.specs.declared.scalar.Scalar.{Scalar}
-use Rattle.ob_typing.specs.declared.scalar.ScalarType.{ScalarType}
+use Rattle.ob_interface.specs.declared.scalar.Scalar.{Scalar}
+use Rattle.ob_interface.specs.declared.scalar.ScalarType.{ScalarType}
 use Rattle.ob_typing.specs.Program.{DataType, Simple, Array, Record, Fields, no_field, field, Parameter, Procedure, Program, exports}
 use Rattle.ob_typing.specs.Arithmetic.{Evaluated, Gives, Traps, type_of}
 use Rattle.ob_meaning.specs.Value as Named
 use Rattle.ob_meaning.specs.Store as Names
 use Rattle.ob_meaning.specs.Statements as Meanings
 use Rattle.ob_meaning.specs.Object as Objects
-use Rattle.ob_meaning.specs.Object.{ObjectCall, State}
+use Rattle.ob_interface.specs.Call.{ObjectCall}
+use Rattle.ob_meaning.specs.Object.{State}
 use Rattle.ob_positions.specs.Value.{Value, Values, Single, Parts, no_part, part}
 use Rattle.ob_positions.specs.Store.{Place, Held, Holds, Refers, Activation, Store}
-use Rattle.ob_positions.specs.Statements.{Outcome, Done, Trap, NotYet}
-use Rattle.ob_positions.specs.Object.{Effect, Ends, NeedsMore}
+use Rattle.ob_positions.specs.Statements.{Outcome, Done, Trap}
+use Rattle.ob_positions.specs.Object.{Effect}
 use Rattle.ob_agreement.specs.Resolved.{module_scope, IsAt, IsFieldAt, NoneCalled}
 
 -- one scalar of this type
@@ -121,18 +122,16 @@ SameEvaluated R v w = ⊥
 abbrev pub SameOutcome : Scopes → Meanings.Outcome → Outcome → Type 0
 SameOutcome scopes (Meanings.Done t named) (Done u store) = (t ≡ u) × SameStore scopes named store
 SameOutcome scopes (Meanings.Trap k) (Trap j) = k ≡ j
-SameOutcome scopes Meanings.NotYet NotYet = Unit {0}
 SameOutcome scopes o r = ⊥
 
 -- one state of the module: its variables, each with one value
 abbrev pub SameState : Program → State → Activation → Type 0
 SameState program = SameActivation (module_scope program ∷ []) 0 (module_scope program)
 
--- one effect of a call from outside: one state and one reply, or more turns are needed
-abbrev pub SameEffect : Program → Objects.Effect → Effect → Type 0
-SameEffect program (Objects.Ends state reply) (Ends activation answer) = SameState program state activation × (reply ≡ answer)
-SameEffect program Objects.NeedsMore NeedsMore = Unit {0}
-SameEffect program e f = ⊥
+-- one effect of a call from outside: one state and one reply
+pub record SameEffect (program : Program) (named : Objects.Effect) (effect : Effect) : Type 0 where
+  pub state : SameState program named.state effect.state
+  pub reply : named.reply ≡ effect.reply
 
 -- a value of its type for each of these parameters, in their order
 abbrev pub AreValuesOf : List Parameter → List Scalar → Type 0

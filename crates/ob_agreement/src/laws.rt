@@ -5,7 +5,8 @@ ghost use Rattle.ob_grammar.specs.Tree.{Module};
 ghost use Rattle.ob_typing.specs.Declarations.{WellTyped};
 ghost use Rattle.ob_typing.specs.Program.{Procedure, Program, exports};
 ghost use Rattle.ob_meaning.specs.Object as Objects;
-ghost use Rattle.ob_meaning.specs.Object.{ObjectCall, State};
+ghost use Rattle.ob_interface.specs.Call.{ObjectCall};
+ghost use Rattle.ob_meaning.specs.Object.{State};
 ghost use Rattle.ob_meaning.specs.Statements as Meanings;
 ghost use Rattle.ob_meaning.specs.Store as Names;
 ghost use Rattle.ob_positions.specs.Object as ObjectsByPosition;
@@ -39,5 +40,5 @@ pub fn exports_are_those_of_the_text()
 
 /// A call from outside that fits an export comes to the same by position as by name: one state and one reply.
 pub fn calls_from_outside_agree()
-    ensures { (program : Program) → IsResolved program → (call : ObjectCall) → FitsExport program call → (turns : ℕ) (state : State) (activation : Activation) → SameState program state activation → SameEffect program (Objects.effect program call turns state) (ObjectsByPosition.effect program call turns activation) }
+    ensures { (program : Program) → IsResolved program → (call : ObjectCall) → FitsExport program call → (budget : ℕ) (state : State) (activation : Activation) → SameState program state activation → SameEffect program (Objects.effect program call budget state) (ObjectsByPosition.effect program call budget activation) }
 {}

@@ -1,19 +1,20 @@
 -- Explanations made of the beginning of a module's text.
-use Rattle.std.proofs.Common.{◌≡◌, ◌<◌, ℕ, List, Result, Ok, Err, IfOk, length, false, subst, sym}
+use Rattle.std.proofs.Common.{◌≡◌, ◌<◌, ◌≤◌, ℕ, List, Result, Ok, Err, IfOk, length, false, subst, sym}
 use Rattle.ob_scan.specs.declared.fault.ScanFault.TheVariants as Scan
 use Rattle.ob_answer.specs.Explains.{IsCallsExplained, IsModuleExplained, shown_calls_fault, shown_module_fault, wrong}
 use Rattle.ob_answer.specs.Printed.{IsRefused}
 use Rattle.ob_answer.specs.declared.answered.Answer.{Answer}
 use Rattle.ob_command.specs.CommandLine.{Text}
 use Rattle.ob_sequential.specs.ModuleFaults as Modules
-use Rattle.ob_sequential.specs.ModuleFaults.{IsModuleFault}
-use Rattle.ob_sequential.specs.SequentialRun.{IsSeqTextFault, TellsMemoryApart, is_want_of_memory}
+use Rattle.ob_sequential.specs.ModuleFaults.{HasNoOpening, IsModuleFault}
+use Rattle.ob_sequential.specs.SequentialRun.{HasNoRun, IsNumbered, IsSeqTextFault, TellsMemoryApart, is_want_of_memory}
 use Rattle.ob_sequential.specs.declared.checked_text.TextFault.TheVariants as Texts
 use Rattle.ob_sequential.specs.declared.opened.ModuleFault.{ModuleFault}
 use Rattle.ob_sequential.specs.declared.opened.ModuleFault.TheVariants as Opened
 use Rattle.ob_sequential.specs.declared.sequential.SeqTextFault.{SeqTextFault}
 use Rattle.ob_sequential.specs.declared.sequential.SeqTextFault.TheVariants as Runs
 use Rattle.ob_answer.proofs.Beginnings.{beginning, of_whole_or_long}
+use Rattle.ob_answer.proofs.Made.{long_opens_not, long_runs_not, seq_too_long, too_long_scan}
 
 -- a text that is too long is told by a line, whatever it says
 long_module : (name : Text) (part whole : List ℕ) (e : ModuleFault) (a : Answer) → e ≡ Opened.Text (Texts.Scan Scan.TooLong) → 65536 < length whole
@@ -24,29 +25,36 @@ long_module name part whole e a is longer told =
 
 pub module_wrong_made : {E : Type 0} (name : Text) (part : List ℕ) (e : ModuleFault) (result : Result Answer E)
     → IfOk result (λ a. IsRefused a 1 (shown_module_fault name part e)) → IfOk result (λ _. Modules.is_want_of_memory e ≡ false)
-    → IsModuleFault part e → Modules.TellsMemoryApart e → (65536 < length part → e ≡ Opened.Text (Texts.Scan Scan.TooLong))
+    → IsModuleFault part e → Modules.TellsMemoryApart e → (Modules.IsNumbered e → HasNoOpening part)
+    → (65536 < length part → e ≡ Opened.Text (Texts.Scan Scan.TooLong))
     → IfOk result (λ a. (whole : List ℕ) → part ≡ beginning whole → IsModuleExplained name whole a)
-module_wrong_made name part e (Ok a) told numbered stands apart too_long =
+module_wrong_made name part e (Ok a) told numbered stands apart none too_long =
     λ whole is.
     let both = of_whole_or_long (λ t. IsModuleFault t e × IsRefused a 1 (shown_module_fault name t e)) part whole is
     (λ long longer. long_module name part whole e a (too_long long) longer told) (stands, told) in
-    wrong e both.0 (numbered, apart) both.1
-module_wrong_made name part e (Err x) told numbered stands apart too_long = tt
+    wrong e both.0 (numbered, apart) (of_whole_or_long HasNoOpening part whole is (λ long longer. long_opens_not whole longer) (none (numbered, apart))) both.1
+module_wrong_made name part e (Err x) told numbered stands apart none too_long = tt
 
-long_calls : (module_name : Text) (part whole : List ℕ) (script_name : Text) (script : List ℕ) (e : SeqTextFault) (a : Answer)
-    → e ≡ Runs.Text (Texts.Scan Scan.TooLong) → 65536 < length whole → IsRefused a 1 (shown_calls_fault module_name part script_name script e)
-    → IsSeqTextFault whole script e × IsRefused a 1 (shown_calls_fault module_name whole script_name script e)
-long_calls module_name part whole script_name script e a is longer told =
-    subst (λ (x : SeqTextFault). IsSeqTextFault whole script x × IsRefused a 1 (shown_calls_fault module_name whole script_name script x)) (sym is)
-    (record { stands = longer; none = λ says. absurd says }, subst (λ (x : SeqTextFault). IsRefused a 1 (shown_calls_fault module_name part script_name script x)) is told)
+-- so is a budget that is too large
+long_calls : (module_name : Text) (part whole : List ℕ) (script_name : Text) (script : List ℕ) (budget : ℕ) (e : SeqTextFault) (a : Answer)
+    → (1000000 < budget → e ≡ Runs.Budget) → (budget ≤ 1000000 → e ≡ Runs.Text (Texts.Scan Scan.TooLong)) → 65536 < length whole
+    → IsRefused a 1 (shown_calls_fault module_name part script_name script e)
+    → IsSeqTextFault whole script budget e × IsRefused a 1 (shown_calls_fault module_name whole script_name script e)
+long_calls module_name part whole script_name script budget e a too_much too_long longer =
+    seq_too_long
+    (λ x. IsRefused a 1 (shown_calls_fault module_name part script_name script x)
+    → IsSeqTextFault whole script budget x × IsRefused a 1 (shown_calls_fault module_name whole script_name script x))
+    budget e (λ much told. (much, told)) (λ told. (too_long_scan whole longer, told)) too_much too_long
 
-pub calls_wrong_made : {E : Type 0} (module_name : Text) (part : List ℕ) (script_name : Text) (script : List ℕ) (e : SeqTextFault) (result : Result Answer E)
+pub calls_wrong_made : {E : Type 0} (module_name : Text) (part : List ℕ) (script_name : Text) (script : List ℕ) (budget : ℕ) (e : SeqTextFault) (result : Result Answer E)
     → IfOk result (λ a. IsRefused a 1 (shown_calls_fault module_name part script_name script e)) → IfOk result (λ _. is_want_of_memory e ≡ false)
-    → IsSeqTextFault part script e → TellsMemoryApart e → (65536 < length part → e ≡ Runs.Text (Texts.Scan Scan.TooLong))
-    → IfOk result (λ a. (whole : List ℕ) → part ≡ beginning whole → IsCallsExplained module_name whole script_name script a)
-calls_wrong_made module_name part script_name script e (Ok a) told numbered stands apart too_long =
+    → IsSeqTextFault part script budget e → TellsMemoryApart e → (IsNumbered e → HasNoRun part script budget)
+    → (1000000 < budget → e ≡ Runs.Budget) → (budget ≤ 1000000 → 65536 < length part → e ≡ Runs.Text (Texts.Scan Scan.TooLong))
+    → IfOk result (λ a. (whole : List ℕ) → part ≡ beginning whole → IsCallsExplained module_name whole script_name script budget a)
+calls_wrong_made module_name part script_name script budget e (Ok a) told numbered stands apart none too_much too_long =
     λ whole is.
-    let both = of_whole_or_long (λ t. IsSeqTextFault t script e × IsRefused a 1 (shown_calls_fault module_name t script_name script e)) part whole is
-    (λ long longer. long_calls module_name part whole script_name script e a (too_long long) longer told) (stands, told) in
-    wrong e both.0 (numbered, apart) both.1
-calls_wrong_made module_name part script_name script e (Err x) told numbered stands apart too_long = tt
+    let both = of_whole_or_long (λ t. IsSeqTextFault t script budget e × IsRefused a 1 (shown_calls_fault module_name t script_name script e)) part whole is
+    (λ long longer. long_calls module_name part whole script_name script budget e a too_much (λ few. too_long few long) longer told) (stands, told) in
+    let no_run = of_whole_or_long (λ t. HasNoRun t script budget) part whole is (λ long longer. long_runs_not whole script budget longer) (none (numbered, apart)) in
+    wrong e both.0 (numbered, apart) (λ run. no_run run.0 run.1) both.1
+calls_wrong_made module_name part script_name script budget e (Err x) told numbered stands apart none too_much too_long = tt

@@ -12,10 +12,11 @@ use Rattle.ob_sequential.specs.SequentialRun.{IsNumbered, IsSeqTextFault, IsSequ
 use Rattle.ob_sequential.specs.declared.opened.ModuleFault.{ModuleFault}
 use Rattle.ob_sequential.specs.declared.sequential.SeqTextFault.{SeqTextFault}
 
--- Where the files are right, `ok` is printed; else a fault of theirs is shown, which is not want of memory.
+-- Where the files are right, `ok` is printed; else a fault of theirs is shown, which is not want of memory, and then they are not right.
 pub data IsExplained {Fault : Type 0} (IsRight : Type 0) (IsFault IsNumberedFault : Fault → Type 0) (shown_fault : Fault → Text) (answer : Answer) : Type 0 where
   right : IsRight → IsPrinted answer (codes "ok\n") → IsExplained IsRight IsFault IsNumberedFault shown_fault answer
-  wrong : (e : Fault) → IsFault e → IsNumberedFault e → IsRefused answer 1 (shown_fault e) → IsExplained IsRight IsFault IsNumberedFault shown_fault answer
+  wrong : (e : Fault) → IsFault e → IsNumberedFault e → (IsRight → ⊥) → IsRefused answer 1 (shown_fault e)
+      → IsExplained IsRight IsFault IsNumberedFault shown_fault answer
 
 -- a fault of a module: the place in its file where it has one, and else the line by which `check` tells it
 abbrev pub shown_module_fault : (name : Text) (bytes : List ℕ) → ModuleFault → Text
@@ -30,12 +31,12 @@ shown_calls_fault module_name module_bytes script_name script_bytes e =
 abbrev pub IsModuleExplained : (name : Text) (bytes : List ℕ) → Answer → Type 0
 IsModuleExplained name bytes = IsExplained (HasOpening bytes) (IsModuleFault bytes) Modules.IsNumbered (shown_module_fault name bytes)
 
--- the calls of a script have replies
-abbrev pub HasRun : (module_bytes script_bytes : List ℕ) → Type 0
-HasRun module_bytes script_bytes = (output : List ℕ) × IsSequentialRun module_bytes script_bytes output
+-- the calls of a script have replies with a budget
+abbrev pub HasRun : (module_bytes script_bytes : List ℕ) (budget : ℕ) → Type 0
+HasRun module_bytes script_bytes budget = (output : List ℕ) × IsSequentialRun module_bytes script_bytes budget output
 
--- to the names and the bytes of a module and a script, which are right where `seq` prints replies
-abbrev pub IsCallsExplained : (module_name : Text) (module_bytes : List ℕ) (script_name : Text) (script_bytes : List ℕ) → Answer → Type 0
-IsCallsExplained module_name module_bytes script_name script_bytes =
-    IsExplained (HasRun module_bytes script_bytes) (IsSeqTextFault module_bytes script_bytes) IsNumbered
+-- to the names and the bytes of a module and a script and to a budget, which are right where `seq` prints replies
+abbrev pub IsCallsExplained : (module_name : Text) (module_bytes : List ℕ) (script_name : Text) (script_bytes : List ℕ) (budget : ℕ) → Answer → Type 0
+IsCallsExplained module_name module_bytes script_name script_bytes budget =
+    IsExplained (HasRun module_bytes script_bytes budget) (IsSeqTextFault module_bytes script_bytes budget) IsNumbered
     (shown_calls_fault module_name module_bytes script_name script_bytes)

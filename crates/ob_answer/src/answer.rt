@@ -4,7 +4,7 @@ ghost use Rattle.std.specs.Prelude.{◌≡◌, ◌∷◌, [], ℕ, None, Some, f
 ghost use Rattle.ob_answer.specs.Answers.{IsAnswer, IsRunMade, files_of_run};
 ghost use Rattle.ob_answer.specs.Printed.{IsUnreadable};
 ghost use Rattle.ob_answer.specs.Reads.{IsOutcome};
-ghost use Rattle.ob_command.specs.CommandLine.{Check, Draw, Explain, Listing, Run, Seq, Serve, Text, Verify, is_option, number, request};
+ghost use Rattle.ob_command.specs.CommandLine.{Check, Draw, Explain, Listing, Run, Seq, Serve, Text, Verify, budget_number, is_option, number, request};
 ghost use Rattle.ob_command.specs.Commands.{request_of, run_request_of};
 
 use crate::answered::Answer;
@@ -16,7 +16,7 @@ use crate::making::{
 use crate::product::Product;
 use crate::shown_name::push_name;
 use ob_command::command::{Command, RunCommand, Stop, read_command};
-use ob_grammar::NoMemory;
+use ob_interface::NoMemory;
 use ob_scan::scanner::LONGEST_TEXT;
 use std::alloc::{AllocError, Global};
 use std::sync::Wait;
@@ -38,13 +38,15 @@ pub fn answer<R: Threads + Wait + Sync + AllocGlobal, F: Files>(
     // To any words: what they ask for is answered.
     ensures asked { IfOk result (λ a. IsAnswer F.reads (request (map (λ word. word.now) words.now)) files.old a files.new) }
 
-    // To a command's name and names of files: the outcome of these files.
+    // To a command's name and names of files: the outcome of these files. A call has 100,000 turns where nothing is said of them.
     ensures check { (m : Text) → map (λ word. word.now) words.now ≡ codes "check" ∷ m ∷ [] → is_option m ≡ false
         → IfOk result (λ a. IsAnswer F.reads (Check m) files.old a files.new) }
     ensures list { (m : Text) → map (λ word. word.now) words.now ≡ codes "list" ∷ m ∷ [] → is_option m ≡ false
         → IfOk result (λ a. IsAnswer F.reads (Listing m) files.old a files.new) }
     ensures seq { (m s : Text) → map (λ word. word.now) words.now ≡ codes "seq" ∷ m ∷ s ∷ [] → is_option m ≡ false → is_option s ≡ false
-        → IfOk result (λ a. IsAnswer F.reads (Seq m s) files.old a files.new) }
+        → IfOk result (λ a. IsAnswer F.reads (Seq m s 100000) files.old a files.new) }
+    ensures seq_budget { (m s b : Text) (k : ℕ) → map (λ word. word.now) words.now ≡ codes "seq" ∷ m ∷ s ∷ codes "-b" ∷ b ∷ [] → is_option m ≡ false → is_option s ≡ false → budget_number b ≡ Some k
+        → IfOk result (λ a. IsAnswer F.reads (Seq m s k) files.old a files.new) }
     ensures run { (m s q n : Text) (k : ℕ) → map (λ word. word.now) words.now ≡ codes "run" ∷ m ∷ s ∷ q ∷ codes "-n" ∷ n ∷ [] → is_option m ≡ false → is_option s ≡ false → is_option q ≡ false → number n ≡ Some k
         → IfOk result (λ a. IsAnswer F.reads (Run (record { module_name = m; script_name = s; schedule_name = q; processes = k })) files.old a files.new) }
     ensures serve { (m s n : Text) (k : ℕ) → map (λ word. word.now) words.now ≡ codes "serve" ∷ m ∷ s ∷ codes "-n" ∷ n ∷ [] → is_option m ≡ false → is_option s ≡ false → number n ≡ Some k
@@ -54,9 +56,11 @@ pub fn answer<R: Threads + Wait + Sync + AllocGlobal, F: Files>(
     ensures verify { (m r : Text) → map (λ word. word.now) words.now ≡ codes "verify" ∷ m ∷ r ∷ [] → is_option m ≡ false → is_option r ≡ false
         → IfOk result (λ a. IsAnswer F.reads (Verify m r) files.old a files.new) }
     ensures explain { (m : Text) → map (λ word. word.now) words.now ≡ codes "explain" ∷ m ∷ [] → is_option m ≡ false
-        → IfOk result (λ a. IsAnswer F.reads (Explain m None) files.old a files.new) }
+        → IfOk result (λ a. IsAnswer F.reads (Explain m None 100000) files.old a files.new) }
     ensures explain_calls { (m s : Text) → map (λ word. word.now) words.now ≡ codes "explain" ∷ m ∷ s ∷ [] → is_option m ≡ false → is_option s ≡ false
-        → IfOk result (λ a. IsAnswer F.reads (Explain m (Some s)) files.old a files.new) }
+        → IfOk result (λ a. IsAnswer F.reads (Explain m (Some s) 100000) files.old a files.new) }
+    ensures explain_budget { (m s b : Text) (k : ℕ) → map (λ word. word.now) words.now ≡ codes "explain" ∷ m ∷ s ∷ codes "-b" ∷ b ∷ [] → is_option m ≡ false → is_option s ≡ false → budget_number b ≡ Some k
+        → IfOk result (λ a. IsAnswer F.reads (Explain m (Some s) k) files.old a files.new) }
 {
     obey_words(rt, words, files)
 }
@@ -94,7 +98,8 @@ fn obey<R: Threads + Wait + Sync, F: Files>(
         Command::Seq {
             module_name,
             script_name,
-        } => obey_seq(alloc, module_name, script_name, files),
+            budget,
+        } => obey_seq(alloc, module_name, script_name, budget, files),
         Command::Run(run) => obey_run(alloc, run, Product::Record, files),
         Command::Serve {
             module_name,
@@ -109,7 +114,8 @@ fn obey<R: Threads + Wait + Sync, F: Files>(
         Command::Explain {
             module_name,
             script_name,
-        } => obey_explain(alloc, module_name, script_name, files),
+            budget,
+        } => obey_explain(alloc, module_name, script_name, budget, files),
     }
 }
 
@@ -135,14 +141,15 @@ fn obey_list<F: Files>(alloc: Global, module_name: &str, files: &mut F) -> Resul
     }
 }
 
-/// The answer to `seq`, of the names of its files.
+/// The answer to `seq`, of the names of its files and the budget of each call.
 fn obey_seq<F: Files>(
     alloc: Global,
     module_name: &str,
     script_name: &str,
+    budget: u32,
     files: &mut F,
 ) -> Result<Answer, NoMemory>
-    ensures { IfOk result (λ a. IsAnswer F.reads (Seq module_name.now script_name.now) files.old a files.new) }
+    ensures { IfOk result (λ a. IsAnswer F.reads (Seq module_name.now script_name.now budget) files.old a files.new) }
 {
     let module = match files.read_beginning(module_name, MODULE_BYTES) {
         Ok(bytes) => bytes,
@@ -154,7 +161,7 @@ fn obey_seq<F: Files>(
         Err(FileFault::Unreadable) => return Ok(unreadable(alloc, script_name)?),
         Err(FileFault::NoMemory) => return Err(NoMemory),
     };
-    answer_seq(alloc, module.as_slice(), script.as_slice())
+    answer_seq(alloc, module.as_slice(), script.as_slice(), budget)
 }
 
 /// The answer to `serve`, of the names of its files and the number of its workers.

@@ -16,23 +16,24 @@ use crate::making::refused;
 use crate::shown_name::push_name;
 use ob_explained::{calls_explanation, module_explanation};
 use ob_fault_lines::sequential_faults::{check_fault_line, seq_fault_line};
-use ob_grammar::NoMemory;
+use ob_interface::NoMemory;
 use ob_scan::scanner::LONGEST_TEXT;
 use ob_sequential::{ModuleFault, SeqTextFault, check_text, seq_text};
 use std::alloc::{AllocError, Global};
 
-/// The answer to `explain`, of the names of its files.
+/// The answer to `explain`, of the names of its files and the budget of each call. Of a module by itself no call is made.
 pub(crate) fn obey_explain<F: Files>(
     alloc: Global,
     module_name: &str,
     script_name: Option<&str>,
+    budget: u32,
     files: &mut F,
 ) -> Result<Answer, NoMemory>
-    ensures { IfOk result (λ a. IsAnswer F.reads (Explain module_name.now (option_map (λ name. name.now) script_name.entry)) files.old a files.new) }
+    ensures { IfOk result (λ a. IsAnswer F.reads (Explain module_name.now (option_map (λ name. name.now) script_name.entry) budget) files.old a files.new) }
 {
     match script_name {
         None => obey_explain_module(alloc, module_name, files),
-        Some(script_name) => obey_explain_calls(alloc, module_name, script_name, files),
+        Some(script_name) => obey_explain_calls(alloc, module_name, script_name, budget, files),
     }
 }
 
@@ -42,7 +43,7 @@ fn obey_explain_module<F: Files>(
     module_name: &str,
     files: &mut F,
 ) -> Result<Answer, NoMemory>
-    ensures { IfOk result (λ a. IsAnswer F.reads (Explain module_name.now None) files.old a files.new) }
+    ensures { IfOk result (λ a. (budget : ℕ) → IsAnswer F.reads (Explain module_name.now None budget) files.old a files.new) }
 {
     match files.read_beginning(module_name, MODULE_BYTES) {
         Ok(module) => explain_module(alloc, module_name, module.as_slice()),
@@ -51,14 +52,15 @@ fn obey_explain_module<F: Files>(
     }
 }
 
-/// The answer to `explain`, of the names of a module and a script.
+/// The answer to `explain`, of the names of a module and a script and the budget of each call.
 fn obey_explain_calls<F: Files>(
     alloc: Global,
     module_name: &str,
     script_name: &str,
+    budget: u32,
     files: &mut F,
 ) -> Result<Answer, NoMemory>
-    ensures { IfOk result (λ a. IsAnswer F.reads (Explain module_name.now (Some script_name.now)) files.old a files.new) }
+    ensures { IfOk result (λ a. IsAnswer F.reads (Explain module_name.now (Some script_name.now) budget) files.old a files.new) }
 {
     let module = match files.read_beginning(module_name, MODULE_BYTES) {
         Ok(bytes) => bytes,
@@ -76,6 +78,7 @@ fn obey_explain_calls<F: Files>(
         module.as_slice(),
         script_name,
         script.as_slice(),
+        budget,
     )
 }
 
@@ -109,17 +112,19 @@ fn module_wrong(
     }
 }
 
-/// The answer to the name and the beginning of a module's text, and to the name and the text of a script.
+/// The answer to the name and the beginning of a module's text, and to the name and the text of a script, whose calls have the
+/// budget of turns each.
 fn explain_calls(
     alloc: Global,
     module_name: &str,
     module: &[u8],
     script_name: &str,
     script: &[u8],
+    budget: u32,
 ) -> Result<Answer, NoMemory>
-    ensures { IfOk result (λ a. (whole : List ℕ) → «module».now ≡ take (suc LONGEST_TEXT) whole → IsCallsExplained module_name.now whole script_name.now script.now a) }
+    ensures { IfOk result (λ a. (whole : List ℕ) → «module».now ≡ take (suc LONGEST_TEXT) whole → IsCallsExplained module_name.now whole script_name.now script.now budget a) }
 {
-    match seq_text(alloc, module, script) {
+    match seq_text(alloc, module, script, u64::from(budget)) {
         Ok(_lines) => Ok(Answer::printed(alloc, String::from_str(alloc, "ok\n")?)),
         Err(fault) => calls_wrong(alloc, module_name, module, script_name, script, fault),
     }

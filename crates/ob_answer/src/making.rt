@@ -3,33 +3,31 @@
 ghost use Rattle.std.specs.Prelude.{◌≡◌, ◌≢◌, ◌<◌, ◌≤◌, ◌++◌, ◌⊎◌, ℕ, List, suc, false, take, Err, IfErr, IfOk, codes, length, string_bytes};
 ghost use Rattle.ob_answer.specs.Answers.{IsCheckAnswer, IsListAnswer, IsRunAnswer, IsSeqAnswer, IsServeAnswer, IsVerifyAnswer, SaysRun};
 ghost use Rattle.ob_answer.specs.Printed.{IsRefused};
-ghost use Rattle.ob_fault_lines.specs.FaultLines.{module_fault_line};
-ghost use Rattle.ob_fault_lines.specs.RunFaultLines.{run_fault_line};
+ghost use Rattle.ob_fault_lines.specs.RunFaultLines.{compile_line, run_fault_line};
 ghost use Rattle.ob_fault_lines.specs.SequentialFaultLines.{check_fault_line, seq_fault_line};
 ghost use Rattle.ob_fault_lines.specs.ServeFaultLines.{serve_fault_line};
 ghost use Rattle.ob_fault_lines.specs.VerifyFaultLines.{verify_fault_line};
+ghost use Rattle.ob_object.specs.Compilation as Compiles;
 ghost use Rattle.ob_object.specs.Performance as Performs;
-ghost use Rattle.ob_program.specs.ModuleCode.{is_module_memory};
 ghost use Rattle.ob_sequential.specs.ModuleFaults as Modules;
 ghost use Rattle.ob_sequential.specs.SequentialRun.{is_want_of_memory};
 
 use crate::answered::Answer;
 use crate::product::Product;
-use ob_fault_lines::fault_line::module_fault_line;
-use ob_fault_lines::run_faults::run_fault_line;
+use ob_fault_lines::run_faults::{compile_fault_line, run_fault_line};
 use ob_fault_lines::sequential_faults::{check_fault_line, seq_fault_line};
 use ob_fault_lines::serve_faults::serve_fault_line;
 use ob_fault_lines::verify_faults::verify_fault_line;
-use ob_grammar::NoMemory;
-use ob_object::compiling::{CompileFault, MOST_PROCESSES};
+use ob_interface::{MOST_PROCESSES, NoMemory};
+use ob_object::compiling::CompileFault;
+use ob_object::listing::list_text;
 use ob_object::performing::PerformFault;
 use ob_object::printing::{draw_text, run_text};
 use ob_opened::checked_text::TextFault;
-use ob_program::module_code::{ModuleTextFault, list_text};
 use ob_scan::ScanFault;
 use ob_scan::scanner::LONGEST_TEXT;
 use ob_sequential::{ModuleFault, SeqTextFault, check_text, seq_text};
-use ob_serve::{ServeTextFault, serve_text};
+use ob_serve_texts::{ServeTextFault, serve_text};
 use ob_verify::verifying::{VerifyFault, verify_text};
 use std::alloc::{AllocError, Global};
 use std::sync::Wait;
@@ -67,13 +65,13 @@ pub(crate) fn answer_list(alloc: Global, module: &[u8]) -> Result<Answer, NoMemo
 }
 
 /// The answer to a fault of a module whose code is listed.
-fn list_refused(alloc: Global, fault: ModuleTextFault) -> Result<Answer, NoMemory>
-    ensures fault { IfOk result (λ a. IsRefused a 1 (module_fault_line fault ++ codes "\n")) }
-    ensures memory { IfOk result (λ _. is_module_memory fault ≡ false) }
+fn list_refused(alloc: Global, fault: CompileFault) -> Result<Answer, NoMemory>
+    ensures fault { IfOk result (λ a. IsRefused a 1 (compile_line fault ++ codes "\n")) }
+    ensures memory { IfOk result (λ _. Compiles.is_want_of_memory fault ≡ false) }
 {
     match fault {
-        ModuleTextFault::NoMemory => Err(NoMemory),
-        fault => Ok(refused(alloc, module_fault_line(alloc, fault)?)?),
+        CompileFault::NoMemory => Err(NoMemory),
+        fault => Ok(refused(alloc, compile_fault_line(alloc, fault)?)?),
     }
 }
 
@@ -85,11 +83,16 @@ pub(crate) fn refused(alloc: Global, mut line: String) -> Result<Answer, AllocEr
     Ok(Answer::refused(alloc, 1, line))
 }
 
-/// The answer to the beginning of a module's text and to the text of a script.
-pub(crate) fn answer_seq(alloc: Global, module: &[u8], script: &[u8]) -> Result<Answer, NoMemory>
-    ensures { IfOk result (λ a. (whole : List ℕ) → «module».now ≡ take (suc LONGEST_TEXT) whole → IsSeqAnswer whole script.now a) }
+/// The answer to the beginning of a module's text and to the text of a script, whose calls have the budget of turns each.
+pub(crate) fn answer_seq(
+    alloc: Global,
+    module: &[u8],
+    script: &[u8],
+    budget: u32,
+) -> Result<Answer, NoMemory>
+    ensures { IfOk result (λ a. (whole : List ℕ) → «module».now ≡ take (suc LONGEST_TEXT) whole → IsSeqAnswer whole script.now budget a) }
 {
-    match seq_text(alloc, module, script) {
+    match seq_text(alloc, module, script, u64::from(budget)) {
         Ok(lines) => Ok(Answer::printed(alloc, lines)),
         Err(fault) => seq_refused(alloc, fault),
     }
@@ -134,6 +137,7 @@ fn run_lines(
 ) -> Result<String, PerformFault>
     ensures said { IfOk result (λ lines. SaysRun product «module».now processes script.now schedule.now (string_bytes lines)) }
     ensures fault { IfErr result (Performs.IsPerformFault «module».now processes script.now schedule.now) }
+    ensures none { IfErr result (λ e. Performs.IsNumbered e → Performs.HasNoPerformance «module».now processes script.now schedule.now) }
     ensures memory { IfErr result Performs.TellsMemoryApart }
     ensures processes { (processes ≡ 0) ⊎ (MOST_PROCESSES < processes) → result ≡ Err (PerformFault.Compile CompileFault.Processes) }
     ensures too_long { 0 < processes → processes ≤ MOST_PROCESSES → LONGEST_TEXT < length «module».now → result ≡ Err (PerformFault.Compile (CompileFault.Text (TextFault.Scan ScanFault.TooLong))) }

@@ -1,8 +1,8 @@
 -- A text is the script of one list of calls at most.
 use Rattle.std.proofs.Common.{◌≡◌, ◌∙◌, ℕ, ℤ, pos, neg_ℤ, List, ◌∷◌, Some, refl, sym, ap, Bool, true, false}
 use Rattle.std.proofs.lemmas.Bool.{false≢true}
-use Rattle.ob_typing.specs.declared.scalar.Scalar.{Scalar}
-use Rattle.ob_typing.specs.declared.scalar.Scalar.TheVariants as Scalars
+use Rattle.ob_interface.specs.declared.scalar.Scalar.{Scalar}
+use Rattle.ob_interface.specs.declared.scalar.Scalar.TheVariants as Scalars
 use Rattle.ob_typing.specs.Program.{DataType, Parameter, Procedure, Program}
 use Rattle.ob_text.specs.Words as Words
 use Rattle.ob_text.specs.Words.{IsDigits, IsInteger, IsProcess, Word}

@@ -1,7 +1,7 @@
 -- The lines that replies are printed as.
 use Rattle.std.specs.Prelude.{ℕ, suc, ◌==◌, List, [], ◌∷◌, ◌++◌, length, filter, codes, decimal}
 use Rattle.std.specs.List.{flat_map}
-use Rattle.ob_meaning.specs.Object.{Reply, Answers, Trapped}
+use Rattle.ob_interface.specs.Call.{Reply, Answers, Trapped}
 use Rattle.ob_calls.specs.Values.{scalar_text}
 
 -- what stands behind the call's id

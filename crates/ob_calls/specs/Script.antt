@@ -1,8 +1,8 @@
 -- Scripts: what each line says, of calls on the exports of a module by so many processes.
 use Rattle.std.specs.Prelude.{◌≡◌, ℕ, ◌-◌, ◌<◌, ◌≤◌, List, [], ◌∷◌, map, take, slice_get, Some, None}
-use Rattle.ob_typing.specs.declared.scalar.Scalar.{Scalar}
+use Rattle.ob_interface.specs.declared.scalar.Scalar.{Scalar}
 use Rattle.ob_typing.specs.Program.{Procedure, Program}
-use Rattle.ob_meaning.specs.Object.{ObjectCall}
+use Rattle.ob_interface.specs.Call.{ObjectCall}
 use Rattle.ob_text.specs.Words.{Word, IsName, IsProcess, lines, words}
 use Rattle.ob_calls.specs.Values.{AreValues, by_value}
 use Rattle.ob_calls.specs.ExportNames.{export_named}

@@ -2,9 +2,9 @@
 use Rattle.std.specs.Prelude.{◌≡◌, ℕ, ℤ, true, false, not, List, [], ◌∷◌, filter, codes}
 use Rattle.std.specs.Prelude as Prelude
 use Rattle.std.specs.Fmt.{signed_decimal}
-use Rattle.ob_typing.specs.declared.scalar.Scalar.{Scalar}
-use Rattle.ob_typing.specs.declared.scalar.Scalar.TheVariants.{Int, Bool}
-use Rattle.ob_typing.specs.declared.scalar.ScalarType.TheVariants.{Integer, Boolean}
+use Rattle.ob_interface.specs.declared.scalar.Scalar.{Scalar}
+use Rattle.ob_interface.specs.declared.scalar.Scalar.TheVariants.{Int, Bool}
+use Rattle.ob_interface.specs.declared.scalar.ScalarType.TheVariants.{Integer, Boolean}
 use Rattle.ob_typing.specs.Program.{DataType, Simple, Parameter}
 use Rattle.ob_text.specs.Words.{Word, IsInteger}
 

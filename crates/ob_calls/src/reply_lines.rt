@@ -7,9 +7,9 @@ ghost use Rattle.ob_calls.specs.ReplyLines.{reply_line, reply_lines};
 ghost use Rattle.ob_calls.specs.Values.{scalar_text};
 
 use crate::values::push_value;
+use ob_interface::scalar::Scalar;
 use ob_interpreter::call::Reply;
 use ob_text::numbers::push_number;
-use ob_typing::scalar::Scalar;
 use std::alloc::{AllocError, Global};
 
 /// The lines of replies to the calls of these callers, processes below `processes`: the first caller made the first

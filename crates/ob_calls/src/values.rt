@@ -3,14 +3,14 @@
 ghost use Rattle.std.specs.Prelude.{◌≡◌, ◌++◌, Bool, map, IfOk, OnOk, MatchOption, List, string_bytes};
 ghost use Rattle.ob_checked.specs.Types.{type_in};
 ghost use Rattle.ob_checked.specs.View.{parameter_of, table_of};
-ghost use Rattle.ob_typing.specs.declared.scalar.Scalar.{Scalar};
+ghost use Rattle.ob_interface.specs.declared.scalar.Scalar.{Scalar};
 ghost use Rattle.ob_calls.specs.Values.{AreValues, IsValue, by_value, scalar_text, truth_text};
 
 use ob_checked::program::Parameter;
 use ob_checked::types::{DataType, Types};
+use ob_interface::scalar::{Scalar, ScalarType};
 use ob_scopes::parts::simple_type;
 use ob_text::numbers::{push_number, read_integer};
-use ob_typing::scalar::{Scalar, ScalarType};
 use std::alloc::{AllocError, Global};
 
 /// The truth value that a word says.

@@ -16,7 +16,7 @@ use Rattle.ob_check.specs.declared.program.DataType.TheVariants.{Integer}
 use Rattle.ob_check.specs.declared.program.Expression.{Expression}
 use Rattle.ob_check.specs.declared.program.Expression.TheVariants as Expressions
 use Rattle.ob_check.specs.declared.program.Operation.{Operation}
-use Rattle.ob_check.specs.declared.program.Scalar.TheVariants.{Int}
+use Rattle.ob_interface.specs.declared.scalar.Scalar.TheVariants.{Int}
 use Rattle.ob_check.specs.Program as Program
 use Rattle.ob_check.specs.Scopes.{Environment}
 use Rattle.ob_check.specs.Typing as Typing

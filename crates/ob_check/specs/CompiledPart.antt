@@ -1,5 +1,5 @@
 -- The place of the first construct in a part of the tree beyond what is compiled, in the order of the text. Those are CONST and
--- TYPE with what they declare, types that are no names, declarations of a procedure's own, calls, IF, WHILE, selectors, and
+-- TYPE with what they declare, types that are no names, declarations of a procedure's own, calls, IF, WHILE, REPEAT, selectors, and
 -- expressions that are neither names, numbers nor sums by `+` and `-`. A construct's place is that of its first token.
 use Rattle.std.specs.Prelude.{ℕ, Bool, true, false, List, [], ◌∷◌, Option, Some, None, if◌then◌else◌}
 use Rattle.std.specs.Option.{option_or}
@@ -57,6 +57,7 @@ outside_stmt (Tree.Assign name selectors e) = Some name.place
 outside_stmt (Tree.Call name actuals) = Some name.place
 outside_stmt (Tree.If place branches otherwise) = Some place
 outside_stmt (Tree.While place condition body) = Some place
+outside_stmt (Tree.Repeat place body condition) = Some place
 
 abbrev pub outside_stmts : Stmts → Option ℕ
 outside_stmts Tree.no_stmt = None

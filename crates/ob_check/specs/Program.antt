@@ -2,7 +2,7 @@
 use Rattle.std.specs.Prelude.{ℕ, Bool, List, filter}
 use Rattle.ob_check.specs.declared.program.DataType.{DataType}
 use Rattle.ob_check.specs.declared.program.Arithmetic.{Arithmetic}
-use Rattle.ob_check.specs.declared.program.Scalar.{Scalar}
+use Rattle.ob_interface.specs.declared.scalar.Scalar.{Scalar}
 use Rattle.ob_check.specs.declared.program.Formal.{Formal}
 
 abbrev pub Name : Type 0

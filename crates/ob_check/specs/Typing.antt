@@ -7,7 +7,7 @@ use Rattle.ob_grammar.specs.Tree.{Expr, Operands, TypeExpr, Stmt, Stmts, ConstDe
 use Rattle.ob_check.specs.declared.program.DataType.{DataType}
 use Rattle.ob_check.specs.declared.program.DataType.TheVariants.{Integer}
 use Rattle.ob_check.specs.declared.program.Arithmetic.{Arithmetic}
-use Rattle.ob_check.specs.declared.program.Scalar.TheVariants.{Int}
+use Rattle.ob_interface.specs.declared.scalar.Scalar.TheVariants.{Int}
 use Rattle.ob_check.specs.Program
 use Rattle.ob_check.specs.Program.{Name, Expression, Literal, ValueOf, Negated, Computed, Operations, Designator, OfModule, Own, Statement, Statements, Parameter, Variable, Procedure, formal_of, exports}
 use Rattle.ob_check.specs.Scopes.{TypeName, ModuleVariable, LocalVariable, ProcedureName, Environment, no_names, found, IsNew, declared, level, variable_in, outermost, variable_words}

@@ -1,22 +1,6 @@
 //! The checked program, as the crates above read it.
 
-/// An INTEGER or a BOOLEAN.
-#[derive(Clone, Copy, PartialEq, Eq)]
-pub enum Scalar {
-    Int(i32),
-    Bool(bool),
-}
-
-impl Default for Scalar {
-    ghost use Rattle.std.specs.Prelude.{◌≡◌, pos};
-    ghost use Rattle.ob_check.specs.declared.program.Scalar.TheVariants.{Int};
-
-    ghost is_default = { λ s. s ≡ Int (pos 0) };
-
-    fn default() -> Scalar {
-        Scalar::Int(0)
-    }
-}
+use ob_interface::scalar::Scalar;
 
 /// A type.
 #[derive(Clone, Copy, PartialEq, Eq)]

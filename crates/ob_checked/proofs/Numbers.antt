@@ -5,7 +5,7 @@ use Rattle.std.specs.Prelude.{◌&&◌, if◌then◌else◌, slice_get, string_b
 use Rattle.std.specs.declared.alloc.Global.{Global}
 use Rattle.std.proofs.lemmas.Option.{slice_get_read}
 use Rattle.std.proofs.lemmas.List.{get_or_append_left, get_or_push, get_or_past, length-append}
-use Rattle.ob_typing.specs.declared.scalar.ScalarType.TheVariants.{Integer}
+use Rattle.ob_interface.specs.declared.scalar.ScalarType.TheVariants.{Integer}
 use Rattle.ob_typing.specs.Program
 use Rattle.ob_typing.specs.Scopes.{words, depth, is_small}
 use Rattle.ob_checked.specs.declared.types.DataType.{DataType}

@@ -2,7 +2,7 @@
 use Rattle.std.proofs.Common.{◌≡◌, Option, Some, None, refl, ap, sym, ◌∙◌, Box, Vec, string_bytes}
 use Rattle.std.specs.declared.alloc.Global.{Global}
 use mathlib.Core.Former.{Count}
-use Rattle.ob_typing.specs.declared.scalar.ScalarType.{ScalarType}
+use Rattle.ob_interface.specs.declared.scalar.ScalarType.{ScalarType}
 use Rattle.ob_typing.specs.Program as Program
 use Rattle.ob_checked.specs.declared.program.Expression.{Expression, Row_of-Operation, end_of-Operation, more_of-Operation, Row_of-Selector, end_of-Selector, more_of-Selector, items-the_row-Operation, items_hidden-the_row-Operation-1, items-the_row-Selector, items_hidden-the_row-Selector-0}
 use Rattle.ob_checked.specs.declared.program.Expression.TheVariants as Expressions
@@ -51,6 +51,7 @@ statements_row n (more_of-Statement s rest) = ap (Program.statement (statement_o
 
 abbrev body_row_of : Statement → (n : Count) × Row_of-Statement n
 body_row_of (Variants.While' condition shape body) = (_, body)
+body_row_of (Variants.Repeat' shape body condition) = (_, body)
 body_row_of _ = (_, end_of-Statement)
 
 pub statement_of-while : (condition : Expression) (body : Vec Statement Global) →
@@ -58,6 +59,12 @@ pub statement_of-while : (condition : Expression) (body : Vec Statement Global) 
 statement_of-while condition body =
     let row = body_row_of (Variants.While condition body) in
     ap (Program.While (expression_of condition)) (statements_row row.0 row.1 ∙ ap statements_in (items_hidden-the_row-Statement-0 body))
+
+pub statement_of-repeat : (body : Vec Statement Global) (condition : Expression) →
+    statement_of (Variants.Repeat body condition) ≡ Program.Repeat (statements_in body.items) (expression_of condition)
+statement_of-repeat body condition =
+    let row = body_row_of (Variants.Repeat body condition) in
+    ap (λ ss. Program.Repeat ss (expression_of condition)) (statements_row row.0 row.1 ∙ ap statements_in (items_hidden-the_row-Statement-0 body))
 
 branches_row : (n : Count) (row : Row_of-Branch n) (last : Program.Branches) → branches_of row last ≡ branches_in (items-the_row-Branch n row) last
 branches_row n end_of-Branch last = refl

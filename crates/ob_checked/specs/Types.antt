@@ -2,7 +2,7 @@
 use Rattle.std.specs.Prelude.{◌≡◌, ℕ, ◌≤◌, List, [], ◌∷◌, ◌++◌, length, true, ◌&&◌, nat_lt, if◌then◌else◌, Option, Some, None, slice_get, get_or, string_bytes, String}
 use Rattle.std.specs.Prelude as Prelude
 use Rattle.std.specs.declared.alloc.Global.{Global}
-use Rattle.ob_typing.specs.declared.scalar.ScalarType.TheVariants.{Integer}
+use Rattle.ob_interface.specs.declared.scalar.ScalarType.TheVariants.{Integer}
 use Rattle.ob_typing.specs.Program
 use Rattle.ob_typing.specs.Scopes.{words, depth, is_small}
 use Rattle.ob_checked.specs.declared.types.DataType.{DataType}

@@ -77,6 +77,7 @@ abbrev mutual
   statement_of (Statements.Call procedure actuals) = Programs.Call procedure (map actual_of actuals.items)
   statement_of (Statements.If' shape branches otherwise) = Programs.If (branches_of branches (else_of otherwise))
   statement_of (Statements.While' condition shape body) = Programs.While (expression_of condition) (statements_of body)
+  statement_of (Statements.Repeat' shape body condition) = Programs.Repeat (statements_of body) (expression_of condition)
 
   pub statements_of : {m : _} → Row_of-Statement m → Programs.Statements
   statements_of end_of-Statement = Programs.no_statement

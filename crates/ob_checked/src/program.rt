@@ -1,8 +1,8 @@
 //! The checked program, as the crates above read it.
 
 use crate::types::{DataType, Types};
+use ob_interface::scalar::{Scalar, ScalarType};
 use ob_typing::operator::{BinaryOperator, Relation};
-use ob_typing::scalar::{Scalar, ScalarType};
 
 /// Variables in text order, procedures in the order of their headings, nested ones too.
 #[derive(Drop)]
@@ -71,6 +71,10 @@ pub enum Statement {
     While {
         condition: Expression,
         body: Vec<Statement>,
+    },
+    Repeat {
+        body: Vec<Statement>,
+        condition: Expression,
     },
 }
 

@@ -5,7 +5,7 @@ ghost use Rattle.std.proofs.Props.{props};
 ghost use Rattle.ob_checked.specs.Types.{IsTable};
 
 use indexmap::IndexMap;
-use ob_typing::scalar::ScalarType;
+use ob_interface::scalar::ScalarType;
 use std::alloc::{AllocFailed, Global};
 
 /// The most words of a type.

@@ -12,7 +12,7 @@ use crate::instr::Instr;
 use crate::saved::{Callers, Saved};
 use crate::stack::Stack;
 use crate::turn::BodyTurn;
-use ob_grammar::NoMemory;
+use ob_interface::NoMemory;
 use std::alloc::Global;
 use std::marker::Model;
 

@@ -8,7 +8,7 @@ ghost use Rattle.ob_code.specs.Listing as Listing;
 use crate::code::Code;
 use crate::instr::Instr;
 use itoa::{Buffer, Integer};
-use ob_grammar::NoMemory;
+use ob_interface::NoMemory;
 use std::alloc::{AllocError, Global};
 
 /// The text of code whose procedures have these names: of each procedure `PROCEDURE` and its name, and

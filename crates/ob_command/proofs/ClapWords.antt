@@ -3,7 +3,7 @@ use Rattle.std.proofs.Common.{◌≡◌, ◌∙◌, ℕ, refl, sym, ap, ap₂, L
 use Rattle.std.specs.Option.{option_map_or}
 use Rattle.std.specs.Str.{bytes_eq}
 use Rattle.std.proofs.lemmas.Slice.Eq.{bytes_eq-Decides}
-use Rattle.clap.specs.Lexer.{long_of, long_of_rest, short_of, short_of_rest, strip_byte}
+use Rattle.clap.specs.Lexer.{long_of, long_of_rest, short_of, short_of_rest, strip_byte, without_minus}
 use Rattle.clap.specs.Walk.{Held, Walk, Step, walk_from, nothing_held, Row, Rule, Text, Names, answers_to, walked, idle, option, value, plain_word, finished, settled, reading_by, word_met, to_positional, arg_by_index, after_step}
 use Rattle.clap.specs.Kinds.{Kinds, or_else}
 use Rattle.clap.specs.Faults.{fault_of, walk_fault, settle_fault, defaults_fault, check_fault, entered_fault, level_fault, turn_fault, step_fault}
@@ -16,9 +16,9 @@ use Rattle.clap.specs.declared.parser.matches.ValueSource.TheVariants.{CommandLi
 use Rattle.clap.proofs.FaultLemmas.{stopped_fault}
 use Rattle.clap.proofs.WalkLemmas.{walk_stopped}
 use Rattle.clap.proofs.OnLiterals.{clap_on_literals}
-use Rattle.ob_command.specs.ClapCommand.{explain_app, module_app, name_rule, obl0_app, run_app, serve_app, top_shape}
-use Rattle.ob_command.specs.CommandLine.{Check, Draw, Explain, Help, Listing, Request, Run, RunRequest, Seq, Serve, Unclear, Verify, clap_request, is_option, number, request, request_by, run_of, serve_of}
-use Rattle.ob_command.proofs.Numbers.{PlainNumber, plain_number}
+use Rattle.ob_command.specs.ClapCommand.{explain_app, module_app, name_rule, obl0_app, run_app, seq_app, serve_app, top_shape}
+use Rattle.ob_command.specs.CommandLine.{Check, Draw, Explain, Help, Listing, Request, Run, RunRequest, Seq, Serve, Unclear, Verify, budget_number, clap_request, is_option, number, request, request_by, run_of, serve_of}
+use Rattle.ob_command.proofs.Numbers.{PlainNumber, plain_budget, plain_number}
 
 -- ---- a word that is no option
 
@@ -151,6 +151,12 @@ optional_name place id = record (built_name place id) { required = false }
 abbrev pub built_number : Rule
 built_number = built_one (codes "N") None (Some 110) (parser.Signed (pos 0) (pos 65535))
 
+abbrev pub built_budget : Rule
+built_budget = record (built_one (codes "BUDGET") None (Some 98) (parser.Signed (pos 0) (pos 4294967295))) {
+  long = Some (codes "budget");
+  required = false;
+}
+
 abbrev pub built_help : Rule
 built_help = record help_rule {
   range = Some (record { start_inclusive = 0; end_inclusive = 0 });
@@ -167,9 +173,13 @@ module_leaf command = built_leaf (module_app command).top (built_name 1 (codes "
 abbrev pub second_leaf : Text → Text → Shape
 second_leaf command id = built_leaf (with_rule (module_app command) (name_rule id)).top (built_name 1 (codes "MODULE") ∷ built_name 2 id ∷ built_help ∷ [])
 
+abbrev pub seq_leaf : Text → Shape
+seq_leaf command = built_leaf (seq_app command).top (built_name 1 (codes "MODULE") ∷ built_name 2 (codes "SCRIPT") ∷ built_budget ∷ built_help ∷ [])
+
 -- one of a second file that may be missing
 abbrev pub explain_leaf : Text → Shape
-explain_leaf command = built_leaf (explain_app command).top (built_name 1 (codes "MODULE") ∷ optional_name 2 (codes "SCRIPT") ∷ built_help ∷ [])
+explain_leaf command =
+    built_leaf (explain_app command).top (built_name 1 (codes "MODULE") ∷ optional_name 2 (codes "SCRIPT") ∷ built_budget ∷ built_help ∷ [])
 
 abbrev pub run_leaf : Text → Shape
 run_leaf command = built_leaf (run_app command).top
@@ -184,7 +194,7 @@ built_top = record top_shape { rules = built_help ∷ []; is_leaf = false; is_bu
 abbrev pub built_app : App
 built_app = record {
   top = built_top;
-  subs = module_leaf (codes "check") ∷ module_leaf (codes "list") ∷ second_leaf (codes "seq") (codes "SCRIPT")
+  subs = module_leaf (codes "check") ∷ module_leaf (codes "list") ∷ seq_leaf (codes "seq")
       ∷ run_leaf (codes "run") ∷ serve_leaf (codes "serve") ∷ run_leaf (codes "draw") ∷ second_leaf (codes "verify") (codes "RECORD") ∷ explain_leaf (codes "explain") ∷ [];
 }
 
@@ -249,11 +259,43 @@ one_name command m no_m = named (module_leaf command) [] None 1 m no_m refl _ re
 
 -- the module's name and a script's
 with_script : (command m s : Text) → is_option m ≡ false → is_option s ≡ false
-    → Goes (second_leaf command (codes "SCRIPT")) start (m ∷ s ∷ []) (name_row (codes "MODULE") m ∷ name_row (codes "SCRIPT") s ∷ [])
+    → Goes (seq_leaf command) start (m ∷ s ∷ []) (name_row (codes "MODULE") m ∷ name_row (codes "SCRIPT") s ∷ [])
 unfolding clap_on_literals
 with_script command m s no_m no_s =
-    named (second_leaf command (codes "SCRIPT")) [] None 1 m no_m refl _ refl (s ∷ []) _
-    (named (second_leaf command (codes "SCRIPT")) [] (Some (codes "MODULE", m ∷ [])) 2 s no_s refl _ refl [] _ (record { no_fault = refl; leaves = refl }))
+    named (seq_leaf command) [] None 1 m no_m refl _ refl (s ∷ []) _
+    (named (seq_leaf command) [] (Some (codes "MODULE", m ∷ [])) 2 s no_s refl _ refl [] _ (record { no_fault = refl; leaves = refl }))
+
+abbrev budget_row : Text → Row
+budget_row b = record { id = codes "BUDGET"; values = b ∷ []; count = None; source = Some CommandLine; reading = reading_by built_budget }
+
+-- the same names with a budget
+abbrev seq_rows : Text → Text → Text → List Row
+seq_rows m s b = name_row (codes "MODULE") m ∷ name_row (codes "SCRIPT") s ∷ budget_row b ∷ []
+
+-- where the option stood behind the names, and its value follows
+seq_value : (command m s b : Text) → PlainNumber 4294967295 b
+    → Goes (seq_leaf command) (waits (seq_leaf command) (name_row (codes "MODULE") m ∷ name_row (codes "SCRIPT") s ∷ []) (Some (codes "BUDGET", [])) 3 (codes "BUDGET"))
+    (b ∷ []) (seq_rows m s b)
+unfolding clap_on_literals
+seq_value command m s b plain =
+    valued (seq_leaf command) (name_row (codes "MODULE") m ∷ name_row (codes "SCRIPT") s ∷ []) (Some (codes "BUDGET", [])) 3 (codes "BUDGET")
+    b plain.no_option _ refl [] _ (record { no_fault = ap (λ (t : Bool). or_else (or_else (if t then [] else kind.ValueValidation ∷ []) []) []) plain.passes; leaves = refl })
+
+with_short_budget : (command m s b : Text) → is_option m ≡ false → is_option s ≡ false → PlainNumber 4294967295 b
+    → Goes (seq_leaf command) start (m ∷ s ∷ codes "-b" ∷ b ∷ []) (seq_rows m s b)
+unfolding clap_on_literals
+with_short_budget command m s b no_m no_s plain =
+    named (seq_leaf command) [] None 1 m no_m refl _ refl (s ∷ codes "-b" ∷ b ∷ []) _
+    (named (seq_leaf command) [] (Some (codes "MODULE", m ∷ [])) 2 s no_s refl _ refl (codes "-b" ∷ b ∷ []) _
+    (stepped (seq_leaf command) _ (codes "-b") refl _ refl (b ∷ []) _ (seq_value command m s b plain)))
+
+with_long_budget : (command m s b : Text) → is_option m ≡ false → is_option s ≡ false → PlainNumber 4294967295 b
+    → Goes (seq_leaf command) start (m ∷ s ∷ codes "--budget" ∷ b ∷ []) (seq_rows m s b)
+unfolding clap_on_literals
+with_long_budget command m s b no_m no_s plain =
+    named (seq_leaf command) [] None 1 m no_m refl _ refl (s ∷ codes "--budget" ∷ b ∷ []) _
+    (named (seq_leaf command) [] (Some (codes "MODULE", m ∷ [])) 2 s no_s refl _ refl (codes "--budget" ∷ b ∷ []) _
+    (stepped (seq_leaf command) _ (codes "--budget") refl _ refl (b ∷ []) _ (seq_value command m s b plain)))
 
 -- and a record's
 with_record : (command m r : Text) → is_option m ≡ false → is_option r ≡ false
@@ -278,6 +320,35 @@ with_optional command m s no_m no_s =
     named (explain_leaf command) [] None 1 m no_m refl _ refl (s ∷ []) _
     (named (explain_leaf command) [] (Some (codes "MODULE", m ∷ [])) 2 s no_s refl _ refl [] _ (record { no_fault = refl; leaves = refl }))
 
+-- and a budget with them
+abbrev explain_rows : Text → Text → Text → List Row
+explain_rows m s b = name_row (codes "MODULE") m ∷ optional_row (codes "SCRIPT") s ∷ budget_row b ∷ []
+
+explain_value : (command m s b : Text) → PlainNumber 4294967295 b
+    → Goes (explain_leaf command)
+    (waits (explain_leaf command) (name_row (codes "MODULE") m ∷ optional_row (codes "SCRIPT") s ∷ []) (Some (codes "BUDGET", [])) 3 (codes "BUDGET"))
+    (b ∷ []) (explain_rows m s b)
+unfolding clap_on_literals
+explain_value command m s b plain =
+    valued (explain_leaf command) (name_row (codes "MODULE") m ∷ optional_row (codes "SCRIPT") s ∷ []) (Some (codes "BUDGET", [])) 3 (codes "BUDGET")
+    b plain.no_option _ refl [] _ (record { no_fault = ap (λ (t : Bool). or_else (or_else (if t then [] else kind.ValueValidation ∷ []) []) []) plain.passes; leaves = refl })
+
+explained_with_short : (command m s b : Text) → is_option m ≡ false → is_option s ≡ false → PlainNumber 4294967295 b
+    → Goes (explain_leaf command) start (m ∷ s ∷ codes "-b" ∷ b ∷ []) (explain_rows m s b)
+unfolding clap_on_literals
+explained_with_short command m s b no_m no_s plain =
+    named (explain_leaf command) [] None 1 m no_m refl _ refl (s ∷ codes "-b" ∷ b ∷ []) _
+    (named (explain_leaf command) [] (Some (codes "MODULE", m ∷ [])) 2 s no_s refl _ refl (codes "-b" ∷ b ∷ []) _
+    (stepped (explain_leaf command) _ (codes "-b") refl _ refl (b ∷ []) _ (explain_value command m s b plain)))
+
+explained_with_long : (command m s b : Text) → is_option m ≡ false → is_option s ≡ false → PlainNumber 4294967295 b
+    → Goes (explain_leaf command) start (m ∷ s ∷ codes "--budget" ∷ b ∷ []) (explain_rows m s b)
+unfolding clap_on_literals
+explained_with_long command m s b no_m no_s plain =
+    named (explain_leaf command) [] None 1 m no_m refl _ refl (s ∷ codes "--budget" ∷ b ∷ []) _
+    (named (explain_leaf command) [] (Some (codes "MODULE", m ∷ [])) 2 s no_s refl _ refl (codes "--budget" ∷ b ∷ []) _
+    (stepped (explain_leaf command) _ (codes "--budget") refl _ refl (b ∷ []) _ (explain_value command m s b plain)))
+
 abbrev number_row : Text → Row
 number_row n = record { id = codes "N"; values = n ∷ []; count = None; source = Some CommandLine; reading = reading_by built_number }
 
@@ -289,7 +360,7 @@ abbrev run_words : Text → Text → Text → Text → List Text
 run_words m s d n = m ∷ s ∷ d ∷ codes "-n" ∷ n ∷ []
 
 -- after the three names the option, and its value
-number_given : (command m s d n : Text) → PlainNumber n
+number_given : (command m s d n : Text) → PlainNumber 65535 n
     → Goes (run_leaf command) (record {
       held = record { rows = name_row (codes "MODULE") m ∷ name_row (codes "SCRIPT") s ∷ []; pending = Some (codes "SCHEDULE", d ∷ []); skip = 0 };
       waiting = idle;
@@ -303,7 +374,7 @@ number_given command m s d n plain =
     (valued (run_leaf command) (name_row (codes "MODULE") m ∷ name_row (codes "SCRIPT") s ∷ name_row (codes "SCHEDULE") d ∷ []) (Some (codes "N", [])) 4 (codes "N")
     n plain.no_option _ refl [] _ (record { no_fault = ap (λ (t : Bool). or_else (or_else (if t then [] else kind.ValueValidation ∷ []) []) []) plain.passes; leaves = refl }))
 
-run_given : (command m s d n : Text) → is_option m ≡ false → is_option s ≡ false → is_option d ≡ false → PlainNumber n
+run_given : (command m s d n : Text) → is_option m ≡ false → is_option s ≡ false → is_option d ≡ false → PlainNumber 65535 n
     → Goes (run_leaf command) start (run_words m s d n) (run_rows m s d n)
 unfolding clap_on_literals
 run_given command m s d n no_m no_s no_d plain =
@@ -316,7 +387,7 @@ run_given command m s d n no_m no_s no_d plain =
 abbrev serve_rows : Text → Text → Text → List Row
 serve_rows m s n = name_row (codes "MODULE") m ∷ name_row (codes "SCRIPT") s ∷ number_row n ∷ []
 
-serve_given : (command m s n : Text) → is_option m ≡ false → is_option s ≡ false → PlainNumber n
+serve_given : (command m s n : Text) → is_option m ≡ false → is_option s ≡ false → PlainNumber 65535 n
     → Goes (serve_leaf command) start (m ∷ s ∷ codes "-n" ∷ n ∷ []) (serve_rows m s n)
 unfolding clap_on_literals
 serve_given command m s n no_m no_s plain =
@@ -347,24 +418,62 @@ pub list_asked : (m : Text) → is_option m ≡ false → request (codes "list" 
 unfolding clap_on_literals
 list_asked m no_m = asked (codes "list") (module_leaf (codes "list")) refl refl refl (m ∷ []) _ (one_name (codes "list") m no_m)
 
-pub seq_asked : (m s : Text) → is_option m ≡ false → is_option s ≡ false → request (codes "seq" ∷ m ∷ s ∷ []) ≡ Seq m s
+pub seq_asked : (m s : Text) → is_option m ≡ false → is_option s ≡ false → request (codes "seq" ∷ m ∷ s ∷ []) ≡ Seq m s 100000
 unfolding clap_on_literals
 seq_asked m s no_m no_s =
-    asked (codes "seq") (second_leaf (codes "seq") (codes "SCRIPT")) refl refl refl (m ∷ s ∷ []) _ (with_script (codes "seq") m s no_m no_s)
+    asked (codes "seq") (seq_leaf (codes "seq")) refl refl refl (m ∷ s ∷ []) _ (with_script (codes "seq") m s no_m no_s)
+
+-- a command that asks for calls on a module, by a script and a budget
+abbrev CallsAsked : Text → Text → (Text → Text → ℕ → Request) → Type 0
+CallsAsked command flag asks = (m s b : Text) (k : ℕ) → is_option m ≡ false → is_option s ≡ false → budget_number b ≡ Some k
+    → request (command ∷ m ∷ s ∷ flag ∷ b ∷ []) ≡ asks m s k
+
+budget_is : (b : Text) (k : ℕ) → budget_number b ≡ Some k → budget_number (without_minus b) ≡ Some k
+budget_is b k is =
+    let plain = plain_budget b k is in
+    ap budget_number plain.as_is ∙ is
+
+pub seq_short_asked : CallsAsked (codes "seq") (codes "-b") Seq
+unfolding clap_on_literals
+seq_short_asked m s b k no_m no_s is =
+    asked (codes "seq") (seq_leaf (codes "seq")) refl refl refl (m ∷ s ∷ codes "-b" ∷ b ∷ []) _
+    (with_short_budget (codes "seq") m s b no_m no_s (plain_budget b k is))
+    ∙ ap (λ (o : Option ℕ). unwrap_or (option_map (Seq m s) o) Unclear) (budget_is b k is)
+
+pub seq_long_asked : CallsAsked (codes "seq") (codes "--budget") Seq
+unfolding clap_on_literals
+seq_long_asked m s b k no_m no_s is =
+    asked (codes "seq") (seq_leaf (codes "seq")) refl refl refl (m ∷ s ∷ codes "--budget" ∷ b ∷ []) _
+    (with_long_budget (codes "seq") m s b no_m no_s (plain_budget b k is))
+    ∙ ap (λ (o : Option ℕ). unwrap_or (option_map (Seq m s) o) Unclear) (budget_is b k is)
 
 pub verify_asked : (m r : Text) → is_option m ≡ false → is_option r ≡ false → request (codes "verify" ∷ m ∷ r ∷ []) ≡ Verify m r
 unfolding clap_on_literals
 verify_asked m r no_m no_r =
     asked (codes "verify") (second_leaf (codes "verify") (codes "RECORD")) refl refl refl (m ∷ r ∷ []) _ (with_record (codes "verify") m r no_m no_r)
 
-pub explain_asked : (m : Text) → is_option m ≡ false → request (codes "explain" ∷ m ∷ []) ≡ Explain m None
+pub explain_asked : (m : Text) → is_option m ≡ false → request (codes "explain" ∷ m ∷ []) ≡ Explain m None 100000
 unfolding clap_on_literals
 explain_asked m no_m = asked (codes "explain") (explain_leaf (codes "explain")) refl refl refl (m ∷ []) _ (without_script (codes "explain") m no_m)
 
-pub explain_script_asked : (m s : Text) → is_option m ≡ false → is_option s ≡ false → request (codes "explain" ∷ m ∷ s ∷ []) ≡ Explain m (Some s)
+pub explain_script_asked : (m s : Text) → is_option m ≡ false → is_option s ≡ false → request (codes "explain" ∷ m ∷ s ∷ []) ≡ Explain m (Some s) 100000
 unfolding clap_on_literals
 explain_script_asked m s no_m no_s =
     asked (codes "explain") (explain_leaf (codes "explain")) refl refl refl (m ∷ s ∷ []) _ (with_optional (codes "explain") m s no_m no_s)
+
+pub explain_short_asked : CallsAsked (codes "explain") (codes "-b") (λ m s k. Explain m (Some s) k)
+unfolding clap_on_literals
+explain_short_asked m s b k no_m no_s is =
+    asked (codes "explain") (explain_leaf (codes "explain")) refl refl refl (m ∷ s ∷ codes "-b" ∷ b ∷ []) _
+    (explained_with_short (codes "explain") m s b no_m no_s (plain_budget b k is))
+    ∙ ap (λ (o : Option ℕ). unwrap_or (option_map (Explain m (Some s)) o) Unclear) (budget_is b k is)
+
+pub explain_long_asked : CallsAsked (codes "explain") (codes "--budget") (λ m s k. Explain m (Some s) k)
+unfolding clap_on_literals
+explain_long_asked m s b k no_m no_s is =
+    asked (codes "explain") (explain_leaf (codes "explain")) refl refl refl (m ∷ s ∷ codes "--budget" ∷ b ∷ []) _
+    (explained_with_long (codes "explain") m s b no_m no_s (plain_budget b k is))
+    ∙ ap (λ (o : Option ℕ). unwrap_or (option_map (Explain m (Some s)) o) Unclear) (budget_is b k is)
 
 -- the words of a run behind a command
 abbrev RunAsked : Text → (RunRequest → Request) → Type 0

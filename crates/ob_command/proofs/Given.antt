@@ -1,5 +1,5 @@
--- Where a level of the command line has no fault, each argument that has to be there has its value, and N has a number.
-use Rattle.std.proofs.Common.{◌≡◌, ◌∙◌, ℕ, zero, suc, refl, ap, List, [], ◌∷◌, ◌++◌, length, fold, drop, true, false, Bool, if◌then◌else◌, ◌&&◌, Option, Some, None, is_some, chars, encode_utf8, slice_get, find, codes, option_and_then, option_map, subst}
+-- Where a level of the command line has no fault, each argument that has to be there has its value, and N and BUDGET have a number.
+use Rattle.std.proofs.Common.{◌≡◌, ◌∙◌, ℕ, zero, suc, refl, ap, List, [], ◌∷◌, ◌++◌, length, fold, drop, true, false, Bool, if◌then◌else◌, ◌&&◌, Option, Some, None, is_some, chars, encode_utf8, slice_get, find, codes, option_and_then, option_map, subst, ◌⊎◌, inl, inr}
 use Rattle.std.specs.List.{list_all}
 use Rattle.std.specs.Option.{option_map_or}
 use Rattle.std.specs.Str.{bytes_eq}
@@ -15,11 +15,14 @@ use Rattle.clap.specs.declared.parser.matches.ValueSource.TheVariants.{CommandLi
 use Rattle.clap.specs.declared.builder.value_parser.Reading.{Reading}
 use Rattle.clap.specs.declared.error.kind.ErrorKind.TheVariants.{TooManyValues}
 use Rattle.clap.proofs.WalkLemmas.{both}
-use Rattle.ob_command.specs.CommandLine.{number, processes_of}
+use Rattle.ob_command.specs.CommandLine.{budget_number, budget_of, default_budget, number, processes_of}
 
--- what a value is read as can stand for the argument of this id: a number for N
+-- what a value is read as can stand for the argument of this id: a number for N and for BUDGET
 abbrev pub suits : Text → Text → Bool
-suits id text = if bytes_eq id (codes "N") then is_some (number text) else true
+suits id text =
+    if bytes_eq id (codes "N") then is_some (number text)
+    else if bytes_eq id (codes "BUDGET") then is_some (budget_number text)
+    else true
 
 -- each row has a value, which can stand for its argument
 abbrev has_value : Row → Bool
@@ -286,6 +289,41 @@ given_number rows f given =
     let suited = subst (λ (id : Text). option_map_or (suits id) (row_text g.row) false ≡ true) g.id_is g.valued in
     let some = has_number (row_text g.row) suited in
     rw (g.is) some
+
+has_budget : (o : Option Text) → option_map_or (suits (codes "BUDGET")) o false ≡ true → is_some (option_and_then budget_number o) ≡ true
+has_budget None h = cc
+has_budget (Some t) h = h
+
+-- a row of this id, which is the first, or none
+abbrev MetRow : Text → List Row → Type 0
+MetRow id rows = (find (λ r. bytes_eq r.id id) rows ≡ None) ⊎ GivenRow id rows
+
+met_row : (id : Text) (rows : List Row) → Filled rows → MetRow id rows
+met_row id [] f = inl refl
+met_row id (r ∷ rows) f = go (bytes_eq r.id id) refl (met_row id rows (others r rows f))
+  where
+    behind : bytes_eq r.id id ≡ false → MetRow id rows → MetRow id (r ∷ rows)
+    behind t (inl none) = inl (rw t none)
+    behind t (inr g) = inr (record { row = g.row; is = rw t g.is; id_is = g.id_is; valued = g.valued })
+
+    go : (t : Bool) → bytes_eq r.id id ≡ t → MetRow id rows → MetRow id (r ∷ rows)
+    go true t rest = inr (record { row = r; is = rw t refl; id_is = (bytes_eq-Decides r.id id).0 t; valued = first_has r rows f })
+    go false t rest = behind t rest
+
+-- the budget is a number, or the one where nothing is said of it
+pub some_budget : (rows : List Row) → Filled rows → is_some (budget_of rows) ≡ true
+some_budget rows f = go (met_row (codes "BUDGET") rows f)
+  where
+    either : (t : Bool) (o : Option ℕ) → is_some o ≡ true → is_some (if t then o else Some default_budget) ≡ true
+    either true o h = h
+    either false o h = refl
+
+    go : MetRow (codes "BUDGET") rows → is_some (budget_of rows) ≡ true
+    go (inl none) = rw none refl
+    go (inr g) =
+        let suited = subst (λ (id : Text). option_map_or (suits id) (row_text g.row) false ≡ true) g.id_is g.valued in
+        let some = has_budget (row_text g.row) suited in
+        rw (g.is) (either (is_some (slice_get g.row.values 0)) (option_and_then budget_number (row_text g.row)) some)
 
 pub level_filled : (s : Shape) → EachFills s.rules → (words : List Text)
     → walk_fault s [] (walk_from nothing_held) words ≡ []

@@ -18,10 +18,10 @@ use Rattle.clap.specs.Walk.{nothing_held}
 use Rattle.clap.proofs.OnLiterals.{clap_on_literals}
 use Rattle.ob_command.specs.ClapCommand.{obl0_app}
 use Rattle.std.specs.Borrow.{Bor}
-use Rattle.clap.specs.Words.{first_of, first_value}
+use Rattle.clap.specs.Words.{first_of, first_value, one_of}
 use Rattle.clap.specs.declared.parser.matches.Found.{Found}
 use Rattle.clap.proofs.WalkLemmas.{first_value-rows}
-use Rattle.ob_command.specs.CommandLine.{Request, Check, Draw, Explain, Help, Listing, Run, RunRequest, Seq, Serve, Unclear, Verify, clap_request, command_of, is_alone, processes_of, request, request_by, run_of, serve_of}
+use Rattle.ob_command.specs.CommandLine.{Request, Check, Draw, Explain, Help, Listing, Run, RunRequest, Seq, Serve, Unclear, Verify, budget_number, budget_of, clap_request, command_of, default_budget, is_alone, processes_of, request, request_by, run_of, seq_of, serve_of}
 use Rattle.ob_command.specs.Commands.{IsReading, IsStopOf, request_of}
 use Rattle.ob_command.specs.declared.command.Stop.{Stop}
 use Rattle.ob_command.specs.declared.command.Stop.TheVariants as stops
@@ -89,9 +89,15 @@ a_check name m rows is h = rw (is, h) refl
 pub a_list : (name m : Text) (rows : List Row) → name ≡ codes "list" → first_of (codes "MODULE") rows ≡ Some m → command_of name rows ≡ Some (Listing m)
 a_list name m rows is h = rw (is, h) refl
 
-pub a_seq : (name m : Text) (rows : List Row) (script : Option Text) → name ≡ codes "seq" → first_of (codes "MODULE") rows ≡ Some m
-    → first_of (codes "SCRIPT") rows ≡ script → command_of name rows ≡ option_map (Seq m) script
-a_seq name m rows script is h s = rw (is, h, s) refl
+pub a_seq : (name m : Text) (rows : List Row) → name ≡ codes "seq" → first_of (codes "MODULE") rows ≡ Some m → command_of name rows ≡ seq_of m rows
+a_seq name m rows is h = rw (is, h) refl
+
+pub no_seq_script : (m : Text) (rows : List Row) → first_of (codes "SCRIPT") rows ≡ None → seq_of m rows ≡ None
+no_seq_script m rows h = rw h refl
+
+pub seq_by : (m s : Text) (rows : List Row) (b : Option ℕ) → first_of (codes "SCRIPT") rows ≡ Some s → budget_of rows ≡ b
+    → seq_of m rows ≡ option_map (Seq m s) b
+seq_by m s rows b h e = rw h (ap (option_map (Seq m s)) e)
 
 pub a_run : (name m : Text) (rows : List Row) (run : Option RunRequest) → name ≡ codes "run" → first_of (codes "MODULE") rows ≡ Some m
     → run_of m rows ≡ run → command_of name rows ≡ option_map Run run
@@ -108,9 +114,16 @@ pub a_verify : (name m : Text) (rows : List Row) (record_name : Option Text) →
     → first_of (codes "RECORD") rows ≡ record_name → command_of name rows ≡ option_map (Verify m) record_name
 a_verify name m rows record_name is h r = rw (is, h, r) refl
 
-pub an_explain : (name m : Text) (rows : List Row) (script : Option Text) → name ≡ codes "explain" → first_of (codes "MODULE") rows ≡ Some m
-    → first_of (codes "SCRIPT") rows ≡ script → command_of name rows ≡ Some (Explain m script)
-an_explain name m rows script is h s = rw (is, h, s) refl
+pub an_explain : (name m : Text) (rows : List Row) (script : Option Text) (b : Option ℕ) → name ≡ codes "explain" → first_of (codes "MODULE") rows ≡ Some m
+    → first_of (codes "SCRIPT") rows ≡ script → budget_of rows ≡ b → command_of name rows ≡ option_map (Explain m script) b
+an_explain name m rows script b is h s e = rw (is, h, s) (ap (option_map (Explain m script)) e)
+
+-- the budget where something stands behind `-b`, and where nothing does
+pub budget_given : (rows : List Row) (t : Text) → first_of (codes "BUDGET") rows ≡ Some t → budget_of rows ≡ option_and_then budget_number (one_of (codes "BUDGET") rows)
+budget_given rows t h = rw h refl
+
+pub no_budget_given : (rows : List Row) → first_of (codes "BUDGET") rows ≡ None → budget_of rows ≡ Some default_budget
+no_budget_given rows h = rw h refl
 
 pub no_script : (m : Text) (rows : List Row) → first_of (codes "SCRIPT") rows ≡ None → run_of m rows ≡ None
 no_script m rows h = rw h refl

@@ -15,10 +15,10 @@ use Rattle.clap.specs.Takes.{is_given}
 use Rattle.clap.specs.declared.error.kind.ErrorKind.{ErrorKind}
 use Rattle.clap.specs.declared.error.kind.ErrorKind.TheVariants as kind
 use Rattle.ob_command.specs.ClapCommand.{obl0_app}
-use Rattle.ob_command.specs.CommandLine.{Request, Check, Draw, Explain, Listing, Run, RunRequest, Seq, Verify, command_of, processes_of, run_of, serve_of}
-use Rattle.ob_command.proofs.ClapWords.{built_app, built_help, built_name, built_number, built_one, built_top, module_leaf, names, explain_leaf, optional_name, run_leaf, second_leaf, serve_leaf}
-use Rattle.ob_command.proofs.Given.{EachFills, Filled, Fills, given_first, given_number, level_filled, neither, suits, with_filled, without_filled}
-use Rattle.ob_command.proofs.Numbers.{number_accepted}
+use Rattle.ob_command.specs.CommandLine.{Request, Check, Draw, Listing, Run, RunRequest, Verify, budget_of, command_of, explain_of, processes_of, run_of, seq_of, serve_of}
+use Rattle.ob_command.proofs.ClapWords.{built_app, built_budget, built_help, built_name, built_number, built_one, built_top, module_leaf, names, explain_leaf, optional_name, run_leaf, second_leaf, seq_leaf, serve_leaf}
+use Rattle.ob_command.proofs.Given.{EachFills, Filled, Fills, given_first, given_number, level_filled, neither, some_budget, suits, with_filled, without_filled}
+use Rattle.ob_command.proofs.Numbers.{budget_accepted, number_accepted}
 
 kept : (t : Bool) (rows : List Row) → (if t then rows else rows) ≡ rows
 kept true rows = refl
@@ -66,6 +66,12 @@ fills_optional place id lets = record { uses = one_uses id (Some place) None par
 
 fills_number : Fills built_number
 fills_number = fills_one (codes "N") None (Some 110) (parser.Signed (pos 0) (pos 65535)) number_accepted
+
+fills_budget : Fills built_budget
+fills_budget = record {
+  uses = one_uses (codes "BUDGET") None (Some 98) (parser.Signed (pos 0) (pos 4294967295)) budget_accepted;
+  no_default = λ rows. kept (has_row (codes "BUDGET") rows) rows;
+}
 
 fills_help : Fills built_help
 fills_help = record { uses = λ again values rows none f. f; no_default = λ rows. kept (has_row (codes "help") rows) rows }
@@ -168,12 +174,22 @@ run_asks command asks words none =
     (λ script. some_then (first_of (codes "SCHEDULE") rows) _ (given_first (codes "SCHEDULE") rows p.filled (p.given.1.1.0 refl))
     (λ schedule. some_map (processes_of rows) _ (given_number rows p.filled (p.given.1.1.1.0 refl))))))
 
-explain_asks : (command : Text) → AsksBy (explain_leaf command) (λ rows m. Some (Explain m (first_of (codes "SCRIPT") rows)))
+seq_asks : (command : Text) → AsksBy (seq_leaf command) (λ rows m. seq_of m rows)
+seq_asks command words none =
+    let s = seq_leaf command in
+    let p = passes s (fills_name 1 (codes "MODULE") any_text, (fills_name 2 (codes "SCRIPT") any_text, (fills_budget, (fills_help, tt)))) refl words none in
+    let rows = rows_of_leaf s words in
+    some_then (first_of (codes "MODULE") rows) (λ m. seq_of m rows) (given_first (codes "MODULE") rows p.filled (p.given.0 refl))
+    (λ m. some_then (first_of (codes "SCRIPT") rows) _ (given_first (codes "SCRIPT") rows p.filled (p.given.1.0 refl))
+    (λ script. some_map (budget_of rows) _ (some_budget rows p.filled)))
+
+explain_asks : (command : Text) → AsksBy (explain_leaf command) (λ rows m. explain_of m rows)
 explain_asks command words none =
     let s = explain_leaf command in
-    let p = passes s (fills_name 1 (codes "MODULE") any_text, (fills_optional 2 (codes "SCRIPT") any_text, (fills_help, tt))) refl words none in
+    let p = passes s (fills_name 1 (codes "MODULE") any_text, (fills_optional 2 (codes "SCRIPT") any_text, (fills_budget, (fills_help, tt)))) refl words none in
     let rows = rows_of_leaf s words in
-    some_then (first_of (codes "MODULE") rows) _ (given_first (codes "MODULE") rows p.filled (p.given.0 refl)) (λ m. refl)
+    some_then (first_of (codes "MODULE") rows) (λ m. explain_of m rows) (given_first (codes "MODULE") rows p.filled (p.given.0 refl))
+    (λ m. some_map (budget_of rows) _ (some_budget rows p.filled))
 
 serve_asks : (command : Text) → AsksBy (serve_leaf command) (λ rows m. serve_of m rows)
 serve_asks command words none =
@@ -217,7 +233,7 @@ each_asks = (
   (
     module_asks (codes "list") Listing,
     (
-      second_asks (codes "seq") (codes "SCRIPT") any_text Seq,
+      seq_asks (codes "seq"),
       (run_asks (codes "run") Run, (serve_asks (codes "serve"), (run_asks (codes "draw") Draw, (second_asks (codes "verify") (codes "RECORD") any_text Verify, (explain_asks (codes "explain"), tt))))),
     ),
   ),

@@ -11,17 +11,25 @@ name_rule id = record (new_rule id) { required = true }
 abbrev pub number_rule : Rule
 number_rule = record (name_rule (codes "N")) { short = Some 110; parser = Some (Signed (pos 0) (pos 65535)) }
 
+-- `-b BUDGET`, `--budget BUDGET`, with a number of 32 bits, which may be missing
+abbrev pub budget_rule : Rule
+budget_rule = record (new_rule (codes "BUDGET")) { short = Some 98; long = Some (codes "budget"); parser = Some (Signed (pos 0) (pos 4294967295)) }
+
 -- `check MODULE`, `list MODULE`
 abbrev pub module_app : Text → App
 module_app command = with_rule (new_app command) (name_rule (codes "MODULE"))
 
--- `seq MODULE SCRIPT`
+-- `MODULE SCRIPT` behind a command
 abbrev pub script_app : Text → App
 script_app command = with_rule (module_app command) (name_rule (codes "SCRIPT"))
 
--- `explain MODULE`, `explain MODULE SCRIPT`
+-- `seq MODULE SCRIPT -b BUDGET`
+abbrev pub seq_app : Text → App
+seq_app command = with_rule (script_app command) budget_rule
+
+-- `explain MODULE`, `explain MODULE SCRIPT -b BUDGET`
 abbrev pub explain_app : Text → App
-explain_app command = with_rule (module_app command) (new_rule (codes "SCRIPT"))
+explain_app command = with_rule (with_rule (module_app command) (new_rule (codes "SCRIPT"))) budget_rule
 
 -- `run MODULE SCRIPT SCHEDULE -n N`, `draw MODULE SCRIPT SCHEDULE -n N`
 abbrev pub run_app : Text → App
@@ -52,6 +60,6 @@ abbrev pub with_command : App → App → App
 with_command app command = with_subcommand app command.top
 
 abbrev pub obl0_app : App
-obl0_app = fold with_command top_app (module_app (codes "check") ∷ module_app (codes "list") ∷ script_app (codes "seq")
+obl0_app = fold with_command top_app (module_app (codes "check") ∷ module_app (codes "list") ∷ seq_app (codes "seq")
     ∷ run_app (codes "run") ∷ serve_app (codes "serve") ∷ run_app (codes "draw") ∷ record_app (codes "verify")
     ∷ explain_app (codes "explain") ∷ [])

@@ -1,5 +1,5 @@
 -- What the words of the command line ask for, by what clap makes of them.
-use Rattle.std.specs.Prelude.{ℕ, ◌==◌, Bool, false, List, [], ◌∷◌, Option, Some, None, option_and_then, option_map, unwrap_or, codes, if◌then◌else◌}
+use Rattle.std.specs.Prelude.{ℕ, ◌==◌, Bool, false, List, [], ◌∷◌, Option, Some, None, is_some, option_and_then, option_map, unwrap_or, codes, if◌then◌else◌}
 use Rattle.std.specs.Str.{bytes_eq}
 use Rattle.std.specs.Str.Parse.{digits_value, without_leading_plus}
 use Rattle.clap.specs.ValueTests.{is_unsigned_in}
@@ -19,27 +19,44 @@ pub record RunRequest : Type 0 where
 
 -- What they ask for: the rules of a module checked; its code listed; the calls of a script made on it; a run's record;
 -- the record of workers' run; a run's picture; the order of a record checked; what is wrong with a module, or with a module and a script, shown to
--- people; help; the version; or nothing that there is. A command has the names of its files.
+-- people; help; the version; or nothing that there is. A command has the names of its files, and a budget is how many turns each call has.
 pub data Request : Type 0 where
   Check : (module_name : Text) → Request
   Listing : (module_name : Text) → Request
-  Seq : (module_name script_name : Text) → Request
+  Seq : (module_name script_name : Text) (budget : ℕ) → Request
   Run : (run : RunRequest) → Request
   Serve : (module_name script_name : Text) (processes : ℕ) → Request
   Draw : (run : RunRequest) → Request
   Verify : (module_name record_name : Text) → Request
-  Explain : (module_name : Text) (script_name : Option Text) → Request
+  Explain : (module_name : Text) (script_name : Option Text) (budget : ℕ) → Request
   Help : Request
   Version : Request
   Unclear : Request
 
--- The number that a text writes: decimal digits, a `+` before them or not, below 65,536.
+-- The number that a text writes: decimal digits, a `+` before them or not, with a value of at most so much.
+abbrev pub number_up_to : (most : ℕ) → Text → Option ℕ
+number_up_to most text = if is_unsigned_in 0 most text then Some (digits_value 10 (without_leading_plus text)) else None
+
+-- a number of processes, below 65,536
 abbrev pub number : Text → Option ℕ
-number text = if is_unsigned_in 0 65535 text then Some (digits_value 10 (without_leading_plus text)) else None
+number = number_up_to 65535
+
+-- a budget, below 2 ^ 32
+abbrev pub budget_number : Text → Option ℕ
+budget_number = number_up_to 4294967295
+
+-- the budget where nothing is said of it
+abbrev pub default_budget : ℕ
+default_budget = 100000
 
 -- the number that stands behind `-n`, of the rows in which clap keeps what stood behind the command
 abbrev pub processes_of : List Row → Option ℕ
 processes_of rows = option_and_then number (one_of (codes "N") rows)
+
+-- the budget that stands behind `-b`, where something stands there
+abbrev pub budget_of : List Row → Option ℕ
+budget_of rows =
+    if is_some (first_of (codes "BUDGET") rows) then option_and_then budget_number (one_of (codes "BUDGET") rows) else Some default_budget
 
 -- what a run is made of, of the same rows
 abbrev pub run_of : Text → List Row → Option RunRequest
@@ -56,17 +73,26 @@ abbrev pub serve_of : Text → List Row → Option Request
 serve_of module_name rows =
     option_and_then (λ script_name. option_map (Serve module_name script_name) (processes_of rows)) (first_of (codes "SCRIPT") rows)
 
+-- the calls to be made, of the same rows
+abbrev pub seq_of : Text → List Row → Option Request
+seq_of module_name rows =
+    option_and_then (λ script_name. option_map (Seq module_name script_name) (budget_of rows)) (first_of (codes "SCRIPT") rows)
+
+-- what is to be shown, of the same rows
+abbrev pub explain_of : Text → List Row → Option Request
+explain_of module_name rows = option_map (Explain module_name (first_of (codes "SCRIPT") rows)) (budget_of rows)
+
 -- the command of a name, of the same rows
 abbrev pub command_of : Text → List Row → Option Request
 command_of name rows = option_and_then (λ module_name.
     if bytes_eq name (codes "check") then Some (Check module_name)
     else if bytes_eq name (codes "list") then Some (Listing module_name)
-    else if bytes_eq name (codes "seq") then option_map (Seq module_name) (first_of (codes "SCRIPT") rows)
+    else if bytes_eq name (codes "seq") then seq_of module_name rows
     else if bytes_eq name (codes "run") then option_map Run (run_of module_name rows)
     else if bytes_eq name (codes "serve") then serve_of module_name rows
     else if bytes_eq name (codes "draw") then option_map Draw (run_of module_name rows)
     else if bytes_eq name (codes "verify") then option_map (Verify module_name) (first_of (codes "RECORD") rows)
-    else if bytes_eq name (codes "explain") then Some (Explain module_name (first_of (codes "SCRIPT") rows))
+    else if bytes_eq name (codes "explain") then explain_of module_name rows
     else None) (first_of (codes "MODULE") rows)
 
 -- Where clap finds no fault, the command that it met. Else its first fault decides: it is a call for help, or a mistake.

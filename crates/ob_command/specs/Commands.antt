@@ -21,12 +21,12 @@ run_request_of run = record {
 abbrev pub request_of : command.Command → Request
 request_of (commands.Check module_name) = Check module_name.now
 request_of (commands.List module_name) = Listing module_name.now
-request_of (commands.Seq module_name script_name) = Seq module_name.now script_name.now
+request_of (commands.Seq module_name script_name budget) = Seq module_name.now script_name.now budget
 request_of (commands.Run run) = Run (run_request_of run)
 request_of (commands.Serve module_name script_name processes) = Serve module_name.now script_name.now processes
 request_of (commands.Draw run) = Draw (run_request_of run)
 request_of (commands.Verify module_name record_name) = Verify module_name.now record_name.now
-request_of (commands.Explain module_name script_name) = Explain module_name.now (option_map (λ name. name.now) script_name)
+request_of (commands.Explain module_name script_name budget) = Explain module_name.now (option_map (λ name. name.now) script_name) budget
 
 -- the command that is asked for, or why there is none
 abbrev pub IsReading : Request → Result command.Command Stop → Type 0

@@ -3,8 +3,8 @@
 ghost use Rattle.std.specs.Prelude.{◌≡◌, false, true, IfOk, IsOkAnd, map, option_map};
 ghost use Rattle.clap.specs.Words.{app_of, found_of, kind_of, rows_of, rule_of};
 ghost use Rattle.clap.specs.declared.builder.command.Command.TheViews.{out-Command as fields_of};
-ghost use Rattle.ob_command.specs.ClapCommand.{explain_app, module_app, name_rule, number_rule, obl0_app, record_app, run_app, script_app, serve_app, top_app, with_command};
-ghost use Rattle.ob_command.specs.CommandLine.{clap_request, command_of, is_alone, request, run_of, serve_of};
+ghost use Rattle.ob_command.specs.ClapCommand.{budget_rule, explain_app, module_app, name_rule, number_rule, obl0_app, record_app, run_app, script_app, seq_app, serve_app, top_app, with_command};
+ghost use Rattle.ob_command.specs.CommandLine.{budget_of, clap_request, command_of, is_alone, request, run_of, serve_of};
 ghost use Rattle.ob_command.specs.Commands.{IsReading, IsStopOf, request_of, run_request_of};
 ghost use Rattle.ob_command.specs.declared.command.Stop.TheVariants.{NoMemory};
 
@@ -23,10 +23,11 @@ pub enum Command<'a> {
     List {
         module_name: &'a str,
     },
-    /// `seq MODULE SCRIPT`: the calls of a script on a module, one at a time.
+    /// `seq MODULE SCRIPT -b BUDGET`: the calls of a script on a module, one at a time.
     Seq {
         module_name: &'a str,
         script_name: &'a str,
+        budget: u32,
     },
     /// `run MODULE SCRIPT SCHEDULE -n N`: the record of a run.
     Run(RunCommand<'a>),
@@ -43,10 +44,11 @@ pub enum Command<'a> {
         module_name: &'a str,
         record_name: &'a str,
     },
-    /// `explain MODULE`, `explain MODULE SCRIPT`: what is wrong with them, shown to people.
+    /// `explain MODULE`, `explain MODULE SCRIPT -b BUDGET`: what is wrong with them, shown to people.
     Explain {
         module_name: &'a str,
         script_name: Option<&'a str>,
+        budget: u32,
     },
 }
 
@@ -80,6 +82,9 @@ impl From<AllocError> for Stop {
     }
 }
 
+/// How many turns each call has where nothing is said of them.
+const DEFAULT_BUDGET: u32 = 100_000;
+
 const ABOUT_SEQ: &str = "Makes the calls of a script one at a time and prints the reply to each";
 
 const ABOUT_RUN: &str =
@@ -100,6 +105,9 @@ const HELP_SCHEDULE: &str =
     "The file of the items that say which process steps: PROCESS*STEPS, PROCESS:LABEL or PROCESS!";
 
 const HELP_RECORD: &str = "The file of the record, as `run` prints it";
+
+const HELP_BUDGET: &str =
+    "How many turns each call has, 0 to 1000000; 100000 where nothing is said";
 
 /// What stands below the help.
 const AFTER_HELP: &str = "\
@@ -158,6 +166,7 @@ fn command_of<'a>(name: &str, matches: &ArgMatches<'a>) -> Option<Command<'a>>
         "seq" => Some(Command::Seq {
             module_name,
             script_name: matches.get_str("SCRIPT")?,
+            budget: budget_of(matches)?,
         }),
         "run" => Some(Command::Run(run_of(module_name, matches)?)),
         "serve" => serve_of(module_name, matches),
@@ -169,6 +178,7 @@ fn command_of<'a>(name: &str, matches: &ArgMatches<'a>) -> Option<Command<'a>>
         "explain" => Some(Command::Explain {
             module_name,
             script_name: matches.get_str("SCRIPT"),
+            budget: budget_of(matches)?,
         }),
         _ => None,
     }
@@ -202,6 +212,16 @@ fn serve_of<'a>(module_name: &'a str, matches: &ArgMatches<'a>) -> Option<Comman
     })
 }
 
+/// How many turns each call has, of the matches of the words behind a command that makes calls.
+fn budget_of(matches: &ArgMatches<'_>) -> Option<u32>
+    ensures { result ≡ budget_of (rows_of (found_of matches.now)) }
+{
+    match matches.get_str("BUDGET") {
+        Some(_) => matches.get_one::<u32>("BUDGET"),
+        None => Some(DEFAULT_BUDGET),
+    }
+}
+
 /// What a parse without matches stops for.
 fn stop_of(alloc: Global, error: &clap::Error) -> Result<Stop, AllocError>
     ensures { IfOk result (IsStopOf (kind_of error.now)) }
@@ -223,7 +243,7 @@ fn command_line<'a>(alloc: Global) -> Result<clap::Command<'a>, AllocError>
     let program = with_command(program, check)?;
     let list = module_line(alloc, "list", "Prints the code of a module");
     let program = with_command(program, list)?;
-    let program = with_command(program, script_line(alloc, "seq", ABOUT_SEQ))?;
+    let program = with_command(program, seq_line(alloc, "seq", ABOUT_SEQ))?;
     let program = with_command(program, run_line(alloc, "run", ABOUT_RUN))?;
     let program = with_command(program, serve_line(alloc, "serve", ABOUT_SERVE))?;
     let program = with_command(program, run_line(alloc, "draw", ABOUT_DRAW))?;
@@ -295,6 +315,18 @@ fn script_line<'a>(
     module_line(alloc, command, about)?.arg(file_name(alloc, "SCRIPT", HELP_SCRIPT))
 }
 
+/// The words behind a command that makes the calls of a script on a module.
+fn seq_line<'a>(
+    alloc: Global,
+    command: &'a str,
+    about: &'a str,
+) -> Result<clap::Command<'a>, AllocError>
+    ensures app { IfOk result (λ c. app_of c ≡ seq_app command.entry.now) }
+    ensures local { IfOk result (λ c. (fields_of c).has_globals ≡ false) }
+{
+    script_line(alloc, command, about)?.arg(call_budget(alloc))
+}
+
 /// The words behind a command on a module, and on a script where one is named.
 fn explain_line<'a>(
     alloc: Global,
@@ -304,7 +336,9 @@ fn explain_line<'a>(
     ensures app { IfOk result (λ c. app_of c ≡ explain_app command.entry.now) }
     ensures local { IfOk result (λ c. (fields_of c).has_globals ≡ false) }
 {
-    module_line(alloc, command, about)?.arg(Arg::new(alloc, "SCRIPT").help(HELP_SCRIPT))
+    module_line(alloc, command, about)?
+        .arg(Arg::new(alloc, "SCRIPT").help(HELP_SCRIPT))?
+        .arg(call_budget(alloc))
 }
 
 /// The words behind a command on a module and the record of a run.
@@ -350,4 +384,16 @@ fn process_count<'a>(alloc: Global) -> Arg<'a>
         .required(true)
         .value_parser(clap::value_parser!(u16))
         .help("How many processes there are, 1 to 16")
+}
+
+/// The option that says how many turns each call has.
+fn call_budget<'a>(alloc: Global) -> Arg<'a>
+    ensures rule { rule_of result ≡ budget_rule }
+    ensures local { result.global ≡ false }
+{
+    Arg::new(alloc, "BUDGET")
+        .short('b')
+        .long("budget")
+        .value_parser(clap::value_parser!(u32))
+        .help(HELP_BUDGET)
 }

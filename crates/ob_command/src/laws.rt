@@ -1,7 +1,7 @@
 //! What plain words ask for. What a function here ensures is proved; it does nothing.
 
 ghost use Rattle.std.specs.Prelude.{◌≡◌, ℕ, Some, None, [], ◌∷◌, false, codes};
-ghost use Rattle.ob_command.specs.CommandLine.{Check, Draw, Explain, Help, Listing, Run, Seq, Serve, Text, Unclear, Verify, is_option, number, request};
+ghost use Rattle.ob_command.specs.CommandLine.{Check, Draw, Explain, Help, Listing, Run, Seq, Serve, Text, Unclear, Verify, budget_number, is_option, number, request};
 
 /// `check` and a name that is no option.
 pub fn check_is_asked()
@@ -13,9 +13,17 @@ pub fn list_is_asked()
     ensures { (m : Text) → is_option m ≡ false → request (codes "list" ∷ m ∷ []) ≡ Listing m }
 {}
 
-/// `seq` and two names that are no options.
+/// `seq` and two names that are no options: each call has the budget that there is where nothing is said of it.
 pub fn seq_is_asked()
-    ensures { (m s : Text) → is_option m ≡ false → is_option s ≡ false → request (codes "seq" ∷ m ∷ s ∷ []) ≡ Seq m s }
+    ensures { (m s : Text) → is_option m ≡ false → is_option s ≡ false → request (codes "seq" ∷ m ∷ s ∷ []) ≡ Seq m s 100000 }
+{}
+
+/// The same, and `-b` or `--budget` with a number.
+pub fn seq_with_budget_is_asked()
+    ensures short { (m s b : Text) (k : ℕ) → is_option m ≡ false → is_option s ≡ false → budget_number b ≡ Some k
+        → request (codes "seq" ∷ m ∷ s ∷ codes "-b" ∷ b ∷ []) ≡ Seq m s k }
+    ensures long { (m s b : Text) (k : ℕ) → is_option m ≡ false → is_option s ≡ false → budget_number b ≡ Some k
+        → request (codes "seq" ∷ m ∷ s ∷ codes "--budget" ∷ b ∷ []) ≡ Seq m s k }
 {}
 
 /// `run` and three names that are no options, and `-n` with a number.
@@ -45,12 +53,20 @@ pub fn verify_is_asked()
 
 /// `explain` and a name that is no option.
 pub fn explain_is_asked()
-    ensures { (m : Text) → is_option m ≡ false → request (codes "explain" ∷ m ∷ []) ≡ Explain m None }
+    ensures { (m : Text) → is_option m ≡ false → request (codes "explain" ∷ m ∷ []) ≡ Explain m None 100000 }
 {}
 
 /// `explain` and two names that are no options.
 pub fn explain_of_script_is_asked()
-    ensures { (m s : Text) → is_option m ≡ false → is_option s ≡ false → request (codes "explain" ∷ m ∷ s ∷ []) ≡ Explain m (Some s) }
+    ensures { (m s : Text) → is_option m ≡ false → is_option s ≡ false → request (codes "explain" ∷ m ∷ s ∷ []) ≡ Explain m (Some s) 100000 }
+{}
+
+/// The same, and `-b` or `--budget` with a number.
+pub fn explain_with_budget_is_asked()
+    ensures short { (m s b : Text) (k : ℕ) → is_option m ≡ false → is_option s ≡ false → budget_number b ≡ Some k
+        → request (codes "explain" ∷ m ∷ s ∷ codes "-b" ∷ b ∷ []) ≡ Explain m (Some s) k }
+    ensures long { (m s b : Text) (k : ℕ) → is_option m ≡ false → is_option s ≡ false → budget_number b ≡ Some k
+        → request (codes "explain" ∷ m ∷ s ∷ codes "--budget" ∷ b ∷ []) ≡ Explain m (Some s) k }
 {}
 
 /// The words that ask for help.

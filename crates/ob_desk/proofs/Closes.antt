@@ -7,7 +7,7 @@ use Rattle.ob_engine.specs.Compiled.{EffectIsCalled, HasReserve, IsEffect, IsFit
 use Rattle.ob_engine.specs.Parts.{parts_in}
 use Rattle.ob_layout.specs.Encoding.{encoded}
 use Rattle.ob_layout.specs.Layout.{LayoutParts}
-use Rattle.ob_mean.specs.Object.{ObjectCall, Reply}
+use Rattle.ob_interface.specs.Call.{ObjectCall, Reply}
 use Rattle.ob_object.proofs.Objects.{of_exports}
 use Rattle.ob_object.proofs.Runs.{computed, lawful, legal_order}
 use Rattle.ob_object.specs.Compilation.{ObjectParts}
@@ -19,9 +19,10 @@ use Rattle.ob_text.specs.Script.{ScriptCall}
 use Rattle.wf_history.specs.History.{Event}
 use Rattle.wf_play.specs.Played.{scripts_of}
 use Rattle.wf_table.specs.Runs.{IsRun, performed}
-use Rattle.ob_desk.specs.Close.{AgreeAt, Agrees, AreSeats, CodeFloor, IsCodeFloor, IsOf, IsRecordOf}
+use Rattle.ob_desk.specs.Close.{AgreeAt, AreSeats, CodeFloor, IsCodeFloor, IsOf, IsRecordOf}
 use Rattle.ob_desk.specs.Desk.{Desk}
-use Rattle.ob_desk.specs.Seat.{Seat}
+use Rattle.ob_desk_floor.specs.Agreeing.{Agrees}
+use Rattle.ob_desk_floor.specs.Seat.{Seat}
 
 -- seats that agree with a floor took the turns of its schedule, and have the answers of its history
 pub all_agree : (d : Desk) (f : CodeFloor) (seats : List Seat) → IsCodeFloor f → IsOf d f → AreSeats d seats → ((p : ℕ) → p < f.machine.sizes.processes → AgreeAt f seats p) → All (Agrees f.machine.state.records.history f.machine.state.records.schedule) seats

@@ -1,5 +1,2 @@
-pub mod Turns
-pub mod Submissions
-pub mod Floors
 pub mod Closes
 pub mod Strangers

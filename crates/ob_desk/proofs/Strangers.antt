@@ -6,7 +6,7 @@ use Rattle.std.proofs.lemmas.List.{take_more}
 use Rattle.std.proofs.lemmas.List.Elements.{All-more, All-weaker, Contains-append_left, Contains-append_right}
 use Rattle.ob_desk.specs.Close.{IsLowestStranger, IsOwn}
 use Rattle.ob_desk.specs.Desk.{Desk}
-use Rattle.ob_desk.specs.Seat.{Seat}
+use Rattle.ob_desk_floor.specs.Seat.{Seat}
 
 -- of the first so many seats
 abbrev pub Found : Desk → List Seat → ℕ → Option ℕ → Type 0

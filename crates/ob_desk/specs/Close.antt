@@ -6,20 +6,18 @@ use Rattle.ob_engine.specs.Compiled.{HasReserve, IsFitting, IsLawfulBlock}
 use Rattle.ob_engine.specs.Parts.{parts_in}
 use Rattle.ob_engine.specs.declared.engine.CodeEngine.{CodeEngine}
 use Rattle.ob_layout.specs.Encoding.{encoded}
-use Rattle.ob_mean.specs.Object.{ObjectCall, Reply}
 use Rattle.ob_record.specs.Record.{Record}
-use Rattle.wf_history.specs.declared.event.CallId.{CallId}
-use Rattle.wf_history.specs.History.{Event, own_answers}
-use Rattle.wf_history.specs.OfModule.{IsLegalOrder}
+use Rattle.wf_history.specs.History.{own_answers}
+use Rattle.ob_order.specs.OfModule.{IsLegalOrder}
 use Rattle.wf_play.specs.Played.{scripts_of}
 use Rattle.wf_table.specs.Object.{State}
 use Rattle.wf_table.specs.Runs.{IsRun, performed}
-use Rattle.wf_table.specs.declared.schedule.Turns.{Turns}
 use Rattle.ob_desk.specs.declared.fault.CloseFault.{CloseFault}
 use Rattle.ob_desk.specs.declared.fault.CloseFault.TheVariants as Faults
 use Rattle.ob_desk.specs.Desk.{Desk}
-use Rattle.ob_desk.specs.Floor.{Floor, IsFloor, turns_in}
-use Rattle.ob_desk.specs.Seat.{Seat}
+use Rattle.ob_desk_floor.specs.Agreeing.{AgreesAt}
+use Rattle.ob_desk_floor.specs.Floor.{Floor, IsFloor}
+use Rattle.ob_desk_floor.specs.Seat.{Seat}
 
 -- ---- seats
 
@@ -68,15 +66,6 @@ pub record IsOf (d : Desk) (f : CodeFloor) : Type 0 where
   pub scripts : f.scripts ≡ d.scripts
 
 -- ---- seats and floor
-
--- the seat took just the turns that the schedule has of its process, and has just the answers that the history shows of it
-pub record Agrees (history : List (Event ObjectCall Reply)) (schedule : List Turns) (s : Seat) : Type 0 where
-  pub turns : s.turns ≡ turns_in s.process schedule
-  pub answers : s.answers ≡ own_answers s.process history
-
--- if the seat is of the process, it took so many turns, and has these answers
-pub record AgreesAt (p turns : ℕ) (answers : List (CallId × Reply)) (s : Seat) : Type 0 where
-  pub agrees : s.process ≡ p → (s.turns ≡ turns) × (s.answers ≡ answers)
 
 -- the process's seats agree with what the floor counted and saw of it
 abbrev pub AgreeAt : CodeFloor → List Seat → ℕ → Type 0

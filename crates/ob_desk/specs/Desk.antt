@@ -7,7 +7,7 @@ use Rattle.ob_object.specs.Performance.{IsSoundObject}
 use Rattle.ob_object.specs.View.{object_in}
 use Rattle.ob_object.specs.declared.compiling.Object.{Object}
 use Rattle.ob_text.specs.Script.{ScriptCall}
-use Rattle.ob_desk.specs.Seat.{Seat, new_seat}
+use Rattle.ob_desk_floor.specs.Seat.{Seat, new_seat}
 
 -- the object, the calls that were submitted before any turn, and the tag of its seats
 pub record Desk : Type 0 where

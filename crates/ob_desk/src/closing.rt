@@ -1,21 +1,21 @@
 //! The end of a desk: seats and floor are compared, and the record is given.
 
-ghost use Rattle.std.specs.Prelude.{◌≡◌, ◌<◌, All, IfErr, IfOk, IsFalse, IsTrue, OnOk};
+ghost use Rattle.std.specs.Prelude.{◌≡◌, ◌<◌, ℕ, All, IfErr, IfNone, IfOk, IfSome, IsFalse, IsTrue, OnOk};
 ghost use Rattle.ob_check.specs.Exports.{signatures};
-ghost use Rattle.ob_desk.specs.Close.{Agrees, AreSeats, IsCloseFault, IsOf, IsRecordOf};
+ghost use Rattle.ob_desk.specs.Close.{AgreeAt, AreSeats, IsCloseFault, IsLowestApart, IsOf, IsRecordOf};
 ghost use Rattle.ob_desk.specs.Desk.{desk_in};
+ghost use Rattle.ob_desk_floor.specs.Agreeing.{Agrees};
 ghost use Rattle.ob_record.specs.Record.{AreOfExports, record_of};
 
-use crate::agreeing::first_apart;
 use crate::fault::CloseFault;
-use crate::floor::Floor;
 use crate::same::{same_calls, same_words};
-use crate::seat::Seat;
 use crate::seating::{first_stranger, first_uneven};
 use crate::terms::Terms;
+use ob_desk_floor::agreeing::agree;
+use ob_desk_floor::{Floor, Seat};
 use ob_engine::CodeEngine;
 use ob_engine::laws::effect_is_called;
-use ob_grammar::NoMemory;
+use ob_interface::NoMemory;
 use ob_record::Record;
 use ob_run::recorded;
 use std::alloc::Global;
@@ -65,6 +65,21 @@ fn is_of(terms: &Terms, floor: &Floor<CodeEngine>) -> bool
         return false;
     }
     same_calls(floor.scripts(), terms.scripts())
+}
+
+/// The lowest process whose seats don't agree with the floor.
+fn first_apart(floor: &Floor<CodeEngine>, seats: &[Seat]) -> Option<usize>
+    ensures none { IfNone result ((p : ℕ) → p < floor.now.machine.sizes.processes → AgreeAt floor.now seats.now p) }
+    ensures some { IfSome result (IsLowestApart floor.now seats.now) }
+{
+    let events = floor.machine().history().events();
+    let counts = floor.counts();
+    for process in 0..counts.len() {
+        if !agree(process, counts[process], events, seats) {
+            return Some(process);
+        }
+    }
+    None
 }
 
 /// The record of the run that led to the floor.

@@ -11,13 +11,11 @@ ghost use Rattle.ob_text.specs.ScriptView.{object_call, script_call_of};
 
 use crate::closing::settle;
 use crate::fault::CloseFault;
-use crate::floor::Floor;
-use crate::seat::Seat;
 use crate::terms::Terms;
+use ob_desk_floor::{Floor, Seat};
 use ob_engine::CodeEngine;
-use ob_grammar::NoMemory;
+use ob_interface::{MOST_PROCESSES, NoMemory};
 use ob_object::Object;
-use ob_object::compiling::MOST_PROCESSES;
 use ob_record::Record;
 use ob_text::script::ScriptCall;
 use std::alloc::{AllocError, Global};
@@ -45,8 +43,9 @@ impl Model for Desk {
 }
 
 impl Desk {
-    ghost use Rattle.ob_desk.specs.Close.{Agrees, AreSeats, CodeFloor, IsCloseFault, IsCodeFloor, IsRecordOf};
-    ghost use Rattle.ob_desk.specs.Seat.{seat_after};
+    ghost use Rattle.ob_desk.specs.Close.{AreSeats, CodeFloor, IsCloseFault, IsCodeFloor, IsRecordOf};
+    ghost use Rattle.ob_desk_floor.specs.Agreeing.{Agrees};
+    ghost use Rattle.ob_desk_floor.specs.Seat.{seat_after};
     ghost use Rattle.wf_object.specs.View.{answer_in};
 
     /// A desk at which processes take turns on the object, with the calls of the scripts submitted, and a seat for each

@@ -1,6 +1,6 @@
 //! Why a desk gives no record.
 
-use ob_grammar::NoMemory;
+use ob_interface::NoMemory;
 use thiserror::Error;
 
 /// Why closing a desk gives no record: the first fault, in the order of the variants, of the lowest process.

@@ -4,8 +4,8 @@ ghost use Rattle.std.specs.Prelude.{◌≡◌, ℕ, ◌<◌, All, IfNone, IfSome
 ghost use Rattle.ob_desk.specs.Close.{IsLowestStranger, IsLowestUneven, IsOwn, seats_at};
 ghost use Rattle.ob_desk.specs.Desk.{desk_in};
 
-use crate::seat::Seat;
 use crate::terms::Terms;
+use ob_desk_floor::Seat;
 
 /// The lowest process of a seat that is not the desk's.
 pub fn first_stranger(terms: &Terms, seats: &[Seat]) -> Option<usize>

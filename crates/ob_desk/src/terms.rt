@@ -7,7 +7,7 @@ ghost use Rattle.ob_object.specs.Performance.{IsSoundObject};
 ghost use Rattle.ob_object.specs.View.{object_in};
 ghost use Rattle.ob_text.specs.ScriptView.{script_call_of};
 
-use ob_grammar::NoMemory;
+use ob_interface::NoMemory;
 use ob_layout::encode;
 use ob_object::{Object, copied_calls};
 use ob_text::script::ScriptCall;

@@ -1,6 +1,7 @@
 //! Desks at which turns are taken by hand.
 
-use ob_desk::{CloseFault, Desk, Seat};
+use ob_desk::{CloseFault, Desk};
+use ob_desk_floor::Seat;
 use ob_object::{compile, perform};
 use ob_text::script::read_scripts;
 use std::alloc::Global;

@@ -4,7 +4,8 @@ ghost use Rattle.std.specs.Prelude.{◌<◌, ◌≤◌, IfOk};
 ghost use Rattle.ob_object.specs.Performance.{IsSoundObject};
 ghost use Rattle.ob_object.specs.View.{object_in};
 
-use ob_desk::{CloseFault, Floor, Seat, Terms, settle};
+use ob_desk::{CloseFault, Terms, settle};
+use ob_desk_floor::{Floor, Seat};
 use ob_engine::CodeEngine;
 use ob_object::{Object, compile};
 use ob_text::script::read_scripts;

@@ -1,11 +1,12 @@
 -- An engine's effect is the call of each program that it was compiled of.
 use Rattle.std.proofs.Common.{ℕ, List, sym, ◌∙◌, subst}
 use Rattle.std.specs.Prelude.{ℤ}
-use Rattle.ob_check.specs.declared.program.Scalar.{Scalar}
+use Rattle.ob_interface.specs.declared.scalar.Scalar.{Scalar}
 use Rattle.ob_check.specs.Program.{Program}
-use Rattle.ob_mean.specs.Object.{State, ObjectCall, Reply, Answers, Trapped as TrapReply}
+use Rattle.ob_interface.specs.Call.{ObjectCall, Reply, Answers, Trapped as TrapReply}
+use Rattle.ob_mean.specs.Object.{State}
 use Rattle.ob_layout.specs.Encoding.{encoded, IsEncoding}
-use Rattle.wf_history.specs.OfModule.{CallEnds}
+use Rattle.ob_order.specs.OfModule.{CallEnds}
 use Rattle.wf_table.specs.Law.{Reaches, ReachesTrap}
 use Rattle.ob_engine.specs.CodeMeaning.{EngineParts, code_meaning}
 use Rattle.ob_engine.specs.Compiled.{IsCompiled, IsFitting, IsEffect, IsCalled, EffectIsCalled, CalledIsEffect}

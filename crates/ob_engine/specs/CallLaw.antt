@@ -9,7 +9,7 @@ use Rattle.std.proofs.lemmas.List.Sums.{sum_by-cons}
 use Rattle.std.specs.List.{range_with_len}
 use Rattle.ob_check.specs.declared.program.DataType.{DataType}
 use Rattle.ob_check.specs.declared.program.DataType.TheVariants.{Integer}
-use Rattle.ob_check.specs.declared.program.Scalar.{Scalar}
+use Rattle.ob_interface.specs.declared.scalar.Scalar.{Scalar}
 use Rattle.ob_check.specs.declared.program.Formal.{Formal}
 use Rattle.ob_check.specs.Program.{Name, Variable, Parameter, Procedure, Program, formal_of}
 use Rattle.ob_check.specs.Scopes.{words, variable_words}
@@ -17,7 +17,8 @@ use Rattle.ob_mean.specs.Value.{Single}
 use Rattle.ob_mean.specs.Store.{Held, Holds, Refers, value_held}
 use Rattle.ob_mean.specs.Statements as Statements
 use Rattle.ob_mean.specs.Statements.{meaning_of_all}
-use Rattle.ob_mean.specs.Object.{State, Ends, ObjectCall, Answers, Trapped as TrapReply, effect, effect_of, effect_of_procedure, results_begun, bound}
+use Rattle.ob_interface.specs.Call.{ObjectCall, Answers, Trapped as TrapReply}
+use Rattle.ob_mean.specs.Object.{State, Ends, effect, effect_of, effect_of_procedure, results_begun, bound}
 use Rattle.ob_layout.specs.Encoding.{word, flat, encoded, IsStateOf, HoldsValueOf}
 use Rattle.ob_layout.specs.Temporaries.{stack_words}
 use Rattle.ob_scheme.specs.Scheme.{code_of}

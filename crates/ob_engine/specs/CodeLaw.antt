@@ -4,8 +4,8 @@ use Rattle.std.specs.Prelude.{ℤ, pos, slice_get, nat_le}
 use Rattle.std.specs.Ordering.{int_eq}
 use Rattle.std.proofs.lemmas.Grind.{not_there}
 use Rattle.std.proofs.lemmas.Bool.{cases_lt}
-use Rattle.ob_check.specs.declared.program.Scalar.{Scalar}
-use Rattle.ob_mean.specs.Object.{ObjectCall, Answers, Trapped as TrapReply}
+use Rattle.ob_interface.specs.declared.scalar.Scalar.{Scalar}
+use Rattle.ob_interface.specs.Call.{ObjectCall, Answers, Trapped as TrapReply}
 use Rattle.ob_layout.specs.Encoding.{word, encoded}
 use Rattle.ob_layout.proofs.Limits.{words_small}
 use Rattle.ob_code.specs.Body.{Run, entered, enter, result_count as results_of, step_of}

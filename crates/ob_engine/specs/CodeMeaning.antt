@@ -3,10 +3,10 @@ use Rattle.std.specs.Prelude.{ℕ, zero, suc, nat_lt, max, ℤ, pos, negsuc, neg
 use Rattle.std.specs.Ordering.{int_eq}
 use Rattle.ob_check.specs.declared.program.DataType.{DataType}
 use Rattle.ob_check.specs.declared.program.DataType.TheVariants.{Integer}
-use Rattle.ob_check.specs.declared.program.Scalar.{Scalar}
-use Rattle.ob_check.specs.declared.program.Scalar.TheVariants.{Int}
+use Rattle.ob_interface.specs.declared.scalar.Scalar.{Scalar}
+use Rattle.ob_interface.specs.declared.scalar.Scalar.TheVariants.{Int}
 use Rattle.ob_check.specs.declared.program.Formal.{Formal}
-use Rattle.ob_mean.specs.Object.{ObjectCall, Reply, Answers, Trapped as TrapReply}
+use Rattle.ob_interface.specs.Call.{ObjectCall, Reply, Answers, Trapped as TrapReply}
 use Rattle.ob_layout.specs.Encoding.{word}
 use Rattle.ob_code.specs.Code.{CodeParts}
 use Rattle.ob_code.specs.declared.argument.Argument.{Argument}

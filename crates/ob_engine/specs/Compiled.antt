@@ -1,18 +1,19 @@
 -- The module whose code an engine runs, and what a call means to the engine: what it means to that module.
 use Rattle.std.specs.Prelude.{◌≡◌, ℕ, suc, ℤ, List, [], ◌∷◌, map, slice_get, Some, MatchBool, if◌then◌else◌}
 use Rattle.ob_grammar.specs.Tree.{Module}
-use Rattle.ob_check.specs.declared.program.Scalar.{Scalar}
+use Rattle.ob_interface.specs.declared.scalar.Scalar.{Scalar}
 use Rattle.ob_check.specs.declared.program.Formal.{Formal}
 use Rattle.ob_check.specs.Program.{Procedure, Program, formal_of}
 use Rattle.ob_check.specs.Scopes.{variable_words}
 use Rattle.ob_check.specs.Typing.{WellTyped}
-use Rattle.ob_mean.specs.Object.{State, ObjectCall, Reply, first_argument, other_arguments}
+use Rattle.ob_interface.specs.Call.{ObjectCall, Reply}
+use Rattle.ob_mean.specs.Object.{State, first_argument, other_arguments}
 use Rattle.ob_layout.specs.Encoding.{IsScalarOf, IsEncoding}
 use Rattle.ob_layout.specs.Temporaries.{stack_words}
 use Rattle.ob_scheme.specs.Scheme.{code_of}
 use Rattle.ob_scheme.specs.Literals.{ProceduresLiteralsFit}
 use Rattle.ob_code.specs.Body.{Run}
-use Rattle.wf_history.specs.OfModule.{CallEnds}
+use Rattle.ob_order.specs.OfModule.{CallEnds}
 use Rattle.ob_engine.specs.CodeMeaning.{Entrance, EngineParts}
 
 -- the exported ones of procedures that are numbered from n

@@ -7,7 +7,7 @@ use Rattle.std.proofs.lemmas.Bool.{cases_lt}
 use Rattle.ob_check.specs.declared.program.DataType.{DataType}
 use Rattle.ob_check.specs.declared.program.DataType.TheVariants.{Integer}
 use Rattle.ob_check.specs.declared.program.Formal.{Formal}
-use Rattle.ob_check.specs.declared.program.Scalar.{Scalar}
+use Rattle.ob_interface.specs.declared.scalar.Scalar.{Scalar}
 use Rattle.ob_check.specs.Program.{Name, Variable, Parameter, Procedure, Program, Statements, formal_of}
 use Rattle.ob_mean.specs.Object.{first_argument, other_arguments}
 use Rattle.ob_layout.specs.Scopes.{Own, Reference, width, extent, parameter_slot, frame_scope}

@@ -9,12 +9,12 @@ use crate::entrance::{Entrance, are_same, copied, entrances, most_results, most_
 use crate::turns::turn_of;
 use crate::words::{arguments_in, lay, split, trap_in, values_of};
 use ob_check::checked::Checked;
-use ob_check::program::Scalar;
 use ob_code::{Body, Code, CodeFault};
 use ob_generate::generate;
-use ob_grammar::NoMemory;
+use ob_interface::NoMemory;
+use ob_interface::call::{Call, Reply};
+use ob_interface::scalar::Scalar;
 use ob_layout::Layout;
-use ob_mean::call::{Call, Reply};
 use smallvec::SmallVec;
 use std::alloc::Global;
 use wf_object::{Engine, EngineTurn};

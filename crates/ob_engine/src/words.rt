@@ -1,13 +1,14 @@
 //! Calls and replies as words.
 
 ghost use Rattle.std.specs.Prelude.{◌≡◌, ◌<◌, ◌≤◌, ◌^◌, length, replicate, pos};
-ghost use Rattle.ob_mean.specs.View.{call_of};
+ghost use Rattle.ob_interface.specs.View.{call_of};
 ghost use Rattle.ob_engine.specs.CodeMeaning as Words;
 
-use ob_check::program::{DataType, Formal, Scalar};
+use ob_check::program::{DataType, Formal};
 use ob_code::Argument;
+use ob_interface::call::Call;
+use ob_interface::scalar::Scalar;
 use ob_layout::encoding::word_of_scalar;
-use ob_mean::call::Call;
 use smallvec::SmallVec;
 use std::alloc::Global;
 

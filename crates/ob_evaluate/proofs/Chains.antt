@@ -1,7 +1,7 @@
 -- The value of a chain of operators and operands.
 use Rattle.std.proofs.Common.{◌≡◌, ap, sym, ◌∙◌, Box, Vec, List}
 use Rattle.std.specs.declared.alloc.Global.{Global}
-use Rattle.ob_typing.specs.declared.scalar.Scalar.{Scalar}
+use Rattle.ob_interface.specs.declared.scalar.Scalar.{Scalar}
 use Rattle.ob_typing.specs.Arithmetic.{Gives, ◌>>=◌}
 use Rattle.ob_positions.specs.Store.{Store}
 use Rattle.ob_positions.specs.Evaluation.{value_of, value_behind}

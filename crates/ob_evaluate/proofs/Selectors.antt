@@ -1,6 +1,8 @@
 -- A variable's part, read one selector after the other.
-use Rattle.std.proofs.Common.{◌≡◌, List, [], ◌∷◌, ◌++◌, refl, ap, sym, ◌∙◌, ℕ}
-use Rattle.ob_typing.specs.declared.scalar.Scalar.{Scalar}
+use Rattle.std.proofs.Common.{◌≡◌, List, [], ◌∷◌, ◌++◌, refl, ap, sym, ◌∙◌, ℕ, Bool, true, ◌==◌, Vec, vec_len, eqb-true, arith}
+use Rattle.std.specs.declared.alloc.Global.{Global}
+use Rattle.std.proofs.lemmas.List.{nil_from_length}
+use Rattle.ob_interface.specs.declared.scalar.Scalar.{Scalar}
 use Rattle.ob_typing.specs.Program as Programs
 use Rattle.ob_typing.specs.Arithmetic.{Evaluated, Gives, Traps, ◌>>=◌}
 use Rattle.ob_positions.specs.Value.{Value, scalar_of, selected, inside}
@@ -37,3 +39,7 @@ read_begins store v d slot selectors is lent =
     (λ path. ap (λ w. Gives (scalar_of w)) (sym (selected-append base place.path path)))
     ∙ sym (bind_then (path_of store selectors) (λ path. Gives (further_in place path)) (λ p. Gives (scalar_of (value_at store p))))
     ∙ ap (read_of store) (sym is)
+
+-- a variable without selectors, by the test on them
+pub is_whole : {X : Type 0} (v : Vec X Global) (b : Bool) → b ≡ (vec_len v == 0) → b ≡ true → v.items ≡ []
+is_whole v b tested holds = nil_from_length v.items (omega (arith, v.ok.0, eqb-true (vec_len v) 0 (sym tested ∙ holds)))

@@ -1,10 +1,10 @@
 -- What the parts of an evaluation answer.
 use Rattle.std.specs.Prelude.{◌≡◌, ℕ, Result, Ok, Err}
-use Rattle.ob_typing.specs.declared.scalar.Scalar.{Scalar}
-use Rattle.ob_typing.specs.declared.scalar.ScalarType.TheVariants.{Integer}
+use Rattle.ob_interface.specs.declared.scalar.Scalar.{Scalar}
+use Rattle.ob_interface.specs.declared.scalar.ScalarType.TheVariants.{Integer}
 use Rattle.ob_typing.specs.Program as Programs
 use Rattle.ob_typing.specs.Arithmetic.{Evaluated, Gives, Traps, ◌>>=◌, number_of}
-use Rattle.ob_meaning.specs.Evaluation.{within}
+use Rattle.ob_meaning.specs.OverStore.{within}
 use Rattle.ob_checked.specs.declared.program.Selector.{Selector}
 use Rattle.ob_checked.specs.declared.program.Selector.TheVariants.{Field, Element}
 use Rattle.ob_checked.specs.View.{expression_of}
@@ -35,5 +35,4 @@ read_behind store v selectors = do
 abbrev pub Answers : {A B : Type 0} → (A → B) → Evaluated B → Result A Stop → Type 0
 Answers view e (Ok a) = e ≡ Gives (view a)
 Answers view e (Err (Stops.Trap k)) = e ≡ Traps k
-Answers view e (Err Stops.NotYet) = ⊥
 Answers view e (Err Stops.NoMemory) = Unit {0}

@@ -6,14 +6,15 @@ ghost use Rattle.ob_checked.specs.Types.{type_in, types_of, fields_by};
 ghost use Rattle.ob_checked.specs.View.{variable_of, table_of};
 ghost use Rattle.ob_positions.specs.Value as Values;
 ghost use Rattle.ob_positions.specs.Statements as Statements;
-ghost use Rattle.ob_store.specs.View.{value_in, values_in, activation_in};
+ghost use Rattle.ob_store.specs.View.{value_in, values_in, activation_in, state_of};
 
 use indexmap::IndexMap;
 use ob_checked::program::Variable;
 use ob_checked::types::{DataType, Structure, Types};
+use ob_interface::scalar::{Scalar, ScalarType};
+use ob_store::state::State;
 use ob_store::store::Held;
 use ob_store::value::{Value, copy};
-use ob_typing::scalar::{Scalar, ScalarType};
 use std::alloc::{AllocError, Global};
 
 /// 0 or FALSE.
@@ -40,6 +41,7 @@ fn copies(alloc: Global, count: usize, value: &Value) -> Result<Vec<Value>, Allo
 
 /// What a variable of a type begins as. Arrays and records in the table consist of those before them.
 #[cycle(initial)]
+#[inline]
 pub fn initial(alloc: Global, types: &Types, data_type: DataType) -> Result<Value, AllocError>
     ensures { IfOk result (λ v. value_in v ≡ Values.initial (type_in (table_of types.now) data_type)) }
 {
@@ -63,6 +65,7 @@ pub fn initial(alloc: Global, types: &Types, data_type: DataType) -> Result<Valu
 
 /// What the fields of a record begin as.
 #[cycle(initial)]
+#[inline(never)]
 fn initial_fields(
     alloc: Global,
     types: &Types,
@@ -99,4 +102,21 @@ pub fn variables_begun(
         all.push(Held::Holds(value))?;
     }
     Ok(all)
+}
+
+/// The state in which the module's variables are at their beginning.
+pub fn state_begun(
+    alloc: Global,
+    types: &Types,
+    variables: &[Variable],
+) -> Result<State, AllocError>
+    ensures { IfOk result (λ s. state_of s
+        ≡ Statements.begun (map (variable_of (table_of types.now)) variables.now)) }
+{
+    let mut values = Vec::with_capacity(alloc, variables.len())?;
+    for variable in variables {
+        let value = initial(alloc, types, variable.data_type)?;
+        values.push(value)?;
+    }
+    Ok(State::new(values))
 }

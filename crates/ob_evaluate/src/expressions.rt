@@ -11,15 +11,16 @@ ghost use Rattle.ob_typing.specs.Arithmetic as Arithmetics;
 ghost use Rattle.ob_evaluate.specs.Evaluating.{read_of, position_of};
 
 use ob_checked::program::{Designator, Expression, Operation, Owner, Selector, Slot};
+use ob_interface::scalar::Scalar;
 use ob_scalars::operators::{compared, complement, computed, decides, negated, number_of};
 use ob_scalars::trap::Trap;
 use ob_store::index::index_within;
-use ob_store::store::{Held, Store};
+use ob_store::store::{Lent, Store};
 use ob_store::value::Value;
-use ob_typing::scalar::Scalar;
 
 /// The value of the variable that a slot stands for, if there is one: of one of its own, or of the place that it
 /// refers to.
+#[inline]
 pub fn value_of_slot<'s>(store: &'s Store, slot: &Slot) -> Option<&'s Value>
     ensures { value_or_zero result
         ≡ Stores.value_at (store_in store.now) (Stores.place_of_slot (store_in store.now) (slot_of slot.now)) }
@@ -27,16 +28,34 @@ pub fn value_of_slot<'s>(store: &'s Store, slot: &Slot) -> Option<&'s Value>
     match slot.owner {
         Owner::Module => store.own_value(0, slot.position),
         Owner::Own => match store.held_at(store.running(), slot.position) {
-            Some(Held::Holds(value)) => Some(value),
-            Some(Held::Refers(place)) => store.value_at(place),
+            Some(Lent::Value(value)) => Some(value),
+            Some(Lent::Place(place)) => store.value_at(place),
             None => None,
         },
     }
 }
 
-/// The value of an expression, from left to right.
+/// The value of an expression, from left to right. Literals and whole variables, as most operands are, are read without a
+/// call.
 #[cycle(evaluation)]
+#[inline(always)]
 pub fn evaluate(store: &Store, expression: &Expression) -> Result<Scalar, Trap>
+    ensures { evaluated result
+        ≡ Evaluation.value_of (store_in store.now) (expression_of expression.now) }
+{
+    match expression {
+        Expression::Literal(scalar) => Ok(*scalar),
+        Expression::ValueOf { variable, .. } if variable.selectors.is_empty() => {
+            Ok(scalar_of(value_of_slot(store, &variable.slot)))
+        }
+        _ => evaluate_parts(store, expression),
+    }
+}
+
+/// The same of any expression, with a call for its parts.
+#[cycle(evaluation)]
+#[inline(never)]
+fn evaluate_parts(store: &Store, expression: &Expression) -> Result<Scalar, Trap>
     ensures { evaluated result
         ≡ Evaluation.value_of (store_in store.now) (expression_of expression.now) }
 {

@@ -1,17 +1,20 @@
 //! Places that a run builds: the targets of assignments, and what actuals hand over.
 
-ghost use Rattle.std.specs.Prelude.{◌≡◌, IfOk, map};
+ghost use Rattle.std.specs.Prelude.{◌≡◌, IfOk, OnErr, OnOk, map};
 ghost use Rattle.ob_checked.specs.View.{designator_of, slot_of, actual_of};
 ghost use Rattle.ob_positions.specs.Evaluation as Evaluation;
 ghost use Rattle.ob_positions.specs.Store as Stores;
+ghost use Rattle.ob_positions.specs.Value as Values;
+ghost use Rattle.ob_store.specs.Begun.{begun_in};
 ghost use Rattle.ob_store.specs.View.{place_in, held_in, activation_in, store_in};
 ghost use Rattle.ob_evaluate.specs.Evaluating.{Answers};
 
 use crate::expressions::{evaluate, selected_position};
 use ob_checked::program::{Actual, Designator, Owner, Slot};
+use ob_interface::scalar::Scalar;
 use ob_scalars::trap::{Trap, trap_number};
 use ob_store::before::copy_place;
-use ob_store::store::{Held, Place, Store};
+use ob_store::store::{Held, Lent, Place, Store};
 use ob_store::value::Value;
 use smallvec::SmallVec;
 use std::alloc::{AllocError, AllocFailed, Global};
@@ -21,8 +24,6 @@ use std::alloc::{AllocError, AllocFailed, Global};
 pub enum Stop {
     /// The number of a trap.
     Trap(u8),
-    /// More turns are needed.
-    NotYet,
     /// Want of memory.
     NoMemory,
 }
@@ -71,7 +72,7 @@ fn place_of_slot(alloc: Global, store: &Store, slot: &Slot) -> Result<Place, All
         Owner::Own => store.running(),
     };
     if let Owner::Own = slot.owner
-        && let Some(Held::Refers(place)) = store.held_at(activation, position)
+        && let Some(Lent::Place(place)) = store.held_at(activation, position)
     {
         return copy_place(alloc, place);
     }
@@ -94,6 +95,25 @@ pub fn place_of(alloc: Global, store: &Store, variable: &Designator) -> Result<P
     Ok(place)
 }
 
+/// Puts a scalar in the place that the variable of a slot stands for, without building it where that isn't needed.
+#[inline]
+pub fn set_slot(
+    alloc: Global,
+    store: &mut Store,
+    slot: &Slot,
+    scalar: Scalar,
+) -> Result<(), AllocError>
+    ensures stored { OnOk result (store_in store.new
+        ≡ Stores.stored (store_in store.old) (Stores.place_of_slot (store_in store.old) (slot_of slot.now)) (Values.Single scalar)) }
+    ensures kept { OnErr result (store_in store.new ≡ store_in store.old) }
+    ensures begun { begun_in store.new ≡ begun_in store.old }
+{
+    match slot.owner {
+        Owner::Module => store.set_whole(alloc, 0, slot.position, scalar),
+        Owner::Own => store.set_own(alloc, slot.position, scalar),
+    }
+}
+
 /// What an actual hands over: a copy of a value, or a place.
 fn handed(alloc: Global, store: &Store, actual: &Actual) -> Result<Held, Stop>
     ensures { Answers held_in (Evaluation.handed (store_in store.now) (actual_of actual.now)) result }
@@ -110,12 +130,17 @@ fn handed(alloc: Global, store: &Store, actual: &Actual) -> Result<Held, Stop>
     }
 }
 
-/// What actuals hand over, from the first to the last.
-pub fn all_handed(alloc: Global, store: &Store, actuals: &[Actual]) -> Result<Vec<Held>, Stop>
+/// What actuals hand over, from the first to the last, with room for so many variables behind it.
+pub fn all_handed(
+    alloc: Global,
+    store: &Store,
+    actuals: &[Actual],
+    room: usize,
+) -> Result<Vec<Held>, Stop>
     ensures { Answers activation_in
         (Evaluation.all_handed (store_in store.now) (map actual_of actuals.now)) result }
 {
-    let mut all = Vec::with_capacity(alloc, actuals.len())?;
+    let mut all = Vec::with_capacity(alloc, actuals.len().saturating_add(room))?;
     for actual in actuals {
         let held = handed(alloc, store, actual)?;
         all.push(held)?;

@@ -2,7 +2,7 @@
 use Rattle.std.specs.Prelude.{ℕ, List, Option, Some, None, codes}
 use Rattle.ob_scan.specs.declared.fault.ScanFault.{ScanFault}
 use Rattle.ob_scan.specs.declared.fault.ScanFault.TheVariants as Scan
-use Rattle.ob_scan.specs.declared.scanner.TheConstants.{LONGEST_TEXT}
+use Rattle.ob_scan.specs.Limits.{longest_text}
 use Rattle.ob_parser.specs.declared.parser.ParseFault.{ParseFault}
 use Rattle.ob_parser.specs.declared.parser.ParseFault.TheVariants as Parse
 use Rattle.ob_scopes.specs.declared.fault.CheckFault.{CheckFault}
@@ -28,7 +28,7 @@ scan_remark (Scan.StrayByte place) =
 scan_remark (Scan.NumberTooLarge place) = at place (codes "a number is at most 2147483647")
 scan_remark (Scan.OpenComment place) = at place (codes "this comment has no end; comments nest, and each (* has its own *)")
 scan_remark (Scan.NameTooLong place) = at place (codes "a name has at most 64 characters")
-scan_remark Scan.TooLong = at LONGEST_TEXT (codes "a module has at most 65536 bytes")
+scan_remark Scan.TooLong = at longest_text (codes "a module has at most 65536 bytes")
 scan_remark Scan.NoMemory = None
 
 abbrev pub parse_remark : ParseFault → Option Remark

@@ -1,5 +1,5 @@
 -- Bytes up to line feeds, and the lines behind them.
-use Rattle.std.proofs.Common.{◌≡◌, ◌+◌, ◌-◌, ◌<◌, ◌==◌, ℕ, zero, suc, Bool, cond, not, true, false, List, [], ◌∷◌, length, drop, get_or, slice_get, Some, refl, ap, ◌∙◌, arith}
+use Rattle.std.proofs.Common.{◌≡◌, ◌+◌, ◌-◌, ◌<◌, ◌≤◌, ◌==◌, ℕ, zero, suc, Bool, cond, not, true, false, List, [], ◌∷◌, ◌++◌, length, take, drop, get_or, slice_get, Some, refl, sym, ap, ◌∙◌, arith}
 use Rattle.std.specs.List.{onto_first, take_while}
 use Rattle.std.proofs.lemmas.List.{at_drop_more}
 use Rattle.std.proofs.lemmas.List.Splits.{length-slice_split}
@@ -59,3 +59,47 @@ line_told [] (suc n) bytes h = cc
 line_told (b ∷ bs) zero bytes h =
     take_while-cons of_line b bs ∙ first_line (is_line_feed b) b (take_while of_line bs) (lines bs) bytes (some_line bs) (λ x e. line_told bs 0 x e) h
 line_told (b ∷ bs) (suc n) bytes h = later_line (is_line_feed b) n b bs (lines bs) bytes (some_line bs) (λ k x e. line_told bs k x e) h
+
+-- ---- what stands up to a place in a line
+
+begun_first : (t : Bool) (b at : ℕ) (bs : List ℕ) (parts : List (List ℕ)) (bytes : List ℕ) → 0 < length parts
+    → ((x : List ℕ) → slice_get parts 0 ≡ Some x → at ≤ length x → lines (take at bs) ≡ take at x ∷ [])
+    → slice_get (cond t ([] ∷ parts) (onto_first b parts)) 0 ≡ Some bytes → suc at ≤ length bytes
+    → cond t ([] ∷ lines (take at bs)) (onto_first b (lines (take at bs))) ≡ take (suc at) bytes ∷ []
+begun_first true b at bs parts bytes some of_rest h within =
+    let none : [] ≡ bytes = cc in
+    let zero_long : 0 ≡ length bytes = ap length none in
+    absurd (omega (arith, within, zero_long))
+begun_first false b at bs [] bytes some of_rest h within = absurd (omega (arith, some))
+begun_first false b at bs (part ∷ parts) bytes some of_rest h within =
+    let same : b ∷ part ≡ bytes = cc in
+    let long : suc (length part) ≡ length bytes = ap length same in
+    ap (onto_first b) (of_rest part refl (omega (arith, within, long))) ∙ ap (λ (x : List ℕ). take (suc at) x ∷ []) same
+
+begun_later : (t : Bool) (n b at : ℕ) (bs : List ℕ) (parts : List (List ℕ)) (bytes : List ℕ) → 0 < length parts
+    → ((k : ℕ) (x : List ℕ) → slice_get parts k ≡ Some x → at ≤ length x → lines (take (behind_feeds k bs + at) bs) ≡ take k parts ++ take at x ∷ [])
+    → slice_get (cond t ([] ∷ parts) (onto_first b parts)) (suc n) ≡ Some bytes → at ≤ length bytes
+    → cond t ([] ∷ lines (take (behind_feeds (cond t n (suc n)) bs + at) bs)) (onto_first b (lines (take (behind_feeds (cond t n (suc n)) bs + at) bs)))
+    ≡ take (suc n) (cond t ([] ∷ parts) (onto_first b parts)) ++ take at bytes ∷ []
+begun_later true n b at bs parts bytes some of_rest h within = ap (λ (ls : List (List ℕ)). [] ∷ ls) (of_rest n bytes h within)
+begun_later false n b at bs [] bytes some of_rest h within = absurd (omega (arith, some))
+begun_later false n b at bs (part ∷ parts) bytes some of_rest h within = ap (onto_first b) (of_rest (suc n) bytes h within)
+
+pub begun : (text : List ℕ) (n at : ℕ) (bytes : List ℕ) → slice_get (lines text) n ≡ Some bytes → at ≤ length bytes
+    → lines (take (behind_feeds n text + at) text) ≡ take n (lines text) ++ take at bytes ∷ []
+begun [] zero zero bytes h within = refl
+begun [] zero (suc at) bytes h within =
+    let none : [] ≡ bytes = cc in
+    let zero_long : 0 ≡ length bytes = ap length none in
+    absurd (omega (arith, within, zero_long))
+begun [] (suc n) at bytes h within = cc
+begun (b ∷ bs) zero zero bytes h within = refl
+begun (b ∷ bs) zero (suc at) bytes h within =
+    let on : (k : ℕ) → 0 + k ≡ k = λ k. omega arith in
+    ap (λ (k : ℕ). lines (take k (b ∷ bs))) (on (suc at))
+    ∙ begun_first (is_line_feed b) b at bs (lines bs) bytes (some_line bs)
+    (λ x e few. sym (ap (λ (k : ℕ). lines (take k bs)) (on at)) ∙ begun bs 0 at x e few) h within
+begun (b ∷ bs) (suc n) at bytes h within =
+    let on : (k : ℕ) → suc k + at ≡ suc (k + at) = λ k. omega arith in
+    ap (λ (k : ℕ). lines (take k (b ∷ bs))) (on (behind_feeds (cond (is_line_feed b) n (suc n)) bs))
+    ∙ begun_later (is_line_feed b) n b at bs (lines bs) bytes (some_line bs) (λ k x e few. begun bs k at x e few) h within

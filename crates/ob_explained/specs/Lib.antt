@@ -1,3 +1,4 @@
+pub mod Marks
 pub mod ScriptPlaces
 pub mod ScriptRemarks
 pub mod Explained

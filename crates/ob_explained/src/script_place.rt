@@ -4,6 +4,7 @@ ghost use Rattle.std.specs.Prelude.{◌≡◌, ◌≤◌, ◌+◌, ◌-◌, ℕ,
 ghost use Rattle.std.specs.List.{prefix_len};
 ghost use Rattle.ob_text.specs.Words.{is_blank, lines};
 ghost use Rattle.ob_explain.specs.Places.{line_from, place_in};
+ghost use Rattle.ob_explained.specs.Marks.{BeginsWord, HasProcess, IsInLine};
 ghost use Rattle.ob_explained.specs.ScriptPlaces.{behind_feeds, first_place, first_word, form_place, is_of_word, is_process, line_begin, second_place};
 
 use ob_explain::place::line_around;
@@ -19,6 +20,9 @@ pub fn script_line(text: &[u8], line: usize) -> (usize, &[u8])
 
     // It is the line of this number of those between line feeds.
     ensures counted { (bytes : List ℕ) → slice_get (lines text.now) (line - 1) ≡ Some bytes → result.1.now ≡ bytes }
+
+    // A place in it, its end too, is behind the lines before it and behind what it begins with there.
+    ensures placed { (bytes : List ℕ) (at : ℕ) → slice_get (lines text.now) (line - 1) ≡ Some bytes → at ≤ length bytes → IsInLine text.now line bytes at (result.0 + at) }
 
     // What stands in it, its end too, is shown as of this line.
     ensures shown { (bytes : List ℕ) (at : ℕ) → 1 ≤ line → slice_get (lines text.now) (line - 1) ≡ Some bytes → at ≤ length bytes
@@ -48,6 +52,7 @@ fn behind_feeds(text: &[u8], feeds: usize) -> usize
 /// Where the first word of a line begins.
 pub fn first_place(line: &[u8]) -> usize
     ensures place { result ≡ first_place line.now }
+    ensures word { BeginsWord line.now 0 result }
     ensures within { result ≤ length line.now }
 {
     blanks(line)
@@ -56,6 +61,7 @@ pub fn first_place(line: &[u8]) -> usize
 /// Where the second word of a line begins; its end, where it has none.
 pub fn second_place(line: &[u8]) -> usize
     ensures place { result ≡ second_place line.now }
+    ensures word { BeginsWord line.now 1 result }
     ensures within { result ≤ length line.now }
 {
     let first = blanks(line);
@@ -66,6 +72,8 @@ pub fn second_place(line: &[u8]) -> usize
 /// The word by which a line is no call: the second one, where the first is a process.
 pub fn form_place(line: &[u8]) -> usize
     ensures place { result ≡ form_place line.now }
+    ensures name { HasProcess line.now → BeginsWord line.now 1 result }
+    ensures process { (HasProcess line.now → ⊥) → BeginsWord line.now 0 result }
     ensures within { result ≤ length line.now }
 {
     if is_process(first_word(line)) {

@@ -1,7 +1,8 @@
 //! What is wrong in a line of a script, in a sentence.
 
-ghost use Rattle.std.specs.Prelude.{◌≡◌, Some, option_map};
+ghost use Rattle.std.specs.Prelude.{◌≡◌, Some, IfSome, option_map};
 ghost use Rattle.ob_explain.specs.Remarks.{remark_of};
+ghost use Rattle.ob_explained.specs.Marks.{IsMark, MarksForm, MarksWord};
 ghost use Rattle.ob_explained.specs.ScriptPlaces.{first_place, form_place, in_line, second_place};
 ghost use Rattle.ob_explained.specs.ScriptRemarks.{script_remark};
 
@@ -11,7 +12,10 @@ use ob_explain::remark::Remark;
 
 /// The remark on a fault of a script; `None` for want of memory.
 pub fn script_remark(script: &[u8], fault: ScriptFault) -> Option<Remark>
-    ensures { option_map remark_of result ≡ script_remark script.now fault }
+    ensures remark { option_map remark_of result ≡ script_remark script.now fault }
+
+    // It stands at a word of the line, by what stands between blanks there.
+    ensures marked { IfSome result (λ remark. IsMark script.now fault remark.place) }
 {
     match fault {
         ScriptFault::Form(line) => told(
@@ -36,7 +40,8 @@ pub fn script_remark(script: &[u8], fault: ScriptFault) -> Option<Remark>
 
 /// Where a line is no call any more.
 fn place_of_form(script: &[u8], line: usize) -> usize
-    ensures { result ≡ in_line form_place script.now line }
+    ensures place { result ≡ in_line form_place script.now line }
+    ensures marked { MarksForm script.now line result }
 {
     let (begin, text) = script_line(script, line);
     begin + form_place(text)
@@ -44,7 +49,8 @@ fn place_of_form(script: &[u8], line: usize) -> usize
 
 /// Where the name of a line's procedure stands.
 fn place_of_name(script: &[u8], line: usize) -> usize
-    ensures { result ≡ in_line second_place script.now line }
+    ensures place { result ≡ in_line second_place script.now line }
+    ensures marked { MarksWord script.now line 1 result }
 {
     let (begin, text) = script_line(script, line);
     begin + second_place(text)
@@ -52,14 +58,16 @@ fn place_of_name(script: &[u8], line: usize) -> usize
 
 /// Where a line's process stands.
 fn place_of_process(script: &[u8], line: usize) -> usize
-    ensures { result ≡ in_line first_place script.now line }
+    ensures place { result ≡ in_line first_place script.now line }
+    ensures marked { MarksWord script.now line 0 result }
 {
     let (begin, text) = script_line(script, line);
     begin + first_place(text)
 }
 
 fn told(place: usize, sentence: &'static str) -> Option<Remark>
-    ensures { option_map remark_of result ≡ Some (record { place = place; sentence = sentence.now }) }
+    ensures remark { option_map remark_of result ≡ Some (record { place = place; sentence = sentence.now }) }
+    ensures placed { IfSome result (λ remark. remark.place ≡ place) }
 {
     Some(Remark { place, sentence })
 }

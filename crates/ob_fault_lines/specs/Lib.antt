@@ -1,6 +1,5 @@
 pub mod ModuleFaultLines
 pub mod ScriptFaultLines
-pub mod FaultLines
 pub mod SequentialFaultLines
 pub mod RunFaultLines
 pub mod ServeFaultLines

@@ -2,7 +2,7 @@
 use Rattle.std.specs.Prelude.{ℕ, List, ◌++◌, codes, decimal}
 use Rattle.ob_scan.specs.declared.fault.ScanFault.{ScanFault}
 use Rattle.ob_scan.specs.declared.fault.ScanFault.TheVariants as Scan
-use Rattle.ob_scan.specs.declared.scanner.TheConstants.{LONGEST_TEXT}
+use Rattle.ob_scan.specs.Limits.{longest_text}
 use Rattle.ob_parser.specs.declared.parser.ParseFault.{ParseFault}
 use Rattle.ob_parser.specs.declared.parser.ParseFault.TheVariants as Parse
 use Rattle.ob_typing.specs.declared.rule.Rule.{Rule}
@@ -29,7 +29,7 @@ scan_line (Scan.StrayByte place) = at_place (codes "S1") place
 scan_line (Scan.NumberTooLarge place) = at_place (codes "S2") place
 scan_line (Scan.OpenComment place) = at_place (codes "S3") place
 scan_line (Scan.NameTooLong place) = at_place (codes "S4") place
-scan_line Scan.TooLong = at_place (codes "S5") LONGEST_TEXT
+scan_line Scan.TooLong = at_place (codes "S5") longest_text
 scan_line Scan.NoMemory = no_memory_line
 
 abbrev pub parse_line : ParseFault → Text

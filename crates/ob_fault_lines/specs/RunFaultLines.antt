@@ -1,4 +1,4 @@
--- The line that tells each fault of a run.
+-- The lines that tell each fault of an object, and of a run of it.
 use Rattle.std.specs.Prelude.{ℕ, ◌++◌, codes, decimal}
 use Rattle.ob_object.specs.declared.compiling.CompileFault.{CompileFault}
 use Rattle.ob_object.specs.declared.compiling.CompileFault.TheVariants as Compile

@@ -21,7 +21,6 @@ whole_text_line Texts.NoMemory = no_memory_line
 
 abbrev pub opening_line : OpenFault → Text
 opening_line (Open.Trap trap) = codes "O2 trap " ++ decimal trap
-opening_line Open.NeedsMore = codes "O3"
 opening_line Open.NoMemory = no_memory_line
 
 abbrev pub calls_line : ScriptFault → Text
@@ -31,18 +30,14 @@ calls_line (Script.Arguments line) = at_line (codes "L3") line
 calls_line (Script.Process line) = at_line (codes "L4") line
 calls_line Script.NoMemory = no_memory_line
 
--- a call that needs more turns is told by its process and its number among the calls of that process
-abbrev pub more_turns_line : (process number : ℕ) → Text
-more_turns_line process number = codes "U1 " ++ decimal process ++ codes "." ++ decimal number
-
 abbrev pub check_fault_line : ModuleFault → Text
 check_fault_line (Modules.Text e) = whole_text_line e
 check_fault_line (Modules.Open e) = opening_line e
 check_fault_line Modules.NoMemory = no_memory_line
 
 abbrev pub seq_fault_line : SeqTextFault → Text
+seq_fault_line Runs.Budget = codes "N3"
 seq_fault_line (Runs.Text e) = whole_text_line e
 seq_fault_line (Runs.Open e) = opening_line e
 seq_fault_line (Runs.Script e) = calls_line e
-seq_fault_line (Runs.NeedsMore process number) = more_turns_line process number
 seq_fault_line Runs.NoMemory = no_memory_line

@@ -6,8 +6,8 @@ use Rattle.ob_record.specs.RecordText.{id_text}
 use Rattle.ob_verify.specs.declared.verifying.VerifyFault.{VerifyFault}
 use Rattle.ob_verify.specs.declared.verifying.VerifyFault.TheVariants as Faults
 use Rattle.wf_history.specs.declared.event.CallId.{CallId}
-use Rattle.wf_history.specs.declared.order.OrderFault.{OrderFault}
-use Rattle.wf_history.specs.declared.order.OrderFault.TheVariants as Order
+use Rattle.ob_order.specs.declared.order.OrderFault.{OrderFault}
+use Rattle.ob_order.specs.declared.order.OrderFault.TheVariants as Order
 use Rattle.ob_fault_lines.specs.ModuleFaultLines.{Text, no_memory_line, open_line, text_line}
 use Rattle.ob_fault_lines.specs.ScriptFaultLines.{at_line}
 

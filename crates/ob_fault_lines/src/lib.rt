@@ -1,7 +1,6 @@
 //! The lines by which the program tells faults.
 #![tactic(auto)]
 
-pub mod fault_line;
 pub mod module_faults;
 pub mod run_faults;
 pub mod script_faults;

@@ -1,4 +1,4 @@
-//! The line of a fault of a run.
+//! The lines of the faults of an object, and of a run of it.
 
 ghost use Rattle.std.specs.Prelude.{◌≡◌, ◌++◌, IfOk, OnOk, string_bytes};
 ghost use Rattle.ob_fault_lines.specs.RunFaultLines.{at_item, compile_line, run_fault_line, schedule_line};
@@ -23,6 +23,15 @@ pub fn run_fault_line(alloc: Global, fault: PerformFault) -> Result<String, Allo
         PerformFault::TooLong(item) => push_item(&mut line, "Q3", item)?,
         PerformFault::NoMemory => line.push_str("NoMemory")?,
     }
+    Ok(line)
+}
+
+/// The line of a fault of a module whose code is listed, without a line feed.
+pub fn compile_fault_line(alloc: Global, fault: CompileFault) -> Result<String, AllocError>
+    ensures { IfOk result (λ line. string_bytes line ≡ compile_line fault) }
+{
+    let mut line = String::new(alloc);
+    push_compile_fault(&mut line, fault)?;
     Ok(line)
 }
 

@@ -1,7 +1,7 @@
 //! The lines of faults of a module of the whole language: by itself, and with its calls made one after the other.
 
 ghost use Rattle.std.specs.Prelude.{◌≡◌, ◌++◌, IfOk, OnOk, string_bytes};
-ghost use Rattle.ob_fault_lines.specs.SequentialFaultLines.{calls_line, check_fault_line, more_turns_line, opening_line, seq_fault_line, whole_text_line};
+ghost use Rattle.ob_fault_lines.specs.SequentialFaultLines.{calls_line, check_fault_line, opening_line, seq_fault_line, whole_text_line};
 
 use crate::module_faults::{push_broken_rule, push_parse_fault, push_scan_fault};
 use crate::script_faults::push_line_number;
@@ -30,10 +30,10 @@ pub fn seq_fault_line(alloc: Global, fault: SeqTextFault) -> Result<String, Allo
 {
     let mut line = String::new(alloc);
     match fault {
+        SeqTextFault::Budget => line.push_str("N3")?,
         SeqTextFault::Text(fault) => push_whole_text_fault(&mut line, fault)?,
         SeqTextFault::Open(fault) => push_opening_fault(&mut line, fault)?,
         SeqTextFault::Script(fault) => push_calls_fault(&mut line, fault)?,
-        SeqTextFault::NeedsMore(process, number) => push_needs_more(&mut line, process, number)?,
         SeqTextFault::NoMemory => line.push_str("NoMemory")?,
     }
     Ok(line)
@@ -60,7 +60,6 @@ fn push_opening_fault(line: &mut String, fault: OpenFault) -> Result<(), AllocEr
             line.push_str("O2 trap ")?;
             push_number(line, trap)
         }
-        OpenFault::NeedsMore => line.push_str("O3"),
         OpenFault::NoMemory => line.push_str("NoMemory"),
     }
 }
@@ -76,14 +75,4 @@ fn push_calls_fault(line: &mut String, fault: ScriptFault) -> Result<(), AllocEr
         ScriptFault::Process(number) => push_line_number(line, "L4", number),
         ScriptFault::NoMemory => line.push_str("NoMemory"),
     }
-}
-
-/// Appends that a call needs more turns, of its process and its number among the calls of that process.
-fn push_needs_more(line: &mut String, process: usize, number: usize) -> Result<(), AllocError>
-    ensures { OnOk result (string_bytes line.new ≡ string_bytes line.old ++ more_turns_line process number) }
-{
-    line.push_str("U1 ")?;
-    push_number(line, process)?;
-    line.push_str(".")?;
-    push_number(line, number)
 }

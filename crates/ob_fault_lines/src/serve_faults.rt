@@ -6,7 +6,8 @@ ghost use Rattle.ob_fault_lines.specs.ServeFaultLines.{close_line, of_process, s
 use crate::run_faults::push_compile_fault;
 use crate::script_faults::push_script_fault;
 use ob_desk::CloseFault;
-use ob_serve::{ServeFault, ServeTextFault};
+use ob_serve::ServeFault;
+use ob_serve_texts::ServeTextFault;
 use ob_text::numbers::push_number;
 use std::alloc::{AllocError, Global};
 

@@ -6,10 +6,11 @@ ghost use Rattle.ob_fault_lines.specs.VerifyFaultLines.{of_call, opened_line, or
 use crate::module_faults::{push_open_fault, push_text_fault};
 use crate::script_faults::push_line_number;
 use ob_opened::opened::ModuleFault;
+use ob_order::OrderFault;
 use ob_record::push_id;
 use ob_verify::verifying::VerifyFault;
 use std::alloc::{AllocError, Global};
-use wf_history::{CallId, OrderFault};
+use wf_history::CallId;
 
 /// The line that tells why a record isn't verified, without a line feed.
 pub fn verify_fault_line(alloc: Global, fault: VerifyFault) -> Result<String, AllocError>

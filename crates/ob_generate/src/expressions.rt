@@ -9,8 +9,9 @@ ghost use Rattle.ob_scheme.specs.Literals.{LiteralFits, LiteralsFit, StatementLi
 ghost use Rattle.ob_scheme.specs.Scheme as Scheme;
 
 use crate::names::local_of;
-use ob_check::program::{Arithmetic, Designator, Expression, Parameter, Scalar, Statement};
+use ob_check::program::{Arithmetic, Designator, Expression, Parameter, Statement};
 use ob_code::Instr;
+use ob_interface::scalar::Scalar;
 use ob_layout::Layout;
 use std::alloc::AllocError;
 

@@ -3,7 +3,8 @@
 ghost use Rattle.ob_check.specs.View.{expression_of, statement_of, statements_in};
 ghost use Rattle.ob_scheme.specs.Literals.{LiteralFits, LiteralsFit, StatementLiteralsFit, StatementsLiteralsFit};
 
-use ob_check::program::{Expression, Scalar, Statement};
+use ob_check::program::{Expression, Statement};
+use ob_interface::scalar::Scalar;
 
 /// Nothing happens: the literals of statements are in the range of INTEGER, for those who need to know.
 pub fn literals_fit(statements: &[Statement])

@@ -83,6 +83,7 @@ stmts_row n (more_of-Stmt s rest) = ap (Tree.stmt (stmt_of s)) (stmts_row _ rest
 
 abbrev body_row_of : Stmt → (n : Count) × Row_of-Stmt n
 body_row_of (Variants.While' place condition shape body) = (_, body)
+body_row_of (Variants.Repeat' place shape body condition) = (_, body)
 body_row_of _ = (_, end_of-Stmt)
 
 pub stmt_of-while : (place : ℕ) (condition : Expr) (body : Vec Stmt Global) →
@@ -90,6 +91,12 @@ pub stmt_of-while : (place : ℕ) (condition : Expr) (body : Vec Stmt Global) �
 stmt_of-while place condition body =
     let row = body_row_of (Variants.While place condition body) in
     ap (Tree.While place (expr_of condition)) (stmts_row row.0 row.1 ∙ ap stmts_in (items_hidden-the_row-Stmt-0 body))
+
+pub stmt_of-repeat : (place : ℕ) (body : Vec Stmt Global) (condition : Expr) →
+    stmt_of (Variants.Repeat place body condition) ≡ Tree.Repeat place (stmts_in body.items) (expr_of condition)
+stmt_of-repeat place body condition =
+    let row = body_row_of (Variants.Repeat place body condition) in
+    ap (λ ss. Tree.Repeat place ss (expr_of condition)) (stmts_row row.0 row.1 ∙ ap stmts_in (items_hidden-the_row-Stmt-0 body))
 
 branches_row : (n : Count) (row : Row_of-Branch n) → branches_of row ≡ branches_in (items-the_row-Branch n row)
 branches_row n end_of-Branch = refl

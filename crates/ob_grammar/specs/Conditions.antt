@@ -1,10 +1,10 @@
--- The conditions beside the grammar: each name after END is that of its module or procedure, and at most DEEPEST_NESTING
+-- The conditions beside the grammar: each name after END is that of its module or procedure, and at most deepest_nesting
 -- constructs, 100, stand within one another. Both are one list of what breaks them, in the order of the text.
 use Rattle.std.specs.Prelude.{◌≡◌, ℕ, ◌+◌, List, [], ◌∷◌, ◌++◌, Option, Contains, flat_map, nat_le, if◌then◌else◌}
 use Rattle.std.specs.Option.{option_map_or}
 use Rattle.std.specs.Str.{bytes_eq}
-use Rattle.ob_grammar.specs.declared.tree.TheConstants.{DEEPEST_NESTING}
-use Rattle.ob_grammar.specs.Tree.{Name, Expr, Number, Named, Parens, Not, Product, Sum, Comparison, Operands, no_operand, operand, Selectors, no_selector, field, index, TypeExpr, NamedType, Array, Record, FieldLists, no_list, empty_list, fields, Stmt, Empty, Assign, Call, If, While, Stmts, no_stmt, stmt, Branches, no_branch, branch, Otherwise, no_else, else', ConstDecl, TypeDecl, VarDecl, DeclarationPart, Section, Declarations, Declared, Procedures, no_procedure, procedure, Module}
+use Rattle.ob_grammar.specs.Limits.{deepest_nesting}
+use Rattle.ob_grammar.specs.Tree.{Name, Expr, Number, Named, Parens, Not, Product, Sum, Comparison, Operands, no_operand, operand, Selectors, no_selector, field, index, TypeExpr, NamedType, Array, Record, FieldLists, no_list, empty_list, fields, Stmt, Empty, Assign, Call, If, While, Repeat, Stmts, no_stmt, stmt, Branches, no_branch, branch, Otherwise, no_else, else', ConstDecl, TypeDecl, VarDecl, DeclarationPart, Section, Declarations, Declared, Procedures, no_procedure, procedure, Module}
 
 -- what breaks a condition, with the place of the token that breaks it
 pub data Breach : Type 0 where
@@ -13,10 +13,10 @@ pub data Breach : Type 0 where
   -- a construct opens within as many others as may stand within one another
   too_deep : (place : ℕ) → Breach
 
--- A construct that opens at this place, within n others. Constructs are procedure declarations, ARRAY and RECORD, IF and WHILE,
+-- A construct that opens at this place, within n others. Constructs are procedure declarations, ARRAY and RECORD, IF, WHILE and REPEAT,
 -- and in expressions parentheses, brackets and `~`.
 abbrev pub opening : ℕ → ℕ → List Breach
-opening n place = if nat_le DEEPEST_NESTING n then (too_deep place ∷ []) else []
+opening n place = if nat_le deepest_nesting n then (too_deep place ∷ []) else []
 
 -- where this name stands behind END in place of that one
 abbrev pub differing : Name → Name → List Breach
@@ -64,6 +64,7 @@ abbrev mutual
   in_stmt n (Call name actuals) = in_actuals n actuals
   in_stmt n (If place branches otherwise) = opening n place ++ (in_branches (n + 1) branches ++ in_otherwise (n + 1) otherwise)
   in_stmt n (While place condition body) = opening n place ++ (in_expr (n + 1) condition ++ in_stmts (n + 1) body)
+  in_stmt n (Repeat place body condition) = opening n place ++ (in_stmts (n + 1) body ++ in_expr (n + 1) condition)
 
   pub in_stmts : ℕ → Stmts → List Breach
   in_stmts n no_stmt = []

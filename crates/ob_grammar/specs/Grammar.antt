@@ -200,7 +200,7 @@ pub data ActualParameters : Lexemes → List Expr → Lexemes → Type 0 where
       ActualParameters a es d
 
 mutual
-  -- statement = [assignment | ProcedureCall | IfStatement | WhileStatement]
+  -- statement = [assignment | ProcedureCall | IfStatement | WhileStatement | RepeatStatement]
   pub data Statement : Lexemes → Stmt → Lexemes → Type 0 where
     empty : {a : Lexemes} → Statement a Tree.Empty a
     -- assignment = ident selector ":=" expression
@@ -220,6 +220,11 @@ mutual
         TakesAt Kind.While place a b → Expression b condition c → Takes Kind.Do c d →
         StatementSequence d body e → Takes Kind.End e f →
         Statement a (Tree.While place condition body) f
+    -- RepeatStatement = "REPEAT" StatementSequence "UNTIL" expression
+    repeat : {a b c d e : Lexemes} {place : ℕ} {body : Stmts} {condition : Expr} →
+        TakesAt Kind.Repeat place a b → StatementSequence b body c →
+        Takes Kind.Until c d → Expression d condition e →
+        Statement a (Tree.Repeat place body condition) e
 
   -- StatementSequence = statement {";" statement}
   pub data StatementSequence : Lexemes → Stmts → Lexemes → Type 0 where

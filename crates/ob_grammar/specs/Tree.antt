@@ -55,6 +55,7 @@ mutual
     Call : (procedure : Name) (actuals : Option (List Expr)) → Stmt
     If : (place : ℕ) (branches : Branches) (otherwise : Otherwise) → Stmt
     While : (place : ℕ) (condition : Expr) (body : Stmts) → Stmt
+    Repeat : (place : ℕ) (body : Stmts) (condition : Expr) → Stmt
 
   pub data Stmts : Type 0 where
     no_stmt : Stmts

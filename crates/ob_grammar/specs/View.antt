@@ -83,6 +83,7 @@ abbrev mutual
   stmt_of (Stmts.Call name actuals) = Tree.Call (name_of name) (option_map (λ es. map expr_of es.items) actuals)
   stmt_of (Stmts.If' place shape branches otherwise) = Tree.If place (branches_of branches) (else_of otherwise)
   stmt_of (Stmts.While' place condition shape body) = Tree.While place (expr_of condition) (stmts_of body)
+  stmt_of (Stmts.Repeat' place shape body condition) = Tree.Repeat place (stmts_of body) (expr_of condition)
 
   pub stmts_of : {m : _} → Row_of-Stmt m → Tree.Stmts
   stmts_of end_of-Stmt = Tree.no_stmt

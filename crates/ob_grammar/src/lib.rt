@@ -2,8 +2,6 @@
 #![tactic(auto)]
 
 pub mod module;
-pub mod no_memory;
 pub mod tree;
 
 pub use module::Module;
-pub use no_memory::NoMemory;

@@ -1,8 +1,10 @@
 //! The tree of a module, part by part in the order of the grammar. A place is a byte offset of the text.
 
 /// How many constructs may stand within one another: procedure declarations, ARRAY and RECORD types,
-/// IF, WHILE, and in expressions parentheses, brackets and `~`.
+/// IF, WHILE, REPEAT, and in expressions parentheses, brackets and `~`.
 pub const DEEPEST_NESTING: usize = 100;
+
+const _: () = prove!(DEEPEST_NESTING == 100);
 
 /// An occurrence of a name.
 #[derive(Drop)]
@@ -155,6 +157,12 @@ pub enum Stmt {
         place: usize,
         condition: Expr,
         body: Vec<Stmt>,
+    },
+    /// The place of REPEAT.
+    Repeat {
+        place: usize,
+        body: Vec<Stmt>,
+        condition: Expr,
     },
 }
 

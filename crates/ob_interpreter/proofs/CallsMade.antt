@@ -23,7 +23,6 @@ comes_as a b r store h comes = subst (λ o. Comes o r store) (sym h) comes
 -- what stops a procedure stops its call
 pub stops_call : (a o : Outcome) (stop : Stop) (store after : Store) → a ≡ left o → Comes o (Err stop) store → Comes a (Err stop) after
 stops_call a o (Stops.Trap k) store after h comes = h ∙ ap left comes
-stops_call a o Stops.NotYet store after h comes = h ∙ ap left comes
 stops_call a o Stops.NoMemory store after h comes = tt
 
 module _ (program : Program) (ps : List Procedure) (n : ℕ) (p : Procedure) (same : ps ≡ program.procedures.items) (below : n < length ps) (is : p ≡ get_or ps n p) where

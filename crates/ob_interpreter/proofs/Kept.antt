@@ -2,12 +2,12 @@
 use Rattle.std.proofs.Common.{◌≡◌, refl, ap, subst, ◌∙◌, arith, ℕ, zero, suc, pred, Bool, true, false, List, [], ◌∷◌, ◌++◌, length, take, if◌then◌else◌, Option, Some, None}
 use Rattle.std.specs.Prelude.{slice_get}
 use Rattle.std.proofs.lemmas.List.{length-set, length-append}
-use Rattle.ob_typing.specs.Program.{Expression, Statement, Assign, Call, If, While, Statements, no_statement, statement, Branches, no_branch, otherwise, branch, Procedure, Program}
-use Rattle.ob_typing.specs.Arithmetic.{Evaluated, Gives, Traps, truth_of}
+use Rattle.ob_typing.specs.Program.{Expression, Statement, Assign, Call, If, While, Repeat, Statements, no_statement, statement, Branches, no_branch, otherwise, branch, Procedure, Program}
+use Rattle.ob_typing.specs.Arithmetic.{Evaluated, Gives, Traps, truth_of, no_turn_left}
 use Rattle.ob_positions.specs.Value.{Value, Single}
 use Rattle.ob_positions.specs.Store.{Place, Held, Activation, Store, activation_at, with_held, stored}
 use Rattle.ob_positions.specs.Evaluation.{place_of, value_of, all_handed}
-use Rattle.ob_positions.specs.Statements.{Outcome, Done, Trap, NotYet, Run, Calls, after, then_run, with_turn, loop_once, loop, meaning, meaning_of_all, meaning_of_branches, activation_of, left, activated, calls}
+use Rattle.ob_positions.specs.Statements.{Outcome, Done, Trap, Run, Calls, after, then_run, with_turn, loop_once, loop, rounds_once, rounds, meaning, meaning_of_all, meaning_of_branches, activation_of, left, activated, calls}
 
 -- a run that is done leaves as many activations
 abbrev pub Kept : Store → Store → Type 0
@@ -29,7 +29,6 @@ kept_left store a (n ∷ next) h = shorter n next ∙ (let e : suc (length next)
 abbrev Leaves : Store → Outcome → Type 0
 Leaves was (Done turns next) = Kept was next
 Leaves was (Trap k) = Unit {0}
-Leaves was NotYet = Unit {0}
 
 abbrev Keeps : Run → Type 0
 Keeps run = (turns : ℕ) (store : Store) → Leaves store (run turns store)
@@ -37,7 +36,6 @@ Keeps run = (turns : ℕ) (store : Store) → Leaves store (run turns store)
 leaves_later : (a b : Store) (o : Outcome) → Kept a b → Leaves b o → Leaves a o
 leaves_later a b (Done turns c) h k = k ∙ h
 leaves_later a b (Trap n) h k = tt
-leaves_later a b NotYet h k = tt
 
 leaves_after : {A : Type 0} (was : Store) (v : Evaluated A) (go : A → Outcome) → ((a : A) → Leaves was (go a)) → Leaves was (after v go)
 leaves_after was (Gives a) go h = h a
@@ -46,7 +44,6 @@ leaves_after was (Traps k) go h = tt
 leaves_then : (was : Store) (o : Outcome) (run : Run) → Leaves was o → Keeps run → Leaves was (then_run o run)
 leaves_then was (Done turns store) run h k = leaves_later was store (run turns store) h (k turns store)
 leaves_then was (Trap n) run h k = tt
-leaves_then was NotYet run h k = tt
 
 leaves_turn : (was : Store) (go : ℕ → Outcome) → ((t : ℕ) → Leaves was (go t)) → (t : ℕ) → Leaves was (with_turn go t)
 leaves_turn was go h zero = tt
@@ -59,7 +56,6 @@ keeps_if false r s x y = y
 leaves_left : (store : Store) (a : Activation) (o : Outcome) → Leaves (store ++ a ∷ []) o → Leaves store (left o)
 leaves_left store a (Done turns next) h = kept_left store a next h
 leaves_left store a (Trap k) h = tt
-leaves_left store a NotYet h = tt
 
 once_keeps : (c : Expression) (body again : Run) → Keeps body → Keeps again → Keeps (loop_once c body again)
 once_keeps c body again x y t s =
@@ -69,8 +65,19 @@ once_keeps c body again x y t s =
     (λ t s. refl) t s)
 
 loop_keeps : (n : ℕ) (c : Expression) (body : Run) → Keeps body → Keeps (loop n c body)
-loop_keeps zero c body x = once_keeps c body (λ t s. NotYet) x (λ t s. tt)
+loop_keeps zero c body x = once_keeps c body (λ t s. Trap no_turn_left) x (λ t s. tt)
 loop_keeps (suc n) c body x = once_keeps c body (loop n c body) x (loop_keeps n c body x)
+
+round_keeps : (body : Run) (c : Expression) (again : Run) → Keeps body → Keeps again → Keeps (rounds_once body c again)
+round_keeps body c again x y t s =
+    let behind : Run = λ u next. after (value_of next c) (λ v. (if truth_of v then Done else again) u next) in
+    leaves_turn s (λ l. then_run (body l s) behind)
+    (λ l. leaves_then s (body l s) behind (x l s)
+    (λ u next. leaves_after next (value_of next c) _ (λ v. keeps_if (truth_of v) Done again (λ u next. refl) y u next))) t
+
+rounds_keep : (n : ℕ) (body : Run) (c : Expression) → Keeps body → Keeps (rounds n body c)
+rounds_keep zero body c x = λ t s. tt
+rounds_keep (suc n) body c x = round_keeps body c (rounds n body c) x (rounds_keep n body c x)
 
 module _ (call : Calls) (x : (p : ℕ) (hs : List Held) → Keeps (call p hs)) where
   mutual
@@ -80,6 +87,7 @@ module _ (call : Calls) (x : (p : ℕ) (hs : List Held) → Keeps (call p hs)) w
     statement_keeps (Call p actuals) t s = leaves_after s (all_handed s actuals) _ (λ hs. x p hs t s)
     statement_keeps (If branches) t s = branches_keep branches t s
     statement_keeps (While c body) t s = loop_keeps t c (meaning_of_all call body) (statements_keep body) t s
+    statement_keeps (Repeat body c) t s = rounds_keep t (meaning_of_all call body) c (statements_keep body) t s
 
     statements_keep : (ss : Statements) → Keeps (meaning_of_all call ss)
     statements_keep no_statement t s = refl

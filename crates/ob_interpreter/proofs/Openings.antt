@@ -1,18 +1,17 @@
 -- What an opening that is done leaves, and what stops one.
-use Rattle.std.proofs.Common.{◌≡◌, ap, sym, ◌∙◌, ℕ, [], ◌∷◌, Err}
+use Rattle.std.proofs.Common.{◌≡◌, ap, sym, ◌∙◌, ℕ, [], ◌∷◌, Ok, Err}
 use Rattle.ob_typing.specs.Program.{Program, Statements}
-use Rattle.ob_meaning.specs.Object.{most_activations}
+use Rattle.ob_meaning.specs.Object.{most_activations, most_turns}
 use Rattle.ob_positions.specs.Store.{Store, activation_at}
 use Rattle.ob_positions.specs.Statements.{Outcome, Done, meaning_of_all, begun, calls}
 use Rattle.ob_positions.specs.Object.{opening}
 use Rattle.ob_evaluate.specs.declared.places.Stop.{Stop}
 use Rattle.ob_evaluate.specs.declared.places.Stop.TheVariants as Stops
-use Rattle.ob_interpreter.specs.declared.state.State.{State}
+use Rattle.ob_store.specs.declared.state.State.{State}
+use Rattle.ob_store.specs.View.{state_of}
 use Rattle.ob_interpreter.specs.Faults.{IsOpenFault, of_stop}
 use Rattle.ob_interpreter.specs.Running.{Comes}
 use Rattle.ob_interpreter.specs.Outside.{Opens}
-use Rattle.ob_interpreter.specs.Sequences.{IsOpening}
-use Rattle.ob_interpreter.specs.View.{state_of}
 use Rattle.ob_interpreter.proofs.Kept.{kept_where_done, module_alone}
 
 module _ (program : Program) (turns : ℕ) where
@@ -23,7 +22,7 @@ module _ (program : Program) (turns : ℕ) where
       ∙ ap (λ s. meaning_of_all (calls program most_activations) s turns was) (sym body)
 
   pub opening_done : (l : ℕ) (next : Store) (state : State) → opening program turns ≡ Done l next →
-      state_of state ≡ activation_at next 0 → IsOpening program turns (state_of state)
+      state_of state ≡ activation_at next 0 → Opens program turns (Ok state)
   opening_done l next state done lasts =
       let first = begun program.variables in
       let kept = kept_where_done program most_activations program.body turns l (first ∷ []) next done in
@@ -31,10 +30,8 @@ module _ (program : Program) (turns : ℕ) where
 
   pub opening_stops : (o : Outcome) (stop : Stop) (after : Store) → opening program turns ≡ o → Comes o (Err stop) after → Opens program turns (Err stop)
   opening_stops o (Stops.Trap k) after ran comes = ran ∙ comes
-  opening_stops o Stops.NotYet after ran comes = ran ∙ comes
   opening_stops o Stops.NoMemory after ran comes = tt
 
-  pub opening_fault : (stop : Stop) → Opens program turns (Err stop) → IsOpenFault program turns (of_stop stop)
-  opening_fault (Stops.Trap k) opens = opens
-  opening_fault Stops.NotYet opens = opens
-  opening_fault Stops.NoMemory opens = tt
+pub opening_fault : (program : Program) (stop : Stop) → Opens program most_turns (Err stop) → IsOpenFault program (of_stop stop)
+opening_fault program (Stops.Trap k) opens = opens
+opening_fault program Stops.NoMemory opens = tt

@@ -1,23 +1,23 @@
 -- Branches, loops and calls, one step after the other.
 use Rattle.std.proofs.Common.{◌≡◌, refl, ap, sym, ◌∙◌, arith, ℕ, zero, suc, ◌+◌, ◌-◌, ◌<◌, ◌≤◌, Bool, true, false, List, [], ◌∷◌, drop, get_or, length, if◌then◌else◌}
-use Rattle.ob_typing.specs.declared.scalar.Scalar.{Scalar}
+use Rattle.ob_interface.specs.declared.scalar.Scalar.{Scalar}
 use Rattle.ob_typing.specs.Program as Programs
-use Rattle.ob_typing.specs.Arithmetic.{Gives, Traps, truth_of}
+use Rattle.ob_typing.specs.Arithmetic.{Gives, Traps, truth_of, no_turn_left}
 use Rattle.ob_checked.specs.declared.program.Branch.{Branch}
 use Rattle.ob_checked.specs.View.{expression_of, statements_in, branches_in}
 use Rattle.std.specs.Prelude.{slice_get}
 use Rattle.ob_positions.specs.Store.{Store, Held}
 use Rattle.ob_positions.specs.Evaluation.{value_of}
-use Rattle.ob_positions.specs.Statements.{Outcome, Done, Trap, NotYet, Run, Calls, after, then_run, with_turn, loop_once, loop, meaning_of_all, meaning_of_branches, activated, calls}
+use Rattle.ob_positions.specs.Statements.{Outcome, Done, Trap, Run, Calls, after, then_run, with_turn, loop_once, loop, rounds, meaning_of_all, meaning_of_branches, activated, calls}
 
-drop_here : {A : Type 0} (all : List A) (i : ℕ) (d : A) → i < length all → drop i all ≡ get_or all i d ∷ drop (i + 1) all
+pub drop_here : {A : Type 0} (all : List A) (i : ℕ) (d : A) → i < length all → drop i all ≡ get_or all i d ∷ drop (i + 1) all
 drop_here [] i d h = absurd (omega (arith, h))
 drop_here (x ∷ all) zero d h = refl
 drop_here (x ∷ all) (suc i) d h =
     let e : suc (i + 1) ≡ suc i + 1 = omega arith in
     drop_here all i d (omega (arith, h)) ∙ ap (λ n. get_or all i d ∷ drop n (x ∷ all)) e
 
-drop_beyond : {A : Type 0} (xs : List A) (i : ℕ) → length xs ≤ i → drop i xs ≡ []
+pub drop_beyond : {A : Type 0} (xs : List A) (i : ℕ) → length xs ≤ i → drop i xs ≡ []
 drop_beyond [] zero h = refl
 drop_beyond [] (suc i) h = refl
 drop_beyond (x ∷ xs) zero h = absurd (omega (arith, h))
@@ -77,7 +77,7 @@ once_goes c body again t store v gives holds =
 
 pub loop_ends : (n : ℕ) (c : Programs.Expression) (body : Run) (t : ℕ) (store : Store) (v : Scalar) → Gives v ≡ value_of store c → truth_of v ≡ false →
     loop n c body t store ≡ Done t store
-loop_ends zero c body t store v gives fails = once_ends c body (λ t s. NotYet) t store v gives fails
+loop_ends zero c body t store v gives fails = once_ends c body (λ t s. Trap no_turn_left) t store v gives fails
 loop_ends (suc n) c body t store v gives fails = once_ends c body (loop n c body) t store v gives fails
 
 pub loop_goes : (n : ℕ) (c : Programs.Expression) (body : Run) (t : ℕ) (store : Store) (v : Scalar) → 0 < t → t ≤ n → Gives v ≡ value_of store c → truth_of v ≡ true →
@@ -90,6 +90,43 @@ loop_goes (suc n) c body (suc t) store v some le gives holds =
     once_goes c body (loop n c body) (suc t) store v gives holds
     ∙ ap (λ x. then_run (body x store) (loop n c body)) turns
     ∙ ap (λ x. then_run (body (suc t - 1) store) (loop x c body)) bound
+
+pub rounds_out : (n : ℕ) (body : Run) (c : Programs.Expression) (store : Store) → rounds n body c 0 store ≡ Trap no_turn_left
+rounds_out zero body c store = refl
+rounds_out (suc n) body c store = refl
+
+-- what stands behind the body of a round
+abbrev pub behind_round : ℕ → Run → Programs.Expression → Run
+behind_round n body c t s = after (value_of s c) (λ v. (if truth_of v then Done else rounds (n - 1) body c) t s)
+
+pub rounds_go : (n : ℕ) (body : Run) (c : Programs.Expression) (t : ℕ) (store : Store) → 0 < t → t ≤ n →
+    rounds n body c t store ≡ then_run (body (t - 1) store) (behind_round n body c)
+rounds_go zero body c t store some le = absurd (omega (arith, some, le))
+rounds_go (suc n) body c zero store some le = absurd (omega (arith, some))
+rounds_go (suc n) body c (suc t) store some le =
+    let turns : t ≡ suc t - 1 = omega arith in
+    let bound : n ≡ suc n - 1 = omega arith in
+    ap (λ x. then_run (body x store) (λ u s. after (value_of s c) (λ v. (if truth_of v then Done else rounds n body c) u s))) turns
+    ∙ ap (λ x. then_run (body (suc t - 1) store) (λ u s. after (value_of s c) (λ v. (if truth_of v then Done else rounds x body c) u s))) bound
+
+module _ (n : ℕ) (body : Run) (c : Programs.Expression) (t l : ℕ) (store next : Store) (some : 0 < t) (le : t ≤ n) (done : body (t - 1) store ≡ Done l next) where
+  round_done : rounds n body c t store ≡ behind_round n body c l next
+  round_done = rounds_go n body c t store some le ∙ ap (λ o. then_run o (behind_round n body c)) done
+
+  pub rounds_end : (v : Scalar) → Gives v ≡ value_of next c → truth_of v ≡ true → rounds n body c t store ≡ Done l next
+  rounds_end v gives holds =
+      round_done
+      ∙ ap (λ e. after e (λ v. (if truth_of v then Done else rounds (n - 1) body c) l next)) (sym gives)
+      ∙ chosen_run (truth_of v) Done (rounds (n - 1) body c) l next holds
+
+  pub rounds_again : (v : Scalar) → Gives v ≡ value_of next c → truth_of v ≡ false → rounds n body c t store ≡ rounds (n - 1) body c l next
+  rounds_again v gives fails =
+      round_done
+      ∙ ap (λ e. after e (λ v. (if truth_of v then Done else rounds (n - 1) body c) l next)) (sym gives)
+      ∙ passed_run (truth_of v) Done (rounds (n - 1) body c) l next fails
+
+  pub rounds_trap : (k : ℕ) → Traps k ≡ value_of next c → rounds n body c t store ≡ Trap k
+  rounds_trap k traps = round_done ∙ ap (λ e. after e (λ v. (if truth_of v then Done else rounds (n - 1) body c) l next)) (sym traps)
 
 -- calls
 

@@ -12,6 +12,7 @@ abbrev mutual
   size (Programs.Call number actuals) = 1
   size (Programs.If branches) = suc (size_of_branches branches)
   size (Programs.While condition body) = suc (size_of_all body)
+  size (Programs.Repeat body condition) = suc (size_of_all body)
 
   pub size_of_all : Programs.Statements → ℕ
   size_of_all Programs.no_statement = 1

@@ -1,15 +1,14 @@
 -- A run from outside, and the opening's.
 use Rattle.std.specs.Prelude.{◌≡◌, ℕ, ◌-◌, List, [], ◌∷◌, Result, Ok, Err}
-use Rattle.ob_typing.specs.declared.scalar.Scalar.{Scalar}
+use Rattle.ob_interface.specs.declared.scalar.Scalar.{Scalar}
 use Rattle.ob_typing.specs.Program.{Procedure, Program}
 use Rattle.ob_meaning.specs.Object.{most_activations}
 use Rattle.ob_positions.specs.Store as Stores
 use Rattle.ob_positions.specs.Statements as Statements
 use Rattle.ob_positions.specs.Object.{results_begun, outside_handed}
 use Rattle.ob_positions.specs.Object as Objects
-use Rattle.ob_interpreter.specs.declared.state.State.{State}
-use Rattle.ob_interpreter.specs.View.{state_of}
-use Rattle.ob_interpreter.specs.Sequences.{IsOpening}
+use Rattle.ob_store.specs.declared.state.State.{State}
+use Rattle.ob_store.specs.View.{state_of}
 use Rattle.ob_evaluate.specs.declared.places.Stop.{Stop}
 use Rattle.ob_evaluate.specs.declared.places.Stop.TheVariants as Stops
 
@@ -22,9 +21,8 @@ outside_store p state arguments =
 abbrev pub run_of : Program → Procedure → ℕ → Stores.Store → Statements.Outcome
 run_of program p turns store = Statements.meaning_of_all (Statements.calls program (most_activations - 1)) p.body turns store
 
--- the opening ended in this state, or stopped so
+-- with so many turns the opening ended in this state, or stopped so
 abbrev pub Opens : Program → ℕ → Result State Stop → Type 0
-Opens program turns (Ok state) = IsOpening program turns (state_of state)
+Opens program turns (Ok state) = (left : ℕ) × (Objects.opening program turns ≡ Statements.Done left (state_of state ∷ []))
 Opens program turns (Err (Stops.Trap k)) = Objects.opening program turns ≡ Statements.Trap k
-Opens program turns (Err Stops.NotYet) = Objects.opening program turns ≡ Statements.NotYet
 Opens program turns (Err Stops.NoMemory) = Unit {0}

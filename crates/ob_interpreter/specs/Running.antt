@@ -11,7 +11,6 @@ use Rattle.ob_interpreter.specs.declared.statements.Context.{Context}
 abbrev pub Comes : Statements.Outcome → Result ℕ Stop → Store → Type 0
 Comes o (Ok turns) store = o ≡ Statements.Done turns store
 Comes o (Err (Stops.Trap k)) store = o ≡ Statements.Trap k
-Comes o (Err Stops.NotYet) store = o ≡ Statements.NotYet
 Comes o (Err Stops.NoMemory) store = Unit {0}
 
 -- what calls in the text do where so many more activations may be made

@@ -1,30 +1,28 @@
 -- The opening state by position, and calls one at a time.
-use Rattle.std.specs.Prelude.{◌≡◌, ℕ, List, [], ◌∷◌, Option, Some, None, option_map}
+use Rattle.std.specs.Prelude.{◌≡◌, ℕ, List, [], ◌∷◌}
 use Rattle.ob_typing.specs.Program.{Program}
-use Rattle.ob_meaning.specs.Object.{ObjectCall, Reply}
+use Rattle.ob_interface.specs.Call.{ObjectCall, Reply}
+use Rattle.ob_meaning.specs.Object.{most_turns}
 use Rattle.ob_positions.specs.Store.{Activation}
-use Rattle.ob_positions.specs.Statements.{Done}
-use Rattle.ob_positions.specs.Object.{Effect, Ends, NeedsMore, effect, opening}
+use Rattle.ob_positions.specs.Statements.{Done, Trap}
+use Rattle.ob_positions.specs.Object.{effect, opening}
 
 -- the opening ends in this state
-abbrev pub IsOpening : Program → ℕ → Activation → Type 0
-IsOpening program turns state = (left : ℕ) × (opening program turns ≡ Done left (state ∷ []))
+abbrev pub IsOpening : Program → Activation → Type 0
+IsOpening program state = (left : ℕ) × (opening program most_turns ≡ Done left (state ∷ []))
 
--- goes on where the turns sufficed
-abbrev pub on_end : {A : Type 0} → Effect → (Activation → Reply → Option A) → Option A
-on_end (Ends state reply) go = go state reply
-on_end NeedsMore go = None
+-- the opening traps
+abbrev pub OpeningTraps : Program → ℕ → Type 0
+OpeningTraps program k = opening program most_turns ≡ Trap k
 
--- the replies to calls made one at a time from a state, and the last state; nothing where a call needs more turns
-abbrev pub one_at_a_time : Program → ℕ → Activation → List ObjectCall → Option (List Reply × Activation)
-one_at_a_time program turns state [] = Some ([], state)
-one_at_a_time program turns state (call ∷ calls) =
-    on_end (effect program call turns state) (λ next reply.
-    option_map (λ (replies, last). (reply ∷ replies, last)) (one_at_a_time program turns next calls))
+-- the replies to calls made one at a time from a state, each with the budget
+abbrev pub replies_to : Program → (budget : ℕ) → Activation → List ObjectCall → List Reply
+replies_to program budget state [] = []
+replies_to program budget state (call ∷ calls) =
+    (effect program call budget state).reply ∷ replies_to program budget (effect program call budget state).state calls
 
 -- these are the replies to calls made one at a time from the opening state
-pub record AreReplies (program : Program) (turns : ℕ) (calls : List ObjectCall) (replies : List Reply) : Type 0 where
+pub record AreReplies (program : Program) (budget : ℕ) (calls : List ObjectCall) (replies : List Reply) : Type 0 where
   pub state : Activation
-  pub last : Activation
-  pub opens : IsOpening program turns state
-  pub made : one_at_a_time program turns state calls ≡ Some (replies, last)
+  pub opens : IsOpening program state
+  pub made : replies ≡ replies_to program budget state calls

@@ -1,6 +1,6 @@
 //! Calls on a module's object, and their replies.
 
-use ob_typing::scalar::Scalar;
+use ob_interface::scalar::Scalar;
 
 /// A call on the object: the number of an export, and the value arguments in text order.
 #[derive(Drop)]

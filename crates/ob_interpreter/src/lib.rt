@@ -6,5 +6,4 @@ pub mod object;
 pub mod opening;
 mod outside;
 pub mod sequence;
-pub mod state;
 pub mod statements;

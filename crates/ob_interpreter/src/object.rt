@@ -6,25 +6,25 @@ ghost use Rattle.ob_checked.specs.View.{procedure_of, program_of, table_of};
 ghost use Rattle.ob_meaning.specs.Object.{results_position};
 ghost use Rattle.ob_positions.specs.Object as Objects;
 ghost use Rattle.ob_positions.specs.Store as Stores;
-ghost use Rattle.ob_store.specs.View.{store_in};
+ghost use Rattle.ob_store.specs.View.{state_of, store_in};
 ghost use Rattle.ob_store.specs.Begun.{begun_in};
 ghost use Rattle.ob_typing.specs.Program.{exports};
 ghost use Rattle.ob_interpreter.specs.Outside.{outside_store, run_of};
 ghost use Rattle.ob_interpreter.specs.Running.{Comes};
-ghost use Rattle.ob_interpreter.specs.View.{state_of, call_of, effect_in};
+ghost use Rattle.ob_interpreter.specs.View.{call_of, effect_in};
 
 use crate::call::{Call, Reply};
 use crate::outside::{RESULTS, outside_handed, results_begun};
-use crate::state::State;
 use crate::statements::{Context, run};
 use ob_checked::checked::Checked;
 use ob_checked::program::{Procedure, Program};
 use ob_evaluate::begun::variables_begun;
 use ob_evaluate::expressions::scalar_of;
 use ob_evaluate::places::Stop;
-use ob_grammar::NoMemory;
+use ob_interface::NoMemory;
+use ob_interface::scalar::Scalar;
+use ob_store::state::State;
 use ob_store::store::{Store, value_held};
-use ob_typing::scalar::Scalar;
 use std::alloc::{AllocError, Global};
 
 /// How many activations may be active.
@@ -64,7 +64,7 @@ fn store_begun(
         procedure.variables.as_slice(),
     )?;
     let others = vec![in alloc; results, own]?;
-    Ok(Store::new(alloc, state.into_variables(), others))
+    Ok(Store::new(alloc, state, others))
 }
 
 /// The values of the results.
@@ -73,7 +73,7 @@ fn answers(alloc: Global, store: &Store) -> Result<Vec<Scalar>, AllocError>
         ≡ Objects.values_of_results (Stores.activation_at (store_in store.now) results_position)) }
 {
     let mut all = Vec::new(alloc);
-    for held in store.activation_at(RESULTS) {
+    for held in store.behind(RESULTS - 1) {
         all.push(scalar_of(value_held(held)))?;
     }
     Ok(all)
@@ -85,9 +85,9 @@ fn run_outside(
     program: &Program,
     procedure: &Procedure,
     store: &mut Store,
-    turns: u64,
+    budget: u64,
 ) -> Result<u64, Stop>
-    ensures outcome { Comes (run_of (program_of program.now) (procedure_of (table_of program.now.types) procedure.now) turns (store_in store.old)) result (store_in store.new) }
+    ensures outcome { Comes (run_of (program_of program.now) (procedure_of (table_of program.now.types) procedure.now) budget (store_in store.old)) result (store_in store.new) }
     ensures begun { begun_in store.new ≡ begun_in store.old }
 {
     let context = Context {
@@ -95,51 +95,50 @@ fn run_outside(
         program,
         more: MOST_ACTIVATIONS - 1,
     };
-    run(context, store, procedure.body.as_slice(), turns)
+    run(context, store, procedure.body.as_slice(), budget)
 }
 
-/// What one call on the object makes of a state that is given up, and what it answers; `None` where more turns are
-/// needed. The state is not copied: what a call that traps has written is taken back.
+/// What one call on the object with a budget of turns makes of a state that is given up, and what it answers. The state is
+/// not copied: what a call that traps has written is taken back.
 pub fn step(
     alloc: Global,
     program: &Program,
     state: State,
     call: &Call,
-    turns: u64,
-) -> Result<Option<(State, Reply)>, NoMemory>
-    ensures { IfOk result (λ o. Objects.effect (program_of program.now) (call_of call.now) turns (state_of state) ≡ effect_in o) }
+    budget: u64,
+) -> Result<(State, Reply), NoMemory>
+    ensures { IfOk result (λ made. Objects.effect (program_of program.now) (call_of call.now) budget (state_of state) ≡ effect_in made) }
 {
     let Some(procedure) = export(program, call.export) else {
-        return Ok(Some((state, Reply::Answers(Vec::new(alloc)))));
+        return Ok((state, Reply::Answers(Vec::new(alloc))));
     };
     let arguments = call.arguments.as_slice();
     let mut store = store_begun(alloc, program, procedure, state, arguments)?;
-    match run_outside(alloc, program, procedure, &mut store, turns) {
+    match run_outside(alloc, program, procedure, &mut store, budget) {
         Ok(_) => {
             let values = answers(alloc, &store)?;
-            let next = State::new(store.into_module());
-            Ok(Some((next, Reply::Answers(values))))
+            let next = store.into_state();
+            Ok((next, Reply::Answers(values)))
         }
         Err(Stop::Trap(number)) => {
-            let before = State::new(store.into_begun());
-            Ok(Some((before, Reply::Trapped(number))))
+            let before = store.into_begun();
+            Ok((before, Reply::Trapped(number)))
         }
-        Err(Stop::NotYet) => Ok(None),
         Err(Stop::NoMemory) => Err(NoMemory),
     }
 }
 
-/// What one call on the object leaves and answers: the new state and the answers, or the old state and the trap;
-/// `None` where more turns are needed. The state is copied once.
+/// What one call on the object with a budget of turns leaves and answers: the new state and the answers, or the old state
+/// and the trap. The state is copied once.
 pub fn interpret(
     alloc: Global,
     checked: &Checked,
     state: &State,
     call: &Call,
-    turns: u64,
-) -> Result<Option<(State, Reply)>, NoMemory>
-    ensures { IfOk result (λ o. Objects.effect (program_in checked.now) (call_of call.now) turns (state_of state.now) ≡ effect_in o) }
+    budget: u64,
+) -> Result<(State, Reply), NoMemory>
+    ensures { IfOk result (λ made. Objects.effect (program_in checked.now) (call_of call.now) budget (state_of state.now) ≡ effect_in made) }
 {
     let copy = state.copy(alloc)?;
-    step(alloc, checked.program(), copy, call, turns)
+    step(alloc, checked.program(), copy, call, budget)
 }

@@ -6,18 +6,21 @@ ghost use Rattle.ob_interpreter.specs.Sequences.{IsOpening};
 ghost use Rattle.ob_interpreter.specs.Faults.{IsOpenFault};
 ghost use Rattle.ob_checked.specs.View.{program_of};
 ghost use Rattle.ob_interpreter.specs.Outside.{Opens};
-ghost use Rattle.ob_interpreter.specs.View.{state_of};
+ghost use Rattle.ob_store.specs.View.{state_of};
 
 use crate::object::MOST_ACTIVATIONS;
-use crate::state::State;
 use crate::statements::{Context, run};
 use ob_checked::checked::Checked;
 use ob_checked::program::Program;
-use ob_evaluate::begun::variables_begun;
+use ob_evaluate::begun::state_begun;
 use ob_evaluate::places::Stop;
+use ob_store::state::State;
 use ob_store::store::Store;
 use std::alloc::Global;
 use thiserror::Error;
+
+/// How many turns an opening has, and the most that a call may have.
+pub const MOST_TURNS: u64 = 1_000_000;
 
 /// Why a module has no opening state.
 #[derive(Clone, Copy, Debug, Error)]
@@ -25,9 +28,6 @@ pub enum OpenFault {
     /// O2: the module's body traps; the number of the trap.
     #[error("O2 trap {0}")]
     Trap(u8),
-    /// O3: the module's body needs more turns.
-    #[error("O3")]
-    NeedsMore,
     /// Want of memory.
     #[error("NoMemory")]
     NoMemory,
@@ -42,37 +42,31 @@ impl From<Stop> for OpenFault {
     fn from(stop: Stop) -> OpenFault {
         match stop {
             Stop::Trap(number) => OpenFault::Trap(number),
-            Stop::NotYet => OpenFault::NeedsMore,
             Stop::NoMemory => OpenFault::NoMemory,
         }
     }
 }
 
-/// Runs the module's body on its variables at their beginning.
+/// Runs the module's body with so many turns on its variables at their beginning.
 fn run_body(alloc: Global, program: &Program, turns: u64) -> Result<State, Stop>
     ensures { Opens (program_of program.now) turns result }
 {
-    let module = variables_begun(
-        alloc,
-        &program.types,
-        Vec::new(alloc),
-        program.variables.as_slice(),
-    )?;
-    let mut store = Store::new(alloc, module, Vec::new(alloc));
+    let begun = state_begun(alloc, &program.types, program.variables.as_slice())?;
+    let mut store = Store::new(alloc, begun, Vec::new(alloc));
     let context = Context {
         alloc,
         program,
         more: MOST_ACTIVATIONS,
     };
     run(context, &mut store, program.body.as_slice(), turns)?;
-    Ok(State::new(store.into_module()))
+    Ok(store.into_state())
 }
 
-/// The opening state: all variables 0 or FALSE, and then what the module's body makes of them with so many turns.
-pub fn opening(alloc: Global, checked: &Checked, turns: u64) -> Result<State, OpenFault>
-    ensures state { IfOk result (λ s. IsOpening (program_in checked.now) turns (state_of s)) }
-    ensures fault { IfErr result (λ e. IsOpenFault (program_in checked.now) turns e) }
+/// The opening state: all variables 0 or FALSE, and then what the module's body makes of them with the turns of an opening.
+pub fn opening(alloc: Global, checked: &Checked) -> Result<State, OpenFault>
+    ensures state { IfOk result (λ s. IsOpening (program_in checked.now) (state_of s)) }
+    ensures fault { IfErr result (λ e. IsOpenFault (program_in checked.now) e) }
 {
-    let state = run_body(alloc, checked.program(), turns)?;
+    let state = run_body(alloc, checked.program(), MOST_TURNS)?;
     Ok(state)
 }

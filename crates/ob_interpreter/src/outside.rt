@@ -8,9 +8,9 @@ ghost use Rattle.ob_store.specs.View.{activation_in};
 use ob_checked::program::Parameter;
 use ob_checked::types::Types;
 use ob_evaluate::begun::initial;
+use ob_interface::scalar::Scalar;
 use ob_store::store::{Held, Place};
 use ob_store::value::Value;
-use ob_typing::scalar::Scalar;
 use smallvec::SmallVec;
 use std::alloc::{AllocError, Global};
 

@@ -10,7 +10,7 @@ use crate::call::{Call, Reply};
 use crate::object::step;
 use crate::opening::{OpenFault, opening};
 use ob_checked::checked::Checked;
-use ob_grammar::NoMemory;
+use ob_interface::NoMemory;
 use std::alloc::{AllocFailed, Global};
 use thiserror::Error;
 
@@ -20,12 +20,6 @@ pub enum SeqFault {
     /// O2: the module's body traps; the number of the trap.
     #[error("O2 trap {0}")]
     OpeningTrap(u8),
-    /// O3: the module's body needs more turns.
-    #[error("O3")]
-    OpeningNeedsMore,
-    /// U1: the call at this position, from 0, needs more turns.
-    #[error("U1 at call {0}")]
-    NeedsMore(usize),
     /// Want of memory.
     #[error("NoMemory")]
     NoMemory,
@@ -40,7 +34,6 @@ impl From<OpenFault> for SeqFault {
     fn from(fault: OpenFault) -> SeqFault {
         match fault {
             OpenFault::Trap(number) => SeqFault::OpeningTrap(number),
-            OpenFault::NeedsMore => SeqFault::OpeningNeedsMore,
             OpenFault::NoMemory => SeqFault::NoMemory,
         }
     }
@@ -68,23 +61,20 @@ impl<T: Drop> From<AllocFailed<T>> for SeqFault {
     }
 }
 
-/// The replies to calls made one at a time from the opening state, with so many turns for the opening and for each
-/// call.
+/// The replies to calls made one at a time from the opening state, each with the budget.
 pub fn sequence(
     alloc: Global,
     checked: &Checked,
     calls: &[Call],
-    turns: u64,
+    budget: u64,
 ) -> Result<Vec<Reply>, SeqFault>
-    ensures replies { IfOk result (λ rs. AreReplies (program_in checked.now) turns (map call_of calls.now) (map reply_of rs.items)) }
-    ensures fault { IfErr result (λ e. IsSeqFault (program_in checked.now) turns (map call_of calls.now) e) }
+    ensures replies { IfOk result (λ rs. AreReplies (program_in checked.now) budget (map call_of calls.now) (map reply_of rs.items)) }
+    ensures fault { IfErr result (λ e. IsSeqFault (program_in checked.now) e) }
 {
-    let mut state = opening(alloc, checked, turns)?;
+    let mut state = opening(alloc, checked)?;
     let mut replies = Vec::new(alloc);
-    for (position, call) in calls.iter().enumerate() {
-        let Some((next, reply)) = step(alloc, checked.program(), state, call, turns)? else {
-            return Err(SeqFault::NeedsMore(position));
-        };
+    for call in calls {
+        let (next, reply) = step(alloc, checked.program(), state, call, budget)?;
         state = next;
         replies.push(reply)?;
     }

@@ -11,7 +11,7 @@ ghost use Rattle.ob_interpreter.specs.Running.{Comes, calls_of};
 use ob_checked::program::{Branch, Designator, Expression, Program, Statement};
 use ob_evaluate::begun::variables_begun;
 use ob_evaluate::expressions::evaluate;
-use ob_evaluate::places::{Stop, all_handed, place_of};
+use ob_evaluate::places::{Stop, all_handed, place_of, set_slot};
 use ob_scalars::operators::truth_of;
 use ob_scalars::trap::Trap;
 use ob_store::store::{Held, Store};
@@ -25,8 +25,30 @@ pub struct Context<'p> {
     pub more: usize,
 }
 
-/// The target's place, then the expression, then the store.
+/// The target's place, then the expression, then the store. A whole variable needs no place to be built.
+#[inline]
 fn assign(
+    alloc: Global,
+    store: &mut Store,
+    target: &Designator,
+    value: &Expression,
+    turns: u64,
+) -> Result<u64, Stop>
+    ensures outcome { (calls : Statements.Calls) → Comes (Statements.meaning calls (Programs.Assign (designator_of target.now) (expression_of value.now)) turns (store_in store.old)) result (store_in store.new) }
+    ensures turns { IfOk result (λ left. left ≤ turns) }
+    ensures begun { begun_in store.new ≡ begun_in store.old }
+{
+    if !target.selectors.is_empty() {
+        return assign_part(alloc, store, target, value, turns);
+    }
+    let scalar = evaluate(store, value)?;
+    set_slot(alloc, store, &target.slot, scalar)?;
+    Ok(turns)
+}
+
+/// The same of any variable or part of one.
+#[inline(never)]
+fn assign_part(
     alloc: Global,
     store: &mut Store,
     target: &Designator,
@@ -41,6 +63,14 @@ fn assign(
     let scalar = evaluate(store, value)?;
     store.set(alloc, place, scalar)?;
     Ok(turns)
+}
+
+/// How many variables of its own a procedure has; none where there is no such procedure.
+fn variables_of(program: &Program, number: usize) -> usize {
+    match program.procedures.get(number) {
+        Some(procedure) => procedure.variables.len(),
+        None => 0,
+    }
 }
 
 /// Runs statements one after the other with so many turns, and answers how many are left.
@@ -77,7 +107,8 @@ fn execute(
     match statement {
         Statement::Assign { target, value } => assign(context.alloc, store, target, value, turns),
         Statement::Call { procedure, actuals } => {
-            let handed = all_handed(context.alloc, store, actuals.as_slice())?;
+            let room = variables_of(context.program, *procedure);
+            let handed = all_handed(context.alloc, store, actuals.as_slice(), room)?;
             call(context, store, *procedure, handed, turns)
         }
         Statement::If {
@@ -85,7 +116,10 @@ fn execute(
             otherwise,
         } => choose(context, store, branches.as_slice(), otherwise, turns),
         Statement::While { condition, body } => {
-            repeat(context, store, condition, body.as_slice(), turns)
+            run_while(context, store, condition, body.as_slice(), turns)
+        }
+        Statement::Repeat { body, condition } => {
+            run_repeat(context, store, body.as_slice(), condition, turns)
         }
     }
 }
@@ -115,9 +149,9 @@ fn choose(
     }
 }
 
-/// Runs statements while a condition holds, each time for a turn.
+/// Runs statements while a condition holds, each time for a turn; trap 5 where none is left.
 #[cycle(running)]
-fn repeat(
+fn run_while(
     context: Context<'_>,
     store: &mut Store,
     condition: &Expression,
@@ -131,15 +165,40 @@ fn repeat(
     let mut left = turns;
     'again: while truth_of(evaluate(store, condition)?) {
         if left == 0 {
-            return Err(Stop::NotYet);
+            return Err(Stop::from(Trap::NoTurnLeft));
         }
         left = run(context, store, body, left - 1)?;
     }
     Ok(left)
 }
 
-/// Calls the procedure of a number with what was handed over: trap 4 where no more activation may be made, else a turn
-/// and the activation.
+/// Runs statements until a condition holds behind them, each time for a turn; trap 5 where none is left.
+#[cycle(running)]
+fn run_repeat(
+    context: Context<'_>,
+    store: &mut Store,
+    body: &[Statement],
+    condition: &Expression,
+    turns: u64,
+) -> Result<u64, Stop>
+    ensures outcome { Comes (Statements.meaning (calls_of context.entry) (Programs.Repeat (statements_in body.now) (expression_of condition.now)) turns (store_in store.old)) result (store_in store.new) }
+    ensures turns { IfOk result (λ left. left ≤ turns) }
+    ensures begun { begun_in store.new ≡ begun_in store.old }
+{
+    let mut left = turns;
+    'rounds: loop {
+        if left == 0 {
+            return Err(Stop::from(Trap::NoTurnLeft));
+        }
+        left = run(context, store, body, left - 1)?;
+        if truth_of(evaluate(store, condition)?) {
+            return Ok(left);
+        }
+    }
+}
+
+/// Calls the procedure of a number with what was handed over: trap 4 where no more activation may be made, whatever
+/// turns are left, and trap 5 where no turn is; else a turn and the activation.
 #[cycle(running)]
 fn call(
     context: Context<'_>,
@@ -156,7 +215,7 @@ fn call(
         return Err(Stop::from(Trap::TooManyActivations));
     }
     if turns == 0 {
-        return Err(Stop::NotYet);
+        return Err(Stop::from(Trap::NoTurnLeft));
     }
     let Some(procedure) = context.program.procedures.get(number) else {
         return Ok(turns - 1);

@@ -47,6 +47,7 @@ statement_shallow (Grammar.assignment n s w e) (Typing.assign v h) = omega (arit
 statement_shallow (Grammar.call n actuals) h = elim h [ ]
 statement_shallow (Grammar.if' word branches otherwise end_word) h = elim h [ ]
 statement_shallow (Grammar.while word e do_word body end_word) h = elim h [ ]
+statement_shallow (Grammar.repeat word body until_word e) h = elim h [ ]
 
 mutual
   sequence_shallow : {env : Environment} {a b : Lexemes} {ss : Tree.Stmts} {cs : Statements} → Grammar.StatementSequence a ss b → AreStatements env ss cs → statements_temporaries cs ≤ 3

@@ -2,7 +2,7 @@
 use Rattle.std.specs.Prelude.{ℤ, pos, neg_ℤ, int_le, ◌&&◌, List, [], ◌∷◌, Option, Some, None, if◌then◌else◌}
 use Rattle.ob_check.specs.declared.program.DataType.{DataType}
 use Rattle.ob_check.specs.declared.program.DataType.TheVariants.{Integer}
-use Rattle.ob_check.specs.declared.program.Scalar.TheVariants.{Int}
+use Rattle.ob_interface.specs.declared.scalar.Scalar.TheVariants.{Int}
 use Rattle.ob_check.specs.Program.{Variable}
 use Rattle.ob_mean.specs.Value.{Value, Single}
 use Rattle.ob_mean.specs.Store.{Holds}

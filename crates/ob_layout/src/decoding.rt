@@ -5,8 +5,9 @@ ghost use Rattle.ob_check.specs.View.{variable_of};
 ghost use Rattle.ob_mean.specs.View.{state_of, value_of};
 ghost use Rattle.ob_layout.specs.Decoding as Decoding;
 
-use ob_check::program::{DataType, Scalar, Variable};
-use ob_grammar::NoMemory;
+use ob_check::program::{DataType, Variable};
+use ob_interface::NoMemory;
+use ob_interface::scalar::Scalar;
 use ob_mean::state::{NamedValue, State};
 use ob_mean::value::Value;
 use std::alloc::Global;

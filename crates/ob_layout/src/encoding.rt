@@ -4,8 +4,8 @@ ghost use Rattle.std.specs.Prelude.{◌≡◌, IfOk};
 ghost use Rattle.ob_mean.specs.View.{state_of};
 ghost use Rattle.ob_layout.specs.Encoding as Encoding;
 
-use ob_check::program::Scalar;
-use ob_grammar::NoMemory;
+use ob_interface::NoMemory;
+use ob_interface::scalar::Scalar;
 use ob_mean::state::State;
 use ob_mean::value::Value;
 use std::alloc::Global;

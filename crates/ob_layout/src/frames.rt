@@ -7,7 +7,7 @@ ghost use Rattle.ob_layout.specs.Scopes as Scopes;
 ghost use Rattle.ob_layout.specs.Temporaries as Temporaries;
 
 use ob_check::program::{DataType, Parameter, Procedure, Variable};
-use ob_grammar::NoMemory;
+use ob_interface::NoMemory;
 use std::alloc::Global;
 
 /// The words of a type.

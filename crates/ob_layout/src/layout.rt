@@ -16,7 +16,7 @@ use crate::places::{Places, places};
 use crate::temporaries::most_temporaries;
 use ob_check::checked::Checked;
 use ob_check::program::Variable;
-use ob_grammar::NoMemory;
+use ob_interface::NoMemory;
 use ob_mean::state::State;
 use std::alloc::{AllocError, Global};
 use std::marker::Model;

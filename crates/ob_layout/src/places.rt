@@ -10,7 +10,7 @@ ghost use Rattle.ob_layout.specs.Layout.{HasWords};
 
 use crate::frames::words;
 use ob_check::program::Variable;
-use ob_grammar::NoMemory;
+use ob_interface::NoMemory;
 use std::alloc::Global;
 use std::collections::HashMap;
 

@@ -1,11 +1,12 @@
 -- What a call that is done, and an opening that is done, leave.
 use Rattle.std.proofs.Common.{◌≡◌, refl, ap, sym, subst, ◌∙◌, ℕ, List, [], ◌∷◌, length, Some}
 use Rattle.std.specs.Prelude.{slice_get}
-use Rattle.ob_check.specs.declared.program.Scalar.{Scalar}
+use Rattle.ob_interface.specs.declared.scalar.Scalar.{Scalar}
 use Rattle.ob_check.specs.Program.{Program, Procedure, exports}
 use Rattle.ob_mean.specs.Store.{Store, activation_at}
 use Rattle.ob_mean.specs.Statements.{Done, meaning_of_all, begun}
-use Rattle.ob_mean.specs.Object.{State, ObjectCall, Answers, Ends, effect, effect_of, effect_of_procedure, results_begun, results_position, bound, values_of, IsOpening}
+use Rattle.ob_interface.specs.Call.{ObjectCall, Answers}
+use Rattle.ob_mean.specs.Object.{State, Ends, effect, effect_of, effect_of_procedure, results_begun, results_position, bound, values_of, IsOpening}
 use Rattle.ob_mean.specs.Running.{settled}
 use Rattle.ob_mean.proofs.Kept.{IsSettled, kept_where_done, begun_settled}
 

@@ -3,7 +3,7 @@ use Rattle.std.proofs.Common.{◌≡◌, ap, sym, ◌∙◌, List, drop, Box, Ve
 use Rattle.ob_check.specs.declared.program.Operation.{Operation}
 use Rattle.ob_check.specs.declared.program.Expression.{Expression}
 use Rattle.ob_check.specs.declared.program.Expression.TheVariants as Expressions
-use Rattle.ob_check.specs.declared.program.Scalar.{Scalar}
+use Rattle.ob_interface.specs.declared.scalar.Scalar.{Scalar}
 use Rattle.ob_check.specs.Arithmetic.{Gives, ◌>>=◌}
 use Rattle.ob_mean.specs.Store.{Store}
 use Rattle.ob_mean.specs.Evaluation.{value_of, value_behind}

@@ -4,5 +4,4 @@ pub mod Bindings
 pub mod Exports
 pub mod Kept
 pub mod Calls
-pub mod InTurn
 mod Rows

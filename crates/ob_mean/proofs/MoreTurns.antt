@@ -1,14 +1,15 @@
 -- More turns never change how a call ends.
 use Rattle.std.proofs.Common.{◌≡◌, refl, ap, sym, subst, ℕ, ◌+◌, List, [], ◌∷◌, ◌∙◌, arith, Option, Some, None}
 use Rattle.std.specs.Prelude.{slice_get}
-use Rattle.ob_check.specs.declared.program.Scalar.{Scalar}
+use Rattle.ob_interface.specs.declared.scalar.Scalar.{Scalar}
 use Rattle.ob_check.specs.Program.{Statement, Assign, Statements, no_statement, statement, Procedure, Program, exports}
 use Rattle.ob_check.specs.Arithmetic.{Evaluated, Gives, Traps}
 use Rattle.ob_mean.specs.Value.{Single}
 use Rattle.ob_mean.specs.Store.{Store, Place, stored}
 use Rattle.ob_mean.specs.Evaluation.{value_of, place_of}
 use Rattle.ob_mean.specs.Statements.{Outcome, Done, Trap, NotYet, Run, after, then_run, meaning, meaning_of_all}
-use Rattle.ob_mean.specs.Object.{State, ObjectCall, Reply, Effect, Ends, NeedsMore, results_begun, bound, effect_of, effect_of_procedure, effect}
+use Rattle.ob_interface.specs.Call.{ObjectCall, Reply}
+use Rattle.ob_mean.specs.Object.{State, Effect, Ends, NeedsMore, results_begun, bound, effect_of, effect_of_procedure, effect}
 
 -- what an outcome becomes with e turns more
 abbrev Later : ℕ → Outcome → Outcome → Type 0

@@ -2,12 +2,13 @@
 use Rattle.std.proofs.Common.{◌≡◌, refl, ℕ, ℤ, pos, negsuc, Bool, true, false, List, [], ◌∷◌, Option, Some, map, option_map, codes}
 use Rattle.ob_check.specs.declared.program.DataType.TheVariants.{Integer}
 use Rattle.ob_check.specs.declared.program.Arithmetic.TheVariants.{Plus, Minus}
-use Rattle.ob_check.specs.declared.program.Scalar.TheVariants.{Int}
+use Rattle.ob_interface.specs.declared.scalar.Scalar.TheVariants.{Int}
 use Rattle.ob_check.specs.Program.{Name, Expression, Literal, ValueOf, Negated, Computed, no_operation, operation, Designator, OfModule, Own, Statement, Assign, Statements, no_statement, statement, Parameter, Variable, Procedure, Program}
 use Rattle.ob_mean.specs.Value.{Single}
 use Rattle.ob_mean.specs.Store.{Holds}
 use Rattle.ob_mean.specs.Statements.{Done, Trap, begun}
-use Rattle.ob_mean.specs.Object.{ObjectCall, Reply, Answers, Trapped, State, opening, one_at_a_time}
+use Rattle.ob_interface.specs.Call.{ObjectCall, Reply, Answers, Trapped}
+use Rattle.ob_mean.specs.Object.{State, opening, one_at_a_time}
 
 -- shorthands for programs
 

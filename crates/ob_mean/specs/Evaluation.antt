@@ -1,6 +1,6 @@
 -- The value of an expression and the place of a designator in a store, or a trap. Evaluation goes left to right.
 use Rattle.std.specs.Prelude.{neg_ℤ}
-use Rattle.ob_check.specs.declared.program.Scalar.{Scalar}
+use Rattle.ob_interface.specs.declared.scalar.Scalar.{Scalar}
 use Rattle.ob_check.specs.Program.{Expression, Literal, ValueOf, Negated, Computed, Operations, no_operation, operation, Designator, OfModule, Own}
 use Rattle.ob_check.specs.Arithmetic.{Evaluated, Gives, ◌>>=◌, in_range, computed, number_of}
 use Rattle.ob_mean.specs.Value.{scalar_of}

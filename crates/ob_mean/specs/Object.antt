@@ -1,7 +1,8 @@
 -- One call on the object, the opening state, and calls one at a time.
 use Rattle.std.specs.Prelude.{◌≡◌, ℕ, pos, List, [], ◌∷◌, map, filter, slice_get, Option, Some, None, option_map, if◌then◌else◌}
-use Rattle.ob_check.specs.declared.program.Scalar.{Scalar}
-use Rattle.ob_check.specs.declared.program.Scalar.TheVariants.{Int}
+use Rattle.ob_interface.specs.declared.scalar.Scalar.{Scalar}
+use Rattle.ob_interface.specs.declared.scalar.Scalar.TheVariants.{Int}
+use Rattle.ob_interface.specs.Call.{ObjectCall, Reply, Answers, Trapped}
 use Rattle.ob_check.specs.Program.{Parameter, Procedure, Program, exports}
 use Rattle.ob_mean.specs.Value.{initial, Single, scalar_of}
 use Rattle.ob_mean.specs.Store.{Activation, Holds, Refers, activation_at, value_held}
@@ -10,16 +11,6 @@ use Rattle.ob_mean.specs.Statements.{Outcome, Done, Trap, NotYet, meaning_of_all
 -- the module's variables with their values, in text order
 abbrev pub State : Type 0
 State = Activation
-
--- a call on the object: the number of an export, and the value arguments in text order
-pub record ObjectCall : Type 0 where
-  pub export : ℕ
-  pub arguments : List Scalar
-
--- the final values of the VAR parameters in text order, or a trap
-pub data Reply : Type 0 where
-  Answers : (values : List Scalar) → Reply
-  Trapped : (number : ℕ) → Reply
 
 -- what one call leaves and answers, if the turns suffice
 pub data Effect : Type 0 where
@@ -94,10 +85,3 @@ one_at_a_time program turns state [] = Some ([], state)
 one_at_a_time program turns state (call ∷ calls) =
     on_end (effect program call turns state) (λ next reply.
     option_map (λ (replies, last). (reply ∷ replies, last)) (one_at_a_time program turns next calls))
-
--- these are the replies to calls made one at a time from the opening state
-pub record AreReplies (program : Program) (turns : ℕ) (calls : List ObjectCall) (replies : List Reply) : Type 0 where
-  pub state : State
-  pub last : State
-  pub opens : IsOpening program turns state
-  pub made : one_at_a_time program turns state calls ≡ Some (replies, last)

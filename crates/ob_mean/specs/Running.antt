@@ -1,7 +1,7 @@
 -- What the interpreter's own values stand for.
 use Rattle.std.specs.Prelude.{map, Vec, Result, Ok, Err, ℕ}
 use Rattle.std.specs.Global.{Global}
-use Rattle.ob_check.specs.declared.program.Scalar.{Scalar}
+use Rattle.ob_interface.specs.declared.scalar.Scalar.{Scalar}
 use Rattle.ob_check.specs.Arithmetic.{Evaluated, Gives, Traps}
 use Rattle.ob_mean.specs.declared.interpreter.expressions.Trap.{Trap}
 use Rattle.ob_mean.specs.declared.interpreter.statements.Stop.{Stop}

@@ -4,9 +4,8 @@ use Rattle.ob_mean.specs.declared.value.Value.{Value}
 use Rattle.ob_mean.specs.declared.value.Value.TheVariants.{Single}
 use Rattle.ob_mean.specs.declared.state.NamedValue.{NamedValue}
 use Rattle.ob_mean.specs.declared.state.State.{State}
-use Rattle.ob_mean.specs.declared.call.Call.{Call}
-use Rattle.ob_mean.specs.declared.call.Reply.{Reply}
-use Rattle.ob_mean.specs.declared.call.Reply.TheVariants as Replies
+use Rattle.ob_interface.specs.declared.call.Reply.{Reply}
+use Rattle.ob_interface.specs.View.{reply_of}
 use Rattle.ob_mean.specs.Value as Values
 use Rattle.ob_mean.specs.Store.{Binding, Holds}
 use Rattle.ob_mean.specs.Object
@@ -23,13 +22,6 @@ state_in = map binding_of
 
 abbrev pub state_of : State → Object.State
 state_of s = state_in s.variables.items
-
-abbrev pub call_of : Call → Object.ObjectCall
-call_of c = record { export = c.proc; arguments = c.args.items }
-
-abbrev pub reply_of : Reply → Object.Reply
-reply_of (Replies.Done values) = Object.Answers values.items
-reply_of (Replies.Trap k) = Object.Trapped k
 
 -- what a call left and answered, or that it needs more turns
 abbrev pub effect_in : Option (State × Reply) → Object.Effect

@@ -8,15 +8,16 @@ ghost use Rattle.ob_check.specs.CheckedModule.{program_in};
 ghost use Rattle.ob_check.specs.Program.{exports};
 ghost use Rattle.ob_check.specs.View.{procedure_of, program_of};
 ghost use Rattle.ob_mean.specs.Object.{effect};
-ghost use Rattle.ob_mean.specs.View.{state_of, call_of, effect_in};
+ghost use Rattle.ob_interface.specs.View.{call_of};
+ghost use Rattle.ob_mean.specs.View.{state_of, effect_in};
 
-use crate::call::{Call, Reply};
 use crate::interpreter::statements::{Stop, run};
 use crate::state::State;
 use crate::store::Store;
 use ob_check::checked::Checked;
 use ob_check::program::{Procedure, Program};
-use ob_grammar::NoMemory;
+use ob_interface::NoMemory;
+use ob_interface::call::{Call, Reply};
 use smallvec::SmallVec;
 use std::alloc::Global;
 

@@ -1,10 +1,8 @@
 //! The source meaning: one call on the object at a time.
 #![tactic(auto)]
 
-pub mod call;
 pub mod interpreter;
 pub mod opening;
-pub mod sequence;
 pub mod state;
 mod store;
 pub mod value;

@@ -12,7 +12,8 @@ ghost use Rattle.ob_mean.specs.Running.{place_in, held_of, binding_of, bindings_
 ghost use Rattle.ob_mean.specs.View.{value_of};
 
 use crate::value::Value;
-use ob_check::program::{Designator, Scalar};
+use ob_check::program::Designator;
+use ob_interface::scalar::Scalar;
 
 /// A variable: the position of the activation whose it is, and its name.
 #[derive(Clone, Copy)]

@@ -1,6 +1,6 @@
 //! Values of variables.
 
-use ob_check::program::Scalar;
+use ob_interface::scalar::Scalar;
 
 /// The value of a variable.
 #[derive(Clone, Copy)]

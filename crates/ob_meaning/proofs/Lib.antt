@@ -1,4 +1,3 @@
 mod Rows
-pub mod MoreTurns
 pub mod Kept
 pub mod ConstantValues

@@ -1,19 +1,19 @@
 -- Worked programs, by computation. Each name is written as its bytes by `codes`.
-use Rattle.std.proofs.Common.{◌≡◌, refl, ℕ, ℤ, pos, negsuc, true, false, List, [], ◌∷◌, Option, Some, codes}
-use Rattle.std.specs.Prelude.{option_map}
+use Rattle.std.proofs.Common.{◌≡◌, refl, ℕ, ℤ, pos, negsuc, true, false, List, [], ◌∷◌, codes}
 use Rattle.std.specs.Prelude as Prelude
-use Rattle.ob_typing.specs.declared.scalar.Scalar.{Scalar}
-use Rattle.ob_typing.specs.declared.scalar.Scalar.TheVariants.{Int, Bool}
-use Rattle.ob_typing.specs.declared.scalar.ScalarType.TheVariants.{Integer, Boolean}
+use Rattle.ob_interface.specs.declared.scalar.Scalar.{Scalar}
+use Rattle.ob_interface.specs.declared.scalar.Scalar.TheVariants.{Int, Bool}
+use Rattle.ob_interface.specs.declared.scalar.ScalarType.TheVariants.{Integer, Boolean}
 use Rattle.ob_typing.specs.declared.operator.BinaryOperator.{BinaryOperator}
 use Rattle.ob_typing.specs.declared.operator.BinaryOperator.TheVariants.{Plus, Minus, Div, Mod, And}
 use Rattle.ob_typing.specs.declared.operator.Relation.TheVariants.{Equal, Less, Greater}
 use Rattle.ob_typing.specs.Program
-use Rattle.ob_typing.specs.Program.{Name, DataType, Simple, Array, OfModule, Own, Expression, Literal, ValueOf, Negated, Computed, Compared, no_operation, operation, Designator, Designated, no_selector, element_of, Actual, ByValue, ByPlace, Statement, Assign, Call, If, While, Statements, no_statement, statement, no_branch, branch, Parameter, Variable, Procedure}
+use Rattle.ob_typing.specs.Program.{Name, DataType, Simple, Array, OfModule, Own, Expression, Literal, ValueOf, Negated, Computed, Compared, no_operation, operation, Designator, Designated, no_selector, element_of, Actual, ByValue, ByPlace, Statement, Assign, Call, If, While, Repeat, Statements, no_statement, statement, no_branch, branch, Parameter, Variable, Procedure}
 use Rattle.ob_meaning.specs.Value.{Single, Elements, no_value, value}
 use Rattle.ob_meaning.specs.Store.{Holds}
-use Rattle.ob_meaning.specs.Statements.{Done, begun}
-use Rattle.ob_meaning.specs.Object.{ObjectCall, Reply, Answers, Trapped, State, effect, opening, one_at_a_time, Ends, NeedsMore}
+use Rattle.ob_meaning.specs.Statements.{Done, Trap, begun}
+use Rattle.ob_interface.specs.Call.{ObjectCall, Reply, Answers, Trapped}
+use Rattle.ob_meaning.specs.Object.{State, Effect, effect, most_turns, opening, replies_to, state_behind}
 
 -- Shorthands for programs.
 
@@ -61,8 +61,11 @@ procedure e p ps vs ss = record { name = p; is_exported = e; parameters = ps; va
 abbrev call : ℕ → List Scalar → ObjectCall
 call n vs = record { export = n; arguments = vs }
 
-abbrev replies : Program.Program → State → List ObjectCall → Option (List Reply)
-replies program state calls = option_map (λ r. r.0) (one_at_a_time program 1000000 state calls)
+abbrev ends : State → Reply → Effect
+ends state reply = record { state = state; reply = reply }
+
+abbrev replies : Program.Program → State → List ObjectCall → List Reply
+replies program = replies_to program most_turns
 
 abbrev start : Program.Program → State
 start program = begun program.variables
@@ -82,8 +85,11 @@ counter = record {
 abbrev counter_state : ℤ → State
 counter_state z = record { name = codes "x"; held = Holds (Single (Int z)) } ∷ []
 
-row_counter : one_at_a_time counter 1000000 (counter_state (pos 0)) (call 0 [] ∷ call 0 [] ∷ call 1 [] ∷ []) ≡ Some (Answers [] ∷ Answers [] ∷ Answers (Int (pos 2) ∷ []) ∷ [], counter_state (pos 2))
+row_counter : replies counter (counter_state (pos 0)) (call 0 [] ∷ call 0 [] ∷ call 1 [] ∷ []) ≡ Answers [] ∷ Answers [] ∷ Answers (Int (pos 2) ∷ []) ∷ []
 row_counter = refl
+
+row_counter_behind : state_behind counter most_turns (counter_state (pos 0)) (call 0 [] ∷ call 0 [] ∷ call 1 [] ∷ []) ≡ counter_state (pos 2)
+row_counter_behind = refl
 
 -- DIV and MOD: the remainder is never negative, a divisor of 0 is trap 3, and a sign applies to the whole first term.
 
@@ -102,7 +108,7 @@ division = record {
   body = no_statement;
 }
 
-row_division : replies division [] (call 0 (Int (negsuc 6) ∷ Int (pos 2) ∷ []) ∷ call 0 (Int (negsuc 2147483647) ∷ Int (pos 1) ∷ []) ∷ call 0 (Int (pos 7) ∷ Int (pos 0) ∷ []) ∷ call 1 [] ∷ []) ≡ Some (Answers (Int (negsuc 3) ∷ Int (pos 1) ∷ []) ∷ Answers (Int (negsuc 2147483647) ∷ Int (pos 0) ∷ []) ∷ Trapped 3 ∷ Answers (Int (negsuc 2) ∷ Int (negsuc 3) ∷ Int (negsuc 2147483647) ∷ []) ∷ [])
+row_division : replies division [] (call 0 (Int (negsuc 6) ∷ Int (pos 2) ∷ []) ∷ call 0 (Int (negsuc 2147483647) ∷ Int (pos 1) ∷ []) ∷ call 0 (Int (pos 7) ∷ Int (pos 0) ∷ []) ∷ call 1 [] ∷ []) ≡ Answers (Int (negsuc 3) ∷ Int (pos 1) ∷ []) ∷ Answers (Int (negsuc 2147483647) ∷ Int (pos 0) ∷ []) ∷ Trapped 3 ∷ Answers (Int (negsuc 2) ∷ Int (negsuc 3) ∷ Int (negsuc 2147483647) ∷ []) ∷ []
 row_division = refl
 
 -- A call that traps leaves the module's variables as before it; the opening runs the body.
@@ -123,11 +129,14 @@ upper = record {
 abbrev upper_state : State
 upper_state = record { name = codes "x"; held = Holds (Single (Int (pos 2147483647))) } ∷ record { name = codes "y"; held = Holds (Single (Int (pos 0))) } ∷ []
 
-row_opening : opening upper 1000000 ≡ Done 1000000 (upper_state ∷ [])
+row_opening : opening upper most_turns ≡ Done most_turns (upper_state ∷ [])
 row_opening = refl
 
-row_trap : one_at_a_time upper 1000000 upper_state (call 0 [] ∷ call 1 [] ∷ []) ≡ Some (Trapped 1 ∷ Answers (Int (pos 2147483647) ∷ Int (pos 0) ∷ []) ∷ [], upper_state)
+row_trap : replies upper upper_state (call 0 [] ∷ call 1 [] ∷ []) ≡ Trapped 1 ∷ Answers (Int (pos 2147483647) ∷ Int (pos 0) ∷ []) ∷ []
 row_trap = refl
+
+row_trap_behind : state_behind upper most_turns upper_state (call 0 [] ∷ call 1 [] ∷ []) ≡ upper_state
+row_trap_behind = refl
 
 -- The right side of & is evaluated only where the left doesn't decide.
 
@@ -144,7 +153,7 @@ logic = record {
   body = no_statement;
 }
 
-row_logic : replies logic [] (call 0 [] ∷ call 1 [] ∷ []) ≡ Some (Answers (Bool false ∷ []) ∷ Trapped 3 ∷ [])
+row_logic : replies logic [] (call 0 [] ∷ call 1 [] ∷ []) ≡ Answers (Bool false ∷ []) ∷ Trapped 3 ∷ []
 row_logic = refl
 
 -- VAR parameters are the caller's places, also where two of them are one, or elements of an array.
@@ -173,7 +182,7 @@ sharing = record {
   body = no_statement;
 }
 
-row_sharing : replies sharing (start sharing) (call 0 [] ∷ []) ≡ Some (Answers (Int (pos 2) ∷ Int (pos 8) ∷ []) ∷ [])
+row_sharing : replies sharing (start sharing) (call 0 [] ∷ []) ≡ Answers (Int (pos 2) ∷ Int (pos 8) ∷ []) ∷ []
 row_sharing = refl
 
 -- 64 activations may be active, and the 65th is trap 4.
@@ -190,42 +199,90 @@ down = record {
   body = no_statement;
 }
 
-row_depth : replies down [] (call 0 (Int (pos 64) ∷ []) ∷ call 0 (Int (pos 65) ∷ []) ∷ []) ≡ Some (Answers [] ∷ Trapped 4 ∷ [])
+row_depth : replies down [] (call 0 (Int (pos 64) ∷ []) ∷ call 0 (Int (pos 65) ∷ []) ∷ []) ≡ Answers [] ∷ Trapped 4 ∷ []
 row_depth = refl
 
--- 63 turns suffice for 64 activations, since the call from outside takes none, and 62 don't; trap 4 is found before a want of turns.
+-- 63 turns suffice for 64 activations, since the call from outside takes none; with 62 it is trap 5. Trap 4 is found before a want
+-- of turns.
 
-row_turns_suffice : effect down (call 0 (Int (pos 64) ∷ [])) 63 [] ≡ Ends [] (Answers [])
+row_turns_suffice : effect down (call 0 (Int (pos 64) ∷ [])) 63 [] ≡ ends [] (Answers [])
 row_turns_suffice = refl
 
-row_turns_lack : effect down (call 0 (Int (pos 64) ∷ [])) 62 [] ≡ NeedsMore
+row_turns_lack : effect down (call 0 (Int (pos 64) ∷ [])) 62 [] ≡ ends [] (Trapped 5)
 row_turns_lack = refl
 
-row_trap_first : effect down (call 0 (Int (pos 65) ∷ [])) 63 [] ≡ Ends [] (Trapped 4)
+row_trap_first : effect down (call 0 (Int (pos 65) ∷ [])) 63 [] ≡ ends [] (Trapped 4)
 row_trap_first = refl
 
--- A loop that counts to 3 takes three turns; one that never ends needs more, however many there are.
+row_no_turn : effect down (call 0 (Int (pos 1) ∷ [])) 0 [] ≡ ends [] (Answers [])
+row_no_turn = refl
+
+row_no_turn_for_a_call : effect down (call 0 (Int (pos 2) ∷ [])) 0 [] ≡ ends [] (Trapped 5)
+row_no_turn_for_a_call = refl
+
+-- Loops. `Count` is WHILE x < 3, and `Again` REPEAT until x > 2; both count x up. `Spin` and `Turn` never end by themselves, and the
+-- condition of `Fault` traps.
+
+abbrev count_up : Statements
+count_up = all (Assign (global 0 (codes "x")) (computed (read (global 0 (codes "x"))) Plus (int (pos 1))) ∷ [])
 
 abbrev loops : Program.Program
 loops = record {
   variables = variable (codes "x") integer ∷ [];
   procedures =
-      procedure true (codes "Count") [] []
-      (While (Compared Less (read (global 0 (codes "x"))) (int (pos 3)))
-      (all (Assign (global 0 (codes "x")) (computed (read (global 0 (codes "x"))) Plus (int (pos 1))) ∷ [])) ∷ [])
+      procedure true (codes "Count") [] [] (While (Compared Less (read (global 0 (codes "x"))) (int (pos 3))) count_up ∷ [])
       ∷ procedure true (codes "Spin") [] [] (While (Literal (Bool true)) no_statement ∷ [])
+      ∷ procedure true (codes "Again") [] [] (Repeat count_up (Compared Greater (read (global 0 (codes "x"))) (int (pos 2))) ∷ [])
+      ∷ procedure true (codes "Turn") [] [] (Repeat count_up (Literal (Bool false)) ∷ [])
+      ∷ procedure true (codes "Fault") [] [] (Repeat count_up division_by_zero ∷ [])
       ∷ [];
-  body = no_statement;
+  body = all (Call 2 [] ∷ []);
 }
 
-row_loop_lacks : effect loops (call 0 []) 2 (counter_state (pos 0)) ≡ NeedsMore
-row_loop_lacks = refl
+-- A WHILE that counts to 3 takes three turns, and none where its condition does not hold.
 
-row_loop_done : effect loops (call 0 []) 3 (counter_state (pos 0)) ≡ Ends (counter_state (pos 3)) (Answers [])
-row_loop_done = refl
+row_while_lacks : effect loops (call 0 []) 2 (counter_state (pos 0)) ≡ ends (counter_state (pos 0)) (Trapped 5)
+row_while_lacks = refl
 
-row_loop_never : effect loops (call 1 []) 1000 (counter_state (pos 0)) ≡ NeedsMore
-row_loop_never = refl
+row_while_done : effect loops (call 0 []) 3 (counter_state (pos 0)) ≡ ends (counter_state (pos 3)) (Answers [])
+row_while_done = refl
+
+row_while_takes_none : effect loops (call 0 []) 0 (counter_state (pos 3)) ≡ ends (counter_state (pos 3)) (Answers [])
+row_while_takes_none = refl
+
+row_while_never : effect loops (call 1 []) 1000 (counter_state (pos 0)) ≡ ends (counter_state (pos 0)) (Trapped 5)
+row_while_never = refl
+
+-- A REPEAT ends where its condition is TRUE, behind its statements, which run once at least: a turn each time.
+
+row_repeat_lacks : effect loops (call 2 []) 2 (counter_state (pos 0)) ≡ ends (counter_state (pos 0)) (Trapped 5)
+row_repeat_lacks = refl
+
+row_repeat_done : effect loops (call 2 []) 3 (counter_state (pos 0)) ≡ ends (counter_state (pos 3)) (Answers [])
+row_repeat_done = refl
+
+row_repeat_once : effect loops (call 2 []) 1 (counter_state (pos 7)) ≡ ends (counter_state (pos 8)) (Answers [])
+row_repeat_once = refl
+
+row_repeat_no_turn : effect loops (call 2 []) 0 (counter_state (pos 7)) ≡ ends (counter_state (pos 7)) (Trapped 5)
+row_repeat_no_turn = refl
+
+row_repeat_never : effect loops (call 3 []) 1000 (counter_state (pos 0)) ≡ ends (counter_state (pos 0)) (Trapped 5)
+row_repeat_never = refl
+
+row_repeat_traps : effect loops (call 4 []) 1 (counter_state (pos 0)) ≡ ends (counter_state (pos 0)) (Trapped 3)
+row_repeat_traps = refl
+
+row_repeat_no_turn_first : effect loops (call 4 []) 0 (counter_state (pos 0)) ≡ ends (counter_state (pos 0)) (Trapped 5)
+row_repeat_no_turn_first = refl
+
+-- The opening of `loops` takes a turn for its call and three for the loop.
+
+row_opening_turns : opening loops 10 ≡ Done 6 (counter_state (pos 3) ∷ [])
+row_opening_turns = refl
+
+row_opening_lacks : opening loops 3 ≡ Trap 5
+row_opening_lacks = refl
 
 -- An index below 0 or not below the length is trap 2; the calls that trap leave the array as it was.
 
@@ -242,5 +299,11 @@ array = record {
 abbrev array_state : State
 array_state = record { name = codes "a"; held = Holds (Elements (value (Single (Int (pos 0))) (value (Single (Int (pos 0))) (value (Single (Int (pos 9))) no_value)))) } ∷ []
 
-row_array : one_at_a_time array 1000000 (start array) (call 0 (Int (pos 2) ∷ Int (pos 9) ∷ []) ∷ call 0 (Int (pos 3) ∷ Int (pos 9) ∷ []) ∷ call 0 (Int (negsuc 0) ∷ Int (pos 9) ∷ []) ∷ []) ≡ Some (Answers [] ∷ Trapped 2 ∷ Trapped 2 ∷ [], array_state)
+abbrev array_calls : List ObjectCall
+array_calls = call 0 (Int (pos 2) ∷ Int (pos 9) ∷ []) ∷ call 0 (Int (pos 3) ∷ Int (pos 9) ∷ []) ∷ call 0 (Int (negsuc 0) ∷ Int (pos 9) ∷ []) ∷ []
+
+row_array : replies array (start array) array_calls ≡ Answers [] ∷ Trapped 2 ∷ Trapped 2 ∷ []
 row_array = refl
+
+row_array_behind : state_behind array most_turns (start array) array_calls ≡ array_state
+row_array_behind = refl

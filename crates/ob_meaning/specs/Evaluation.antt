@@ -1,73 +1,46 @@
--- The value of an expression and the place of a designator in a store, or a trap. Evaluation goes left to right.
-use Rattle.std.specs.Prelude.{ℕ, ℤ, pos, negsuc, nat_lt, if◌then◌else◌, List, [], ◌∷◌}
-use Rattle.ob_typing.specs.declared.scalar.Scalar.{Scalar}
-use Rattle.ob_typing.specs.Program.{Expression, Literal, ValueOf, Negated, Complement, Computed, Compared, Operations, no_operation, operation, Designator, Designated, Selectors, no_selector, field_of, element_of, Actual, ByValue, ByPlace}
-use Rattle.ob_typing.specs.Arithmetic.{Evaluated, Gives, Traps, ◌>>=◌, outside_array, number_of, applied, negated, complement, compared}
+-- The value of an expression and the place of a designator in a store whose variables go by their names, or a trap.
+use Rattle.std.specs.Prelude.{pred, List, [], ◌∷◌, ◌++◌, length, take}
+use Rattle.ob_interface.specs.declared.scalar.Scalar.{Scalar}
+use Rattle.ob_typing.specs.Program.{Expression, Operations, Designator, Selectors, Actual}
+use Rattle.ob_typing.specs.Arithmetic.{Evaluated}
 use Rattle.ob_meaning.specs.Value.{Single, scalar_of, SelectorValue, Field, Index}
-use Rattle.ob_meaning.specs.Store.{Store, Place, Held, Holds, Refers, place_of_slot, further_in, value_at}
+use Rattle.ob_meaning.specs.Store as Store
+use Rattle.ob_meaning.specs.Store.{Place, Held, Holds, Refers, place_of_slot, further_in, value_at, stored, activation_of}
+use Rattle.ob_meaning.specs.OverStore as OverStore
 
--- an index that is within an array of this length, else trap 2
-abbrev pub within : ℕ → ℤ → Evaluated ℕ
-within length (pos i) = if nat_lt i length then Gives i else Traps outside_array
-within length (negsuc i) = Traps outside_array
+-- stores whose variables and fields go by their names, and elements by their indexes
+abbrev pub by_name : OverStore.Stores
+by_name = record {
+  Store = Store.Store;
+  Place = Place;
+  Step = SelectorValue;
+  Held = Held;
+  field_step = λ position name. Field name;
+  element_step = λ index. Index index;
+  place_of_slot = place_of_slot;
+  further_in = further_in;
+  scalar_at = λ store place. scalar_of (value_at store place);
+  copied = λ s. Holds (Single s);
+  shared = λ place. Refers place;
+  stored = λ store place s. stored store place (Single s);
+  entered = λ store p handed. store ++ activation_of p handed ∷ [];
+  departed = λ store. take (pred (length store)) store;
+}
 
-module _ (store : Store) where
-  abbrev mutual
-    pub value_of : Expression → Evaluated Scalar
-    value_of (Literal s) = Gives s
-    value_of (ValueOf type variable) = do
-      place ← place_of variable
-      Gives (scalar_of (value_at store place))
-    value_of (Negated operand) = do
-      x ← value_of operand
-      negated x
-    value_of (Complement operand) = do
-      x ← value_of operand
-      Gives (complement x)
-    value_of (Computed first rest) = do
-      x ← value_of first
-      value_behind x rest
-    value_of (Compared relation left right) = do
-      x ← value_of left
-      y ← value_of right
-      Gives (compared relation x y)
+abbrev pub value_of : Store.Store → Expression → Evaluated Scalar
+value_of = OverStore.value_of by_name
 
-    -- from a value, through the operators behind it; an operand is evaluated only where its operator does not decide
-    pub value_behind : Scalar → Operations → Evaluated Scalar
-    value_behind x no_operation = Gives x
-    value_behind x (operation operator operand rest) = do
-      y ← applied operator x (value_of operand)
-      value_behind y rest
+abbrev pub value_behind : Store.Store → Scalar → Operations → Evaluated Scalar
+value_behind = OverStore.value_behind by_name
 
-    pub place_of : Designator → Evaluated Place
-    place_of (Designated slot selectors) = do
-      values ← values_of selectors
-      Gives (further_in (place_of_slot store slot) values)
+abbrev pub place_of : Store.Store → Designator → Evaluated Place
+place_of = OverStore.place_of by_name
 
-    -- in `a[i][j]` i is tested against its length before j is evaluated
-    pub values_of : Selectors → Evaluated (List SelectorValue)
-    values_of no_selector = Gives []
-    values_of (field_of position name rest) = do
-      values ← values_of rest
-      Gives (Field name ∷ values)
-    values_of (element_of length index rest) = do
-      x ← value_of index
-      i ← within length (number_of x)
-      values ← values_of rest
-      Gives (Index i ∷ values)
+abbrev pub values_of : Store.Store → Selectors → Evaluated (List SelectorValue)
+values_of = OverStore.path_of by_name
 
-  -- what an actual hands over: a copy of a value, or a place
-  abbrev pub handed : Actual → Evaluated Held
-  handed (ByValue expression) = do
-    v ← value_of expression
-    Gives (Holds (Single v))
-  handed (ByPlace variable) = do
-    place ← place_of variable
-    Gives (Refers place)
+abbrev pub handed : Store.Store → Actual → Evaluated Held
+handed = OverStore.handed by_name
 
-  abbrev pub all_handed : List Actual → Evaluated (List Held)
-  all_handed [] = Gives []
-  all_handed (actual ∷ actuals) = do
-    first ← handed actual
-    rest ← all_handed actuals
-    Gives (first ∷ rest)
+abbrev pub all_handed : Store.Store → List Actual → Evaluated (List Held)
+all_handed = OverStore.all_handed by_name

@@ -1,3 +1,4 @@
+pub mod OverStore
 pub mod Value
 pub mod Store
 pub mod Evaluation

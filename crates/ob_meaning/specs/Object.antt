@@ -1,11 +1,12 @@
 -- One call on the object, the opening state, and calls one at a time.
-use Rattle.std.specs.Prelude.{◌≡◌, ℕ, ◌-◌, pos, List, [], ◌∷◌, map, filter, slice_get, Option, Some, None, option_map, if◌then◌else◌}
-use Rattle.ob_typing.specs.declared.scalar.Scalar.{Scalar}
-use Rattle.ob_typing.specs.declared.scalar.Scalar.TheVariants.{Int}
+use Rattle.std.specs.Prelude.{◌≡◌, ℕ, ◌-◌, pos, List, [], ◌∷◌, map, filter, slice_get, Option, Some, None, if◌then◌else◌}
+use Rattle.ob_interface.specs.declared.scalar.Scalar.{Scalar}
+use Rattle.ob_interface.specs.declared.scalar.Scalar.TheVariants.{Int}
+use Rattle.ob_interface.specs.Call.{ObjectCall, Reply, Answers, Trapped}
 use Rattle.ob_typing.specs.Program.{Parameter, Procedure, Program, exports}
 use Rattle.ob_meaning.specs.Value.{initial, Single, scalar_of}
 use Rattle.ob_meaning.specs.Store.{Activation, Held, Holds, Refers, AreValues, names_of, activation_at, value_held}
-use Rattle.ob_meaning.specs.Statements.{Outcome, Done, Trap, NotYet, meaning_of_all, activation_of, begun, calls}
+use Rattle.ob_meaning.specs.Statements.{Outcome, Done, Trap, meaning_of_all, activation_of, begun, calls}
 
 -- the module's variables with their values, in text order
 abbrev pub State : Type 0
@@ -16,20 +17,10 @@ pub record HasVariables (program : Program) (state : State) : Type 0 where
   pub names : names_of state ≡ map (λ v. v.name) program.variables
   pub values : AreValues state
 
--- a call on the object: the number of an export, and the value arguments in text order
-pub record ObjectCall : Type 0 where
-  pub export : ℕ
-  pub arguments : List Scalar
-
--- the final values of the VAR parameters in text order, or a trap
-pub data Reply : Type 0 where
-  Answers : (values : List Scalar) → Reply
-  Trapped : (number : ℕ) → Reply
-
--- what one call leaves and answers, if the turns suffice
-pub data Effect : Type 0 where
-  Ends : (state : State) (reply : Reply) → Effect
-  NeedsMore : Effect
+-- what one call leaves and answers
+pub record Effect : Type 0 where
+  pub state : State
+  pub reply : Reply
 
 -- the first argument, or 0 where there is none, as never with a call that fits
 abbrev pub first_argument : List Scalar → Scalar
@@ -63,52 +54,58 @@ values_of_results = map (λ b. scalar_of (value_held b.held))
 
 -- what a run from outside leaves: the module's variables and the results, or the state as it was and the trap
 abbrev pub effect_of : State → Outcome → Effect
-effect_of before (Done turns store) =
-    Ends (activation_at store 0) (Answers (values_of_results (activation_at store results_position)))
-effect_of before (Trap k) = Ends before (Trapped k)
-effect_of before NotYet = NeedsMore
+effect_of before (Done left store) =
+    record { state = activation_at store 0; reply = Answers (values_of_results (activation_at store results_position)) }
+effect_of before (Trap k) = record { state = before; reply = Trapped k }
+
+-- how many turns an opening has, and the most that a call may have
+abbrev pub most_turns : ℕ
+most_turns = 1000000
 
 -- how many activations may be active
 abbrev pub most_activations : ℕ
 most_activations = 64
 
--- a call of a procedure from outside: the module, the results, and the first activation; it takes no turn
-abbrev pub effect_of_procedure : Program → Option Procedure → List Scalar → ℕ → State → Effect
-effect_of_procedure program None arguments turns state = Ends state (Answers [])
-effect_of_procedure program (Some p) arguments turns state =
+-- a call of a procedure from outside with a budget of turns: the module, the results, and the first activation, which takes no turn
+abbrev pub effect_of_procedure : Program → Option Procedure → List Scalar → (budget : ℕ) → State → Effect
+effect_of_procedure program None arguments budget state = record { state = state; reply = Answers [] }
+effect_of_procedure program (Some p) arguments budget state =
     effect_of state
-    (meaning_of_all (calls program (most_activations - 1)) p.body turns
+    (meaning_of_all (calls program (most_activations - 1)) p.body budget
     (state ∷ results_begun p.parameters ∷ activation_of p (outside_handed p.parameters arguments) ∷ []))
 
--- one call on the object
-abbrev pub effect : Program → ObjectCall → ℕ → State → Effect
-effect program call turns state =
-    effect_of_procedure program (slice_get (exports program) call.export) call.arguments turns state
+-- one call on the object with a budget of turns
+abbrev pub effect : Program → ObjectCall → (budget : ℕ) → State → Effect
+effect program call budget state =
+    effect_of_procedure program (slice_get (exports program) call.export) call.arguments budget state
 
 -- what the opening comes to: all variables 0 or FALSE, and then the module's body, which is none of the activations
-abbrev pub opening : Program → ℕ → Outcome
+abbrev pub opening : Program → (turns : ℕ) → Outcome
 opening program turns =
     meaning_of_all (calls program most_activations) program.body turns (begun program.variables ∷ [])
 
 -- the opening ends in this state
-abbrev pub IsOpening : Program → ℕ → State → Type 0
-IsOpening program turns state = (left : ℕ) × (opening program turns ≡ Done left (state ∷ []))
+abbrev pub IsOpening : Program → State → Type 0
+IsOpening program state = (left : ℕ) × (opening program most_turns ≡ Done left (state ∷ []))
 
--- goes on where the turns sufficed
-abbrev pub on_end : {A : Type 0} → Effect → (State → Reply → Option A) → Option A
-on_end (Ends state reply) go = go state reply
-on_end NeedsMore go = None
+-- the opening traps
+abbrev pub OpeningTraps : Program → ℕ → Type 0
+OpeningTraps program k = opening program most_turns ≡ Trap k
 
--- the replies to calls made one at a time from a state, and the last state; nothing where a call needs more turns
-abbrev pub one_at_a_time : Program → ℕ → State → List ObjectCall → Option (List Reply × State)
-one_at_a_time program turns state [] = Some ([], state)
-one_at_a_time program turns state (call ∷ calls) =
-    on_end (effect program call turns state) (λ next reply.
-    option_map (λ (replies, last). (reply ∷ replies, last)) (one_at_a_time program turns next calls))
+-- the replies to calls made one at a time from a state, each with the budget
+abbrev pub replies_to : Program → (budget : ℕ) → State → List ObjectCall → List Reply
+replies_to program budget state [] = []
+replies_to program budget state (call ∷ calls) =
+    (effect program call budget state).reply ∷ replies_to program budget (effect program call budget state).state calls
+
+-- the state behind them
+abbrev pub state_behind : Program → (budget : ℕ) → State → List ObjectCall → State
+state_behind program budget state [] = state
+state_behind program budget state (call ∷ calls) =
+    state_behind program budget (effect program call budget state).state calls
 
 -- these are the replies to calls made one at a time from the opening state
-pub record AreReplies (program : Program) (turns : ℕ) (calls : List ObjectCall) (replies : List Reply) : Type 0 where
+pub record AreReplies (program : Program) (budget : ℕ) (calls : List ObjectCall) (replies : List Reply) : Type 0 where
   pub state : State
-  pub last : State
-  pub opens : IsOpening program turns state
-  pub made : one_at_a_time program turns state calls ≡ Some (replies, last)
+  pub opens : IsOpening program state
+  pub made : replies ≡ replies_to program budget state calls

@@ -1,7 +1,7 @@
 -- Places and stores. A store is the list of activations; the module is activation 0, and the last one is running.
 use Rattle.std.specs.Prelude.{ℕ, pred, List, [], ◌∷◌, ◌++◌, length, map, slice_get, slice_set, bytes_eq, if◌then◌else◌, Option, Some, None}
-use Rattle.ob_typing.specs.Program.{Name, Owner, OfModule, Own, Slot}
-use Rattle.ob_meaning.specs.Value.{Value, zero_value, SelectorValue, selected, replaced}
+use Rattle.ob_typing.specs.Program.{Name, Owner, OfModule, Own, Slot, Parameter, Variable, Procedure}
+use Rattle.ob_meaning.specs.Value.{Value, zero_value, initial, SelectorValue, selected, replaced}
 
 -- a variable or a part of it: whose it is, its name, and the selectors behind the name
 pub record Place : Type 0 where
@@ -93,3 +93,17 @@ abbrev pub stored : Store → Place → Value → Store
 stored store place v =
     slice_set store place.activation
     (map (rebound place.name place.selectors v) (activation_at store place.activation))
+
+-- the parameters with what was handed over
+abbrev pub bound : List Parameter → List Held → Activation
+bound [] handed = []
+bound (p ∷ parameters) [] = []
+bound (p ∷ parameters) (h ∷ handed) = record { name = p.name; held = h } ∷ bound parameters handed
+
+-- variables at their beginning
+abbrev pub begun : List Variable → Activation
+begun = map (λ v. record { name = v.name; held = Holds (initial v.type) })
+
+-- the activation of a procedure: its parameters with what was handed over, and then its variables
+abbrev pub activation_of : Procedure → List Held → Activation
+activation_of p handed = bound p.parameters handed ++ begun p.variables

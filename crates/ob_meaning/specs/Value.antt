@@ -1,9 +1,9 @@
 -- Values: a scalar, a list of elements, or a list of named fields.
 use Rattle.std.specs.Prelude.{ℕ, zero, suc, pos, false, List, [], ◌∷◌, bytes_eq, if◌then◌else◌}
-use Rattle.ob_typing.specs.declared.scalar.Scalar.{Scalar}
-use Rattle.ob_typing.specs.declared.scalar.Scalar.TheVariants.{Int, Bool}
-use Rattle.ob_typing.specs.declared.scalar.ScalarType.{ScalarType}
-use Rattle.ob_typing.specs.declared.scalar.ScalarType.TheVariants.{Integer, Boolean}
+use Rattle.ob_interface.specs.declared.scalar.Scalar.{Scalar}
+use Rattle.ob_interface.specs.declared.scalar.Scalar.TheVariants.{Int, Bool}
+use Rattle.ob_interface.specs.declared.scalar.ScalarType.{ScalarType}
+use Rattle.ob_interface.specs.declared.scalar.ScalarType.TheVariants.{Integer, Boolean}
 use Rattle.ob_typing.specs.Program.{Name, DataType, Simple, Array, Record, Fields, no_field, field}
 
 mutual

@@ -7,3 +7,4 @@ pub mod PerformFaults
 pub mod NoPerformance
 pub mod Readings
 mod Copies
+mod Names

@@ -8,7 +8,7 @@ use Rattle.ob_check.specs.Exports.{Signature, signature_of, signatures}
 use Rattle.ob_check.specs.Program.{Name, Parameter, Procedure, Program, Statements, exports}
 use Rattle.ob_engine.specs.CodeMeaning.{Entrance, EngineParts}
 use Rattle.ob_engine.specs.Compiled.{IsCompiled, IsFitting, entrances_from, parts_of}
-use Rattle.ob_mean.specs.Object.{ObjectCall, Reply}
+use Rattle.ob_interface.specs.Call.{ObjectCall, Reply}
 use Rattle.ob_object.specs.Compilation.{IsCompilation, ObjectParts}
 use Rattle.ob_object.specs.Performance.{IsSoundObject}
 use Rattle.ob_record.specs.Record.{AreOfExports, IsOfExport}

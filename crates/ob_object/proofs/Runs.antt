@@ -10,7 +10,7 @@ use Rattle.ob_mean.specs.Object.{State}
 use Rattle.ob_record.specs.Record.{Record}
 use Rattle.ob_run.specs.Computes.{Computes, IsComputed}
 use Rattle.ob_run.specs.Recorded.{IsLegalFor}
-use Rattle.wf_history.specs.OfModule.{IsLegalOrder}
+use Rattle.ob_order.specs.OfModule.{IsLegalOrder}
 
 module _ (program : Program) (layout : LayoutParts) (parts : EngineParts) (opening : State)
     (layout_is : layout ≡ layout_of program) (compiled : IsCompiled program parts) (typed : IsStateOf program.variables opening) where

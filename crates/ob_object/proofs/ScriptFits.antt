@@ -8,8 +8,8 @@ use Rattle.std.specs.Prelude.{MatchBool, ℤ, pos, neg_ℤ, ◌≤ℤ◌}
 use Rattle.ob_check.specs.declared.program.DataType.{DataType}
 use Rattle.ob_check.specs.declared.program.DataType.TheVariants.{Integer}
 use Rattle.ob_check.specs.declared.program.Formal.{Formal}
-use Rattle.ob_check.specs.declared.program.Scalar.{Scalar}
-use Rattle.ob_check.specs.declared.program.Scalar.TheVariants as Scalars
+use Rattle.ob_interface.specs.declared.scalar.Scalar.{Scalar}
+use Rattle.ob_interface.specs.declared.scalar.Scalar.TheVariants as Scalars
 use Rattle.ob_check.specs.Exports.{Signature, signature_of, signatures}
 use Rattle.ob_check.specs.Program.{Procedure, Program, formal_of}
 use Rattle.ob_engine.specs.CodeMeaning.{Entrance, EngineParts}

@@ -4,8 +4,8 @@ use Rattle.std.proofs.Props.{props}
 use Rattle.ob_check.specs.Program.{Variable}
 use Rattle.ob_check.specs.declared.program.DataType.{DataType}
 use Rattle.ob_check.specs.declared.program.DataType.TheVariants.{Integer}
-use Rattle.ob_check.specs.declared.program.Scalar.{Scalar}
-use Rattle.ob_check.specs.declared.program.Scalar.TheVariants.{Int, Bool as Truth}
+use Rattle.ob_interface.specs.declared.scalar.Scalar.{Scalar}
+use Rattle.ob_interface.specs.declared.scalar.Scalar.TheVariants.{Int, Bool as Truth}
 use Rattle.ob_layout.specs.Encoding.{HoldsValueOf, IsScalarOf, IsStateOf}
 use Rattle.ob_mean.specs.Object.{State}
 use Rattle.ob_mean.specs.Store.{Held, Holds, Refers}

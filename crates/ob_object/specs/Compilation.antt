@@ -15,7 +15,7 @@ use Rattle.ob_opened.specs.declared.checked_text.TextFault.TheVariants as Text
 use Rattle.ob_opened.specs.declared.opened.TheConstants.{TURNS}
 use Rattle.ob_object.specs.declared.compiling.CompileFault.{CompileFault}
 use Rattle.ob_object.specs.declared.compiling.CompileFault.TheVariants as Faults
-use Rattle.ob_object.specs.declared.compiling.TheConstants.{MOST_PROCESSES}
+use Rattle.ob_interface.specs.Processes.{most_processes}
 use Rattle.ob_scheme.specs.Scheme.{code_of}
 
 -- the most instructions of a code
@@ -38,7 +38,7 @@ pub record ObjectParts : Type 0 where
 -- and the state that its opening leaves, which is one of its variables
 pub record IsCompilation (text : List ℕ) (n : ℕ) (o : ObjectParts) : Type 0 where
   pub some : 0 < n
-  pub few : n ≤ MOST_PROCESSES
+  pub few : n ≤ most_processes
   pub processes : o.processes ≡ n
   pub is_module : IsModule text o.program
   pub layout_is : o.layout ≡ layout_of o.program
@@ -65,7 +65,7 @@ pub record FailsToOpen (text : List ℕ) (fault : OpenFault) : Type 0 where
 
 -- what each fault says
 abbrev pub IsCompileFault : List ℕ → ℕ → CompileFault → Type 0
-IsCompileFault text n Faults.Processes = (n ≡ 0) ⊎ (MOST_PROCESSES < n)
+IsCompileFault text n Faults.Processes = (n ≡ 0) ⊎ (most_processes < n)
 IsCompileFault text n (Faults.Text e) = IsTextFault text e
 IsCompileFault text n Faults.TooLong = HasLongCode text
 IsCompileFault text n (Faults.Open e) = FailsToOpen text e

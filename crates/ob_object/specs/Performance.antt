@@ -22,7 +22,7 @@ use Rattle.ob_schedule.specs.declared.schedule.ScheduleFault.TheVariants as Sche
 use Rattle.ob_text.specs.Script.{ScriptCall, IsScript, IsScriptFault}
 use Rattle.ob_text.specs.declared.script.ScriptFault.{ScriptFault}
 use Rattle.ob_text.specs.declared.script.ScriptFault.TheVariants as Script
-use Rattle.wf_history.specs.OfModule.{IsLegalOrder}
+use Rattle.ob_order.specs.OfModule.{IsLegalOrder}
 use Rattle.wf_play.specs.Played.{IsPlayFault, scripts_of}
 use Rattle.wf_play.specs.declared.playing.PlayFault.{PlayFault}
 use Rattle.wf_play.specs.declared.playing.PlayFault.TheVariants as Play

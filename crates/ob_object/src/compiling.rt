@@ -19,7 +19,7 @@ use ob_check::checked::Checked;
 use ob_code::CodeFault;
 use ob_engine::CodeEngine;
 use ob_generate::literals_fit;
-use ob_grammar::NoMemory;
+use ob_interface::{MOST_PROCESSES, NoMemory};
 use ob_layout::Layout;
 use ob_mean::opening::{OpenFault, opening};
 use ob_mean::state::State;
@@ -30,9 +30,6 @@ use ob_scan::scanner::LONGEST_TEXT;
 use ob_scheme::laws::opening_is_typed;
 use std::alloc::Global;
 use thiserror::Error;
-
-/// The most processes that share an object.
-pub const MOST_PROCESSES: usize = 16;
 
 /// Why a text has no object: the first fault, in the order of the variants.
 #[derive(Clone, Copy, Debug, Error)]

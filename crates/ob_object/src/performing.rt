@@ -12,13 +12,13 @@ ghost use Rattle.ob_opened.specs.ModuleText.{IsModule};
 ghost use Rattle.ob_record.specs.Record.{AreOfExports, record_of};
 ghost use Rattle.ob_schedule.specs.Schedule.{process_of};
 ghost use Rattle.ob_text.specs.ScriptView.{object_call, script_call_of};
-ghost use Rattle.wf_history.specs.OfModule.{IsLegalOrder};
+ghost use Rattle.ob_order.specs.OfModule.{IsLegalOrder};
 
-use crate::compiling::{CompileFault, MOST_PROCESSES, Object, compile};
+use crate::compiling::{CompileFault, Object, compile};
 use ob_check::checked::Checked;
 use ob_engine::CodeEngine;
 use ob_engine::laws::effect_is_called;
-use ob_grammar::NoMemory;
+use ob_interface::{MOST_PROCESSES, NoMemory};
 use ob_opened::checked_text::TextFault;
 use ob_record::Record;
 use ob_run::record_run;

@@ -4,9 +4,10 @@ ghost use Rattle.std.specs.Prelude.{◌≡◌, ◌<◌, ◌≤◌, ◌⊎◌, Er
 ghost use Rattle.ob_object.specs.Performance.{HasNoPerformance, IsNumbered, IsPerformFault, TellsMemoryApart};
 ghost use Rattle.ob_object.specs.Printed.{HasPerformance, IsRecordPrinted};
 
-use crate::compiling::{CompileFault, MOST_PROCESSES};
+use crate::compiling::CompileFault;
 use crate::performing::{PerformFault, performed, read_texts};
 use crate::replaying::run_with_makers;
+use ob_interface::MOST_PROCESSES;
 use ob_opened::checked_text::TextFault;
 use ob_picture::draw;
 use ob_record::write_record;

@@ -10,13 +10,13 @@ ghost use Rattle.ob_object.specs.View.{object_in};
 ghost use Rattle.ob_record.specs.Record.{record_of};
 ghost use Rattle.ob_schedule.specs.Schedule.{process_of};
 ghost use Rattle.ob_text.specs.ScriptView.{object_call, script_call_of};
-ghost use Rattle.wf_history.specs.OfModule.{IsLegalOrder};
+ghost use Rattle.ob_order.specs.OfModule.{IsLegalOrder};
 
-use crate::compiling::{MOST_PROCESSES, Object};
+use crate::compiling::Object;
 use crate::performing::run_on;
 use ob_check::checked::Checked;
 use ob_engine::CodeEngine;
-use ob_grammar::NoMemory;
+use ob_interface::{MOST_PROCESSES, NoMemory};
 use ob_layout::encode;
 use ob_record::Record;
 use ob_schedule::Item;

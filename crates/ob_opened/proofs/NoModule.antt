@@ -19,11 +19,11 @@ use Rattle.ob_sequential.specs.declared.checked_text.TextFault as Wholes
 use Rattle.ob_sequential.specs.declared.checked_text.TextFault.TheVariants as Faults
 use Rattle.ob_typing.specs.Program as Meant
 use Rattle.ob_opened.specs.CheckedText.{IsNumberedText, IsTextFault, TellsTextMemoryApart, of_part, of_whole}
+use Rattle.ob_opened.specs.Limits.{most_turns}
 use Rattle.ob_opened.specs.ModuleFaults.{HasNoOpening, IsNumbered, of_open, of_text}
 use Rattle.ob_opened.specs.ModuleText.{IsBeyond, IsModule, place_of}
 use Rattle.ob_opened.specs.declared.checked_text.TextFault.{TextFault}
 use Rattle.ob_opened.specs.declared.checked_text.TextFault.TheVariants as Texts
-use Rattle.ob_opened.specs.declared.opened.TheConstants.{TURNS}
 
 -- ---- no module, by all rules of the language
 
@@ -113,7 +113,7 @@ module _ (text : List ℕ) (tree : Tree.Module) (one_tree : (other : Tree.Module
 
 -- ---- no opening
 
-pub opens_not : (program : Program) (e : OpenFault) (state : State) → IsOpenFault program TURNS e → e ≢ Open.NoMemory → IsOpening program TURNS state → ⊥
+pub opens_not : (program : Program) (e : OpenFault) (state : State) → IsOpenFault program most_turns e → e ≢ Open.NoMemory → IsOpening program most_turns state → ⊥
 opens_not program (Open.Trap k) state h told opens = let is = opens.1 in cc
 opens_not program Open.NeedsMore state h told opens = let is = opens.1 in cc
 opens_not program Open.NoMemory state h told opens = told refl
@@ -124,9 +124,9 @@ open_told Open.NeedsMore numbered = numbered.1
 open_told Open.NoMemory numbered = let bad : true ≡ false = numbered.0 in cc
 
 pub no_opening : (text : List ℕ) (program : Program) (e : OpenFault) → ((other : Program) → IsModule text other → other ≡ program)
-    → IsOpenFault program TURNS e → IsNumbered (of_open e) → HasNoOpening text
+    → IsOpenFault program most_turns e → IsNumbered (of_open e) → HasNoOpening text
 no_opening text program e alone h numbered other state m opens =
-    opens_not program e state h (open_told e numbered) (subst (λ (p : Program). IsOpening p TURNS state) (alone other m) opens)
+    opens_not program e state h (open_told e numbered) (subst (λ (p : Program). IsOpening p most_turns state) (alone other m) opens)
 
 -- ---- of the text
 

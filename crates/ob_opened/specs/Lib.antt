@@ -1,3 +1,4 @@
+pub mod Limits
 pub mod ModuleText
 pub mod CheckedText
 pub mod ModuleFaults

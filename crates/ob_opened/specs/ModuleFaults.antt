@@ -1,5 +1,6 @@
 -- What each fault of a module and its opening says.
 use Rattle.std.specs.Prelude.{◌≡◌, ◌≢◌, ℕ, Bool, true, false, List}
+use Rattle.ob_opened.specs.Limits.{most_turns}
 use Rattle.ob_opened.specs.ModuleText.{IsModule}
 use Rattle.ob_check.specs.Program.{Program}
 use Rattle.ob_mean.specs.Faults.{IsOpenFault}
@@ -11,13 +12,12 @@ use Rattle.ob_opened.specs.declared.checked_text.TextFault.{TextFault}
 use Rattle.ob_opened.specs.declared.checked_text.TextFault.TheVariants as Texts
 use Rattle.ob_opened.specs.declared.opened.ModuleFault.{ModuleFault}
 use Rattle.ob_opened.specs.declared.opened.ModuleFault.TheVariants as Faults
-use Rattle.ob_opened.specs.declared.opened.TheConstants.{TURNS}
 
 -- the opening of a text's program fails
 pub record IsOpenFaultOf (text : List ℕ) (fault : OpenFault) : Type 0 where
   pub program : Program
   pub is_module : IsModule text program
-  pub fails : IsOpenFault program TURNS fault
+  pub fails : IsOpenFault program most_turns fault
 
 -- what each fault says of a text
 abbrev pub IsModuleFault : List ℕ → ModuleFault → Type 0
@@ -27,7 +27,7 @@ IsModuleFault text Faults.NoMemory = Unit {0}
 
 -- the text is of no module whose opening ends
 abbrev pub HasNoOpening : List ℕ → Type 0
-HasNoOpening text = (program : Program) (state : State) → IsModule text program → IsOpening program TURNS state → ⊥
+HasNoOpening text = (program : Program) (state : State) → IsModule text program → IsOpening program most_turns state → ⊥
 
 -- want of memory is told in one place
 

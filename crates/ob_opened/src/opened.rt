@@ -2,6 +2,7 @@
 
 ghost use Rattle.std.specs.Prelude.{◌≡◌, ◌<◌, Err, IfOk, IfErr, length};
 ghost use Rattle.ob_check.specs.CheckedModule.{program_in};
+ghost use Rattle.ob_opened.specs.Limits.{most_turns};
 ghost use Rattle.ob_opened.specs.ModuleText.{IsModule};
 ghost use Rattle.ob_check.specs.Program.{Program};
 ghost use Rattle.ob_mean.specs.Object.{IsOpening};
@@ -18,7 +19,12 @@ use std::alloc::Global;
 use thiserror::Error;
 
 /// The turns of an opening, and of each call that is made one at a time.
-pub const TURNS: u64 = ob_sequential::TURNS;
+pub const TURNS: u64 = 1_000_000;
+
+/// The code's number of turns is that of the definitions.
+pub fn turns()
+    ensures { TURNS ≡ most_turns }
+{}
 
 /// Why a text is no module, or has no opening: the first fault, in the order of the variants.
 #[derive(Clone, Copy, Debug, Error)]
@@ -62,7 +68,7 @@ impl From<OpenFault> for ModuleFault {
 pub fn opened_module(alloc: Global, text: &[u8]) -> Result<(Checked, State), ModuleFault>
     ensures program { IfOk result (λ r. IsModule text.now (program_in r.0)) }
     ensures alone { IfOk result (λ r. (other : Program) → IsModule text.now other → other ≡ program_in r.0) }
-    ensures opening { IfOk result (λ r. IsOpening (program_in r.0) TURNS (state_of r.1)) }
+    ensures opening { IfOk result (λ r. IsOpening (program_in r.0) most_turns (state_of r.1)) }
     ensures fault { IfErr result (IsModuleFault text.now) }
 
     // With a fault that has a number there is no opening of a module of this text.

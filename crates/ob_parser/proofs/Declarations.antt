@@ -7,12 +7,13 @@ use Rattle.ob_grammar.specs.Tree
 use Rattle.ob_grammar.specs.Tree.{Name, Expr, Stmts, TypeExpr, ConstDecl, TypeDecl, VarDecl, DeclarationPart, Section, Heading, Declarations, Procedures, no_procedure, ProcedureTree, Module}
 use Rattle.ob_grammar.specs.Grammar
 use Rattle.ob_grammar.specs.Grammar.{Lexemes, Phrase, Takes, TakesAt, TakesName, TakesWord, Perhaps, Separated, Expression, IdentList, IsType, ConstDeclaration, TypeDeclaration, VarDeclaration, FPSection, FormalParameters, ProcedureHeading, BodyPart, DeclarationsPart, ProcedureDeclaration, ProcedureDeclarations, ModuleText}
-use Rattle.ob_grammar.specs.declared.tree.TheConstants.{DEEPEST_NESTING}
+use Rattle.ob_grammar.specs.Limits.{deepest_nesting}
 use Rattle.ob_grammar.specs.Conditions.{differing, in_expr, in_type, in_constants, in_types, in_variables, in_parameters, in_declarations, in_body, in_procedures}
 use Rattle.ob_parser.specs.Reading.{Form, Sequel, behind_part, Stops, Reads, kind_at}
 use Rattle.ob_parser.specs.Forms as forms
 use Rattle.ob_parser.specs.Forms.{token, opens, Both, both, linked}
-use Rattle.ob_parser.specs.Answers.{State, Went}
+use Rattle.ob_parser_source.specs.Sources.{State}
+use Rattle.ob_parser.specs.Answers.{Went}
 use Rattle.ob_parser.proofs.Steps.{Leads, Follows, Fills, Begins, Passes, takes_same, no_takes_same, same_token, stops_at, not_stopped, nothing_stops, weaker, before, closed, across, across_last, fill_token, fill_both}
 use Rattle.ob_parser.proofs.Phrases.{Optional, Repeated, Listed, begins_part, fill_perhaps, fill_word, passes_perhaps}
 use Rattle.ob_parser.proofs.States.{Path, past_linked}
@@ -330,7 +331,7 @@ times_follows {n = n} =
     across_last (record { passes = p.passes }) only_times
 
 -- the token that opens a procedure, where it may
-pub leads_open : {n : ℕ} {kind : Kind} {tokens : Lexemes} {p : ℕ} → n < DEEPEST_NESTING → Leads (opens n kind) tokens p (token kind) p (λ x. x)
+pub leads_open : {n : ℕ} {kind : Kind} {tokens : Lexemes} {p : ℕ} → n < deepest_nesting → Leads (opens n kind) tokens p (token kind) p (λ x. x)
 leads_open shallow = record {
   order = omega arith;
   within = λ h. h;

@@ -16,8 +16,10 @@ use Rattle.ob_grammar.specs.Conditions.{opening, in_expr, in_operands}
 use Rattle.ob_parser.specs.Reading.{Form, Stops, Reads, unexpected, Refuses, kind_at, place_at}
 use Rattle.ob_parser.specs.Forms as forms
 use Rattle.ob_parser.specs.Forms.{token, opens, Both, both, simple_goes_on, expression_goes_on}
-use Rattle.ob_parser.specs.Answers.{State, tokens_of, IsSpelledAt, Went}
-use Rattle.ob_parser.proofs.States.{went_one, went_as}
+use Rattle.ob_parser_source.specs.Sources.{State, Steps}
+use Rattle.ob_parser.specs.ParseFaults.{lexemes_of}
+use Rattle.ob_parser.specs.Answers.{IsAt, IsSpelledAt, place_here, Went}
+use Rattle.ob_parser.proofs.States.{at_here, place_there, went_one}
 use Rattle.ob_parser.proofs.Steps.{Leads, Follows, Fills, lexeme_there, takes_same, no_takes_same, same_token, stops_at, not_stopped, weaker, kind_within, shorter, same_place, nothing_stops}
 use Rattle.ob_parser.proofs.Firsts.{factor_first, term_starts, factor_starts, starts_stop, refuses_starting, fill_factor}
 use Rattle.ob_parser.proofs.Selectors.{ends_expression}
@@ -157,14 +159,19 @@ reads_number {p = p} {place = place} {tokens = tokens} {bytes = bytes} here = re
 }
 
 -- a number that is read, from its token
-pub went_number : {n : ℕ} (s t : State) (value : ℤ) (place : ℕ) (bytes : List ℕ) → t.source ≡ s.source → t.position ≡ s.position + 1 →
-    kind_at (tokens_of s) s.position ≡ Some Kind.Number → IsSpelledAt s bytes →
-    value ≡ pos (number_value bytes) → place ≡ place_at 0 (tokens_of s) s.position → Went (forms.factor n) s (Tree.Number value place) t
-went_number s t value place bytes kept moved here spelled is located =
-    let there = lexeme_there (tokens_of s) s.position here in
-    let same : value ≡ pos (number_value there.0) = is ∙ ap (λ ds. pos (number_value ds)) (spelled Kind.Number (place_at 0 (tokens_of s) s.position) there.0 there.1) in
-    went_as (ap (λ v. Tree.Number v (place_at 0 (tokens_of s) s.position)) (sym same) ∙ ap (λ q. Tree.Number value q) (sym located))
-    (went_one kept moved (reads_number there.1))
+pub went_number : {n : ℕ} {s t : State} (value : ℤ) (place : ℕ) (bytes : List ℕ) → Steps s t → IsAt s Kind.Number → IsSpelledAt s bytes →
+    value ≡ pos (number_value bytes) → place ≡ place_here s → Went (forms.factor n) s (Tree.Number value place) t
+went_number {n = n} value place bytes steps here spelled is located =
+    went_one steps
+    (λ source p w.
+    (let tokens = lexemes_of source in
+    let there = lexeme_there tokens p (at_here w here) in
+    let same : value ≡ pos (number_value there.0) =
+    is ∙ ap (λ ds. pos (number_value ds)) (spelled Kind.Number (place_at 0 tokens p) there.0 (sym w.next ∙ there.1)) in
+    let P : Expr → Type 0 = λ x. Reads (forms.factor n) tokens p x (suc p) in
+    subst P
+    (ap (λ v. Tree.Number v (place_at 0 tokens p)) (sym same) ∙ ap (λ q. Tree.Number value q) (sym (located ∙ place_there w)))
+    (reads_number there.1)))
 
 factor_parens : {a b rest : Lexemes} {place : ℕ} {y : Expr} → TakesAt Kind.LeftParen place a b → Factor a y rest →
     (x : ℕ × (Expr × ℕ)) × (y ≡ Tree.Parens x.0 x.1.0)

@@ -10,6 +10,7 @@ pub mod Phrases
 pub mod Selectors
 pub mod StatementLoops
 pub mod Statements
+pub mod SourceTexts
 pub mod States
 pub mod Steps
 pub mod Texts

@@ -11,8 +11,10 @@ use Rattle.ob_grammar.specs.Grammar.{Lexemes, TakesAt, takes, TakesName}
 use Rattle.ob_grammar.specs.Conditions.{Breach, name_differs, differing}
 use Rattle.ob_parser.specs.Reading.{Reads, breaks, Refuses, kind_at, place_at}
 use Rattle.ob_parser.specs.Forms as forms
-use Rattle.ob_parser.specs.Answers.{State, tokens_of, IsSpelledAt, Went}
-use Rattle.ob_parser.proofs.States.{went_one}
+use Rattle.ob_parser_source.specs.Sources.{State, Steps}
+use Rattle.ob_parser.specs.ParseFaults.{lexemes_of}
+use Rattle.ob_parser.specs.Answers.{IsAt, IsSpelledAt, place_here, Went}
+use Rattle.ob_parser.proofs.States.{at_here, place_there, went_one}
 use Rattle.ob_parser.proofs.Steps.{Fills, Begins, lexeme_there, itself, same_before, drop_before, alive_here}
 use Rattle.ob_parser.proofs.Phrases.{Listed, fill_separated, begins_separated}
 
@@ -79,15 +81,17 @@ pub name_read : {tokens : Lexemes} {p q : ℕ} {x : Name} → Reads forms.name t
 name_read {tokens = tokens} {p = p} {q = q} r = (name_only tokens p (r.sound tokens (itself q tokens))).0
 
 -- a name that is read, from its token
-pub went_name : (s t : State) (x : Name) (bytes : List ℕ) → t.source ≡ s.source → t.position ≡ s.position + 1 →
-    kind_at (tokens_of s) s.position ≡ Some Kind.Ident → IsSpelledAt s bytes →
-    x.text ≡ bytes → x.place ≡ place_at 0 (tokens_of s) s.position → Went forms.name s x t
-went_name s t x bytes kept moved here spelled text place =
-    let there = lexeme_there (tokens_of s) s.position here in
-    let is : x.text ≡ there.0 = text ∙ spelled Kind.Ident (place_at 0 (tokens_of s) s.position) there.0 there.1 in
+pub went_name : {s t : State} (x : Name) (bytes : List ℕ) → Steps s t → IsAt s Kind.Ident → IsSpelledAt s bytes →
+    x.text ≡ bytes → x.place ≡ place_here s → Went forms.name s x t
+went_name x bytes steps here spelled text place =
+    went_one steps
+    (λ source p w.
+    (let tokens = lexemes_of source in
+    let there = lexeme_there tokens p (at_here w here) in
+    let is : x.text ≡ there.0 = text ∙ spelled Kind.Ident (place_at 0 tokens p) there.0 (sym w.next ∙ there.1) in
     let with_place : ℕ → Option Lexeme = λ q. Some (lexeme Kind.Ident q there.0) in
     let with_text : List ℕ → Option Lexeme = λ u. Some (lexeme Kind.Ident x.place u) in
-    went_one kept moved (reads_name (there.1 ∙ ap with_place (sym place) ∙ ap with_text (sym is)))
+    reads_name (there.1 ∙ ap with_place (sym (place ∙ place_there w)) ∙ ap with_text (sym is))))
 
 -- the name behind an END
 

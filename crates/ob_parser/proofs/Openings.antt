@@ -2,28 +2,31 @@
 use Rattle.std.proofs.Common.{◌≡◌, ℕ, suc, ◌<◌, ◌≤◌, true, false, List, [], ◌++◌, drop, Some, sym, ◌∙◌, ap, subst, arith, take, length, nat_le, refl, option_map}
 use Rattle.std.specs.List.{Contains}
 use Rattle.std.proofs.lemmas.Bool.{lt-leb, le-leb}
-use Rattle.std.proofs.lemmas.List.{length-map}
 use Rattle.std.proofs.lemmas.List.Elements.{Contains-append_left}
 use Rattle.ob_scan.specs.declared.token.Kind.{Kind}
 use Rattle.ob_scan.specs.Lexemes.{place_of}
 use Rattle.ob_parser.specs.declared.parser.ParseFault.{ParseFault}
 use Rattle.ob_parser.specs.declared.parser.ParseFault.TheVariants.{TooDeep}
 use Rattle.ob_grammar.specs.Grammar.{Lexemes, TakesAt}
-use Rattle.ob_grammar.specs.declared.tree.TheConstants.{DEEPEST_NESTING}
+use Rattle.ob_grammar.specs.Limits.{deepest_nesting}
 use Rattle.ob_grammar.specs.Conditions.{Breach, too_deep, opening}
 use Rattle.ob_parser.specs.Reading.{Form, breaks, Refuses, kind_at, place_at}
 use Rattle.ob_parser.specs.Forms.{token, opens, both}
-use Rattle.ob_parser.specs.Answers.{State, tokens_of, Went, Fails}
-use Rattle.ob_parser.proofs.Steps.{Leads, Fills, takes_same, takes_at_only, same_place, same_before, drop_before, kind_within, alive_here, shorter, lexeme_there, itself}
+use Rattle.ob_scan.specs.Tokens.{TokenizedText}
+use Rattle.ob_parser_source.specs.Sources.{State, Stands}
+use Rattle.ob_parser.specs.ParseFaults.{lexemes_of, HasPlace}
+use Rattle.ob_parser.specs.Answers.{IsAt, place_here, Went, Fails}
+use Rattle.ob_parser.proofs.Steps.{Leads, Fills, takes_same, takes_at_only, same_place, same_before, drop_before, kind_within, alive_here, shorter, lexeme_there}
+use Rattle.ob_parser.proofs.States.{at_here, place_there}
 
-pub not_deep : {n : ℕ} → n < DEEPEST_NESTING → (place : ℕ) → opening n place ≡ []
-not_deep {n = n} h place = let e : nat_le DEEPEST_NESTING n ≡ false = lt-leb DEEPEST_NESTING n h in rw e refl
+pub not_deep : {n : ℕ} → n < deepest_nesting → (place : ℕ) → opening n place ≡ []
+not_deep {n = n} h place = let e : nat_le deepest_nesting n ≡ false = lt-leb deepest_nesting n h in rw e refl
 
-deep_there : (n : ℕ) → DEEPEST_NESTING ≤ n → (place : ℕ) → Contains (opening n place) (too_deep place)
-deep_there n h place = let e : nat_le DEEPEST_NESTING n ≡ true = le-leb DEEPEST_NESTING n h in rw e (0, omega arith, refl)
+deep_there : (n : ℕ) → deepest_nesting ≤ n → (place : ℕ) → Contains (opening n place) (too_deep place)
+deep_there n h place = let e : nat_le deepest_nesting n ≡ true = le-leb deepest_nesting n h in rw e (0, omega arith, refl)
 
 -- a construct that is too deep is among what breaks a condition in a phrase that begins with it
-deep_first : (n : ℕ) → DEEPEST_NESTING ≤ n → {breaches : List Breach} {place here : ℕ} (after : List Breach) →
+deep_first : (n : ℕ) → deepest_nesting ≤ n → {breaches : List Breach} {place here : ℕ} (after : List Breach) →
     breaches ≡ opening n place ++ after → place ≡ here → Contains breaches (too_deep here)
 deep_first n h {place = place} {here = here} after e f =
     let P : List Breach → Type 0 = λ bs. Contains bs (too_deep here) in
@@ -31,12 +34,15 @@ deep_first n h {place = place} {here = here} after e f =
     subst P (sym e) (subst Q f (Contains-append_left (opening n place) after (too_deep place) (deep_there n h place)))
 
 -- a token that opens a construct where it may
-pub went_opens : {n : ℕ} {kind : Kind} {s t : State} {place : ℕ} → n < DEEPEST_NESTING → Went (token kind) s place t → Went (opens n kind) s place t
+pub went_opens : {n : ℕ} {kind : Kind} {s t : State} {place : ℕ} → n < deepest_nesting → Went (token kind) s place t → Went (opens n kind) s place t
 went_opens {place = place} h w =
-    let r = w.reads in
     record {
       kept = w.kept;
-      reads = record { order = r.order; within = r.within; sound = r.sound; only = r.only; kept = not_deep h place };
+      onward = w.onward;
+      reads = λ source p at.
+          (let m = w.reads source p at in
+          let r = m.2 in
+          (m.0, m.1, record { order = r.order; within = r.within; sound = r.sound; only = r.only; kept = not_deep h place }));
     }
 
 -- the token at p, with any tokens behind it
@@ -53,7 +59,7 @@ taken {kind = kind} tokens p here l =
 
 -- a phrase that would begin with a construct too deep
 pub refuses_deep : {A B : Type 0} {F : Form A} {G : Form B} {kind : Kind} {tokens : Lexemes} {p n : ℕ} {f : ℕ × B → A} →
-    Leads F tokens p (both (opens n kind) G) p f → Fills F → Fills G → DEEPEST_NESTING ≤ n → kind_at tokens p ≡ Some kind →
+    Leads F tokens p (both (opens n kind) G) p f → Fills F → Fills G → deepest_nesting ≤ n → kind_at tokens p ≡ Some kind →
     Refuses F tokens p (breaks (too_deep (place_at 0 tokens p))) p
 refuses_deep {F = F} {G = G} {kind = kind} {tokens = tokens} {p = p} {n = n} {f = f} leads fills inner many here = record {
   order = omega arith;
@@ -76,23 +82,20 @@ refuses_deep {F = F} {G = G} {kind = kind} {tokens = tokens} {p = p} {n = n} {f 
   };
 }
 
--- a token of this kind that stands here is one of the text's
-pub token_there : (s : State) {kind : Kind} → kind_at (tokens_of s) s.position ≡ Some kind → s.position < length s.source.tokens
-token_there s {kind = kind} here =
-    let n : ℕ → Type 0 = λ k. s.position < k in
-    subst n (length-map s.source.tokens _) (kind_within (tokens_of s) s.position kind here)
-
--- so is one that was read
-pub went_within : {s t : State} {kind : Kind} {place : ℕ} → Went (token kind) s place t → s.position < length s.source.tokens
-went_within {s = s} {t = t} w =
-    let tokens = tokens_of s in
-    token_there s (takes_at_only tokens s.position (w.reads.sound tokens (itself t.position tokens))).0
-
 -- the token that stands here opens a construct too deep
 pub fails_deep : {A B : Type 0} {F : Form A} {G : Form B} {kind : Kind} {n : ℕ} {f : ℕ × B → A} (s : State) {e : ParseFault} →
-    e ≡ TooDeep (place_at 0 (tokens_of s) s.position) → Leads F (tokens_of s) s.position (both (opens n kind) G) s.position f →
-    Fills F → Fills G → DEEPEST_NESTING ≤ n → kind_at (tokens_of s) s.position ≡ Some kind → Fails F s e
+    e ≡ TooDeep (place_here s) →
+    ((source : TokenizedText) (p : ℕ) → Stands s source p → Leads F (lexemes_of source) p (both (opens n kind) G) p f) →
+    Fills F → Fills G → deepest_nesting ≤ n → IsAt s kind → Fails F s e s
 fails_deep {F = F} s e leads fills inner many here =
-    let P : ParseFault → Type 0 = λ d. Fails F s d in
-    let there = ap (option_map place_of) (lexeme_there (tokens_of s) s.position here).1 in
-    subst P (sym e) (s.position, there, refuses_deep leads fills inner many here)
+    let P : ParseFault → Type 0 = λ d. Fails F s d s in
+    subst P (sym e)
+    (record {
+      kept = refl;
+      refuses = λ source p w.
+          (let there = at_here w here in
+          let tokens = lexemes_of source in
+          let Q : ℕ → Type 0 = λ k. (i : ℕ) × HasPlace tokens i k × Refuses F tokens p (breaks (too_deep k)) i in
+          subst Q (sym (place_there w))
+          (p, ap (option_map place_of) (lexeme_there tokens p there).1, refuses_deep (leads source p w) fills inner many there));
+    })

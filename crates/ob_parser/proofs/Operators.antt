@@ -1,39 +1,39 @@
 -- {operator operand}: terms and factors behind the first one. Each lemma once, over both.
-use Rattle.std.proofs.Common.{drop, ◌≡◌, ℕ, ◌<◌, true, false, [], ◌++◌, Some, refl, sym, ◌∙◌, ap, subst, arith, slice_get, length}
-use Rattle.std.proofs.lemmas.Option.{slice_get_within}
+use Rattle.std.proofs.Common.{drop, ◌≡◌, ℕ, ◌<◌, true, false, List, [], ◌++◌, Some, refl, sym, ◌∙◌, ap, subst, arith, option_map, is_some, IsSome}
+use Rattle.std.proofs.lemmas.Option.{same_Some}
 use Rattle.ob_scan.specs.declared.token.Kind.{Kind}
-use Rattle.ob_scan.specs.declared.token.Token.{Token}
+use Rattle.ob_scan.specs.Lexemes.{lexeme}
 use Rattle.ob_grammar.specs.declared.tree.Operator.{Operator}
 use Rattle.ob_grammar.specs.Tree.{Expr, Operands, no_operand, operand}
 use Rattle.ob_grammar.specs.Grammar
 use Rattle.ob_grammar.specs.Grammar.{Lexemes, Phrase, TakesAt, IsRelation, IsAddition, IsMultiplication, Terms, Factors, Term, Factor}
-use Rattle.ob_parser.specs.Reading.{Form, Stops, Reads, kind_at}
+use Rattle.ob_parser.specs.Reading.{Form, Stops, Reads, kind_of, kind_at}
 use Rattle.ob_parser.specs.Forms as forms
 use Rattle.ob_parser.specs.Forms.{token, Both, both, selectors_go_on, term_goes_on, simple_goes_on, expression_goes_on}
-use Rattle.ob_parser.specs.Answers.{State, IsAt}
+use Rattle.ob_parser_source.specs.Sources.{State}
+use Rattle.ob_parser.specs.Answers.{IsAt}
 use Rattle.ob_parser.proofs.Steps.{Leads, Follows, Fills, takes_same, no_takes_same, same_token, stops_at, not_stopped, weaker}
 use Rattle.ob_parser.proofs.Selectors.{ends_term, ends_simple}
-use Rattle.ob_parser.proofs.Texts.{kind_here, of_kind}
 
 -- the token that stands here is an operator, or none
 
-pub operator_found : (R : Kind → Operator → Type 0) (s : State) {t : Token} {kind : Kind} {operator : Operator} →
-    slice_get s.source.tokens s.position ≡ Some t → t.kind ≡ kind → R kind operator →
-    record { some : (k : Kind) × R k operator × IsAt s k; none : Unit {0}; within : s.position < length s.source.tokens }
-operator_found R s {t = t} {kind = kind} e same i = record {
-  some = (kind, i, kind_here s.source.text s.source.tokens s.position t e ∙ ap Some same);
+pub operator_found : (R : Kind → Operator → Type 0) (s : State) {k kind : Kind} {place : ℕ} {bytes : List ℕ} {operator : Operator} →
+    s.here ≡ Some (lexeme k place bytes) → k ≡ kind → R kind operator →
+    record { some : (l : Kind) × R l operator × IsAt s l; none : Unit {0}; within : IsSome s.here }
+operator_found R s {kind = kind} e same i = record {
+  some = (kind, i, ap (option_map kind_of) e ∙ ap Some same);
   none = tt;
-  within = slice_get_within _ _ _ e;
+  within = ap is_some e;
 }
 
-pub operator_missing : (R : Kind → Operator → Type 0) (s : State) {t : Token} → slice_get s.source.tokens s.position ≡ Some t →
-    ((operator : Operator) → R t.kind operator → ⊥) →
+pub operator_missing : (R : Kind → Operator → Type 0) (s : State) {k : Kind} {place : ℕ} {bytes : List ℕ} → s.here ≡ Some (lexeme k place bytes) →
+    ((operator : Operator) → R k operator → ⊥) →
     record { some : Unit {0}; none : (kind : Kind) (operator : Operator) → R kind operator → IsAt s kind → ⊥; within : Unit {0} }
-operator_missing R s {t = t} e none = record {
+operator_missing R s e none = record {
   some = tt;
   none = λ kind operator i h.
-      (let same = of_kind s.source.text s.source.tokens s.position t kind e h in
-      let P : Kind → Type 0 = λ k. R k operator in
+      (let same = same_Some _ _ (sym (ap (option_map kind_of) e) ∙ h) in
+      let P : Kind → Type 0 = λ l. R l operator in
       none operator (subst P (sym same) i));
   within = tt;
 }

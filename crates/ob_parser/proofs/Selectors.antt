@@ -10,7 +10,6 @@ use Rattle.ob_grammar.specs.Conditions.{opening, in_expr, in_selectors}
 use Rattle.ob_parser.specs.Reading.{Form, Same, Stops, Reads, kind_at}
 use Rattle.ob_parser.specs.Forms as forms
 use Rattle.ob_parser.specs.Forms.{OneSelector, TakesSelector, in_front, in_selector, token, opens, Both, both, selectors_go_on, term_goes_on, simple_goes_on, expression_goes_on}
-use Rattle.ob_parser.specs.Answers.{State, tokens_of, Went}
 use Rattle.ob_parser.proofs.Steps.{Leads, Fills, Passes, takes_same, no_takes_same, stops_at, not_stopped, nothing_stops, same_before, drop_before, shorter}
 
 -- what continues a part continues the whole
@@ -161,25 +160,3 @@ fill_selector n = record {
   derives = λ rest. TakesSelector.field takes Grammar.takes;
   kept = refl;
 }
-
-no_selector_nowhere : {y : OneSelector} {rest : Lexemes} → TakesSelector [] y rest → ⊥
-no_selector_nowhere (TakesSelector.field t d) = elim t [ ]
-no_selector_nowhere (TakesSelector.index t d u) = elim t [ ]
-
--- a phrase that reads a token
-pub reads_on : {A : Type 0} {F : Form A} {tokens : Lexemes} {p q : ℕ} {x : A} → ((y : A) (rest : Lexemes) → F.relation [] y rest → ⊥) →
-    p ≤ length tokens → Reads F tokens p x q → p < q
-reads_on {F = F} {tokens = tokens} {p = p} {q = q} {x = x} none within r =
-    let other : Lexemes = take p tokens ++ [] in
-    let P : Lexemes → Type 0 = λ a. F.relation a x (drop q other) in
-    let stays : q ≤ p → ⊥ = λ h.
-    none x (drop q other) (subst P (drop_before tokens p [] within) (r.sound other (shorter h (same_before tokens p [] within)))) in
-    let order = r.order in
-    omega arith
-
--- a selector that was read in front of others
-pub selector_on : (n : ℕ) {s t : State} {x : OneSelector} → s.position ≤ length s.source.tokens → Went (forms.selector n) s x t →
-    (s.position < t.position) × (length t.source.tokens ≡ length s.source.tokens)
-selector_on n {s = s} h w =
-    let lengths : length (tokens_of s) ≡ length s.source.tokens = length-map s.source.tokens _ in
-    (reads_on (λ y rest d. no_selector_nowhere d) (omega arith) w.reads, ap (λ source. length source.tokens) w.kept)

@@ -9,7 +9,6 @@ use Rattle.ob_grammar.specs.Grammar
 use Rattle.ob_grammar.specs.Grammar.{Lexemes, Takes, TakesAt, takes, TakesName, Separated, Perhaps, Expression, ActualParameters, Statement, StatementSequence, MoreStatements, Alternative, MoreAlternatives, ElsePart}
 use Rattle.ob_grammar.specs.Conditions.{Breach, opening, in_expr, in_selectors, in_actuals, in_stmt, in_stmts, in_branches, in_otherwise, in_body}
 use Rattle.ob_parser.specs.Reading.{Form, Stops, Reads, kind_at}
-use Rattle.ob_parser.specs.Answers.{State, tokens_of, Went}
 use Rattle.ob_parser.specs.Forms as forms
 use Rattle.ob_parser.specs.Forms.{assignment_goes_on, OneBranch, TakesBranch, token, opens, Both, both}
 use Rattle.ob_parser.proofs.Steps.{Leads, Follows, Fills, takes_same, no_takes_same, same_token, stops_at, not_stopped, weaker, nothing_stops, before_last, across, fill_token, takes_at_only, itself}
@@ -36,6 +35,7 @@ only_name : (k : Kind) → forms.statement_goes_on k ≡ false → forms.name_go
 only_name Kind.Ident h = refl
 only_name Kind.If h = refl
 only_name Kind.While h = refl
+only_name Kind.Repeat h = refl
 only_name _ h = h
 
 only_statement : (k : Kind) → forms.statements_go_on k ≡ false → forms.statement_goes_on k ≡ false
@@ -57,10 +57,6 @@ only_behind_begin _ h = h
 only_argument : (k : Kind) → forms.arguments_go_on k ≡ false → forms.expression_goes_on k ≡ false
 only_argument Kind.Comma h = refl
 only_argument _ h = h
-
--- the token that was read stood there
-pub token_read : {kind : Kind} {s t : State} {place : ℕ} → Went (token kind) s place t → kind_at (tokens_of s) s.position ≡ Some kind
-token_read {s = s} {t = t} w = (takes_at_only (tokens_of s) s.position (w.reads.sound (tokens_of s) (itself t.position (tokens_of s)))).0
 
 -- smallest phrases
 
@@ -228,6 +224,7 @@ named_only t (Grammar.call {procedure = procedure} {actuals = actuals} d e) s =
     ((procedure, AfterName.called actuals), refl, (_, d, TakesAfterName.called e))
 named_only t (Grammar.if' u d e v) s = let k = (same_token t u).0 in absurd (cc)
 named_only t (Grammar.while u d v e w) s = let k = (same_token t u).0 in absurd (cc)
+named_only t (Grammar.repeat u d v e) s = let k = (same_token t u).0 in absurd (cc)
 
 pub leads_named : {n : ℕ} {tokens : Lexemes} {p : ℕ} → kind_at tokens p ≡ Some Kind.Ident →
     Leads (forms.statement n) tokens p (both forms.name (after_name n)) p (λ x. named x.0 x.1)
@@ -323,26 +320,28 @@ reads_bare no_paren no_assigned = record {
   kept = refl;
 }
 
--- statement = [assignment | ProcedureCall | IfStatement | WhileStatement]
+-- statement = [assignment | ProcedureCall | IfStatement | WhileStatement | RepeatStatement]
 
 empty_only : {a rest : Lexemes} {y : Stmt} → ((place : ℕ) (b : Lexemes) → TakesAt Kind.Ident place a b → ⊥) →
     ((place : ℕ) (b : Lexemes) → TakesAt Kind.If place a b → ⊥) → ((place : ℕ) (b : Lexemes) → TakesAt Kind.While place a b → ⊥) →
-    Statement a y rest → (y ≡ Tree.Empty) × (rest ≡ a)
-empty_only h k l Grammar.empty = (refl, refl)
-empty_only h k l (Grammar.assignment {target = target} d e u f) = (let m = begins_name.begins _ target _ d in absurd (h m.0 m.1 m.2))
-empty_only h k l (Grammar.call {procedure = procedure} d e) = (let m = begins_name.begins _ procedure _ d in absurd (h m.0 m.1 m.2))
-empty_only h k l (Grammar.if' u d e v) = absurd (k _ _ u)
-empty_only h k l (Grammar.while u d v e w) = absurd (l _ _ u)
+    ((place : ℕ) (b : Lexemes) → TakesAt Kind.Repeat place a b → ⊥) → Statement a y rest → (y ≡ Tree.Empty) × (rest ≡ a)
+empty_only h k l m Grammar.empty = (refl, refl)
+empty_only h k l m (Grammar.assignment {target = target} d e u f) = (let n = begins_name.begins _ target _ d in absurd (h n.0 n.1 n.2))
+empty_only h k l m (Grammar.call {procedure = procedure} d e) = (let n = begins_name.begins _ procedure _ d in absurd (h n.0 n.1 n.2))
+empty_only h k l m (Grammar.if' u d e v) = absurd (k _ _ u)
+empty_only h k l m (Grammar.while u d v e w) = absurd (l _ _ u)
+empty_only h k l m (Grammar.repeat u d v e) = absurd (m _ _ u)
 
 pub reads_empty : {n : ℕ} {tokens : Lexemes} {p : ℕ} → (kind_at tokens p ≡ Some Kind.Ident → ⊥) →
-    (kind_at tokens p ≡ Some Kind.If → ⊥) → (kind_at tokens p ≡ Some Kind.While → ⊥) → Reads (forms.statement n) tokens p Tree.Empty p
-reads_empty no_ident no_if no_while = record {
+    (kind_at tokens p ≡ Some Kind.If → ⊥) → (kind_at tokens p ≡ Some Kind.While → ⊥) → (kind_at tokens p ≡ Some Kind.Repeat → ⊥) →
+    Reads (forms.statement n) tokens p Tree.Empty p
+reads_empty no_ident no_if no_while no_repeat = record {
   order = omega arith;
   within = λ h. h;
   sound = λ other same. Grammar.empty;
   only = λ other same y rest d stops.
       empty_only (λ place b t. no_takes_same no_ident same t) (λ place b t. no_takes_same no_if same t)
-      (λ place b t. no_takes_same no_while same t) d;
+      (λ place b t. no_takes_same no_while same t) (λ place b t. no_takes_same no_repeat same t) d;
   kept = refl;
 }
 
@@ -366,6 +365,7 @@ if_only t (Grammar.call d e) s = absurd (no_name (λ e. cc) t d)
 if_only t (Grammar.if' {place = place} {branches = branches} {otherwise = otherwise} u d e v) s =
     ((place, (branches, (otherwise, v.0))), refl, (_, u, (_, d, (_, e, v.1))))
 if_only t (Grammar.while u d v e w) s = let k = (same_token t u).0 in absurd (cc)
+if_only t (Grammar.repeat u d v e) s = let k = (same_token t u).0 in absurd (cc)
 
 pub leads_if : {n : ℕ} {tokens : Lexemes} {p : ℕ} → kind_at tokens p ≡ Some Kind.If →
     Leads (forms.statement n) tokens p (both (opens n Kind.If) (behind_if (n + 1))) p (λ x. Tree.If x.0 x.1.0 x.1.1.0)
@@ -394,6 +394,7 @@ while_only t (Grammar.call d e) s = absurd (no_name (λ e. cc) t d)
 while_only t (Grammar.if' u d e v) s = let k = (same_token t u).0 in absurd (cc)
 while_only t (Grammar.while {place = place} {condition = condition} {body = body} u d v e w) s =
     ((place, (condition, (v.0, (body, w.0)))), refl, (_, u, (_, d, (_, v.1, (_, e, w.1)))))
+while_only t (Grammar.repeat u d v e) s = let k = (same_token t u).0 in absurd (cc)
 
 pub leads_while : {n : ℕ} {tokens : Lexemes} {p : ℕ} → kind_at tokens p ≡ Some Kind.While →
     Leads (forms.statement n) tokens p (both (opens n Kind.While) (behind_while (n + 1))) p (λ x. Tree.While x.0 x.1.0 x.1.1.1.0)
@@ -405,6 +406,38 @@ leads_while {n = n} here = record {
       (let m = while_only (takes_same other here same) d stops in (m.0, m.1, m.2, nothing_stops rest));
   breaches = λ x.
       ap (λ bs. opening n x.0 ++ (in_expr (n + 1) x.1.0 ++ bs)) (sym (append-nil (in_stmts (n + 1) x.1.1.1.0)));
+}
+
+-- RepeatStatement = "REPEAT" StatementSequence "UNTIL" expression
+
+-- the parts behind REPEAT
+abbrev pub behind_repeat : ℕ → Form (Stmts × (ℕ × Expr))
+behind_repeat n = both (forms.statements n) (both (token Kind.Until) (forms.expression n))
+
+repeat_only : {a b rest : Lexemes} {place : ℕ} {y : Stmt} → TakesAt Kind.Repeat place a b → Statement a y rest → Stops forms.statement_goes_on rest →
+    (x : ℕ × (Stmts × (ℕ × Expr))) × (y ≡ Tree.Repeat x.0 x.1.0 x.1.1.1)
+    × Both (One Kind.Repeat) (Both StatementSequence (Both (One Kind.Until) Expression)) a x rest
+repeat_only t Grammar.empty s = absurd (not_stopped refl t s)
+repeat_only t (Grammar.assignment d e u f) s = absurd (no_name (λ e. cc) t d)
+repeat_only t (Grammar.call d e) s = absurd (no_name (λ e. cc) t d)
+repeat_only t (Grammar.if' u d e v) s = let k = (same_token t u).0 in absurd (cc)
+repeat_only t (Grammar.while u d v e w) s = let k = (same_token t u).0 in absurd (cc)
+repeat_only t (Grammar.repeat {place = place} {body = body} {condition = condition} u d v e) s =
+    ((place, (body, (v.0, condition))), refl, (_, u, (_, d, (_, v.1, e))))
+
+-- what does not continue a statement does not continue the condition that ends it
+only_condition : (k : Kind) → forms.statement_goes_on k ≡ false → forms.expression_goes_on k ≡ false
+only_condition k h = only_expression k (only_name k h)
+
+pub leads_repeat : {n : ℕ} {tokens : Lexemes} {p : ℕ} → kind_at tokens p ≡ Some Kind.Repeat →
+    Leads (forms.statement n) tokens p (both (opens n Kind.Repeat) (behind_repeat (n + 1))) p (λ x. Tree.Repeat x.0 x.1.0 x.1.1.1)
+leads_repeat here = record {
+  order = omega arith;
+  within = λ h. h;
+  into = λ other same x rest d. Grammar.repeat d.1 d.2.1 (x.1.1.0, d.2.2.1) d.2.2.2;
+  onto = λ other same y rest d stops.
+      (let m = repeat_only (takes_same other here same) d stops in (m.0, m.1, m.2, weaker only_condition stops));
+  breaches = λ x. refl;
 }
 
 -- StatementSequence = statement {";" statement}

@@ -1,4 +1,4 @@
--- Tokens with their bytes: from the tokens of a text to what the grammar reads, and to the values of the tree.
+-- The bytes of tokens, and the values of the tree that they spell.
 use Rattle.std.proofs.Common.{◌≡◌, ℕ, suc, zero, ◌+◌, ◌*◌, ◌-◌, ◌<◌, ◌≤◌, Bool, true, false, List, [], ◌∷◌, Option, Some, None, length, get_or, refl, sym, ◌∙◌, ap, subst, arith, option_map, slice_get, take, drop, fold, ◌&&◌}
 use Rattle.std.specs.Option.{option_map_or}
 use Rattle.std.specs.List.{All, list_all}
@@ -12,42 +12,9 @@ use Rattle.std.proofs.lemmas.List.Sums.{fold-append}
 use Rattle.std.proofs.lemmas.Bool.Decides.{nat_tests}
 use Rattle.ob_scan.specs.Spelling.{number_value}
 use Rattle.ob_scan.specs.declared.token.Kind.{Kind}
-use Rattle.ob_scan.specs.declared.token.Token.{Token}
-use Rattle.ob_scan.specs.Tokens.{spelling}
-use Rattle.ob_scan.specs.Lexemes.{Lexeme, lexeme, place_of, lexemes}
-use Rattle.ob_parser.specs.Reading.{kind_of, kind_at, place_at}
-
-pub lexeme_at : (text : List ℕ) (tokens : List Token) (p : ℕ) →
-    slice_get (lexemes text tokens) p ≡ option_map (λ t. lexeme t.kind t.start (spelling text t)) (slice_get tokens p)
-lexeme_at text tokens p = slice_get-map (λ t. lexeme t.kind t.start (spelling text t)) tokens p
-
-pub lexeme_here : (text : List ℕ) (tokens : List Token) (p : ℕ) (t : Token) → slice_get tokens p ≡ Some t →
-    slice_get (lexemes text tokens) p ≡ Some (lexeme t.kind t.start (spelling text t))
-lexeme_here text tokens p t e = lexeme_at text tokens p ∙ ap (option_map (λ u. lexeme u.kind u.start (spelling text u))) e
-
-pub kind_here : (text : List ℕ) (tokens : List Token) (p : ℕ) (t : Token) → slice_get tokens p ≡ Some t →
-    kind_at (lexemes text tokens) p ≡ Some t.kind
-kind_here text tokens p t e = ap (option_map kind_of) (lexeme_here text tokens p t e)
-
-pub no_kind_here : (text : List ℕ) (tokens : List Token) (p : ℕ) → slice_get tokens p ≡ None →
-    kind_at (lexemes text tokens) p ≡ None
-no_kind_here text tokens p e =
-    ap (option_map kind_of) (lexeme_at text tokens p ∙ ap (option_map (λ u. lexeme u.kind u.start (spelling text u))) e)
-
-pub place_here : (text : List ℕ) (tokens : List Token) (p end : ℕ) (t : Token) → slice_get tokens p ≡ Some t →
-    place_at end (lexemes text tokens) p ≡ t.start
-place_here text tokens p end t e = ap (λ (u : Option Lexeme). option_map_or place_of u end) (lexeme_here text tokens p t e)
-
--- a fact on tokens of this kind, at the one that stands here
-pub of_kind : (text : List ℕ) (tokens : List Token) (p : ℕ) (t : Token) (kind : Kind) → slice_get tokens p ≡ Some t →
-    kind_at (lexemes text tokens) p ≡ Some kind → t.kind ≡ kind
-of_kind text tokens p t kind e h = let k = kind_here text tokens p t e in cc
-
--- its bytes are those of the lexeme
-pub of_bytes : (text : List ℕ) (tokens : List Token) (p : ℕ) (t : Token) → slice_get tokens p ≡ Some t →
-    (kind : Kind) (place : ℕ) (bytes : List ℕ) → slice_get (lexemes text tokens) p ≡ Some (lexeme kind place bytes) →
-    spelling text t ≡ bytes
-of_bytes text tokens p t e kind place bytes h = let k = lexeme_here text tokens p t e in cc
+use Rattle.ob_scan.specs.Lexemes.{lexeme, IsSpelled, spelled}
+use Rattle.ob_scan.specs.Limits.{largest_number}
+use Rattle.ob_scan.proofs.TokenFacts.{ident_bytes, number_bytes}
 
 and_both : (a b : Bool) → (a && b) ≡ true → (a ≡ true) × (b ≡ true)
 and_both true b h = (refl, h)
@@ -96,13 +63,16 @@ value_below ds i =
     sym (fold-append more_value 0 (take i ds) (drop i ds)) ∙ ap number_value (take-append-drop i ds) in
     omega arith
 
--- a fact on all tokens, at one that was read from them
+-- what is known of the bytes of a token
 
-pub all_at : (P : Token → Type 0) (tokens items : List Token) (p : ℕ) (d : Token) → items ≡ tokens → All P tokens → p < length tokens →
-    P (get_or items p d)
-all_at P tokens items p d e h below = let Q : List Token → Type 0 = λ l. P (get_or l p d) in subst Q (sym e) (h p d below)
+pub ident_spelled : {kind : Kind} {place : ℕ} {bytes : List ℕ} → IsSpelled (lexeme kind place bytes) → kind ≡ Kind.Ident →
+    list_all is_ascii_alphanumeric bytes ≡ true
+ident_spelled (spelled s name number) e = (ident_bytes s e).0
 
-pub place_there : (text : List ℕ) (tokens items : List Token) (p : ℕ) (d : Token) → items ≡ tokens → p < length tokens →
-    (get_or items p d).start ≡ place_at 0 (lexemes text tokens) p
-place_there text tokens items p d e below =
-    ap (λ l. (get_or l p d).start) e ∙ sym (place_here text tokens p 0 (get_or tokens p d) (slice_get-get_or tokens p d below))
+pub number_spelled : {kind : Kind} {place : ℕ} {bytes : List ℕ} → IsSpelled (lexeme kind place bytes) → kind ≡ Kind.Number →
+    list_all is_ascii_digit bytes ≡ true
+number_spelled (spelled s name number) e = (number_bytes s e).0
+
+pub number_limited : {kind : Kind} {place : ℕ} {bytes : List ℕ} → IsSpelled (lexeme kind place bytes) → kind ≡ Kind.Number →
+    number_value bytes ≤ largest_number
+number_limited (spelled s name number) e = number e

@@ -5,9 +5,9 @@ use Rattle.std.proofs.lemmas.Option.{slice_get_within}
 use Rattle.std.proofs.lemmas.List.{append-nil, take_all}
 use Rattle.ob_parser.specs.declared.parser.ParseFault.{ParseFault}
 use Rattle.ob_parser.specs.declared.parser.ParseFault.TheVariants.{Unexpected, TooDeep, NameDiffers, NoMemory}
-use Rattle.ob_scan.specs.declared.token.Token.{Token}
-use Rattle.ob_scan.specs.Tokens.{TokenizedText, HasTokens, spelling}
-use Rattle.ob_scan.specs.Lexemes.{Lexeme, lexeme, place_of}
+use Rattle.ob_scan.specs.declared.token.Lent.{Lent}
+use Rattle.ob_scan.specs.Tokens.{TokenizedText, HasTokens}
+use Rattle.ob_scan.specs.Lexemes.{Lexeme, place_of}
 use Rattle.ob_grammar.specs.Tree.{Module}
 use Rattle.ob_grammar.specs.Grammar.{Lexemes, Derives, BeginsModule}
 use Rattle.ob_grammar.specs.Conditions.{Breach, name_differs, too_deep, breaches, NameDiffersAt, TooDeepAt}
@@ -16,9 +16,10 @@ use Rattle.ob_scan.proofs.TokenFacts.{lexemes_spelled}
 use Rattle.ob_parser.specs.ParseFaults.{lexemes_of, BeginsGoodModule, HasPlace, BreaksCondition, IsParseFault}
 use Rattle.ob_parser.specs.Reading.{Same, Explains, breaks, Reads, Refuses, GoesOn, GoesOnWell, place_at}
 use Rattle.ob_parser.specs.Forms as forms
-use Rattle.ob_parser.specs.Answers.{State, tokens_of, Went, Fails}
+use Rattle.ob_parser_source.specs.Sources.{State, Stands, lexeme_of}
+use Rattle.ob_parser.specs.Answers.{place_of_fault, Went, Fails, ReadsModule, FailsModule}
 use Rattle.ob_parser.proofs.Steps.{same_before, drop_before, itself, nothing_stops}
-use Rattle.ob_parser.proofs.Texts.{lexeme_at, lexeme_here}
+use Rattle.ob_parser.proofs.States.{fault_there}
 
 -- the faults
 
@@ -80,16 +81,32 @@ breaks_fault breach tokens place i h at r = record {
   broken = λ more m d. at m (r.never (take (suc i) tokens ++ more) (same_front tokens i more (r.there tt)) m [] d (nothing_stops []));
 }
 
-pub faults : (source : TokenizedText) (e : ParseFault) → Fails forms.module_text (record { source = source; position = 0 }) e → IsParseFault source e
-faults source (Unexpected place) (i, h, r) =
+faults : (s t : State) (source : TokenizedText) (e : ParseFault) → Stands s source 0 → Fails forms.module_text s e t → IsParseFault source e
+faults s t source (Unexpected place) w f =
     let tokens = lexemes_of source in
-    unexpected_fault source place i h (begins (take i tokens) (r.alive (omega arith)))
+    let m = f.refuses source 0 w in
+    let i = m.0 in
+    let r = m.2 in
+    unexpected_fault source place i m.1 (begins (take i tokens) (r.alive (omega arith)))
     (λ below b. r.never (take (suc i) tokens ++ b.0) (same_front tokens i b.0 below) b.1 [] b.2 (nothing_stops []))
     (λ past m d. r.never tokens (itself _ tokens) m [] d (nothing_stops []))
-faults source (TooDeep place) (i, h, r) = breaks_fault {IsBroken = TooDeepAt} (too_deep place) (lexemes_of source) place i h (λ m b. b) r
-faults source (NameDiffers place) (i, h, r) =
-    breaks_fault {IsBroken = NameDiffersAt} (name_differs place) (lexemes_of source) place i h (λ m b. b) r
-faults source NoMemory h = tt
+faults s t source (TooDeep place) w f =
+    let m = f.refuses source 0 w in
+    breaks_fault {IsBroken = TooDeepAt} (too_deep place) (lexemes_of source) place m.0 m.1 (λ m b. b) m.2
+faults s t source (NameDiffers place) w f =
+    let m = f.refuses source 0 w in
+    breaks_fault {IsBroken = NameDiffersAt} (name_differs place) (lexemes_of source) place m.0 m.1 (λ m b. b) m.2
+faults s t source NoMemory w f = tt
+
+still : (s t : State) (e : ParseFault) → Fails forms.module_text s e t → (e ≡ NoMemory → ⊥) → t.text ≡ s.text
+still s t (Unexpected place) f numbered = f.kept
+still s t (TooDeep place) f numbered = f.kept
+still s t (NameDiffers place) f numbered = f.kept
+still s t NoMemory f numbered = absurd (numbered refl)
+
+-- a fault of the module is one of the whole text
+pub whole_fails : (s t : State) (e : ParseFault) → Fails forms.module_text s e t → FailsModule s e t
+whole_fails s t e f = record { kept = still s t e f; fails = λ source w. faults s t source e w f }
 
 -- the module
 
@@ -107,7 +124,7 @@ derived source m q h n =
     subst P (drop_past tokens q (past_end tokens q n)) (h.sound tokens (itself _ tokens))
 
 -- no other module is the whole text, since nothing follows it
-pub alone : (source : TokenizedText) (m : Module) (q : ℕ) → Reads forms.module_text (lexemes_of source) 0 m q →
+alone : (source : TokenizedText) (m : Module) (q : ℕ) → Reads forms.module_text (lexemes_of source) 0 m q →
     (other : Module) → Derives (lexemes_of source) other → other ≡ m
 alone source m q h other d = let tokens = lexemes_of source in (h.only tokens (itself _ tokens) other [] d (nothing_stops [])).0
 
@@ -142,51 +159,35 @@ too_long source m q place t h here e =
 
 -- the text behind the module
 
-token_of : (o : Option Token) → true ≡ is_some o → (t : Token) × (o ≡ Some t)
+pub token_of : (o : Option Lent) → true ≡ is_some o → (t : Lexeme) × (option_map lexeme_of o ≡ Some t)
 token_of None e = absurd (cc)
-token_of (Some t) e = (t, refl)
+token_of (Some t) e = (lexeme_of t, refl)
 
-none_of : (o : Option Token) → false ≡ is_some o → o ≡ None
+pub none_of : (o : Option Lent) → false ≡ is_some o → option_map lexeme_of o ≡ None
 none_of None e = refl
 none_of (Some t) e = absurd (cc)
 
 -- a token stands behind the module
-pub goes_past : (source : TokenizedText) (m : Module) (s : State) (o : Option Token) (r : ParseFault) →
-    Went forms.module_text (record { source = source; position = 0 }) m s →
-    o ≡ slice_get s.source.tokens s.position → true ≡ is_some o →
-    r ≡ Unexpected (place_at (length s.source.text) (tokens_of s) s.position) → IsParseFault source r
-goes_past source m s o r went is more fault =
-    let t = token_of o more in
-    let P : TokenizedText → Type 0 = λ other.
-    o ≡ slice_get other.tokens s.position → r ≡ Unexpected (place_at (length other.text) (lexemes_of other) s.position) → IsParseFault source r in
-    let Q : ParseFault → Type 0 = λ e. IsParseFault source e in
-    subst P (sym went.kept)
-    (λ is' fault'.
-    subst Q (sym fault')
-    (too_long source m s.position (place_at (length source.text) (lexemes_of source) s.position)
-    (lexeme t.0.kind t.0.start (spelling source.text t.0)) went.reads
-    (lexeme_here source.text source.tokens s.position t.0 (sym is' ∙ t.1)) refl)) is fault
+pub goes_past : {s t : State} (m : Module) (here : Lexeme) (r : ParseFault) → Went forms.module_text s m t → t.here ≡ Some here →
+    r ≡ Unexpected (place_of_fault t) → FailsModule s r t
+goes_past m here r went more fault = record {
+  kept = λ numbered. went.kept;
+  fails = λ source w.
+      (let read = went.reads source 0 w in
+      let P : ParseFault → Type 0 = λ e. IsParseFault source e in
+      subst P (sym (fault ∙ ap Unexpected (fault_there read.1)))
+      (too_long source m read.0 _ here read.2 (read.1.next ∙ more) refl));
+}
 
 -- the module is the whole text
-pub ends : (source : TokenizedText) (m : Module) (s : State) (o : Option Token) →
-    Went forms.module_text (record { source = source; position = 0 }) m s →
-    o ≡ slice_get s.source.tokens s.position → false ≡ is_some o → Derives (lexemes_of source) m
-ends source m s o went is none =
-    let P : TokenizedText → Type 0 = λ other. o ≡ slice_get other.tokens s.position → Derives (lexemes_of source) m in
-    subst P (sym went.kept)
-    (λ is'.
-    derived source m s.position went.reads
-    (lexeme_at source.text source.tokens s.position
-    ∙ ap (option_map (λ t. lexeme t.kind t.start (spelling source.text t))) (sym is' ∙ none_of o none))) is
+pub whole_reads : {s t : State} (m : Module) → Went forms.module_text s m t → t.here ≡ None → ReadsModule s m t
+whole_reads m went none = record {
+  kept = went.kept;
+  derives = λ source w. (let read = went.reads source 0 w in derived source m read.0 read.2 (read.1.next ∙ none));
+  alone = λ source w. (let read = went.reads source 0 w in alone source m read.0 read.2);
+  keeps = λ source w. (went.reads source 0 w).2.kept;
+}
 
 -- tokens with spellings derive the module
-pub has_text : (source : TokenizedText) (m : Module) (s : State) (o : Option Token) →
-    Went forms.module_text (record { source = source; position = 0 }) m s → HasTokens s.source.text s.source.tokens →
-    o ≡ slice_get s.source.tokens s.position → false ≡ is_some o → HasText m
-has_text source m s o went scanned is none =
-    let P : TokenizedText → Type 0 = λ t. HasTokens t.text t.tokens in
-    record {
-      tokens = lexemes_of source;
-      spelled = lexemes_spelled (subst P went.kept scanned);
-      derives = ends source m s o went is none;
-    }
+pub has_text : (source : TokenizedText) (m : Module) → HasTokens source.text source.tokens → Derives (lexemes_of source) m → HasText m
+has_text source m scanned derives = record { tokens = lexemes_of source; spelled = lexemes_spelled scanned; derives = derives }

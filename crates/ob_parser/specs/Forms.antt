@@ -96,6 +96,7 @@ abbrev pub statement_goes_on : Kind → Bool
 statement_goes_on Kind.Ident = true
 statement_goes_on Kind.If = true
 statement_goes_on Kind.While = true
+statement_goes_on Kind.Repeat = true
 statement_goes_on k = name_goes_on k
 
 abbrev pub statements_go_on : Kind → Bool

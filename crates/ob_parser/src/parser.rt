@@ -1,30 +1,32 @@
 //! The parser: from the tokens of a text to its tree. One method for each phrase of the grammar, with one token of
 //! look-ahead; `depth` is how many constructs stand around the phrase.
 
-ghost use Rattle.std.specs.Prelude.{◌≡◌, ◌+◌, ◌<◌, ◌≤◌, ◌↔◌, Bool, IsTrue, length, slice_get, IfOk, IfErr, OnOk};
+ghost use Rattle.std.specs.Prelude.{◌≡◌, ◌<◌, ◌≤◌, ◌↔◌, Bool, IsTrue, IsSome, IfOk, IfErr, OnOk};
 ghost use Rattle.std.specs.List.{list_all};
 ghost use Rattle.std.specs.Char.{is_ascii_alphanumeric, is_ascii_digit};
 ghost use Rattle.ob_scan.specs.declared.token.Kind.{Kind};
+ghost use Rattle.ob_scan.specs.Lexemes.{IsSpelled};
 ghost use Rattle.ob_scan.specs.Spelling.{number_value};
-ghost use Rattle.ob_scan.specs.Tokens.{spelling, HasTokens};
 ghost use Rattle.ob_grammar.specs.Tree.{Module as ModuleTree};
 ghost use Rattle.ob_grammar.specs.Grammar.{Derives};
 ghost use Rattle.ob_grammar.specs.Conditions.{KeepsConditions};
 ghost use Rattle.ob_parser.specs.ParseFaults.{lexemes_of, IsParseFault};
 ghost use Rattle.ob_grammar.specs.View.{module_of};
-ghost use Rattle.ob_parser.specs.Reading.{place_at};
+ghost use Rattle.ob_parser_source.specs.Sources.{Steps, lexeme_of};
 ghost use Rattle.ob_parser.specs.Forms as forms;
-ghost use Rattle.ob_parser.specs.Answers.{state, tokens_of, IsAt, place_of_fault, IsSpelledAt, Went, Answers};
+ghost use Rattle.ob_parser.specs.Answers.{IsAt, place_here, place_of_fault, IsSpelledAt, Went, Answers};
 
 mod declarations;
 mod expressions;
 mod names;
+pub mod source;
 mod statements;
 mod types;
 
 use ob_grammar::module::Module;
+use ob_parser_source::{ListedTokens, TokenSource};
 use ob_scan::token::LARGEST_NUMBER;
-use ob_scan::{Kind, Token, Tokens};
+use ob_scan::{Kind, Lent, Tokens};
 use std::alloc::{AllocError, AllocFailed, Global};
 use thiserror::Error;
 
@@ -68,95 +70,82 @@ impl<T: Drop> From<AllocFailed<T>> for ParseFault {
     }
 }
 
-/// A text with its tokens, and how many of them are read.
+/// A source of tokens, from the one that stands next on.
 #[derive(Drop)]
-struct Parser<'a> {
+struct Parser<S> {
     alloc: Global,
-    tokens: &'a Tokens<'a>,
-    position: usize,
+    source: S,
 }
 
-impl<'a> Parser<'a> {
-    /// The token that stands here.
-    fn current(&self) -> Option<Token>
-        ensures token { result ≡ slice_get self.now.tokens.now.tokens self.now.position }
-        ensures scanned { HasTokens self.now.tokens.now.text self.now.tokens.now.tokens }
-    {
-        self.tokens.as_slice().get(self.position).copied()
-    }
-
+impl<S: TokenSource> Parser<S> {
     /// Whether a token of this kind stands here.
     fn at(&self, kind: Kind) -> bool
-        ensures kind { IsTrue result ↔ (IsAt (state self.now) kind) }
-        ensures within { IsTrue result → self.now.position < length self.now.tokens.now.tokens }
+        ensures kind { IsTrue result ↔ (IsAt (S.state self.now.source) kind) }
+        ensures within { IsTrue result → IsSome (S.state self.now.source).here }
     {
-        match self.current() {
+        match self.source.here() {
             Some(token) => token.kind == kind,
             None => false,
         }
     }
 
     /// The token that stands here, where one does.
-    fn here(&self) -> Token
-        requires { self.now.position < length self.now.tokens.now.tokens }
-        ensures there { slice_get self.now.tokens.now.tokens self.now.position ≡ Some result }
-        ensures ordered { result.start ≤ result.end }
-        ensures within { result.end ≤ length self.now.tokens.now.text }
-        ensures ident { result.kind ≡ Kind.Ident → IsTrue (list_all is_ascii_alphanumeric (spelling self.now.tokens.now.text result)) }
-        ensures digits { result.kind ≡ Kind.Number → IsTrue (list_all is_ascii_digit (spelling self.now.tokens.now.text result)) }
-        ensures limit { result.kind ≡ Kind.Number → number_value (spelling self.now.tokens.now.text result) ≤ LARGEST_NUMBER }
+    fn here(&self) -> Lent<'_>
+        requires { IsSome (S.state self.now.source).here }
+        ensures there { (S.state self.now.source).here ≡ Some (lexeme_of result) }
+        ensures spelled { IsSpelled (lexeme_of result) }
     {
-        self.tokens.as_slice()[self.position]
+        match self.source.here() {
+            Some(token) => token,
+            None => unreachable!(),
+        }
     }
 
     /// The bytes of the token that stands here.
-    fn bytes(&self) -> &'a [u8]
-        requires { self.now.position < length self.now.tokens.now.tokens }
-        ensures spelling { IsSpelledAt (state self.now) result.now }
-        ensures ident { IsAt (state self.now) Kind.Ident → IsTrue (list_all is_ascii_alphanumeric result.now) }
-        ensures digits { IsAt (state self.now) Kind.Number → IsTrue (list_all is_ascii_digit result.now) }
-        ensures limit { IsAt (state self.now) Kind.Number → number_value result.now ≤ LARGEST_NUMBER }
+    fn bytes(&self) -> &[u8]
+        requires { IsSome (S.state self.now.source).here }
+        ensures spelling { IsSpelledAt (S.state self.now.source) result.now }
+        ensures ident { IsAt (S.state self.now.source) Kind.Ident → IsTrue (list_all is_ascii_alphanumeric result.now) }
+        ensures digits { IsAt (S.state self.now.source) Kind.Number → IsTrue (list_all is_ascii_digit result.now) }
+        ensures limit { IsAt (S.state self.now.source) Kind.Number → number_value result.now ≤ LARGEST_NUMBER }
     {
-        let token = self.here();
-        &self.tokens.text()[token.start..token.end]
+        self.here().text
     }
 
     /// That the token that stands here is at fault, or the end.
     fn unexpected(&self) -> ParseFault
-        ensures { result ≡ ParseFault.Unexpected (place_of_fault (state self.now)) }
+        ensures { result ≡ ParseFault.Unexpected (place_of_fault (S.state self.now.source)) }
     {
-        match self.current() {
+        match self.source.here() {
             Some(token) => ParseFault::Unexpected(token.start),
-            None => ParseFault::Unexpected(self.tokens.text().len()),
+            None => ParseFault::Unexpected(self.source.end()),
         }
     }
 
     /// That the token that stands here opens a construct too deep.
     fn too_deep(&self) -> ParseFault
-        requires { self.now.position < length self.now.tokens.now.tokens }
-        ensures { result ≡ ParseFault.TooDeep (place_at 0 (tokens_of (state self.now)) self.now.position) }
+        requires { IsSome (S.state self.now.source).here }
+        ensures { result ≡ ParseFault.TooDeep (place_here (S.state self.now.source)) }
     {
         ParseFault::TooDeep(self.here().start)
     }
 
     /// Reads the token that stands here, and gives its place.
     fn take(&mut self) -> usize
-        requires { self.old.position < length self.old.tokens.now.tokens }
-        ensures within { self.old.position < length self.old.tokens.now.tokens }
-        ensures moved { self.new.position ≡ self.old.position + 1 }
-        ensures place { result ≡ place_at 0 (tokens_of (state self.old)) self.old.position }
-        ensures kept { self.new.tokens.now ≡ self.old.tokens.now }
-        ensures took { (k : Kind) → IsAt (state self.old) k → Went (forms.token k) (state self.old) result (state self.new) }
+        requires { IsSome (S.state self.old.source).here }
+        ensures steps { Steps (S.state self.old.source) (S.state self.new.source) }
+        ensures place { result ≡ place_here (S.state self.old.source) }
+        ensures took { (k : Kind) → IsAt (S.state self.old.source) k → Went (forms.token k) (S.state self.old.source) result (S.state self.new.source) }
     {
-        let place = self.tokens.as_slice()[self.position].start;
-        self.position += 1;
+        let place = self.here().start;
+        self.source.step();
         place
     }
 
     /// Reads a token of this kind, and gives its place.
     fn expect(&mut self, kind: Kind) -> Result<usize, ParseFault>
-        ensures answers { Answers (λ place. place) (forms.token kind) (state self.old) result (state self.new) }
-        ensures moved { OnOk result (self.old.position < self.new.position) }
+        ensures answers { Answers (λ place. place) (forms.token kind) (S.state self.old.source) result (S.state self.new.source) }
+        ensures moved { OnOk result ((S.state self.new.source).left < (S.state self.old.source).left) }
     {
         if self.at(kind) {
             Ok(self.take())
@@ -167,7 +156,7 @@ impl<'a> Parser<'a> {
 
     /// ["word"], as whether it stands here.
     fn word(&mut self, kind: Kind) -> bool
-        ensures { (continues : Kind → Bool) → IsTrue (continues kind) → Went (forms.word continues kind) (state self.old) result (state self.new) }
+        ensures { (continues : Kind → Bool) → IsTrue (continues kind) → Went (forms.word continues kind) (S.state self.old.source) result (S.state self.new.source) }
     {
         let is_here = self.at(kind);
         if is_here {
@@ -189,12 +178,8 @@ pub fn parse(alloc: Global, tokens: &Tokens<'_>) -> Result<Module, ParseFault>
 {
     let mut parser = Parser {
         alloc,
-        tokens,
-        position: 0,
+        source: ListedTokens::new(tokens),
     };
-    let tree = parser.module_text()?;
-    if parser.current().is_some() {
-        return Err(parser.unexpected());
-    }
+    let tree = parser.whole_module()?;
     Ok(Module::new(tree))
 }

@@ -6,8 +6,9 @@ use crate::svg::{
     push_words,
 };
 use ob_check::checked::Checked;
-use ob_check::program::{Export, Scalar};
-use ob_mean::call::{Call, Reply};
+use ob_check::program::Export;
+use ob_interface::call::{Call, Reply};
+use ob_interface::scalar::Scalar;
 use ob_record::Record;
 use ob_text::numbers::push_number;
 use ob_text::values::push_value;

@@ -1,7 +1,7 @@
 -- Places and stores by position. A store is the list of activations; the module is activation 0, and the last one is running.
-use Rattle.std.specs.Prelude.{ℕ, zero, suc, pred, List, [], ◌∷◌, ◌++◌, length, slice_get, slice_set, Option, Some, None}
-use Rattle.ob_typing.specs.Program.{Owner, OfModule, Own, Slot}
-use Rattle.ob_positions.specs.Value.{Value, zero_value, selected, replaced}
+use Rattle.std.specs.Prelude.{ℕ, zero, suc, pred, List, [], ◌∷◌, ◌++◌, length, map, slice_get, slice_set, Option, Some, None}
+use Rattle.ob_typing.specs.Program.{Owner, OfModule, Own, Slot, Variable, Procedure}
+use Rattle.ob_positions.specs.Value.{Value, zero_value, initial, selected, replaced}
 
 -- a variable or a part of it: whose it is, its position there, and the positions within it
 pub record Place : Type 0 where
@@ -82,3 +82,11 @@ with_held (h ∷ held) (suc position) path w = h ∷ with_held held position pat
 abbrev pub stored : Store → Place → Value → Store
 stored store place w =
     slice_set store place.activation (with_held (activation_at store place.activation) place.position place.path w)
+
+-- variables at their beginning
+abbrev pub begun : List Variable → Activation
+begun = map (λ v. Holds (initial v.type))
+
+-- the activation of a procedure: what was handed over, and then its variables
+abbrev pub activation_of : Procedure → List Held → Activation
+activation_of p handed = handed ++ begun p.variables

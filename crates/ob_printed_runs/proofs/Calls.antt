@@ -18,7 +18,8 @@ use Rattle.ob_engine.specs.StepLaw.{trap_small}
 use Rattle.ob_engine.specs.WordLaw.{fits_are}
 use Rattle.ob_layout.specs.Encoding.{IsStateOf, encoded}
 use Rattle.ob_layout.specs.Temporaries.{stack_words}
-use Rattle.ob_mean.specs.Object.{Answers, Ends, ObjectCall, Reply, State, Trapped, effect, bound, effect_of, effect_of_procedure, results_begun}
+use Rattle.ob_interface.specs.Call.{Answers, ObjectCall, Reply, Trapped}
+use Rattle.ob_mean.specs.Object.{Ends, State, effect, bound, effect_of, effect_of_procedure, results_begun}
 use Rattle.ob_mean.specs.Statements as Statements
 use Rattle.ob_mean.specs.Statements.{meaning_of_all}
 use Rattle.ob_read_back.specs.Writable.{IsReplyOf}

@@ -6,7 +6,7 @@ use Rattle.ob_code.specs.Body.{Run}
 use Rattle.ob_engine.specs.CodeLaw.{code_lawful}
 use Rattle.ob_engine.specs.CodeMeaning.{EngineParts, code_meaning}
 use Rattle.ob_engine.specs.Compiled.{HasReserve, IsCompiled, IsEffect, IsFitting, IsLawfulBlock}
-use Rattle.ob_mean.specs.Object.{ObjectCall}
+use Rattle.ob_interface.specs.Call.{ObjectCall}
 use Rattle.ob_check.specs.Program.{Program}
 use Rattle.ob_printed_runs.proofs.ExportNames.{named_there}
 use Rattle.ob_printed_runs.proofs.Values.{values_fit}

@@ -8,12 +8,13 @@ use Rattle.ob_check.specs.Program.{Program}
 use Rattle.ob_engine.specs.CodeMeaning.{EngineParts}
 use Rattle.ob_engine.specs.Compiled.{IsCompiled, IsFitting}
 use Rattle.ob_layout.specs.Encoding.{IsStateOf}
-use Rattle.ob_mean.specs.Object.{ObjectCall, Reply, State}
+use Rattle.ob_interface.specs.Call.{ObjectCall, Reply}
+use Rattle.ob_mean.specs.Object.{State}
 use Rattle.ob_read_back.specs.Writable.{IsReplyOf}
 use Rattle.wf_history.specs.declared.event.CallId.{CallId}
 use Rattle.wf_history.specs.History.{Event, End}
 use Rattle.wf_history.specs.Legal.{HasBegun, OneAtATime, RepliesAgree, more, none}
-use Rattle.wf_history.specs.OfModule.{CallEnds}
+use Rattle.ob_order.specs.OfModule.{CallEnds}
 use Rattle.ob_printed_runs.proofs.Calls.{answers, leaves}
 
 module _ (program : Program) (parts : EngineParts) (compiled : IsCompiled program parts) (history : List (Event ObjectCall Reply))

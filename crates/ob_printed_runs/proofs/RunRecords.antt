@@ -10,7 +10,7 @@ use Rattle.ob_code.specs.Body.{Run}
 use Rattle.ob_engine.specs.CodeMeaning.{code_meaning}
 use Rattle.ob_engine.specs.Compiled.{HasReserve, IsFitting, IsLawfulBlock}
 use Rattle.ob_layout.specs.Encoding.{encoded}
-use Rattle.ob_mean.specs.Object.{ObjectCall, Reply}
+use Rattle.ob_interface.specs.Call.{ObjectCall, Reply}
 use Rattle.ob_object.specs.Compilation.{IsCompilation, ObjectParts}
 use Rattle.ob_printed_runs.proofs.ExportNames.{exports_apart, own_names, typed_apart}
 use Rattle.ob_printed_runs.proofs.Names.{module_words}
@@ -30,7 +30,7 @@ use Rattle.wf_history.proofs.Positions.{place_left, place_of}
 use Rattle.wf_history.specs.declared.event.CallId.{CallId}
 use Rattle.wf_history.specs.History.{Event, Begin, Applied, End, IsHistory, own_call, own_calls}
 use Rattle.wf_history.specs.Legal.{HasBegun}
-use Rattle.wf_history.specs.OfModule.{IsLegalOrder}
+use Rattle.ob_order.specs.OfModule.{IsLegalOrder}
 use Rattle.wf_standing.proofs.Unique.{call_is}
 use Rattle.wf_table.specs.Below.{EventBelow, IdBelow}
 use Rattle.wf_table.specs.declared.schedule.Turns.{Turns}

@@ -6,8 +6,8 @@ use Rattle.std.proofs.lemmas.List.Elements.{All-cons, All-nil}
 use Rattle.ob_check.specs.declared.program.DataType.{DataType}
 use Rattle.ob_check.specs.declared.program.DataType.TheVariants.{Integer}
 use Rattle.ob_check.specs.declared.program.Formal.{Formal}
-use Rattle.ob_check.specs.declared.program.Scalar.{Scalar}
-use Rattle.ob_check.specs.declared.program.Scalar.TheVariants as Scalars
+use Rattle.ob_interface.specs.declared.scalar.Scalar.{Scalar}
+use Rattle.ob_interface.specs.declared.scalar.Scalar.TheVariants as Scalars
 use Rattle.ob_check.specs.Program.{Name, Parameter, Variable, formal_of}
 use Rattle.ob_layout.specs.Encoding.{HoldsValueOf, IsInteger, IsScalarOf, IsStateOf}
 use Rattle.ob_mean.specs.Object.{State}

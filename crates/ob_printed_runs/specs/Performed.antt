@@ -5,7 +5,7 @@ use Rattle.ob_object.specs.Performance.{IsPerformance}
 use Rattle.ob_object.specs.Printed.{IsRecordPrinted}
 use Rattle.ob_read_back.specs.Writable.{IsWritable}
 use Rattle.ob_record.specs.Record.{Record}
-use Rattle.ob_serve.specs.ServedTexts.{IsServedPrinted}
+use Rattle.ob_serve_texts.specs.ServedTexts.{IsServedPrinted}
 use Rattle.ob_verify.specs.Verified.{IsVerified}
 
 -- the record of a run, with fewer than 2^64 events, is writable for the exports of the run's module

@@ -5,9 +5,9 @@ use Rattle.std.proofs.lemmas.List.Elements.{All-head, All-tail}
 use Rattle.std.proofs.lemmas.Option.{same_Some}
 use Rattle.ob_check.specs.declared.program.DataType.{DataType}
 use Rattle.ob_check.specs.declared.program.Formal.{Formal}
-use Rattle.ob_check.specs.declared.program.Scalar.{Scalar}
+use Rattle.ob_interface.specs.declared.scalar.Scalar.{Scalar}
 use Rattle.ob_check.specs.Exports.{Signature}
-use Rattle.ob_mean.specs.Object.{ObjectCall, Reply, Answers, Trapped}
+use Rattle.ob_interface.specs.Call.{ObjectCall, Reply, Answers, Trapped}
 use Rattle.ob_mean.specs.Store.{Binding, value_held}
 use Rattle.ob_record.specs.Record.{Record}
 use Rattle.ob_record.specs.RecordText.{event_text, id_text, name_of, order_text, record_text, schedule_text, value_text, variable_text}

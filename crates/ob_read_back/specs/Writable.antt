@@ -3,11 +3,12 @@ use Rattle.std.specs.Prelude.{◌≡◌, ℕ, ◌-◌, ◌==◌, ◌<◌, ◌≤
 use Rattle.ob_check.specs.declared.program.DataType.TheVariants.{Integer}
 use Rattle.ob_check.specs.declared.program.DataType.{DataType}
 use Rattle.ob_check.specs.declared.program.Formal.{Formal}
-use Rattle.ob_check.specs.declared.program.Scalar.{Scalar}
-use Rattle.ob_check.specs.declared.program.Scalar.TheVariants as Scalars
+use Rattle.ob_interface.specs.declared.scalar.Scalar.{Scalar}
+use Rattle.ob_interface.specs.declared.scalar.Scalar.TheVariants as Scalars
 use Rattle.ob_check.specs.Exports.{Signature, signatures}
 use Rattle.ob_check.specs.Program.{Program}
-use Rattle.ob_mean.specs.Object.{IsOpening, ObjectCall, Reply, Answers, State, Trapped}
+use Rattle.ob_interface.specs.Call.{ObjectCall, Reply, Answers, Trapped}
+use Rattle.ob_mean.specs.Object.{IsOpening, State}
 use Rattle.ob_mean.specs.Store.{Binding, value_held}
 use Rattle.ob_mean.specs.Value.{Value, Single}
 use Rattle.ob_opened.specs.ModuleText.{IsModule}
@@ -22,7 +23,7 @@ use Rattle.ob_verify.specs.RunRecords.{without_applied}
 use Rattle.ob_verify.specs.Verified.{IsVerified}
 use Rattle.wf_history.specs.declared.event.CallId.{CallId}
 use Rattle.wf_history.specs.History.{Event, Begin, Applied, End, IsHistory, own_calls}
-use Rattle.wf_history.specs.OfModule.{IsLegalOrder}
+use Rattle.ob_order.specs.OfModule.{IsLegalOrder}
 use Rattle.wf_table.specs.declared.schedule.Turns.{Turns}
 
 -- a word: not empty, with no blank and no line feed in it

@@ -1,7 +1,8 @@
 -- What a run showed, without pointers; and what of it a module's exports have to fit.
 use Rattle.std.specs.Prelude.{ℕ, ◌<◌, List, All, length}
 use Rattle.ob_check.specs.Exports.{Signature}
-use Rattle.ob_mean.specs.Object.{ObjectCall, Reply, State}
+use Rattle.ob_interface.specs.Call.{ObjectCall, Reply}
+use Rattle.ob_mean.specs.Object.{State}
 use Rattle.ob_mean.specs.View.{state_of}
 use Rattle.ob_record.specs.declared.record.Record as Rust
 use Rattle.wf_history.specs.declared.event.CallId.{CallId}

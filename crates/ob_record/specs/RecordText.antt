@@ -1,9 +1,9 @@
 -- The text of a record: its lines, each with a line feed behind it.
 use Rattle.std.specs.Prelude.{ℕ, List, ◌++◌, codes, decimal, slice_get, Option, Some, None}
 use Rattle.std.specs.List.{flat_map}
-use Rattle.ob_check.specs.declared.program.Scalar.{Scalar}
+use Rattle.ob_interface.specs.declared.scalar.Scalar.{Scalar}
 use Rattle.ob_check.specs.Exports.{Signature}
-use Rattle.ob_mean.specs.Object.{ObjectCall, Reply}
+use Rattle.ob_interface.specs.Call.{ObjectCall, Reply}
 use Rattle.ob_mean.specs.Store.{Binding, value_held}
 use Rattle.ob_mean.specs.Value.{Value, Single}
 use Rattle.ob_record.specs.Record.{Record}

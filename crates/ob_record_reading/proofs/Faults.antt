@@ -1,7 +1,7 @@
 -- Faults of lines, from where they are found to where they stand in a text.
 use Rattle.std.proofs.Common.{◌≡◌, ◌∙◌, ℕ, ◌+◌, ◌<◌, zero, suc, List, [], ◌∷◌, ◌++◌, All, Result, Ok, Err, IfOk, IfErr, length, take, get_or, drop, codes, refl, sym, ap, subst, arith, append_assoc, append-nil, length-append}
 use Rattle.ob_check.specs.Exports.{Signature}
-use Rattle.ob_mean.specs.Object.{ObjectCall, Reply}
+use Rattle.ob_interface.specs.Call.{ObjectCall, Reply}
 use Rattle.ob_record_reading.specs.RecordLines as Lines
 use Rattle.ob_record_reading.specs.RecordLines.{AreLines, BeginsRecord, FailsAtLine, FaultStands, IsCount, IsEvent, IsNextEvent, IsOrder, IsRecordFault, IsRecordOf, record_lines, IsTail, IsTitle, Line, SaysNone, Told}
 use Rattle.ob_record_reading.specs.LineReading as Reading

@@ -5,3 +5,4 @@ pub mod OneEvent
 pub mod LineRuns
 pub mod Faults
 pub mod Places
+mod Fronts

@@ -2,7 +2,7 @@
 use Rattle.std.proofs.Common.{◌≡◌, ℕ, ◌+◌, ◌<◌, List, [], ◌∷◌, ◌++◌, All, length, take, get_or, codes, refl, sym, ap, subst, arith, append_assoc, append-nil}
 use Rattle.std.proofs.lemmas.List.{take_more}
 use Rattle.ob_check.specs.Exports.{Signature}
-use Rattle.ob_mean.specs.Object.{ObjectCall, Reply}
+use Rattle.ob_interface.specs.Call.{ObjectCall, Reply}
 use Rattle.ob_record_reading.specs.RecordLines as Lines
 use Rattle.ob_record_reading.specs.RecordLines.{AreLines, IsApplied, IsNextEvent, IsOrder, IsTail, Line}
 use Rattle.ob_record_reading.specs.LineReading.{BeginsLines, SaysNothing}

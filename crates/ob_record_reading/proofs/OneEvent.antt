@@ -1,11 +1,11 @@
 -- A line says one event at most, and only one kind of thing.
 use Rattle.std.proofs.Common.{◌≡◌, ◌∙◌, ℕ, ◌-◌, ◌≤◌, List, [], ◌∷◌, ◌++◌, ◌⊎◌, Option, None, Result, Ok, Err, IfOk, MatchOption, inl, inr, Some, slice_get, codes, true, refl, sym, ap, ap₂, subst, arith}
 use Rattle.std.proofs.lemmas.Option.{same_Some}
-use Rattle.ob_check.specs.declared.program.Scalar.{Scalar}
+use Rattle.ob_interface.specs.declared.scalar.Scalar.{Scalar}
 use Rattle.ob_check.specs.Exports.{Signature}
-use Rattle.ob_mean.specs.Object.{ObjectCall, Reply, Answers, Trapped}
-use Rattle.ob_mean.specs.declared.call.Reply as Replied
-use Rattle.ob_mean.specs.View as View
+use Rattle.ob_interface.specs.Call.{ObjectCall, Reply, Answers, Trapped}
+use Rattle.ob_interface.specs.declared.call.Reply as Replied
+use Rattle.ob_interface.specs.View as View
 use Rattle.ob_text.specs.ExportNames.{Numbered, export_named}
 use Rattle.ob_text.specs.Values.{AreValues, formals_of, value_formals}
 use Rattle.ob_text.specs.Words.{IsNumeral, Word}

@@ -9,7 +9,7 @@ use Rattle.ob_record_reading.specs.LineReading.{FailsBehind, IsFirstOther, SaysN
 use Rattle.ob_record_reading.specs.RecordLines.{AreLines, IsApplied, IsNextEvent, IsOrder, IsTail, Line}
 use Rattle.std.proofs.lemmas.List.{drop-map}
 use Rattle.ob_check.specs.Exports.{Signature}
-use Rattle.ob_mean.specs.Object.{ObjectCall, Reply}
+use Rattle.ob_interface.specs.Call.{ObjectCall, Reply}
 use Rattle.wf_history.specs.declared.event.CallId.{CallId}
 use Rattle.wf_history.specs.History.{Event}
 use Rattle.ob_record_reading.proofs.LineRuns.{AreEvents, applied, event, nothing, one_more}

@@ -1,8 +1,8 @@
 -- What is read of one line behind the first two, and of all of them.
 use Rattle.std.specs.Prelude.{◌≡◌, ℕ, ◌+◌, List, [], ◌∷◌, ◌++◌, length, All}
 use Rattle.ob_check.specs.Exports.{Signature}
-use Rattle.ob_mean.specs.Object.{ObjectCall, Reply}
-use Rattle.ob_mean.specs.View.{call_of, reply_of}
+use Rattle.ob_interface.specs.Call.{ObjectCall, Reply}
+use Rattle.ob_interface.specs.View.{call_of, reply_of}
 use Rattle.ob_record_reading.specs.declared.line.Line as Rust
 use Rattle.ob_record_reading.specs.declared.line.Line.TheVariants as Says
 use Rattle.ob_record_reading.specs.declared.reading.RecordFault.{RecordFault}
@@ -66,7 +66,7 @@ module _ (processes : ℕ) (signatures : List Signature) where
   FaultBehind ls (Faults.Form number) = FailsBehind ls number
   FaultBehind ls Faults.NoMemory = Unit {0}
 
--- the line of this number, from 0, begins with neither S nor V, and those before it do
+-- the line of this number, from 0, has neither S nor V for its first byte, and those before it have
 pub record IsFirstOther (ls : List Line) (number : ℕ) : Type 0 where
   pub before : List Line
   pub line : Line

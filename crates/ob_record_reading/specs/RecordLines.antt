@@ -2,9 +2,9 @@
 -- scripts; A lines and the lines behind the O line are read for their form alone.
 use Rattle.std.specs.Prelude.{◌≡◌, ℕ, ◌+◌, ◌-◌, ◌<◌, ◌≤◌, ◌^◌, List, [], ◌∷◌, ◌++◌, All, length, map, codes, slice_get, true, Some}
 use Rattle.std.specs.Io.BufRead.{strip_last}
-use Rattle.ob_check.specs.declared.program.Scalar.{Scalar}
+use Rattle.ob_interface.specs.declared.scalar.Scalar.{Scalar}
 use Rattle.ob_check.specs.Exports.{Signature}
-use Rattle.ob_mean.specs.Object.{ObjectCall, Reply, Answers, Trapped}
+use Rattle.ob_interface.specs.Call.{ObjectCall, Reply, Answers, Trapped}
 use Rattle.ob_record_reading.specs.declared.reading.RecordFault.{RecordFault}
 use Rattle.ob_record_reading.specs.declared.reading.RecordFault.TheVariants as Faults
 use Rattle.ob_text.specs.ExportNames.{Numbered, export_named}
@@ -34,10 +34,10 @@ IsTitle line = line ≡ codes "obl0" ∷ codes "record" ∷ codes "1" ∷ []
 pub data IsCount : Line → ℕ → Type 0 where
   count : {number : Word} {n : ℕ} → IsNumeral number n → 1 ≤ n → n ≤ 16 → IsCount (codes "n" ∷ number ∷ []) n
 
--- a line behind the O line: it begins with S or V
+-- a line behind the O line: its first byte is S or V
 pub data IsTail : Line → Type 0 where
-  schedule : {ws : List Word} → IsTail (codes "S" ∷ ws)
-  variable : {ws : List Word} → IsTail (codes "V" ∷ ws)
+  schedule : {more : List ℕ} {ws : List Word} → IsTail ((83 ∷ more) ∷ ws)
+  variable : {more : List ℕ} {ws : List Word} → IsTail ((86 ∷ more) ∷ ws)
 
 -- the exports of the module
 module _ (signatures : List Signature) where

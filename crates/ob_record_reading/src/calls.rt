@@ -1,13 +1,13 @@
 //! The calls of each process, as the events so far show them.
 
 ghost use Rattle.std.specs.Prelude.{◌≡◌, ◌↔◌, ◌<◌, ◌+◌, [], ◌∷◌, ◌++◌, length, OnOk, IfOk, IsTrue, MatchOption};
-ghost use Rattle.ob_mean.specs.Object as Object;
-ghost use Rattle.ob_mean.specs.View.{call_of, reply_of};
+ghost use Rattle.ob_interface.specs.Call as Object;
+ghost use Rattle.ob_interface.specs.View.{call_of, reply_of};
 ghost use Rattle.ob_record_reading.specs.Seats.{EndsCall};
 ghost use Rattle.wf_history.specs.History.{Begin, End, IsHistory};
 
-use ob_grammar::NoMemory;
-use ob_mean::call::{Call, Reply};
+use ob_interface::NoMemory;
+use ob_interface::call::{Call, Reply};
 use std::alloc::{AllocError, Global};
 use std::marker::Model;
 use wf_history::{CallId, Event, History};

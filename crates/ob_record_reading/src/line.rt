@@ -2,8 +2,8 @@
 
 ghost use Rattle.std.specs.Prelude.{◌≡◌, ◌≤◌, ◌∷◌, [], ℕ, List, codes, map, option_map, slice_get, IfOk, MatchOption};
 ghost use Rattle.ob_check.specs.Exports.{export_of};
-ghost use Rattle.ob_mean.specs.Object as Object;
-ghost use Rattle.ob_mean.specs.View.{reply_of};
+ghost use Rattle.ob_interface.specs.Call as Object;
+ghost use Rattle.ob_interface.specs.View.{reply_of};
 ghost use Rattle.ob_record_reading.specs.LineReading.{HasSaid, IsAppliedRead, IsEventRead, IsOrderRead, SaysNothing};
 ghost use Rattle.ob_record_reading.specs.RecordLines.{AreIds, IsNextEvent, IsReply};
 ghost use Rattle.ob_text.specs.Words.{IsNumeral};
@@ -14,7 +14,7 @@ use crate::calls::Calls;
 use crate::id::{read_id, read_ids};
 use crate::number::read_only_number;
 use ob_check::program::Export;
-use ob_mean::call::{Call, Reply};
+use ob_interface::call::{Call, Reply};
 use ob_text::exports::export_named;
 use ob_text::values::read_values;
 use std::alloc::{AllocError, Global};

@@ -14,7 +14,7 @@ use crate::line::{Line, read_line};
 use crate::number::read_only_number;
 use ob_check::checked::Checked;
 use ob_check::program::Export;
-use ob_grammar::NoMemory;
+use ob_interface::NoMemory;
 use ob_text::words::words_of;
 use std::alloc::{AllocError, AllocFailed, Global};
 use thiserror::Error;
@@ -232,7 +232,7 @@ fn read_events(
     Err(RecordFault::Form(lines.len() + 3))
 }
 
-/// The place of the first line that begins with neither `S` nor `V`.
+/// The place of the first line whose first byte is neither `S` nor `V`.
 fn first_other(lines: &[Vec<&[u8]>]) -> Option<usize>
     ensures below { IfSome result (λ k. k < length lines.now) }
     ensures place { MatchOption result
@@ -247,12 +247,12 @@ fn first_other(lines: &[Vec<&[u8]>]) -> Option<usize>
     None
 }
 
-/// Whether a line begins with `S` or `V`.
+/// Whether the first byte of a line is `S` or `V`.
 fn is_tail(words: &[&[u8]]) -> bool
     ensures { IsTrue result ↔ IsTail (map (λ w. w.now) words.now) }
 {
     let Some((first, _rest)) = words.split_first() else {
         return false;
     };
-    matches!(*first, b"S" | b"V")
+    matches!(first.first(), Some(b'S' | b'V'))
 }

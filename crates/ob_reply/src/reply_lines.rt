@@ -2,12 +2,12 @@
 
 ghost use Rattle.std.specs.Prelude.{◌≡◌, ◌++◌, codes, decimal, OnOk, string_bytes};
 ghost use Rattle.std.specs.List.{flat_map};
-ghost use Rattle.ob_mean.specs.View.{reply_of};
+ghost use Rattle.ob_interface.specs.View.{reply_of};
 ghost use Rattle.ob_reply.specs.ReplyLines.{reply_line};
 ghost use Rattle.ob_text.specs.Values.{scalar_text};
 
-use ob_check::program::Scalar;
-use ob_mean::call::Reply;
+use ob_interface::call::Reply;
+use ob_interface::scalar::Scalar;
 use ob_text::numbers::push_number;
 use ob_text::values::push_value;
 use std::alloc::AllocError;

@@ -8,17 +8,17 @@ use Rattle.ob_grammar.specs.declared.tree.Stmt.TheVariants as Stmts
 use Rattle.ob_grammar.specs.Tree
 use Rattle.ob_grammar.specs.View as Trees
 use Rattle.ob_grammar.specs.View.{expr_of, stmt_of, stmts_in}
-use Rattle.ob_grammar.proofs.Rows.{stmt_of-while, stmt_of-if}
-use Rattle.ob_typing.specs.declared.scalar.ScalarType.TheVariants.{Boolean}
+use Rattle.ob_grammar.proofs.Rows.{stmt_of-while, stmt_of-repeat, stmt_of-if}
+use Rattle.ob_interface.specs.declared.scalar.ScalarType.TheVariants.{Boolean}
 use Rattle.ob_typing.specs.declared.rule.Rule.TheVariants.{TypesDiffer}
 use Rattle.ob_typing.specs.Program as Programs
 use Rattle.ob_typing.specs.Arithmetic.{same_scalar_type}
 use Rattle.ob_typing.specs.Scopes.{Environment}
 use Rattle.ob_typing.specs.Expressions.{InStatement}
 use Rattle.ob_typing.specs.ExpressionFaults.{first_place}
-use Rattle.ob_typing.proofs.Verdict.{Verdict, Right, ◌>>=◌, test}
-use Rattle.ob_typing.proofs.CheckedExpressions.{expression}
-use Rattle.ob_typing.proofs.CheckedStatements.{statement, statements, branches, otherwise, is_empty}
+use Rattle.ob_typing.specs.Verdict.{Verdict, Right, ◌>>=◌, test}
+use Rattle.ob_typing.specs.ExpressionVerdicts.{expression}
+use Rattle.ob_typing.specs.StatementVerdicts.{statement, statements, branches, otherwise, is_empty}
 use Rattle.ob_checked.specs.declared.program.Branch.{Branch}
 use Rattle.ob_checked.specs.declared.program.Expression.{Expression}
 use Rattle.ob_checked.specs.declared.program.Statement.{Statement}
@@ -28,7 +28,7 @@ use Rattle.ob_scopes.specs.declared.fault.CheckFault.{CheckFault}
 use Rattle.ob_rules.specs.Checking.{Fails, and_then}
 use Rattle.ob_rules.specs.CheckingStatements.{condition, kept, statement_before}
 use Rattle.ob_rules.proofs.Steps.{bind_assoc, bind_same, fails_as, fails_on, fails_past, goes_on}
-use Rattle.ob_checked.proofs.Rows.{statement_of-while, statement_of-if}
+use Rattle.ob_checked.proofs.Rows.{statement_of-while, statement_of-repeat, statement_of-if}
 
 -- statements in front of others
 abbrev pub statements_before : List Statement → Programs.Statements → Programs.Statements
@@ -103,6 +103,14 @@ module _ (env : Environment) where
 
     pub while_verdict : statement env (Tree.While place e body) ≡ ◌>>=◌ (condition env e) looped
     while_verdict = condition_then e looped
+
+  -- REPEAT
+  module _ (place : ℕ) (body : Tree.Stmts) (e : Tree.Expr) where
+    abbrev pub until : Programs.Statements → Verdict Programs.Statement
+    until ss = ◌>>=◌ (condition env e) (λ c. Right (Programs.Repeat ss c))
+
+    pub repeat_verdict : statement env (Tree.Repeat place body e) ≡ ◌>>=◌ (statements env body) until
+    repeat_verdict = bind_same (statements env body) _ _ (λ ss. condition_then e (λ c. Right (Programs.Repeat ss c)))
 
   -- a branch in front of others
   module _ (e : Tree.Expr) (body : Tree.Stmts) (rest : Tree.Branches) (last : Verdict Programs.Branches) where
@@ -201,3 +209,27 @@ module _ (env : Environment) where
       while_right ss h rest =
           statement_right (stmt_of s) while_filled rest (Statements.While c ss)
           (while_is ∙ goes_on _ _ _ _ typed (goes_on _ _ _ _ h (ap (λ x. Right x) (sym (statement_of-while c ss)))))
+
+  -- REPEAT
+  module _ (s : Stmt) (place : ℕ) (body : Vec Stmt Global) (e : Expr) (is : s ≡ Stmts.Repeat place body e) (all : List Stmt) (at : all ≡ body.items) where
+    pub repeat_tree : stmt_of s ≡ Tree.Repeat place (stmts_in all) (expr_of e)
+    repeat_tree = ap stmt_of is ∙ stmt_of-repeat place body e ∙ ap (λ xs. Tree.Repeat place (stmts_in xs) (expr_of e)) (sym at)
+
+    repeat_filled : is_empty (stmt_of s) ≡ false
+    repeat_filled = ap is_empty repeat_tree
+
+    repeat_is : statement env (stmt_of s) ≡ ◌>>=◌ (statements env (stmts_in all)) (until place (stmts_in all) (expr_of e))
+    repeat_is = ap (statement env) repeat_tree ∙ repeat_verdict place (stmts_in all) (expr_of e)
+
+    pub repeated_fails : (f : CheckFault) → Fails f (statements env (stmts_in all)) → (rest : Tree.Stmts) → Fails f (statements env (Tree.stmt (stmt_of s) rest))
+    repeated_fails f h rest = statement_fails (stmt_of s) repeat_filled rest f (fails_as f _ _ repeat_is (fails_on f _ _ h))
+
+    module _ (ss : Vec Statement Global) (typed : statements env (stmts_in all) ≡ Right (statements_in ss.items)) where
+      pub until_fails : (f : CheckFault) → Fails f (condition env (expr_of e)) → (rest : Tree.Stmts) → Fails f (statements env (Tree.stmt (stmt_of s) rest))
+      until_fails f h rest = statement_fails (stmt_of s) repeat_filled rest f (fails_as f _ _ repeat_is (fails_past f _ _ _ typed (fails_on f _ _ h)))
+
+      pub repeat_right : (c : Expression) → condition env (expr_of e) ≡ Right (expression_of c) → (rest : Tree.Stmts) →
+          statements env (Tree.stmt (stmt_of s) rest) ≡ and_then (statements env rest) (statement_before (Some (Statements.Repeat ss c)))
+      repeat_right c h rest =
+          statement_right (stmt_of s) repeat_filled rest (Statements.Repeat ss c)
+          (repeat_is ∙ goes_on _ _ _ _ typed (goes_on _ _ _ _ h (ap (λ x. Right x) (sym (statement_of-repeat ss c)))))

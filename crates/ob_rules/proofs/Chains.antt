@@ -1,8 +1,8 @@
 -- Chains and selectors, one more at a time.
 use Rattle.std.proofs.Common.{◌≡◌, List, [], ◌∷◌, ◌++◌, refl, ap}
 use Rattle.ob_typing.specs.Program
-use Rattle.ob_typing.proofs.Verdict.{Verdict, Right}
-use Rattle.ob_typing.proofs.CheckedExpressions as Verdicts
+use Rattle.ob_typing.specs.Verdict.{Verdict, Right}
+use Rattle.ob_typing.specs.ExpressionVerdicts as Verdicts
 use Rattle.ob_checked.specs.declared.program.Operation.{Operation}
 use Rattle.ob_checked.specs.declared.program.Selector.{Selector}
 use Rattle.ob_checked.specs.declared.program.Selector.TheVariants.{Field, Element}

@@ -10,9 +10,9 @@ use Rattle.ob_typing.specs.Scopes.{TypeName, Environment, is_declared, declared,
 use Rattle.ob_typing.specs.Types.{second}
 use Rattle.ob_typing.specs.Declarations.{Room, with_words, first_beyond, with_variables, room_behind, variables_of}
 use Rattle.ob_typing.specs.ExpressionFaults.{broken}
-use Rattle.ob_typing.proofs.Verdict.{Verdict, Right, Wrong, ◌>>=◌, unless_name}
-use Rattle.ob_typing.proofs.CheckedTypes.{denoted}
-use Rattle.ob_typing.proofs.CheckedModules.{WithVariables, types, variables}
+use Rattle.ob_typing.specs.Verdict.{Verdict, Right, Wrong, ◌>>=◌, unless_name}
+use Rattle.ob_typing.specs.TypeVerdicts.{denoted}
+use Rattle.ob_typing.specs.ModuleVerdicts.{WithVariables, types, variables}
 use Rattle.ob_checked.specs.declared.program.Variable.{Variable}
 use Rattle.ob_checked.specs.Types.{Entry, is_below, Extends}
 use Rattle.ob_checked.specs.View.{variable_of}

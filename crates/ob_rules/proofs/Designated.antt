@@ -5,8 +5,8 @@ use Rattle.ob_grammar.specs.declared.tree.Expr.{Expr}
 use Rattle.ob_grammar.specs.declared.tree.Expr.TheVariants as Exprs
 use Rattle.ob_grammar.specs.View.{name_of, expr_of, selectors_in}
 use Rattle.ob_grammar.proofs.Rows.{expr_of-named}
-use Rattle.ob_typing.specs.declared.scalar.Scalar.{Scalar}
-use Rattle.ob_typing.specs.declared.scalar.ScalarType.{ScalarType}
+use Rattle.ob_interface.specs.declared.scalar.Scalar.{Scalar}
+use Rattle.ob_interface.specs.declared.scalar.ScalarType.{ScalarType}
 use Rattle.ob_typing.specs.Program as Programs
 use Rattle.ob_typing.specs.Arithmetic.{same_scalar_type}
 use Rattle.ob_typing.specs.Scopes.{Environment, meant, holds}

@@ -12,9 +12,9 @@ use Rattle.ob_typing.specs.Scopes.{Environment}
 use Rattle.ob_typing.specs.Expressions.{Use}
 use Rattle.ob_typing.specs.declared.rule.Rule.TheVariants.{TypesDiffer}
 use Rattle.ob_typing.specs.Expressions.{sign_fits, value_signed, with_sign}
-use Rattle.ob_typing.proofs.Verdict.{Verdict, Right, ◌>>=◌, test, result}
-use Rattle.ob_typing.proofs.CheckedExpressions as Verdicts
-use Rattle.ob_typing.proofs.CheckedExpressions.{expression, operands, sign_place}
+use Rattle.ob_typing.specs.Verdict.{Verdict, Right, ◌>>=◌, test, result}
+use Rattle.ob_typing.specs.ExpressionVerdicts as Verdicts
+use Rattle.ob_typing.specs.ExpressionVerdicts.{expression, operands, sign_place}
 use Rattle.ob_rules.specs.Checking.{designator_in, signed, chained}
 use Rattle.ob_rules.proofs.Steps.{bind_assoc, bind_same}
 

@@ -8,17 +8,18 @@ use Rattle.ob_grammar.specs.declared.tree.Name.{Name}
 use Rattle.ob_grammar.specs.View.{name_of}
 use Rattle.ob_grammar.specs.Tree
 use Rattle.ob_grammar.specs.Tree.{Section}
-use Rattle.ob_typing.specs.declared.rule.Rule.TheVariants.{DeclaredTwice, WrongKind, TypesDiffer, PassesLimit}
+use Rattle.ob_typing.specs.declared.rule.Rule.TheVariants.{DeclaredTwice, TypesDiffer, PassesLimit}
 use Rattle.ob_typing.specs.declared.rule.BrokenRule.{BrokenRule}
 use Rattle.ob_typing.specs.Program as Programs
 use Rattle.ob_typing.specs.Scopes.{Environment, is_declared, is_simple}
 use Rattle.ob_typing.specs.Types.{Taken, and_taken, second}
 use Rattle.ob_typing.specs.TypeFaults.{type_place}
-use Rattle.ob_typing.specs.Declarations.{most_parameters, parameter_broken, with_parameters, parameters_of, is_name}
+use Rattle.ob_typing.specs.Declarations.{most_parameters, with_parameters, parameters_of}
+use Rattle.ob_typing.specs.DeclarationFaults.{parameter_broken}
 use Rattle.ob_typing.specs.ExpressionFaults.{broken}
-use Rattle.ob_typing.proofs.Verdict.{Verdict, Right, Wrong, ◌>>=◌, test}
-use Rattle.ob_typing.proofs.CheckedTypes.{denoted}
-use Rattle.ob_typing.proofs.CheckedModules.{WithParameters, parameters}
+use Rattle.ob_typing.specs.Verdict.{Verdict, Right, Wrong, ◌>>=◌, test}
+use Rattle.ob_typing.specs.TypeVerdicts.{formal}
+use Rattle.ob_typing.specs.ModuleVerdicts.{WithParameters, parameters}
 use Rattle.ob_checked.specs.declared.program.Parameter.{Parameter}
 use Rattle.ob_checked.specs.Types.{Entry, is_below, Extends}
 use Rattle.ob_checked.specs.View.{parameter_of}
@@ -61,38 +62,33 @@ module _ (env : Environment) (count : ℕ) (x : Section) (rest : List Section) w
   -- behind their type
   abbrev pub behind_parameter_type : Programs.DataType → Verdict WithParameters
   behind_parameter_type t =
-      ◌>>=◌ (test (is_name x.of_type) WrongKind (type_place x.of_type)) (λ name.
       ◌>>=◌ (test (x.is_var || is_simple t) TypesDiffer (type_place x.of_type)) (λ simple.
       ◌>>=◌ (parameters rest (with_parameters env count t x.names) (count + length x.names)) (λ r.
-      Right (record { env = r.env; parameters = parameters_of x.is_var t x.names ++ r.parameters }))))
+      Right (record { env = r.env; parameters = parameters_of x.is_var t x.names ++ r.parameters })))
 
   pub section_broken : (b : BrokenRule) → parameter_broken (is_declared env) (most_parameters - count) x.names ≡ Some b → parameters (x ∷ rest) env count ≡ Wrong b
   section_broken b h = rw h refl
 
   pub section_new : parameter_broken (is_declared env) (most_parameters - count) x.names ≡ None →
-      parameters (x ∷ rest) env count ≡ ◌>>=◌ (denoted env x.of_type) behind_parameter_type
+      parameters (x ∷ rest) env count ≡ ◌>>=◌ (formal env x.of_type) behind_parameter_type
   section_new h = rw h refl
 
-  module _ (t : Programs.DataType) (new : parameter_broken (is_declared env) (most_parameters - count) x.names ≡ None) (typed : denoted env x.of_type ≡ Right t) where
+  module _ (t : Programs.DataType) (new : parameter_broken (is_declared env) (most_parameters - count) x.names ≡ None) (typed : formal env x.of_type ≡ Right t) where
     pub section_typed : parameters (x ∷ rest) env count ≡ behind_parameter_type t
     section_typed = section_new new ∙ ap (λ v. ◌>>=◌ v behind_parameter_type) typed
 
-    pub section_no_name : is_name x.of_type ≡ false → parameters (x ∷ rest) env count ≡ Wrong (broken WrongKind (type_place x.of_type))
-    section_no_name h = section_typed ∙ rw h refl
-
-    pub section_structured : is_name x.of_type ≡ true → (x.is_var || is_simple t) ≡ false →
-        parameters (x ∷ rest) env count ≡ Wrong (broken TypesDiffer (type_place x.of_type))
-    section_structured h k = section_typed ∙ rw h (rw k refl)
+    pub section_structured : (x.is_var || is_simple t) ≡ false → parameters (x ∷ rest) env count ≡ Wrong (broken TypesDiffer (type_place x.of_type))
+    section_structured h = section_typed ∙ rw h refl
 
     -- the parameters of a section, behind those so far
-    pub section_step : is_name x.of_type ≡ true → (x.is_var || is_simple t) ≡ true → (old new : List Entry) → Extends old new → (ps qs : List Parameter) →
+    pub section_step : (x.is_var || is_simple t) ≡ true → (old new : List Entry) → Extends old new → (ps qs : List Parameter) →
         known_parameters (length old) ps ≡ true → map (parameter_of new) qs ≡ map (parameter_of new) ps ++ parameters_of x.is_var t x.names →
         (after : Environment) → after ≡ with_parameters env count t x.names → (counted : ℕ) → counted ≡ count + length x.names →
         and_then (parameters (x ∷ rest) env count) (behind_parameters old ps) ≡ and_then (parameters rest after counted) (behind_parameters new qs)
-    section_step name simple old new h ps qs known grown after is counted more =
+    section_step simple old new h ps qs known grown after is counted more =
         let kept = parameters_kept old new h ps known in
         let whole : parameters (x ∷ rest) env count ≡ ◌>>=◌ (parameters rest (with_parameters env count t x.names) (count + length x.names)) (λ r.
-        Right (record { env = r.env; parameters = parameters_of x.is_var t x.names ++ r.parameters })) = section_typed ∙ rw name (rw simple refl) in
+        Right (record { env = r.env; parameters = parameters_of x.is_var t x.names ++ r.parameters })) = section_typed ∙ rw simple refl in
         let join : (r : WithParameters) → map (parameter_of old) ps ++ (parameters_of x.is_var t x.names ++ r.parameters) ≡ map (parameter_of new) qs ++ r.parameters =
         λ r. sym (append_assoc (map (parameter_of old) ps) (parameters_of x.is_var t x.names) r.parameters)
         ∙ ap (λ us. (us ++ parameters_of x.is_var t x.names) ++ r.parameters) (sym kept) ∙ ap (λ us. us ++ r.parameters) (sym grown) in

@@ -6,8 +6,8 @@ use Rattle.ob_grammar.specs.View.{expr_of}
 use Rattle.ob_typing.specs.Program as Programs
 use Rattle.ob_typing.specs.Program.{ByValue, ByPlace}
 use Rattle.ob_typing.specs.Scopes.{Environment}
-use Rattle.ob_typing.proofs.Verdict.{Verdict, Right, ◌>>=◌}
-use Rattle.ob_typing.proofs.CheckedStatements.{actual, actuals}
+use Rattle.ob_typing.specs.Verdict.{Verdict, Right, ◌>>=◌}
+use Rattle.ob_typing.specs.StatementVerdicts.{actual, actuals}
 use Rattle.ob_checked.specs.declared.program.Actual.{Actual}
 use Rattle.ob_checked.specs.declared.program.Parameter.{Parameter}
 use Rattle.ob_checked.specs.Types.{Entry}

@@ -10,6 +10,7 @@ abbrev mutual
   pub size : Tree.Stmt → ℕ
   size (Tree.If place branches o) = suc (size_of_branches branches + size_of_else o)
   size (Tree.While place e body) = suc (size_of_all body)
+  size (Tree.Repeat place body e) = suc (size_of_all body)
   size _ = 1
 
   pub size_of_all : Stmts → ℕ

@@ -2,7 +2,7 @@
 use Rattle.std.proofs.Common.{◌≡◌, refl, sym, subst, ◌∙◌, ap, Result, Ok, Err}
 use Rattle.std.specs.Result.{OnOk, IfOk}
 use Rattle.ob_typing.specs.declared.rule.BrokenRule.{BrokenRule}
-use Rattle.ob_typing.proofs.Verdict.{Verdict, Right, Wrong, Foreign, ◌>>=◌}
+use Rattle.ob_typing.specs.Verdict.{Verdict, Right, Wrong, Foreign, ◌>>=◌}
 use Rattle.ob_scopes.specs.declared.fault.CheckFault.{CheckFault}
 use Rattle.ob_scopes.specs.declared.fault.CheckFault.TheVariants.{Broken, NoMemory}
 use Rattle.ob_rules.specs.Checking.{Fails}

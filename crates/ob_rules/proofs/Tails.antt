@@ -3,15 +3,15 @@ use Rattle.std.proofs.Common.{◌≡◌, ℕ, refl, Option, Some, None, true, ap
 use Rattle.ob_grammar.specs.declared.tree.Operator.{Operator}
 use Rattle.ob_grammar.specs.Tree
 use Rattle.ob_typing.specs.declared.operator.BinaryOperator.{BinaryOperator}
-use Rattle.ob_typing.specs.declared.scalar.Scalar.{Scalar}
-use Rattle.ob_typing.specs.declared.scalar.ScalarType.{ScalarType}
+use Rattle.ob_interface.specs.declared.scalar.Scalar.{Scalar}
+use Rattle.ob_interface.specs.declared.scalar.ScalarType.{ScalarType}
 use Rattle.ob_typing.specs.Program as Programs
 use Rattle.ob_typing.specs.Arithmetic.{Gives, takes_both, operator_of}
 use Rattle.ob_typing.specs.Scopes.{Environment, AVariable}
 use Rattle.ob_typing.specs.Expressions.{Use, behind, value_behind}
-use Rattle.ob_typing.proofs.Verdict.{Right, ◌>>=◌}
-use Rattle.ob_typing.proofs.CheckedExpressions as Verdicts
-use Rattle.ob_typing.proofs.CheckedExpressions.{expression, operands, selecting, named_value, sign_place}
+use Rattle.ob_typing.specs.Verdict.{Right, ◌>>=◌}
+use Rattle.ob_typing.specs.ExpressionVerdicts as Verdicts
+use Rattle.ob_typing.specs.ExpressionVerdicts.{expression, operands, selecting, named_value, sign_place}
 use Rattle.ob_scopes.specs.SimpleTypes.{simple_type}
 
 -- one operator and its operand

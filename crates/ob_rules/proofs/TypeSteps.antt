@@ -11,17 +11,17 @@ use Rattle.ob_grammar.specs.declared.tree.TypeExpr.TheVariants as Types
 use Rattle.ob_grammar.specs.Tree
 use Rattle.ob_grammar.specs.View.{name_of, expr_of, type_of, fields_in}
 use Rattle.ob_grammar.proofs.Rows.{type_of-record}
-use Rattle.ob_typing.specs.declared.scalar.Scalar.{Scalar}
+use Rattle.ob_interface.specs.declared.scalar.Scalar.{Scalar}
 use Rattle.ob_typing.specs.declared.rule.Rule.{Rule}
-use Rattle.ob_typing.specs.declared.rule.Rule.TheVariants.{DeclaredTwice, BadLength, PassesLimit}
+use Rattle.ob_typing.specs.declared.rule.Rule.TheVariants.{DeclaredTwice, WrongKind, BadLength, PassesLimit}
 use Rattle.ob_typing.specs.Program
 use Rattle.ob_typing.specs.Program.{DataType}
 use Rattle.ob_typing.specs.Scopes.{Environment, Meant, AType, meant, is_small}
 use Rattle.ob_typing.specs.Types.{Taken, none_taken, and_all_taken, second, array_length, with_fields}
 use Rattle.ob_typing.specs.TypeFaults.{type_broken}
 use Rattle.ob_typing.specs.ExpressionFaults.{broken, first_place}
-use Rattle.ob_typing.proofs.Verdict.{Verdict, Right, Wrong, ◌>>=◌, or_wrong, test}
-use Rattle.ob_typing.proofs.CheckedTypes.{number_at, constant, denoted, denoted_fields}
+use Rattle.ob_typing.specs.Verdict.{Verdict, Right, Wrong, ◌>>=◌, or_wrong, test}
+use Rattle.ob_typing.specs.TypeVerdicts.{number_at, constant, denoted, denoted_fields, formal}
 use Rattle.ob_checked.specs.declared.types.DataType as Numbers
 use Rattle.ob_checked.specs.Types.{Entry, type_in, type_by, types_of, is_below, all_below, fields_by, if_small, Extends}
 use Rattle.ob_rules.specs.Checking.{and_then}
@@ -52,6 +52,30 @@ module _ (env : Environment) (e : TypeExpr) where
   record_verdict place fields is ls at =
       ap (λ y. denoted env (type_of y)) is ∙ ap (denoted env) (type_of-record place fields)
       ∙ ap (λ xs. ◌>>=◌ (denoted_fields env (fields_in xs) none_taken) (λ fs. small_at place (Program.Record place fs))) (sym at)
+
+-- a formal type: a name, or the parts of another one before it is refused
+module _ (env : Environment) (e : TypeExpr) where
+  pub formal_named : (name : Name) → e ≡ Types.Named name → formal env (type_of e) ≡ denoted env (Tree.NamedType (name_of name))
+  formal_named name is = ap (λ x. formal env (type_of x)) is
+
+  abbrev pub behind_formal_length : (place first : ℕ) → TypeExpr → Scalar → Verdict DataType
+  behind_formal_length place first element s = ◌>>=◌ (length_at first s) (λ n. ◌>>=◌ (denoted env (type_of element)) (λ t. Wrong (broken WrongKind place)))
+
+  pub formal_array : (place : ℕ) (length : Expr) (element : Box TypeExpr Global) → e ≡ Types.Array place length element → (x : TypeExpr) → x ≡ element.value →
+      (first : ℕ) → first ≡ first_place (expr_of length) →
+      formal env (type_of e) ≡ ◌>>=◌ (constant env (expr_of length)) (behind_formal_length place first x)
+  formal_array place length element is x at first same =
+      ap (λ y. formal env (type_of y)) is
+      ∙ bind_same (constant env (expr_of length)) _ (behind_formal_length place (first_place (expr_of length)) element.value)
+      (λ s. sym (bind_assoc (number_at (first_place (expr_of length)) s) (λ z. or_wrong (array_length z) BadLength (first_place (expr_of length))) _))
+      ∙ ap (λ y. ◌>>=◌ (constant env (expr_of length)) (behind_formal_length place (first_place (expr_of length)) y)) (sym at)
+      ∙ ap (λ k. ◌>>=◌ (constant env (expr_of length)) (behind_formal_length place k x)) (sym same)
+
+  pub formal_record : (place : ℕ) (fields : Vec FieldList Global) → e ≡ Types.Record place fields → (ls : List FieldList) → ls ≡ fields.items →
+      formal env (type_of e) ≡ ◌>>=◌ (denoted_fields env (fields_in ls) none_taken) (λ fs. Wrong (broken WrongKind place))
+  formal_record place fields is ls at =
+      ap (λ y. formal env (type_of y)) is ∙ ap (formal env) (type_of-record place fields)
+      ∙ ap (λ xs. ◌>>=◌ (denoted_fields env (fields_in xs) none_taken) (λ fs. Wrong (broken WrongKind place))) (sym at)
 
 -- a name
 module _ (env : Environment) (name : Tree.Name) (m : Meant) (is : m ≡ meant env name.text) where

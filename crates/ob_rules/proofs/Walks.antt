@@ -10,16 +10,16 @@ use Rattle.ob_grammar.specs.Tree
 use Rattle.ob_grammar.specs.View as Trees
 use Rattle.ob_grammar.specs.View.{name_of, expr_of, operands_in}
 use Rattle.ob_typing.specs.declared.operator.BinaryOperator.{BinaryOperator}
-use Rattle.ob_typing.specs.declared.scalar.Scalar.{Scalar}
-use Rattle.ob_typing.specs.declared.scalar.ScalarType.{ScalarType}
+use Rattle.ob_interface.specs.declared.scalar.Scalar.{Scalar}
+use Rattle.ob_interface.specs.declared.scalar.ScalarType.{ScalarType}
 use Rattle.ob_typing.specs.Program as Programs
 use Rattle.ob_typing.specs.Arithmetic.{Gives, takes_both, operator_of}
 use Rattle.ob_typing.specs.Scopes.{Environment}
 use Rattle.ob_typing.specs.Expressions.{Use, behind, value_behind}
 use Rattle.ob_typing.specs.ExpressionFaults.{first_place}
-use Rattle.ob_typing.proofs.Verdict.{Verdict, Right, ◌>>=◌}
-use Rattle.ob_typing.proofs.CheckedExpressions as Verdicts
-use Rattle.ob_typing.proofs.CheckedExpressions.{expression, operands, selecting}
+use Rattle.ob_typing.specs.Verdict.{Verdict, Right, ◌>>=◌}
+use Rattle.ob_typing.specs.ExpressionVerdicts as Verdicts
+use Rattle.ob_typing.specs.ExpressionVerdicts.{expression, operands, selecting}
 use Rattle.ob_checked.specs.declared.program.Operation.{Operation}
 use Rattle.ob_checked.specs.declared.program.Selector.{Selector}
 use Rattle.ob_checked.specs.declared.program.Selector.TheVariants as Selectors

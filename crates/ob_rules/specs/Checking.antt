@@ -8,16 +8,16 @@ use Rattle.ob_grammar.specs.declared.tree.Selector.TheVariants.{Field, Index}
 use Rattle.ob_grammar.specs.Tree
 use Rattle.ob_grammar.specs.View as Trees
 use Rattle.ob_grammar.specs.View.{name_of, expr_of}
-use Rattle.ob_typing.specs.declared.scalar.ScalarType.TheVariants.{Integer, Boolean}
-use Rattle.ob_typing.specs.declared.scalar.Scalar.{Scalar}
+use Rattle.ob_interface.specs.declared.scalar.ScalarType.TheVariants.{Integer, Boolean}
+use Rattle.ob_interface.specs.declared.scalar.Scalar.{Scalar}
 use Rattle.ob_typing.specs.declared.rule.Rule.TheVariants.{UnknownName, WrongKind, TypesDiffer}
 use Rattle.ob_typing.specs.Program as Programs
 use Rattle.ob_typing.specs.Arithmetic.{type_of, complement, same_scalar_type, compares, relation_of}
 use Rattle.ob_typing.specs.Scopes.{fields_of, elements_of, field_from}
 use Rattle.ob_typing.specs.Expressions.{Use, known, with_sign, sign_fits, value_signed, value_compared}
-use Rattle.ob_typing.proofs.Verdict.{Verdict, Right, Wrong, Foreign, ◌>>=◌, need, or_wrong, test, result}
-use Rattle.ob_typing.proofs.CheckedExpressions as Verdicts
-use Rattle.ob_typing.proofs.CheckedExpressions.{sign_place}
+use Rattle.ob_typing.specs.Verdict.{Verdict, Right, Wrong, Foreign, ◌>>=◌, need, or_wrong, test, result}
+use Rattle.ob_typing.specs.ExpressionVerdicts as Verdicts
+use Rattle.ob_typing.specs.ExpressionVerdicts.{sign_place}
 use Rattle.ob_checked.specs.declared.program.Selector.{Selector}
 use Rattle.ob_checked.specs.declared.program.Selector.TheVariants as Selectors
 use Rattle.ob_checked.specs.Types.{Entry, type_in}

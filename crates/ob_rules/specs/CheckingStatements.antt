@@ -2,16 +2,16 @@
 use Rattle.std.specs.Prelude.{List, [], ◌∷◌, ◌++◌, Option, Some, None}
 use Rattle.ob_grammar.specs.Tree
 use Rattle.ob_grammar.specs.Tree.{Expr}
-use Rattle.ob_typing.specs.declared.scalar.ScalarType.TheVariants.{Boolean}
+use Rattle.ob_interface.specs.declared.scalar.ScalarType.TheVariants.{Boolean}
 use Rattle.ob_typing.specs.declared.rule.Rule.TheVariants.{TypesDiffer}
 use Rattle.ob_typing.specs.Program as Programs
 use Rattle.ob_typing.specs.Arithmetic.{same_scalar_type}
 use Rattle.ob_typing.specs.Scopes.{Environment}
 use Rattle.ob_typing.specs.Expressions.{InStatement}
 use Rattle.ob_typing.specs.ExpressionFaults.{first_place}
-use Rattle.ob_typing.proofs.Verdict.{Verdict, Right, ◌>>=◌, test}
-use Rattle.ob_typing.proofs.CheckedExpressions.{expression}
-use Rattle.ob_typing.proofs.CheckedStatements.{statement}
+use Rattle.ob_typing.specs.Verdict.{Verdict, Right, ◌>>=◌, test}
+use Rattle.ob_typing.specs.ExpressionVerdicts.{expression}
+use Rattle.ob_typing.specs.StatementVerdicts.{statement}
 use Rattle.ob_checked.specs.declared.program.Statement.{Statement}
 use Rattle.ob_checked.specs.View.{statement_of}
 

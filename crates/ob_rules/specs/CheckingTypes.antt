@@ -5,13 +5,13 @@ use Rattle.ob_grammar.specs.declared.tree.FieldList.{FieldList}
 use Rattle.ob_grammar.specs.declared.tree.FieldList.TheVariants.{Empty, Fields}
 use Rattle.ob_grammar.specs.Tree
 use Rattle.ob_grammar.specs.View.{name_of, type_of}
-use Rattle.ob_typing.specs.declared.scalar.Scalar.{Scalar}
+use Rattle.ob_interface.specs.declared.scalar.Scalar.{Scalar}
 use Rattle.ob_typing.specs.declared.rule.Rule.TheVariants.{BadLength, PassesLimit}
 use Rattle.ob_typing.specs.Program as Programs
 use Rattle.ob_typing.specs.Scopes.{is_small}
 use Rattle.ob_typing.specs.Types.{array_length}
-use Rattle.ob_typing.proofs.Verdict.{Verdict, Right, ◌>>=◌, or_wrong, test}
-use Rattle.ob_typing.proofs.CheckedTypes.{number_at}
+use Rattle.ob_typing.specs.Verdict.{Verdict, Right, ◌>>=◌, or_wrong, test}
+use Rattle.ob_typing.specs.TypeVerdicts.{number_at}
 use Rattle.ob_checked.specs.declared.types.DataType.{DataType}
 use Rattle.ob_checked.specs.Types.{Entry, type_by, types_of}
 

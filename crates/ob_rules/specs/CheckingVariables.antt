@@ -2,8 +2,8 @@
 use Rattle.std.specs.Prelude.{ℕ, true, ◌&&◌, List, [], ◌∷◌, ◌++◌, map}
 use Rattle.std.specs.Prelude as Prelude
 use Rattle.ob_typing.specs.Declarations as Declarations
-use Rattle.ob_typing.proofs.Verdict.{Verdict, Right}
-use Rattle.ob_typing.proofs.CheckedModules.{WithVariables, WithParameters}
+use Rattle.ob_typing.specs.Verdict.{Verdict, Right}
+use Rattle.ob_typing.specs.ModuleVerdicts.{WithVariables, WithParameters}
 use Rattle.ob_checked.specs.declared.program.Parameter.{Parameter}
 use Rattle.ob_checked.specs.declared.program.Variable.{Variable}
 use Rattle.ob_checked.specs.Types.{Entry, is_below}

@@ -2,7 +2,7 @@
 use Rattle.std.specs.Prelude.{List}
 use Rattle.ob_typing.specs.Program.{Name}
 use Rattle.ob_typing.specs.Scopes as Declared
-use Rattle.ob_typing.proofs.CheckedStatements as Verdicts
+use Rattle.ob_typing.specs.StatementVerdicts as Verdicts
 use Rattle.ob_checked.specs.Types.{Entry, type_in}
 use Rattle.ob_checked.specs.View.{owner_of, designator_of}
 use Rattle.ob_rules.specs.declared.places.KnownVariable.{KnownVariable}

@@ -8,9 +8,9 @@ ghost use Rattle.ob_typing.specs.Scopes.{words};
 ghost use Rattle.ob_typing.specs.Declarations as Declared;
 ghost use Rattle.ob_typing.specs.Declarations.{first_beyond, with_variables, room_behind, variables_of};
 ghost use Rattle.ob_typing.specs.declared.rule.Rule.TheVariants.{PassesLimit};
-ghost use Rattle.ob_typing.proofs.Verdict.{Right, unless_name};
-ghost use Rattle.ob_typing.proofs.CheckedTypes as Constants;
-ghost use Rattle.ob_typing.proofs.CheckedModules as Verdicts;
+ghost use Rattle.ob_typing.specs.Verdict.{Right, unless_name};
+ghost use Rattle.ob_typing.specs.TypeVerdicts as Constants;
+ghost use Rattle.ob_typing.specs.ModuleVerdicts as Verdicts;
 ghost use Rattle.ob_checked.specs.Types.{type_in, is_below, Extends};
 ghost use Rattle.ob_checked.specs.View.{variable_of};
 ghost use Rattle.ob_scopes.specs.Names.{types_in, env_of};
@@ -22,11 +22,11 @@ use crate::types::denoted;
 use ob_checked::program::Variable;
 use ob_checked::types::DataType;
 use ob_grammar::tree::{ConstDecl, Expr, Name, TypeDecl, VarDecl};
+use ob_interface::scalar::Scalar;
 use ob_scopes::constants::Usage;
 use ob_scopes::fault::{CheckFault, broken};
 use ob_scopes::scopes::Scopes;
 use ob_typing::rule::Rule;
-use ob_typing::scalar::Scalar;
 use std::alloc::Global;
 
 /// The room for the variables of a scope: how many names stand there, the words that they take, and the most words.

@@ -5,8 +5,8 @@ ghost use Rattle.ob_grammar.specs.Tree as trees;
 ghost use Rattle.ob_grammar.specs.View.{expr_of, operands_in, selectors_in, name_of};
 ghost use Rattle.ob_typing.specs.Program as Programs;
 ghost use Rattle.ob_typing.specs.ExpressionFaults.{first_place};
-ghost use Rattle.ob_typing.proofs.Verdict.{Verdict, Right};
-ghost use Rattle.ob_typing.proofs.CheckedExpressions as Verdicts;
+ghost use Rattle.ob_typing.specs.Verdict.{Verdict, Right};
+ghost use Rattle.ob_typing.specs.ExpressionVerdicts as Verdicts;
 ghost use Rattle.ob_checked.specs.Types.{type_in};
 ghost use Rattle.ob_scopes.specs.Usages.{use_of};
 ghost use Rattle.ob_checked.specs.View.{table_of};
@@ -17,6 +17,7 @@ use ob_checked::program::{Designator, Expression, Operation, Selector, Slot};
 use ob_checked::types::{DataType, Types};
 use ob_grammar::tree;
 use ob_grammar::tree::{Expr, Name, Operand, Operator, Sign};
+use ob_interface::scalar::{Scalar, ScalarType};
 use ob_scalars::operators::type_of;
 use ob_scalars::written::{compares, operator_of, relation_of, same_scalar_type, takes_both};
 use ob_scopes::constants::{
@@ -27,7 +28,6 @@ use ob_scopes::meant::value_meant;
 use ob_scopes::parts::{elements_of, field_named, fields_of, simple_type};
 use ob_scopes::scopes::{Scopes, Value};
 use ob_typing::rule::Rule;
-use ob_typing::scalar::{Scalar, ScalarType};
 use std::alloc::Global;
 
 /// An expression with its type, and its value where it is known.

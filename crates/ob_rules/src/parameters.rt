@@ -5,9 +5,10 @@ ghost use Rattle.ob_grammar.specs.Tree as trees;
 ghost use Rattle.ob_grammar.specs.View.{name_of, type_of, section_of};
 ghost use Rattle.ob_typing.specs.Scopes.{is_declared, is_simple};
 ghost use Rattle.ob_typing.specs.TypeFaults.{type_place};
-ghost use Rattle.ob_typing.specs.Declarations.{parameter_broken, most_parameters, with_parameters, parameters_of};
-ghost use Rattle.ob_typing.proofs.Verdict.{Right, unless_broken};
-ghost use Rattle.ob_typing.proofs.CheckedModules as Verdicts;
+ghost use Rattle.ob_typing.specs.Declarations.{most_parameters, with_parameters, parameters_of};
+ghost use Rattle.ob_typing.specs.DeclarationFaults.{parameter_broken};
+ghost use Rattle.ob_typing.specs.Verdict.{Right, unless_broken};
+ghost use Rattle.ob_typing.specs.ModuleVerdicts as Verdicts;
 ghost use Rattle.ob_checked.specs.Types.{type_in, is_below, Extends};
 ghost use Rattle.ob_checked.specs.View.{table_of, parameter_of};
 ghost use Rattle.ob_scopes.specs.Objects.{known_parameters};
@@ -15,7 +16,7 @@ ghost use Rattle.ob_scopes.specs.Names.{types_in, env_of};
 ghost use Rattle.ob_rules.specs.Checking.{Fails, and_then};
 ghost use Rattle.ob_rules.specs.CheckingVariables.{behind_parameters};
 
-use crate::types::denoted;
+use crate::types::formal_type;
 use ob_checked::program::Parameter;
 use ob_checked::types::{DataType, Types};
 use ob_grammar::tree::{Name, Section, TypeExpr};
@@ -63,10 +64,7 @@ fn declare_section(
     ensures fault { IfErr result (λ f. (rest : List trees.Section) → Fails f (Verdicts.parameters (section_of section.now ∷ rest) (env_of scopes.old) (length parameters.old.items))) }
 {
     test_names(alloc, scopes, &section.names, parameters.len())?;
-    let data_type = denoted(alloc, scopes, &section.of_type)?;
-    let TypeExpr::Named(_) = &section.of_type else {
-        return Err(broken(Rule::WrongKind, type_place(&section.of_type)));
-    };
+    let data_type = formal_type(alloc, scopes, &section.of_type)?;
     if !may_be(scopes.types(), section.is_var, data_type) {
         return Err(broken(Rule::TypesDiffer, type_place(&section.of_type)));
     }

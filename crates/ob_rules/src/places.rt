@@ -4,8 +4,8 @@ ghost use Rattle.std.specs.Prelude.{◌≡◌, ℕ, List, IfOk, IfErr, Some};
 ghost use Rattle.ob_grammar.specs.View.{name_of, selectors_in};
 ghost use Rattle.ob_typing.specs.Scopes.{holds};
 ghost use Rattle.ob_typing.specs.StatementFaults.{place_broken};
-ghost use Rattle.ob_typing.proofs.Verdict.{Right};
-ghost use Rattle.ob_typing.proofs.CheckedStatements as Verdicts;
+ghost use Rattle.ob_typing.specs.Verdict.{Right};
+ghost use Rattle.ob_typing.specs.StatementVerdicts as Verdicts;
 ghost use Rattle.ob_checked.specs.Types.{Entry, type_in};
 ghost use Rattle.ob_checked.specs.View.{table_of};
 ghost use Rattle.ob_scopes.specs.Names.{types_in, env_of, meant_of};
@@ -16,13 +16,13 @@ use crate::expressions::selecting;
 use ob_checked::program::{Designator, Owner, Slot};
 use ob_checked::types::{DataType, Types};
 use ob_grammar::tree;
+use ob_interface::scalar::ScalarType;
 use ob_scalars::written::same_scalar_type;
 use ob_scopes::constants::Usage;
 use ob_scopes::fault::{CheckFault, broken};
 use ob_scopes::parts::simple_type;
 use ob_scopes::scopes::{Meant, Scopes};
 use ob_typing::rule::Rule;
-use ob_typing::scalar::ScalarType;
 use std::alloc::Global;
 
 /// A variable that a name stands for, with its type.

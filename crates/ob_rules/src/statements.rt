@@ -7,8 +7,8 @@ ghost use Rattle.ob_typing.specs.Program as Programs;
 ghost use Rattle.ob_typing.specs.Scopes.{AProcedure};
 ghost use Rattle.ob_typing.specs.Statements as Typing;
 ghost use Rattle.ob_typing.specs.StatementFaults.{procedure_broken};
-ghost use Rattle.ob_typing.proofs.Verdict.{Verdict, Right};
-ghost use Rattle.ob_typing.proofs.CheckedStatements as Verdicts;
+ghost use Rattle.ob_typing.specs.Verdict.{Verdict, Right};
+ghost use Rattle.ob_typing.specs.StatementVerdicts as Verdicts;
 ghost use Rattle.ob_checked.specs.Types.{Entry};
 ghost use Rattle.ob_checked.specs.View.{parameter_of, actual_of, statement_of, statements_in};
 ghost use Rattle.ob_checked.specs.View as Checked;
@@ -21,16 +21,16 @@ use crate::places::{designated, holds};
 use ob_checked::program::{Actual, Branch, Expression, Parameter, Statement};
 use ob_grammar::tree;
 use ob_grammar::tree::{Expr, Name, Stmt};
+use ob_interface::scalar::ScalarType;
 use ob_scalars::written::same_scalar_type;
 use ob_scopes::constants::Usage;
 use ob_scopes::fault::{CheckFault, broken};
 use ob_scopes::same::same_type;
 use ob_scopes::scopes::{Meant, Scopes};
 use ob_typing::rule::Rule;
-use ob_typing::scalar::ScalarType;
 use std::alloc::Global;
 
-/// The condition of a branch or of WHILE.
+/// The condition of a branch, of WHILE or of REPEAT.
 fn condition_of(alloc: Global, scopes: &Scopes, expr: &Expr) -> Result<Expression, CheckFault>
     ensures typed { IfOk result (λ x. condition (env_of scopes.now) (expr_of expr.now) ≡ Right (Checked.expression_of x)) }
     ensures fault { IfErr result (λ f. Fails f (condition (env_of scopes.now) (expr_of expr.now))) }
@@ -278,6 +278,15 @@ fn statement(
             let condition = condition_of(alloc, scopes, condition)?;
             let body = statements(alloc, scopes, body)?;
             Ok(Some(Statement::While { condition, body }))
+        }
+        Stmt::Repeat {
+            body,
+            condition,
+            ..
+        } => {
+            let body = statements(alloc, scopes, body)?;
+            let condition = condition_of(alloc, scopes, condition)?;
+            Ok(Some(Statement::Repeat { body, condition }))
         }
     }
 }

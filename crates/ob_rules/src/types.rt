@@ -6,8 +6,8 @@ ghost use Rattle.ob_grammar.specs.View.{type_of, name_of, fields_in};
 ghost use Rattle.ob_typing.specs.Program as Programs;
 ghost use Rattle.ob_typing.specs.Types.{second, none_taken, and_all_taken, with_fields};
 ghost use Rattle.std.specs.Prelude as Lists;
-ghost use Rattle.ob_typing.proofs.Verdict.{Right};
-ghost use Rattle.ob_typing.proofs.CheckedTypes as Constants;
+ghost use Rattle.ob_typing.specs.Verdict.{Right};
+ghost use Rattle.ob_typing.specs.TypeVerdicts as Constants;
 ghost use Rattle.ob_checked.specs.Types.{type_in, type_by, types_of, fields_by, is_below, all_below, Extends};
 ghost use Rattle.ob_scopes.specs.Names.{types_in, env_of};
 ghost use Rattle.ob_scopes.specs.TakenNames.{taken_in};
@@ -19,11 +19,11 @@ use crate::expressions::first_place;
 use indexmap::IndexMap;
 use ob_checked::types::DataType;
 use ob_grammar::tree::{FieldList, Name, TypeExpr};
+use ob_interface::scalar::Scalar;
 use ob_scopes::fault::{CheckFault, broken};
 use ob_scopes::scopes::{Meant, Scopes};
 use ob_scopes::taken::second;
 use ob_typing::rule::Rule;
-use ob_typing::scalar::Scalar;
 use std::alloc::Global;
 
 /// The longest array.
@@ -53,6 +53,37 @@ pub fn denoted(alloc: Global, scopes: &mut Scopes, expr: &TypeExpr) -> Result<Da
         TypeExpr::Record { place, fields } => {
             let fields = record_fields(alloc, scopes, fields)?;
             record_of(scopes, *place, fields)
+        }
+    }
+}
+
+/// The type of a formal type, which is a name. Within any other the rules are tested first; its limits never are.
+pub fn formal_type(
+    alloc: Global,
+    scopes: &mut Scopes,
+    expr: &TypeExpr,
+) -> Result<DataType, CheckFault>
+    ensures typed { IfOk result (λ t. Constants.formal (env_of scopes.old) (type_of expr.now) ≡ Right (type_in (types_in scopes.new) t)) }
+    ensures known { IfOk result (λ t. is_below (length (types_in scopes.new)) t ≡ true) }
+    ensures names { OnOk result (env_of scopes.new ≡ env_of scopes.old) }
+    ensures extends { OnOk result (Extends (types_in scopes.old) (types_in scopes.new)) }
+    ensures fault { IfErr result (λ f. Fails f (Constants.formal (env_of scopes.old) (type_of expr.now))) }
+{
+    match expr {
+        TypeExpr::Named(name) => type_named(scopes, name),
+        TypeExpr::Array {
+            place,
+            length,
+            element,
+        } => {
+            let value = constant(alloc, scopes, length)?;
+            array_length(value, first_place(length))?;
+            denoted(alloc, scopes, element)?;
+            Err(broken(Rule::WrongKind, *place))
+        }
+        TypeExpr::Record { place, fields } => {
+            record_fields(alloc, scopes, fields)?;
+            Err(broken(Rule::WrongKind, *place))
         }
     }
 }

@@ -4,12 +4,13 @@ use Rattle.std.specs.Prelude.{ℤ}
 use Rattle.std.proofs.Math.Logic.{∥∥₁_elim, ∥∥₁_map, ∥∥₁_prop}
 use Rattle.ob_check.specs.Program.{Program, Variable}
 use Rattle.ob_layout.specs.Encoding.{IsEncoding}
-use Rattle.ob_mean.specs.Object.{ObjectCall, Reply, State}
+use Rattle.ob_interface.specs.Call.{ObjectCall, Reply}
+use Rattle.ob_mean.specs.Object.{State}
 use Rattle.ob_run.specs.Computes.{Computes, IsComputed}
 use Rattle.wf_history.specs.declared.event.CallId.{CallId}
 use Rattle.wf_history.specs.History.{Event}
 use Rattle.wf_history.specs.Legal.{HasBegun, IsLegal, OneAtATime, more, none}
-use Rattle.wf_history.specs.OfModule.{CallEnds, IsLegalOrder}
+use Rattle.ob_order.specs.OfModule.{CallEnds, IsLegalOrder}
 use Rattle.wf_table.specs.Law.{Effects}
 
 -- calls made on states, which lead to the state that these words are of

@@ -3,14 +3,15 @@ use Rattle.std.proofs.Common.{ℕ, List, refl, ◌≡◌}
 use Rattle.std.specs.Prelude.{ℤ, Err}
 use Rattle.std.proofs.Math.Logic.{∥∥₁_elim}
 use Rattle.ob_check.specs.Program.{Program}
-use Rattle.ob_mean.specs.Object.{ObjectCall, Reply, State}
+use Rattle.ob_interface.specs.Call.{ObjectCall, Reply}
+use Rattle.ob_mean.specs.Object.{State}
 use Rattle.ob_run.proofs.Chain.{LegalTo}
 use Rattle.wf_history.specs.declared.event.CallId.{CallId}
-use Rattle.wf_history.specs.declared.order.OrderFault.{OrderFault}
-use Rattle.wf_history.specs.declared.order.OrderFault.TheVariants as Faults
+use Rattle.ob_order.specs.declared.order.OrderFault.{OrderFault}
+use Rattle.ob_order.specs.declared.order.OrderFault.TheVariants as Faults
 use Rattle.wf_history.specs.History.{Event, IsHistory}
-use Rattle.wf_history.specs.OrderFaults.{IsOfMeans, IsOrderFault}
-use Rattle.wf_history.proofs.Faults.{lawful_of}
+use Rattle.ob_order.specs.OrderFaults.{IsOfMeans, IsOrderFault}
+use Rattle.ob_order.proofs.Faults.{lawful_of}
 
 same_means : (fault : OrderFault) (a b : IsOfMeans fault) → a ≡ b
 same_means (Faults.NeedsMore id) a b = refl

@@ -10,16 +10,17 @@ use Rattle.std.proofs.Math.Nat.{ℕ_set}
 use Rattle.std.proofs.lemmas.List.FromFn.{get_or-map-range_with_len}
 use Rattle.std.proofs.lemmas.Option.{same_Some, slice_get-get_or, get_or_from_slice_get, slice_get_within}
 use Rattle.std.proofs.lemmas.Slice.Eq.{slice_eq-Decides}
-use Rattle.ob_check.specs.declared.program.Scalar.{Scalar}
+use Rattle.ob_interface.specs.declared.scalar.Scalar.{Scalar}
 use Rattle.ob_check.specs.Program.{Program}
-use Rattle.ob_mean.specs.Object.{Answers, Effect, Ends, NeedsMore, ObjectCall, Reply, State, Trapped, effect, on_end, one_at_a_time}
+use Rattle.ob_interface.specs.Call.{Answers, ObjectCall, Reply, Trapped}
+use Rattle.ob_mean.specs.Object.{Effect, Ends, NeedsMore, State, effect, on_end, one_at_a_time}
 use Rattle.ob_mean.proofs.MoreTurns.{one_end}
 use Rattle.ob_run.proofs.Chain.{LegalTo}
 use Rattle.ob_run.specs.OwnCalls.{HasReplies}
 use Rattle.wf_history.specs.declared.event.CallId.{CallId}
 use Rattle.wf_history.specs.History.{Event, End, IsHistory}
 use Rattle.wf_history.specs.Legal.{HasBegun, OneAtATime, RepliesAgree, more, none}
-use Rattle.wf_history.specs.OfModule.{CallEnds, IsLegalOrder}
+use Rattle.ob_order.specs.OfModule.{CallEnds, IsLegalOrder}
 use Rattle.wf_history.proofs.Once.{one_call}
 use Rattle.wf_history.proofs.Same.{scalar_eq, scalar_decides}
 use Rattle.wf_theorems.specs.FirstCalls.{AreFirstCalls, first_ids}

@@ -2,8 +2,9 @@
 use Rattle.std.specs.Prelude.{◌≡◌, ℤ, List}
 use Rattle.ob_check.specs.Program.{Program, Variable}
 use Rattle.ob_layout.specs.Encoding.{IsEncoding}
-use Rattle.ob_mean.specs.Object.{ObjectCall, Reply, State}
-use Rattle.wf_history.specs.OfModule.{CallEnds}
+use Rattle.ob_interface.specs.Call.{ObjectCall, Reply}
+use Rattle.ob_mean.specs.Object.{State}
+use Rattle.ob_order.specs.OfModule.{CallEnds}
 use Rattle.wf_table.specs.Law.{Effects}
 
 -- a call of the program ends on a state with this reply, and these are the words of the state that it leaves

@@ -1,6 +1,6 @@
 -- What the calls of a recorded run take of their processes.
 use Rattle.std.specs.Prelude.{◌≡◌, ℕ, List, ◌++◌}
-use Rattle.ob_mean.specs.Object.{ObjectCall}
+use Rattle.ob_interface.specs.Call.{ObjectCall}
 use Rattle.wf_bound.specs.Bound.{AllWithinBound, IsWithinBound}
 use Rattle.wf_bound.specs.Calls.{BeginsOne, own_spent}
 use Rattle.wf_bound.specs.Counted.{Counted, counted_from, counted_run}

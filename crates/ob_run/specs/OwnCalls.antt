@@ -1,7 +1,7 @@
 -- The calls of one process.
 use Rattle.std.specs.Prelude.{◌≡◌, ℕ, ◌-◌, ◌<◌, List, Contains, Some, map, nat_eq, slice_get}
 use Rattle.std.specs.List.{filter}
-use Rattle.ob_mean.specs.Object.{ObjectCall, Reply}
+use Rattle.ob_interface.specs.Call.{ObjectCall, Reply}
 use Rattle.wf_history.specs.History.{Event, End}
 
 -- those of the scripts, each of which stands with its process

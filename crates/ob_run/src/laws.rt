@@ -3,7 +3,8 @@
 ghost use Rattle.std.specs.Prelude.{◌≡◌, ◌<◌, ℕ, ℤ, All, List, Some, map};
 ghost use Rattle.ob_check.specs.Program.{Program};
 ghost use Rattle.ob_layout.specs.Encoding.{IsEncoding};
-ghost use Rattle.ob_mean.specs.Object.{ObjectCall, Reply, State, one_at_a_time};
+ghost use Rattle.ob_interface.specs.Call.{ObjectCall, Reply};
+ghost use Rattle.ob_mean.specs.Object.{State, one_at_a_time};
 ghost use Rattle.ob_record.specs.Record.{Record};
 ghost use Rattle.ob_run.specs.Computes.{Computes};
 ghost use Rattle.ob_run.specs.KeepsBound.{CallsKeepBound, KeepsBound, KeepsLimit};
@@ -11,8 +12,8 @@ ghost use Rattle.ob_run.specs.OwnCalls.{HasReplies, calls_by};
 ghost use Rattle.ob_run.specs.Recorded.{IsRecorded};
 ghost use Rattle.ob_schedule.specs.declared.item.Item.{Item};
 ghost use Rattle.wf_bound.specs.Ends.{AllEndWithin};
-ghost use Rattle.wf_history.specs.OrderFaults.{IsOfMeans, IsOrderFault};
-ghost use Rattle.wf_history.specs.declared.order.OrderFault.{OrderFault};
+ghost use Rattle.ob_order.specs.OrderFaults.{IsOfMeans, IsOrderFault};
+ghost use Rattle.ob_order.specs.declared.order.OrderFault.{OrderFault};
 ghost use Rattle.wf_theorems.specs.FirstCalls.{AreFirstCalls, own_ids};
 
 use wf_object::Engine;

@@ -10,7 +10,7 @@ ghost use Rattle.ob_schedule.specs.Schedule.{process_of};
 ghost use Rattle.ob_text.specs.ScriptView.{object_call, script_call_of};
 ghost use Rattle.wf_play.specs.Played.{IsPlayFault, scripts_of};
 
-use ob_grammar::NoMemory;
+use ob_interface::NoMemory;
 use ob_layout::{Layout, encode};
 use ob_mean::state::State;
 use ob_record::Record;

@@ -6,8 +6,8 @@ ghost use Rattle.ob_typing.specs.Arithmetic as Arithmetics;
 ghost use Rattle.ob_scalars.specs.Traps.{evaluated};
 
 use crate::trap::Trap;
+use ob_interface::scalar::{Scalar, ScalarType};
 use ob_typing::operator::{BinaryOperator, Relation};
-use ob_typing::scalar::{Scalar, ScalarType};
 
 /// The type of a scalar.
 pub fn type_of(scalar: Scalar) -> ScalarType
@@ -106,8 +106,8 @@ pub fn decides(operator: BinaryOperator, left: Scalar) -> bool
     ensures { result ≡ Arithmetics.decides operator left }
 {
     match operator {
-        BinaryOperator::And => !truth_of(left),
-        BinaryOperator::Or => truth_of(left),
+        BinaryOperator::And => left == Scalar::Bool(false),
+        BinaryOperator::Or => left == Scalar::Bool(true),
         BinaryOperator::Plus
         | BinaryOperator::Minus
         | BinaryOperator::Times

@@ -14,6 +14,8 @@ pub enum Trap {
     BadDivisor,
     /// Trap 4: more activations than there may be.
     TooManyActivations,
+    /// Trap 5: a turn where none is left.
+    NoTurnLeft,
 }
 
 /// The number of a trap.
@@ -25,5 +27,6 @@ pub fn trap_number(trap: Trap) -> u8
         Trap::OutsideArray => 2,
         Trap::BadDivisor => 3,
         Trap::TooManyActivations => 4,
+        Trap::NoTurnLeft => 5,
     }
 }

@@ -4,8 +4,8 @@ ghost use Rattle.std.specs.Prelude.{◌≡◌};
 ghost use Rattle.ob_typing.specs.Arithmetic as Arithmetics;
 
 use ob_grammar::tree::Operator;
+use ob_interface::scalar::ScalarType;
 use ob_typing::operator::{BinaryOperator, Relation};
-use ob_typing::scalar::ScalarType;
 
 /// The operator that is written so, where it is one of a chain.
 pub fn operator_of(operator: Operator) -> Option<BinaryOperator>

@@ -10,7 +10,7 @@ use Rattle.ob_scan.specs.declared.fault.ScanFault.TheVariants.{StrayByte, Number
 use Rattle.ob_scan.specs.declared.token.Kind.{Kind}
 use Rattle.ob_scan.specs.declared.token.Kind.TheVariants.{Ident, Number, LeftParen}
 use Rattle.ob_scan.specs.declared.token.Token.{Token}
-use Rattle.ob_scan.specs.declared.token.TheConstants.{LONGEST_NAME, LARGEST_NUMBER}
+use Rattle.ob_scan.specs.Limits.{longest_name, largest_number}
 use Rattle.ob_scan.specs.Spelling.{Spells, fixed, IsLongest, number_value}
 use Rattle.ob_scan.specs.Tokens.{IsBlank, OpensComment, opens, CommentEnds, spelling, place, KeepsLimits}
 use Rattle.ob_scan.specs.ScanFaults.{IsStray, stray, IsOpenComment, open', HasSpelling, has, IsScanFault}
@@ -106,7 +106,7 @@ fault_here whole tokens at (NumberTooLarge p) r (e, s) =
       };
       none = λ _ all h.
           (let g = goes_on_here whole tokens at r all h in
-          bad_none whole (take at whole) (drop at whole) g.0 Number (λ bytes. LARGEST_NUMBER < number_value bytes)
+          bad_none whole (take at whole) (drop at whole) g.0 Number (λ bytes. largest_number < number_value bytes)
           (sym (take-append-drop at whole)) (inr refl)
           (λ t k l b. (let m = l.1 k in omega arith)) (bad_here s) g.1 g.2);
     }
@@ -132,7 +132,7 @@ fault_here whole tokens at (NameTooLong p) r (e, s) =
       };
       none = λ _ all h.
           (let g = goes_on_here whole tokens at r all h in
-          bad_none whole (take at whole) (drop at whole) g.0 Ident (λ bytes. LONGEST_NAME < length bytes)
+          bad_none whole (take at whole) (drop at whole) g.0 Ident (λ bytes. longest_name < length bytes)
           (sym (take-append-drop at whole)) (inl refl)
           (λ t k l b. (let m = l.0 k in omega arith)) (bad_here s) g.1 g.2);
     }

@@ -2,6 +2,7 @@ pub mod Comments
 pub mod FaultFacts
 pub mod Reached
 pub mod Runs
+pub mod Scanners
 pub mod Spellings
 pub mod Stands
 pub mod Symbols

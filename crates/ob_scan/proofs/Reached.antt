@@ -1,5 +1,5 @@
 -- How far the scanner has come: behind the only tokens that the text can begin with.
-use Rattle.std.proofs.Common.{◌≡◌, ℕ, ◌+◌, ◌<◌, ◌≤◌, List, [], ◌∷◌, ◌++◌, length, drop, refl, sym, ◌∙◌, ap, subst, arith, get_or, append_assoc, length-drop}
+use Rattle.std.proofs.Common.{◌≡◌, ℕ, ◌+◌, ◌<◌, ◌≤◌, List, [], ◌∷◌, ◌++◌, length, drop, refl, sym, ◌∙◌, ap, subst, arith, get_or, length-drop}
 use Rattle.std.specs.List.{All}
 use Rattle.std.proofs.lemmas.Bool.{false≢true}
 use Rattle.std.proofs.lemmas.List.{drop-drop, drop_more, drop_at, append-nil}
@@ -8,7 +8,7 @@ use Rattle.ob_scan.specs.declared.token.Kind.{Kind}
 use Rattle.ob_scan.specs.declared.token.Token.{Token}
 use Rattle.ob_scan.specs.Spelling.{Spells, IsLongest}
 use Rattle.ob_scan.specs.Tokens.{IsBlank, space, tab, carriage_return, line_feed, OpensComment, opens, CommentEnds, BeginsWith, stops, blank, comment, token, spelling, place, KeepsLimits, HasTokensBefore, HasTokens}
-use Rattle.ob_scan.specs.Scanning.{StandsToken}
+use Rattle.ob_scan.specs.Scanning.{StandsToken, IsSkipped}
 use Rattle.ob_scan.proofs.TokenFacts.{slice_join}
 use Rattle.ob_scan.proofs.Spellings.{spells_shape, blank_spells_none, one_token}
 use Rattle.ob_scan.proofs.Comments.{head, tail, comment_ends_once, opens_is}
@@ -119,6 +119,19 @@ begins_on (blank c a) b = blank c (begins_on a b)
 begins_on (comment c a) b = comment c (begins_on a b)
 begins_on (token bytes kind e s l n a) b = token bytes kind e s l n (begins_on a b)
 
+-- what follows the first tokens of a text
+behind_first : {whole text rest : List ℕ} {tokens all : List Token} →
+    BeginsWith whole text tokens rest → BeginsWith whole text all [] →
+    (more : List Token) × (all ≡ tokens ++ more) × BeginsWith whole rest more []
+behind_first {all = all} stops a = (all, refl, a)
+behind_first (blank b r) a = behind_first r (behind_blank b (first a))
+behind_first (comment c r) a = behind_first r (behind_comment c (first a))
+behind_first {whole = whole} {text = text} (token {behind = behind} bytes kind e s l n r) a =
+    let m = behind_token e s l n (first a) in
+    let more = behind_first r m.2 in
+    let make : List Token → List Token = λ x. record { kind = kind; start = place whole text; end = place whole behind } ∷ x in
+    (more.0, m.1 ∙ ap make more.1, more.2)
+
 -- these tokens stand before this place, and each list of tokens of the text begins with them
 pub record Reached (whole : List ℕ) (tokens : List Token) (at : ℕ) : Type 0 where
   pub within : at ≤ length whole
@@ -126,56 +139,54 @@ pub record Reached (whole : List ℕ) (tokens : List Token) (at : ℕ) : Type 0 
   pub only : (all : List Token) → BeginsWith whole whole all [] →
       (more : List Token) × (all ≡ tokens ++ more) × BeginsWith whole (drop at whole) more []
 
+pub reached : (whole : List ℕ) (tokens : List Token) (at : ℕ) → at ≤ length whole → HasTokensBefore whole tokens (drop at whole) →
+    Reached whole tokens at
+reached whole tokens at h b = record { within = h; before = b; only = λ all a. behind_first b.spelled a }
+
 pub reached_start : (whole : List ℕ) → Reached whole [] 0
-reached_start whole = record {
-  within = omega arith;
-  before = record { spelled = stops; limited = All-nil (KeepsLimits whole) };
-  only = λ all b. (all, refl, b);
-}
+reached_start whole = reached whole [] 0 (omega arith) (record { spelled = stops; limited = All-nil (KeepsLimits whole) })
 
--- the place of what is left behind so many bytes
-pub place_drop : (whole : List ℕ) (at : ℕ) → at ≤ length whole → place whole (drop at whole) ≡ at
-place_drop whole at h = omega (arith, length-drop at whole)
+-- blanks and comments change no tokens
+pub reached_skipped : (whole : List ℕ) (tokens : List Token) (start at : ℕ) → Reached whole tokens start →
+    IsSkipped whole start at → Reached whole tokens at
+reached_skipped whole tokens start at r k =
+    reached whole tokens at k.within
+    (record {
+      spelled = subst (λ l. BeginsWith whole whole l (drop at whole)) (append-nil tokens) (begins_on r.before.spelled k.passed);
+      limited = r.before.limited;
+    })
 
-pub reached_blank : (whole : List ℕ) (tokens : List Token) (at : ℕ) → Reached whole tokens at → at < length whole →
-    IsBlank (get_or whole at 0) → Reached whole tokens (at + 1)
-reached_blank whole tokens at r h b =
-    let e = drop_more whole at 0 h in
-    let P : List ℕ → List Token → Type 0 = λ l more. BeginsWith whole l more [] in
-    let passed : BeginsWith whole (drop at whole) [] (drop (at + 1) whole) =
-    (let Q : List ℕ → Type 0 = λ l. BeginsWith whole l [] (drop (at + 1) whole) in subst Q (sym e) (blank b stops)) in
+pub skipped_none : (whole : List ℕ) (at : ℕ) → at ≤ length whole → IsSkipped whole at at
+skipped_none whole at h = record { onward = omega arith; within = h; passed = stops }
+
+pub skipped_blank : (whole : List ℕ) (start at : ℕ) → IsSkipped whole start at → at < length whole →
+    IsBlank (get_or whole at 0) → IsSkipped whole start (at + 1)
+skipped_blank whole start at k h b =
+    let o = k.onward in
+    let P : List ℕ → Type 0 = λ l. BeginsWith whole l [] (drop (at + 1) whole) in
     record {
+      onward = omega arith;
       within = omega arith;
-      before = record {
-        spelled = subst (λ l. BeginsWith whole whole l (drop (at + 1) whole)) (append-nil tokens) (begins_on r.before.spelled passed);
-        limited = r.before.limited;
-      };
-      only = λ all b'.
-          (let o = r.only all b' in
-          (o.0, o.1, behind_blank b (first (subst (λ l. P l o.0) e o.2))));
+      passed = begins_on k.passed (subst P (sym (drop_more whole at 0 h)) (blank b stops));
     }
 
 pub comment_here : (whole : List ℕ) (at : ℕ) → OpensComment (drop at whole) → drop at whole ≡ 40 ∷ 42 ∷ drop (at + 2) whole
 comment_here whole at o = opens_is o ∙ ap (λ l. 40 ∷ 42 ∷ l) (drop-drop 2 at whole)
 
-pub reached_comment : (whole : List ℕ) (tokens : List Token) (at end : ℕ) → Reached whole tokens at →
-    OpensComment (drop at whole) → CommentEnds (drop (at + 2) whole) (drop end whole) → end ≤ length whole →
-    Reached whole tokens end
-reached_comment whole tokens at end r o c h =
-    let e = comment_here whole at o in
-    let P : List ℕ → List Token → Type 0 = λ l more. BeginsWith whole l more [] in
-    let passed : BeginsWith whole (drop at whole) [] (drop end whole) =
-    (let Q : List ℕ → Type 0 = λ l. BeginsWith whole l [] (drop end whole) in subst Q (sym e) (comment c stops)) in
+pub skipped_comment : (whole : List ℕ) (start at end : ℕ) → IsSkipped whole start at → OpensComment (drop at whole) →
+    CommentEnds (drop (at + 2) whole) (drop end whole) → at < end → end ≤ length whole → IsSkipped whole start end
+skipped_comment whole start at end k o c f h =
+    let n = k.onward in
+    let P : List ℕ → Type 0 = λ l. BeginsWith whole l [] (drop end whole) in
     record {
+      onward = omega arith;
       within = h;
-      before = record {
-        spelled = subst (λ l. BeginsWith whole whole l (drop end whole)) (append-nil tokens) (begins_on r.before.spelled passed);
-        limited = r.before.limited;
-      };
-      only = λ all b.
-          (let o' = r.only all b in
-          (o'.0, o'.1, behind_comment c (first (subst (λ l. P l o'.0) e o'.2))));
+      passed = begins_on k.passed (subst P (sym (comment_here whole at o)) (comment c stops));
     }
+
+-- the place of what is left behind so many bytes
+pub place_drop : (whole : List ℕ) (at : ℕ) → at ≤ length whole → place whole (drop at whole) ≡ at
+place_drop whole at h = omega (arith, length-drop at whole)
 
 -- the bytes of a token, and what is left behind it
 pub token_here : (whole : List ℕ) (at : ℕ) (t : Token) → StandsToken whole at t →
@@ -197,23 +208,13 @@ pub reached_token : (whole : List ℕ) (tokens : List Token) (at : ℕ) (t : Tok
     StandsToken whole at t → ¬ OpensComment (drop at whole) → Reached whole (tokens ++ t ∷ []) t.end
 reached_token whole tokens at t r s n =
     let e = token_here whole at t s in
-    let p = token_placed whole at t r.within s in
     let P : Token → Type 0 = λ x. BeginsWith whole (drop at whole) (x ∷ []) (drop t.end whole) in
-    let passed = subst P p (token (spelling whole t) t.kind e s.spells s.longest n stops) in
-    record {
-      within = s.within;
-      before = record {
-        spelled = begins_on r.before.spelled passed;
-        limited = All-push (KeepsLimits whole) tokens t r.before.limited s.limited;
-      };
-      only = λ all b.
-          (let o = r.only all b in
-          let m = behind_token e s.spells s.longest n (first o.2) in (
-            m.0,
-            o.1 ∙ ap (λ l. tokens ++ l) (m.1 ∙ ap (λ x. x ∷ m.0) p) ∙ sym (append_assoc tokens (t ∷ []) m.0),
-            m.2,
-          ));
-    }
+    let passed = subst P (token_placed whole at t r.within s) (token (spelling whole t) t.kind e s.spells s.longest n stops) in
+    reached whole (tokens ++ t ∷ []) t.end s.within
+    (record {
+      spelled = begins_on r.before.spelled passed;
+      limited = All-push (KeepsLimits whole) tokens t r.before.limited s.limited;
+    })
 
 -- a list of tokens of the whole text goes on here
 pub goes_on_here : (whole : List ℕ) (tokens : List Token) (at : ℕ) → Reached whole tokens at →

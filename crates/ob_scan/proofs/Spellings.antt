@@ -8,7 +8,7 @@ use Rattle.std.proofs.lemmas.List.{append-nil}
 use Rattle.std.proofs.lemmas.Bool.{and_parts, cond-true, cond-false, false≢true}
 use Rattle.std.proofs.lemmas.Bool.Decides.{nat_tests}
 use Rattle.ob_scan.specs.declared.token.Kind.{Kind}
-use Rattle.ob_scan.specs.declared.token.Kind.TheVariants.{Ident, Number, Module, Begin, End, Const, «Type», Var, Procedure, Array, Of, Record, If, Then, Elsif, Else, While, Do, Div, Mod, Or, Assign, Colon, LessOrEqual, Less, GreaterOrEqual, Greater, Equal, NotEqual, Plus, Minus, Times, And, Not, Dot, Comma, Semicolon, LeftParen, RightParen, LeftBracket, RightBracket}
+use Rattle.ob_scan.specs.declared.token.Kind.TheVariants.{Ident, Number, Module, Begin, End, Const, «Type», Var, Procedure, Array, Of, Record, If, Then, Elsif, Else, While, Do, Repeat, Until, Div, Mod, Or, Assign, Colon, LessOrEqual, Less, GreaterOrEqual, Greater, Equal, NotEqual, Plus, Minus, Times, And, Not, Dot, Comma, Semicolon, LeftParen, RightParen, LeftBracket, RightBracket}
 use Rattle.ob_scan.specs.Spelling.{fixed_spelling, Spells, fixed, name, number, IsLongest}
 use Rattle.ob_scan.specs.Tokens.{IsBlank, space, tab, carriage_return, line_feed}
 
@@ -97,7 +97,7 @@ pub ruleset blanks = (blank_space, blank_tab, blank_return, blank_feed)
 
 -- kinds with one spelling
 abbrev fixed_kinds : List Kind
-fixed_kinds = Module ∷ Begin ∷ End ∷ Const ∷ «Type» ∷ Var ∷ Procedure ∷ Array ∷ Of ∷ Record ∷ If ∷ Then ∷ Elsif ∷ Else ∷ While ∷ Do ∷ Div ∷ Mod ∷ Or ∷ Assign ∷ Colon ∷ LessOrEqual ∷ Less ∷ GreaterOrEqual ∷ Greater ∷ Equal ∷ NotEqual ∷ Plus ∷ Minus ∷ Times ∷ And ∷ Not ∷ Dot ∷ Comma ∷ Semicolon ∷ LeftParen ∷ RightParen ∷ LeftBracket ∷ RightBracket ∷ []
+fixed_kinds = Module ∷ Begin ∷ End ∷ Const ∷ «Type» ∷ Var ∷ Procedure ∷ Array ∷ Of ∷ Record ∷ If ∷ Then ∷ Elsif ∷ Else ∷ While ∷ Do ∷ Repeat ∷ Until ∷ Div ∷ Mod ∷ Or ∷ Assign ∷ Colon ∷ LessOrEqual ∷ Less ∷ GreaterOrEqual ∷ Greater ∷ Equal ∷ NotEqual ∷ Plus ∷ Minus ∷ Times ∷ And ∷ Not ∷ Dot ∷ Comma ∷ Semicolon ∷ LeftParen ∷ RightParen ∷ LeftBracket ∷ RightBracket ∷ []
 
 abbrev is_spelled : List ℕ → Option (List ℕ) → Bool
 is_spelled bytes None = false

@@ -8,7 +8,7 @@ use Rattle.std.proofs.lemmas.List.Edits.{length-between}
 use Rattle.ob_scan.specs.declared.fault.ScanFault.TheVariants.{StrayByte, NumberTooLarge, NameTooLong}
 use Rattle.ob_scan.specs.declared.token.Kind.{Kind}
 use Rattle.ob_scan.specs.declared.token.Kind.TheVariants.{Ident, Number}
-use Rattle.ob_scan.specs.declared.token.TheConstants.{LONGEST_NAME, LARGEST_NUMBER}
+use Rattle.ob_scan.specs.Limits.{longest_name, largest_number}
 use Rattle.ob_scan.specs.Spelling.{fixed_spelling, Spells, fixed, name, number, number_value, IsLongest}
 use Rattle.ob_scan.specs.Tokens.{IsBlank, KeepsLimits}
 use Rattle.ob_scan.specs.ScanFaults.{IsStray, HasSpelling, has}
@@ -67,7 +67,7 @@ module _ (text : List ℕ) (start end : ℕ) (r : IsRun text start end is_ascii_
       subst P (sym r.parts)
       (name first_letter (run_passes is_ascii_alphanumeric r.rest) (λ k e. n k (e ∙ ap Some (sym r.parts))))
 
-  pub name_stands : ((kind : Kind) → fixed_spelling kind ≢ Some (slice_range text start end)) → end - start ≤ LONGEST_NAME →
+  pub name_stands : ((kind : Kind) → fixed_spelling kind ≢ Some (slice_range text start end)) → end - start ≤ longest_name →
       StandsToken text start (record { kind = Ident; start = start; end = end })
   name_stands n short = record {
     starts = refl;
@@ -78,10 +78,10 @@ module _ (text : List ℕ) (start end : ℕ) (r : IsRun text start end is_ascii_
     limited = ((λ _. omega (arith, length-between text start end r.within)), (λ k. absurd (name_no_number k)));
   }
 
-  pub name_too_long : ((kind : Kind) → fixed_spelling kind ≢ Some (slice_range text start end)) → LONGEST_NAME < end - start →
+  pub name_too_long : ((kind : Kind) → fixed_spelling kind ≢ Some (slice_range text start end)) → longest_name < end - start →
       StandsFault text start (NameTooLong start)
   name_too_long n long =
-      let P : List ℕ → Type 0 = HasSpelling Ident (λ bytes. LONGEST_NAME < length bytes) in
+      let P : List ℕ → Type 0 = HasSpelling Ident (λ bytes. longest_name < length bytes) in
       let o = r.ordered in (
         refl,
         subst P (slice_join text start end (omega arith))
@@ -89,9 +89,9 @@ module _ (text : List ℕ) (start end : ℕ) (r : IsRun text start end is_ascii_
       )
 
 -- what a test that failed says of a bound
-pub not_over : {answer : Bool} {n : ℕ} → IsTrue answer ↔ (LARGEST_NUMBER < n) → answer ≡ false → n ≤ LARGEST_NUMBER
+pub not_over : {answer : Bool} {n : ℕ} → IsTrue answer ↔ (largest_number < n) → answer ≡ false → n ≤ largest_number
 not_over {answer = answer} {n = n} says h =
-    ⊎_elim (λ (l : LARGEST_NUMBER < n). absurd (false≢true (sym h ∙ says.1 l))) (λ (g : n ≤ LARGEST_NUMBER). g) (cases_lt LARGEST_NUMBER n)
+    ⊎_elim (λ (l : largest_number < n). absurd (false≢true (sym h ∙ says.1 l))) (λ (g : n ≤ largest_number). g) (cases_lt largest_number n)
 
 -- a run of digits
 module _ (text : List ℕ) (start end : ℕ) (r : IsRun text start end is_ascii_digit)
@@ -112,7 +112,7 @@ module _ (text : List ℕ) (start end : ℕ) (r : IsRun text start end is_ascii_
       (number
       (and_from (is_ascii_digit r.first) (list_all is_ascii_digit (take n r.rest)) first_digit (run_passes is_ascii_digit r.rest)))
 
-  pub number_stands : number_value (slice_range text start end) ≤ LARGEST_NUMBER →
+  pub number_stands : number_value (slice_range text start end) ≤ largest_number →
       StandsToken text start (record { kind = Number; start = start; end = end })
   number_stands small = record {
     starts = refl;
@@ -123,10 +123,10 @@ module _ (text : List ℕ) (start end : ℕ) (r : IsRun text start end is_ascii_
     limited = ((λ k. absurd (name_no_number (sym k))), (λ _. small));
   }
 
-  pub number_too_large : LARGEST_NUMBER < number_value (slice_range text start end) →
+  pub number_too_large : largest_number < number_value (slice_range text start end) →
       StandsFault text start (NumberTooLarge start)
   number_too_large large =
-      let P : List ℕ → Type 0 = HasSpelling Number (λ bytes. LARGEST_NUMBER < number_value bytes) in
+      let P : List ℕ → Type 0 = HasSpelling Number (λ bytes. largest_number < number_value bytes) in
       let o = r.ordered in
       (refl, subst P (slice_join text start end (omega arith)) (has number_spells digits_longest large))
 

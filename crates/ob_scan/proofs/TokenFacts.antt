@@ -8,7 +8,7 @@ use Rattle.std.proofs.lemmas.List.{take_at, drop_at, take-append-drop, drop-drop
 use Rattle.std.proofs.lemmas.List.Elements.{All-nil, All-cons, All-head, All-tail, All-weaker}
 use Rattle.ob_scan.specs.declared.token.Kind.{Kind}
 use Rattle.ob_scan.specs.declared.token.Kind.TheVariants.{Ident, Number}
-use Rattle.ob_scan.specs.declared.token.TheConstants.{LONGEST_NAME, LARGEST_NUMBER}
+use Rattle.ob_scan.specs.Limits.{longest_name, largest_number}
 use Rattle.ob_scan.specs.declared.token.Token.{Token}
 use Rattle.ob_scan.specs.Lexemes.{lexeme, IsSpelled, spelled, lexemes}
 use Rattle.ob_scan.specs.Spelling.{fixed_spelling, Spells, fixed, name, number, number_value}
@@ -125,13 +125,13 @@ ident_spelled {text = text} {tokens = tokens} h =
 
 -- a name has a byte, and is no longer than the limit
 pub ident_length : {text : List ℕ} {tokens : List Token} → HasTokens text tokens →
-    All (λ t. t.kind ≡ Ident → (0 < length (spelling text t)) × (length (spelling text t) ≤ LONGEST_NAME)) tokens
+    All (λ t. t.kind ≡ Ident → (0 < length (spelling text t)) × (length (spelling text t) ≤ longest_name)) tokens
 ident_length {text = text} {tokens = tokens} h k d below e =
     ((ident_bytes (tokens_spelled h k d below).spells e).1, (h.limited k d below).0 e)
 
 pub number_spelled : {text : List ℕ} {tokens : List Token} → HasTokens text tokens →
     All (λ t. t.kind ≡ Number →
-    IsTrue (list_all is_ascii_digit (spelling text t)) × (number_value (spelling text t) ≤ LARGEST_NUMBER)) tokens
+    IsTrue (list_all is_ascii_digit (spelling text t)) × (number_value (spelling text t) ≤ largest_number)) tokens
 number_spelled {text = text} {tokens = tokens} h k d below e =
     ((number_bytes (tokens_spelled h k d below).spells e).0, (h.limited k d below).1 e)
 

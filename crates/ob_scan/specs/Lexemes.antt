@@ -1,7 +1,7 @@
 -- Tokens with their bytes, as the grammar reads them.
 use Rattle.std.specs.Prelude.{◌≡◌, ℕ, ◌≤◌, List, length, map}
 use Rattle.ob_scan.specs.declared.token.Kind.{Kind}
-use Rattle.ob_scan.specs.declared.token.TheConstants.{LONGEST_NAME, LARGEST_NUMBER}
+use Rattle.ob_scan.specs.Limits.{longest_name, largest_number}
 use Rattle.ob_scan.specs.declared.token.Token.{Token}
 use Rattle.ob_scan.specs.Spelling.{Spells, number_value}
 use Rattle.ob_scan.specs.Tokens.{spelling}
@@ -22,6 +22,6 @@ lexemes text = map (λ t. lexeme t.kind t.start (spelling text t))
 pub data IsSpelled : Lexeme → Type 0 where
   spelled : {kind : Kind} {place : ℕ} {bytes : List ℕ} →
       Spells bytes kind →
-      (kind ≡ Kind.Ident → length bytes ≤ LONGEST_NAME) →
-      (kind ≡ Kind.Number → number_value bytes ≤ LARGEST_NUMBER) →
+      (kind ≡ Kind.Ident → length bytes ≤ longest_name) →
+      (kind ≡ Kind.Number → number_value bytes ≤ largest_number) →
       IsSpelled (lexeme kind place bytes)

@@ -4,8 +4,8 @@ use Rattle.std.specs.Prelude.{◌≡◌, ℕ, ◌<◌, length, List, ◌∷◌, 
 use Rattle.ob_scan.specs.declared.fault.ScanFault.{ScanFault}
 use Rattle.ob_scan.specs.declared.fault.ScanFault.TheVariants.{StrayByte, NumberTooLarge, OpenComment, NameTooLong, TooLong, NoMemory}
 use Rattle.ob_scan.specs.declared.token.Kind.{Kind}
-use Rattle.ob_scan.specs.declared.scanner.TheConstants.{LONGEST_TEXT}
-use Rattle.ob_scan.specs.declared.token.TheConstants.{LONGEST_NAME, LARGEST_NUMBER}
+use Rattle.ob_scan.specs.Limits.{longest_text}
+use Rattle.ob_scan.specs.Limits.{longest_name, largest_number}
 use Rattle.ob_scan.specs.declared.token.Token.{Token}
 use Rattle.ob_scan.specs.Spelling.{Spells, IsLongest, number_value}
 use Rattle.ob_scan.specs.Tokens.{IsBlank, CommentEnds, HasTokensBefore, HasTokens, place}
@@ -37,10 +37,10 @@ pub record StandsAt (whole : List ℕ) (at : ℕ) (IsFault : List ℕ → Type 0
 abbrev pub FaultStands : List ℕ → ScanFault → Type 0
 FaultStands whole (StrayByte at) = StandsAt whole at IsStray
 FaultStands whole (NumberTooLarge at) =
-    StandsAt whole at (HasSpelling Kind.Number (λ bytes. LARGEST_NUMBER < number_value bytes))
+    StandsAt whole at (HasSpelling Kind.Number (λ bytes. largest_number < number_value bytes))
 FaultStands whole (OpenComment at) = StandsAt whole at IsOpenComment
-FaultStands whole (NameTooLong at) = StandsAt whole at (HasSpelling Kind.Ident (λ bytes. LONGEST_NAME < length bytes))
-FaultStands whole TooLong = LONGEST_TEXT < length whole
+FaultStands whole (NameTooLong at) = StandsAt whole at (HasSpelling Kind.Ident (λ bytes. longest_name < length bytes))
+FaultStands whole TooLong = longest_text < length whole
 FaultStands whole NoMemory = Unit {0}
 
 -- the faults that say that there is no list of tokens

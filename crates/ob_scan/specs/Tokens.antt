@@ -2,7 +2,7 @@
 use Rattle.std.specs.Prelude.{◌≡◌, ℕ, ◌-◌, ◌≤◌, length, slice_range, List, [], ◌∷◌, ◌++◌, All}
 use Rattle.ob_scan.specs.declared.token.Kind.{Kind}
 use Rattle.ob_scan.specs.declared.token.Kind.TheVariants.{Ident, Number}
-use Rattle.ob_scan.specs.declared.token.TheConstants.{LONGEST_NAME, LARGEST_NUMBER}
+use Rattle.ob_scan.specs.Limits.{longest_name, largest_number}
 use Rattle.ob_scan.specs.declared.token.Token.{Token}
 use Rattle.ob_scan.specs.Spelling.{Spells, IsLongest, number_value}
 
@@ -55,11 +55,11 @@ module _ (whole : List ℕ) where
 abbrev pub spelling : List ℕ → Token → List ℕ
 spelling text t = slice_range text t.start t.end
 
--- a name has at most LONGEST_NAME bytes, 64, and a number is at most LARGEST_NUMBER, 2147483647
+-- a name has at most longest_name bytes, 64, and a number is at most largest_number, 2147483647
 abbrev pub KeepsLimits : List ℕ → Token → Type 0
 KeepsLimits text t =
-    (t.kind ≡ Ident → length (spelling text t) ≤ LONGEST_NAME)
-    × (t.kind ≡ Number → number_value (spelling text t) ≤ LARGEST_NUMBER)
+    (t.kind ≡ Ident → length (spelling text t) ≤ longest_name)
+    × (t.kind ≡ Number → number_value (spelling text t) ≤ largest_number)
 
 -- the text begins with these tokens, they keep the limits, and this rest is left
 pub record HasTokensBefore (text : List ℕ) (tokens : List Token) (rest : List ℕ) : Type 0 where

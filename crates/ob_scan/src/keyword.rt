@@ -31,6 +31,8 @@ pub fn keyword(word: &[u8]) -> Option<Kind>
         b"ELSE" => Some(Kind::Else),
         b"WHILE" => Some(Kind::While),
         b"DO" => Some(Kind::Do),
+        b"REPEAT" => Some(Kind::Repeat),
+        b"UNTIL" => Some(Kind::Until),
         b"DIV" => Some(Kind::Div),
         b"MOD" => Some(Kind::Mod),
         b"OR" => Some(Kind::Or),

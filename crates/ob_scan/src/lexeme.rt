@@ -3,6 +3,7 @@
 ghost use Rattle.std.specs.Prelude.{◌≡◌, ◌+◌, ◌<◌, ◌↔◌, IsTrue, [], ◌∷◌, length, slice_index, Some, IfSome, IfNone, IfOk, IfErr};
 ghost use Rattle.std.specs.List.{prefix_len, list_all};
 ghost use Rattle.std.specs.Char.{is_ascii_alphabetic, is_ascii_alphanumeric, is_ascii_digit};
+ghost use Rattle.ob_scan.specs.Limits.{largest_number};
 ghost use Rattle.ob_scan.specs.Spelling.{fixed_spelling, number_value};
 ghost use Rattle.ob_scan.specs.Tokens.{IsBlank};
 ghost use Rattle.ob_scan.specs.Scanning.{HasNoLongSymbol, StandsToken, StandsFault};
@@ -40,7 +41,7 @@ fn count_digits(bytes: &[u8]) -> usize
 /// Whether digits spell a number over the largest.
 fn is_too_large(digits: &[u8]) -> bool
     requires { IsTrue (list_all is_ascii_digit digits.now) }
-    ensures { IsTrue result ↔ (LARGEST_NUMBER < number_value digits.now) }
+    ensures { IsTrue result ↔ (largest_number < number_value digits.now) }
 {
     // counted no further than one above the largest, so that no digits are too many
     let mut value = 0;

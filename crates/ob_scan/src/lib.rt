@@ -11,6 +11,6 @@ pub mod token;
 pub mod tokens;
 
 pub use fault::ScanFault;
-pub use scanner::scan;
-pub use token::{Kind, Token};
+pub use scanner::{Scanner, scan};
+pub use token::{Kind, Lent, Token};
 pub use tokens::Tokens;

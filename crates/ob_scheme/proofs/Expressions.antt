@@ -6,8 +6,8 @@ use Rattle.ob_check.specs.declared.program.DataType.{DataType}
 use Rattle.ob_check.specs.declared.program.DataType.TheVariants.{Integer}
 use Rattle.ob_check.specs.declared.program.Arithmetic.{Arithmetic}
 use Rattle.ob_check.specs.declared.program.Arithmetic.TheVariants.{Plus, Minus}
-use Rattle.ob_check.specs.declared.program.Scalar.{Scalar}
-use Rattle.ob_check.specs.declared.program.Scalar.TheVariants.{Int, Bool as Truth}
+use Rattle.ob_interface.specs.declared.scalar.Scalar.{Scalar}
+use Rattle.ob_interface.specs.declared.scalar.Scalar.TheVariants.{Int, Bool as Truth}
 use Rattle.ob_check.specs.Program.{Name, Variable, Parameter, Expression, Literal, ValueOf, Negated, Computed, Operations, no_operation, operation, Designator, OfModule, Own as OwnName}
 use Rattle.ob_check.specs.Arithmetic.{Evaluated, Gives as Evaluates, Traps as Fails, ◌>>=◌, in_range, computed, number_of}
 use Rattle.ob_mean.specs.Value.{Single, scalar_of}

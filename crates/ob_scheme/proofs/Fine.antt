@@ -2,8 +2,8 @@
 use Rattle.std.proofs.Common.{◌≡◌, Some, ◌⊎◌, List, [], ◌∷◌}
 use Rattle.ob_check.specs.declared.program.DataType.{DataType}
 use Rattle.ob_check.specs.declared.program.DataType.TheVariants.{Integer}
-use Rattle.ob_check.specs.declared.program.Scalar.{Scalar}
-use Rattle.ob_check.specs.declared.program.Scalar.TheVariants.{Int, Bool as Truth}
+use Rattle.ob_interface.specs.declared.scalar.Scalar.{Scalar}
+use Rattle.ob_interface.specs.declared.scalar.Scalar.TheVariants.{Int, Bool as Truth}
 use Rattle.ob_check.specs.Program.{Variable, Procedure, Expression, Literal, ValueOf, Negated, Computed, Operations, no_operation, operation, Designator, OfModule, Own as OwnName, Statement, Assign, Statements, no_statement, statement}
 use Rattle.ob_layout.specs.Scopes.{Own, Reference, Scope, slot_of, module_scope, frame_scope}
 use Rattle.ob_layout.specs.Encoding.{IsScalarOf}

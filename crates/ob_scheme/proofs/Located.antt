@@ -4,7 +4,7 @@ use Rattle.std.specs.Prelude.{bytes_eq, if◌then◌else◌}
 use Rattle.std.proofs.lemmas.Slice.Eq.{bytes_eq-Decides}
 use Rattle.ob_check.specs.declared.program.DataType.{DataType}
 use Rattle.ob_check.specs.declared.program.DataType.TheVariants.{Integer}
-use Rattle.ob_check.specs.declared.program.Scalar.TheVariants.{Int, Bool as Truth}
+use Rattle.ob_interface.specs.declared.scalar.Scalar.TheVariants.{Int, Bool as Truth}
 use Rattle.ob_check.specs.Program.{Name}
 use Rattle.ob_check.specs.Scopes.{words}
 use Rattle.ob_mean.specs.Value.{Value, Single, scalar_of}

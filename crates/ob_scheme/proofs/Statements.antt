@@ -2,7 +2,7 @@
 use Rattle.std.proofs.Common.{◌≡◌, ℕ, ◌+◌, ◌<◌, ◌≤◌, ℤ, pos, List, [], ◌∷◌, ◌++◌, length, drop, set, Some, refl, sym, ap, ◌∙◌, subst, append-nil, length-append, arith}
 use Rattle.std.specs.Prelude.{slice_get}
 use Rattle.ob_check.specs.declared.program.DataType.TheVariants.{Integer}
-use Rattle.ob_check.specs.declared.program.Scalar.{Scalar}
+use Rattle.ob_interface.specs.declared.scalar.Scalar.{Scalar}
 use Rattle.ob_check.specs.Program.{Variable, Parameter, Expression, Designator, Statement, Assign, Statements, no_statement, statement}
 use Rattle.ob_check.specs.Arithmetic.{Evaluated, Gives as Evaluates, Traps as Fails}
 use Rattle.ob_mean.specs.Value.{Single}

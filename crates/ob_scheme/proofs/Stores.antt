@@ -3,7 +3,7 @@ use Rattle.std.proofs.Common.{◌≡◌, ℕ, zero, suc, ◌+◌, ◌<◌, ℤ, 
 use Rattle.std.specs.Prelude.{slice_set}
 use Rattle.std.proofs.lemmas.List.{get_or_at, set_at, take_at, drop_at}
 use Rattle.ob_check.specs.declared.program.DataType.{DataType}
-use Rattle.ob_check.specs.declared.program.Scalar.{Scalar}
+use Rattle.ob_interface.specs.declared.scalar.Scalar.{Scalar}
 use Rattle.ob_check.specs.Program.{Name}
 use Rattle.ob_mean.specs.Value.{Value, Single}
 use Rattle.ob_mean.specs.Store.{Place, Activation, Store, activation_at, held_by, rebound, stored}

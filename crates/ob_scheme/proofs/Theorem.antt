@@ -3,11 +3,12 @@ use Rattle.std.proofs.Common.{◌≡◌, ◌≢◌, ℕ, zero, suc, ◌+◌, ◌
 use Rattle.std.specs.Prelude.{slice_get}
 use Rattle.std.proofs.lemmas.List.{take_at}
 use Rattle.std.proofs.lemmas.Bool.Decides.{nat_tests}
-use Rattle.ob_check.specs.declared.program.Scalar.{Scalar}
+use Rattle.ob_interface.specs.declared.scalar.Scalar.{Scalar}
 use Rattle.ob_check.specs.Program.{Variable, Parameter, Procedure}
 use Rattle.ob_mean.specs.Store.{Activation, Store, activation_at}
 use Rattle.ob_mean.specs.Statements.{Outcome, Done, Trap, NotYet, meaning_of_all}
-use Rattle.ob_mean.specs.Object.{State, Effect, Ends, NeedsMore, Reply, Answers, Trapped as TrappedReply, effect_of, effect_of_procedure, values_of, results_begun, bound}
+use Rattle.ob_interface.specs.Call.{Reply, Answers, Trapped as TrappedReply}
+use Rattle.ob_mean.specs.Object.{State, Effect, Ends, NeedsMore, effect_of, effect_of_procedure, values_of, results_begun, bound}
 use Rattle.ob_layout.specs.Scopes.{Scope, extent, module_scope, results_scope, frame_scope}
 use Rattle.ob_layout.specs.Encoding.{encoded, IsStateOf}
 use Rattle.ob_layout.specs.Temporaries.{statements_temporaries}

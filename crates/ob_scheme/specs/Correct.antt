@@ -1,12 +1,13 @@
 -- What it means that compiled code does what its procedure means.
 use Rattle.std.specs.Prelude.{◌≡◌, ◌≢◌, ℕ, Bool, true, false, ℤ, List, [], ◌∷◌, map, filter, slice_get, Some, MatchBool, if◌then◌else◌}
-use Rattle.ob_check.specs.declared.program.Scalar.{Scalar}
+use Rattle.ob_interface.specs.declared.scalar.Scalar.{Scalar}
 use Rattle.ob_check.specs.declared.program.DataType.{DataType}
 use Rattle.ob_grammar.specs.Tree.{Module}
 use Rattle.ob_check.specs.Program.{Variable, Parameter, Procedure, Program}
 use Rattle.ob_check.specs.Typing.{WellTyped}
 use Rattle.ob_check.specs.Scopes.{variable_words}
-use Rattle.ob_mean.specs.Object.{State, Answers, Trapped as TrappedReply, Ends, NeedsMore, first_argument, other_arguments, effect_of_procedure}
+use Rattle.ob_interface.specs.Call.{Answers, Trapped as TrappedReply}
+use Rattle.ob_mean.specs.Object.{State, Ends, NeedsMore, first_argument, other_arguments, effect_of_procedure}
 use Rattle.ob_layout.specs.Encoding.{word, encoded, IsScalarOf, IsStateOf}
 use Rattle.ob_layout.specs.Temporaries.{stack_words}
 use Rattle.ob_scheme.specs.Scheme.{code_of}

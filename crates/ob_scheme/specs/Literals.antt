@@ -1,7 +1,7 @@
 -- The literals of a program are in the range of INTEGER.
 use Rattle.std.specs.Prelude.{List, [], ◌∷◌}
-use Rattle.ob_check.specs.declared.program.Scalar.{Scalar}
-use Rattle.ob_check.specs.declared.program.Scalar.TheVariants.{Int, Bool as Truth}
+use Rattle.ob_interface.specs.declared.scalar.Scalar.{Scalar}
+use Rattle.ob_interface.specs.declared.scalar.Scalar.TheVariants.{Int, Bool as Truth}
 use Rattle.ob_check.specs.Program.{Expression, Literal, ValueOf, Negated, Computed, Operations, no_operation, operation, Statement, Assign, Statements, no_statement, statement, Procedure}
 use Rattle.ob_layout.specs.Encoding.{IsInteger}
 

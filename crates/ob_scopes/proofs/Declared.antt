@@ -12,9 +12,9 @@ use Rattle.ob_typing.specs.Program.{Name}
 use Rattle.ob_typing.specs.Scopes as Declared
 use Rattle.ob_typing.specs.Scopes.{Environment, no_names, with_name, is_declared, declared}
 use Rattle.ob_typing.specs.ExpressionFaults.{broken}
-use Rattle.ob_typing.proofs.Verdict.{Wrong, ◌>>=◌}
-use Rattle.ob_typing.proofs.CheckedTypes.{constant}
-use Rattle.ob_typing.proofs.CheckedModules.{constants}
+use Rattle.ob_typing.specs.Verdict.{Wrong, ◌>>=◌}
+use Rattle.ob_typing.specs.TypeVerdicts.{constant}
+use Rattle.ob_typing.specs.ModuleVerdicts.{constants}
 use Rattle.ob_checked.specs.Types.{Entry}
 use Rattle.ob_scopes.specs.declared.scopes.Object.{Object}
 use Rattle.ob_scopes.specs.Objects.{object_of, scope_of, known_object, known_names}

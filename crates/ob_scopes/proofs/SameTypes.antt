@@ -3,8 +3,8 @@ use Rattle.std.proofs.Common.{◌≡◌, ◌≢◌, ℕ, zero, suc, ◌+◌, ◌
 use Rattle.std.specs.Prelude.{◌&&◌, bytes_eq, nat_eq, string_bytes, slice_get}
 use Rattle.std.specs.declared.alloc.Global.{Global}
 use Rattle.std.proofs.lemmas.Slice.Eq.{bytes_eq-Decides}
-use Rattle.ob_typing.specs.declared.scalar.ScalarType.{ScalarType}
-use Rattle.ob_typing.specs.declared.scalar.ScalarType.TheVariants.{Integer, Boolean}
+use Rattle.ob_interface.specs.declared.scalar.ScalarType.{ScalarType}
+use Rattle.ob_interface.specs.declared.scalar.ScalarType.TheVariants.{Integer, Boolean}
 use Rattle.ob_typing.specs.Program.{DataType, Fields, Simple, Array, Record, no_field, field}
 use Rattle.ob_typing.specs.Arithmetic.{same_scalar_type}
 use Rattle.ob_typing.specs.Scopes.{same_type, same_fields, depth, depth_of_fields}

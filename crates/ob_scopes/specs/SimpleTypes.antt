@@ -1,6 +1,6 @@
 -- The scalar type that a type is.
 use Rattle.std.specs.Prelude.{Option, Some, None}
-use Rattle.ob_typing.specs.declared.scalar.ScalarType.{ScalarType}
+use Rattle.ob_interface.specs.declared.scalar.ScalarType.{ScalarType}
 use Rattle.ob_typing.specs.Program.{DataType, Simple}
 
 abbrev pub simple_type : DataType → Option ScalarType

@@ -7,10 +7,10 @@ ghost use Rattle.ob_typing.specs.Expressions as Typing;
 ghost use Rattle.ob_scopes.specs.Usages.{use_of};
 
 use ob_grammar::tree::Sign;
+use ob_interface::scalar::Scalar;
 use ob_scalars::operators::{compared, complement, computed, decides, negated};
 use ob_scalars::trap::Trap;
 use ob_typing::operator::{BinaryOperator, Relation};
-use ob_typing::scalar::Scalar;
 
 /// Where an expression stands.
 #[derive(Clone, Copy, PartialEq, Eq)]

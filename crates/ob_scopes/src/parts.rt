@@ -9,7 +9,7 @@ ghost use Rattle.ob_scopes.specs.SimpleTypes.{simple_type};
 
 use indexmap::IndexMap;
 use ob_checked::types::{DataType, Structure, Types};
-use ob_typing::scalar::ScalarType;
+use ob_interface::scalar::ScalarType;
 
 /// The fields of a record.
 pub fn fields_of<'t>(

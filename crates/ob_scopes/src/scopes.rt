@@ -12,8 +12,8 @@ use indexmap::IndexMap;
 use ob_checked::program::{Owner, Parameter};
 use ob_checked::types::{DataType, Types};
 use ob_grammar::tree::Name;
+use ob_interface::scalar::{Scalar, ScalarType};
 use ob_scalars::operators::type_of;
-use ob_typing::scalar::{Scalar, ScalarType};
 use std::alloc::Global;
 use std::mem::replace;
 
@@ -155,7 +155,7 @@ fn found_around<'s>(scopes: &'s [Scope], name: &str) -> Option<&'s Object>
 }
 
 impl Scopes {
-    ghost use Rattle.std.specs.Prelude.{◌≡◌, ◌<◌, true, ℕ, length, option_map, map, ◌∷◌, [], OnOk, IfOk, IfErr, IfSome};
+    ghost use Rattle.std.specs.Prelude.{◌≡◌, ◌<◌, true, ℕ, length, option_map, map, ◌∷◌, [], OnOk, OnErr, IfOk, IfErr, IfSome};
     ghost use Rattle.std.specs.Prelude as Lists;
     ghost use Rattle.ob_grammar.specs.View.{name_of};
     ghost use Rattle.ob_typing.specs.Program as Programs;
@@ -390,10 +390,16 @@ impl Scopes {
         ensures ok { OnOk result (env_of self.new ≡ scope_of (types_in self.old) scope ∷ env_of self.old) }
         ensures types { types_in self.new ≡ types_in self.old }
         ensures fault { IfErr result (λ f. f ≡ CheckFault.NoMemory) }
+        ensures unchanged { OnErr result (env_of self.new ≡ env_of self.old) }
     {
         let outer = replace(&mut self.own, scope);
-        self.around.push(outer)?;
-        Ok(())
+        match self.around.push(outer) {
+            Ok(()) => Ok(()),
+            Err(failed) => {
+                self.own = failed.value;
+                Err(CheckFault::NoMemory)
+            }
+        }
     }
 
     /// Takes the innermost scope away.

@@ -1,20 +1,19 @@
 -- A script's calls taken apart: the callers, and the calls on the object.
-use Rattle.std.proofs.Common.{◌≡◌, ℕ, ◌<◌, suc, List, [], ◌∷◌, length, take, get_or, map, slice_index, inl, inr, refl, sym, ◌∙◌, ap, subst, arith, All}
-use Rattle.std.proofs.lemmas.List.{length-map, take-map, get_or_read}
+use Rattle.std.proofs.Common.{◌≡◌, ℕ, ◌<◌, List, [], ◌∷◌, map, refl, ap, subst, All}
+use Rattle.std.proofs.lemmas.List.{length-map}
 use Rattle.std.proofs.lemmas.List.Elements.{All-cons, All-nil, All-map}
-use Rattle.std.proofs.lemmas.Option.{slice_get_within, slice_get_cases}
 use Rattle.std.proofs.Math.ListN.{get_or-map}
 use Rattle.ob_typing.specs.Program.{Program}
-use Rattle.ob_meaning.specs.Object.{ObjectCall, Reply, AreReplies}
+use Rattle.ob_interface.specs.Call.{ObjectCall, Reply}
+use Rattle.ob_meaning.specs.Object.{AreReplies}
 use Rattle.ob_interpreter.specs.View.{call_of}
 use Rattle.ob_calls.specs.declared.script.ScriptCall.{ScriptCall}
 use Rattle.ob_calls.specs.Script
 use Rattle.ob_text.specs.Words.{Word}
 use Rattle.ob_calls.specs.Script.{AreLines, none, skipped, call, Makes, makes}
-use Rattle.ob_sequential.specs.declared.opened.TheConstants.{TURNS}
 use Rattle.ob_calls.specs.ScriptView.{script_call_of}
-use Rattle.ob_calls.specs.ReplyLines.{reply_lines, count_of}
-use Rattle.ob_sequential.specs.SequentialRun.{NeedsMoreAt, NeedsMoreTurnsIn, PrintsReplies}
+use Rattle.ob_calls.specs.ReplyLines.{reply_lines}
+use Rattle.ob_sequential.specs.SequentialRun.{PrintsReplies}
 
 callers_in : (xs : List ScriptCall) → map (λ c. c.process) (map script_call_of xs) ≡ map (λ c. c.process) xs
 callers_in [] = refl
@@ -48,45 +47,12 @@ pub callers_all_below : (xs : List ScriptCall) (callers : List ℕ) → callers 
 callers_all_below xs callers apart processes h =
     rw apart (All-map (λ (p : ℕ). p < processes) (λ (c : ScriptCall). c.process) xs h)
 
-module _ (program : Program) (xs : List ScriptCall) (callers : List ℕ) (calls : List ObjectCall) (apart : callers ≡ map (λ c. c.process) xs) (apart' : calls ≡ map (λ c. call_of c.call) xs) where
-  pub prints : (replies : List Reply) (output : List ℕ) → AreReplies program TURNS calls replies → output ≡ reply_lines [] callers replies →
-      PrintsReplies program (map script_call_of xs) output
+module _ (program : Program) (budget : ℕ) (xs : List ScriptCall) (callers : List ℕ) (calls : List ObjectCall) (apart : callers ≡ map (λ c. c.process) xs) (apart' : calls ≡ map (λ c. call_of c.call) xs) where
+  pub prints : (replies : List Reply) (output : List ℕ) → AreReplies program budget calls replies → output ≡ reply_lines [] callers replies →
+      PrintsReplies program budget (map script_call_of xs) output
   prints replies output replied printed =
       record {
         replies = replies;
         replied = rw (calls_in, ← apart') replied;
         printed = rw (callers_in, ← apart) printed;
       }
-
-  pub needs_more_within : (position : ℕ) → NeedsMoreAt program TURNS calls position → position < length callers
-  needs_more_within position more =
-      let within = slice_get_within calls position more.call more.here in
-      let as_many : length callers ≡ length xs = ap length apart ∙ length-map xs (λ (c : ScriptCall). c.process) in
-      let as_many' : length calls ≡ length xs = ap length apart' ∙ length-map xs (λ (c : ScriptCall). call_of c.call) in
-      omega arith
-
-  pub needs_more : (position caller number : ℕ) → NeedsMoreAt program TURNS calls position → caller ≡ get_or callers position caller →
-      number ≡ suc (count_of (slice_index callers position) (take position callers)) → NeedsMoreTurnsIn program (map script_call_of xs) caller number
-  needs_more position caller number more at counted =
-      let ys = map script_call_of xs in
-      let within = needs_more_within position more in
-      let as_many : length callers ≡ length ys = ap length (apart ∙ sym (callers_in xs)) ∙ length-map ys (λ c. c.process) in
-      let whose : callers ≡ map (λ c. c.process) ys = apart ∙ sym (callers_in xs) in
-      let taken : take position callers ≡ map (λ c. c.process) (take position ys) =
-      ap (take position) whose ∙ take-map (λ c. c.process) position ys in
-      elim ((slice_get_cases ys position).1) [
-        | inl p ↦
-            let here : get_or callers position p.0.process ≡ p.0.process =
-            rw whose (get_or-map (λ c. c.process) ys position p.0 ∙ ap (λ c. c.process) p.3) in
-            let same : caller ≡ p.0.process = get_or_read callers position caller within at p.0.process ∙ here in
-            let read : slice_index callers position ≡ caller = sym (get_or_read callers position caller within at 0) in
-            record {
-              position = position;
-              call = p.0;
-              more = rw (calls_in, ← apart') more;
-              here = p.2;
-              by = sym same;
-              counted = counted ∙ ap suc (ap (λ q. count_of q (take position callers)) read ∙ ap (count_of caller) taken);
-            }
-        | inr p ↦ absurd (omega (arith, p.0))
-      ]

@@ -13,29 +13,26 @@ use Rattle.ob_calls.specs.Script.{IsScriptFault}
 use Rattle.ob_calls.specs.declared.script.ScriptFault.{ScriptFault}
 use Rattle.ob_sequential.specs.SequentialRun.{IsSeqTextFault, IsScriptFaultOf, processes}
 use Rattle.ob_sequential.specs.SequentialParts as Parts
-use Rattle.ob_sequential.specs.declared.opened.TheConstants.{TURNS}
 use Rattle.ob_sequential.proofs.NamedRuns.{module_resolved, opening_named, fault_named}
 
-pub opening_fails : (text : List ℕ) (program : Program) (e : OpenFault) → IsModule text program → IsOpenFault program TURNS e → OpeningFails program TURNS e
-opening_fails text program e m h = fault_named program (module_resolved text program m) TURNS e h
+pub opening_fails : (text : List ℕ) (program : Program) (e : OpenFault) → IsModule text program → IsOpenFault program e → OpeningFails program e
+opening_fails text program e m h = fault_named program (module_resolved text program m) e h
 
-pub has_opening : (text : List ℕ) (program : Program) (state : Activation) → IsModule text program → Sequences.IsOpening program TURNS state → HasOpening text
+pub has_opening : (text : List ℕ) (program : Program) (state : Activation) → IsModule text program → Sequences.IsOpening program state → HasOpening text
 has_opening text program state m h =
-    let o = opening_named program (module_resolved text program m) TURNS state h in
+    let o = opening_named program (module_resolved text program m) state h in
     record { program = program; state = o.0; is_module = m; opens = o.1.0 }
 
-pub module_open_fault : (text : List ℕ) (program : Program) (e : OpenFault) → IsModule text program → IsOpenFault program TURNS e → IsModuleFault text (Modules.of_open e)
+pub module_open_fault : (text : List ℕ) (program : Program) (e : OpenFault) → IsModule text program → IsOpenFault program e → IsModuleFault text (Modules.of_open e)
 module_open_fault text program (Open.Trap k) m h = record { program = program; is_module = m; fails = opening_fails text program (Open.Trap k) m h }
-module_open_fault text program Open.NeedsMore m h = record { program = program; is_module = m; fails = opening_fails text program Open.NeedsMore m h }
 module_open_fault text program Open.NoMemory m h = tt
 
-pub seq_open_fault : (text script : List ℕ) (program : Program) (e : OpenFault) → IsModule text program → IsOpenFault program TURNS e → IsSeqTextFault text script (Parts.of_open e)
-seq_open_fault text script program (Open.Trap k) m h = record { program = program; is_module = m; fails = opening_fails text program (Open.Trap k) m h }
-seq_open_fault text script program Open.NeedsMore m h = record { program = program; is_module = m; fails = opening_fails text program Open.NeedsMore m h }
-seq_open_fault text script program Open.NoMemory m h = tt
+pub seq_open_fault : (text script : List ℕ) (budget : ℕ) (program : Program) (e : OpenFault) → IsModule text program → IsOpenFault program e → IsSeqTextFault text script budget (Parts.of_open e)
+seq_open_fault text script budget program (Open.Trap k) m h = record { program = program; is_module = m; fails = opening_fails text program (Open.Trap k) m h }
+seq_open_fault text script budget program Open.NoMemory m h = tt
 
-pub script_fault : (text script : List ℕ) (program : Program) (state : Activation) (fault : ScriptFault) → IsModule text program → Sequences.IsOpening program TURNS state →
+pub script_fault : (text script : List ℕ) (program : Program) (state : Activation) (fault : ScriptFault) → IsModule text program → Sequences.IsOpening program state →
     IsScriptFault program processes script fault → IsScriptFaultOf text script fault
 script_fault text script program state fault m h fails =
-    let o = opening_named program (module_resolved text program m) TURNS state h in
+    let o = opening_named program (module_resolved text program m) state h in
     record { program = program; state = o.0; is_module = m; opens = o.1.0; fails = fails }

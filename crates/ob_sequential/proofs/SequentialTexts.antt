@@ -6,11 +6,11 @@ use Rattle.ob_sequential.specs.declared.checked_text.TextFault.TheVariants as Te
 use Rattle.ob_sequential.specs.SequentialParts.{of_text}
 use Rattle.ob_sequential.specs.SequentialRun.{IsNumbered, IsSeqTextFault}
 
-pub seq_fault : (text script : List ℕ) (e : TextFault) → IsTextFault text e → IsSeqTextFault text script (of_text e)
-seq_fault text script (Texts.Scan e) h = h
-seq_fault text script (Texts.Parse e) h = h
-seq_fault text script (Texts.Check e) h = h
-seq_fault text script Texts.NoMemory h = tt
+pub seq_fault : (text script : List ℕ) (budget : ℕ) (e : TextFault) → IsTextFault text e → IsSeqTextFault text script budget (of_text e)
+seq_fault text script budget (Texts.Scan e) h = h
+seq_fault text script budget (Texts.Parse e) h = h
+seq_fault text script budget (Texts.Check e) h = h
+seq_fault text script budget Texts.NoMemory h = tt
 
 pub seq_numbered : (e : TextFault) → IsNumbered (of_text e) → IsNumberedText e
 seq_numbered (Texts.Scan e) h = h.1

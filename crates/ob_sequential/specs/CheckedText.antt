@@ -6,6 +6,8 @@ use Rattle.ob_scan.specs.declared.fault.ScanFault.TheVariants as Scan
 use Rattle.ob_parser.specs.ParseFaults.{IsParseFaultOf}
 use Rattle.ob_parser.specs.declared.parser.ParseFault.{ParseFault}
 use Rattle.ob_parser.specs.declared.parser.ParseFault.TheVariants as Parse
+use Rattle.ob_parser.specs.declared.parser.source.SourceFault.{SourceFault}
+use Rattle.ob_parser.specs.declared.parser.source.SourceFault.TheVariants as Source
 use Rattle.ob_whole_check.specs.ModuleText.{IsCheckFaultOf}
 use Rattle.ob_scopes.specs.declared.fault.CheckFault.{CheckFault}
 use Rattle.ob_scopes.specs.declared.fault.CheckFault.TheVariants as Check
@@ -43,6 +45,10 @@ of_scan e = Faults.Scan e
 abbrev pub of_parse : ParseFault → TextFault
 of_parse Parse.NoMemory = Faults.NoMemory
 of_parse e = Faults.Parse e
+
+abbrev pub of_source : SourceFault → TextFault
+of_source (Source.Scan e) = of_scan e
+of_source (Source.Parse e) = of_parse e
 
 abbrev pub of_check : CheckFault → TextFault
 of_check Check.NoMemory = Faults.NoMemory

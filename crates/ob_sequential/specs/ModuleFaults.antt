@@ -1,8 +1,7 @@
 -- What each fault of a module and its opening says.
 use Rattle.std.specs.Prelude.{◌≡◌, ◌≢◌, ℕ, Bool, true, false, List}
 use Rattle.ob_typing.specs.Program.{Program}
-use Rattle.ob_meaning.specs.Statements as Statements
-use Rattle.ob_meaning.specs.Object.{State, IsOpening, opening}
+use Rattle.ob_meaning.specs.Object.{State, IsOpening, OpeningTraps}
 use Rattle.ob_interpreter.specs.declared.opening.OpenFault.{OpenFault}
 use Rattle.ob_interpreter.specs.declared.opening.OpenFault.TheVariants as Open
 use Rattle.ob_typing.specs.ModuleText.{IsModule}
@@ -11,29 +10,27 @@ use Rattle.ob_sequential.specs.declared.checked_text.TextFault.{TextFault}
 use Rattle.ob_sequential.specs.declared.checked_text.TextFault.TheVariants as Texts
 use Rattle.ob_sequential.specs.declared.opened.ModuleFault.{ModuleFault}
 use Rattle.ob_sequential.specs.declared.opened.ModuleFault.TheVariants as Faults
-use Rattle.ob_sequential.specs.declared.opened.TheConstants.{TURNS}
 
 -- the text is of a module whose opening ends
 pub record HasOpening (text : List ℕ) : Type 0 where
   pub program : Program
   pub state : State
   pub is_module : IsModule text program
-  pub opens : IsOpening program TURNS state
+  pub opens : IsOpening program state
 
 abbrev pub HasNoOpening : List ℕ → Type 0
 HasNoOpening text = HasOpening text → ⊥
 
 -- what each fault of an opening says of the meaning of a program
-abbrev pub OpeningFails : Program → ℕ → OpenFault → Type 0
-OpeningFails program turns (Open.Trap k) = opening program turns ≡ Statements.Trap k
-OpeningFails program turns Open.NeedsMore = opening program turns ≡ Statements.NotYet
-OpeningFails program turns Open.NoMemory = Unit {0}
+abbrev pub OpeningFails : Program → OpenFault → Type 0
+OpeningFails program (Open.Trap k) = OpeningTraps program k
+OpeningFails program Open.NoMemory = Unit {0}
 
 -- the opening of a text's program fails
 pub record IsOpenFaultOf (text : List ℕ) (fault : OpenFault) : Type 0 where
   pub program : Program
   pub is_module : IsModule text program
-  pub fails : OpeningFails program TURNS fault
+  pub fails : OpeningFails program fault
 
 -- what each fault says of a text
 abbrev pub IsModuleFault : List ℕ → ModuleFault → Type 0

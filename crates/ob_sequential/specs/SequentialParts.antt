@@ -3,14 +3,11 @@ use Rattle.std.specs.Prelude.{List, [], ◌∷◌}
 use Rattle.ob_typing.specs.Program.{Program}
 use Rattle.ob_interpreter.specs.declared.opening.OpenFault.{OpenFault}
 use Rattle.ob_interpreter.specs.declared.opening.OpenFault.TheVariants as Open
-use Rattle.ob_meaning.specs.Object.{ObjectCall}
+use Rattle.ob_interface.specs.Call.{ObjectCall}
 use Rattle.ob_agreement.specs.Same.{FitsExport}
-use Rattle.ob_calls.specs.Script.{ScriptCall}
 use Rattle.ob_sequential.specs.declared.checked_text.TextFault.{TextFault}
 use Rattle.ob_sequential.specs.declared.checked_text.TextFault.TheVariants as Texts
-use Rattle.ob_sequential.specs.declared.opened.TheConstants.{TURNS}
 use Rattle.ob_sequential.specs.ModuleFaults.{OpeningFails}
-use Rattle.ob_sequential.specs.SequentialRun.{NeedsMoreTurnsIn}
 use Rattle.ob_sequential.specs.declared.sequential.SeqTextFault.{SeqTextFault}
 use Rattle.ob_sequential.specs.declared.sequential.SeqTextFault.TheVariants as Faults
 
@@ -25,11 +22,10 @@ of_open Open.NoMemory = Faults.NoMemory
 of_open e = Faults.Open e
 
 -- why a script's calls have no replies
-abbrev pub IsReplyFault : Program → List ScriptCall → SeqTextFault → Type 0
-IsReplyFault program calls (Faults.Open e) = OpeningFails program TURNS e
-IsReplyFault program calls (Faults.NeedsMore process number) = NeedsMoreTurnsIn program calls process number
-IsReplyFault program calls Faults.NoMemory = Unit {0}
-IsReplyFault program calls _ = ⊥
+abbrev pub IsReplyFault : Program → SeqTextFault → Type 0
+IsReplyFault program (Faults.Open e) = OpeningFails program e
+IsReplyFault program Faults.NoMemory = Unit {0}
+IsReplyFault program _ = ⊥
 
 -- each of these calls fits an export
 abbrev pub FitExports : Program → List ObjectCall → Type 0

@@ -9,9 +9,10 @@ ghost use Rattle.ob_typing.specs.ModuleText.{IsModule};
 ghost use Rattle.ob_sequential.specs.CheckedText.{IsTextFault, IsNumberedText, TellsTextMemoryApart};
 
 use ob_checked::checked::Checked;
-use ob_parser::parser::{ParseFault, parse};
+use ob_parser::parser::ParseFault;
+use ob_parser::parser::source::{SourceFault, parse_source};
+use ob_scan::ScanFault;
 use ob_scan::scanner::LONGEST_TEXT;
-use ob_scan::{ScanFault, scan};
 use ob_scopes::fault::CheckFault;
 use ob_whole_check::modules::check;
 use std::alloc::Global;
@@ -31,30 +32,18 @@ pub enum TextFault {
     NoMemory,
 }
 
-impl From<ScanFault> for TextFault {
+impl From<SourceFault> for TextFault {
     ghost use Rattle.std.specs.Prelude.{◌≡◌};
-    ghost use Rattle.ob_sequential.specs.CheckedText.{of_scan};
+    ghost use Rattle.ob_sequential.specs.CheckedText.{of_source};
 
-    ghost from_gives = { λ e f. f ≡ of_scan e };
+    ghost from_gives = { λ e f. f ≡ of_source e };
 
-    fn from(fault: ScanFault) -> TextFault {
+    fn from(fault: SourceFault) -> TextFault {
         match fault {
-            ScanFault::NoMemory => TextFault::NoMemory,
-            other => TextFault::Scan(other),
-        }
-    }
-}
-
-impl From<ParseFault> for TextFault {
-    ghost use Rattle.std.specs.Prelude.{◌≡◌};
-    ghost use Rattle.ob_sequential.specs.CheckedText.{of_parse};
-
-    ghost from_gives = { λ e f. f ≡ of_parse e };
-
-    fn from(fault: ParseFault) -> TextFault {
-        match fault {
-            ParseFault::NoMemory => TextFault::NoMemory,
-            other => TextFault::Parse(other),
+            SourceFault::Scan(ScanFault::NoMemory) => TextFault::NoMemory,
+            SourceFault::Scan(other) => TextFault::Scan(other),
+            SourceFault::Parse(ParseFault::NoMemory) => TextFault::NoMemory,
+            SourceFault::Parse(other) => TextFault::Parse(other),
         }
     }
 }
@@ -90,7 +79,6 @@ pub fn checked_text(alloc: Global, text: &[u8]) -> Result<Checked, TextFault>
     // A text over the scanner's bound is refused, whatever it says.
     ensures too_long { LONGEST_TEXT < length text.now → result ≡ Err (TextFault.Scan ScanFault.TooLong) }
 {
-    let tokens = scan(alloc, text)?;
-    let tree = parse(alloc, &tokens)?;
+    let tree = parse_source(alloc, text)?;
     Ok(check(alloc, tree)?)
 }

@@ -6,5 +6,5 @@ pub mod opened;
 pub mod sequential;
 
 pub use checked_text::TextFault;
-pub use opened::{ModuleFault, TURNS, check_text, opened_text};
-pub use sequential::{SeqTextFault, seq_text};
+pub use opened::{ModuleFault, check_text, opened_text};
+pub use sequential::{MOST_BUDGET, SeqTextFault, seq_text};

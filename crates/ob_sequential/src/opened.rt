@@ -4,21 +4,18 @@ ghost use Rattle.std.specs.Prelude.{◌≡◌, ◌<◌, Err, IfOk, IfErr, length
 ghost use Rattle.ob_checked.specs.CheckedModule.{program_in};
 ghost use Rattle.ob_typing.specs.Program.{Program};
 ghost use Rattle.ob_interpreter.specs.Sequences.{IsOpening};
-ghost use Rattle.ob_interpreter.specs.View.{state_of};
+ghost use Rattle.ob_store.specs.View.{state_of};
 ghost use Rattle.ob_typing.specs.ModuleText.{IsModule};
 ghost use Rattle.ob_sequential.specs.ModuleFaults.{HasOpening, HasNoOpening, IsModuleFault, IsNumbered, TellsMemoryApart};
 
 use crate::checked_text::{TextFault, checked_text};
 use ob_checked::checked::Checked;
 use ob_interpreter::opening::{OpenFault, opening};
-use ob_interpreter::state::State;
 use ob_scan::ScanFault;
 use ob_scan::scanner::LONGEST_TEXT;
+use ob_store::state::State;
 use std::alloc::Global;
 use thiserror::Error;
-
-/// The turns of an opening, and of each call that is made one at a time.
-pub const TURNS: u64 = 1_000_000;
 
 /// Why a text is no module, or has no opening: the first fault, in the order of the variants.
 #[derive(Clone, Copy, Debug, Error)]
@@ -62,7 +59,7 @@ impl From<OpenFault> for ModuleFault {
 pub fn opened_text(alloc: Global, text: &[u8]) -> Result<(Checked, State), ModuleFault>
     ensures program { IfOk result (λ r. IsModule text.now (program_in r.0)) }
     ensures alone { IfOk result (λ r. (other : Program) → IsModule text.now other → other ≡ program_in r.0) }
-    ensures opening { IfOk result (λ r. IsOpening (program_in r.0) TURNS (state_of r.1)) }
+    ensures opening { IfOk result (λ r. IsOpening (program_in r.0) (state_of r.1)) }
     ensures meant { IfOk result (λ _. HasOpening text.now) }
     ensures fault { IfErr result (IsModuleFault text.now) }
 
@@ -76,7 +73,7 @@ pub fn opened_text(alloc: Global, text: &[u8]) -> Result<(Checked, State), Modul
     ensures too_long { LONGEST_TEXT < length text.now → result ≡ Err (ModuleFault.Text (TextFault.Scan ScanFault.TooLong)) }
 {
     let checked = checked_text(alloc, text)?;
-    let state = opening(alloc, &checked, TURNS)?;
+    let state = opening(alloc, &checked)?;
     Ok((checked, state))
 }
 

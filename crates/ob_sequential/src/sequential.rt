@@ -1,21 +1,20 @@
 //! A sequential run: the calls of a script made one at a time, from bytes to bytes.
 
-ghost use Rattle.std.specs.Prelude.{◌≡◌, Err, suc, ◌<◌, All, IfOk, IfErr, map, take, length, slice_index, string_bytes};
+ghost use Rattle.std.specs.Prelude.{◌≡◌, Err, ◌<◌, ◌≤◌, All, IfOk, IfErr, map, length, string_bytes};
 ghost use Rattle.ob_checked.specs.CheckedModule.{program_in};
 ghost use Rattle.ob_interpreter.specs.View.{call_of};
+ghost use Rattle.ob_meaning.specs.Object.{most_turns};
 ghost use Rattle.ob_agreement.specs.Resolved.{IsResolved};
 ghost use Rattle.ob_sequential.specs.SequentialParts.{FitExports, IsReplyFault};
 ghost use Rattle.ob_sequential.specs.SequentialRun.{HasNoRun, IsNumbered, IsSequentialRun, IsSeqTextFault, PrintsReplies, TellsMemoryApart};
-ghost use Rattle.ob_calls.specs.ReplyLines.{count_of};
 ghost use Rattle.ob_calls.specs.ScriptView.{script_call_of};
 
 use crate::checked_text::{TextFault, checked_text};
-use crate::opened::TURNS;
 use ob_calls::reply_lines::print_replies;
 use ob_calls::script::{ScriptCall, ScriptFault, read_scripts};
 use ob_checked::checked::Checked;
 use ob_interpreter::call::Call;
-use ob_interpreter::opening::{OpenFault, opening};
+use ob_interpreter::opening::{MOST_TURNS, OpenFault, opening};
 use ob_interpreter::sequence::{SeqFault, sequence};
 use ob_scan::ScanFault;
 use ob_scan::scanner::LONGEST_TEXT;
@@ -25,18 +24,21 @@ use thiserror::Error;
 /// How many processes a script may name: 0 to 15.
 const PROCESSES: usize = 16;
 
+/// The most turns that a call's budget may have.
+pub const MOST_BUDGET: u64 = MOST_TURNS;
+
 /// Why there is no sequential run: the first fault, in the order of the variants.
 #[derive(Clone, Copy, Debug, Error)]
 pub enum SeqTextFault {
+    /// N3: the budget has more turns than there may be.
+    #[error("N3")]
+    Budget,
     #[error("{0}")]
     Text(TextFault),
     #[error("{0}")]
     Open(OpenFault),
     #[error("{0}")]
     Script(ScriptFault),
-    /// U1: a call needs more turns: its process, and its number among the calls of that process.
-    #[error("U1 {0}.{1}")]
-    NeedsMore(usize, usize),
     /// Want of memory.
     #[error("NoMemory")]
     NoMemory,
@@ -81,54 +83,61 @@ impl From<AllocError> for SeqTextFault {
     }
 }
 
-/// The E lines of the replies to the script's calls, made one at a time in line order.
-pub fn seq_text(alloc: Global, module: &[u8], script: &[u8]) -> Result<String, SeqTextFault>
-    ensures run { IfOk result (λ text. IsSequentialRun «module».now script.now (string_bytes text)) }
-    ensures fault { IfErr result (λ e. IsSeqTextFault «module».now script.now e) }
+/// The E lines of the replies to the script's calls, made one at a time in line order, each with the budget of turns.
+pub fn seq_text(
+    alloc: Global,
+    module: &[u8],
+    script: &[u8],
+    budget: u64,
+) -> Result<String, SeqTextFault>
+    ensures run { IfOk result (λ text. IsSequentialRun «module».now script.now budget (string_bytes text)) }
+    ensures fault { IfErr result (λ e. IsSeqTextFault «module».now script.now budget e) }
 
     // With a fault that has a number there is no run, whatever else is wrong.
-    ensures no_run { IfErr result (λ e. IsNumbered e → HasNoRun «module».now script.now) }
+    ensures no_run { IfErr result (λ e. IsNumbered e → HasNoRun «module».now script.now budget) }
 
     // Want of memory is told by its own variant alone.
     ensures memory { IfErr result TellsMemoryApart }
 
-    // A text over the scanner's bound is refused, whatever it says.
-    ensures too_long { LONGEST_TEXT < length «module».now → result ≡ Err (SeqTextFault.Text (TextFault.Scan ScanFault.TooLong)) }
+    // A budget of more turns than there may be is refused before all else.
+    ensures too_much { most_turns < budget → result ≡ Err SeqTextFault.Budget }
+
+    // Behind that, a text over the scanner's bound is refused, whatever it says.
+    ensures too_long { budget ≤ most_turns → LONGEST_TEXT < length «module».now → result ≡ Err (SeqTextFault.Text (TextFault.Scan ScanFault.TooLong)) }
 {
+    if budget > MOST_BUDGET {
+        return Err(SeqTextFault::Budget);
+    }
     let checked = checked_text(alloc, module)?;
     match read_scripts(alloc, &checked, PROCESSES, script) {
-        Ok(scripts) => replies_text(alloc, &checked, scripts.into_calls()),
+        Ok(scripts) => replies_text(alloc, &checked, scripts.into_calls(), budget),
         Err(ScriptFault::NoMemory) => Err(SeqTextFault::NoMemory),
         Err(fault) => {
             // A fault of the opening goes before one of the script.
-            opening(alloc, &checked, TURNS)?;
+            opening(alloc, &checked)?;
             Err(SeqTextFault::Script(fault))
         }
     }
 }
 
-/// The E lines of the replies to the calls of a script.
+/// The E lines of the replies to the calls of a script, each with the budget of turns.
 fn replies_text(
     alloc: Global,
     checked: &Checked,
     calls: Vec<ScriptCall>,
+    budget: u64,
 ) -> Result<String, SeqTextFault>
     requires processes { All (λ c. c.process < PROCESSES) calls.items }
     requires program { IsResolved (program_in checked.now) }
     requires calls { FitExports (program_in checked.now) (map (λ c. call_of c.call) calls.items) }
-    ensures run { IfOk result (λ text. PrintsReplies (program_in checked.now) (map script_call_of calls.items) (string_bytes text)) }
-    ensures fault { IfErr result (λ e. IsReplyFault (program_in checked.now) (map script_call_of calls.items) e) }
+    ensures run { IfOk result (λ text. PrintsReplies (program_in checked.now) budget (map script_call_of calls.items) (string_bytes text)) }
+    ensures fault { IfErr result (λ e. IsReplyFault (program_in checked.now) e) }
     ensures memory { IfErr result TellsMemoryApart }
 {
     let (callers, calls) = split_calls(alloc, calls)?;
-    match sequence(alloc, checked, &calls, TURNS) {
+    match sequence(alloc, checked, &calls, budget) {
         Ok(replies) => Ok(print_replies(alloc, PROCESSES, &callers, &replies)?),
         Err(SeqFault::OpeningTrap(trap)) => Err(SeqTextFault::Open(OpenFault::Trap(trap))),
-        Err(SeqFault::OpeningNeedsMore) => Err(SeqTextFault::Open(OpenFault::NeedsMore)),
-        Err(SeqFault::NeedsMore(position)) => {
-            let number = number_of(&callers, position);
-            Err(SeqTextFault::NeedsMore(callers[position], number))
-        }
         Err(SeqFault::NoMemory) => Err(SeqTextFault::NoMemory),
     }
 }
@@ -145,14 +154,4 @@ fn split_calls(alloc: Global, calls: Vec<ScriptCall>) -> Result<(Vec<usize>, Vec
         object_calls.push(call)?;
     }
     Ok((callers, object_calls))
-}
-
-/// The number of the call at a position among the calls of its caller, from 1.
-fn number_of(callers: &[usize], position: usize) -> usize
-    requires { position < length callers.now }
-    ensures { result ≡ suc (count_of (slice_index callers.now position) (take position callers.now)) }
-{
-    let caller = callers[position];
-    let before = callers[..position].iter().filter(|other| **other == caller);
-    before.count() + 1
 }

@@ -1,7 +1,4 @@
-mod Crossing
 mod Faults
-mod TextFaults
-mod ReadCalls
+mod Ends
 mod Numbered
-mod Seats
 mod ByProcess

@@ -1,11 +1,11 @@
 -- Answers whose ids are those of the first calls of a process.
-use Rattle.std.proofs.Common.{◌≡◌, ◌<◌, ℕ, ◌+◌, List, [], ◌∷◌, ◌++◌, length, map, take, get_or, refl, sym, ap, ◌∙◌, arith, not, nat_eq, ◌&&◌, false}
+use Rattle.std.proofs.Common.{◌≡◌, ◌<◌, ℕ, ◌+◌, List, [], ◌∷◌, ◌++◌, length, map, take, get_or, refl, sym, ap, ◌∙◌, arith, not, nat_eq, ◌&&◌, false, true}
 use Rattle.std.proofs.lemmas.Bool.Decides.{nat_tests}
-use Rattle.std.proofs.lemmas.List.{map_more}
-use Rattle.std.proofs.lemmas.List.FromFn.{map-range_with_len_more}
-use Rattle.ob_desk.specs.Seat.{answered_call}
-use Rattle.ob_desk.specs.declared.seat.CallAnswer.{CallAnswer}
-use Rattle.ob_mean.specs.Object.{Reply}
+use Rattle.std.proofs.lemmas.List.{get_or-map, length-map, map_more}
+use Rattle.std.proofs.lemmas.List.FromFn.{get_or-map-range_with_len, length-map-range_with_len, map-range_with_len_more}
+use Rattle.ob_desk_floor.specs.Seat.{answered_call}
+use Rattle.ob_desk_floor.specs.declared.seat.CallAnswer.{CallAnswer}
+use Rattle.ob_interface.specs.Call.{Reply}
 use Rattle.wf_history.specs.declared.event.CallId.{CallId}
 use Rattle.wf_theorems.specs.FirstCalls.{first_ids}
 
@@ -38,3 +38,22 @@ same_name a b h =
     let one : a.process ≡ b.process = grind (arith, nat_tests) in
     let two : a.number ≡ b.number = grind (arith, nat_tests) in
     ap (λ (k : ℕ). id k a.number) one ∙ ap (id b.process) two
+
+-- names are the same where a test finds no difference
+pub other_name : (a b : CallId) → not (nat_eq a.process b.process && nat_eq a.number b.number) ≡ true → a ≡ b → ⊥
+other_name a b h same =
+    let one : nat_eq a.process b.process ≡ true = grind (arith, nat_tests, ap (λ (x : CallId). x.process) same) in
+    let two : nat_eq a.number b.number ≡ true = grind (arith, nat_tests, ap (λ (x : CallId). x.number) same) in
+    cc
+
+-- what ids in turn are at a place
+pub in_turn_at : (process count i : ℕ) (answers : List CallAnswer) (d : CallAnswer) → i < count → map id_of answers ≡ first_ids process count → (get_or answers i d).id ≡ id process (i + 1)
+in_turn_at process count i answers d lt same =
+    let long : i < length answers = omega (arith, lt, sym (length-map answers id_of), ap length same, length-map-range_with_len (id process) 1 count) in
+    sym (get_or-map id_of answers i d (id process 0) long)
+    ∙ ap (λ (ids : List CallId). get_or ids i (id process 0)) same
+    ∙ get_or-map-range_with_len (id process) 1 count i (i + 1) (id process 0) lt (omega arith)
+
+-- and how many
+pub in_turn_length : (process count : ℕ) (answers : List CallAnswer) → map id_of answers ≡ first_ids process count → length answers ≡ count
+in_turn_length process count answers same = sym (length-map answers id_of) ∙ ap length same ∙ length-map-range_with_len (id process) 1 count

@@ -1,57 +1,55 @@
--- What came of a desk's workers, and what is told where not all of them ended well.
-use Rattle.std.specs.Prelude.{◌≡◌, ◌≢◌, ℕ, ◌+◌, ◌≤◌, ◌<◌, ◌⊎◌, ◌++◌, All, Any, List, None, Some, true, filter, get_or, length, map, nat_eq, slice_get, take}
-use Rattle.ob_desk.specs.Seat.{Seat, answered_call}
-use Rattle.ob_desk.specs.declared.seat.CallAnswer.{CallAnswer}
-use Rattle.ob_mean.specs.Object.{Reply}
+-- What is told where not all workers of a desk ended well, and whose answers came.
+use Rattle.std.specs.Prelude.{◌≡◌, ◌≢◌, ℕ, ◌-◌, ◌<◌, ◌⊎◌, All, Any, List, Some, [], filter, get_or, length, min, nat_eq, slice_get, take, true}
+use Rattle.ob_desk_floor.specs.Seat.{Seat}
+use Rattle.ob_desk_floor.specs.declared.seat.CallAnswer.{CallAnswer}
+use Rattle.ob_desk_workers.specs.declared.gathering.Gathered.{Gathered}
+use Rattle.ob_desk_workers.specs.declared.worker.Ended.{Ended}
+use Rattle.ob_desk_workers.specs.declared.worker.Ended.TheVariants as Ended
 use Rattle.ob_serve.specs.declared.fault.ServeFault.{ServeFault}
 use Rattle.ob_serve.specs.declared.fault.ServeFault.TheVariants as Faults
-use Rattle.ob_serve.specs.declared.gathering.Gathered.{Gathered}
-use Rattle.ob_serve.specs.declared.worker.Ended.TheVariants as Ended
-use Rattle.ob_serve.specs.declared.worker.Worked.{Worked}
-use Rattle.wf_history.specs.declared.event.CallId.{CallId}
 
--- the seat after some turns: still of its process and desk, and no turn added more than one answer
-pub record IsAfterTurns (before after : Seat) : Type 0 where
-  pub process : after.process ≡ before.process
-  pub tag : after.tag ≡ before.tag
-  pub later : List (CallId × Reply)
-  pub answers : after.answers ≡ before.answers ++ later
-  pub turns : before.turns + length later ≤ after.turns
+-- ---- how the workers ended
 
 -- memory wanted, in a worker or where the workers were started and heard
 abbrev pub IsShort : Gathered → Type 0
-IsShort g = (g.is_short ≡ true) ⊎ Any (λ w. w.ended ≡ Ended.NoMemory) g.worked.items
+IsShort g = (g.is_short ≡ true) ⊎ Any (λ it. it ≡ Ended.NoMemory) g.ended.items
 
--- the process of the first worker that the gate refused too often
-pub record IsFirstRefused (worked : List Worked) (p : ℕ) : Type 0 where
-  pub place : ℕ
-  pub worker : Worked
-  pub there : slice_get worked place ≡ Some worker
-  pub refused : worker.ended ≡ Ended.Refused
-  pub is : worker.seat.process ≡ p
-  pub before : All (λ w. w.ended ≢ Ended.Refused) (take place worked)
+-- the lowest process whose worker ended so: the workers stand in the order of the processes
+pub record IsFirst (which : Ended) (ended : List Ended) (p : ℕ) : Type 0 where
+  pub within : p < length ended
+  pub there : slice_get ended p ≡ Some which
+  pub before : All (λ it. it ≢ which) (take p ended)
 
--- V3 is told before want of memory, and that before V1
+-- each worker was started
+abbrev pub AreStarted : Gathered → Type 0
+AreStarted g = All (λ it. it ≢ Ended.NotStarted) g.ended.items
+
+-- V3 is told before want of memory, and that before V1; each of the lowest process
 abbrev pub IsGatherFault : Gathered → ServeFault → Type 0
-IsGatherFault g (Faults.NotStarted p) = g.idle ≡ Some p
-IsGatherFault g Faults.NoMemory = g.idle ≡ None
-IsGatherFault g (Faults.Refused p) = (g.idle ≡ None) × (¬ (IsShort g)) × IsFirstRefused g.worked.items p
+IsGatherFault g (Faults.NotStarted p) = IsFirst Ended.NotStarted g.ended.items p
+IsGatherFault g Faults.NoMemory = AreStarted g × IsShort g
+IsGatherFault g (Faults.Refused p) = AreStarted g × (¬ (IsShort g)) × IsFirst Ended.Refused g.ended.items p
 IsGatherFault g _ = ⊥
 
 -- each worker was started and ended well, and these are the seats and the answers
 pub record AreBack (g : Gathered) (seats : List Seat) (answers : List CallAnswer) : Type 0 where
-  pub started : g.idle ≡ None
+  pub started : AreStarted g
   pub enough : ¬ (IsShort g)
-  pub passed : All (λ w. w.ended ≢ Ended.Refused) g.worked.items
-  pub seats_are : seats ≡ map (λ w. w.seat) g.worked.items
+  pub passed : All (λ it. it ≢ Ended.Refused) g.ended.items
+  pub seats_are : seats ≡ g.seats.items
   pub answers_are : answers ≡ g.answers.items
 
--- for each process its answers, in the order in which they came
+-- ---- whose answers came
+
+-- The process that an answer counts for. One of no process counts for the last, whose answers are then not those of any record.
+abbrev pub owner_of : ℕ → CallAnswer → ℕ
+owner_of processes a = min a.id.process (processes - 1)
+
+-- what came of a process, in the order in which it came
+abbrev pub sent_by : (processes : ℕ) → List CallAnswer → ℕ → List CallAnswer
+sent_by processes answers p = filter (λ a. nat_eq (owner_of processes a) p) answers
+
+-- the answers of each process
 pub record AreByProcess (processes : ℕ) (answers : List CallAnswer) (lists : List (List CallAnswer)) : Type 0 where
   pub each : length lists ≡ processes
-  pub own : (p : ℕ) (d : List CallAnswer) → p < processes → get_or lists p d ≡ filter (λ a. nat_eq a.id.process p) answers
-
--- an answer was sent that is of no process
-pub record IsOfNone (processes : ℕ) (answers : List CallAnswer) (p : ℕ) : Type 0 where
-  pub none : processes ≤ p
-  pub sent : Any (λ a. a.id.process ≡ p) answers
+  pub own : (p : ℕ) (d : List CallAnswer) → p < processes → get_or lists p d ≡ sent_by processes answers p

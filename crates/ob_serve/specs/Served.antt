@@ -3,7 +3,7 @@ use Rattle.std.specs.Prelude.{◌≡◌, ◌≢◌, ℕ, ◌<◌, List, count_by
 use Rattle.ob_desk.specs.Desk.{Desk}
 use Rattle.ob_desk.specs.declared.fault.CloseFault.{CloseFault}
 use Rattle.ob_desk.specs.declared.fault.CloseFault.TheVariants as Close
-use Rattle.ob_mean.specs.Object.{ObjectCall, Reply}
+use Rattle.ob_interface.specs.Call.{ObjectCall, Reply}
 use Rattle.ob_object.specs.Compilation.{ObjectParts}
 use Rattle.ob_serve.specs.declared.fault.ServeFault.{ServeFault}
 use Rattle.ob_serve.specs.declared.fault.ServeFault.TheVariants as Faults

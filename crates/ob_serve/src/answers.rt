@@ -1,53 +1,56 @@
 //! Whether the answers that workers sent are those of a record.
 
-ghost use Rattle.std.specs.Prelude.{◌≡◌, ◌<◌, ◌⊎◌, ℕ, [], IfErr, IfNone, IfOk, IsTrue, map, replicate};
-ghost use Rattle.ob_desk.specs.Seat.{answered_call};
-ghost use Rattle.ob_serve.specs.Gathered.{AreByProcess, IsOfNone};
-ghost use Rattle.ob_serve.specs.Served.{EndsFirst, HaveEnded, TellsMemoryApart, calls_for};
+ghost use Rattle.std.specs.Prelude.{◌≡◌, ◌≢◌, ◌<◌, ℕ, [], IfNone, IfOk, IfSome, IsFalse, IsTrue, get_or, length, map, replicate};
+ghost use Rattle.ob_serve.specs.Gathered.{AreByProcess, owner_of};
+ghost use Rattle.ob_serve.specs.ServeFaults.{IsLowestLost, IsTold, IsToldAll};
+ghost use Rattle.ob_serve.specs.Served.{calls_for};
 ghost use Rattle.ob_text.specs.ScriptView.{script_call_of};
-ghost use Rattle.wf_history.specs.History.{own_answers};
 ghost use Rattle.wf_history.specs.View.{event_of};
 ghost use Rattle.wf_theorems.specs.FirstCalls.{first_ids};
 
-use crate::fault::ServeFault;
-use ob_desk::CallAnswer;
-use ob_desk::agreeing::are_shown;
+use ob_desk_floor::{CallAnswer, are_shown};
+use ob_interface::NoMemory;
 use ob_text::script::ScriptCall;
-use std::alloc::Global;
+use std::alloc::{AllocError, Global};
 use wf_history::{CallId, Event};
 
-/// The answers of each process, in the order in which they came. An answer of no process is told as lost.
+/// The answers of each process, in the order in which they came.
 pub fn by_process(
     alloc: Global,
     processes: usize,
     answers: Vec<CallAnswer>,
-) -> Result<Vec<Vec<CallAnswer>>, ServeFault>
-    ensures each { IfOk result (λ lists. AreByProcess processes answers.items (map (λ list. list.items) lists.items)) }
-    ensures fault { IfErr result (λ e. (e ≡ ServeFault.NoMemory) ⊎ ((p : ℕ) × (e ≡ ServeFault.Lost p) × IsOfNone processes answers.items p)) }
-    ensures memory { IfErr result TellsMemoryApart }
+) -> Result<Vec<Vec<CallAnswer>>, NoMemory>
+    requires { 0 < processes }
+    ensures { IfOk result (λ lists. AreByProcess processes answers.items (map (λ list. list.items) lists.items)) }
 {
     let mut lists = empty_lists(alloc, processes)?;
     for answer in answers {
-        let process = answer.id.process;
+        let process = owner(processes, &answer);
         let Some(list) = lists.get_mut(process) else {
-            return Err(ServeFault::Lost(process));
+            unreachable!();
         };
         if list.push(answer).is_err() {
-            return Err(ServeFault::NoMemory);
+            return Err(NoMemory);
         }
     }
     Ok(lists)
 }
 
-fn empty_lists(alloc: Global, processes: usize) -> Result<Vec<Vec<CallAnswer>>, ServeFault>
-    ensures empty { IfOk result (λ lists. map (λ list. list.items) lists.items ≡ replicate processes []) }
-    ensures memory { IfErr result (λ e. e ≡ ServeFault.NoMemory) }
+/// The process that an answer counts for: its own, or the last where there is no such process.
+fn owner(processes: usize, answer: &CallAnswer) -> usize
+    requires { 0 < processes }
+    ensures own { result ≡ owner_of processes answer.now }
+    ensures below { result < processes }
+{
+    answer.id.process.min(processes - 1)
+}
+
+fn empty_lists(alloc: Global, processes: usize) -> Result<Vec<Vec<CallAnswer>>, AllocError>
+    ensures { IfOk result (λ lists. map (λ list. list.items) lists.items ≡ replicate processes []) }
 {
     let mut lists = Vec::with_capacity(alloc, processes)?;
     for _ in 0..processes {
-        if lists.push(Vec::new(alloc)).is_err() {
-            return Err(ServeFault::NoMemory);
-        }
+        lists.push(Vec::new(alloc))?;
     }
     Ok(lists)
 }
@@ -59,12 +62,12 @@ pub fn first_lost(
     sent: &[Vec<CallAnswer>],
     events: &[Event],
 ) -> Option<usize>
-    ensures { IfNone result (HaveEnded processes (map script_call_of scripts.now) (map event_of events.now)) }
+    requires { length sent.now ≡ processes }
+    ensures none { IfNone result ((p : ℕ) → p < processes → IsToldAll (map event_of events.now) (map script_call_of scripts.now) (λ k. get_or (map (λ list. list.items) sent.now) k []) p) }
+    ensures some { IfSome result (IsLowestLost processes (map event_of events.now) (map script_call_of scripts.now) (λ k. get_or (map (λ list. list.items) sent.now) k [])) }
 {
     for process in 0..processes {
-        let Some(answers) = sent.get(process) else {
-            return Some(process);
-        };
+        let answers = sent[process].as_slice();
         if !are_all(process, call_count(process, scripts), answers, events) {
             return Some(process);
         }
@@ -87,15 +90,16 @@ fn call_count(process: usize, scripts: &[ScriptCall]) -> usize
 
 /// Whether the answers are those that the events show of the process, and to just the first so many of its calls in turn.
 fn are_all(process: usize, count: usize, answers: &[CallAnswer], events: &[Event]) -> bool
-    ensures shown { IsTrue result → map answered_call answers.now ≡ own_answers process (map event_of events.now) }
-    ensures all { IsTrue result → EndsFirst (map event_of events.now) process count }
+    ensures yes { IsTrue result → IsTold (map event_of events.now) process count answers.now }
+    ensures no { IsFalse result → ¬ (IsTold (map event_of events.now) process count answers.now) }
 {
     are_shown(process, answers, events) && are_in_turn(process, count, answers)
 }
 
 /// Whether these are answers to just the first so many calls of the process, in turn.
 fn are_in_turn(process: usize, count: usize, answers: &[CallAnswer]) -> bool
-    ensures { IsTrue result → map (λ a. a.id) answers.now ≡ first_ids process count }
+    ensures yes { IsTrue result → map (λ a. a.id) answers.now ≡ first_ids process count }
+    ensures no { IsFalse result → map (λ a. a.id) answers.now ≢ first_ids process count }
 {
     if answers.len() != count {
         return false;

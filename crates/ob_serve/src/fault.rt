@@ -1,12 +1,12 @@
 //! Why workers give no record.
 
 use ob_desk::CloseFault;
-use ob_grammar::NoMemory;
+use ob_interface::NoMemory;
 use std::alloc::AllocError;
 use thiserror::Error;
 
-/// Why workers give no record. All are joined first. Of several faults V3 is told, else want of memory, else the fault of the
-/// lowest process. V2 and the faults of closing come last, where all workers ended well.
+/// Why workers give no record. All are joined first. Of several faults V3 is told, else want of memory, else V1, each of the
+/// lowest process. The faults of closing come where all workers ended well, and V2 where closing has none.
 #[derive(Clone, Copy, Debug, Error)]
 pub enum ServeFault {
     /// V3: the process's worker was not started.
@@ -18,7 +18,7 @@ pub enum ServeFault {
     /// V1: the gate refused the process as often in a row as the limit says.
     #[error("V1 process {0}")]
     Refused(usize),
-    /// V2: an answer to the process was lost, or came twice.
+    /// V2: an answer to the process was lost, or came twice, or another one came.
     #[error("V2 process {0}")]
     Lost(usize),
     /// A fault of the desk's closing, but want of memory.

@@ -8,15 +8,17 @@ ghost use Rattle.ob_engine.specs.Compiled.{IsFitting};
 ghost use Rattle.ob_object.specs.Performance.{IsSoundObject};
 ghost use Rattle.ob_object.specs.View.{object_in};
 ghost use Rattle.ob_record.specs.Record.{AreOfExports, record_of};
+ghost use Rattle.ob_serve.specs.ServeFaults.{IsFinishFault, IsServeFault};
 ghost use Rattle.ob_serve.specs.Served.{HaveEnded, TellsMemoryApart, desk_of};
 ghost use Rattle.ob_text.specs.ScriptView.{object_call, script_call_of};
 
 use crate::answers::{by_process, first_lost};
+use crate::ending::handed_back;
 use crate::fault::ServeFault;
-use crate::gate::Gate;
-use crate::gathering::{gather, seats_back};
-use ob_desk::{CallAnswer, Desk, Seat};
-use ob_object::compiling::MOST_PROCESSES;
+use ob_desk::Desk;
+use ob_desk_floor::{CallAnswer, Seat};
+use ob_desk_workers::{Gate, gather};
+use ob_interface::MOST_PROCESSES;
 use ob_object::{Object, copied_calls};
 use ob_record::Record;
 use ob_text::script::ScriptCall;
@@ -46,6 +48,8 @@ pub fn serve<R: Threads + Wait + Sync, G: Gate + Sync>(
     ensures record { IfOk result (λ r. IsRecordOf (desk_of (object_in object) (map script_call_of scripts.items)) (record_of r)) }
     ensures ended { IfOk result (λ r. HaveEnded (object_in object).processes (map script_call_of scripts.items) r.history) }
 
+    ensures fault { IfErr result (IsServeFault G.may_refuse (desk_of (object_in object) (map script_call_of scripts.items))) }
+
     // Want of memory is told by its own variant alone.
     ensures memory { IfErr result TellsMemoryApart }
 {
@@ -73,13 +77,14 @@ pub fn served<R: Threads + Wait + Sync, G: Gate + Sync>(
     ensures ended { IfOk result (λ r. HaveEnded (object_in object).processes (map script_call_of scripts.items) r.1.history) }
     ensures exports { IfOk result (λ r. AreOfExports (signatures (object_in object).program) r.1.history) }
     ensures turns { IfOk result (λ r. All (λ t. t.process < (object_in object).processes) r.1.schedule.items) }
+    ensures fault { IfErr result (IsServeFault G.may_refuse (desk_of (object_in object) (map script_call_of scripts.items))) }
     ensures memory { IfErr result TellsMemoryApart }
 {
     let processes = object.processes();
     let calls = copied_calls(alloc, scripts.as_slice())?;
     let (desk, seats) = Desk::open(alloc, object, scripts, TAG)?;
     let gathered = gather(rt, alloc, &desk, gate, limit, seats)?;
-    let (seats, answers) = seats_back(alloc, gathered)?;
+    let (seats, answers) = handed_back(gathered)?;
     finish(alloc, desk, processes, calls.as_slice(), seats, answers)
 }
 
@@ -92,11 +97,13 @@ fn finish(
     seats: Vec<Seat>,
     answers: Vec<CallAnswer>,
 ) -> Result<(Object, Record), ServeFault>
+    requires { 0 < processes }
     ensures object { IfOk result (λ r. object_in r.0 ≡ (desk_in desk).object) }
     ensures record { IfOk result (λ r. IsRecordOf (desk_in desk) (record_of r.1)) }
     ensures ended { IfOk result (λ r. HaveEnded processes (map script_call_of scripts.now) r.1.history) }
     ensures exports { IfOk result (λ r. AreOfExports (signatures (desk_in desk).object.program) r.1.history) }
     ensures turns { IfOk result (λ r. All (λ t. t.process < (desk_in desk).object.processes) r.1.schedule.items) }
+    ensures fault { IfErr result (IsFinishFault (desk_in desk) processes (map script_call_of scripts.now) seats.items answers.items) }
     ensures memory { IfErr result TellsMemoryApart }
 {
     let sent = by_process(alloc, processes, answers)?;

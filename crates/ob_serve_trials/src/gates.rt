@@ -2,7 +2,9 @@
 
 ghost use Rattle.std.specs.Prelude.{◌≤◌};
 
-use ob_serve::{Gate, ServeFault, ServeTextFault, serve_text_with};
+use ob_desk_workers::Gate;
+use ob_serve::ServeFault;
+use ob_serve_texts::{ServeTextFault, serve_text_with};
 use std::alloc::Global;
 use std::sync::Wait;
 use std::sync::atomic::{AtomicU64, Ordering};
@@ -32,6 +34,10 @@ fn served<R: Threads + Wait + Sync, G: Gate + Sync>(
 struct Closed;
 
 impl Gate for Closed {
+    ghost use Rattle.std.specs.Prelude.{true};
+
+    ghost may_refuse = { true };
+
     fn pass(&self, _process: usize, _turns: u128) -> bool {
         false
     }
@@ -56,6 +62,10 @@ struct Meeting {
 }
 
 impl Gate for Meeting {
+    ghost use Rattle.std.specs.Prelude.{true};
+
+    ghost may_refuse = { true };
+
     fn pass(&self, process: usize, turns: u128) -> bool {
         if process > 1 || turns >= 25 {
             return true;
@@ -76,6 +86,10 @@ struct Standstill {
 }
 
 impl Gate for Standstill {
+    ghost use Rattle.std.specs.Prelude.{true};
+
+    ghost may_refuse = { true };
+
     fn pass(&self, process: usize, turns: u128) -> bool {
         match (process, turns) {
             (0, 3) => {
@@ -91,6 +105,39 @@ impl Gate for Standstill {
         if process == 1 {
             self.answered.store(number, Ordering::SeqCst);
         }
+    }
+}
+
+/// A gate that refuses each process so often before each of its turns.
+#[derive(Drop)]
+struct Reluctant {
+    refusals: u64,
+    asked: [AtomicU64; 2],
+}
+
+impl Gate for Reluctant {
+    ghost use Rattle.std.specs.Prelude.{true};
+
+    ghost may_refuse = { true };
+
+    fn pass(&self, process: usize, _turns: u128) -> bool {
+        if process > 1 {
+            return true;
+        }
+        let asked = self.asked[process].load(Ordering::SeqCst);
+        let passes = asked >= self.refusals;
+        let next = if passes { 0 } else { asked.saturating_add(1) };
+        self.asked[process].store(next, Ordering::SeqCst);
+        passes
+    }
+
+    fn answered(&self, _process: usize, _number: u64) {}
+}
+
+fn refusing(refusals: u64) -> Reluctant {
+    Reluctant {
+        refusals,
+        asked: [AtomicU64::new(0), AtomicU64::new(0)],
     }
 }
 
@@ -132,4 +179,19 @@ fn one_worker_stands_still(rt: HostRuntime) -> Result<(), Fail> {
     assert!(rt; text.starts_with(told), "the events and the order");
     assert!(rt; text.ends_with("\nV x 2\n"), "both are applied");
     Ok(())
+}
+
+/// It refuses far more than three times in all, but never three times in a row.
+#[test]
+fn a_gate_that_refuses_by_turns(rt: HostRuntime) -> Result<(), Fail> {
+    let text = served(&rt, rt.alloc(), &refusing(2), 3)?;
+    assert!(rt; text.ends_with("\nV x 2\n"), "both are applied");
+    Ok(())
+}
+
+/// The third refusal in a row is the last.
+#[test]
+fn as_many_refusals_as_the_limit(rt: HostRuntime) {
+    let fault = served(&rt, rt.alloc(), &refusing(3), 3).err();
+    assert!(rt; matches!(fault, Some(ServeTextFault::Serve(ServeFault::Refused(0)))));
 }

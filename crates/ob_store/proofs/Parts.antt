@@ -5,7 +5,7 @@ use Rattle.std.proofs.lemmas.List.{take_more}
 use mathlib.Core.Former.{Count}
 use Rattle.ob_store.specs.declared.value.Value.{Value, Row_of-Value, end_of-Value, more_of-Value, items-the_row-Value, items_hidden-the_row-Value-0}
 use Rattle.ob_store.specs.declared.value.Value.TheVariants as Variants
-use Rattle.ob_typing.specs.declared.scalar.Scalar.{Scalar}
+use Rattle.ob_interface.specs.declared.scalar.Scalar.{Scalar}
 use Rattle.ob_store.specs.View.{value_in, parts_in, values_in, put_back}
 use Rattle.ob_positions.specs.Value as Values
 

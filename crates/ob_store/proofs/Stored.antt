@@ -4,9 +4,11 @@ use Rattle.std.specs.Global.{Global}
 use Rattle.std.specs.Prelude.{slice_set}
 use Rattle.std.proofs.lemmas.List.{map-set, length-map}
 use Rattle.ob_store.specs.declared.store.Held.{Held}
-use Rattle.ob_store.specs.View.{held_in, activation_in}
-use Rattle.ob_store.specs.Begun.{put_back_held, put_back_at}
+use Rattle.ob_store.specs.View.{value_in, values_in, held_in, put_back, activation_in, variables_in}
+use Rattle.ob_store.specs.Begun.{put_back_at}
 use Rattle.ob_store.specs.declared.value.Value.{Value}
+use Rattle.ob_store.specs.declared.value.Value.TheVariants as Variants
+use Rattle.ob_interface.specs.declared.scalar.Scalar.{Scalar}
 use Rattle.ob_positions.specs.Value as Values
 use Rattle.ob_positions.specs.Store as Stores
 
@@ -21,14 +23,44 @@ with_held-beyond [] i path w h = refl
 with_held-beyond (g ∷ hs) zero path w h = absurd (omega (arith, h))
 with_held-beyond (g ∷ hs) (suc i) path w h = ap (λ xs. held_in g ∷ xs) (with_held-beyond hs i path w (omega (arith, h)))
 
+-- the same of variables with values of their own
+pub variables_set : (vs : List Value) (i : ℕ) (d v : Value) (path : List ℕ) (w : Values.Value) → i < length vs →
+    value_in v ≡ Values.replaced (value_in (get_or vs i d)) path w → variables_in (set vs i v) ≡ Stores.with_held (variables_in vs) i path w
+variables_set [] i d v path w below e = absurd (omega (arith, below))
+variables_set (u ∷ vs) zero d v path w below e = ap (λ x. Stores.Holds x ∷ variables_in vs) e
+variables_set (u ∷ vs) (suc i) d v path w below e = ap (λ xs. Stores.Holds (value_in u) ∷ xs) (variables_set vs i d v path w (omega (arith, below)) e)
+
+pub variables_beyond : (vs : List Value) (i : ℕ) (path : List ℕ) (w : Values.Value) → length vs ≤ i →
+    variables_in vs ≡ Stores.with_held (variables_in vs) i path w
+variables_beyond [] i path w h = refl
+variables_beyond (u ∷ vs) zero path w h = absurd (omega (arith, h))
+variables_beyond (u ∷ vs) (suc i) path w h = ap (λ xs. Stores.Holds (value_in u) ∷ xs) (variables_beyond vs i path w (omega (arith, h)))
+
 -- and what was there put back
-pub put_back-set : (hs : List Held) (i : ℕ) (d h : Held) (path : List ℕ) (was : Option Value) → i < length hs →
-    put_back_held (held_in h) path was ≡ held_in (get_or hs i d) → put_back_at (map held_in (set hs i h)) i path was ≡ map held_in hs
-put_back-set [] i d h path was below e = absurd (omega (arith, below))
-put_back-set (g ∷ hs) zero d h path None below e = ap (λ x. x ∷ map held_in hs) e
-put_back-set (g ∷ hs) zero d h path (Some was) below e = ap (λ x. x ∷ map held_in hs) e
-put_back-set (g ∷ hs) (suc i) d h path None below e = ap (λ xs. held_in g ∷ xs) (put_back-set hs i d h path None (omega (arith, below)) e)
-put_back-set (g ∷ hs) (suc i) d h path (Some was) below e = ap (λ xs. held_in g ∷ xs) (put_back-set hs i d h path (Some was) (omega (arith, below)) e)
+pub put_back-set : (vs : List Value) (i : ℕ) (d v : Value) (path : List ℕ) (was : Option Value) → i < length vs →
+    put_back (value_in v) path was ≡ value_in (get_or vs i d) → put_back_at (variables_in (set vs i v)) i path was ≡ variables_in vs
+put_back-set [] i d v path was below e = absurd (omega (arith, below))
+put_back-set (u ∷ vs) zero d v path None below e = ap (λ x. Stores.Holds x ∷ variables_in vs) e
+put_back-set (u ∷ vs) zero d v path (Some was) below e = ap (λ x. Stores.Holds x ∷ variables_in vs) e
+put_back-set (u ∷ vs) (suc i) d v path None below e = ap (λ xs. Stores.Holds (value_in u) ∷ xs) (put_back-set vs i d v path None (omega (arith, below)) e)
+put_back-set (u ∷ vs) (suc i) d v path (Some was) below e = ap (λ xs. Stores.Holds (value_in u) ∷ xs) (put_back-set vs i d v path (Some was) (omega (arith, below)) e)
+
+-- a scalar that is written over, put back
+pub scalar_put_back : (vs lent : List Value) (i : ℕ) (held v : Value) (was : Scalar) → lent ≡ vs → i < length vs → held ≡ get_or lent i held →
+    held ≡ Variants.Single was → Stores.with_held (variables_in (set vs i v)) i [] (Values.Single was) ≡ variables_in vs
+scalar_put_back vs lent i held v was same below read is =
+    ap (λ w. Stores.with_held (variables_in (set vs i v)) i [] (value_in w)) (sym is)
+    ∙ put_back-set vs i held v [] (Some held) below (ap value_in (read ∙ ap (λ us. get_or us i held) same))
+
+-- values that are the same as parts are the same as variables
+pub same_variables : (us vs : List Value) → values_in us ≡ values_in vs → variables_in us ≡ variables_in vs
+same_variables [] [] h = refl
+same_variables [] (v ∷ vs) h = absurd cc
+same_variables (u ∷ us) [] h = absurd cc
+same_variables (u ∷ us) (v ∷ vs) h =
+    let first : value_in u ≡ value_in v = cc in
+    let rest : values_in us ≡ values_in vs = cc in
+    ap (λ x. Stores.Holds x ∷ variables_in us) first ∙ ap (λ xs. Stores.Holds (value_in v) ∷ xs) (same_variables us vs rest)
 
 activation_at-read : (all : List (Vec Held Global)) (i : ℕ) (d : Vec Held Global) → i < length all →
     Stores.activation_at (map activation_in all) i ≡ activation_in (get_or all i d)

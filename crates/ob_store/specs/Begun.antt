@@ -9,14 +9,9 @@ use Rattle.ob_store.specs.declared.before.Listed.TheVariants.{Variable, Part}
 use Rattle.ob_store.specs.declared.before.Before.{Before}
 use Rattle.ob_store.specs.declared.before.Before.TheVariants.{Writes, Whole}
 use Rattle.ob_store.specs.declared.store.Store.{Store}
-use Rattle.ob_store.specs.View.{value_in, activation_in}
+use Rattle.ob_store.specs.View.{value_in, variables_in}
 
--- what is held with what was behind positions put back there, if there was something
-abbrev pub put_back_held : Stores.Held → List ℕ → Option Value → Stores.Held
-put_back_held h path None = h
-put_back_held h path (Some was) = Stores.with_value h path (value_in was)
-
--- the same at a position of an activation
+-- an activation with what was behind positions of a variable put back there, if there was something
 abbrev pub put_back_at : Stores.Activation → ℕ → List ℕ → Option Value → Stores.Activation
 put_back_at a position path None = a
 put_back_at a position path (Some was) = Stores.with_held a position path (value_in was)
@@ -38,8 +33,8 @@ taken_back (w ∷ writes) a = without_listed w (taken_back writes a)
 -- the activation as it was, from what it is
 abbrev pub begun_by : Before → Stores.Activation → Stores.Activation
 begun_by (Writes writes) a = taken_back writes.items a
-begun_by (Whole begun) a = activation_in begun
+begun_by (Whole begun) a = variables_in begun.items
 
 -- the module's activation as it was when the call began
 abbrev pub begun_in : Store → Stores.Activation
-begun_in s = begun_by s.before (activation_in s.variables)
+begun_in s = begun_by s.before (variables_in s.variables.items)

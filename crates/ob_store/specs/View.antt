@@ -7,7 +7,10 @@ use Rattle.ob_store.specs.declared.value.Value.TheVariants.{Single, Parts'}
 use Rattle.ob_store.specs.declared.store.Place.{Place}
 use Rattle.ob_store.specs.declared.store.Held.{Held}
 use Rattle.ob_store.specs.declared.store.Held.TheVariants.{Holds, Refers}
+use Rattle.ob_store.specs.declared.store.Lent.{Lent}
+use Rattle.ob_store.specs.declared.store.Lent.TheVariants as Lents
 use Rattle.ob_store.specs.declared.store.Store.{Store}
+use Rattle.ob_store.specs.declared.state.State.{State}
 use Rattle.ob_positions.specs.Value as Values
 use Rattle.ob_positions.specs.Store as Stores
 
@@ -42,13 +45,25 @@ abbrev pub held_in : Held → Stores.Held
 held_in (Holds v) = Stores.Holds (value_in v)
 held_in (Refers p) = Stores.Refers (place_in p)
 
+abbrev pub lent_in : Lent → Stores.Held
+lent_in (Lents.Value v) = Stores.Holds (value_in v.now)
+lent_in (Lents.Place p) = Stores.Refers (place_in p.now)
+
 -- what is held, or 0 where there is no such position
-abbrev pub held_or_zero : Option (Bor Held) → Stores.Held
+abbrev pub held_or_zero : Option Lent → Stores.Held
 held_or_zero None = Stores.Holds Values.zero_value
-held_or_zero (Some h) = held_in h.now
+held_or_zero (Some h) = lent_in h
 
 abbrev pub activation_in : Vec Held Global → Stores.Activation
 activation_in held = map held_in held.items
 
+-- the activation of variables that have these values of their own
+abbrev pub variables_in : List Value → Stores.Activation
+variables_in = map (λ v. Stores.Holds (value_in v))
+
+-- the module's activation in a state: values, and no places of others
+abbrev pub state_of : State → Stores.Activation
+state_of s = variables_in s.values.items
+
 abbrev pub store_in : Store → Stores.Store
-store_in s = activation_in s.variables ∷ map activation_in s.others.items
+store_in s = variables_in s.variables.items ∷ map activation_in s.others.items

@@ -1,13 +1,14 @@
 //! How the module's activation was when a call began.
 
-ghost use Rattle.std.specs.Prelude.{◌≡◌, IfErr, IfOk, OnOk, map};
+ghost use Rattle.std.specs.Prelude.{◌≡◌, [], IfErr, IfOk, OnErr, OnOk};
 ghost use Rattle.ob_positions.specs.Store as Stores;
-ghost use Rattle.ob_store.specs.View.{held_in, place_in, activation_in};
+ghost use Rattle.ob_positions.specs.Value as Values;
+ghost use Rattle.ob_store.specs.View.{place_in, variables_in};
 ghost use Rattle.ob_store.specs.Begun.{without, without_listed, taken_back, begun_by};
 
-use crate::store::{Held, Path, Place, overwrite};
-use crate::value::{Value, copy};
-use ob_typing::scalar::Scalar;
+use crate::store::{Path, Place, overwrite};
+use crate::value::{Value, copy_all};
+use ob_interface::scalar::Scalar;
 use smallvec::SmallVec;
 use std::alloc::{AllocError, AllocFailed, Global};
 
@@ -37,7 +38,7 @@ pub enum Before {
     /// The writes since then, from the first to the last.
     Writes(Vec<Listed>),
     /// The activation itself.
-    Whole(Vec<Held>),
+    Whole(Vec<Value>),
 }
 
 /// An equal place.
@@ -51,34 +52,29 @@ pub fn copy_place(alloc: Global, place: &Place) -> Result<Place, AllocError>
     })
 }
 
-/// The same as what a position has.
-fn copy_held(alloc: Global, held: &Held) -> Result<Held, AllocError>
-    ensures { IfOk result (λ h. held_in h ≡ held_in held.now) }
-{
-    match held {
-        Held::Holds(value) => Ok(Held::Holds(copy(alloc, value)?)),
-        Held::Refers(place) => Ok(Held::Refers(copy_place(alloc, place)?)),
-    }
-}
-
-/// An equal activation.
-pub fn copy_activation(alloc: Global, activation: &[Held]) -> Result<Vec<Held>, AllocError>
-    ensures { IfOk result (λ held. activation_in held ≡ map held_in activation.now) }
-{
-    let mut copies = Vec::with_capacity(alloc, activation.len())?;
-    for held in activation {
-        copies.push(copy_held(alloc, held)?)?;
-    }
-    Ok(copies)
-}
-
 /// Takes all writes back, from the last to the first.
-fn take_all_back(variables: &mut [Held], writes: &mut Vec<Listed>)
-    ensures { map held_in variables.new ≡ taken_back writes.old.items (map held_in variables.old) }
+fn take_all_back(variables: &mut [Value], writes: &mut Vec<Listed>)
+    ensures { variables_in variables.new ≡ taken_back writes.old.items (variables_in variables.old) }
 {
     'left: while let Some(listed) = writes.pop() {
         listed.take_back(variables);
     }
+}
+
+/// The module's activation as it was, copied from what it is. All writes are taken from the list.
+#[cold]
+#[inline(never)]
+fn copied_back(
+    alloc: Global,
+    variables: &[Value],
+    writes: &mut Vec<Listed>,
+) -> Result<Vec<Value>, AllocError>
+    ensures begun { IfOk result (λ begun. variables_in begun.items ≡ taken_back writes.old.items (variables_in variables.now)) }
+    ensures kept { OnErr result (writes.new.items ≡ writes.old.items) }
+{
+    let mut begun = copy_all(alloc, variables)?;
+    take_all_back(begun.as_mut_slice(), writes);
+    Ok(begun)
 }
 
 /// Lists a write that was made. Where there is no memory for that, it is taken back.
@@ -86,11 +82,12 @@ fn list_in(
     alloc: Global,
     writes: &mut Vec<Listed>,
     written: Written,
-    variables: &mut [Held],
+    variables: &mut [Value],
 ) -> Result<(), AllocError>
-    ensures kept { OnOk result (map held_in variables.new ≡ map held_in variables.old) }
-    ensures listed { taken_back writes.new.items (map held_in variables.new)
-        ≡ taken_back writes.old.items (without written (map held_in variables.old)) }
+    ensures kept { OnOk result (variables_in variables.new ≡ variables_in variables.old) }
+    ensures refused { OnErr result (variables_in variables.new ≡ without written (variables_in variables.old)) }
+    ensures listed { taken_back writes.new.items (variables_in variables.new)
+        ≡ taken_back writes.old.items (without written (variables_in variables.old)) }
 {
     let listed = match written.listed(alloc) {
         Ok(listed) => listed,
@@ -108,8 +105,8 @@ fn list_in(
 
 impl Written {
     /// Puts back what was there.
-    fn take_back(self, variables: &mut [Held])
-        ensures { map held_in variables.new ≡ without self (map held_in variables.old) }
+    fn take_back(self, variables: &mut [Value])
+        ensures { variables_in variables.new ≡ without self (variables_in variables.old) }
     {
         let path = self.path;
         let was = self.was;
@@ -138,8 +135,8 @@ impl Written {
 
 impl Listed {
     /// Puts back what was there.
-    fn take_back(self, variables: &mut [Held])
-        ensures { map held_in variables.new ≡ without_listed self (map held_in variables.old) }
+    fn take_back(self, variables: &mut [Value])
+        ensures { variables_in variables.new ≡ without_listed self (variables_in variables.old) }
     {
         match self {
             Listed::Variable { position, was } => {
@@ -152,15 +149,26 @@ impl Listed {
 
 impl Before {
     /// Copies the module's activation as it was, where as many writes are listed as may be.
-    pub fn shorten(&mut self, alloc: Global, variables: &[Held]) -> Result<(), AllocError>
-        ensures { begun_by self.new (map held_in variables.now) ≡ begun_by self.old (map held_in variables.now) }
+    #[inline]
+    pub fn shorten(&mut self, alloc: Global, variables: &[Value]) -> Result<(), AllocError>
+        ensures { begun_by self.new (variables_in variables.now) ≡ begun_by self.old (variables_in variables.now) }
     {
         if let Before::Writes(writes) = self
             && writes.len() >= MOST_WRITES
         {
-            let mut begun = copy_activation(alloc, variables)?;
-            take_all_back(begun.as_mut_slice(), writes);
-            *self = Before::Whole(begun);
+            *self = Before::Whole(copied_back(alloc, variables, writes)?);
+        }
+        Ok(())
+    }
+
+    /// Lists a write that is to be made to a variable that is this scalar, where writes are listed.
+    #[inline]
+    pub fn list_scalar(&mut self, position: usize, was: Scalar) -> Result<(), AllocError>
+        ensures listed { OnOk result ((a : Stores.Activation) → begun_by self.new a ≡ begun_by self.old (Stores.with_held a position [] (Values.Single was))) }
+        ensures kept { OnErr result ((a : Stores.Activation) → begun_by self.new a ≡ begun_by self.old a) }
+    {
+        if let Before::Writes(writes) = self {
+            writes.push(Listed::Variable { position, was })?;
         }
         Ok(())
     }
@@ -170,11 +178,12 @@ impl Before {
         &mut self,
         alloc: Global,
         written: Written,
-        variables: &mut [Held],
+        variables: &mut [Value],
     ) -> Result<(), AllocError>
-        ensures kept { OnOk result (map held_in variables.new ≡ map held_in variables.old) }
-        ensures begun { begun_by self.new (map held_in variables.new)
-            ≡ begun_by self.old (without written (map held_in variables.old)) }
+        ensures kept { OnOk result (variables_in variables.new ≡ variables_in variables.old) }
+        ensures refused { OnErr result (variables_in variables.new ≡ without written (variables_in variables.old)) }
+        ensures begun { begun_by self.new (variables_in variables.new)
+            ≡ begun_by self.old (without written (variables_in variables.old)) }
     {
         match self {
             Before::Writes(writes) => list_in(alloc, writes, written, variables),
@@ -183,8 +192,8 @@ impl Before {
     }
 
     /// The module's activation as it was, from what it is.
-    pub fn take_back(self, variables: Vec<Held>) -> Vec<Held>
-        ensures { activation_in result ≡ begun_by self (activation_in variables) }
+    pub fn take_back(self, variables: Vec<Value>) -> Vec<Value>
+        ensures { variables_in result.items ≡ begun_by self (variables_in variables.items) }
     {
         match self {
             Before::Writes(mut writes) => {

@@ -1,7 +1,7 @@
 //! Indexes of arrays.
 
 ghost use Rattle.std.specs.Prelude.{◌≡◌};
-ghost use Rattle.ob_meaning.specs.Evaluation.{within};
+ghost use Rattle.ob_meaning.specs.OverStore.{within};
 ghost use Rattle.ob_scalars.specs.Traps.{evaluated};
 
 use ob_scalars::trap::Trap;

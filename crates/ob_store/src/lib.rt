@@ -3,5 +3,6 @@
 
 pub mod before;
 pub mod index;
+pub mod state;
 pub mod store;
 pub mod value;

@@ -1,14 +1,16 @@
 //! Places and stores: what each variable stands for while a call runs.
 
-ghost use Rattle.std.specs.Prelude.{◌≡◌, ◌<◌, [], ◌∷◌, ◌++◌, OnOk, OnErr, map, take};
+ghost use Rattle.std.specs.Prelude.{◌≡◌, ◌<◌, suc, [], ◌∷◌, ◌++◌, OnOk, OnErr, map, take};
+ghost use Rattle.ob_typing.specs.Program.{Own};
 ghost use Rattle.ob_positions.specs.Store as Stores;
 ghost use Rattle.ob_positions.specs.Value as Values;
-ghost use Rattle.ob_store.specs.View.{value_in, value_or_zero, held_in, held_or_zero, place_in, activation_in, store_in};
-ghost use Rattle.ob_store.specs.Begun.{begun_in, put_back_held, put_back_at};
+ghost use Rattle.ob_store.specs.View.{value_in, value_or_zero, held_in, lent_in, held_or_zero, place_in, activation_in, variables_in, state_of, store_in};
+ghost use Rattle.ob_store.specs.Begun.{begun_in, put_back_at};
 
-use crate::before::{Before, Written};
+use crate::before::{Before, Written, copy_place};
+use crate::state::State;
 use crate::value::{Value, replace};
-use ob_typing::scalar::Scalar;
+use ob_interface::scalar::Scalar;
 use smallvec::SmallVec;
 use std::alloc::{AllocError, Global};
 
@@ -30,12 +32,20 @@ pub enum Held {
     Refers(Place),
 }
 
-/// The module's activation, then the others, the one that is running last; and how the module's was when the call began.
+/// The module's variables, then the other activations, the one that is running last; and how the module's variables were
+/// when the call began.
 #[derive(Drop)]
 pub struct Store {
-    variables: Vec<Held>,
+    variables: Vec<Value>,
     others: Vec<Vec<Held>>,
     before: Before,
+}
+
+/// What a position of an activation has, lent.
+#[derive(Clone, Copy)]
+pub enum Lent<'s> {
+    Value(&'s Value),
+    Place(&'s Place),
 }
 
 /// The value that is held, if it is one.
@@ -48,64 +58,81 @@ pub fn value_held(held: &Held) -> Option<&Value>
     }
 }
 
-/// Puts a value in the place of a part of the value that is held, and gives that part back; a place of others stays.
-fn put(held: &mut Held, path: &[usize], new: Value) -> Option<Value>
-    ensures written { held_in held.new ≡ Stores.with_value (held_in held.old) path.now (value_in new) }
-    ensures back { put_back_held (held_in held.new) path.now result ≡ held_in held.old }
+/// Puts a value in the place of a part of a variable, and gives that part back, if there is one.
+fn put_at(variables: &mut [Value], position: usize, path: &[usize], new: Value) -> Option<Value>
+    ensures written { variables_in variables.new
+        ≡ Stores.with_held (variables_in variables.old) position path.now (value_in new) }
+    ensures back { put_back_at (variables_in variables.new) position path.now result ≡ variables_in variables.old }
 {
-    if let Held::Holds(value) = held {
-        replace(value, path, new)
-    } else {
-        None
-    }
-}
-
-/// The same at a position of an activation.
-fn put_at(activation: &mut [Held], position: usize, path: &[usize], new: Value) -> Option<Value>
-    ensures written { map held_in activation.new
-        ≡ Stores.with_held (map held_in activation.old) position path.now (value_in new) }
-    ensures back { put_back_at (map held_in activation.new) position path.now result ≡ map held_in activation.old }
-{
-    if position < activation.len() {
-        put(&mut activation[position], path, new)
+    if position < variables.len() {
+        replace(&mut variables[position], path, new)
     } else {
         None
     }
 }
 
 /// The same, with what was there dropped.
-pub fn overwrite(activation: &mut [Held], position: usize, path: &[usize], new: Value)
+pub fn overwrite(variables: &mut [Value], position: usize, path: &[usize], new: Value)
+    ensures { variables_in variables.new
+        ≡ Stores.with_held (variables_in variables.old) position path.now (value_in new) }
+{
+    put_at(variables, position, path, new);
+}
+
+/// Puts a value in the place of a part of the value that is held; a place of others stays.
+#[inline]
+fn put(held: &mut Held, path: &[usize], new: Value)
+    ensures { held_in held.new ≡ Stores.with_value (held_in held.old) path.now (value_in new) }
+{
+    if let Held::Holds(value) = held {
+        replace(value, path, new);
+    }
+}
+
+/// The same at a position of an activation.
+#[inline]
+fn put_held(activation: &mut [Held], position: usize, path: &[usize], new: Value)
     ensures { map held_in activation.new
         ≡ Stores.with_held (map held_in activation.old) position path.now (value_in new) }
 {
-    put_at(activation, position, path, new);
+    if position < activation.len() {
+        put(&mut activation[position], path, new);
+    }
+}
+
+impl Held {
+    /// What is held, lent.
+    fn lend(&self) -> Lent<'_>
+        ensures { lent_in result ≡ held_in self.now }
+    {
+        match self {
+            Held::Holds(value) => Lent::Value(value),
+            Held::Refers(place) => Lent::Place(place),
+        }
+    }
 }
 
 impl Store {
-    /// The store of a call that begins: the module's activation, and those behind it.
-    pub fn new(alloc: Global, variables: Vec<Held>, others: Vec<Vec<Held>>) -> Store
-        ensures activations { store_in result ≡ activation_in variables ∷ map activation_in others.items }
-        ensures begun { begun_in result ≡ activation_in variables }
+    /// The store of a call that begins: the state of the module, and the activations behind it.
+    pub fn new(alloc: Global, state: State, others: Vec<Vec<Held>>) -> Store
+        ensures activations { store_in result ≡ state_of state ∷ map activation_in others.items }
+        ensures begun { begun_in result ≡ state_of state }
     {
         Store {
-            variables,
+            variables: state.into_values(),
             others,
             before: Before::Writes(Vec::new(alloc)),
         }
     }
 
-    /// The activation at a position; an empty one where there is none.
-    pub fn activation_at(&self, position: usize) -> &[Held]
-        ensures { map held_in result.now ≡ Stores.activation_at (store_in self.now) position }
+    /// The activation of a number behind the module's, from 0; an empty one where there is none.
+    pub fn behind(&self, number: usize) -> &[Held]
+        ensures { map held_in result.now ≡ Stores.activation_at (store_in self.now) (suc number) }
     {
-        if position == 0 {
-            return self.variables.as_slice();
+        match self.others.get(number) {
+            Some(activation) => activation.as_slice(),
+            None => &[],
         }
-        let behind = position - 1;
-        if behind < self.others.len() {
-            return self.others[behind].as_slice();
-        }
-        &[]
     }
 
     /// The position of the activation that is running.
@@ -116,11 +143,20 @@ impl Store {
     }
 
     /// What a position of an activation has, if there is such a position.
-    pub fn held_at(&self, activation: usize, position: usize) -> Option<&Held>
+    pub fn held_at(&self, activation: usize, position: usize) -> Option<Lent<'_>>
         ensures { held_or_zero result
             ≡ Stores.held_at (Stores.activation_at (store_in self.now) activation) position }
     {
-        self.activation_at(activation).get(position)
+        if activation == 0 {
+            return match self.variables.get(position) {
+                Some(value) => Some(Lent::Value(value)),
+                None => None,
+            };
+        }
+        match self.behind(activation - 1).get(position) {
+            Some(held) => Some(held.lend()),
+            None => None,
+        }
     }
 
     /// The value of a variable of an activation, if it has one of its own.
@@ -128,7 +164,10 @@ impl Store {
         ensures { value_or_zero result
             ≡ Stores.value_held (Stores.held_at (Stores.activation_at (store_in self.now) activation) position) }
     {
-        value_held(self.held_at(activation, position)?)
+        match self.held_at(activation, position)? {
+            Lent::Value(value) => Some(value),
+            Lent::Place(_) => None,
+        }
     }
 
     /// The value at a place, if there is one.
@@ -141,11 +180,12 @@ impl Store {
         }
     }
 
-    /// Puts a scalar at a place. How the module's activation was when the call began stays known, whether there was
-    /// memory for that or not.
+    /// Puts a scalar at a place; where there is no memory for that, the store is as before. How the module's variables were
+    /// when the call began stays known.
     pub fn set(&mut self, alloc: Global, place: Place, scalar: Scalar) -> Result<(), AllocError>
         ensures stored { OnOk result (store_in self.new
             ≡ Stores.stored (store_in self.old) (place_in place) (Values.Single scalar)) }
+        ensures kept { OnErr result (store_in self.new ≡ store_in self.old) }
         ensures begun { begun_in self.new ≡ begun_in self.old }
     {
         if place.activation == 0 {
@@ -154,7 +194,7 @@ impl Store {
         }
         let behind = place.activation - 1;
         if behind < self.others.len() {
-            overwrite(
+            put_held(
                 self.others[behind].as_mut_slice(),
                 place.position,
                 place.path.as_slice(),
@@ -164,7 +204,7 @@ impl Store {
         Ok(())
     }
 
-    /// The same in the module's activation, with what stood there listed.
+    /// The same of a variable of the module, with what stood there listed.
     fn set_variable(
         &mut self,
         alloc: Global,
@@ -172,8 +212,9 @@ impl Store {
         path: Path,
         scalar: Scalar,
     ) -> Result<(), AllocError>
-        ensures stored { OnOk result (activation_in self.new.variables
-            ≡ Stores.with_held (activation_in self.old.variables) position path.items (Values.Single scalar)) }
+        ensures stored { OnOk result (variables_in self.new.variables.items
+            ≡ Stores.with_held (variables_in self.old.variables.items) position path.items (Values.Single scalar)) }
+        ensures kept { OnErr result (variables_in self.new.variables.items ≡ variables_in self.old.variables.items) }
         ensures others { self.new.others ≡ self.old.others }
         ensures begun { begun_in self.new ≡ begun_in self.old }
     {
@@ -190,6 +231,83 @@ impl Store {
         };
         self.before
             .list(alloc, written, self.variables.as_mut_slice())
+    }
+
+    /// Puts a scalar in the place of a whole variable, as `set` does, where no path has to be built for it.
+    #[inline]
+    pub fn set_whole(
+        &mut self,
+        alloc: Global,
+        activation: usize,
+        position: usize,
+        scalar: Scalar,
+    ) -> Result<(), AllocError>
+        ensures stored { OnOk result (store_in self.new
+            ≡ Stores.stored (store_in self.old) (record { activation = activation; position = position; path = [] }) (Values.Single scalar)) }
+        ensures kept { OnErr result (store_in self.new ≡ store_in self.old) }
+        ensures begun { begun_in self.new ≡ begun_in self.old }
+    {
+        if activation == 0 {
+            self.set_whole_variable(alloc, position, scalar)?;
+            return Ok(());
+        }
+        let behind = activation - 1;
+        if behind < self.others.len() {
+            let new = Value::Single(scalar);
+            put_held(self.others[behind].as_mut_slice(), position, &[], new);
+        }
+        Ok(())
+    }
+
+    /// The same of a variable of the module: where it is a scalar, that is listed before it is overwritten.
+    #[inline]
+    fn set_whole_variable(
+        &mut self,
+        alloc: Global,
+        position: usize,
+        scalar: Scalar,
+    ) -> Result<(), AllocError>
+        ensures stored { OnOk result (variables_in self.new.variables.items
+            ≡ Stores.with_held (variables_in self.old.variables.items) position [] (Values.Single scalar)) }
+        ensures kept { OnErr result (variables_in self.new.variables.items ≡ variables_in self.old.variables.items) }
+        ensures others { self.new.others ≡ self.old.others }
+        ensures begun { begun_in self.new ≡ begun_in self.old }
+    {
+        let Some(Value::Single(held)) = self.variables.get(position) else {
+            return self.set_variable(alloc, position, SmallVec::new(alloc), scalar);
+        };
+        let was = *held;
+        self.before.shorten(alloc, self.variables.as_slice())?;
+        self.before.list_scalar(position, was)?;
+        self.variables[position] = Value::Single(scalar);
+        Ok(())
+    }
+
+    /// Puts a scalar in the place that a variable of the activation that is running stands for: its own, or the one that it
+    /// refers to.
+    #[inline]
+    pub fn set_own(
+        &mut self,
+        alloc: Global,
+        position: usize,
+        scalar: Scalar,
+    ) -> Result<(), AllocError>
+        ensures stored { OnOk result (store_in self.new
+            ≡ Stores.stored (store_in self.old) (Stores.place_owned Own (store_in self.old) position) (Values.Single scalar)) }
+        ensures kept { OnErr result (store_in self.new ≡ store_in self.old) }
+        ensures begun { begun_in self.new ≡ begun_in self.old }
+    {
+        let running = self.running();
+        let Some(Lent::Place(place)) = self.held_at(running, position) else {
+            return self.set_whole(alloc, running, position, scalar);
+        };
+        let activation = place.activation;
+        let within = place.position;
+        if place.path.is_empty() {
+            return self.set_whole(alloc, activation, within, scalar);
+        }
+        let place = copy_place(alloc, place)?;
+        self.set(alloc, place, scalar)
     }
 
     /// Adds an activation, which is running from now on.
@@ -212,17 +330,17 @@ impl Store {
         self.others.pop();
     }
 
-    /// The module's activation, without the others.
-    pub fn into_module(self) -> Vec<Held>
-        ensures { activation_in result ≡ Stores.activation_at (store_in self) 0 }
+    /// The state of the module, without the other activations.
+    pub fn into_state(self) -> State
+        ensures { state_of result ≡ Stores.activation_at (store_in self) 0 }
     {
-        self.variables
+        State::new(self.variables)
     }
 
-    /// The module's activation as it was when the call began.
-    pub fn into_begun(self) -> Vec<Held>
-        ensures { activation_in result ≡ begun_in self }
+    /// The state of the module as it was when the call began.
+    pub fn into_begun(self) -> State
+        ensures { state_of result ≡ begun_in self }
     {
-        self.before.take_back(self.variables)
+        State::new(self.before.take_back(self.variables))
     }
 }

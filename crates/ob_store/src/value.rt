@@ -4,7 +4,7 @@ ghost use Rattle.std.specs.Prelude.{◌≡◌, ◌∷◌, IfOk};
 ghost use Rattle.ob_positions.specs.Value as Values;
 ghost use Rattle.ob_store.specs.View.{value_in, values_in, value_or_zero, put_back};
 
-use ob_typing::scalar::Scalar;
+use ob_interface::scalar::Scalar;
 use std::alloc::{AllocError, Global};
 use std::mem;
 
@@ -64,6 +64,7 @@ fn part_at(parts: &[Value], position: usize) -> Option<&Value>
 
 /// Puts a value in the place of the part behind positions, and gives the part back, if there is one.
 #[cycle(replace)]
+#[inline]
 pub fn replace(value: &mut Value, path: &[usize], new: Value) -> Option<Value>
     ensures written { value_in value.new ≡ Values.replaced (value_in value.old) path.now (value_in new) }
     ensures back { put_back (value_in value.new) path.now result ≡ value_in value.old }
@@ -82,6 +83,7 @@ pub fn replace(value: &mut Value, path: &[usize], new: Value) -> Option<Value>
 /// The value with another one in the place of the part behind a position and further ones, and that part, if there is
 /// one.
 #[cycle(replace)]
+#[inline(never)]
 fn with_part(whole: Value, first: usize, rest: &[usize], new: Value) -> (Value, Option<Value>)
     ensures written { value_in result.0 ≡ Values.replaced (value_in whole) (first ∷ rest.now) (value_in new) }
     ensures back { put_back (value_in result.0) (first ∷ rest.now) result.1 ≡ value_in whole }

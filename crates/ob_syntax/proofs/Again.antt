@@ -10,7 +10,7 @@ use Rattle.std.proofs.lemmas.Fmt.{digits_decimal, digits_value-decimal, decimal_
 use Rattle.std.proofs.lemmas.List.Elements.{All-nil, All-cons, All-head, All-tail}
 use Rattle.std.proofs.lemmas.Str.Parse.{IsDigitsTest, FoldsDigits, IsNumeralModel, numerals_by_fold}
 use Rattle.ob_scan.specs.declared.token.Kind.{Kind}
-use Rattle.ob_scan.specs.declared.token.TheConstants.{LARGEST_NUMBER}
+use Rattle.ob_scan.specs.Limits.{largest_number}
 use Rattle.ob_scan.specs.declared.token.Token.{Token}
 use Rattle.ob_scan.specs.Spelling as Spelling
 use Rattle.ob_scan.specs.Spelling.{Spells, fixed_spelling, number_value}
@@ -58,12 +58,12 @@ digits_spell : (ds : List ℕ) → AreDigits ds → 0 < length ds → Spells ds 
 digits_spell [] h some = absurd (omega arith)
 digits_spell (d ∷ ds) h some = Spelling.number h
 
-decimal_spells : (n : ℕ) → n ≤ LARGEST_NUMBER → Spells (decimal n) Kind.Number
+decimal_spells : (n : ℕ) → n ≤ largest_number → Spells (decimal n) Kind.Number
 decimal_spells n h =
     let small : n < 2 ^ 64 = omega arith in
     digits_spell (decimal n) (digits_decimal numerals n small) (decimal_nonempty n small)
 
-decimal_value : (n : ℕ) → n ≤ LARGEST_NUMBER → number_value (decimal n) ≡ n
+decimal_value : (n : ℕ) → n ≤ largest_number → number_value (decimal n) ≡ n
 decimal_value n h = digits_value-decimal numerals n (omega arith)
 
 -- each word is spelled within the limits
@@ -76,7 +76,7 @@ spelled_word (spelled {kind = kind} {bytes = bytes} (Spelling.fixed e) name numb
 spelled_word (spelled (Spelling.name l r k) name number) = record { spells = Spelling.name l r k; name = name; number = number }
 spelled_word (spelled (Spelling.number {first = first} {rest = rest} d) name number) =
     let n = number_value (first ∷ rest) in
-    let small : n ≤ LARGEST_NUMBER = number refl in
+    let small : n ≤ largest_number = number refl in
     let value = decimal_value n small in
     record { spells = decimal_spells n small; name = λ h. absurd (cc); number = λ h. omega arith }
 

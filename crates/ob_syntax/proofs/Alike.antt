@@ -449,6 +449,18 @@ mutual
         same = λ i. Tree.While 0 (p.same i) (q.same i);
         alike = r.alike;
       }
+  statement (Grammar.repeat t d u e) l =
+      let s = at t l in
+      let p = sequence d s.alike in
+      let k = word u p.alike in
+      let q = expression e k.alike in
+      record {
+        tree = Tree.Repeat s.place p.tree q.tree;
+        rest = q.rest;
+        derives = Grammar.repeat s.taken p.derives (takes_of k) q.derives;
+        same = λ i. Tree.Repeat 0 (p.same i) (q.same i);
+        alike = q.alike;
+      }
 
   sequence : {a b c : Lexemes} {x : Stmts} → StatementSequence a x b → Alike a c → LeadsAlike StatementSequence bare_stmts x b c
   sequence (Grammar.sequence d e) l =

@@ -3,8 +3,8 @@ use Rattle.std.proofs.Common.{◌≡◌, ℕ, ◌+◌, Bool, true, false, List, 
 use Rattle.std.specs.Prelude.{if◌then◌else◌, nat_le}
 use Rattle.std.specs.Option.{option_map_or}
 use Rattle.std.specs.Str.{bytes_eq}
-use Rattle.ob_grammar.specs.Tree.{Name, Expr, Number, Named, Parens, Not, Product, Sum, Comparison, Operands, no_operand, operand, Selectors, no_selector, field, index, TypeExpr, NamedType, Array, Record, FieldLists, no_list, empty_list, fields, Stmt, Empty, Assign, Call, If, While, Stmts, no_stmt, stmt, Branches, no_branch, branch, Otherwise, no_else, else', DeclarationPart, Declarations, Declared, Procedures, no_procedure, procedure, Module}
-use Rattle.ob_grammar.specs.declared.tree.TheConstants.{DEEPEST_NESTING}
+use Rattle.ob_grammar.specs.Tree.{Name, Expr, Number, Named, Parens, Not, Product, Sum, Comparison, Operands, no_operand, operand, Selectors, no_selector, field, index, TypeExpr, NamedType, Array, Record, FieldLists, no_list, empty_list, fields, Stmt, Empty, Assign, Call, If, While, Repeat, Stmts, no_stmt, stmt, Branches, no_branch, branch, Otherwise, no_else, else', DeclarationPart, Declarations, Declared, Procedures, no_procedure, procedure, Module}
+use Rattle.ob_grammar.specs.Limits.{deepest_nesting}
 use Rattle.ob_grammar.specs.Conditions.{Breach, name_differs, too_deep, opening, differing, in_expr, in_operands, in_selectors, in_type, in_fields, in_stmt, in_stmts, in_branches, in_otherwise, in_body, in_declarations, in_procedures, breaches, KeepsConditions}
 use Rattle.ob_syntax.specs.Places.{bare_name, bare_expr, bare_operands, bare_selectors, bare_type, bare_fields, bare_stmt, bare_stmts, bare_branches, bare_otherwise, bare_const, bare_type_decl, bare_variables, bare_part, bare_section, bare_declarations, bare_procedures, bare}
 
@@ -27,7 +27,7 @@ either_none true x y = record { same = refl }
 either_none false x y = record { same = refl }
 
 opens : (n p q : ℕ) → AsMany (opening n p) (opening n q)
-opens n p q = either_one (nat_le DEEPEST_NESTING n) (too_deep p) (too_deep q)
+opens n p q = either_one (nat_le deepest_nesting n) (too_deep p) (too_deep q)
 
 differs : (x y : Name) → AsMany (differing (bare_name x) (bare_name y)) (differing x y)
 differs x y = either_none (bytes_eq x.text y.text) (name_differs 0) (name_differs y.place)
@@ -87,6 +87,7 @@ mutual
   statement n (Call name actuals) = perhaps_each (in_expr n) bare_expr (expr n) actuals
   statement n (If place b o) = joined (opens n 0 place) (joined (branches (n + 1) b) (otherwise (n + 1) o))
   statement n (While place condition body) = joined (opens n 0 place) (joined (expr (n + 1) condition) (statements (n + 1) body))
+  statement n (Repeat place body condition) = joined (opens n 0 place) (joined (statements (n + 1) body) (expr (n + 1) condition))
 
   statements : (n : ℕ) (ss : Stmts) → AsMany (in_stmts n (bare_stmts ss)) (in_stmts n ss)
   statements n no_stmt = none

@@ -3,7 +3,7 @@ use Rattle.std.proofs.Common.{◌≡◌, ◌≤◌, ℕ, suc, List, ◌++◌, dr
 use Rattle.std.specs.List.{Contains}
 use Rattle.std.specs.Result.{IsErrAnd, IfOk, IfErr}
 use Rattle.std.proofs.lemmas.List.{take-append-drop}
-use Rattle.ob_scan.specs.declared.scanner.TheConstants.{LONGEST_TEXT}
+use Rattle.ob_scan.specs.Limits.{longest_text}
 use Rattle.ob_scan.specs.declared.token.Token.{Token}
 use Rattle.ob_scan.specs.declared.fault.ScanFault.{ScanFault}
 use Rattle.ob_scan.specs.declared.fault.ScanFault.TheVariants as ScanFaults
@@ -26,7 +26,7 @@ raised_both P Q r e h bad = exits (λ v. IfOk v P × IfErr v Q) r e h (tt, bad)
 
 -- of a text that has tokens and is not too long, the scanner can only want memory
 pub scan_wants : {text : List ℕ} {tokens : List Token} (fault : ScanFault) → IsScanFault text fault → HasTokens text tokens →
-    length text ≤ LONGEST_TEXT → IsWant (Scan fault)
+    length text ≤ longest_text → IsWant (Scan fault)
 scan_wants {tokens = tokens} (ScanFaults.StrayByte at) f h k = absurd (f.none tt tokens h)
 scan_wants {tokens = tokens} (ScanFaults.NumberTooLarge at) f h k = absurd (f.none tt tokens h)
 scan_wants {tokens = tokens} (ScanFaults.OpenComment at) f h k = absurd (f.none tt tokens h)

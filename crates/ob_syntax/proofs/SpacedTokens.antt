@@ -6,7 +6,7 @@ use Rattle.std.proofs.lemmas.Bool.{and_parts, cases_Bool, false≢true}
 use Rattle.std.proofs.lemmas.List.Elements.{All-nil, All-cons, All-head, All-tail}
 use Rattle.std.proofs.lemmas.List.Folds.{list_all-append}
 use Rattle.ob_scan.specs.declared.token.Kind.{Kind}
-use Rattle.ob_scan.specs.declared.token.TheConstants.{LONGEST_NAME, LARGEST_NUMBER}
+use Rattle.ob_scan.specs.Limits.{longest_name, largest_number}
 use Rattle.ob_scan.specs.declared.token.Token.{Token}
 use Rattle.ob_scan.specs.Spelling.{Spells, IsLongest, number_value}
 use Rattle.ob_scan.specs.Tokens.{IsBlank, space, tab, carriage_return, line_feed, OpensComment, BeginsWith, stops, blank, token, place, spelling, KeepsLimits, HasTokens}
@@ -18,8 +18,8 @@ use Rattle.ob_syntax.specs.Printing.{Word, spaced}
 -- the bytes of a word spell its kind, within the limits on names and numbers
 pub record IsWord (w : Word) : Type 0 where
   pub spells : Spells w.bytes w.kind
-  pub name : w.kind ≡ Kind.Ident → length w.bytes ≤ LONGEST_NAME
-  pub number : w.kind ≡ Kind.Number → number_value w.bytes ≤ LARGEST_NUMBER
+  pub name : w.kind ≡ Kind.Ident → length w.bytes ≤ longest_name
+  pub number : w.kind ≡ Kind.Number → number_value w.bytes ≤ largest_number
 
 -- a blank goes on with no spelling
 
@@ -120,7 +120,7 @@ word_before whole before text left byte w ws e f b i h =
       begins = token w.bytes w.kind f i.spells (longest_before_blank w.bytes left b i.spells)
           (subst (λ l. ¬ OpensComment l) (sym f) (opens_none_before_blank w.bytes left b i.spells)) (blank b h.begins);
       limited = All-cons (KeepsLimits whole) t h.tokens
-          (subst (λ l. (w.kind ≡ Kind.Ident → length l ≤ LONGEST_NAME) × (w.kind ≡ Kind.Number → number_value l ≤ LARGEST_NUMBER)) (sym s) (i.name, i.number))
+          (subst (λ l. (w.kind ≡ Kind.Ident → length l ≤ longest_name) × (w.kind ≡ Kind.Number → number_value l ≤ largest_number)) (sym s) (i.name, i.number))
           h.limited;
       same = ap (λ l. word l ∷ map (λ t. record { kind = t.kind; bytes = spelling whole t }) h.tokens) s ∙ ap (λ l. w ∷ l) h.same;
     }

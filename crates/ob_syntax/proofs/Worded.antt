@@ -207,6 +207,7 @@ mutual
   statement (Grammar.if' t d f u) = next (at refl t) (next (alternative d) (next (else_part f) (word refl u)))
   statement (Grammar.while t d u f v) =
       next (at refl t) (next (expression d) (next (word refl u) (next (sequence f) (word refl v))))
+  statement (Grammar.repeat t d u f) = next (at refl t) (next (sequence d) (next (word refl u) (expression f)))
 
   sequence : {a b : Lexemes} {ss : Stmts} → StatementSequence a ss b → Worded a (stmts_words ss) b
   sequence (Grammar.sequence s d) = next (statement s) (more_statements d)

@@ -1,7 +1,7 @@
 -- A tree without its places: each place is 0.
 use Rattle.std.specs.Prelude.{map, option_map}
 use Rattle.ob_grammar.specs.declared.tree.Sign.{Sign}
-use Rattle.ob_grammar.specs.Tree.{Name, Expr, Number, Named, Parens, Not, Product, Sum, Comparison, Operands, no_operand, operand, Selectors, no_selector, field, index, TypeExpr, NamedType, Array, Record, FieldLists, no_list, empty_list, fields, Stmt, Empty, Assign, Call, If, While, Stmts, no_stmt, stmt, Branches, no_branch, branch, Otherwise, no_else, else', ConstDecl, TypeDecl, VarDecl, DeclarationPart, Section, Heading, Declarations, Declared, Procedures, no_procedure, procedure, Module}
+use Rattle.ob_grammar.specs.Tree.{Name, Expr, Number, Named, Parens, Not, Product, Sum, Comparison, Operands, no_operand, operand, Selectors, no_selector, field, index, TypeExpr, NamedType, Array, Record, FieldLists, no_list, empty_list, fields, Stmt, Empty, Assign, Call, If, While, Repeat, Stmts, no_stmt, stmt, Branches, no_branch, branch, Otherwise, no_else, else', ConstDecl, TypeDecl, VarDecl, DeclarationPart, Section, Heading, Declarations, Declared, Procedures, no_procedure, procedure, Module}
 
 abbrev pub bare_name : Name → Name
 bare_name n = record { text = n.text; place = 0 }
@@ -46,6 +46,7 @@ abbrev mutual
   bare_stmt (Call name actuals) = Call (bare_name name) (option_map (map bare_expr) actuals)
   bare_stmt (If place branches otherwise) = If 0 (bare_branches branches) (bare_otherwise otherwise)
   bare_stmt (While place condition body) = While 0 (bare_expr condition) (bare_stmts body)
+  bare_stmt (Repeat place body condition) = Repeat 0 (bare_stmts body) (bare_expr condition)
 
   pub bare_stmts : Stmts → Stmts
   bare_stmts no_stmt = no_stmt

@@ -7,7 +7,7 @@ use Rattle.ob_scan.specs.declared.token.Kind.{Kind}
 use Rattle.ob_scan.specs.Spelling.{fixed_spelling}
 use Rattle.ob_grammar.specs.declared.tree.Operator.{Operator}
 use Rattle.ob_grammar.specs.declared.tree.Sign.{Sign}
-use Rattle.ob_grammar.specs.Tree.{Name, Expr, Number, Named, Parens, Not, Product, Sum, Comparison, Operands, no_operand, operand, Selectors, no_selector, field, index, TypeExpr, NamedType, Array, Record, FieldLists, no_list, empty_list, fields, Stmt, Empty, Assign, Call, If, While, Stmts, no_stmt, stmt, Branches, no_branch, branch, Otherwise, no_else, else', ConstDecl, TypeDecl, VarDecl, DeclarationPart, Section, Heading, Declarations, Declared, Procedures, no_procedure, procedure, Module}
+use Rattle.ob_grammar.specs.Tree.{Name, Expr, Number, Named, Parens, Not, Product, Sum, Comparison, Operands, no_operand, operand, Selectors, no_selector, field, index, TypeExpr, NamedType, Array, Record, FieldLists, no_list, empty_list, fields, Stmt, Empty, Assign, Call, If, While, Repeat, Stmts, no_stmt, stmt, Branches, no_branch, branch, Otherwise, no_else, else', ConstDecl, TypeDecl, VarDecl, DeclarationPart, Section, Heading, Declarations, Declared, Procedures, no_procedure, procedure, Module}
 
 -- a token that is printed: its kind and its bytes
 pub record Word : Type 0 where
@@ -105,6 +105,7 @@ abbrev mutual
       fixed Kind.If ∷ (branch_words branches ++ (else_words otherwise ++ fixed Kind.End ∷ []))
   stmt_words (While place condition body) =
       fixed Kind.While ∷ (expr_words condition ++ fixed Kind.Do ∷ (stmts_words body ++ fixed Kind.End ∷ []))
+  stmt_words (Repeat place body condition) = fixed Kind.Repeat ∷ (stmts_words body ++ fixed Kind.Until ∷ expr_words condition)
 
   -- statements, and those behind a first one
   pub stmts_words : Stmts → List Word

@@ -4,5 +4,6 @@
 pub mod printer;
 pub mod reader;
 
-pub use ob_grammar::{NoMemory, tree as tree};
+pub use ob_grammar::tree as tree;
+pub use ob_interface::NoMemory;
 pub use ob_parser::parser as parser;

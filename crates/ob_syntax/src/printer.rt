@@ -11,9 +11,9 @@ mod expressions;
 mod statements;
 mod types;
 
-use ob_grammar::NoMemory;
 use ob_grammar::module::Module;
 use ob_grammar::tree::{Constants, Declarations, Name, Procedure, Section, Types, Variables};
+use ob_interface::NoMemory;
 use std::alloc::Global;
 
 /// The text of a module: all its tokens, numbers without leading zeros, one space between two, and a line feed at the

@@ -3,8 +3,8 @@ use Rattle.std.proofs.Common.{◌≡◌, ◌∙◌, ℕ, ℤ, pos, neg_ℤ, List
 use Rattle.std.proofs.lemmas.Bool.{false≢true}
 use Rattle.ob_check.specs.declared.program.DataType.{DataType}
 use Rattle.ob_check.specs.declared.program.Formal.{Formal}
-use Rattle.ob_check.specs.declared.program.Scalar.{Scalar}
-use Rattle.ob_check.specs.declared.program.Scalar.TheVariants.{Int}
+use Rattle.ob_interface.specs.declared.scalar.Scalar.{Scalar}
+use Rattle.ob_interface.specs.declared.scalar.Scalar.TheVariants.{Int}
 use Rattle.ob_check.specs.Exports.{Signature}
 use Rattle.ob_text.specs.Words as Words
 use Rattle.ob_text.specs.Values as Values

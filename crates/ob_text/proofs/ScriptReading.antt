@@ -6,7 +6,7 @@ use Rattle.std.proofs.lemmas.Option.{slice_get_read}
 use Rattle.std.proofs.Math.ListN.{get_or-map}
 use Rattle.std.specs.List.{enumerate_from}
 use Rattle.ob_scan.specs.Spelling.{number_value}
-use Rattle.ob_check.specs.declared.program.Scalar.{Scalar}
+use Rattle.ob_interface.specs.declared.scalar.Scalar.{Scalar}
 use Rattle.ob_check.specs.Exports.{Signature}
 use Rattle.ob_text.specs.declared.script.ScriptFault.{ScriptFault}
 use Rattle.ob_text.specs.declared.script.ScriptFault.TheVariants as Faults

@@ -4,7 +4,7 @@ use Rattle.std.specs.Bool.{then_some}
 use Rattle.std.proofs.lemmas.List.{drop_all, length_push, length-drop}
 use Rattle.std.proofs.Math.ListN.{get_or-map}
 use Rattle.ob_check.specs.declared.program.Formal.{Formal}
-use Rattle.ob_check.specs.declared.program.Scalar.{Scalar}
+use Rattle.ob_interface.specs.declared.scalar.Scalar.{Scalar}
 use Rattle.ob_text.specs.Words.{Word}
 use Rattle.ob_text.specs.Values.{IsValue, AreValues, formals_of, is_of_mode, none, more}
 

@@ -1,6 +1,6 @@
 -- Scripts: what each line says, of calls on the exports of a module by so many processes.
 use Rattle.std.specs.Prelude.{◌≡◌, ℕ, ◌-◌, ◌<◌, ◌≤◌, List, [], ◌∷◌, map, take, slice_get, Some, None}
-use Rattle.ob_check.specs.declared.program.Scalar.{Scalar}
+use Rattle.ob_interface.specs.declared.scalar.Scalar.{Scalar}
 use Rattle.ob_check.specs.Exports.{Signature}
 use Rattle.ob_text.specs.Words.{Word, IsName, IsProcess, lines, words}
 use Rattle.ob_text.specs.Values.{AreValues, value_formals}

@@ -1,5 +1,5 @@
 -- The call of a script that a value of the program stands for, and what it asks of the object.
-use Rattle.ob_mean.specs.Object.{ObjectCall}
+use Rattle.ob_interface.specs.Call.{ObjectCall}
 use Rattle.ob_text.specs.declared.script.ScriptCall.{ScriptCall}
 use Rattle.ob_text.specs.Script
 

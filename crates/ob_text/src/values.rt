@@ -1,11 +1,12 @@
 //! Values of parameters, as words and as text.
 
 ghost use Rattle.std.specs.Prelude.{◌≡◌, ◌++◌, map, IfOk, OnOk, MatchOption, List, string_bytes};
-ghost use Rattle.ob_check.specs.declared.program.Scalar.{Scalar};
+ghost use Rattle.ob_interface.specs.declared.scalar.Scalar.{Scalar};
 ghost use Rattle.ob_text.specs.Values.{AreValues, IsValue, formals_of, is_of_mode, scalar_text};
 
 use crate::numbers::{push_number, read_integer};
-use ob_check::program::{DataType, Formal, Scalar};
+use ob_check::program::{DataType, Formal};
+use ob_interface::scalar::Scalar;
 use smallvec::SmallVec;
 use std::alloc::{AllocError, Global};
 

@@ -1,10 +1,10 @@
 //! One call on the opening state of a module, without a script.
 
+use ob_interface::scalar::Scalar;
 use ob_interpreter::call::{Call, Reply};
 use ob_interpreter::object::interpret;
 use ob_interpreter::opening::opening;
 use ob_syntax::reader::read;
-use ob_typing::scalar::Scalar;
 use ob_whole_check::modules::check;
 use std::test::Fail;
 

@@ -19,6 +19,8 @@ const ELSES: Nest = ["MODULE M; BEGIN ", "IF a THEN ELSE ", "END ", "END M."];
 
 const WHILES: Nest = ["MODULE M; BEGIN ", "WHILE a DO ", "END ", "END M."];
 
+const REPEATS: Nest = ["MODULE M; BEGIN ", "REPEAT ", "UNTIL a ", "END M."];
+
 const PARENTHESES: Nest = ["MODULE M; VAR x: INTEGER; BEGIN x := ", "(", ")", " END M."];
 
 const ACTUALS: Nest = ["MODULE M; BEGIN P(", "(", ")", ") END M."];
@@ -60,6 +62,7 @@ fn prints_the_deepest_trees(rt: HostRuntime) -> Result<(), Fail> {
         (IFS, ""),
         (ELSES, ""),
         (WHILES, ""),
+        (REPEATS, ""),
         (PARENTHESES, "1"),
         (ACTUALS, "1"),
         (INDICES, ""),

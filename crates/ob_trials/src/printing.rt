@@ -24,13 +24,15 @@ fn prints_texts(rt: HostRuntime) -> Result<(), Fail> {
             PROCEDURE P*(VAR x,y: INTEGER; z: A); CONST k=0; PROCEDURE Q; BEGIN END Q; PROCEDURE R(); END R; \
             BEGIN x:=y END P; \
             BEGIN IF a#b THEN P ELSIF a<b THEN P(); ELSIF a<=b THEN ELSE P(a, b[1].z) END; \
-            WHILE ~(a>b) OR c.x[n]>=c.z.y DO a:=+a*b DIV c MOD 2&(x=y)-1 END; END Whole.",
+            WHILE ~(a>b) OR c.x[n]>=c.z.y DO a:=+a*b DIV c MOD 2&(x=y)-1 END; \
+            REPEAT REPEAT UNTIL(a#b); P;UNTIL a<b OR ~c; END Whole.",
             "MODULE Whole ; CONST n = 7 ; m = - n + 1 ; \
             TYPE A = ARRAY n OF INTEGER ; R = RECORD END ; S = RECORD x , y : A ; ; z : R END ; VAR a , b : A ; c : S ; \
             PROCEDURE P * ( VAR x , y : INTEGER ; z : A ) ; CONST k = 0 ; PROCEDURE Q ; BEGIN END Q ; PROCEDURE R ( ) ; END R ; \
             BEGIN x := y END P ; \
             BEGIN IF a # b THEN P ELSIF a < b THEN P ( ) ; ELSIF a <= b THEN ELSE P ( a , b [ 1 ] . z ) END ; \
-            WHILE ~ ( a > b ) OR c . x [ n ] >= c . z . y DO a := + a * b DIV c MOD 2 & ( x = y ) - 1 END ; END Whole .\n",
+            WHILE ~ ( a > b ) OR c . x [ n ] >= c . z . y DO a := + a * b DIV c MOD 2 & ( x = y ) - 1 END ; \
+            REPEAT REPEAT UNTIL ( a # b ) ; P ; UNTIL a < b OR ~ c ; END Whole .\n",
         ),
     ];
     for (text, want) in texts {

@@ -1,7 +1,7 @@
 -- A verdict that is there: what is right has a fact, and no tree of a text is foreign.
 use Rattle.std.proofs.Common.{◌≡◌, refl, sym, subst, Bool, true, false, ℕ, Option, Some, None, is_some, if◌then◌else◌}
 use Rattle.ob_grammar.specs.Tree
-use Rattle.ob_typing.specs.declared.scalar.Scalar.{Scalar}
+use Rattle.ob_interface.specs.declared.scalar.Scalar.{Scalar}
 use Rattle.ob_typing.specs.declared.operator.BinaryOperator.{BinaryOperator}
 use Rattle.ob_typing.specs.declared.operator.Relation.{Relation}
 use Rattle.ob_typing.specs.declared.rule.Rule.{Rule}
@@ -11,7 +11,7 @@ use Rattle.ob_typing.specs.Arithmetic as Arithmetic
 use Rattle.ob_typing.specs.Arithmetic.{Evaluated, Gives, Traps, complement, computed}
 use Rattle.std.specs.Prelude.{option_map}
 use Rattle.ob_typing.specs.Expressions.{Use, InStatement, InConstant, NotComputed, known, value_behind, value_signed, value_compared}
-use Rattle.ob_typing.proofs.Verdict.{Verdict, Right, Wrong, Foreign, ◌>>=◌, need, or_wrong, test, unless, unless_name, unless_broken, result}
+use Rattle.ob_typing.specs.Verdict.{Verdict, Right, Wrong, Foreign, ◌>>=◌, need, or_wrong, test, unless, unless_name, unless_broken, result}
 
 abbrev pub Has : {A : Type 0} → (A → Type 0) → Verdict A → Type 0
 Has P (Right a) = P a

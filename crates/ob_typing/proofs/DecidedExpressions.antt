@@ -7,10 +7,10 @@ use Rattle.ob_grammar.specs.Tree
 use Rattle.ob_grammar.specs.Tree.{Expr, Operands, Selectors}
 use Rattle.ob_grammar.specs.Grammar as Grammar
 use Rattle.ob_grammar.specs.Grammar.{Lexemes, IsRelation, IsAddition, IsMultiplication, Expression, SimpleExpression, Term, Terms, Factor, Factors, Selector}
-use Rattle.ob_typing.specs.declared.scalar.Scalar.{Scalar}
-use Rattle.ob_typing.specs.declared.scalar.Scalar.TheVariants.{Int}
-use Rattle.ob_typing.specs.declared.scalar.ScalarType.{ScalarType}
-use Rattle.ob_typing.specs.declared.scalar.ScalarType.TheVariants.{Integer, Boolean}
+use Rattle.ob_interface.specs.declared.scalar.Scalar.{Scalar}
+use Rattle.ob_interface.specs.declared.scalar.Scalar.TheVariants.{Int}
+use Rattle.ob_interface.specs.declared.scalar.ScalarType.{ScalarType}
+use Rattle.ob_interface.specs.declared.scalar.ScalarType.TheVariants.{Integer, Boolean}
 use Rattle.ob_typing.specs.declared.operator.BinaryOperator.{BinaryOperator}
 use Rattle.ob_typing.specs.declared.operator.BinaryOperator.TheVariants as Binary
 use Rattle.ob_typing.specs.declared.operator.Relation.{Relation}
@@ -21,8 +21,8 @@ use Rattle.ob_typing.specs.Arithmetic.{same_scalar_type, takes_both, compares, o
 use Rattle.ob_typing.specs.Scopes.{Environment, Meant, Nothing, AConstant, AType, AVariable, FarVariable, AProcedure, meant, type_meant, is_simple, fields_of, elements_of, field_from}
 use Rattle.ob_typing.specs.Expressions.{Use, InStatement, InConstant, NotComputed, known, behind, value_behind, sign_fits, value_signed}
 use Rattle.ob_typing.specs.ExpressionFaults.{first_place, value_broken}
-use Rattle.ob_typing.proofs.Verdict.{◌>>=◌, need}
-use Rattle.ob_typing.proofs.CheckedExpressions.{Typed, Chain, named_value, sign_place, expression, operands, selecting}
+use Rattle.ob_typing.specs.Verdict.{◌>>=◌, need}
+use Rattle.ob_typing.specs.ExpressionVerdicts.{Typed, Chain, named_value, sign_place, expression, operands, selecting}
 use Rattle.ob_typing.proofs.Decided.{Has, Any, has_step, has_need, has_or_wrong, has_test, has_unless, has_result, KnownIn, known_in, complement_known, signed_known, behind_known, compared_known}
 
 relation_is : {kind : Kind} {operator : Operator} → IsRelation kind operator → (o : Relation) × (relation_of operator ≡ Some o)

@@ -7,24 +7,24 @@ use Rattle.ob_grammar.specs.Tree.{Stmts, ConstDecl, TypeDecl, VarDecl, Declarati
 use Rattle.ob_grammar.specs.Texts.{HasText}
 use Rattle.ob_grammar.specs.Grammar as Grammar
 use Rattle.ob_grammar.specs.Grammar.{Lexemes, Phrase, Each, Separated, Perhaps, PartBehind, ConstDeclaration, TypeDeclaration, VarDeclaration, FPSection, FormalParameters, ProcedureHeading, DeclarationsPart, ProcedureDeclaration, ProcedureDeclarations, Derives}
-use Rattle.ob_typing.specs.declared.rule.Rule.TheVariants.{DeclaredTwice, WrongKind, TypesDiffer, PassesLimit, BadExport}
+use Rattle.ob_typing.specs.declared.rule.Rule.TheVariants.{DeclaredTwice, TypesDiffer, PassesLimit, BadExport}
 use Rattle.ob_typing.specs.declared.rule.BrokenRule.{BrokenRule}
 use Rattle.ob_typing.specs.Program as Programs
 use Rattle.ob_typing.specs.Scopes.{Constant, TypeName, Environment, no_names, is_declared, declared, opening_names, is_simple, words}
 use Rattle.ob_typing.specs.Types.{second}
 use Rattle.ob_typing.specs.Statements.{listed}
 use Rattle.ob_typing.specs.TypeFaults.{type_place}
-use Rattle.ob_typing.specs.Declarations.{declared_by, Room, module_room, frame_room, first_beyond, with_variables, room_behind, with_parameters, most_parameters, parameter_broken, is_name, heading_broken, all_simple, exports_behind, inner_scope, with_procedure, WellTyped}
-use Rattle.ob_typing.specs.DeclarationFaults.{Breaks}
-use Rattle.ob_typing.proofs.Verdict.{Verdict, Right, Wrong, Foreign}
+use Rattle.ob_typing.specs.Declarations.{declared_by, Room, module_room, frame_room, first_beyond, with_variables, room_behind, with_parameters, most_parameters, all_simple, exports_behind, inner_scope, with_procedure, WellTyped}
+use Rattle.ob_typing.specs.DeclarationFaults.{parameter_broken, heading_broken, Breaks}
+use Rattle.ob_typing.specs.Verdict.{Verdict, Right, Wrong, Foreign}
 use Rattle.ob_typing.proofs.Told.{Told}
 use Rattle.ob_typing.proofs.ToldModules.{module_told}
-use Rattle.ob_typing.proofs.CheckedTypes.{constant, denoted}
-use Rattle.ob_typing.proofs.CheckedStatements.{body_checked}
-use Rattle.ob_typing.proofs.CheckedModules.{constants, types, variables, parameters, procedures, declarations, checked}
+use Rattle.ob_typing.specs.TypeVerdicts.{constant, denoted, formal}
+use Rattle.ob_typing.specs.StatementVerdicts.{body_checked}
+use Rattle.ob_typing.specs.ModuleVerdicts.{constants, types, variables, parameters, procedures, declarations, checked}
 use Rattle.ob_typing.proofs.Decided.{Has, Any, has_step, has_test, has_unless, has_unless_name, has_unless_broken}
 use Rattle.ob_typing.proofs.DecidedExpressions.{expression_decided}
-use Rattle.ob_typing.proofs.DecidedStatements.{constant_decided, type_decided, body_decided}
+use Rattle.ob_typing.proofs.DecidedStatements.{constant_decided, type_decided, formal_decided, body_decided}
 
 constants_decided : {a b : Lexemes} {xs : List ConstDecl} → Each ConstDeclaration a xs b → (env : Environment) → Has Any (constants xs env)
 constants_decided Grammar.none env = tt
@@ -55,11 +55,10 @@ SectionsDecided xs = (env : Environment) (count : ℕ) → Has Any (parameters x
 section_has : {a b : Lexemes} (x : Section) (xs : List Section) → FPSection a x b → SectionsDecided xs → SectionsDecided (x ∷ xs)
 section_has x xs (Grammar.section v n c h) k env count =
     has_unless_broken Any (parameter_broken (is_declared env) (most_parameters - count) x.names) _
-    (has_step Any Any (denoted env x.of_type) _ (type_decided env h)
-    (λ t l. has_test Any (is_name x.of_type) WrongKind (type_place x.of_type) _
-    (λ name. has_test Any (x.is_var || is_simple t) TypesDiffer (type_place x.of_type) _
+    (has_step Any Any (formal env x.of_type) _ (formal_decided env h)
+    (λ t l. has_test Any (x.is_var || is_simple t) TypesDiffer (type_place x.of_type) _
     (λ simple. has_step Any Any (parameters xs (with_parameters env count t x.names) (count + length x.names)) _
-    (k (with_parameters env count t x.names) (count + length x.names)) (λ d m. tt)))))
+    (k (with_parameters env count t x.names) (count + length x.names)) (λ d m. tt))))
 
 no_section : SectionsDecided []
 no_section env count = tt
@@ -68,16 +67,16 @@ sections_decided : {a b : Lexemes} {xs : List Section} → Separated Kind.Semico
 sections_decided (Grammar.one {x = x} h) = section_has x [] h no_section
 sections_decided (Grammar.more {x = x} {xs = xs} h s k) = section_has x xs h (sections_decided k)
 
-formal_decided : {a b : Lexemes} {xs : List Section} → FormalParameters a xs b → SectionsDecided xs
-formal_decided (Grammar.no_formal l r) = no_section
-formal_decided (Grammar.sections l h r) = sections_decided h
+formals_decided : {a b : Lexemes} {xs : List Section} → FormalParameters a xs b → SectionsDecided xs
+formals_decided (Grammar.no_formal l r) = no_section
+formals_decided (Grammar.sections l h r) = sections_decided h
 
 heading_decided : {a b : Lexemes} {h : Heading} → ProcedureHeading a h b → SectionsDecided (listed h.parameters)
 heading_decided (Grammar.heading {h = h} p n t k) = by k
   where
     by : {a b : Lexemes} {xs : Option (List Section)} → Perhaps FormalParameters a xs b → SectionsDecided (listed xs)
     by Grammar.absent = no_section
-    by (Grammar.present k) = formal_decided k
+    by (Grammar.present k) = formals_decided k
 
 part_decided : {A : Type 0} {a b : Lexemes} {word : Kind} (R : Phrase (List A)) (P : List A → Type 0) → P [] → ((c d : Lexemes) (xs : List A) → R c xs d → P xs) →
     {part : Option (DeclarationPart A)} → Perhaps (PartBehind word R) a part b → P (declared_by part)

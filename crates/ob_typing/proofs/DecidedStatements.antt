@@ -8,9 +8,9 @@ use Rattle.ob_grammar.specs.Tree.{Expr, Selectors, TypeExpr, FieldLists, OneFiel
 use Rattle.ob_grammar.specs.Grammar as Grammar
 use Rattle.ob_grammar.specs.Grammar.{Lexemes, Expression, SimpleExpression, Term, Factor, Selector, IsType, FieldList, FieldListSequence, MoreFields, ActualParameters, Separated, Perhaps, Statement, StatementSequence, MoreStatements, Alternative, MoreAlternatives, ElsePart}
 use Rattle.ob_scan.specs.declared.token.Kind.{Kind}
-use Rattle.ob_typing.specs.declared.scalar.Scalar.{Scalar}
-use Rattle.ob_typing.specs.declared.scalar.Scalar.TheVariants.{Int, Bool}
-use Rattle.ob_typing.specs.declared.scalar.ScalarType.TheVariants.{Boolean}
+use Rattle.ob_interface.specs.declared.scalar.Scalar.{Scalar}
+use Rattle.ob_interface.specs.declared.scalar.Scalar.TheVariants.{Int, Bool}
+use Rattle.ob_interface.specs.declared.scalar.ScalarType.TheVariants.{Boolean}
 use Rattle.ob_typing.specs.declared.rule.Rule.TheVariants.{DeclaredTwice, TypesDiffer, BadLength, PassesLimit, BadActuals}
 use Rattle.ob_typing.specs.Program as Programs
 use Rattle.ob_typing.specs.Program.{DataType, Parameter}
@@ -22,10 +22,10 @@ use Rattle.ob_typing.specs.Types.{Taken, none_taken, and_all_taken, second, arra
 use Rattle.ob_typing.specs.TypeFaults.{type_broken}
 use Rattle.ob_typing.specs.Statements.{listed, bare, unless_constant}
 use Rattle.ob_typing.specs.StatementFaults.{place_broken, procedure_broken}
-use Rattle.ob_typing.proofs.Verdict.{Verdict, Right, ◌>>=◌, need, test}
-use Rattle.ob_typing.proofs.CheckedExpressions.{Typed, expression, selecting}
-use Rattle.ob_typing.proofs.CheckedTypes.{type_named, number_at, constant, denoted, denoted_fields}
-use Rattle.ob_typing.proofs.CheckedStatements.{Designation, slot_meant, procedure_meant, is_empty, designated, value_actual, place_actual, actual, actuals, statement, statements, branches, otherwise, body_checked}
+use Rattle.ob_typing.specs.Verdict.{Verdict, Right, ◌>>=◌, need, test}
+use Rattle.ob_typing.specs.ExpressionVerdicts.{Typed, expression, selecting}
+use Rattle.ob_typing.specs.TypeVerdicts.{type_named, number_at, constant, denoted, denoted_fields, formal}
+use Rattle.ob_typing.specs.StatementVerdicts.{Designation, slot_meant, procedure_meant, is_empty, designated, value_actual, place_actual, actual, actuals, statement, statements, branches, otherwise, body_checked}
 use Rattle.ob_typing.proofs.Decided.{Has, Any, has_step, has_or_wrong, has_test, has_unless, has_unless_name, KnownIn}
 use Rattle.ob_typing.proofs.DecidedExpressions.{IsDecided, SelectorsDecided, expression_decided, selector_decided}
 
@@ -98,6 +98,16 @@ module _ (env : Environment) where
     more_decided : {a b : Lexemes} {lists : FieldLists} → MoreFields a lists b → FieldsDecided lists
     more_decided Grammar.no_more_fields = λ taken. tt
     more_decided (Grammar.more_fields s h) = sequence_decided h
+
+  pub formal_decided : {a b : Lexemes} {e : TypeExpr} → IsType a e b → Has Any (formal env e)
+  formal_decided (Grammar.named_type {name = name} h) = named_type_has name
+  formal_decided (Grammar.array {place = place} {length = e} {element = t} w h o k) =
+      has_step Any Any (constant env e) _ (constant_decided e (expression_decided env h))
+      (λ s l. has_step Any Any (number_at (first_place e) s) _ (number_has (first_place e) s)
+      (λ z m. has_or_wrong Any (array_length z) BadLength (first_place e) _
+      (λ n is. has_step Any Any (denoted env t) _ (type_decided k) (λ element d. tt))))
+  formal_decided (Grammar.record' {lists = lists} w h e) =
+      has_step Any Any (denoted_fields env lists none_taken) _ (sequence_decided h none_taken) (λ fields k. tt)
 
   -- statements
 
@@ -205,6 +215,12 @@ module _ (env : Environment) where
       (λ x l. has_test Any (same_scalar_type x.type Boolean) TypesDiffer (first_place e) _
       (λ boolean. has_step Any Any (statements env body) _ k (λ ss m. tt)))
 
+  repeat_has : (place : ℕ) (body : Stmts) (e : Expr) → Has Any (statements env body) → IsDecided env e → Has Any (statement env (Tree.Repeat place body e))
+  repeat_has place body e h k =
+      has_step Any Any (statements env body) _ h
+      (λ ss l. has_step Any (λ x. KnownIn InStatement x.value) (expression env e InStatement) _ (k InStatement)
+      (λ x m. has_test Any (same_scalar_type x.type Boolean) TypesDiffer (first_place e) _ (λ boolean. tt)))
+
   branch_has : (e : Expr) (body : Stmts) (rest : Branches) (last : Verdict Programs.Branches) → IsDecided env e → Has Any (statements env body) →
       Has Any (branches env rest last) → Has Any (branches env (Tree.branch e body rest) last)
   branch_has e body rest last h k l =
@@ -269,6 +285,8 @@ module _ (env : Environment) where
         λ s. has_step Any Any (branches env bs (otherwise env o)) _ (alternative_decided h (otherwise env o) (else_decided k)) (λ c l. tt)
     statement_decided (Grammar.while {place = place} {condition = condition} {body = body} w h d k e) =
         λ s. while_has place condition body (expression_decided env h) (sequence_has k)
+    statement_decided (Grammar.repeat {place = place} {body = body} {condition = condition} r h u k) =
+        λ s. repeat_has place body condition (sequence_has h) (expression_decided env k)
 
     pub sequence_has : {a b : Lexemes} {ss : Stmts} → StatementSequence a ss b → Has Any (statements env ss)
     sequence_has (Grammar.sequence {s = s} {rest = rest} h k) = more_has s rest (statement_decided h) (rest_has k)

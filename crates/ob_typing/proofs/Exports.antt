@@ -1,15 +1,14 @@
 -- A well typed module has at most 64 exports, and no nested procedure is one.
-use Rattle.std.proofs.Common.{◌≡◌, refl, sym, ap, subst, ◌∙◌, arith, ℕ, suc, ◌+◌, ◌≤◌, Bool, true, false, List, [], ◌∷◌, ◌++◌, length, Some, None, if◌then◌else◌}
-use Rattle.std.specs.Prelude.{◌&&◌, nat_eq}
+use Rattle.std.proofs.Common.{◌≡◌, refl, sym, ap, subst, ◌∙◌, arith, ℕ, suc, ◌+◌, ◌≤◌, Bool, true, false, List, [], ◌∷◌, ◌++◌, length, if◌then◌else◌}
+use Rattle.std.specs.Prelude.{◌&&◌}
 use Rattle.std.specs.List.{filter}
-use Rattle.std.proofs.lemmas.Bool.{ne_eqb, eqb-false}
+use Rattle.std.proofs.lemmas.Bool.{ne_eqb}
 use Rattle.ob_grammar.specs.Tree
 use Rattle.ob_grammar.specs.Tree.{ConstDecl, TypeDecl, VarDecl, Section, Heading, Declarations, Procedures}
-use Rattle.ob_typing.specs.declared.rule.Rule.TheVariants.{DeclaredTwice, PassesLimit, BadExport}
 use Rattle.ob_typing.specs.Program.{Name, DataType, Parameter, Variable, Procedure}
-use Rattle.ob_typing.specs.Scopes.{Object, Environment, Constant, TypeName, ProcedureName, no_names, is_declared, declared, level, variable_in, words}
+use Rattle.ob_typing.specs.Scopes.{Object, Environment, Constant, TypeName, ProcedureName, no_names, declared, level, variable_in, words}
 use Rattle.ob_typing.specs.Declarations as Typing
-use Rattle.ob_typing.specs.Declarations.{Room, with_words, with_variables, with_parameters, heading_broken, exports_behind, most_exports, is_nested, inner_scope, with_procedure, Constants, Types, Variables, Parameters, DeclaresProcedures, Declares}
+use Rattle.ob_typing.specs.Declarations.{Room, with_words, with_variables, with_parameters, exports_behind, most_exports, is_nested, inner_scope, with_procedure, Constants, Types, Variables, Parameters, DeclaresProcedures, Declares}
 
 -- the number of scopes
 
@@ -78,27 +77,10 @@ exported_append : (ps qs : List Procedure) → exported (ps ++ qs) ≡ exported 
 exported_append [] qs = omega arith
 exported_append (p ∷ ps) qs = one_of p.is_exported p (filter (λ q. q.is_exported) ps) (filter (λ q. q.is_exported) (ps ++ qs)) (exported qs) (exported_append ps qs)
 
-unmarked : (old marked nested full : Bool) →
-    (if old then Some DeclaredTwice else if marked && nested then Some BadExport else if marked && full then Some PassesLimit else None) ≡ None → nested ≡ true → marked ≡ false
-unmarked old false nested full h k = refl
-unmarked true true nested full h k = absurd cc
-unmarked false true true full h k = absurd cc
-unmarked false true false full h k = absurd cc
-
-below : (n m : ℕ) → n ≤ m → (n ≡ m → ⊥) → suc n ≤ m
-below n m h d = omega (arith, h, d)
-
-fits_one : (n : ℕ) (full : Bool) → nat_eq n most_exports ≡ full → (if full then Some PassesLimit else None) ≡ None → n ≤ 64 → suc n ≤ 64
-fits_one n true e h k = absurd cc
-fits_one n false e h k = let d : (n ≡ 64 → ⊥) = eqb-false n 64 e in below n 64 k d
-
-room_left : (old marked nested : Bool) (n : ℕ) →
-    (if old then Some DeclaredTwice else if marked && nested then Some BadExport else if marked && nat_eq n most_exports then Some PassesLimit else None) ≡ None → n ≤ 64 →
-    (if marked then suc n else n) ≤ 64
-room_left old false nested n h k = k
-room_left true true nested n h k = absurd cc
-room_left false true true n h k = absurd cc
-room_left false true false n h k = fits_one n (nat_eq n most_exports) refl h k
+unmarked : (marked nested : Bool) → (marked && nested) ≡ false → nested ≡ true → marked ≡ false
+unmarked false nested h k = refl
+unmarked true true h k = absurd cc
+unmarked true false h k = absurd cc
 
 counted : (b : Bool) (p : Procedure) (fs : List Procedure) (n : ℕ) → (if b then suc n else n) + length fs ≤ 64 → n + length (if b then p ∷ fs else fs) ≤ 64
 counted true p fs n h = let k : suc n + length fs ≤ 64 = h in let e : length (p ∷ fs) ≡ suc (length fs) = refl in omega (arith, k, e)
@@ -123,7 +105,7 @@ mutual
       let y = none_exported k (omega (arith, h, o)) in
       let a = exported_append nested others in
       passed_over heading.is_exported _ (filter (λ q. q.is_exported) (nested ++ others))
-      (unmarked (is_declared env heading.name.text) heading.is_exported (is_nested env) (nat_eq ex most_exports) new (nested_within env h)) (omega (arith, x, y, a))
+      (unmarked heading.is_exported (is_nested env) new.of_module (nested_within env h)) (omega (arith, x, y, a))
 
   none_declared : {env after : Environment} {n : ℕ} {room : Room} {d : Declarations} {vs : List Variable} {ps : List Procedure} → Declares env n room d after vs ps → 3 ≤ level env → exported ps ≡ 0
   none_declared (Typing.declarations {env = env} {env1 = env1} {env2 = env2} {env3 = env3} c t v p) h =
@@ -138,8 +120,7 @@ exports_counted (Typing.procedure {env = env} {n = n} {exported = ex} {heading =
     let inner = procedure_level n heading p h in
     let x = none_declared d (omega (arith, h, inner)) in
     let o = declared_level env heading.name.text (ProcedureName n ps) h in
-    let room = room_left (is_declared env heading.name.text) heading.is_exported (is_nested env) ex new m in
-    let y = exports_counted k (omega (arith, h, o)) room in
+    let y = exports_counted k (omega (arith, h, o)) new.few in
     let a = exported_append nested others in
     counted heading.is_exported _ (filter (λ q. q.is_exported) (nested ++ others)) ex (omega (arith, x, y, a))
 

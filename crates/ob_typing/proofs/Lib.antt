@@ -1,4 +1,5 @@
 pub mod Verdict
+pub mod FirstFaults
 pub mod CheckedExpressions
 pub mod CheckedTypes
 pub mod CheckedStatements

@@ -1,11 +1,12 @@
 -- Small modules, each with its text: as what it is well typed, or which rule it breaks first.
+use Rattle.std.specs.Prelude as Prelude
 use Rattle.std.proofs.Common.{ℕ, pos, true, false, List, [], ◌∷◌, Option, Some, None, codes}
 use Rattle.ob_grammar.specs.declared.tree.Operator.TheVariants as Written
 use Rattle.ob_grammar.specs.Tree
 use Rattle.ob_typing.specs.declared.rule.Rule.TheVariants.{UnknownName, DeclaredTwice, WrongKind, TypesDiffer, BadConstant, BadLength, BadActuals, WrongLevel, PassesLimit, BadExport}
-use Rattle.ob_typing.specs.declared.scalar.Scalar.TheVariants.{Int, Bool}
-use Rattle.ob_typing.specs.declared.scalar.ScalarType.TheVariants.{Integer, Boolean}
-use Rattle.ob_typing.specs.declared.operator.BinaryOperator.TheVariants.{Div, And}
+use Rattle.ob_interface.specs.declared.scalar.Scalar.TheVariants.{Int, Bool}
+use Rattle.ob_interface.specs.declared.scalar.ScalarType.TheVariants.{Integer, Boolean}
+use Rattle.ob_typing.specs.declared.operator.BinaryOperator.TheVariants.{Plus, Div, And}
 use Rattle.ob_typing.specs.declared.operator.Relation.TheVariants.{Less, Greater}
 use Rattle.ob_typing.specs.Program
 use Rattle.ob_typing.specs.Program.{DataType, Simple, Array, Record, field, no_field, Own, OfModule, Designator, Designated, Expression, Literal, ValueOf, Complement, Computed, Compared, no_operation, operation, ByValue, ByPlace}
@@ -85,6 +86,35 @@ not_computed = of_constants (constant (codes "c") 16 (Tree.Product (use' (codes 
 row_not_computed : WellTyped not_computed (record { variables = []; procedures = []; body = Program.no_statement })
 row_not_computed = module_told not_computed
 
+-- MODULE M; CONST c = 1 & (1 DIV 0 = 0); END M.
+abbrev number_decides_nothing : Tree.Module
+number_decides_nothing = of_constants (constant (codes "c") 16 (Tree.Product (number 1 20) (Tree.operand Written.And 22
+    (Tree.Parens 24 (Tree.Comparison (Tree.Product (number 1 25) (Tree.operand Written.Div 27 (number 0 31) Tree.no_operand)) Written.Equal 33 (number 0 35)))
+    Tree.no_operand)) ∷ [])
+
+row_number_decides_nothing : Breaks number_decides_nothing (broken BadConstant 27)
+row_number_decides_nothing = module_told number_decides_nothing
+
+-- a procedure with one parameter
+abbrev of_parameter : Prelude.Bool → ℕ → Tree.TypeExpr → Tree.Module
+of_parameter is_var place t = module' (Tree.Declared None None None (Tree.procedure
+    (record { place = 10; name = named (codes "P") 20; is_exported = false; parameters = Some (record { is_var = is_var; names = named (codes "a") place ∷ []; of_type = t } ∷ []) })
+    nothing None (named (codes "P") 0) Tree.no_procedure)) None
+
+-- MODULE M; PROCEDURE P(VAR a: ARRAY 2 OF ARRAY 4096 OF INTEGER); END P; END M.
+abbrev large_formal : Tree.Module
+large_formal = of_parameter true 26 (Tree.Array 29 (number 2 35) (Tree.Array 40 (number 4096 46) (type' (codes "INTEGER") 54)))
+
+row_large_formal : Breaks large_formal (broken WrongKind 29)
+row_large_formal = module_told large_formal
+
+-- MODULE M; PROCEDURE P(a: ARRAY 2 OF ARRAY 2 OF ARRAY 4096 OF INTEGER); END P; END M.
+abbrev large_within_formal : Tree.Module
+large_within_formal = of_parameter false 22 (Tree.Array 25 (number 2 31) (Tree.Array 36 (number 2 42) (Tree.Array 47 (number 4096 53) (type' (codes "INTEGER") 61))))
+
+row_large_within_formal : Breaks large_within_formal (broken PassesLimit 36)
+row_large_within_formal = module_told large_within_formal
+
 -- MODULE M; PROCEDURE P(x: INTEGER); END P; BEGIN P END M.
 abbrev no_actual : Tree.Module
 no_actual = module' (Tree.Declared None None None (Tree.procedure
@@ -138,6 +168,40 @@ row_division : WellTyped division (record {
       (Computed (Literal (Int (pos 1))) (operation Div (Literal (Int (pos 0))) no_operation))) Program.no_statement;
 })
 row_division = module_told division
+
+-- MODULE M; VAR x: INTEGER; BEGIN REPEAT x := x + 1 UNTIL x > 3 END M.
+abbrev repeated : Tree.Module
+repeated = of_variables (variable (codes "x") 14 (type' (codes "INTEGER") 17) ∷ [])
+    (one (Tree.Repeat 32
+    (Tree.stmt (assignment (codes "x") 39 (Tree.Sum None (use' (codes "x") 44) (Tree.operand Written.Plus 46 (number 1 48) Tree.no_operand))) Tree.no_stmt)
+    (Tree.Comparison (use' (codes "x") 56) Written.Greater 58 (number 3 60))))
+
+abbrev the_x : Designator
+the_x = Designated (record { owner = OfModule; position = 0; name = codes "x" }) Program.no_selector
+
+row_repeated : WellTyped repeated (record {
+  variables = record { name = codes "x"; type = Simple Integer } ∷ [];
+  procedures = [];
+  body = Program.statement (Program.Repeat
+      (Program.statement (Program.Assign the_x (Computed (ValueOf Integer the_x) (operation Plus (Literal (Int (pos 1))) no_operation))) Program.no_statement)
+      (Compared Greater (ValueOf Integer the_x) (Literal (Int (pos 3))))) Program.no_statement;
+})
+row_repeated = module_told repeated
+
+-- MODULE M; VAR x: INTEGER; BEGIN REPEAT x := 1 UNTIL x END M.
+abbrev until_number : Tree.Module
+until_number = of_variables (variable (codes "x") 14 (type' (codes "INTEGER") 17) ∷ [])
+    (one (Tree.Repeat 32 (Tree.stmt (assignment (codes "x") 39 (number 1 44)) Tree.no_stmt) (use' (codes "x") 52)))
+
+row_until_number : Breaks until_number (broken TypesDiffer 52)
+row_until_number = module_told until_number
+
+-- MODULE M; BEGIN REPEAT x := 1 UNTIL 1 END M.
+abbrev unknown_in_repeat : Tree.Module
+unknown_in_repeat = module' nothing (one (Tree.Repeat 16 (Tree.stmt (assignment (codes "x") 23 (number 1 28)) Tree.no_stmt) (number 1 36)))
+
+row_unknown_in_repeat : Breaks unknown_in_repeat (broken UnknownName 23)
+row_unknown_in_repeat = module_told unknown_in_repeat
 
 -- MODULE M; VAR x, x: Y; END M.
 abbrev twice : Tree.Module

@@ -6,7 +6,7 @@ use Rattle.ob_typing.specs.declared.rule.Rule.TheVariants.{BadConstant}
 use Rattle.ob_typing.specs.declared.rule.BrokenRule.{BrokenRule}
 use Rattle.ob_typing.specs.Arithmetic.{Evaluated, Gives, Traps}
 use Rattle.ob_typing.specs.ExpressionFaults.{broken}
-use Rattle.ob_typing.proofs.Verdict.{Verdict, Right, Wrong, Foreign, ◌>>=◌, need, or_wrong, test, unless, unless_name, unless_broken, result}
+use Rattle.ob_typing.specs.Verdict.{Verdict, Right, Wrong, Foreign, ◌>>=◌, need, or_wrong, test, unless, unless_name, unless_broken, result}
 
 -- one fact of what is right, another of what is wrong
 abbrev pub Told : {A : Type 0} → (A → Type 0) → (BrokenRule → Type 0) → Verdict A → Type 0

@@ -3,9 +3,9 @@ use Rattle.std.proofs.Common.{◌≡◌, refl, sym, subst, ℕ, true, false, Opt
 use Rattle.ob_grammar.specs.declared.tree.Sign.{Sign}
 use Rattle.ob_grammar.specs.Tree
 use Rattle.ob_grammar.specs.Tree.{Expr, Operands, Selectors}
-use Rattle.ob_typing.specs.declared.scalar.Scalar.{Scalar}
-use Rattle.ob_typing.specs.declared.scalar.ScalarType.{ScalarType}
-use Rattle.ob_typing.specs.declared.scalar.ScalarType.TheVariants.{Integer, Boolean}
+use Rattle.ob_interface.specs.declared.scalar.Scalar.{Scalar}
+use Rattle.ob_interface.specs.declared.scalar.ScalarType.{ScalarType}
+use Rattle.ob_interface.specs.declared.scalar.ScalarType.TheVariants.{Integer, Boolean}
 use Rattle.ob_typing.specs.declared.rule.Rule.TheVariants.{UnknownName, WrongKind, TypesDiffer, BadConstant}
 use Rattle.ob_typing.specs.Program
 use Rattle.ob_typing.specs.Program.{DataType, Simple, Array, Record, Fields, Literal}
@@ -15,9 +15,9 @@ use Rattle.ob_typing.specs.Expressions
 use Rattle.ob_typing.specs.Expressions.{Use, InStatement, InConstant, NotComputed, known, behind, value_behind, sign_fits, value_signed, HasType, AreOperands, Selects}
 use Rattle.ob_typing.specs.ExpressionFaults
 use Rattle.ob_typing.specs.ExpressionFaults.{broken, first_place, value_broken, ExpressionFails, OperandsFail, SelectorsFail}
-use Rattle.ob_typing.proofs.Verdict.{Verdict, Right, Wrong, Foreign}
+use Rattle.ob_typing.specs.Verdict.{Verdict, Right, Wrong, Foreign}
 use Rattle.ob_typing.proofs.Told.{Told, step, step_need, step_or_wrong, step_test, step_unless, step_result}
-use Rattle.ob_typing.proofs.CheckedExpressions.{Typed, Chain, Path, scalar_part, sign_place, named_value, expression, operands, selecting}
+use Rattle.ob_typing.specs.ExpressionVerdicts.{Typed, Chain, Path, scalar_part, sign_place, named_value, expression, operands, selecting}
 
 -- one scalar type or the other
 pub is_boolean : (t : ScalarType) → same_scalar_type t Boolean ≡ true → t ≡ Boolean

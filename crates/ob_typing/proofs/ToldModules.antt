@@ -1,26 +1,27 @@
 -- The verdict on a module tells its program, or the rule that it breaks first.
-use Rattle.std.proofs.Common.{◌≡◌, refl, ℕ, suc, ◌+◌, ◌-◌, Bool, true, false, List, [], ◌∷◌, length}
+use Rattle.std.proofs.Common.{◌≡◌, refl, arith, ℕ, suc, ◌+◌, ◌-◌, ◌≤◌, Bool, true, false, List, [], ◌∷◌, length}
 use Rattle.std.specs.Prelude.{not, ◌||◌}
 use Rattle.ob_grammar.specs.Tree
 use Rattle.ob_grammar.specs.Tree.{Stmts, ConstDecl, TypeDecl, VarDecl, DeclarationPart, Section, Heading, Declarations, Procedures, Module}
-use Rattle.ob_typing.specs.declared.rule.Rule.TheVariants.{DeclaredTwice, WrongKind, TypesDiffer, PassesLimit, BadExport}
+use Rattle.ob_typing.specs.declared.rule.Rule.TheVariants.{DeclaredTwice, TypesDiffer, PassesLimit, BadExport}
 use Rattle.ob_typing.specs.declared.rule.BrokenRule.{BrokenRule}
 use Rattle.ob_typing.specs.Scopes.{Constant, TypeName, Environment, no_names, is_declared, declared, opening_names, is_simple, words}
 use Rattle.ob_typing.specs.Expressions.{InConstant, HasConstant}
 use Rattle.ob_typing.specs.ExpressionFaults.{ExpressionFails}
 use Rattle.ob_typing.specs.Types.{second, Denotes}
-use Rattle.ob_typing.specs.TypeFaults.{type_place, TypeFails}
+use Rattle.ob_typing.specs.TypeFaults.{type_place, TypeFails, FormalTypeFails}
 use Rattle.ob_typing.specs.Statements.{listed, IsBody}
 use Rattle.ob_typing.specs.Declarations as Typing
-use Rattle.ob_typing.specs.Declarations.{declared_by, Room, module_room, frame_room, first_beyond, with_variables, room_behind, with_parameters, most_parameters, parameter_broken, is_name, heading_broken, all_simple, exports_behind, inner_scope, with_procedure, Constants, Types, Variables, Parameters, DeclaresProcedures, Declares, WellTyped}
+use Rattle.ob_typing.specs.Declarations.{declared_by, Room, module_room, frame_room, first_beyond, with_variables, room_behind, with_parameters, most_parameters, most_exports, all_simple, exports_behind, inner_scope, with_procedure, Constants, Types, Variables, Parameters, DeclaresProcedures, Declares, WellTyped}
 use Rattle.ob_typing.specs.DeclarationFaults as Faults
-use Rattle.ob_typing.specs.DeclarationFaults.{ConstantsFail, TypesFail, VariablesFail, ParametersFail, BodyFails, ProceduresFail, DeclarationsFail, Breaks}
-use Rattle.ob_typing.proofs.Verdict.{Verdict, Right, Wrong, Foreign}
+use Rattle.ob_typing.specs.DeclarationFaults.{parameter_broken, heading_broken, ConstantsFail, TypesFail, VariablesFail, ParametersFail, BodyFails, ProceduresFail, DeclarationsFail, Breaks}
+use Rattle.ob_typing.specs.Verdict.{Verdict, Right, Wrong, Foreign}
+use Rattle.ob_typing.proofs.FirstFaults.{new_parameters, new_procedure}
 use Rattle.ob_typing.proofs.Told.{Told, step, step_test, step_unless, step_unless_name, step_unless_broken}
-use Rattle.ob_typing.proofs.CheckedTypes.{constant, denoted}
-use Rattle.ob_typing.proofs.CheckedStatements.{body_checked}
-use Rattle.ob_typing.proofs.CheckedModules.{WithVariables, WithParameters, WithProcedures, WithAll, constants, types, variables, parameters, procedures, declarations, checked}
-use Rattle.ob_typing.proofs.ToldTypes.{constant_told, type_told}
+use Rattle.ob_typing.specs.TypeVerdicts.{constant, denoted, formal}
+use Rattle.ob_typing.specs.StatementVerdicts.{body_checked}
+use Rattle.ob_typing.specs.ModuleVerdicts.{WithVariables, WithParameters, WithProcedures, WithAll, constants, types, variables, parameters, procedures, declarations, checked}
+use Rattle.ob_typing.proofs.ToldTypes.{constant_told, type_told, IsFormal, formal_told}
 use Rattle.ob_typing.proofs.ToldStatements.{body_told}
 
 is_new : (b : Bool) → not b ≡ true → b ≡ false
@@ -82,36 +83,36 @@ variables_told (x ∷ xs) env room =
     (λ f h. Faults.of_type new h))
     (λ name twice. Faults.twice twice)
 
-parameters_told : (xs : List Section) (env : Environment) (count : ℕ) →
+parameters_told : (xs : List Section) (env : Environment) (count : ℕ) → count ≤ most_parameters →
     Told (λ d. Parameters env count xs d.env d.parameters) (ParametersFail env count xs) (parameters xs env count)
-parameters_told [] env count = Typing.none
-parameters_told (x ∷ xs) env count =
+parameters_told [] env count few = Typing.none
+parameters_told (x ∷ xs) env count few =
     let R : WithParameters → Type 0 = λ d. Parameters env count (x ∷ xs) d.env d.parameters in
     let W = ParametersFail env count (x ∷ xs) in
     step_unless_broken R W (parameter_broken (is_declared env) (most_parameters - count) x.names) _
-    (λ new. step R W (Denotes env x.of_type) (TypeFails env x.of_type) (denoted env x.of_type) _ (type_told env x.of_type)
-    (λ t h. step_test R W (is_name x.of_type) WrongKind (type_place x.of_type) _
-    (λ name. step_test R W (x.is_var || is_simple t) TypesDiffer (type_place x.of_type) _
+    (λ free. let new = new_parameters env count x.names few free in
+    step R W (IsFormal env x.of_type) (FormalTypeFails env x.of_type) (formal env x.of_type) _ (formal_told env x.of_type)
+    (λ t h. step_test R W (x.is_var || is_simple t) TypesDiffer (type_place x.of_type) _
     (λ simple. step R W (λ d. Parameters (with_parameters env count t x.names) (count + length x.names) xs d.env d.parameters)
     (ParametersFail (with_parameters env count t x.names) (count + length x.names) xs)
     (parameters xs (with_parameters env count t x.names) (count + length x.names)) _
-    (parameters_told xs (with_parameters env count t x.names) (count + length x.names))
-    (λ d k. Typing.more new h name simple k) (λ f k. Faults.others new h name simple k))
-    (λ simple. Faults.structured new h name simple))
-    (λ name. Faults.no_name new h name))
-    (λ f h. Faults.of_type new h))
+    (parameters_told xs (with_parameters env count t x.names) (count + length x.names) new.few)
+    (λ d k. Typing.more new h.0 h.1 simple k) (λ f k. Faults.others free h.0 h.1 simple k))
+    (λ simple. Faults.structured free h.0 h.1 simple))
+    (λ f h. Faults.of_type free h))
     (λ f bad. Faults.name bad)
 
 mutual
-  procedures_told : (xs : Procedures) (env : Environment) (n exported : ℕ) →
+  procedures_told : (xs : Procedures) (env : Environment) (n exported : ℕ) → exported ≤ most_exports →
       Told (λ d. DeclaresProcedures env n exported xs d.env d.procedures) (ProceduresFail env n exported xs) (procedures xs env n exported)
-  procedures_told Tree.no_procedure env n exported = Typing.none
-  procedures_told (Tree.procedure heading inner body end_name rest) env n exported =
+  procedures_told Tree.no_procedure env n exported few = Typing.none
+  procedures_told (Tree.procedure heading inner body end_name rest) env n exported few =
       let R : WithProcedures → Type 0 = λ d. DeclaresProcedures env n exported (Tree.procedure heading inner body end_name rest) d.env d.procedures in
       let W = ProceduresFail env n exported (Tree.procedure heading inner body end_name rest) in
       step_unless R W (heading_broken env exported heading) heading.name.place _
-      (λ new. step R W (λ d. Parameters (no_names ∷ env) 0 (listed heading.parameters) d.env d.parameters) (ParametersFail (no_names ∷ env) 0 (listed heading.parameters))
-      (parameters (listed heading.parameters) (no_names ∷ env) 0) _ (parameters_told (listed heading.parameters) (no_names ∷ env) 0)
+      (λ free. let new = new_procedure env exported heading few free in
+      step R W (λ d. Parameters (no_names ∷ env) 0 (listed heading.parameters) d.env d.parameters) (ParametersFail (no_names ∷ env) 0 (listed heading.parameters))
+      (parameters (listed heading.parameters) (no_names ∷ env) 0) _ (parameters_told (listed heading.parameters) (no_names ∷ env) 0 (omega arith))
       (λ ps p. step_test R W (not heading.is_exported || all_simple ps.parameters) BadExport heading.name.place _
       (λ simple. step R W
       (λ d. Declares (inner_scope ps.env (with_procedure env n heading ps.parameters)) (suc n) (frame_room (length ps.parameters)) inner d.env d.variables d.procedures)
@@ -123,12 +124,12 @@ mutual
       (λ o. DeclaresProcedures (with_procedure env n heading ps.parameters) (suc n + length ds.procedures) (exports_behind exported heading) rest o.env o.procedures)
       (ProceduresFail (with_procedure env n heading ps.parameters) (suc n + length ds.procedures) (exports_behind exported heading) rest)
       (procedures rest (with_procedure env n heading ps.parameters) (suc n + length ds.procedures) (exports_behind exported heading)) _
-      (procedures_told rest (with_procedure env n heading ps.parameters) (suc n + length ds.procedures) (exports_behind exported heading))
-      (λ o k. Typing.procedure new p simple d b k) (λ f k. Faults.other_procedures new p simple d b k))
-      (λ f b. Faults.body new p simple d b))
-      (λ f d. Faults.inner new p simple d))
-      (λ simple. Faults.export new p simple))
-      (λ f p. Faults.parameters new p))
+      (procedures_told rest (with_procedure env n heading ps.parameters) (suc n + length ds.procedures) (exports_behind exported heading) new.few)
+      (λ o k. Typing.procedure new p simple d b k) (λ f k. Faults.other_procedures free p simple d b k))
+      (λ f b. Faults.body free p simple d b))
+      (λ f d. Faults.inner free p simple d))
+      (λ simple. Faults.export free p simple))
+      (λ f p. Faults.parameters free p))
       (λ rule bad. Faults.name bad)
 
   declarations_told : (d : Declarations) (env : Environment) (n : ℕ) (room : Room) →
@@ -141,7 +142,7 @@ mutual
       (λ env2 t. step R W (λ d. Variables env2 room (declared_by vs) d.env d.variables) (VariablesFail env2 room (declared_by vs)) (variables (declared_by vs) env2 room) _
       (variables_told (declared_by vs) env2 room)
       (λ us v. step R W (λ q. DeclaresProcedures us.env n 0 ps q.env q.procedures) (ProceduresFail us.env n 0 ps) (procedures ps us.env n 0) _
-      (procedures_told ps us.env n 0)
+      (procedures_told ps us.env n 0 (omega arith))
       (λ qs p. Typing.declarations c t v p) (λ f p. Faults.procedures c t v p))
       (λ f v. Faults.variables c t v))
       (λ f t. Faults.types c t))

@@ -4,8 +4,8 @@ use Rattle.std.specs.Prelude.{nat_eq}
 use Rattle.std.proofs.lemmas.Bool.{eqb-false, eqb-true}
 use Rattle.ob_grammar.specs.Tree
 use Rattle.ob_grammar.specs.Tree.{Expr, Selectors, Stmt, Stmts, Branches, Otherwise}
-use Rattle.ob_typing.specs.declared.scalar.ScalarType.{ScalarType}
-use Rattle.ob_typing.specs.declared.scalar.ScalarType.TheVariants.{Integer, Boolean}
+use Rattle.ob_interface.specs.declared.scalar.ScalarType.{ScalarType}
+use Rattle.ob_interface.specs.declared.scalar.ScalarType.TheVariants.{Integer, Boolean}
 use Rattle.ob_typing.specs.declared.rule.Rule.TheVariants.{TypesDiffer, BadActuals}
 use Rattle.ob_typing.specs.Program
 use Rattle.ob_typing.specs.Program.{DataType, Slot, Actual, Statement, Statements, Parameter, Designated}
@@ -20,10 +20,10 @@ use Rattle.ob_typing.specs.StatementFaults as Faults
 use Rattle.ob_typing.specs.StatementFaults.{place_broken, procedure_broken, DesignatorFails, ActualFails, ActualsFail, StatementFails, StatementsFail, BranchesFail}
 use Rattle.ob_typing.specs.DeclarationFaults as DeclarationFaults
 use Rattle.ob_typing.specs.DeclarationFaults.{BodyFails}
-use Rattle.ob_typing.proofs.Verdict.{Verdict, Right, Wrong, Foreign, ◌>>=◌, need}
+use Rattle.ob_typing.specs.Verdict.{Verdict, Right, Wrong, Foreign, ◌>>=◌, need}
 use Rattle.ob_typing.proofs.Told.{Told, step, step_need, step_test, step_unless}
-use Rattle.ob_typing.proofs.CheckedExpressions.{Path, expression, selecting}
-use Rattle.ob_typing.proofs.CheckedStatements.{Designation, slot_meant, procedure_meant, designated, value_actual, place_actual, actual, actuals, statement, statements, branches, otherwise, body_checked}
+use Rattle.ob_typing.specs.ExpressionVerdicts.{Path, expression, selecting}
+use Rattle.ob_typing.specs.StatementVerdicts.{Designation, slot_meant, procedure_meant, designated, value_actual, place_actual, actual, actuals, statement, statements, branches, otherwise, body_checked}
 use Rattle.ob_typing.proofs.ToldExpressions.{the_some, is_boolean, no_boolean, IsTyped, Leads, expression_told, selectors_told}
 
 module _ (env : Environment) where
@@ -168,6 +168,15 @@ module _ (env : Environment) where
         (λ ss k. Typing.while (boolean_condition b h) k) (λ f k. Faults.body (boolean_condition b h) k))
         (λ b. Faults.condition (integer_condition b h)))
         (λ f h. Faults.within_condition h)
+    statement_told (Tree.Repeat place body e) =
+        let R = IsStatement env (Tree.Repeat place body e) in
+        let W = StatementFails env (Tree.Repeat place body e) in
+        step R W (AreStatements env body) (StatementsFail env body) (statements env body) _ (statements_told body)
+        (λ ss h. step R W (IsTyped env InStatement e) (ExpressionFails env InStatement e) (expression env e InStatement) _ (expression_told env e InStatement)
+        (λ x k. step_test R W (same_scalar_type x.type Boolean) TypesDiffer (first_place e) _
+        (λ b. Typing.repeat h (boolean_condition b k)) (λ b. Faults.until h (integer_condition b k)))
+        (λ f k. Faults.within_until h k))
+        (λ f h. Faults.repeated h)
 
     pub statements_told : (ss : Stmts) → Told (AreStatements env ss) (StatementsFail env ss) (statements env ss)
     statements_told Tree.no_stmt = Typing.no_statement
@@ -180,6 +189,8 @@ module _ (env : Environment) where
         sequence_told (Tree.If place bs o) rest (statement env (Tree.If place bs o)) (statement_told (Tree.If place bs o)) (statements_told rest)
     statements_told (Tree.stmt (Tree.While place e body) rest) =
         sequence_told (Tree.While place e body) rest (statement env (Tree.While place e body)) (statement_told (Tree.While place e body)) (statements_told rest)
+    statements_told (Tree.stmt (Tree.Repeat place body e) rest) =
+        sequence_told (Tree.Repeat place body e) rest (statement env (Tree.Repeat place body e)) (statement_told (Tree.Repeat place body e)) (statements_told rest)
 
     pub branches_told : (bs : Branches) (o : Otherwise) → Told (AreBranches env Tree.no_branch o) (BranchesFail env Tree.no_branch o) (otherwise env o) →
         Told (AreBranches env bs o) (BranchesFail env bs o) (branches env bs (otherwise env o))

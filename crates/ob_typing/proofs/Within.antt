@@ -1,29 +1,23 @@
 -- A well typed module's program keeps the limits.
-use Rattle.std.proofs.Common.{◌≡◌, refl, sym, ap, subst, arith, ℕ, zero, suc, pred, ◌+◌, ◌-◌, ◌≤◌, Bool, true, false, List, [], ◌∷◌, ◌++◌, length, Option, Some, None, if◌then◌else◌, length-append}
-use Rattle.std.specs.Prelude.{◌||◌, nat_le, nat_eq}
+use Rattle.std.proofs.Common.{◌≡◌, refl, sym, ap, subst, arith, ℕ, suc, ◌+◌, ◌≤◌, Bool, true, false, List, [], ◌∷◌, ◌++◌, length, Option, Some, None, if◌then◌else◌, length-append}
+use Rattle.std.specs.Prelude.{◌||◌, nat_le}
 use Rattle.std.specs.List.{All}
-use Rattle.std.proofs.lemmas.Bool.{leb-true, eqb-false}
+use Rattle.std.proofs.lemmas.Bool.{leb-true}
 use Rattle.std.proofs.lemmas.List.Elements.{All-nil, All-cons, All-append}
 use Rattle.std.proofs.lemmas.List.Sums.{sum_by-append}
 use Rattle.ob_grammar.specs.Tree
 use Rattle.ob_grammar.specs.Tree.{VarDecl, Section, Declarations, Procedures, Module}
-use Rattle.ob_typing.specs.declared.rule.Rule.TheVariants.{DeclaredTwice, PassesLimit}
 use Rattle.ob_typing.specs.Program
 use Rattle.ob_typing.specs.Program.{DataType, Parameter, Variable, Procedure}
 use Rattle.ob_typing.specs.Scopes.{Environment, is_simple, words}
-use Rattle.ob_typing.specs.Types.{Taken, and_taken}
 use Rattle.ob_typing.specs.Declarations as Typing
-use Rattle.ob_typing.specs.Declarations.{Room, with_words, first_beyond, room_behind, variables_of, parameters_of, parameter_broken, most_parameters, Variables, Parameters, DeclaresProcedures, Declares, WellTyped}
+use Rattle.ob_typing.specs.Declarations.{Room, with_words, first_beyond, room_behind, variables_of, parameters_of, most_parameters, Variables, Parameters, DeclaresProcedures, Declares, WellTyped}
 use Rattle.ob_typing.proofs.Exports.{exports_within}
 use Rattle.ob_typing.specs.Limits.{variable_words, KeepsFrame, KeepsLimits}
 
 then_none : {A : Type 0} (b : Bool) (x : Option A) (a : A) → (if b then x else Some a) ≡ None → (b ≡ true) × (x ≡ None)
 then_none true x a h = (refl, h)
 then_none false x a h = absurd cc
-
-else_none : {A : Type 0} (b : Bool) (x : Option A) (a : A) → (if b then Some a else x) ≡ None → (b ≡ false) × (x ≡ None)
-else_none false x a h = (refl, h)
-else_none true x a h = absurd cc
 
 one_more : (v : Variable) (vs : List Variable) → variable_words (v ∷ vs) ≡ words v.type + variable_words vs
 one_more v vs =
@@ -63,18 +57,6 @@ variables_within (Typing.more {room = room} {x = x} {t = t} {vs = vs} new h smal
     sum_by-append (λ (v : Variable). words v.type) (variables_of t x.names) vs in
     omega (arith, rest, e, l, a)
 
-one_less : (n l : ℕ) → (l ≡ 0 → ⊥) → n ≤ pred l → suc n ≤ l
-one_less n zero some h = absurd (some refl)
-one_less n (suc l) some h = let k : n ≤ l = h in omega (arith, k)
-
-few_names : (taken : Taken) (left : ℕ) (names : List Tree.Name) → parameter_broken taken left names ≡ None → length names ≤ left
-few_names taken left [] h = omega arith
-few_names taken left (name ∷ names) h =
-    let new = else_none (taken name.text) (if nat_eq left 0 then Some (record { rule = PassesLimit; place = name.place }) else parameter_broken (and_taken taken name.text) (pred left) names)
-    (record { rule = DeclaredTwice; place = name.place }) h in
-    let room = else_none (nat_eq left 0) (parameter_broken (and_taken taken name.text) (pred left) names) (record { rule = PassesLimit; place = name.place }) new.1 in
-    one_less (length names) left (eqb-false left 0 room.0) (few_names (and_taken taken name.text) (pred left) names room.1)
-
 count_of : (is_var : Bool) (t : DataType) (names : List Tree.Name) → length (parameters_of is_var t names) ≡ length names
 count_of is_var t [] = refl
 count_of is_var t (name ∷ names) = ap suc (count_of is_var t names)
@@ -82,11 +64,11 @@ count_of is_var t (name ∷ names) = ap suc (count_of is_var t names)
 parameters_within : {env after : Environment} {count : ℕ} {xs : List Section} {ps : List Parameter} →
     Parameters env count xs after ps → count ≤ 8 → count + length ps ≤ 8
 parameters_within (Typing.none {count = count}) p = let e : length {A = Parameter} [] ≡ 0 = refl in omega (arith, p, e)
-parameters_within (Typing.more {env = env} {count = count} {x = x} {t = t} {ps = ps} new h name simple k) p =
-    let few = few_names _ (most_parameters - count) x.names new in
+parameters_within (Typing.more {count = count} {x = x} {t = t} {ps = ps} new h name simple k) p =
+    let few = new.few in
     let e = count_of x.is_var t x.names in
     let a = length-append (parameters_of x.is_var t x.names) ps in
-    let rest = parameters_within k (omega (arith, few, p)) in
+    let rest = parameters_within k (omega (arith, few)) in
     omega (arith, few, e, a, rest)
 
 abbrev IsFormal : Parameter → Type 0

@@ -5,10 +5,10 @@ use Rattle.std.specs.Int.{int_div_euclid, int_rem_euclid}
 use Rattle.std.specs.Ordering.{int_eq}
 use Rattle.ob_grammar.specs.declared.tree.Operator.{Operator}
 use Rattle.ob_grammar.specs.declared.tree.Operator.TheVariants as Written
-use Rattle.ob_typing.specs.declared.scalar.Scalar.{Scalar}
-use Rattle.ob_typing.specs.declared.scalar.Scalar.TheVariants.{Int, Bool}
-use Rattle.ob_typing.specs.declared.scalar.ScalarType.{ScalarType}
-use Rattle.ob_typing.specs.declared.scalar.ScalarType.TheVariants.{Integer, Boolean}
+use Rattle.ob_interface.specs.declared.scalar.Scalar.{Scalar}
+use Rattle.ob_interface.specs.declared.scalar.Scalar.TheVariants.{Int, Bool}
+use Rattle.ob_interface.specs.declared.scalar.ScalarType.{ScalarType}
+use Rattle.ob_interface.specs.declared.scalar.ScalarType.TheVariants.{Integer, Boolean}
 use Rattle.ob_typing.specs.declared.operator.BinaryOperator.{BinaryOperator}
 use Rattle.ob_typing.specs.declared.operator.BinaryOperator.TheVariants.{Plus, Minus, Times, Div, Mod, And, Or}
 use Rattle.ob_typing.specs.declared.operator.Relation.{Relation}
@@ -36,6 +36,9 @@ bad_divisor = 3
 
 abbrev pub too_many_activations : ℕ
 too_many_activations = 4
+
+abbrev pub no_turn_left : ℕ
+no_turn_left = 5
 
 -- the type of a scalar
 abbrev pub type_of : Scalar → ScalarType
@@ -73,10 +76,10 @@ computed Mod v w = divided int_rem_euclid (number_of v) (number_of w)
 computed And v w = Gives (Bool (truth_of v && truth_of w))
 computed Or v w = Gives (Bool (truth_of v || truth_of w))
 
--- `&` and `OR` evaluate their right side only where the left one does not decide
+-- `&` and `OR` evaluate their right side only where the left one does not decide: FALSE decides `&`, TRUE decides OR
 abbrev pub decides : BinaryOperator → Scalar → Prelude.Bool
-decides And v = not (truth_of v)
-decides Or v = truth_of v
+decides And (Bool b) = not b
+decides Or (Bool b) = b
 decides _ v = false
 
 -- what an operator gives behind a value: the value itself where it decides

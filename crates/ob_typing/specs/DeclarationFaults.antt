@@ -1,20 +1,36 @@
 -- The rule that a declaration breaks first, and the one that a module breaks first.
-use Rattle.std.specs.Prelude.{◌≡◌, ℕ, suc, ◌+◌, ◌-◌, ◌||◌, not, true, false, List, ◌∷◌, length, Option, Some, None}
+use Rattle.std.specs.Prelude.{◌≡◌, ℕ, suc, pred, ◌+◌, ◌-◌, ◌&&◌, ◌||◌, not, nat_eq, true, false, if◌then◌else◌, List, [], ◌∷◌, length, Option, Some, None}
 use Rattle.ob_grammar.specs.Tree
 use Rattle.ob_grammar.specs.Tree.{Stmts, ConstDecl, TypeDecl, VarDecl, DeclarationPart, Section, Heading, Declarations, Procedures, Module}
-use Rattle.ob_typing.specs.declared.scalar.Scalar.{Scalar}
+use Rattle.ob_interface.specs.declared.scalar.Scalar.{Scalar}
 use Rattle.ob_typing.specs.declared.rule.Rule.{Rule}
-use Rattle.ob_typing.specs.declared.rule.Rule.TheVariants.{DeclaredTwice, WrongKind, TypesDiffer, PassesLimit, BadExport}
+use Rattle.ob_typing.specs.declared.rule.Rule.TheVariants.{DeclaredTwice, TypesDiffer, PassesLimit, BadExport}
 use Rattle.ob_typing.specs.declared.rule.BrokenRule.{BrokenRule}
 use Rattle.ob_typing.specs.Program.{DataType, Statements, Parameter, Variable, Procedure}
 use Rattle.ob_typing.specs.Scopes.{Constant, TypeName, Environment, no_names, is_declared, declared, opening_names, is_simple, words}
 use Rattle.ob_typing.specs.Expressions.{InConstant, HasConstant}
-use Rattle.ob_typing.specs.Types.{second, Denotes}
+use Rattle.ob_typing.specs.Types.{Taken, and_taken, second, Denotes}
 use Rattle.ob_typing.specs.Statements.{listed, IsBody}
-use Rattle.ob_typing.specs.Declarations.{declared_by, Room, module_room, frame_room, first_beyond, with_variables, room_behind, with_parameters, most_parameters, parameter_broken, is_name, heading_broken, all_simple, exports_behind, inner_scope, with_procedure, Constants, Types, Variables, Parameters, Declares}
+use Rattle.ob_typing.specs.Declarations.{declared_by, Room, module_room, frame_room, first_beyond, with_variables, room_behind, with_parameters, most_parameters, is_name, most_exports, is_nested, all_simple, exports_behind, inner_scope, with_procedure, Constants, Types, Variables, Parameters, Declares}
 use Rattle.ob_typing.specs.ExpressionFaults.{broken, ExpressionFails}
-use Rattle.ob_typing.specs.TypeFaults.{TypeFails, type_place}
+use Rattle.ob_typing.specs.TypeFaults.{TypeFails, FormalTypeFails, type_place}
 use Rattle.ob_typing.specs.StatementFaults.{StatementsFail}
+
+-- the rule that the first bad name of a section breaks: it is taken, or it is one more than there is room for
+abbrev pub parameter_broken : Taken → ℕ → List Tree.Name → Option BrokenRule
+parameter_broken taken left [] = None
+parameter_broken taken left (name ∷ names) =
+    if taken name.text then Some (broken DeclaredTwice name.place)
+    else if nat_eq left 0 then Some (broken PassesLimit name.place)
+    else parameter_broken (and_taken taken name.text) (pred left) names
+
+-- the rule that a procedure's name breaks behind so many exports
+abbrev pub heading_broken : Environment → ℕ → Heading → Option Rule
+heading_broken env exported heading =
+    if is_declared env heading.name.text then Some DeclaredTwice
+    else if heading.is_exported && is_nested env then Some BadExport
+    else if heading.is_exported && nat_eq exported most_exports then Some PassesLimit
+    else None
 
 pub data ConstantsFail : Environment → List ConstDecl → BrokenRule → Type 0 where
   twice : {env : Environment} {x : ConstDecl} {xs : List ConstDecl} →
@@ -55,12 +71,8 @@ pub data ParametersFail : Environment → ℕ → List Section → BrokenRule �
   name : {env : Environment} {count : ℕ} {x : Section} {xs : List Section} {fault : BrokenRule} →
       parameter_broken (is_declared env) (most_parameters - count) x.names ≡ Some fault → ParametersFail env count (x ∷ xs) fault
   of_type : {env : Environment} {count : ℕ} {x : Section} {xs : List Section} {fault : BrokenRule} →
-      parameter_broken (is_declared env) (most_parameters - count) x.names ≡ None → TypeFails env x.of_type fault →
+      parameter_broken (is_declared env) (most_parameters - count) x.names ≡ None → FormalTypeFails env x.of_type fault →
       ParametersFail env count (x ∷ xs) fault
-  -- a formal type that is no name, behind the rules within it, at the type
-  no_name : {env : Environment} {count : ℕ} {x : Section} {xs : List Section} {t : DataType} →
-      parameter_broken (is_declared env) (most_parameters - count) x.names ≡ None → Denotes env x.of_type t → is_name x.of_type ≡ false →
-      ParametersFail env count (x ∷ xs) (broken WrongKind (type_place x.of_type))
   -- a structured value parameter, at its type
   structured : {env : Environment} {count : ℕ} {x : Section} {xs : List Section} {t : DataType} →
       parameter_broken (is_declared env) (most_parameters - count) x.names ≡ None → Denotes env x.of_type t → is_name x.of_type ≡ true →

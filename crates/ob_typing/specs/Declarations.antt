@@ -1,17 +1,14 @@
 -- Well typed declarations and modules: from the names declared so far to those declared behind.
-use Rattle.std.specs.Prelude.{◌≡◌, ℕ, zero, suc, pred, ◌+◌, ◌-◌, ◌*◌, ◌&&◌, ◌||◌, not, nat_eq, nat_le, true, false, if◌then◌else◌, List, [], ◌∷◌, ◌++◌, length, map, Option, Some, None}
+use Rattle.std.specs.Prelude.{◌≡◌, ℕ, zero, suc, ◌+◌, ◌*◌, ◌&&◌, ◌||◌, ◌≤◌, not, nat_eq, nat_le, true, false, if◌then◌else◌, List, [], ◌∷◌, ◌++◌, length, map, Option, Some, None}
 use Rattle.std.specs.Prelude as Prelude
 use Rattle.ob_grammar.specs.Tree
 use Rattle.ob_grammar.specs.Tree.{TypeExpr, Stmts, ConstDecl, TypeDecl, VarDecl, DeclarationPart, Section, Heading, Declarations, Procedures, Module}
-use Rattle.ob_typing.specs.declared.scalar.Scalar.{Scalar}
-use Rattle.ob_typing.specs.declared.rule.Rule.{Rule}
-use Rattle.ob_typing.specs.declared.rule.Rule.TheVariants.{DeclaredTwice, PassesLimit, BadExport}
-use Rattle.ob_typing.specs.declared.rule.BrokenRule.{BrokenRule}
+use Rattle.ob_interface.specs.declared.scalar.Scalar.{Scalar}
 use Rattle.ob_typing.specs.Program
 use Rattle.ob_typing.specs.Program.{Name, DataType, Statements, Parameter, Variable, Procedure}
 use Rattle.ob_typing.specs.Scopes.{Constant, TypeName, ProcedureName, Environment, no_names, is_declared, declared, level, variable_in, opening_names, is_simple, words}
 use Rattle.ob_typing.specs.Expressions.{HasConstant}
-use Rattle.ob_typing.specs.Types.{Taken, and_taken, second, Denotes}
+use Rattle.ob_typing.specs.Types.{second, Denotes}
 use Rattle.ob_typing.specs.Statements.{listed, IsBody}
 
 -- what a part declares: nothing, where its keyword does not stand
@@ -71,13 +68,10 @@ parameters_of is_var t = map (λ name. record { name = name.text; is_var = is_va
 abbrev pub most_parameters : ℕ
 most_parameters = 8
 
--- the rule that the first bad name breaks: it is taken, or it is one more than there is room for
-abbrev pub parameter_broken : Taken → ℕ → List Tree.Name → Option BrokenRule
-parameter_broken taken left [] = None
-parameter_broken taken left (name ∷ names) =
-    if taken name.text then Some (record { rule = DeclaredTwice; place = name.place })
-    else if nat_eq left 0 then Some (record { rule = PassesLimit; place = name.place })
-    else parameter_broken (and_taken taken name.text) (pred left) names
+-- the names of a section behind so many parameters: each is new, and there are at most 8 parameters
+pub record NewParameters (env : Environment) (count : ℕ) (names : List Tree.Name) : Type 0 where
+  pub new : second (is_declared env) names ≡ None
+  pub few : count + length names ≤ most_parameters
 
 -- a formal type is a name
 abbrev pub is_name : TypeExpr → Prelude.Bool
@@ -93,20 +87,18 @@ most_exports = 64
 abbrev pub is_nested : Environment → Prelude.Bool
 is_nested env = not (nat_eq (level env) 2)
 
--- the rule that a procedure's name breaks behind so many exports
-abbrev pub heading_broken : Environment → ℕ → Heading → Option Rule
-heading_broken env exported heading =
-    if is_declared env heading.name.text then Some DeclaredTwice
-    else if heading.is_exported && is_nested env then Some BadExport
-    else if heading.is_exported && nat_eq exported most_exports then Some PassesLimit
-    else None
-
 abbrev pub all_simple : List Parameter → Prelude.Bool
 all_simple [] = true
 all_simple (p ∷ ps) = is_simple p.type && all_simple ps
 
 abbrev pub exports_behind : ℕ → Heading → ℕ
 exports_behind exported heading = if heading.is_exported then suc exported else exported
+
+-- a procedure's name behind so many exports: it is new, only the module's own procedures are exported, and at most 64 of them
+pub record NewProcedure (env : Environment) (exported : ℕ) (heading : Heading) : Type 0 where
+  pub new : is_declared env heading.name.text ≡ false
+  pub of_module : (heading.is_exported && is_nested env) ≡ false
+  pub few : exports_behind exported heading ≤ most_exports
 
 -- the innermost scope of one environment before another
 abbrev pub inner_scope : Environment → Environment → Environment
@@ -141,12 +133,11 @@ pub data Variables : Environment → Room → List VarDecl → Environment → L
       Variables (with_variables env room t x.names) (room_behind room t x.names) xs after vs →
       Variables env room (x ∷ xs) after (variables_of t x.names ++ vs)
 
--- {FPSection} behind so many parameters: a formal type is a name, a value parameter is not structured, and the names are visible behind their section
+-- {FPSection} behind so many parameters: the names are new and few, a formal type is a name, a value parameter is not structured, and the names are visible behind their section
 pub data Parameters : Environment → ℕ → List Section → Environment → List Parameter → Type 0 where
   none : {env : Environment} {count : ℕ} → Parameters env count [] env []
   more : {env after : Environment} {count : ℕ} {x : Section} {xs : List Section} {t : DataType} {ps : List Parameter} →
-      parameter_broken (is_declared env) (most_parameters - count) x.names ≡ None →
-      Denotes env x.of_type t → is_name x.of_type ≡ true → (x.is_var || is_simple t) ≡ true →
+      NewParameters env count x.names → Denotes env x.of_type t → is_name x.of_type ≡ true → (x.is_var || is_simple t) ≡ true →
       Parameters (with_parameters env count t x.names) (count + length x.names) xs after ps →
       Parameters env count (x ∷ xs) after (parameters_of x.is_var t x.names ++ ps)
 
@@ -156,7 +147,7 @@ mutual
     none : {env : Environment} {n exported : ℕ} → DeclaresProcedures env n exported Tree.no_procedure env []
     procedure : {env within inside after : Environment} {n exported : ℕ} {heading : Heading} {inner : Declarations} {body : Option Stmts} {end_name : Tree.Name} {rest : Procedures}
         {ps : List Parameter} {vs : List Variable} {nested others : List Procedure} {ss : Statements} →
-        heading_broken env exported heading ≡ None →
+        NewProcedure env exported heading →
         Parameters (no_names ∷ env) 0 (listed heading.parameters) within ps →
         -- the parameters of an export are not structured
         (not heading.is_exported || all_simple ps) ≡ true →

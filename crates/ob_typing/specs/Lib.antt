@@ -11,3 +11,8 @@ pub mod StatementFaults
 pub mod DeclarationFaults
 pub mod Limits
 pub mod ModuleText
+pub mod Verdict
+pub mod ExpressionVerdicts
+pub mod TypeVerdicts
+pub mod StatementVerdicts
+pub mod ModuleVerdicts

@@ -1,8 +1,8 @@
 -- The checked program: each name resolved to its position, each constant its value, each expression with its type.
 -- A name is the list of its bytes. A position counts, from 0, what a scope or a record declares in text order.
 use Rattle.std.specs.Prelude.{ℕ, Bool, List, filter}
-use Rattle.ob_typing.specs.declared.scalar.Scalar.{Scalar}
-use Rattle.ob_typing.specs.declared.scalar.ScalarType.{ScalarType}
+use Rattle.ob_interface.specs.declared.scalar.Scalar.{Scalar}
+use Rattle.ob_interface.specs.declared.scalar.ScalarType.{ScalarType}
 use Rattle.ob_typing.specs.declared.operator.BinaryOperator.{BinaryOperator}
 use Rattle.ob_typing.specs.declared.operator.Relation.{Relation}
 
@@ -69,6 +69,7 @@ mutual
     Call : (procedure : ℕ) (actuals : List Actual) → Statement
     If : (branches : Branches) → Statement
     While : (condition : Expression) (body : Statements) → Statement
+    Repeat : (body : Statements) (condition : Expression) → Statement
 
   pub data Statements : Type 0 where
     no_statement : Statements

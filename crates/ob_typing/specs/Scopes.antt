@@ -1,10 +1,10 @@
 -- Types and declared names. The innermost scope comes first.
 use Rattle.std.specs.Prelude.{◌≡◌, ℕ, ◌+◌, ◌*◌, max, suc, true, false, ◌&&◌, List, [], ◌∷◌, length, codes, bytes_eq, nat_eq, nat_le, if◌then◌else◌, Option, Some, None, is_some}
 use Rattle.std.specs.Prelude as Prelude
-use Rattle.ob_typing.specs.declared.scalar.Scalar.{Scalar}
-use Rattle.ob_typing.specs.declared.scalar.Scalar.TheVariants.{Bool}
-use Rattle.ob_typing.specs.declared.scalar.ScalarType.{ScalarType}
-use Rattle.ob_typing.specs.declared.scalar.ScalarType.TheVariants.{Integer, Boolean}
+use Rattle.ob_interface.specs.declared.scalar.Scalar.{Scalar}
+use Rattle.ob_interface.specs.declared.scalar.Scalar.TheVariants.{Bool}
+use Rattle.ob_interface.specs.declared.scalar.ScalarType.{ScalarType}
+use Rattle.ob_interface.specs.declared.scalar.ScalarType.TheVariants.{Integer, Boolean}
 use Rattle.ob_typing.specs.Program.{Name, DataType, Simple, Array, Record, Fields, no_field, field, OfModule, Own, Slot, Parameter}
 use Rattle.ob_typing.specs.Arithmetic.{same_scalar_type, type_of}
 

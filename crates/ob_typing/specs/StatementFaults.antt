@@ -2,9 +2,9 @@
 use Rattle.std.specs.Prelude.{◌≡◌, ◌≢◌, ℕ, true, false, List, ◌∷◌, length, Option, Some, None}
 use Rattle.ob_grammar.specs.Tree
 use Rattle.ob_grammar.specs.Tree.{Expr, Selectors, Stmt, Stmts, Branches, Otherwise}
-use Rattle.ob_typing.specs.declared.scalar.Scalar.{Scalar}
-use Rattle.ob_typing.specs.declared.scalar.ScalarType.{ScalarType}
-use Rattle.ob_typing.specs.declared.scalar.ScalarType.TheVariants.{Integer, Boolean}
+use Rattle.ob_interface.specs.declared.scalar.Scalar.{Scalar}
+use Rattle.ob_interface.specs.declared.scalar.ScalarType.{ScalarType}
+use Rattle.ob_interface.specs.declared.scalar.ScalarType.TheVariants.{Integer, Boolean}
 use Rattle.ob_typing.specs.declared.rule.Rule.{Rule}
 use Rattle.ob_typing.specs.declared.rule.Rule.TheVariants.{UnknownName, WrongKind, TypesDiffer, BadActuals, WrongLevel}
 use Rattle.ob_typing.specs.declared.rule.BrokenRule.{BrokenRule}
@@ -94,6 +94,14 @@ module _ (env : Environment) where
           HasType env InStatement e Integer c v → StatementFails (Tree.While place e body) (broken TypesDiffer (first_place e))
       body : {place : ℕ} {e : Expr} {body : Stmts} {c : Expression} {v : Option Scalar} {fault : BrokenRule} →
           HasType env InStatement e Boolean c v → StatementsFail body fault → StatementFails (Tree.While place e body) fault
+      repeated : {place : ℕ} {body : Stmts} {e : Expr} {fault : BrokenRule} →
+          StatementsFail body fault → StatementFails (Tree.Repeat place body e) fault
+      within_until : {place : ℕ} {body : Stmts} {e : Expr} {ss : Statements} {fault : BrokenRule} →
+          AreStatements env body ss → ExpressionFails env InStatement e fault → StatementFails (Tree.Repeat place body e) fault
+      -- a condition that is no BOOLEAN, at its first byte
+      until : {place : ℕ} {body : Stmts} {e : Expr} {ss : Statements} {c : Expression} {v : Option Scalar} →
+          AreStatements env body ss → HasType env InStatement e Integer c v →
+          StatementFails (Tree.Repeat place body e) (broken TypesDiffer (first_place e))
 
     pub data StatementsFail : Stmts → BrokenRule → Type 0 where
       first_statement : {s : Stmt} {rest : Stmts} {fault : BrokenRule} →

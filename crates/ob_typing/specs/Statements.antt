@@ -2,9 +2,9 @@
 use Rattle.std.specs.Prelude.{◌≡◌, ℕ, true, false, List, [], ◌∷◌, length, Option, Some, None}
 use Rattle.ob_grammar.specs.Tree
 use Rattle.ob_grammar.specs.Tree.{Expr, Selectors, Stmt, Stmts, Branches, Otherwise}
-use Rattle.ob_typing.specs.declared.scalar.Scalar.{Scalar}
-use Rattle.ob_typing.specs.declared.scalar.ScalarType.{ScalarType}
-use Rattle.ob_typing.specs.declared.scalar.ScalarType.TheVariants.{Boolean}
+use Rattle.ob_interface.specs.declared.scalar.Scalar.{Scalar}
+use Rattle.ob_interface.specs.declared.scalar.ScalarType.{ScalarType}
+use Rattle.ob_interface.specs.declared.scalar.ScalarType.TheVariants.{Boolean}
 use Rattle.ob_typing.specs.Program
 use Rattle.ob_typing.specs.Program.{DataType, Simple, Expression, Designator, Actual, ByValue, ByPlace, Statement, Statements, Parameter}
 use Rattle.ob_typing.specs.Scopes.{Environment, Meant, AConstant, AProcedure, meant, holds, same_type}
@@ -57,6 +57,9 @@ module _ (env : Environment) where
       while : {place : ℕ} {condition : Expr} {body : Stmts} {c : Expression} {v : Option Scalar} {ss : Statements} →
           HasType env InStatement condition Boolean c v → AreStatements body ss →
           IsStatement (Tree.While place condition body) (Program.While c ss)
+      repeat : {place : ℕ} {body : Stmts} {condition : Expr} {ss : Statements} {c : Expression} {v : Option Scalar} →
+          AreStatements body ss → HasType env InStatement condition Boolean c v →
+          IsStatement (Tree.Repeat place body condition) (Program.Repeat ss c)
 
     -- statements one behind the other; an empty one leaves nothing
     pub data AreStatements : Stmts → Statements → Type 0 where

@@ -3,7 +3,7 @@ use Rattle.std.specs.Prelude.{◌≡◌, ℕ, ℤ, pos, negsuc, true, false, ◌
 use Rattle.std.specs.Prelude as Prelude
 use Rattle.ob_grammar.specs.Tree
 use Rattle.ob_grammar.specs.Tree.{TypeExpr, FieldLists, Expr}
-use Rattle.ob_typing.specs.declared.scalar.Scalar.TheVariants.{Int}
+use Rattle.ob_interface.specs.declared.scalar.Scalar.TheVariants.{Int}
 use Rattle.ob_typing.specs.Program
 use Rattle.ob_typing.specs.Program.{Name, DataType, Fields}
 use Rattle.ob_typing.specs.Scopes.{Environment, AType, meant, is_small}
@@ -43,17 +43,19 @@ with_fields (name ∷ names) t rest = Program.field name.text t (with_fields nam
 
 module _ (env : Environment) where
   mutual
-    -- this type expression is this type
+    -- this type expression is this type: one that a name stands for, or one that is built and keeps the limits
     pub data Denotes : TypeExpr → DataType → Type 0 where
       called : {name : Tree.Name} {t : DataType} →
           meant env name.text ≡ AType t → Denotes (Tree.NamedType name) t
+      built : {e : TypeExpr} {t : DataType} → Builds e t → is_small t ≡ true → Denotes e t
+
+    -- this ARRAY or RECORD builds this type, however large it is
+    pub data Builds : TypeExpr → DataType → Type 0 where
       array : {place length : ℕ} {z : ℤ} {e : Expr} {of_type : TypeExpr} {element : DataType} →
           HasConstant env e (Int z) → array_length z ≡ Some length → Denotes of_type element →
-          is_small (Program.Array place length element) ≡ true →
-          Denotes (Tree.Array place e of_type) (Program.Array place length element)
+          Builds (Tree.Array place e of_type) (Program.Array place length element)
       record' : {place : ℕ} {lists : FieldLists} {fields : Fields} →
-          DenotesFields none_taken lists fields → is_small (Program.Record place fields) ≡ true →
-          Denotes (Tree.Record place lists) (Program.Record place fields)
+          DenotesFields none_taken lists fields → Builds (Tree.Record place lists) (Program.Record place fields)
 
     -- behind the names of other fields: these lists are these fields, and no name stands twice
     pub data DenotesFields : Taken → FieldLists → Fields → Type 0 where

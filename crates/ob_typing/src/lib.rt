@@ -4,4 +4,3 @@
 pub mod laws;
 pub mod operator;
 pub mod rule;
-pub mod scalar;

@@ -3,13 +3,13 @@ use Rattle.std.proofs.Common.{◌≡◌, ◌∙◌, ℕ, zero, suc, List, [], �
 use Rattle.std.proofs.lemmas.List.Elements.{Contains-append_right}
 use Rattle.std.proofs.lemmas.Option.{same_Some}
 use Rattle.std.specs.List.{slice_get, Contains}
-use Rattle.ob_mean.specs.Object.{ObjectCall, Reply}
+use Rattle.ob_interface.specs.Call.{ObjectCall, Reply}
 use Rattle.ob_verify.specs.RunRecords.{LegalRunsAreVerified, without_applied}
 use Rattle.wf_history.proofs.Positions.{contains_at, place_of}
 use Rattle.wf_history.specs.declared.event.CallId.{CallId}
 use Rattle.wf_history.specs.History.{Event, Begin, Applied, End, Before, before}
 use Rattle.wf_history.specs.Legal.{HasBegun, IsLegal, OneAtATime, RepliesAgree, more, none}
-use Rattle.wf_history.specs.OfModule.{CallEnds, IsLegalOrder}
+use Rattle.ob_order.specs.OfModule.{CallEnds, IsLegalOrder}
 
 module _ {Call Reply : Type 0} where
   -- the event is one of a call

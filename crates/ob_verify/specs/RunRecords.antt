@@ -2,13 +2,14 @@
 use Rattle.std.specs.Prelude.{◌≡◌, ℕ, List, [], ◌∷◌}
 use Rattle.ob_check.specs.Exports.{signatures}
 use Rattle.ob_check.specs.Program.{Program}
-use Rattle.ob_mean.specs.Object.{IsOpening, ObjectCall, Reply, State}
+use Rattle.ob_interface.specs.Call.{ObjectCall, Reply}
+use Rattle.ob_mean.specs.Object.{IsOpening, State}
 use Rattle.ob_opened.specs.ModuleText.{IsModule}
 use Rattle.ob_opened.specs.declared.opened.TheConstants.{TURNS}
 use Rattle.ob_record_reading.specs.RecordLines.{IsRecord, Told}
 use Rattle.ob_verify.specs.Verified.{IsVerified}
 use Rattle.wf_history.specs.History.{Event, Begin, Applied, End}
-use Rattle.wf_history.specs.OfModule.{IsLegalOrder}
+use Rattle.ob_order.specs.OfModule.{IsLegalOrder}
 
 -- the Begin and End events, which are all that a record tells of a run's events
 abbrev pub without_applied : {Call Reply : Type 0} → List (Event Call Reply) → List (Event Call Reply)

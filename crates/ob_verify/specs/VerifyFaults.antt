@@ -1,13 +1,17 @@
 -- What each fault says of the bytes of a module and of a record.
-use Rattle.std.specs.Prelude.{◌≡◌, ◌≢◌, ◌⊎◌, ℕ, List, if◌then◌else◌}
+use Rattle.std.specs.Prelude.{◌≡◌, ◌≢◌, ◌⊎◌, ℕ, List}
 use Rattle.ob_scan.specs.declared.fault.ScanFault.TheVariants as Scan
 use Rattle.ob_check.specs.Exports.{signatures}
 use Rattle.ob_check.specs.Program.{Program}
+use Rattle.ob_mean.specs.Faults.{IsOpenFault}
 use Rattle.ob_mean.specs.Object.{IsOpening, State}
+use Rattle.ob_mean.specs.declared.opening.OpenFault.{OpenFault}
+use Rattle.ob_mean.specs.declared.opening.OpenFault.TheVariants as Open
+use Rattle.ob_opened.specs.CheckedText.{IsTextFault}
 use Rattle.ob_opened.specs.ModuleFaults as Modules
 use Rattle.ob_opened.specs.ModuleText.{IsModule}
+use Rattle.ob_opened.specs.declared.checked_text.TextFault.{TextFault}
 use Rattle.ob_opened.specs.declared.checked_text.TextFault.TheVariants as Text
-use Rattle.ob_opened.specs.declared.opened.ModuleFault.{ModuleFault}
 use Rattle.ob_opened.specs.declared.opened.ModuleFault.TheVariants as Module
 use Rattle.ob_opened.specs.declared.opened.TheConstants.{TURNS}
 use Rattle.ob_record_reading.specs.RecordLines.{IsRecord, IsRecordFault, Told}
@@ -15,44 +19,59 @@ use Rattle.ob_record_reading.specs.declared.reading.RecordFault.{RecordFault}
 use Rattle.ob_record_reading.specs.declared.reading.RecordFault.TheVariants as Record
 use Rattle.ob_verify.specs.declared.verifying.VerifyFault.{VerifyFault}
 use Rattle.ob_verify.specs.declared.verifying.VerifyFault.TheVariants as Faults
-use Rattle.wf_history.specs.OrderFaults as Orders
-use Rattle.wf_history.specs.declared.order.OrderFault.{OrderFault}
-use Rattle.wf_history.specs.declared.order.OrderFault.TheVariants as Order
+use Rattle.ob_order.specs.OrderFaults as Orders
+use Rattle.ob_order.specs.declared.order.OrderFault.{OrderFault}
+use Rattle.ob_order.specs.declared.order.OrderFault.TheVariants as Order
 
-module _ (program : Program) (opening : State) (text : List ℕ) where
-  -- the text is a record of the program's object, and its order has this fault
+module _ (program : Program) (text : List ℕ) where
+  -- the text is a record of the program's object, and the program's opening fails
+  pub record HasOpenFault (fault : OpenFault) : Type 0 where
+    pub tells : Told
+    pub is_record : IsRecord (signatures program) text tells
+    pub fails : IsOpenFault program TURNS fault
+
+  -- the text is a record of the program's object, the opening ends, and the record's order has this fault from there
   pub record HasOrderFault (fault : OrderFault) : Type 0 where
     pub tells : Told
     pub is_record : IsRecord (signatures program) text tells
+    pub opening : State
+    pub opens : IsOpening program TURNS opening
     pub fails : Orders.IsOrderFault program TURNS opening tells.events tells.order fault
 
-  -- what each fault says of the text, as a record of the program's object that begins in this state
+  -- what each fault says of the text, as a record of the program's object
   abbrev pub HasRecordFault : VerifyFault → Type 0
-  HasRecordFault (Faults.Module e) = ⊥
+  HasRecordFault (Faults.Module (Module.Open e)) = HasOpenFault e
+  HasRecordFault (Faults.Module (Module.Text e)) = ⊥
+  HasRecordFault (Faults.Module Module.NoMemory) = ⊥
   HasRecordFault (Faults.Form line) = IsRecordFault (signatures program) text (Record.Form line)
   HasRecordFault (Faults.Order e) = HasOrderFault e
   HasRecordFault Faults.NoMemory = Unit {0}
 
 module _ (module_text record_text : List ℕ) where
-  -- the module opens, and the record has this fault
+  -- one text is a module, and the other one has this fault as a record of its object
   pub record IsFaultOfRecord (fault : VerifyFault) : Type 0 where
     pub program : Program
     pub is_module : IsModule module_text program
-    pub opening : State
-    pub opens : IsOpening program TURNS opening
-    pub fails : HasRecordFault program opening record_text fault
+    pub fails : HasRecordFault program record_text fault
 
   -- what each fault says of both texts
   abbrev pub IsVerifyFault : VerifyFault → Type 0
-  IsVerifyFault (Faults.Module e) = Modules.IsModuleFault module_text e
+  IsVerifyFault (Faults.Module (Module.Text e)) = IsTextFault module_text e
+  IsVerifyFault (Faults.Module (Module.Open e)) = IsFaultOfRecord (Faults.Module (Module.Open e))
+  IsVerifyFault (Faults.Module Module.NoMemory) = ⊥
   IsVerifyFault (Faults.Form line) = IsFaultOfRecord (Faults.Form line)
   IsVerifyFault (Faults.Order e) = IsFaultOfRecord (Faults.Order e)
   IsVerifyFault Faults.NoMemory = Unit {0}
 
 -- want of memory is told in one place
 
-abbrev pub of_module : ModuleFault → VerifyFault
-of_module e = if Modules.is_want_of_memory e then Faults.NoMemory else Faults.Module e
+abbrev pub of_text : TextFault → VerifyFault
+of_text Text.NoMemory = Faults.NoMemory
+of_text e = Faults.Module (Module.Text e)
+
+abbrev pub of_opening : OpenFault → VerifyFault
+of_opening Open.NoMemory = Faults.NoMemory
+of_opening e = Faults.Module (Module.Open e)
 
 abbrev pub of_record : RecordFault → VerifyFault
 of_record (Record.Form line) = Faults.Form line

@@ -2,24 +2,25 @@
 
 ghost use Rattle.std.specs.Prelude.{◌≡◌, ◌⊎◌, ◌<◌, Err, OnOk, IfErr, MatchResult, length};
 ghost use Rattle.ob_check.specs.CheckedModule.{program_in};
-ghost use Rattle.ob_mean.specs.View.{state_of};
-ghost use Rattle.ob_verify.specs.Verified.{IsLegalRecord, IsVerified, IsVerifiedWithin};
+ghost use Rattle.ob_verify.specs.Verified.{IsLegalFromOpening, IsVerified, IsVerifiedWithin};
 ghost use Rattle.ob_verify.specs.VerifyFaults.{HasRecordFault, IsFaultOfRecord, IsNumbered, IsOfMeans, IsVerifyFault, TellsMemoryApart, too_long};
 ghost use Rattle.ob_verify.specs.declared.verifying.VerifyFault.{VerifyFault};
 ghost use Rattle.ob_verify.specs.declared.verifying.VerifyFault.TheVariants as Faults;
-ghost use Rattle.wf_history.specs.OfModule.{CallEnds};
-ghost use Rattle.wf_history.specs.OrderFaults.{EndsWithin};
+ghost use Rattle.ob_order.specs.OfModule.{CallEnds};
+ghost use Rattle.ob_order.specs.OrderFaults.{EndsWithin};
 
 use ob_check::checked::Checked;
-use ob_mean::state::State;
-use ob_opened::{ModuleFault, TURNS, opened_module};
+use ob_mean::opening::{OpenFault, opening};
+use ob_opened::checked_text::checked_text;
+use ob_opened::{ModuleFault, TURNS, TextFault};
+use ob_order::{OrderFault, check_order};
 use ob_record_reading::{RecordFault, read_record};
 use ob_scan::scanner::LONGEST_TEXT;
 use std::alloc::Global;
 use thiserror::Error;
-use wf_history::{OrderFault, check_order};
 
-/// Why a record isn't verified: the first fault, in the order of the variants.
+/// Why a record isn't verified: the first fault. The record is read behind the rules of the module's text and before the
+/// module is opened.
 #[derive(Clone, Copy, Debug, Error)]
 pub enum VerifyFault {
     /// The module's text is none, or doesn't open.
@@ -36,16 +37,30 @@ pub enum VerifyFault {
     NoMemory,
 }
 
-impl From<ModuleFault> for VerifyFault {
+impl From<TextFault> for VerifyFault {
     ghost use Rattle.std.specs.Prelude.{◌≡◌};
-    ghost use Rattle.ob_verify.specs.VerifyFaults.{of_module};
+    ghost use Rattle.ob_verify.specs.VerifyFaults.{of_text};
 
-    ghost from_gives = { λ e f. f ≡ of_module e };
+    ghost from_gives = { λ e f. f ≡ of_text e };
 
-    fn from(fault: ModuleFault) -> VerifyFault {
+    fn from(fault: TextFault) -> VerifyFault {
         match fault {
-            ModuleFault::NoMemory => VerifyFault::NoMemory,
-            other => VerifyFault::Module(other),
+            TextFault::NoMemory => VerifyFault::NoMemory,
+            other => VerifyFault::Module(ModuleFault::Text(other)),
+        }
+    }
+}
+
+impl From<OpenFault> for VerifyFault {
+    ghost use Rattle.std.specs.Prelude.{◌≡◌};
+    ghost use Rattle.ob_verify.specs.VerifyFaults.{of_opening};
+
+    ghost from_gives = { λ e f. f ≡ of_opening e };
+
+    fn from(fault: OpenFault) -> VerifyFault {
+        match fault {
+            OpenFault::NoMemory => VerifyFault::NoMemory,
+            other => VerifyFault::Module(ModuleFault::Open(other)),
         }
     }
 }
@@ -104,27 +119,23 @@ pub fn verify_text(alloc: Global, module: &[u8], record: &[u8]) -> Result<(), Ve
     // A module's text over the scanner's bound is refused, whatever it says.
     ensures too_long { LONGEST_TEXT < length «module».now → result ≡ Err too_long }
 {
-    let (checked, opening) = opened_module(alloc, module)?;
-    verify_record(alloc, &checked, &opening, record)
+    let checked = checked_text(alloc, module)?;
+    verify_record(alloc, &checked, record)
 }
 
-/// The same, of a checked module and from a state.
-fn verify_record(
-    alloc: Global,
-    checked: &Checked,
-    opening: &State,
-    text: &[u8],
-) -> Result<(), VerifyFault>
-    ensures legal { OnOk result (IsLegalRecord CallEnds (program_in checked.now) (state_of opening.now) text.now) }
-    ensures within { OnOk result (IsLegalRecord (λ program. EndsWithin program TURNS) (program_in checked.now) (state_of opening.now) text.now) }
-    ensures fault { IfErr result (HasRecordFault (program_in checked.now) (state_of opening.now) text.now) }
-    ensures none { IfErr result (λ e. IsNumbered e → IsLegalRecord (λ program. EndsWithin program TURNS) (program_in checked.now) (state_of opening.now) text.now → ⊥) }
-    ensures lawful { IsLegalRecord CallEnds (program_in checked.now) (state_of opening.now) text.now → IfErr result IsOfMeans }
-    ensures exact { (fault : VerifyFault) → IsNumbered fault → HasRecordFault (program_in checked.now) (state_of opening.now) text.now fault
+/// The same, of a checked module.
+fn verify_record(alloc: Global, checked: &Checked, text: &[u8]) -> Result<(), VerifyFault>
+    ensures legal { OnOk result (IsLegalFromOpening CallEnds (program_in checked.now) text.now) }
+    ensures within { OnOk result (IsLegalFromOpening (λ program. EndsWithin program TURNS) (program_in checked.now) text.now) }
+    ensures fault { IfErr result (HasRecordFault (program_in checked.now) text.now) }
+    ensures none { IfErr result (λ e. IsNumbered e → IsLegalFromOpening (λ program. EndsWithin program TURNS) (program_in checked.now) text.now → ⊥) }
+    ensures lawful { IsLegalFromOpening CallEnds (program_in checked.now) text.now → IfErr result IsOfMeans }
+    ensures exact { (fault : VerifyFault) → IsNumbered fault → HasRecordFault (program_in checked.now) text.now fault
         → MatchResult result (λ _. ⊥) (λ e. (e ≡ fault) ⊎ (e ≡ Faults.NoMemory)) }
     ensures memory { IfErr result TellsMemoryApart }
 {
     let read = read_record(alloc, checked, text)?;
-    check_order(alloc, &read.history, &read.order, checked, opening, TURNS)?;
+    let opened = opening(alloc, checked, TURNS)?;
+    check_order(alloc, &read.history, &read.order, checked, &opened, TURNS)?;
     Ok(())
 }

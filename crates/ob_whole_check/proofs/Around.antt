@@ -3,19 +3,20 @@ use Rattle.std.proofs.Common.{◌≡◌, refl, subst, ◌∙◌, ℕ, suc, ◌+�
 use Rattle.std.specs.Prelude.{not, ◌||◌}
 use Rattle.ob_grammar.specs.Tree
 use Rattle.ob_grammar.specs.Tree.{ConstDecl, TypeDecl, VarDecl, Section, Procedures, Declarations}
-use Rattle.ob_typing.specs.declared.rule.Rule.TheVariants.{DeclaredTwice, WrongKind, TypesDiffer, PassesLimit, BadExport}
+use Rattle.ob_typing.specs.declared.rule.Rule.TheVariants.{DeclaredTwice, TypesDiffer, PassesLimit, BadExport}
 use Rattle.ob_typing.specs.declared.rule.BrokenRule.{BrokenRule}
 use Rattle.ob_typing.specs.Program.{Name, DataType}
 use Rattle.ob_typing.specs.Scopes.{Object, Constant, TypeName, Environment, no_names, is_declared, declared, variable_in, is_simple, words}
 use Rattle.ob_typing.specs.Types.{second}
 use Rattle.ob_typing.specs.TypeFaults.{type_place}
 use Rattle.ob_typing.specs.Statements.{listed}
-use Rattle.ob_typing.specs.Declarations.{declared_by, Room, with_words, frame_room, first_beyond, with_variables, room_behind, with_parameters, most_parameters, parameter_broken, is_name, heading_broken, all_simple, exports_behind, inner_scope, with_procedure}
-use Rattle.ob_typing.proofs.Verdict.{Verdict, Right, Wrong, Foreign}
+use Rattle.ob_typing.specs.Declarations.{declared_by, Room, with_words, frame_room, first_beyond, with_variables, room_behind, with_parameters, most_parameters, all_simple, exports_behind, inner_scope, with_procedure}
+use Rattle.ob_typing.specs.DeclarationFaults.{parameter_broken, heading_broken}
+use Rattle.ob_typing.specs.Verdict.{Verdict, Right, Wrong, Foreign}
 use Rattle.ob_typing.proofs.Told.{Told, step, step_test, step_unless, step_unless_name, step_unless_broken}
-use Rattle.ob_typing.proofs.CheckedTypes.{constant, denoted}
-use Rattle.ob_typing.proofs.CheckedStatements.{body_checked}
-use Rattle.ob_typing.proofs.CheckedModules.{WithVariables, WithParameters, WithProcedures, WithAll, constants, types, variables, parameters, procedures, declarations}
+use Rattle.ob_typing.specs.TypeVerdicts.{constant, denoted, formal}
+use Rattle.ob_typing.specs.StatementVerdicts.{body_checked}
+use Rattle.ob_typing.specs.ModuleVerdicts.{WithVariables, WithParameters, WithProcedures, WithAll, constants, types, variables, parameters, procedures, declarations}
 use Rattle.ob_whole_check.specs.CheckingProcedures.{around}
 
 abbrev None : BrokenRule → Type 0
@@ -99,14 +100,12 @@ parameters_around [] env count = refl
 parameters_around (x ∷ xs) env count =
     let R : WithParameters → Type 0 = λ d. around d.env ≡ around env in
     step_unless_broken R None (parameter_broken (is_declared env) (most_parameters - count) x.names) _
-    (λ new. step R None Any None (denoted env x.of_type) _ (any (denoted env x.of_type))
-    (λ t h. step_test R None (is_name x.of_type) WrongKind (type_place x.of_type) _
-    (λ name. step_test R None (x.is_var || is_simple t) TypesDiffer (type_place x.of_type) _
+    (λ new. step R None Any None (formal env x.of_type) _ (any (formal env x.of_type))
+    (λ t h. step_test R None (x.is_var || is_simple t) TypesDiffer (type_place x.of_type) _
     (λ simple. step R None (λ d. around d.env ≡ around (with_parameters env count t x.names)) None
     (parameters xs (with_parameters env count t x.names) (count + length x.names)) _
     (parameters_around xs (with_parameters env count t x.names) (count + length x.names))
     (λ d k. k ∙ listed_around env count t x.names) (λ f k. tt))
-    (λ k. tt))
     (λ k. tt))
     (λ f h. tt))
     (λ f k. tt)

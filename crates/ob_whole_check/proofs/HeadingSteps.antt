@@ -8,8 +8,8 @@ use Rattle.ob_typing.specs.Scopes.{Environment, Scope, no_names}
 use Rattle.ob_typing.specs.Statements.{listed}
 use Rattle.ob_typing.specs.Declarations.{all_simple, inner_scope, with_procedure}
 use Rattle.ob_typing.specs.ExpressionFaults.{broken}
-use Rattle.ob_typing.proofs.Verdict.{Verdict, Right, Wrong, ◌>>=◌, test}
-use Rattle.ob_typing.proofs.CheckedModules.{WithParameters, parameters}
+use Rattle.ob_typing.specs.Verdict.{Verdict, Right, Wrong, ◌>>=◌, test}
+use Rattle.ob_typing.specs.ModuleVerdicts.{WithParameters, parameters}
 use Rattle.ob_whole_check.specs.CheckingProcedures.{headed}
 
 module _ (env : Environment) (n : ℕ) (heading : Heading) where

@@ -13,11 +13,12 @@ use Rattle.ob_grammar.specs.declared.tree.Declarations.{Declarations}
 use Rattle.ob_grammar.specs.declared.tree.Declarations.TheViews.{out-Declarations}
 use Rattle.ob_grammar.specs.View.{declarations_of, constants_of, types_of, variables_of, procedures_in}
 use Rattle.ob_grammar.proofs.Rows.{declarations_of-parts}
-use Rattle.ob_typing.specs.Declarations.{declared_by, Room, heading_broken, exports_behind, with_procedure, inner_scope, frame_room, all_simple}
+use Rattle.ob_typing.specs.Declarations.{declared_by, Room, exports_behind, with_procedure, inner_scope, frame_room, all_simple}
+use Rattle.ob_typing.specs.DeclarationFaults.{heading_broken}
 use Rattle.ob_typing.specs.ExpressionFaults.{broken}
-use Rattle.ob_typing.proofs.Verdict.{Verdict, Right, Wrong, ◌>>=◌, unless, test}
-use Rattle.ob_typing.proofs.CheckedStatements.{body_checked}
-use Rattle.ob_typing.proofs.CheckedModules.{WithParameters, WithVariables, WithProcedures, WithAll, constants, types, variables, parameters, procedures, declarations}
+use Rattle.ob_typing.specs.Verdict.{Verdict, Right, Wrong, ◌>>=◌, unless, test}
+use Rattle.ob_typing.specs.StatementVerdicts.{body_checked}
+use Rattle.ob_typing.specs.ModuleVerdicts.{WithParameters, WithVariables, WithProcedures, WithAll, constants, types, variables, parameters, procedures, declarations}
 use Rattle.ob_checked.specs.declared.program.Procedure.{Procedure}
 use Rattle.ob_checked.specs.Types.{Entry, Extends}
 use Rattle.ob_checked.specs.View.{procedure_of, parameter_of, variable_of, statements_in}

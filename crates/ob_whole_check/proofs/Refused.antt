@@ -6,10 +6,11 @@ use Rattle.ob_typing.specs.declared.rule.BrokenRule.{BrokenRule}
 use Rattle.ob_typing.specs.Program.{Program}
 use Rattle.ob_typing.specs.Declarations.{WellTyped}
 use Rattle.ob_typing.specs.DeclarationFaults.{Breaks}
-use Rattle.ob_typing.proofs.Verdict.{Verdict, Right, Wrong, Foreign}
+use Rattle.ob_typing.specs.Verdict.{Verdict, Right, Wrong, Foreign}
 use Rattle.ob_typing.proofs.Told.{Told}
 use Rattle.ob_typing.proofs.ToldModules.{module_told}
-use Rattle.ob_typing.proofs.CheckedModules.{checked, module_typed, module_breaks}
+use Rattle.ob_typing.specs.ModuleVerdicts.{checked}
+use Rattle.ob_typing.proofs.CheckedModules.{module_typed, module_breaks}
 use Rattle.ob_typing.proofs.DecidedModules.{one_or_other}
 use Rattle.ob_scopes.specs.declared.fault.CheckFault.{CheckFault}
 use Rattle.ob_scopes.specs.declared.fault.CheckFault.TheVariants.{Broken, NoMemory}

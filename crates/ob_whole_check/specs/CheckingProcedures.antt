@@ -9,9 +9,9 @@ use Rattle.ob_typing.specs.Program as Programs
 use Rattle.ob_typing.specs.Scopes.{Environment, no_names}
 use Rattle.ob_typing.specs.Statements.{listed}
 use Rattle.ob_typing.specs.Declarations.{frame_room, all_simple, inner_scope, with_procedure}
-use Rattle.ob_typing.proofs.Verdict.{Verdict, Right, ◌>>=◌, test}
-use Rattle.ob_typing.proofs.CheckedStatements.{body_checked}
-use Rattle.ob_typing.proofs.CheckedModules.{WithParameters, WithProcedures, parameters, declarations}
+use Rattle.ob_typing.specs.Verdict.{Verdict, Right, ◌>>=◌, test}
+use Rattle.ob_typing.specs.StatementVerdicts.{body_checked}
+use Rattle.ob_typing.specs.ModuleVerdicts.{WithParameters, WithProcedures, parameters, declarations}
 use Rattle.ob_checked.specs.declared.program.Procedure.{Procedure}
 use Rattle.ob_checked.specs.Types.{Entry}
 use Rattle.ob_checked.specs.View.{procedure_of}

@@ -3,11 +3,12 @@
 ghost use Rattle.std.specs.Prelude.{◌≡◌, ◌+◌, ◌<◌, ◌∷◌, ℕ, true, length, map, List, None, OnOk, IfOk, IfErr};
 ghost use Rattle.ob_grammar.specs.View.{heading_of};
 ghost use Rattle.ob_typing.specs.Declarations as Declared;
-ghost use Rattle.ob_typing.specs.Declarations.{inner_scope, with_procedure, exports_behind, heading_broken};
+ghost use Rattle.ob_typing.specs.Declarations.{inner_scope, with_procedure, exports_behind};
+ghost use Rattle.ob_typing.specs.DeclarationFaults.{heading_broken};
 ghost use Rattle.ob_typing.specs.Scopes.{level, no_names};
 ghost use Rattle.ob_typing.specs.Statements.{listed};
-ghost use Rattle.ob_typing.proofs.CheckedModules.{parameters};
-ghost use Rattle.ob_typing.proofs.Verdict.{Right, unless};
+ghost use Rattle.ob_typing.specs.ModuleVerdicts.{parameters};
+ghost use Rattle.ob_typing.specs.Verdict.{Right, unless};
 ghost use Rattle.ob_checked.specs.Types.{Entry, Extends};
 ghost use Rattle.ob_checked.specs.View.{table_of, parameter_of};
 ghost use Rattle.ob_scopes.specs.Objects.{known_parameters};

@@ -6,8 +6,8 @@ ghost use Rattle.ob_typing.specs.Program as Programs;
 ghost use Rattle.ob_grammar.specs.View.{module_of};
 ghost use Rattle.ob_checked.specs.CheckedModule.{tree_in, program_in};
 ghost use Rattle.ob_whole_check.specs.CheckingModules.{IsRefused};
-ghost use Rattle.ob_typing.proofs.Verdict.{Right};
-ghost use Rattle.ob_typing.proofs.CheckedModules as Verdicts;
+ghost use Rattle.ob_typing.specs.Verdict.{Right};
+ghost use Rattle.ob_typing.specs.ModuleVerdicts as Verdicts;
 ghost use Rattle.ob_checked.specs.View.{program_of};
 ghost use Rattle.ob_rules.specs.Checking.{Fails};
 

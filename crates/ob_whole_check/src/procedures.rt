@@ -3,8 +3,8 @@
 ghost use Rattle.std.specs.Prelude.{◌≡◌, ◌+◌, true, length, map, OnOk, IfOk, IfErr};
 ghost use Rattle.ob_grammar.specs.Tree as trees;
 ghost use Rattle.ob_grammar.specs.View.{declarations_of, procedures_in, procedure_before, inner_of, body_of};
-ghost use Rattle.ob_typing.proofs.Verdict.{Right};
-ghost use Rattle.ob_typing.proofs.CheckedModules as Verdicts;
+ghost use Rattle.ob_typing.specs.Verdict.{Right};
+ghost use Rattle.ob_typing.specs.ModuleVerdicts as Verdicts;
 ghost use Rattle.ob_checked.specs.Types.{Extends};
 ghost use Rattle.ob_checked.specs.View.{variable_of, procedure_of, statements_in};
 ghost use Rattle.ob_scopes.specs.Names.{types_in, env_of};

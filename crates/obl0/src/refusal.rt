@@ -4,7 +4,7 @@ ghost use Rattle.std.specs.Prelude.{◌≡◌};
 ghost use Rattle.std.specs.IoError.{error_kind};
 ghost use Rattle.obl0.specs.Refusals.{refusal_line, refusal_of_words, refusal_status};
 
-use ob_grammar::NoMemory;
+use ob_interface::NoMemory;
 use std::alloc::AllocError;
 use std::io;
 
@@ -53,12 +53,22 @@ pub fn refusal_of_words(error: io::Error) -> Refusal
 }
 
 impl From<AllocError> for Refusal {
+    ghost use Rattle.std.specs.Prelude.{◌≡◌};
+    ghost use Rattle.obl0.specs.declared.refusal.Refusal.TheVariants as Refusals;
+
+    ghost from_gives = { λ _ r. r ≡ Refusals.NoMemory };
+
     fn from(_: AllocError) -> Refusal {
         Refusal::NoMemory
     }
 }
 
 impl From<NoMemory> for Refusal {
+    ghost use Rattle.std.specs.Prelude.{◌≡◌};
+    ghost use Rattle.obl0.specs.declared.refusal.Refusal.TheVariants as Refusals;
+
+    ghost from_gives = { λ _ r. r ≡ Refusals.NoMemory };
+
     fn from(_: NoMemory) -> Refusal {
         Refusal::NoMemory
     }

@@ -1,7 +1,7 @@
 -- A body that goes on has not come to its end.
 use Rattle.std.proofs.Common.{◌≡◌, ℕ, zero, suc, ◌<◌, true, List, refl, arith}
 use Rattle.std.specs.Prelude.{ℤ}
-use Rattle.ob_mean.specs.Object.{ObjectCall}
+use Rattle.ob_interface.specs.Call.{ObjectCall}
 use Rattle.wf_table.specs.declared.engine_turn.EngineTurn.{EngineTurn}
 use Rattle.wf_table.specs.declared.engine_turn.EngineTurn.TheVariants.{On, Returned, Trapped, Stuck}
 use Rattle.wf_table.specs.Meaning.{Meaning, Turned, steps, after_turn, is_over, body}

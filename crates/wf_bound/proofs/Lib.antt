@@ -4,6 +4,7 @@ pub mod Bodies
 pub mod Places
 pub mod EachCounts
 pub mod Runs
+pub mod Rounds
 pub mod BodyEnds
 pub mod SumBodies
 pub mod Limits

@@ -9,6 +9,7 @@ use Rattle.wf_bound.specs.declared.spent.Spent.{Spent}
 use Rattle.wf_table.specs.Each.{Each}
 use Rattle.wf_bound.specs.Left.{left_to}
 use Rattle.wf_bound.specs.Counted.{Counted, counts_of}
+use Rattle.wf_bound.specs.Rounds.{IsInRounds}
 
 -- own steps outside bodies that no call exceeds: one to begin, A + 1 to announce, two rounds, TRY, and the reply
 unfoldable pub sharp : Sizes → ℕ
@@ -66,3 +67,7 @@ pub record IsWithinBound {Run : Type 0} (z : Sizes) (s : Spent) (q : Process Run
 
 abbrev pub AllWithinBound : {Run : Type 0} → Sizes → Counted Run → Type 0
 AllWithinBound z s = Each (λ p q. IsWithinBound z (counts_of s.counts p).spent q) s.state.processes
+
+-- the open call, or the last one, of each process: at most two rounds, counted and as the register tells
+abbrev pub AllInRounds : {Run : Type 0} → Counted Run → Type 0
+AllInRounds s = Each (λ p q. IsInRounds (counts_of s.counts p).rounds q) s.state.processes

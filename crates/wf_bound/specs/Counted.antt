@@ -1,4 +1,4 @@
--- Runs with what each process spends.
+-- Runs with what each process spends, in how many rounds.
 use Rattle.std.specs.Prelude.{◌≡◌, ℕ, Bool, List, [], ◌∷◌, length, replicate, slice_get, slice_index_or, slice_set, Option, Some, None}
 use Rattle.wf_table.specs.declared.process.Label.{Label}
 use Rattle.wf_table.specs.declared.process.Sizes.{Sizes}
@@ -9,17 +9,19 @@ use Rattle.wf_table.specs.Runs.{Act, Steps, Submits, act_of}
 use Rattle.wf_table.specs.Each.{Each}
 use Rattle.wf_bound.specs.declared.spent.Spent.{Spent}
 use Rattle.wf_bound.specs.Spent.{unspent, spent_after, body_steps_after, has_more}
+use Rattle.wf_bound.specs.Rounds.{rounds_after}
 
 -- what is counted of one process
 pub record Counts : Type 0 where
   pub spent : Spent
   pub body_steps : List ℕ
+  pub rounds : ℕ
 
 abbrev pub uncounted : Counts
-uncounted = record { spent = unspent; body_steps = [] }
+uncounted = record { spent = unspent; body_steps = []; rounds = 0 }
 
 abbrev pub counts_after : Label → Bool → Counts → Counts
-counts_after l begins x = record { spent = spent_after l begins x.spent; body_steps = body_steps_after l begins x.body_steps }
+counts_after l begins x = record { spent = spent_after l begins x.spent; body_steps = body_steps_after l begins x.body_steps; rounds = rounds_after l begins x.rounds }
 
 -- something is counted of each process, from d on: a step counts for its process alone, a submission is no step
 module _ {A Run : Type 0} (after : Label → Bool → A → A) (d : A) where

@@ -1,6 +1,6 @@
 -- Calls that end within a limit of steps, wherever the others may have led.
 use Rattle.std.specs.Prelude.{◌≡◌, ℕ, ◌-◌, ◌<◌, true, ℤ, List, Contains, Some, slice_get}
-use Rattle.ob_mean.specs.Object.{ObjectCall, Reply}
+use Rattle.ob_interface.specs.Call.{ObjectCall, Reply}
 use Rattle.wf_history.specs.declared.event.CallId.{CallId}
 use Rattle.wf_history.specs.Legal.{NoRepeats, OneAtATime}
 use Rattle.wf_table.specs.Meaning.{Meaning, is_over, body}

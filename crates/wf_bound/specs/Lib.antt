@@ -1,4 +1,5 @@
 pub mod Spent
+pub mod Rounds
 pub mod Left
 pub mod Counted
 pub mod Bound

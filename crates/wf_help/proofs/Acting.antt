@@ -5,7 +5,7 @@ use Rattle.std.proofs.lemmas.Bool.{cases_eq, eq-eqb, false≢true}
 use Rattle.std.proofs.lemmas.List.{length-take-le}
 use Rattle.std.proofs.lemmas.Option.{slice_get_within}
 use Rattle.ll_cell.specs.Cell.{own_of, is_linked, block_of, word_at, announcement_of}
-use Rattle.ob_mean.specs.Object.{ObjectCall}
+use Rattle.ob_interface.specs.Call.{ObjectCall}
 use Rattle.wf_table.specs.declared.process.Label.{Label}
 use Rattle.wf_table.specs.declared.process.Label.TheVariants.{Next, Post, Flip, Try, Link, Load, Store, Check1, Mine, Seen, Fetch, Check2, Save, Enter, Body, Undo, Keep, Commit, Read, Take, Give}
 use Rattle.wf_table.specs.declared.process.Sizes.{Sizes}

@@ -3,7 +3,7 @@ use Rattle.std.proofs.Common.{◌≡◌, ℕ, true, List, map, refl, sym, ap, ar
 use Rattle.std.specs.Prelude.{ℤ, Some, slice_get}
 use Rattle.std.specs.List.{Contains}
 use Rattle.ll_cell.specs.Cell.{is_linked, block_of}
-use Rattle.ob_mean.specs.Object.{ObjectCall}
+use Rattle.ob_interface.specs.Call.{ObjectCall}
 use Rattle.wf_history.specs.Legal.{OneAtATime, HasBegun}
 use Rattle.wf_table.specs.declared.process.Label.{Label}
 use Rattle.wf_table.specs.declared.process.Label.TheVariants.{Check2, Enter}

@@ -4,7 +4,7 @@ use Rattle.std.specs.Prelude.{ℤ, nat_eq}
 use Rattle.std.specs.List.{Contains}
 use Rattle.std.proofs.lemmas.List.{take-append-le, take_all}
 use Rattle.std.proofs.lemmas.List.Elements.{Contains-append_left, Contains-push_cases}
-use Rattle.ob_mean.specs.Object.{ObjectCall, Reply}
+use Rattle.ob_interface.specs.Call.{ObjectCall, Reply}
 use Rattle.wf_history.specs.declared.event.CallId.{CallId}
 use Rattle.wf_history.specs.History.{Event, IsHistory}
 use Rattle.wf_history.specs.Legal.{NoRepeats, OneAtATime, none, more, HasBegun}

@@ -1,7 +1,7 @@
 -- What a step of one process leaves of another's own block and served call.
 use Rattle.std.proofs.Common.{◌≡◌, ◌≢◌, ℕ, ◌<◌, ◌≤◌, Bool, true, List, ◌++◌, get_or, refl, sym, ◌∙◌, arith, length-append}
 use Rattle.std.specs.Prelude.{ℤ}
-use Rattle.ob_mean.specs.Object.{ObjectCall, Reply}
+use Rattle.ob_interface.specs.Call.{ObjectCall, Reply}
 use Rattle.wf_history.specs.declared.event.CallId.{CallId}
 use Rattle.wf_history.specs.History.{Event}
 use Rattle.wf_table.specs.declared.process.Label.{Label}

@@ -3,7 +3,7 @@ use Rattle.std.proofs.Common.{◌≡◌, ◌≢◌, ℕ, ◌+◌, ◌-◌, ◌*�
 use Rattle.std.specs.Prelude.{ℤ, Some, slice_get}
 use Rattle.std.specs.List.{Contains}
 use Rattle.ll_cell.specs.Cell.{is_linked, word_at, announcement_of}
-use Rattle.ob_mean.specs.Object.{ObjectCall}
+use Rattle.ob_interface.specs.Call.{ObjectCall}
 use Rattle.wf_history.specs.History.{in_turn}
 use Rattle.wf_history.specs.Legal.{HasBegun}
 use Rattle.wf_table.specs.declared.process.Label.{Label}

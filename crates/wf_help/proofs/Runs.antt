@@ -6,7 +6,7 @@ use Rattle.std.proofs.lemmas.List.{append-nil, get_or-set_same, get_or-replicate
 use Rattle.std.proofs.lemmas.List.FromFn.{get_or-range_with_len}
 use Rattle.std.proofs.lemmas.Option.{slice_get_within}
 use Rattle.ll_cell.specs.Cell.{fresh, refill_own, refilled, link, own_of, is_linked, block_of, word_at}
-use Rattle.ob_mean.specs.Object.{ObjectCall, Reply}
+use Rattle.ob_interface.specs.Call.{ObjectCall, Reply}
 use Rattle.wf_history.specs.History.{Event}
 use Rattle.wf_history.specs.Legal.{none}
 use Rattle.wf_table.specs.declared.process.Label.{Label}

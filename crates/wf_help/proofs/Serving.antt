@@ -6,7 +6,7 @@ use Rattle.std.proofs.lemmas.Bool.{cases_eq}
 use Rattle.std.proofs.lemmas.List.Elements.{All-contains, Contains-append_cases}
 use Rattle.std.proofs.lemmas.List.{get_or-set_same, get_or-set_other, get_or-take}
 use Rattle.ll_cell.specs.Cell.{word_at}
-use Rattle.ob_mean.specs.Object.{ObjectCall, Reply}
+use Rattle.ob_interface.specs.Call.{ObjectCall, Reply}
 use Rattle.wf_history.specs.declared.event.CallId.{CallId}
 use Rattle.wf_history.specs.History.{Event}
 use Rattle.wf_history.specs.Legal.{HasBegun}

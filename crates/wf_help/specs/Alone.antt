@@ -1,6 +1,6 @@
 -- What a call alone makes of the variables of a block: those behind it, and the words of its reply.
 use Rattle.std.specs.Prelude.{◌≡◌, ℕ, Bool, true, false, ℤ, List}
-use Rattle.ob_mean.specs.Object.{ObjectCall}
+use Rattle.ob_interface.specs.Call.{ObjectCall}
 use Rattle.wf_table.specs.declared.engine_turn.EngineTurn.{EngineTurn}
 use Rattle.wf_table.specs.declared.engine_turn.EngineTurn.TheVariants.{On, Returned, Trapped, Stuck}
 use Rattle.wf_table.specs.Meaning.{Meaning, body, kept, kept_trap}

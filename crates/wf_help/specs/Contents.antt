@@ -2,7 +2,7 @@
 -- parity of the number of its calls.
 use Rattle.std.specs.Prelude.{◌≡◌, ℕ, ◌+◌, ◌<◌, ℤ, pos, List, [], ◌∷◌, take, replicate, if◌then◌else◌, nat_eq}
 use Rattle.ll_cell.specs.Cell.{word_at}
-use Rattle.ob_mean.specs.Object.{ObjectCall, Reply}
+use Rattle.ob_interface.specs.Call.{ObjectCall, Reply}
 use Rattle.wf_history.specs.declared.event.CallId.{CallId}
 use Rattle.wf_history.specs.History.{Event}
 use Rattle.wf_history.specs.Legal.{NoRepeats, OneAtATime, HasBegun}

@@ -2,10 +2,10 @@
 use Rattle.std.proofs.Common.{◌≡◌, refl, ap, Bool, true, false}
 use Rattle.std.specs.Bool.{Decides}
 use Rattle.std.proofs.lemmas.Bool.Decides.{Decides-int_eq, Decides-like}
-use Rattle.ob_check.specs.contracts.program.ScalarPartialEq.TheImpl
-use Rattle.ob_check.specs.declared.program.Scalar.{Scalar}
-use Rattle.ob_check.specs.declared.program.Scalar.TheVariants.{Int}
-use Rattle.ob_check.specs.declared.program.Scalar.TheVariants as Scalars
+use Rattle.ob_interface.specs.contracts.scalar.ScalarPartialEq.TheImpl
+use Rattle.ob_interface.specs.declared.scalar.Scalar.{Scalar}
+use Rattle.ob_interface.specs.declared.scalar.Scalar.TheVariants.{Int}
+use Rattle.ob_interface.specs.declared.scalar.Scalar.TheVariants as Scalars
 
 abbrev pub scalar_eq : Scalar → Scalar → Bool
 scalar_eq = TheImpl.eq-value.it

@@ -1,6 +1,3 @@
 pub mod History
 pub mod Legal
-pub mod OfModule
-pub mod OrderFaults
-pub mod Places
 pub mod View

@@ -1,6 +1,6 @@
 -- What events stand for: no pointers, and vectors as lists.
-use Rattle.ob_mean.specs.Object.{ObjectCall, Reply}
-use Rattle.ob_mean.specs.View.{call_of, reply_of}
+use Rattle.ob_interface.specs.Call.{ObjectCall, Reply}
+use Rattle.ob_interface.specs.View.{call_of, reply_of}
 use Rattle.wf_history.specs.declared.event.Event as Rust
 use Rattle.wf_history.specs.declared.event.Event.TheVariants as Variants
 use Rattle.wf_history.specs.History.{Event, Begin, Applied, End}

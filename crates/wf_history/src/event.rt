@@ -1,6 +1,6 @@
 //! Names of calls, and events.
 
-use ob_mean::call::{Call, Reply};
+use ob_interface::call::{Call, Reply};
 use std::fmt;
 
 /// A call by its process and its number among the calls of that process, from 1.

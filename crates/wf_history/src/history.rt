@@ -5,7 +5,7 @@ ghost use Rattle.wf_history.specs.View.{event_of};
 ghost use Rattle.wf_history.specs.History.{IsHistory};
 
 use crate::event::Event;
-use ob_grammar::NoMemory;
+use ob_interface::NoMemory;
 use std::alloc::Global;
 use std::marker::Model;
 
@@ -18,7 +18,7 @@ pub struct History {
 
 impl Model for History {
     ghost use Rattle.std.specs.Prelude.{List, map};
-    ghost use Rattle.ob_mean.specs.Object.{ObjectCall, Reply};
+    ghost use Rattle.ob_interface.specs.Call.{ObjectCall, Reply};
     ghost use Rattle.wf_history.specs.History.{Event, IsHistory};
     ghost use Rattle.wf_history.specs.View.{event_of};
 

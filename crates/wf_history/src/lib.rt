@@ -1,11 +1,10 @@
-//! Histories of calls on a shared object, and legal orders of their calls.
+//! Histories of calls on a shared object, and what orders of their calls are legal.
 #![tactic(auto)]
 
 pub mod event;
 pub mod history;
-pub mod order;
-mod places;
+pub mod reply;
 
 pub use event::{CallId, Event};
 pub use history::History;
-pub use order::{OrderFault, check_order, same_reply};
+pub use reply::same_reply;

@@ -1,3 +1,4 @@
+mod Opening
 mod Scripts
 mod OneStep
 mod Spends

@@ -1,9 +1,9 @@
 -- Calls of a script, as they stand in memory and as they are seen.
 use Rattle.std.proofs.Common.{◌≡◌, ◌<◌, ℕ, List, [], length, map, get_or, subst, ap, sym, ◌∙◌, arith}
 use Rattle.std.proofs.lemmas.List.{get_or-map, length-map}
-use Rattle.ob_mean.specs.declared.call.Call.{Call}
-use Rattle.ob_mean.specs.Object.{ObjectCall}
-use Rattle.ob_mean.specs.View.{call_of}
+use Rattle.ob_interface.specs.declared.call.Call.{Call}
+use Rattle.ob_interface.specs.Call.{ObjectCall}
+use Rattle.ob_interface.specs.View.{call_of}
 use Rattle.wf_table.specs.Table.{Process}
 use Rattle.wf_table.specs.Scripts.{CallsFit}
 

@@ -1,6 +1,6 @@
 -- What a machine and answers stand for: no pointers, and vectors as lists.
 use Rattle.std.specs.Prelude.{ℤ, List}
-use Rattle.ob_mean.specs.View.{reply_of}
+use Rattle.ob_interface.specs.View.{reply_of}
 use Rattle.wf_object.specs.declared.records.StepOut.{StepOut}
 use Rattle.wf_object.specs.declared.records.StepOut.TheVariants.{On, Began, Answered, Halted}
 use Rattle.wf_table.specs.declared.process.Sizes.{Sizes}

@@ -1,10 +1,10 @@
 //! Copies of calls and replies, which take memory only where they hold more than 8 scalars.
 
 ghost use Rattle.std.specs.Prelude.{◌≡◌, ◌≤◌, IfOk, IsOk, length};
-ghost use Rattle.ob_mean.specs.View.{call_of, reply_of};
+ghost use Rattle.ob_interface.specs.View.{call_of, reply_of};
 
-use ob_grammar::NoMemory;
-use ob_mean::call::{Call, Reply};
+use ob_interface::NoMemory;
+use ob_interface::call::{Call, Reply};
 use smallvec::SmallVec;
 use std::alloc::Global;
 

@@ -1,7 +1,7 @@
 //! What a machine asks of a sequential object: an engine, and the law that it meets.
 
-use ob_grammar::NoMemory;
-use ob_mean::call::{Call, Reply};
+use ob_interface::NoMemory;
+use ob_interface::call::{Call, Reply};
 use std::alloc::Global;
 use wf_table::EngineTurn;
 
@@ -11,8 +11,8 @@ pub trait Engine: Drop {
     type Run: Drop;
 
     ghost use Rattle.std.specs.Prelude.{◌≡◌, ◌<◌, ◌+◌, length, List, ℤ, IfOk};
-    ghost use Rattle.ob_mean.specs.Object.{ObjectCall, Reply};
-    ghost use Rattle.ob_mean.specs.View.{call_of, reply_of};
+    ghost use Rattle.ob_interface.specs.Call.{ObjectCall, Reply};
+    ghost use Rattle.ob_interface.specs.View.{call_of, reply_of};
     ghost use Rattle.wf_table.specs.Meaning.{Meaning};
     ghost use Rattle.wf_table.specs.Law.{IsLawful};
 

@@ -1,7 +1,7 @@
 //! Why there is no machine.
 
 use ll_cell::CellFault;
-use ob_grammar::NoMemory;
+use ob_interface::NoMemory;
 use std::alloc::AllocError;
 use thiserror::Error;
 

@@ -2,7 +2,7 @@
 
 ghost use Rattle.std.specs.Prelude.{◌≡◌, ◌+◌, ◌*◌, ◌<◌, ◌≤◌, ◌⊎◌, ◌↔◌, [], ◌++◌, ◌∷◌, List, Contains, take, replicate, IfOk, OnOk, OnErr, length};
 ghost use Rattle.ll_cell.specs.Cell.{block_of};
-ghost use Rattle.ob_mean.specs.View.{call_of};
+ghost use Rattle.ob_interface.specs.View.{call_of};
 ghost use Rattle.wf_object.specs.declared.fault.NewFault.TheVariants as Faults;
 ghost use Rattle.wf_table.specs.Ranges.{IsSized, IsShaped};
 ghost use Rattle.wf_object.specs.View.{answer_in};
@@ -16,8 +16,8 @@ use crate::spent::{bound_of, count_step};
 use crate::start::{idle, opened};
 use crate::steps::act;
 use ll_cell::Shared;
-use ob_grammar::NoMemory;
-use ob_mean::call::Call;
+use ob_interface::call::Call;
+use ob_interface::{MOST_PROCESSES, NoMemory};
 use std::alloc::Global;
 use std::marker::Model;
 use wf_bound::Spent;
@@ -44,9 +44,9 @@ impl<E: Engine> Model for Machine<E> {
 
     ghost Value = { Object E E.Run };
 
-    ghost view = { λ a. record { engine = a.engine; sizes = a.sizes; opening = a.opening.items; state = record { cell = a.shared; processes = a.processes.items; records = a.records }; spent = a.spent.items } };
+    ghost view = { λ a. record { engine = a.engine; sizes = a.sizes; opening = a.opening.items; state = record { cell = a.shared.cell; processes = a.processes.items; records = a.records }; spent = a.spent.items } };
 
-    ghost invariant = { λ a. IsKept (E.meaning a.engine) (E.lawful a.engine) (E.fits a.engine) (E.ready a.engine) a.sizes a.opening.items (record { cell = a.shared; processes = a.processes.items; records = a.records }) a.spent.items };
+    ghost invariant = { λ a. IsKept (E.meaning a.engine) (E.lawful a.engine) (E.fits a.engine) (E.ready a.engine) a.sizes a.opening.items (record { cell = a.shared.cell; processes = a.processes.items; records = a.records }) a.spent.items a.shared.form };
 }
 
 impl<E: Engine> Machine<E> {
@@ -65,19 +65,20 @@ impl<E: Engine> Machine<E> {
     ghost use Rattle.wf_history.specs.declared.event.CallId.{CallId};
     ghost use Rattle.wf_history.specs.History.{End, Before};
     ghost use Rattle.wf_history.specs.Legal.{NoRepeats, IsLegal};
-    ghost use Rattle.ob_mean.specs.Object.{Reply};
+    ghost use Rattle.ob_interface.specs.Call.{Reply};
+    ghost use Rattle.ob_interface.specs.Processes.{most_processes};
 
     /// An object of n processes with a lawful block of variable words; no process has a call yet.
     pub fn new(alloc: Global, engine: E, n: usize, block: &[i64]) -> Result<Self, NewFault>
         requires { E.lawful engine block.now }
-        ensures processes { (result ≡ Err Faults.Processes) ↔ ((n ≡ 0) ⊎ (16 < n)) }
+        ensures processes { (result ≡ Err Faults.Processes) ↔ ((n ≡ 0) ⊎ (most_processes < n)) }
         ensures engine { IfOk result (λ m. m.engine ≡ engine) }
         ensures sizes { IfOk result (λ m. m.sizes ≡ sizes_of (E.meaning engine) n) }
         ensures opening { IfOk result (λ m. m.opening ≡ block.now) }
         ensures unspent { IfOk result (λ m. m.spent ≡ replicate n unspent) }
         ensures state { IfOk result (λ m. IsStart (E.ready engine) (sizes_of (E.meaning engine) n) block.now m.state) }
     {
-        if n == 0 || n > 16 {
+        if n == 0 || n > MOST_PROCESSES {
             return Err(NewFault::Processes);
         }
         let sizes = Sizes {
@@ -280,8 +281,8 @@ impl<E: Engine> Machine<E> {
 /// The first words of the root.
 fn root_words(alloc: Global, z: Sizes, shared: &Shared) -> Result<Vec<i64>, NoMemory>
     requires sized { IsSized z }
-    requires shaped { IsShaped z shared.now }
-    ensures { IfOk result (λ v. v.items ≡ take z.variables (block_of shared.now shared.now.root)) }
+    requires shaped { IsShaped z shared.now.cell }
+    ensures { IfOk result (λ v. v.items ≡ take z.variables (block_of shared.now.cell shared.now.cell.root)) }
 {
     let root = shared.root();
     let mut words = Vec::with_capacity(alloc, z.variables)?;

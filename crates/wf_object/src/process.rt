@@ -1,7 +1,7 @@
 //! What a process keeps for itself.
 
-use ob_grammar::NoMemory;
-use ob_mean::call::Call;
+use ob_interface::NoMemory;
+use ob_interface::call::Call;
 use std::marker::Model;
 use wf_table::{Label, Registers};
 
@@ -24,7 +24,7 @@ pub struct Process<R> {
 
 impl<R> Model for Process<R> {
     ghost use Rattle.std.specs.Prelude.{map};
-    ghost use Rattle.ob_mean.specs.View.{call_of};
+    ghost use Rattle.ob_interface.specs.View.{call_of};
     ghost use Rattle.wf_table.specs.Table as table;
 
     ghost Value = { table.Process R };
@@ -35,7 +35,7 @@ impl<R> Model for Process<R> {
 impl<R> Process<R> {
     ghost use Rattle.wf_bound.specs.Spent.{has_more};
     ghost use Rattle.std.specs.Prelude.{◌≡◌, OnOk, OnErr, IfOk, length, ◌++◌, ◌∷◌, []};
-    ghost use Rattle.ob_mean.specs.View.{call_of};
+    ghost use Rattle.ob_interface.specs.View.{call_of};
 
     /// Puts a call at the end of the script, and answers its number.
     pub fn submit(&mut self, call: Call) -> Result<usize, NoMemory>

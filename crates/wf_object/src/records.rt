@@ -1,14 +1,14 @@
 //! What was seen, in which order calls were applied, and who stepped.
 
 ghost use Rattle.std.specs.Prelude.{◌≡◌, ◌+◌, ◌<◌, ◌^◌, ◌++◌, ◌∷◌, [], Some, None, OnOk, OnErr, IfOk, IsOk, length, vec_len, vec_capacity, slice_set, if◌then◌else◌};
-ghost use Rattle.ob_mean.specs.View.{call_of, reply_of};
+ghost use Rattle.ob_interface.specs.View.{call_of, reply_of};
 ghost use Rattle.wf_history.specs.History.{IsHistory, Begin, Applied, End};
 ghost use Rattle.wf_table.specs.Schedule.{counted};
 ghost use Rattle.wf_table.specs.Labels.{at_flip};
 ghost use Rattle.wf_table.specs.declared.process.Label.TheVariants as At;
 
-use ob_grammar::NoMemory;
-use ob_mean::call::{Call, Reply};
+use ob_interface::NoMemory;
+use ob_interface::call::{Call, Reply};
 use std::alloc::Global;
 use std::marker::Model;
 use wf_history::{CallId, Event, History};

@@ -17,7 +17,7 @@ use crate::process::Process;
 use crate::records::{Records, StepOut};
 use crate::steps::{own_toggle, part_of};
 use ll_cell::Shared;
-use ob_grammar::NoMemory;
+use ob_interface::NoMemory;
 use std::alloc::Global;
 use wf_history::CallId;
 use wf_table::{Label, Sizes};
@@ -34,17 +34,17 @@ pub fn note_step<E: Engine>(
     records: &mut Records,
 ) -> Result<StepOut, NoMemory>
     requires sized { IsSized z }
-    requires shaped { IsShaped z shared.now }
+    requires shaped { IsShaped z shared.now.cell }
     requires count { length processes.now ≡ z.processes }
     requires process { p < z.processes }
     requires in_range { IsInRange z q.now }
     requires replies { z.replies ≡ (E.meaning engine.now).replies }
     requires fits { CallsFit (E.fits engine.now) q.now }
     requires flip_mark { p < length records.old.flip_marks }
-    requires root_mark { own_of shared.now p < length records.old.root_marks }
-    requires in_turn { IsHistory (history_after records.old.history (event_at q.now.label (E.meaning engine.now) z shared.now processes.now p q.now)) }
-    ensures ok { OnOk result (records.new ≡ noted records.old p q.now.label (own_of shared.now p) (event_at q.now.label (E.meaning engine.now) z shared.now processes.now p q.now)) }
-    ensures answer { IfOk result (λ out. answer_in out ≡ answer_by q.now.label (event_at q.now.label (E.meaning engine.now) z shared.now processes.now p q.now)) }
+    requires root_mark { own_of shared.now.cell p < length records.old.root_marks }
+    requires in_turn { IsHistory (history_after records.old.history (event_at q.now.label (E.meaning engine.now) z shared.now.cell processes.now p q.now)) }
+    ensures ok { OnOk result (records.new ≡ noted records.old p q.now.label (own_of shared.now.cell p) (event_at q.now.label (E.meaning engine.now) z shared.now.cell processes.now p q.now)) }
+    ensures answer { IfOk result (λ out. answer_in out ≡ answer_by q.now.label (event_at q.now.label (E.meaning engine.now) z shared.now.cell processes.now p q.now)) }
     ensures err { OnErr result (records.new ≡ records.old) }
 {
     match q.label {
@@ -94,14 +94,14 @@ fn commit<R>(
     records: &mut Records,
 ) -> Result<StepOut, NoMemory>
     requires sized { IsSized z }
-    requires shaped { IsShaped z shared.now }
+    requires shaped { IsShaped z shared.now.cell }
     requires count { length processes.now ≡ z.processes }
     requires process { p < z.processes }
     requires flip_mark { p < length records.old.flip_marks }
-    requires root_mark { own_of shared.now p < length records.old.root_marks }
-    requires in_turn { IsHistory (history_after records.old.history (applied z shared.now processes.now p)) }
-    ensures ok { OnOk result (records.new ≡ noted records.old p At.Commit (own_of shared.now p) (applied z shared.now processes.now p)) }
-    ensures answer { IfOk result (λ out. answer_in out ≡ answer_by At.Commit (applied z shared.now processes.now p)) }
+    requires root_mark { own_of shared.now.cell p < length records.old.root_marks }
+    requires in_turn { IsHistory (history_after records.old.history (applied z shared.now.cell processes.now p)) }
+    ensures ok { OnOk result (records.new ≡ noted records.old p At.Commit (own_of shared.now.cell p) (applied z shared.now.cell processes.now p)) }
+    ensures answer { IfOk result (λ out. answer_in out ≡ answer_by At.Commit (applied z shared.now.cell processes.now p)) }
     ensures err { OnErr result (records.new ≡ records.old) }
 {
     if !shared.validate(p) {
@@ -150,10 +150,10 @@ fn applied_ids<R>(
     p: usize,
 ) -> Result<Vec<CallId>, NoMemory>
     requires sized { IsSized z }
-    requires shaped { IsShaped z shared.now }
+    requires shaped { IsShaped z shared.now.cell }
     requires count { length processes.now ≡ z.processes }
     requires process { p < z.processes }
-    ensures { IfOk result (λ ids. ids.items ≡ applied_ids z (block_of shared.now shared.now.root) (own_block shared.now p) (begun_of processes.now)) }
+    ensures { IfOk result (λ ids. ids.items ≡ applied_ids z (block_of shared.now.cell shared.now.cell.root) (own_block shared.now.cell p) (begun_of processes.now)) }
 {
     let mut ids = Vec::with_capacity(alloc, z.processes)?;
     for q in 0..z.processes {
@@ -185,19 +185,19 @@ fn add_if(ids: &mut Vec<CallId>, yes: bool, id: CallId) -> Result<(), NoMemory>
 /// Whether the toggle of q differs between the root and p's own block.
 fn differs(z: Sizes, shared: &Shared, p: usize, q: usize) -> bool
     requires sized { IsSized z }
-    requires shaped { IsShaped z shared.now }
+    requires shaped { IsShaped z shared.now.cell }
     requires process { p < z.processes }
     requires other { q < z.processes }
-    ensures { result ≡ not (int_eq (toggle_in z (block_of shared.now shared.now.root) q) (toggle_in z (own_block shared.now p) q)) }
+    ensures { result ≡ not (int_eq (toggle_in z (block_of shared.now.cell shared.now.cell.root) q) (toggle_in z (own_block shared.now.cell p) q)) }
 {
     root_toggle(z, shared, q) != own_toggle(z, shared, p, q)
 }
 
 fn root_toggle(z: Sizes, shared: &Shared, q: usize) -> i64
     requires sized { IsSized z }
-    requires shaped { IsShaped z shared.now }
+    requires shaped { IsShaped z shared.now.cell }
     requires other { q < z.processes }
-    ensures { result ≡ toggle_in z (block_of shared.now shared.now.root) q }
+    ensures { result ≡ toggle_in z (block_of shared.now.cell shared.now.cell.root) q }
 {
     shared.read_word(shared.root(), part_of(z, q) + (z.replies + 1))
 }

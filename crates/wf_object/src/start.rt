@@ -1,6 +1,9 @@
 //! Where an object begins.
 
-ghost use Rattle.std.specs.Prelude.{◌≡◌, ◌+◌, ◌<◌, ◌^◌, IfOk, IfErr, length};
+ghost use Rattle.std.specs.Prelude.{◌≡◌, ◌+◌, ◌<◌, ◌≤◌, ◌^◌, IfOk, IfErr, length};
+ghost use Rattle.ll_cell.specs.Cell.{own_of, block_of, refill_own};
+ghost use Rattle.ll_cell.specs.Form.{whole};
+ghost use Rattle.wf_table.specs.Table.{block_words};
 ghost use Rattle.wf_object.specs.declared.fault.NewFault.TheVariants as Faults;
 ghost use Rattle.wf_table.specs.Ranges.{IsSized};
 ghost use Rattle.wf_table.specs.Start.{cell_at_start, IsIdle};
@@ -11,7 +14,7 @@ use crate::fault::NewFault;
 use crate::process::Process;
 use crate::steps::block_length;
 use ll_cell::Shared;
-use ob_grammar::NoMemory;
+use ob_interface::NoMemory;
 use std::alloc::Global;
 use wf_table::{Label, Registers, Sizes};
 
@@ -19,14 +22,27 @@ use wf_table::{Label, Registers, Sizes};
 pub fn opened(alloc: Global, z: Sizes, block: &[i64]) -> Result<Shared, NewFault>
     requires sized { IsSized z }
     requires words { length block.now ≡ z.variables }
-    ensures cell { IfOk result (λ shared. shared ≡ cell_at_start z block.now) }
+    ensures cell { IfOk result (λ shared. shared.cell ≡ cell_at_start z block.now) }
+    ensures form { IfOk result (λ shared. shared.form ≡ whole (block_words z)) }
     ensures memory { IfErr result (λ fault. fault ≡ Faults.NoMemory) }
 {
     let mut shared = Shared::new(alloc, z.processes, block_length(z), z.arguments + 1)?;
-    shared.own_words(0, z.variables).copy_from_slice(block);
+    fill(&mut shared, block);
     let _ = shared.load_linked(0);
     let _ = shared.store_conditional(0);
     Ok(shared)
+}
+
+/// Writes these words over the first ones of process 0's own block.
+fn fill(shared: &mut Shared, block: &[i64])
+    requires owns { 0 < length shared.old.cell.own }
+    requires own { own_of shared.old.cell 0 < length shared.old.cell.blocks }
+    requires words { length block.now ≤ shared.old.form.head }
+    requires room { length block.now ≤ length (block_of shared.old.cell (own_of shared.old.cell 0)) }
+    ensures cell { shared.new.cell ≡ refill_own shared.old.cell 0 block.now }
+    ensures form { shared.new.form ≡ shared.old.form }
+{
+    shared.own_words(0, block.len()).copy_from_slice(block);
 }
 
 fn idle_process<E: Engine>(alloc: Global, engine: &E, z: Sizes) -> Result<Process<E::Run>, NoMemory>

@@ -1,6 +1,7 @@
 //! The rows of the table, one function each. Each changes the cell in at most one way, and the record of its process.
 
-ghost use Rattle.std.specs.Prelude.{◌≡◌, ◌+◌, ◌*◌, ◌<◌, ◌≤◌, length};
+ghost use Rattle.std.specs.Prelude.{◌≡◌, ◌+◌, ◌*◌, ◌<◌, ◌≤◌, length, take};
+ghost use Rattle.ll_cell.specs.Cell.{refill_own};
 ghost use Rattle.wf_table.specs.Table.{next, mine, fetch, save, enter, undo, keep, commit, kept_word, row, or_past, part, cell_after, post, flip, try, links, load, store, check, seen, read, take_reply, give, body_step, toggle_in, own_block, block_words, inverted};
 ghost use Rattle.wf_table.specs.Scripts.{CallsFit};
 ghost use Rattle.wf_table.specs.Ranges.{IsSized, IsShaped, IsInRange};
@@ -23,11 +24,13 @@ pub fn part_of(z: Sizes, q: usize) -> usize
 
 pub fn post<R>(z: Sizes, shared: &mut Shared, q: &mut Process<R>, p: usize)
     requires sized { IsSized z }
-    requires shaped { IsShaped z shared.old }
+    requires shaped { IsShaped z shared.old.cell }
+    requires no_bits { shared.old.form.parts ≡ 0 }
     requires process { p < z.processes }
     requires in_range { IsInRange z q.old }
     requires label { q.old.label ≡ Post }
-    ensures cell { shared.new ≡ cell_after shared.old p (post z q.old).change }
+    ensures cell { shared.new.cell ≡ cell_after shared.old.cell p (post z q.old).change }
+    ensures form { shared.new.form ≡ shared.old.form }
     ensures process { q.new ≡ (post z q.old).process }
 {
     let i = q.registers.i;
@@ -40,10 +43,12 @@ pub fn post<R>(z: Sizes, shared: &mut Shared, q: &mut Process<R>, p: usize)
 
 pub fn flip<R>(z: Sizes, shared: &mut Shared, q: &mut Process<R>, p: usize)
     requires sized { IsSized z }
-    requires shaped { IsShaped z shared.old }
+    requires shaped { IsShaped z shared.old.cell }
+    requires no_bits { shared.old.form.parts ≡ 0 }
     requires process { p < z.processes }
-    ensures cell { shared.new ≡ cell_after shared.old p (flip z shared.old p q.old).change }
-    ensures process { q.new ≡ (flip z shared.old p q.old).process }
+    ensures cell { shared.new.cell ≡ cell_after shared.old.cell p (flip z shared.old.cell p q.old).change }
+    ensures form { shared.new.form ≡ shared.old.form }
+    ensures process { q.new ≡ (flip z shared.old.cell p q.old).process }
 {
     let toggle = shared.read_announce(p, z.arguments);
     shared.write_announce(p, z.arguments, turned(toggle));
@@ -70,9 +75,10 @@ pub fn try_round<R>(q: &mut Process<R>)
 }
 
 pub fn link<R>(shared: &mut Shared, q: &mut Process<R>, p: usize)
-    requires { p < length shared.old.linked }
-    ensures cell { shared.new ≡ cell_after shared.old p (links shared.old q.old).change }
-    ensures process { q.new ≡ (links shared.old q.old).process }
+    requires { p < length shared.old.cell.linked }
+    ensures cell { shared.new.cell ≡ cell_after shared.old.cell p (links shared.old.cell q.old).change }
+    ensures form { shared.new.form ≡ shared.old.form }
+    ensures process { q.new ≡ (links shared.old.cell q.old).process }
 {
     q.registers.r = shared.load_linked(p);
     q.registers.i = 0;
@@ -80,10 +86,10 @@ pub fn link<R>(shared: &mut Shared, q: &mut Process<R>, p: usize)
 }
 
 pub fn load<R>(z: Sizes, shared: &Shared, q: &mut Process<R>)
-    requires shaped { IsShaped z shared.now }
+    requires shaped { IsShaped z shared.now.cell }
     requires in_range { IsInRange z q.old }
     requires label { q.old.label ≡ Load }
-    ensures { q.new ≡ (load shared.now q.old).process }
+    ensures { q.new ≡ (load shared.now.cell q.old).process }
 {
     q.registers.acc = shared.read_word(q.registers.r, q.registers.i);
     q.label = Label::Store;
@@ -91,11 +97,13 @@ pub fn load<R>(z: Sizes, shared: &Shared, q: &mut Process<R>)
 
 pub fn store<R>(z: Sizes, shared: &mut Shared, q: &mut Process<R>, p: usize)
     requires sized { IsSized z }
-    requires shaped { IsShaped z shared.old }
+    requires shaped { IsShaped z shared.old.cell }
+    requires no_bits { shared.old.form.parts ≡ 0 }
     requires process { p < z.processes }
     requires in_range { IsInRange z q.old }
     requires label { q.old.label ≡ Store }
-    ensures cell { shared.new ≡ cell_after shared.old p (store z q.old).change }
+    ensures cell { shared.new.cell ≡ cell_after shared.old.cell p (store z q.old).change }
+    ensures form { shared.new.form ≡ shared.old.form }
     ensures process { q.new ≡ (store z q.old).process }
 {
     let i = q.registers.i;
@@ -116,8 +124,8 @@ pub fn block_length(z: Sizes) -> usize
 }
 
 pub fn check<R>(shared: &Shared, q: &mut Process<R>, p: usize, passed: Label)
-    requires { p < length shared.now.linked }
-    ensures { q.new ≡ (check passed shared.now p q.old).process }
+    requires { p < length shared.now.cell.linked }
+    ensures { q.new ≡ (check passed shared.now.cell p q.old).process }
 {
     if shared.validate(p) {
         q.registers.i = 0;
@@ -127,17 +135,40 @@ pub fn check<R>(shared: &Shared, q: &mut Process<R>, p: usize, passed: Label)
     }
 }
 
+/// One step of the body on the variables of p's own block.
+fn step_body<E: Engine>(
+    engine: &E,
+    z: Sizes,
+    shared: &mut Shared,
+    run: &mut E::Run,
+    p: usize,
+) -> EngineTurn
+    requires shaped { IsShaped z shared.old.cell }
+    requires head { shared.old.form.head ≡ block_words z }
+    requires process { p < z.processes }
+    requires variables { z.variables ≡ (E.meaning engine.now).variables }
+    requires ready { E.ready engine.now run.old }
+    ensures cell { shared.new.cell ≡ refill_own shared.old.cell p ((E.meaning engine.now).step run.old (take z.variables (own_block shared.old.cell p))).block }
+    ensures form { shared.new.form ≡ shared.old.form }
+    ensures run { run.new ≡ ((E.meaning engine.now).step run.old (take z.variables (own_block shared.old.cell p))).run }
+    ensures turn { result ≡ ((E.meaning engine.now).step run.old (take z.variables (own_block shared.old.cell p))).turn }
+{
+    let block = shared.own_words(p, z.variables);
+    engine.step(run, block)
+}
+
 pub fn body<E: Engine>(engine: &E, z: Sizes, shared: &mut Shared, q: &mut Process<E::Run>, p: usize)
     requires sized { IsSized z }
-    requires shaped { IsShaped z shared.old }
+    requires shaped { IsShaped z shared.old.cell }
+    requires head { shared.old.form.head ≡ block_words z }
     requires process { p < z.processes }
     requires variables { z.variables ≡ (E.meaning engine.now).variables }
     requires ready { E.ready engine.now q.old.run }
-    ensures cell { shared.new ≡ cell_after shared.old p (body_step (E.meaning engine.now) z shared.old p q.old).change }
-    ensures process { q.new ≡ (body_step (E.meaning engine.now) z shared.old p q.old).process }
+    ensures cell { shared.new.cell ≡ cell_after shared.old.cell p (body_step (E.meaning engine.now) z shared.old.cell p q.old).change }
+    ensures form { shared.new.form ≡ shared.old.form }
+    ensures process { q.new ≡ (body_step (E.meaning engine.now) z shared.old.cell p q.old).process }
 {
-    let block = shared.own_words(p, z.variables);
-    match engine.step(&mut q.run, block) {
+    match step_body(engine, z, shared, &mut q.run, p) {
         EngineTurn::On | EngineTurn::Stuck => {}
         EngineTurn::Returned => {
             q.registers.i = 0;
@@ -172,9 +203,9 @@ pub fn next<E: Engine>(engine: &E, q: &mut Process<E::Run>)
 
 pub fn mine<R>(z: Sizes, shared: &Shared, q: &mut Process<R>, p: usize)
     requires sized { IsSized z }
-    requires shaped { IsShaped z shared.now }
+    requires shaped { IsShaped z shared.now.cell }
     requires process { p < z.processes }
-    ensures { q.new ≡ (mine z shared.now p q.old).process }
+    ensures { q.new ≡ (mine z shared.now.cell p q.old).process }
 {
     if own_toggle(z, shared, p, p) == shared.read_announce(p, z.arguments) {
         q.label = Label::Read;
@@ -187,20 +218,20 @@ pub fn mine<R>(z: Sizes, shared: &Shared, q: &mut Process<R>, p: usize)
 /// The toggle of process q in p's own block.
 pub fn own_toggle(z: Sizes, shared: &Shared, p: usize, q: usize) -> i64
     requires sized { IsSized z }
-    requires shaped { IsShaped z shared.now }
+    requires shaped { IsShaped z shared.now.cell }
     requires process { p < z.processes }
     requires other { q < z.processes }
-    ensures { result ≡ toggle_in z (own_block shared.now p) q }
+    ensures { result ≡ toggle_in z (own_block shared.now.cell p) q }
 {
     shared.read_word(shared.own_block(p), part_of(z, q) + (z.replies + 1))
 }
 
 pub fn seen<R>(z: Sizes, shared: &Shared, q: &mut Process<R>, p: usize)
     requires sized { IsSized z }
-    requires shaped { IsShaped z shared.now }
+    requires shaped { IsShaped z shared.now.cell }
     requires process { p < z.processes }
     requires in_range { q.old.registers.j ≤ z.processes }
-    ensures { q.new ≡ (seen z shared.now p q.old).process }
+    ensures { q.new ≡ (seen z shared.now.cell p q.old).process }
 {
     let j = q.registers.j;
     if j == z.processes {
@@ -215,10 +246,10 @@ pub fn seen<R>(z: Sizes, shared: &Shared, q: &mut Process<R>, p: usize)
 
 pub fn fetch<R>(z: Sizes, shared: &Shared, q: &mut Process<R>)
     requires sized { IsSized z }
-    requires shaped { IsShaped z shared.now }
+    requires shaped { IsShaped z shared.now.cell }
     requires in_range { IsInRange z q.old }
     requires label { q.old.label ≡ Fetch }
-    ensures { q.new ≡ (fetch z shared.now q.old).process }
+    ensures { q.new ≡ (fetch z shared.now.cell q.old).process }
 {
     let i = q.registers.i;
     q.list[i] = shared.read_announce(q.registers.j, i);
@@ -230,11 +261,11 @@ pub fn fetch<R>(z: Sizes, shared: &Shared, q: &mut Process<R>)
 
 pub fn save<R>(z: Sizes, shared: &Shared, q: &mut Process<R>, p: usize)
     requires sized { IsSized z }
-    requires shaped { IsShaped z shared.now }
+    requires shaped { IsShaped z shared.now.cell }
     requires process { p < z.processes }
     requires in_range { IsInRange z q.old }
     requires label { q.old.label ≡ Save }
-    ensures { q.new ≡ (save z shared.now p q.old).process }
+    ensures { q.new ≡ (save z shared.now.cell p q.old).process }
 {
     let i = q.registers.i;
     q.save[i] = shared.read_word(shared.own_block(p), i);
@@ -255,11 +286,13 @@ pub fn enter<E: Engine>(engine: &E, q: &mut Process<E::Run>)
 
 pub fn undo<R>(z: Sizes, shared: &mut Shared, q: &mut Process<R>, p: usize)
     requires sized { IsSized z }
-    requires shaped { IsShaped z shared.old }
+    requires shaped { IsShaped z shared.old.cell }
+    requires no_bits { shared.old.form.parts ≡ 0 }
     requires process { p < z.processes }
     requires in_range { IsInRange z q.old }
     requires label { q.old.label ≡ Undo }
-    ensures cell { shared.new ≡ cell_after shared.old p (undo z q.old).change }
+    ensures cell { shared.new.cell ≡ cell_after shared.old.cell p (undo z q.old).change }
+    ensures form { shared.new.form ≡ shared.old.form }
     ensures process { q.new ≡ (undo z q.old).process }
 {
     let i = q.registers.i;
@@ -275,13 +308,13 @@ pub fn undo<R>(z: Sizes, shared: &mut Shared, q: &mut Process<R>, p: usize)
 /// The word that KEEP writes next: status, results, toggle.
 fn word_kept<E: Engine>(engine: &E, z: Sizes, shared: &Shared, q: &Process<E::Run>, p: usize) -> i64
     requires sized { IsSized z }
-    requires shaped { IsShaped z shared.now }
+    requires shaped { IsShaped z shared.now.cell }
     requires process { p < z.processes }
     requires in_range { IsInRange z q.now }
     requires label { q.now.label ≡ Keep }
     requires replies { z.replies ≡ (E.meaning engine.now).replies }
     requires ready { E.ready engine.now q.now.run }
-    ensures { result ≡ kept_word (E.meaning engine.now) z shared.now p q.now }
+    ensures { result ≡ kept_word (E.meaning engine.now) z shared.now.cell p q.now }
 {
     let i = q.registers.i;
     if i == 0 {
@@ -297,14 +330,16 @@ fn word_kept<E: Engine>(engine: &E, z: Sizes, shared: &Shared, q: &Process<E::Ru
 
 pub fn keep<E: Engine>(engine: &E, z: Sizes, shared: &mut Shared, q: &mut Process<E::Run>, p: usize)
     requires sized { IsSized z }
-    requires shaped { IsShaped z shared.old }
+    requires shaped { IsShaped z shared.old.cell }
+    requires no_bits { shared.old.form.parts ≡ 0 }
     requires process { p < z.processes }
     requires in_range { IsInRange z q.old }
     requires label { q.old.label ≡ Keep }
     requires replies { z.replies ≡ (E.meaning engine.now).replies }
     requires ready { E.ready engine.now q.old.run }
-    ensures cell { shared.new ≡ cell_after shared.old p (keep (E.meaning engine.now) z shared.old p q.old).change }
-    ensures process { q.new ≡ (keep (E.meaning engine.now) z shared.old p q.old).process }
+    ensures cell { shared.new.cell ≡ cell_after shared.old.cell p (keep (E.meaning engine.now) z shared.old.cell p q.old).change }
+    ensures form { shared.new.form ≡ shared.old.form }
+    ensures process { q.new ≡ (keep (E.meaning engine.now) z shared.old.cell p q.old).process }
 {
     let w = word_kept(engine, z, shared, q, p);
     let i = q.registers.i;
@@ -319,10 +354,11 @@ pub fn keep<E: Engine>(engine: &E, z: Sizes, shared: &mut Shared, q: &mut Proces
 }
 
 pub fn commit<R>(shared: &mut Shared, q: &mut Process<R>, p: usize)
-    requires links { p < length shared.old.linked }
-    requires owns { p < length shared.old.own }
-    ensures cell { shared.new ≡ cell_after shared.old p (commit shared.old p q.old).change }
-    ensures process { q.new ≡ (commit shared.old p q.old).process }
+    requires links { p < length shared.old.cell.linked }
+    requires owns { p < length shared.old.cell.own }
+    ensures cell { shared.new.cell ≡ cell_after shared.old.cell p (commit shared.old.cell p q.old).change }
+    ensures form { shared.new.form ≡ shared.old.form }
+    ensures process { q.new ≡ (commit shared.old.cell p q.old).process }
 {
     q.label = if shared.store_conditional(p) {
         Label::Read
@@ -332,7 +368,7 @@ pub fn commit<R>(shared: &mut Shared, q: &mut Process<R>, p: usize)
 }
 
 pub fn read<R>(shared: &Shared, q: &mut Process<R>)
-    ensures { q.new ≡ (read shared.now q.old).process }
+    ensures { q.new ≡ (read shared.now.cell q.old).process }
 {
     q.registers.r = shared.root();
     q.registers.i = 0;
@@ -341,11 +377,11 @@ pub fn read<R>(shared: &Shared, q: &mut Process<R>)
 
 pub fn take_reply<R>(z: Sizes, shared: &Shared, q: &mut Process<R>, p: usize)
     requires sized { IsSized z }
-    requires shaped { IsShaped z shared.now }
+    requires shaped { IsShaped z shared.now.cell }
     requires process { p < z.processes }
     requires in_range { IsInRange z q.old }
     requires label { q.old.label ≡ Take }
-    ensures { q.new ≡ (take_reply z shared.now p q.old).process }
+    ensures { q.new ≡ (take_reply z shared.now.cell p q.old).process }
 {
     let i = q.registers.i;
     q.replies[i] = shared.read_word(q.registers.r, part_of(z, p) + i);
@@ -370,7 +406,9 @@ fn or_past(words: usize, label: Label, past: Label) -> Label
 /// One step of the process on the cell.
 pub fn act<E: Engine>(engine: &E, z: Sizes, shared: &mut Shared, q: &mut Process<E::Run>, p: usize)
     requires sized { IsSized z }
-    requires shaped { IsShaped z shared.old }
+    requires shaped { IsShaped z shared.old.cell }
+    requires no_bits { shared.old.form.parts ≡ 0 }
+    requires head { shared.old.form.head ≡ block_words z }
     requires process { p < z.processes }
     requires in_range { IsInRange z q.old }
     requires variables { z.variables ≡ (E.meaning engine.now).variables }
@@ -378,8 +416,9 @@ pub fn act<E: Engine>(engine: &E, z: Sizes, shared: &mut Shared, q: &mut Process
     requires arguments { z.arguments ≡ (E.meaning engine.now).arguments }
     requires fits { CallsFit (E.fits engine.now) q.old }
     requires ready { E.ready engine.now q.old.run }
-    ensures cell { shared.new ≡ cell_after shared.old p (row q.old.label (E.meaning engine.now) z shared.old p q.old).change }
-    ensures process { q.new ≡ (row q.old.label (E.meaning engine.now) z shared.old p q.old).process }
+    ensures cell { shared.new.cell ≡ cell_after shared.old.cell p (row q.old.label (E.meaning engine.now) z shared.old.cell p q.old).change }
+    ensures form { shared.new.form ≡ shared.old.form }
+    ensures process { q.new ≡ (row q.old.label (E.meaning engine.now) z shared.old.cell p q.old).process }
 {
     match q.label {
         Label::Next => next(engine, q),

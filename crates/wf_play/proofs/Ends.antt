@@ -9,7 +9,7 @@ use Rattle.wf_object.specs.Halted.{is_halted}
 use Rattle.wf_object.specs.View.{Object}
 use Rattle.wf_play.specs.Played.{IsSameObject}
 use Rattle.wf_play.specs.ItemSteps.{EndsWithAnswer, IsAtEnd, IsBeyond, IsItemPlayed, IsItemRun, IsReply, after_steps}
-use Rattle.ob_mean.specs.declared.call.Reply.{Reply}
+use Rattle.ob_interface.specs.declared.call.Reply.{Reply}
 use Rattle.wf_history.specs.declared.event.CallId.{CallId}
 use Rattle.wf_object.specs.View.{answer_in}
 use Rattle.wf_object.specs.declared.records.StepOut.{StepOut}

@@ -3,7 +3,7 @@ use Rattle.std.proofs.Common.{◌≡◌, ℕ, zero, suc, inl, inr, ◌+◌, ◌-
 use Rattle.std.specs.Prelude.{ℤ, Option, Some, None, slice_get}
 use Rattle.std.proofs.lemmas.Bool.{cases_lt}
 use Rattle.std.proofs.lemmas.List.Elements.{All-head, All-tail}
-use Rattle.ob_mean.specs.Object.{ObjectCall}
+use Rattle.ob_interface.specs.Call.{ObjectCall}
 use Rattle.ob_schedule.specs.declared.item.Item.{Item}
 use Rattle.ob_schedule.specs.Schedule.{process_of}
 use Rattle.ob_text.specs.declared.script.ScriptCall.{ScriptCall}

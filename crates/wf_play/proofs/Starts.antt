@@ -1,7 +1,7 @@
 -- Items stand for the same steps from states that look alike, so from all states that begin with one block.
 use Rattle.std.proofs.Common.{◌≡◌, ℕ, zero, suc, ◌-◌, List, take, sym, ◌∙◌, subst, inl, inr}
 use Rattle.std.specs.Prelude.{ℤ}
-use Rattle.ob_mean.specs.Object.{ObjectCall}
+use Rattle.ob_interface.specs.Call.{ObjectCall}
 use Rattle.ob_schedule.specs.declared.item.Item.{Item}
 use Rattle.ob_schedule.specs.declared.item.Item.TheVariants as Items
 use Rattle.ob_schedule.specs.Schedule.{process_of}

@@ -1,6 +1,7 @@
 -- A run of an object by the calls of scripts and the items of a schedule.
 use Rattle.std.specs.Prelude.{◌≡◌, ℕ, ◌<◌, ◌⊎◌, ℤ, List, map}
-use Rattle.ob_mean.specs.Object.{ObjectCall}
+use Rattle.ob_interface.specs.Call.{ObjectCall}
+use Rattle.ob_interface.specs.Processes.{most_processes}
 use Rattle.ob_schedule.specs.declared.item.Item.{Item}
 use Rattle.ob_text.specs.Script.{ScriptCall}
 use Rattle.ob_text.specs.ScriptView.{object_call}
@@ -48,7 +49,7 @@ module _ {Run : Type 0} (m : Meaning Run) (ready : Run → Type 0) (n : ℕ) (op
 
   -- N1: the number of processes is not 1 to 16; Q3; nothing is said where memory wanted
   abbrev pub IsPlayFault : List Item → PlayFault → Type 0
-  IsPlayFault items Faults.Processes = (n ≡ 0) ⊎ (16 < n)
+  IsPlayFault items Faults.Processes = (n ≡ 0) ⊎ (most_processes < n)
   IsPlayFault items (Faults.TooLong number) = IsTooLong items number
   IsPlayFault items Faults.NoMemory = Unit {0}
 

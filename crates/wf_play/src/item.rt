@@ -8,7 +8,7 @@ ghost use Rattle.wf_play.specs.ItemSteps.{IsItemPlayed};
 ghost use Rattle.wf_play.specs.Played.{IsSameObject};
 ghost use Rattle.wf_table.specs.Object.{label_of};
 
-use ob_grammar::NoMemory;
+use ob_interface::NoMemory;
 use ob_schedule::Item;
 use wf_object::{Engine, Label, Machine, StepOut};
 

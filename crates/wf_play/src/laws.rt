@@ -1,7 +1,7 @@
 //! What holds of the items of a schedule, as functions that do nothing: their contracts are the theorems.
 
 ghost use Rattle.std.specs.Prelude.{◌≡◌, ℕ, ℤ, List};
-ghost use Rattle.ob_mean.specs.Object.{ObjectCall};
+ghost use Rattle.ob_interface.specs.Call.{ObjectCall};
 ghost use Rattle.ob_schedule.specs.declared.item.Item.{Item};
 ghost use Rattle.wf_play.specs.ItemSteps.{AreItemSteps, StandsFor};
 ghost use Rattle.wf_play.specs.Played.{IsPlayFault, IsPlayed};

@@ -10,7 +10,7 @@ ghost use Rattle.wf_table.specs.Runs.{run, turns};
 ghost use Rattle.wf_table.specs.Schedule.{steps_of};
 
 use crate::playing::{PlayFault, submit_all};
-use ob_grammar::NoMemory;
+use ob_interface::NoMemory;
 use ob_text::script::ScriptCall;
 use std::alloc::Global;
 use wf_object::{Engine, Machine, Turns};

@@ -10,8 +10,8 @@ ghost use Rattle.wf_table.specs.Runs.{run, submissions};
 ghost use Rattle.wf_table.specs.Start.{sizes_of};
 
 use crate::item::play_item;
-use ob_grammar::NoMemory;
-use ob_mean::call::Call;
+use ob_interface::NoMemory;
+use ob_interface::call::Call;
 use ob_schedule::Item;
 use ob_text::script::ScriptCall;
 use std::alloc::Global;

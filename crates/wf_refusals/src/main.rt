@@ -8,8 +8,8 @@ mod printed;
 mod seen;
 mod trouble;
 
-use ob_check::program::Scalar;
-use ob_mean::call::Call;
+use ob_interface::call::Call;
+use ob_interface::scalar::Scalar;
 use printed::{print_answer, print_machine};
 use seen::Watch;
 use smallvec::SmallVec;

@@ -1,7 +1,7 @@
 //! A machine's history, order, schedule and state as text.
 
-use ob_check::program::Scalar;
-use ob_mean::call::Reply;
+use ob_interface::call::Reply;
+use ob_interface::scalar::Scalar;
 use std::alloc::AllocError;
 use wf_history::{CallId, Event};
 use wf_object::Machine;

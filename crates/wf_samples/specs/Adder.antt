@@ -3,7 +3,7 @@ use Rattle.std.specs.Prelude.{◌≡◌, ℤ, pos, List, [], ◌∷◌, length, 
 use Rattle.std.specs.Int.{int_wrapping_add, w64}
 use Rattle.std.proofs.Common.{int_eq}
 use Rattle.ll_cell.specs.Cell.{word_at}
-use Rattle.ob_mean.specs.Object.{ObjectCall, Reply, Answers, Trapped}
+use Rattle.ob_interface.specs.Call.{ObjectCall, Reply, Answers, Trapped}
 use Rattle.wf_table.specs.declared.engine_turn.EngineTurn.TheVariants.{Returned}
 use Rattle.wf_table.specs.Meaning.{Meaning}
 use Rattle.wf_samples.specs.Words.{argument_of, scalar_in}

@@ -2,8 +2,8 @@
 use Rattle.std.proofs.Common.{◌≡◌, ℕ, zero, suc, ◌≤◌, Bool, true, false, cond, List, [], ◌∷◌, length, refl, sym, ap, ◌∙◌, arith, length-set, int_eq}
 use Rattle.std.specs.Prelude.{ℤ, pos}
 use Rattle.ll_cell.specs.Cell.{word_at}
-use Rattle.ob_check.specs.declared.program.Scalar.{Scalar}
-use Rattle.ob_mean.specs.Object.{ObjectCall, Reply, Answers, Trapped}
+use Rattle.ob_interface.specs.declared.scalar.Scalar.{Scalar}
+use Rattle.ob_interface.specs.Call.{ObjectCall, Reply, Answers, Trapped}
 use Rattle.wf_table.specs.declared.engine_turn.EngineTurn.TheVariants as Turn
 use Rattle.wf_table.specs.Meaning.{body, values_in}
 use Rattle.wf_table.specs.Law.{IsLawful, HasReturned, Reaches}

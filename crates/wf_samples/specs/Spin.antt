@@ -3,8 +3,8 @@
 use Rattle.std.specs.Prelude.{◌≡◌, ℕ, Bool, true, false, ℤ, pos, List, [], length, replicate, Option, Some, None, int_lt, if◌then◌else◌}
 use Rattle.std.proofs.Common.{int_eq}
 use Rattle.ll_cell.specs.Cell.{word_at}
-use Rattle.ob_mean.specs.Object.{ObjectCall, Reply, Answers}
-use Rattle.ob_mean.specs.Object as Object
+use Rattle.ob_interface.specs.Call.{ObjectCall, Reply, Answers}
+use Rattle.ob_interface.specs.Call as Object
 use Rattle.wf_table.specs.declared.engine_turn.EngineTurn.{EngineTurn}
 use Rattle.wf_table.specs.declared.engine_turn.EngineTurn.TheVariants as Turn
 use Rattle.wf_table.specs.Meaning.{Meaning}

@@ -4,8 +4,8 @@ use Rattle.std.specs.Prelude.{ℤ, pos, Some, int_lt}
 use Rattle.std.proofs.lemmas.List.{get_or-replicate, length-replicate}
 use Rattle.std.proofs.lemmas.Option.{same_Some}
 use Rattle.ll_cell.specs.Cell.{word_at}
-use Rattle.ob_check.specs.declared.program.Scalar.{Scalar}
-use Rattle.ob_mean.specs.Object.{ObjectCall, Reply, Answers, Trapped}
+use Rattle.ob_interface.specs.declared.scalar.Scalar.{Scalar}
+use Rattle.ob_interface.specs.Call.{ObjectCall, Reply, Answers, Trapped}
 use Rattle.wf_table.specs.declared.engine_turn.EngineTurn.{EngineTurn}
 use Rattle.wf_table.specs.declared.engine_turn.EngineTurn.TheVariants as Turn
 use Rattle.wf_table.specs.Meaning.{Turned, after_turn, steps, body, values_in}

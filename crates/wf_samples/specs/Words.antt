@@ -1,7 +1,7 @@
 -- Scalars of calls and replies as words.
 use Rattle.std.specs.Prelude.{◌&&◌, ℤ, pos, neg_ℤ, List, [], ◌∷◌, int_le, if◌then◌else◌}
-use Rattle.ob_check.specs.declared.program.Scalar.{Scalar}
-use Rattle.ob_check.specs.declared.program.Scalar.TheVariants as Scalars
+use Rattle.ob_interface.specs.declared.scalar.Scalar.{Scalar}
+use Rattle.ob_interface.specs.declared.scalar.Scalar.TheVariants as Scalars
 
 abbrev pub argument_in : Scalar → ℤ
 argument_in (Scalars.Int w) = w

@@ -1,8 +1,8 @@
 //! One word, to which each call adds its argument.
 
 use crate::words::{argument, scalar};
-use ob_grammar::NoMemory;
-use ob_mean::call::{Call, Reply};
+use ob_interface::NoMemory;
+use ob_interface::call::{Call, Reply};
 use smallvec::SmallVec;
 use std::alloc::Global;
 use wf_object::{Engine, EngineTurn};

@@ -1,11 +1,11 @@
 //! Scalars of calls and replies as words.
 
 ghost use Rattle.std.specs.Prelude.{◌≡◌};
-ghost use Rattle.ob_mean.specs.View.{call_of};
+ghost use Rattle.ob_interface.specs.View.{call_of};
 ghost use Rattle.wf_samples.specs.Words.{argument_of, scalar_in};
 
-use ob_check::program::Scalar;
-use ob_mean::call::Call;
+use ob_interface::call::Call;
+use ob_interface::scalar::Scalar;
 
 /// The first argument of a call; 0 where it has none, or no INTEGER.
 pub fn argument(call: &Call) -> i64

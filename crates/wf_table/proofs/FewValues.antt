@@ -2,7 +2,7 @@
 use Rattle.std.proofs.Common.{◌≡◌, ℕ, ◌+◌, ◌-◌, ◌≤◌, Bool, true, false, List, length, cond, refl, ap, arith}
 use Rattle.std.specs.Prelude.{ℤ, Option, Some, None, slice_get, nat_lt}
 use Rattle.ll_cell.specs.Cell.{Cell, is_linked, block_of}
-use Rattle.ob_mean.specs.Object.{ObjectCall, Reply}
+use Rattle.ob_interface.specs.Call.{ObjectCall, Reply}
 use Rattle.wf_history.specs.History.{Event, Begin, Applied}
 use Rattle.wf_table.specs.declared.process.Label.{Label}
 use Rattle.wf_table.specs.declared.process.Label.TheVariants.{Next, Commit, Give}

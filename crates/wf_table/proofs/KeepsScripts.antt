@@ -5,7 +5,7 @@ use Rattle.std.proofs.lemmas.Bool.{eq-eqb}
 use Rattle.std.proofs.lemmas.Bool.Decides.{nat_tests}
 use Rattle.std.proofs.lemmas.List.{append-nil, take_more}
 use Rattle.ll_cell.specs.Cell.{Cell, is_linked, block_of}
-use Rattle.ob_mean.specs.Object.{ObjectCall, Reply}
+use Rattle.ob_interface.specs.Call.{ObjectCall, Reply}
 use Rattle.wf_history.specs.History.{Event, Begin, Applied, End, own_call, own_calls}
 use Rattle.wf_history.proofs.Turns.{own_calls-push}
 use Rattle.wf_table.specs.declared.process.Label.{Label}

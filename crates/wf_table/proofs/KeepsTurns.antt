@@ -5,7 +5,7 @@ use Rattle.std.proofs.lemmas.Bool.{eq-eqb}
 use Rattle.std.proofs.lemmas.Bool.Decides.{nat_tests}
 use Rattle.std.proofs.lemmas.List.{append-nil}
 use Rattle.ll_cell.specs.Cell.{Cell, is_linked, block_of}
-use Rattle.ob_mean.specs.Object.{ObjectCall, Reply}
+use Rattle.ob_interface.specs.Call.{ObjectCall, Reply}
 use Rattle.wf_history.specs.History.{Event, Begin, Applied, End, OwnEvent, Begins, Ends, in_turn, own_event, own_events, IsHistory}
 use Rattle.wf_history.proofs.Turns.{own_events-push, one_begins, one_ends, history-applied, history-begins, history-ends}
 use Rattle.wf_table.specs.declared.process.Label.{Label}

@@ -2,7 +2,7 @@
 use Rattle.std.proofs.Common.{◌≡◌, ℕ, ◌<◌, List, [], ◌∷◌, ◌++◌, length, refl, sym, ap, ◌∙◌, arith, subst, inl, inr, append_assoc}
 use Rattle.std.specs.Prelude.{ℤ, Option, Some, slice_get}
 use Rattle.std.proofs.lemmas.Option.{slice_get_cases}
-use Rattle.ob_mean.specs.Object.{ObjectCall}
+use Rattle.ob_interface.specs.Call.{ObjectCall}
 use Rattle.wf_table.specs.declared.process.Sizes.{Sizes}
 use Rattle.wf_table.specs.declared.schedule.Turns.{Turns}
 use Rattle.wf_table.specs.Meaning.{Meaning}

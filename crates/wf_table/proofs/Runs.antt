@@ -1,7 +1,7 @@
 -- What every reached object has: over every list of acts.
 use Rattle.std.proofs.Common.{◌≡◌, ℕ, List, [], ◌∷◌, refl, subst}
 use Rattle.std.specs.Prelude.{ℤ, Option, Some, None, slice_get}
-use Rattle.ob_mean.specs.Object.{ObjectCall}
+use Rattle.ob_interface.specs.Call.{ObjectCall}
 use Rattle.wf_table.specs.declared.process.Sizes.{Sizes}
 use Rattle.wf_table.specs.Meaning.{Meaning}
 use Rattle.wf_table.specs.Law.{Effects, IsLawful}

@@ -5,7 +5,7 @@ use Rattle.std.proofs.lemmas.Bool.{cases_eq}
 use Rattle.std.proofs.lemmas.List.{length-set, length_push, take-append-le}
 use Rattle.std.proofs.lemmas.Grind.{common_steps}
 use Rattle.ll_cell.specs.Cell.{Cell, word_at}
-use Rattle.ob_mean.specs.Object.{ObjectCall, Reply}
+use Rattle.ob_interface.specs.Call.{ObjectCall, Reply}
 use Rattle.wf_table.specs.declared.process.Label.{Label}
 use Rattle.wf_table.specs.declared.process.Label.TheVariants.{Next, Post}
 use Rattle.wf_table.specs.declared.process.Sizes.{Sizes}

@@ -1,6 +1,6 @@
 -- What one call makes of a block when it is made alone, as words: the block after, and status and results.
 use Rattle.std.specs.Prelude.{◌≡◌, ℕ, ℤ, List}
-use Rattle.ob_mean.specs.Object.{ObjectCall}
+use Rattle.ob_interface.specs.Call.{ObjectCall}
 use Rattle.wf_table.specs.declared.engine_turn.EngineTurn.TheVariants.{Returned, Trapped}
 use Rattle.wf_table.specs.Meaning.{Meaning, body, kept, kept_trap}
 

@@ -1,8 +1,8 @@
 -- What an engine does to one block, apart from any wrapper.
 use Rattle.std.specs.Prelude.{ℕ, zero, suc, Bool, true, false, ℤ, pos, List, [], ◌∷◌, map, replicate}
 use Rattle.std.specs.List.{range_with_len}
-use Rattle.ob_check.specs.declared.program.Scalar.{Scalar}
-use Rattle.ob_mean.specs.Object.{ObjectCall, Reply, Answers, Trapped as TrapReply}
+use Rattle.ob_interface.specs.declared.scalar.Scalar.{Scalar}
+use Rattle.ob_interface.specs.Call.{ObjectCall, Reply, Answers, Trapped as TrapReply}
 use Rattle.wf_table.specs.declared.engine_turn.EngineTurn.{EngineTurn}
 use Rattle.wf_table.specs.declared.engine_turn.EngineTurn.TheVariants.{On, Returned, Trapped, Stuck}
 

@@ -3,8 +3,8 @@ use Rattle.std.specs.Prelude.{ℕ, ◌+◌, ℤ, List, [], ◌∷◌, ◌++◌, 
 use Rattle.std.proofs.Common.{int_eq}
 use Rattle.std.specs.List.{range_with_len, filter}
 use Rattle.ll_cell.specs.Cell.{Cell, is_linked, block_of, own_of}
-use Rattle.ob_check.specs.declared.program.Scalar.{Scalar}
-use Rattle.ob_mean.specs.Object.{ObjectCall, Reply}
+use Rattle.ob_interface.specs.declared.scalar.Scalar.{Scalar}
+use Rattle.ob_interface.specs.Call.{ObjectCall, Reply}
 use Rattle.wf_history.specs.declared.event.CallId.{CallId}
 use Rattle.wf_history.specs.History.{Event, Begin, Applied, End}
 use Rattle.wf_table.specs.declared.process.Label.{Label}

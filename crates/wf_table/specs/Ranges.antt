@@ -1,5 +1,6 @@
 -- Ranges: what keeps every index of a step in range, and at most two rounds.
 use Rattle.std.specs.Prelude.{◌≡◌, ℕ, ◌+◌, ◌^◌, ◌<◌, ◌≤◌, length, true, false}
+use Rattle.ob_interface.specs.Processes.{most_processes}
 use Rattle.ll_cell.specs.Cell.{Cell, own_of, block_of, announcement_of}
 use Rattle.wf_table.specs.declared.process.Label.{Label}
 use Rattle.wf_table.specs.declared.process.Label.TheVariants.{Next, Post, Flip, Try, Link, Load, Store, Check1, Mine, Seen, Fetch, Check2, Save, Enter, Body, Undo, Keep, Commit, Read, Take, Give}
@@ -9,7 +10,7 @@ use Rattle.wf_table.specs.Labels.{at_next, in_try}
 use Rattle.wf_table.specs.Table.{Process, block_words}
 
 pub record IsSized (z : Sizes) : Type 0 where
-  pub processes : z.processes ≤ 16
+  pub processes : z.processes ≤ most_processes
   pub some : 0 < z.processes
   pub argument : 0 < z.arguments
   pub block : block_words z < 2 ^ 60

@@ -1,6 +1,7 @@
 -- Runs of an object: steps and submissions, in any order.
 use Rattle.std.specs.Prelude.{◌≡◌, ℕ, ◌<◌, ◌≤◌, ℤ, List, [], ◌∷◌, ◌++◌}
-use Rattle.ob_mean.specs.Object.{ObjectCall}
+use Rattle.ob_interface.specs.Call.{ObjectCall}
+use Rattle.ob_interface.specs.Processes.{most_processes}
 use Rattle.wf_table.specs.declared.process.Sizes.{Sizes}
 use Rattle.wf_table.specs.declared.schedule.Turns.{Turns}
 use Rattle.wf_table.specs.Meaning.{Meaning}
@@ -45,7 +46,7 @@ performed scripts schedule = submissions scripts ++ turns (steps_of schedule)
 -- with it, since a run that was not started may hold anything
 pub record IsRun {Run : Type 0} (m : Meaning Run) (lawful : List ℤ → Type 0) (fits : ObjectCall → Type 0) (ready : Run → Type 0) (n : ℕ) (opening : List ℤ) (acts : List Act) (s : State Run) : Type 0 where
   pub some : 0 < n
-  pub few : n ≤ 16
+  pub few : n ≤ most_processes
   pub opens : lawful opening
   pub fit : ActsFit fits acts
   pub start : State Run

@@ -1,7 +1,7 @@
 -- What every reached object keeps.
 use Rattle.std.specs.Prelude.{◌≡◌, ℤ, List, length}
 use Rattle.ll_cell.specs.Cell.{IsNumbered}
-use Rattle.ob_mean.specs.Object.{ObjectCall}
+use Rattle.ob_interface.specs.Call.{ObjectCall}
 use Rattle.wf_history.specs.History.{IsHistory}
 use Rattle.wf_table.specs.declared.process.Sizes.{Sizes}
 use Rattle.wf_table.specs.Meaning.{Meaning}

@@ -3,7 +3,7 @@
 use Rattle.std.specs.Prelude.{ℕ, ◌+◌, ◌-◌, ◌*◌, ℤ, pos, List, [], length, take, slice_index_or, slice_set, if◌then◌else◌, nat_eq, nat_lt}
 use Rattle.std.proofs.Common.{int_eq}
 use Rattle.ll_cell.specs.Cell.{Cell, own_of, is_linked, block_of, announcement_of, word_at, link, exchange, write_own, refill_own, announce_word}
-use Rattle.ob_mean.specs.Object.{ObjectCall}
+use Rattle.ob_interface.specs.Call.{ObjectCall}
 use Rattle.wf_table.specs.declared.process.Label.{Label}
 use Rattle.wf_table.specs.declared.process.Label.TheVariants.{Next, Post, Flip, Try, Link, Load, Store, Check1, Mine, Seen, Fetch, Check2, Save, Enter, Body, Undo, Keep, Commit, Read, Take, Give}
 use Rattle.wf_table.specs.declared.process.Registers.{Registers}

@@ -6,7 +6,7 @@ use Rattle.std.proofs.Math.Logic.{∥∥₁_elim, ∥∥₁_prop}
 use Rattle.std.proofs.lemmas.Bool.{false≢true}
 use Rattle.std.proofs.lemmas.List.{length-replicate}
 use Rattle.ll_cell.specs.Cell.{is_linked, block_of}
-use Rattle.ob_mean.specs.Object.{ObjectCall, Reply}
+use Rattle.ob_interface.specs.Call.{ObjectCall, Reply}
 use Rattle.wf_history.specs.declared.event.CallId.{CallId}
 use Rattle.wf_history.specs.Legal.{OneAtATime, none, more, HasBegun}
 use Rattle.wf_table.specs.declared.process.Label.{Label}

@@ -1,6 +1,7 @@
 mod Halted
 mod Present
 mod Scripts
-mod Ends
+pub mod Ends
+mod PresentBodies
 mod Submitted
 mod FirstOnes

@@ -6,7 +6,7 @@ use Rattle.std.proofs.lemmas.Bool.Decides.{nat_tests}
 use Rattle.std.proofs.lemmas.List.{length-take-le}
 use Rattle.std.proofs.lemmas.Option.{slice_get_within}
 use Rattle.ll_cell.specs.Cell.{Cell, IsNumbered, own_of, is_linked, block_of, refilled, exchanged}
-use Rattle.ob_mean.specs.Object.{ObjectCall}
+use Rattle.ob_interface.specs.Call.{ObjectCall}
 use Rattle.wf_table.specs.declared.engine_turn.EngineTurn.{EngineTurn}
 use Rattle.wf_table.specs.declared.engine_turn.EngineTurn.TheVariants.{On, Returned, Trapped, Stuck}
 use Rattle.wf_table.specs.declared.process.Label.{Label}
@@ -57,7 +57,7 @@ module _ {Run : Type 0} (m : Meaning Run) (z : Sizes) where
   AllRan c counts p q = at_body q.label ≡ true → Ran (own_block c p) q (counts_of counts p).body_steps
 
   -- its next step is the engine's
-  next_step : (own : List ℤ) (q : Process Run) (counted : List ℕ) → Ran own q counted → steps m (get_or counted 0 0 + 1) (m.start q.list) q.save ≡ m.step q.run (take z.variables own)
+  pub next_step : (own : List ℤ) (q : Process Run) (counted : List ℕ) → Ran own q counted → steps m (get_or counted 0 0 + 1) (m.start q.list) q.save ≡ m.step q.run (take z.variables own)
   next_step own q counted h =
       let k = get_or counted 0 0 in
       let one : k + 1 ≡ suc k = omega arith in

@@ -1,7 +1,7 @@
 -- Calls of an order that are the first ones of a process's script.
 use Rattle.std.specs.Prelude.{◌≡◌, ℕ, ◌+◌, ◌<◌, ◌≤◌, List, [], ◌∷◌, length, map, slice_get, Some, if◌then◌else◌, nat_eq}
 use Rattle.std.specs.List.{filter, range_with_len}
-use Rattle.ob_mean.specs.Object.{ObjectCall, Reply}
+use Rattle.ob_interface.specs.Call.{ObjectCall, Reply}
 use Rattle.wf_history.specs.declared.event.CallId.{CallId}
 use Rattle.wf_history.specs.History.{Event, own_calls}
 use Rattle.wf_history.specs.Legal.{HasBegun}

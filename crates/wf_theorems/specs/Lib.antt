@@ -1,1 +1,2 @@
 pub mod FirstCalls
+pub mod PresentBodies

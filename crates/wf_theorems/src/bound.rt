@@ -1,7 +1,7 @@
 //! What a call takes of its process in every run.
 
 ghost use Rattle.std.specs.Prelude.{◌≡◌, ℕ, ◌+◌, ◌*◌, ◌<◌, ◌≤◌, ℤ, List, ◌++◌, false};
-ghost use Rattle.ob_mean.specs.Object.{ObjectCall};
+ghost use Rattle.ob_interface.specs.Call.{ObjectCall};
 ghost use Rattle.ll_cell.specs.Cell.{Cell};
 ghost use Rattle.wf_history.specs.declared.event.CallId.{CallId};
 ghost use Rattle.wf_table.specs.declared.engine_turn.EngineTurn.TheVariants as Turn;
@@ -14,7 +14,7 @@ ghost use Rattle.wf_table.specs.Ranges.{IsSized, IsInRange};
 ghost use Rattle.wf_table.specs.Runs.{Act, IsRun, run};
 ghost use Rattle.wf_table.specs.Start.{sizes_of};
 ghost use Rattle.wf_table.specs.Table.{Process, row};
-ghost use Rattle.wf_bound.specs.Bound.{AllWithinBound, IsWithinBound, sharp, bound};
+ghost use Rattle.wf_bound.specs.Bound.{AllInRounds, AllWithinBound, IsWithinBound, sharp, bound};
 ghost use Rattle.wf_bound.specs.Calls.{BeginsOne, own_spent};
 ghost use Rattle.wf_bound.specs.Counted.{counted_from, counted_run, counts_of};
 ghost use Rattle.wf_bound.specs.Ends.{AllEndWithin, IsCallOf, IsReachedWithout};
@@ -25,10 +25,11 @@ use crate::runs::every_run;
 use wf_object::engine::Engine;
 
 /// In every run, whatever the schedule and the submitted calls, the open or last call of each process is
-/// in at most two rounds, has begun at most 2n bodies and has taken no more own steps outside them than is
-/// promised. What it has taken in bodies is the sum over the bodies that it has begun.
+/// in at most two rounds, counted by its LINKs and as its register tells, has begun at most 2n bodies and has
+/// taken no more own steps outside them than is promised. What it has taken in bodies is the sum over the bodies that it has begun.
 pub fn every_bound<E: Engine>()
     ensures bound { (e : E) (n : ℕ) (opening : List ℤ) (acts : List Act) (s : State E.Run) → (r : IsRun (E.meaning e) (E.lawful e) (E.fits e) (E.ready e) n opening acts s) → AllWithinBound (sizes_of (E.meaning e) n) (counted_run (E.meaning e) (sizes_of (E.meaning e) n) acts (counted_from r.start)) }
+    ensures rounds { (e : E) (n : ℕ) (opening : List ℤ) (acts : List Act) (s : State E.Run) → (r : IsRun (E.meaning e) (E.lawful e) (E.fits e) (E.ready e) n opening acts s) → AllInRounds (counted_run (E.meaning e) (sizes_of (E.meaning e) n) acts (counted_from r.start)) }
     ensures sums { (e : E) (n : ℕ) (opening : List ℤ) (acts : List Act) (s : State E.Run) → (r : IsRun (E.meaning e) (E.lawful e) (E.fits e) (E.ready e) n opening acts s) → AllSumBodies (counted_run (E.meaning e) (sizes_of (E.meaning e) n) acts (counted_from r.start)) }
     ensures run { (e : E) (z : Sizes) (start : State E.Run) (acts : List Act) → (counted_run (E.meaning e) z acts (counted_from start)).state ≡ run (E.meaning e) z acts start }
     ensures sharp { (z : Sizes) → sharp z + 10 * z.processes + 22 ≡ bound z }

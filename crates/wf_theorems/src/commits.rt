@@ -2,7 +2,7 @@
 
 ghost use Rattle.std.specs.Prelude.{◌≡◌, ℕ, ◌<◌, ◌≤◌, ℤ, true, false, List, ◌∷◌, ◌++◌, drop, slice_get, slice_index, Some, Contains};
 ghost use Rattle.ll_cell.specs.Cell.{is_linked};
-ghost use Rattle.ob_mean.specs.Object.{Reply};
+ghost use Rattle.ob_interface.specs.Call.{Reply};
 ghost use Rattle.wf_history.specs.declared.event.CallId.{CallId};
 ghost use Rattle.wf_history.specs.History.{End, Before};
 ghost use Rattle.wf_history.specs.Legal.{NoRepeats};

@@ -1,8 +1,8 @@
 //! What holds of the bodies of every engine, and of every run.
 
 ghost use Rattle.std.specs.Prelude.{◌≡◌, ℕ, ◌<◌, ◌≤◌, ℤ, List, Some, length, slice_get};
-ghost use Rattle.ob_check.specs.declared.program.Scalar.{Scalar};
-ghost use Rattle.ob_mean.specs.Object.{ObjectCall, Reply, Answers, Trapped};
+ghost use Rattle.ob_interface.specs.declared.scalar.Scalar.{Scalar};
+ghost use Rattle.ob_interface.specs.Call.{ObjectCall, Reply, Answers, Trapped};
 ghost use Rattle.ll_cell.specs.Cell.{block_of};
 ghost use Rattle.wf_history.specs.declared.event.CallId.{CallId};
 ghost use Rattle.wf_history.specs.History.{Event};
@@ -19,6 +19,7 @@ ghost use Rattle.wf_table.specs.Schedule.{counted};
 ghost use Rattle.wf_table.specs.Start.{sizes_of};
 ghost use Rattle.wf_table.specs.Runs.{Act, IsRun, performed};
 ghost use Rattle.wf_table.specs.Sound.{IsSound};
+ghost use Rattle.wf_theorems.specs.PresentBodies.{IsNeverStuck};
 
 use wf_object::engine::Engine;
 
@@ -44,7 +45,12 @@ pub fn every_copy<E: Engine>()
     ensures { (e : E) (z : Sizes) (opening : List ℤ) (s : State E.Run) (p : ℕ) → IsSound (E.meaning e) (E.lawful e) (E.fits e) (E.ready e) z opening s → label_of s p ≡ At.Check1 → label_of (step_of (E.meaning e) z s p) p ≡ At.Mine → own_block s.cell p ≡ block_of s.cell s.cell.root }
 {}
 
-/// A body that is stuck changes neither the cell nor a process.
+/// In every run the body at which a process stands goes on, returns or traps: its next step is never stuck.
+pub fn every_present_body<E: Engine>()
+    ensures { (e : E) (n : ℕ) (opening : List ℤ) (acts : List Act) (s : State E.Run) → IsRun (E.meaning e) (E.lawful e) (E.fits e) (E.ready e) n opening acts s → IsNeverStuck (E.meaning e) (sizes_of (E.meaning e) n) s }
+{}
+
+/// A body that is stuck, as in no run, changes neither the cell nor a process.
 pub fn every_stuck_body<E: Engine>()
     ensures { (e : E) (z : Sizes) (opening : List ℤ) (s : State E.Run) (p : ℕ) (q : Process E.Run) → IsSound (E.meaning e) (E.lawful e) (E.fits e) (E.ready e) z opening s → slice_get s.processes p ≡ Some q → q.label ≡ At.Body → (body_turn (E.meaning e) z s.cell p q).turn ≡ Turn.Stuck → ((stepped (E.meaning e) z s p q).cell ≡ s.cell) × ((stepped (E.meaning e) z s p q).processes ≡ s.processes) }
 {}

@@ -2,9 +2,9 @@
 
 ghost use Rattle.std.specs.Prelude.{◌≡◌, ◌<◌, IfOk};
 
-use ob_check::program::Scalar;
-use ob_grammar::NoMemory;
-use ob_mean::call::Call;
+use ob_interface::NoMemory;
+use ob_interface::call::Call;
+use ob_interface::scalar::Scalar;
 use smallvec::SmallVec;
 use std::alloc::Global;
 use std::test::Fail;

@@ -137,7 +137,9 @@ fn outside_statement(statement: &Stmt) -> Option<usize>
             }
         }
         Stmt::Call { procedure, .. } => Some(procedure.place),
-        Stmt::If { place, .. } | Stmt::While { place, .. } => Some(*place),
+        Stmt::If { place, .. } | Stmt::While { place, .. } | Stmt::Repeat { place, .. } => {
+            Some(*place)
+        }
     }
 }
 

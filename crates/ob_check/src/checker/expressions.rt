@@ -13,8 +13,9 @@ use super::CheckFault;
 use super::compiled_part::first_place;
 use super::names::variable_named;
 use super::scopes::Scopes;
-use crate::program::{Arithmetic, Expression, Operation, Scalar};
+use crate::program::{Arithmetic, Expression, Operation};
 use ob_grammar::tree::{Expr, Operand, Operator, Sign};
+use ob_interface::scalar::Scalar;
 use std::alloc::{AllocError, Global};
 
 /// The checked expression of INTEGER, which is the only type.

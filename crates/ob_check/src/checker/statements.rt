@@ -54,7 +54,7 @@ fn checked_statements(
             Stmt::Call { procedure, .. } => {
                 return Err(CheckFault::NotSupported(procedure.place));
             }
-            Stmt::If { place, .. } | Stmt::While { place, .. } => {
+            Stmt::If { place, .. } | Stmt::While { place, .. } | Stmt::Repeat { place, .. } => {
                 return Err(CheckFault::NotSupported(*place));
             }
         }

@@ -8,7 +8,8 @@ ghost use Rattle.ob_mean.specs.Running.{evaluated_in, store_of};
 
 use crate::store::Store;
 use crate::store::left::scalar_of;
-use ob_check::program::{Arithmetic, Expression, Scalar};
+use ob_check::program::{Arithmetic, Expression};
+use ob_interface::scalar::Scalar;
 
 /// The number of a trap.
 #[derive(Clone, Copy)]

@@ -11,7 +11,8 @@ ghost use Rattle.ob_mean.specs.View.{value_of, state_of};
 use crate::state::State;
 use crate::store::{Binding, Held, Place, Store, ZERO};
 use crate::value::Value;
-use ob_check::program::{DataType, Parameter, Scalar, Variable};
+use ob_check::program::{DataType, Parameter, Variable};
+use ob_interface::scalar::Scalar;
 use std::alloc::{AllocError, Global};
 
 /// Where the results of a call from outside stand in its store.

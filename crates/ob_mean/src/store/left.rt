@@ -11,7 +11,7 @@ use crate::state::{NamedValue, State};
 use crate::store::begun::RESULTS;
 use crate::store::{Store, value_held};
 use crate::value::Value;
-use ob_check::program::Scalar;
+use ob_interface::scalar::Scalar;
 use smallvec::SmallVec;
 use std::alloc::{AllocError, Global};
 

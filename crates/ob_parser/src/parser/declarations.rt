@@ -3,13 +3,14 @@
 ghost use Rattle.std.specs.Prelude.{◌<◌, map, option_map, OnOk};
 ghost use Rattle.ob_grammar.specs.View.{const_decl_of, type_decl_of, var_decl_of, constants_of, types_of, variables_of, section_of, procedures_in, declarations_of, module_of, name_of, expr_of, type_of};
 ghost use Rattle.ob_parser.specs.Forms as forms;
-ghost use Rattle.ob_parser.specs.Answers.{state, Answers, AnswersPart, between, heading_in, block_in, procedure_of};
+ghost use Rattle.ob_parser.specs.Answers.{Answers, AnswersModule, AnswersPart, between, heading_in, block_in, procedure_of};
 
 use crate::parser::{ParseFault, Parser};
 use ob_grammar::tree::{
     ConstDecl, Constants, DEEPEST_NESTING, Declarations, Expr, ModuleTree, Name, Procedure,
     Section, Stmt, TypeDecl, TypeExpr, Types, VarDecl, Variables,
 };
+use ob_parser_source::TokenSource;
 use ob_scan::Kind;
 
 /// The heading of a procedure, with the place of PROCEDURE.
@@ -29,11 +30,11 @@ struct Block {
     end_name: Name,
 }
 
-impl<'a> Parser<'a> {
+impl<S: TokenSource> Parser<S> {
     /// "=" expression ";"
     fn constant_value(&mut self, depth: usize) -> Result<Expr, ParseFault>
-        ensures answers { AnswersPart (λ e p. between (expr_of e) p) (forms.constant_value depth) (state self.old) result (state self.new) }
-        ensures moved { OnOk result (self.old.position < self.new.position) }
+        ensures answers { AnswersPart (λ e p. between (expr_of e) p) (forms.constant_value depth) (S.state self.old.source) result (S.state self.new.source) }
+        ensures moved { OnOk result ((S.state self.new.source).left < (S.state self.old.source).left) }
     {
         self.expect(Kind::Equal)?;
         let value = self.expression(depth)?;
@@ -43,8 +44,8 @@ impl<'a> Parser<'a> {
 
     /// A token of this kind, and then type ";"
     fn declared_type(&mut self, kind: Kind, depth: usize) -> Result<TypeExpr, ParseFault>
-        ensures answers { AnswersPart (λ t p. between (type_of t) p) (forms.declared_type kind depth) (state self.old) result (state self.new) }
-        ensures moved { OnOk result (self.old.position < self.new.position) }
+        ensures answers { AnswersPart (λ t p. between (type_of t) p) (forms.declared_type kind depth) (S.state self.old.source) result (S.state self.new.source) }
+        ensures moved { OnOk result ((S.state self.new.source).left < (S.state self.old.source).left) }
     {
         self.expect(kind)?;
         let of_type = self.type_expr(depth)?;
@@ -54,8 +55,8 @@ impl<'a> Parser<'a> {
 
     /// ident "=" expression ";"
     fn const_declaration(&mut self, depth: usize) -> Result<ConstDecl, ParseFault>
-        ensures answers { Answers const_decl_of (forms.const_declaration depth) (state self.old) result (state self.new) }
-        ensures moved { OnOk result (self.old.position < self.new.position) }
+        ensures answers { Answers const_decl_of (forms.const_declaration depth) (S.state self.old.source) result (S.state self.new.source) }
+        ensures moved { OnOk result ((S.state self.new.source).left < (S.state self.old.source).left) }
     {
         let name = self.name()?;
         let value = self.constant_value(depth)?;
@@ -64,7 +65,7 @@ impl<'a> Parser<'a> {
 
     /// {ident "=" expression ";"}
     fn const_declarations(&mut self, depth: usize) -> Result<Vec<ConstDecl>, ParseFault>
-        ensures { Answers (λ xs. map const_decl_of xs.items) (forms.const_declarations depth) (state self.old) result (state self.new) }
+        ensures { Answers (λ xs. map const_decl_of xs.items) (forms.const_declarations depth) (S.state self.old.source) result (S.state self.new.source) }
     {
         let mut all = Vec::new(self.alloc);
         while self.at(Kind::Ident) {
@@ -76,7 +77,7 @@ impl<'a> Parser<'a> {
 
     /// ["CONST" {ident "=" expression ";"}]
     fn constants(&mut self, depth: usize) -> Result<Option<Constants>, ParseFault>
-        ensures { Answers (λ x. option_map constants_of x) (forms.constants depth) (state self.old) result (state self.new) }
+        ensures { Answers (λ x. option_map constants_of x) (forms.constants depth) (S.state self.old.source) result (S.state self.new.source) }
     {
         if !self.at(Kind::Const) {
             return Ok(None);
@@ -88,8 +89,8 @@ impl<'a> Parser<'a> {
 
     /// ident "=" type ";"
     fn type_declaration(&mut self, depth: usize) -> Result<TypeDecl, ParseFault>
-        ensures answers { Answers type_decl_of (forms.type_declaration depth) (state self.old) result (state self.new) }
-        ensures moved { OnOk result (self.old.position < self.new.position) }
+        ensures answers { Answers type_decl_of (forms.type_declaration depth) (S.state self.old.source) result (S.state self.new.source) }
+        ensures moved { OnOk result ((S.state self.new.source).left < (S.state self.old.source).left) }
     {
         let name = self.name()?;
         let definition = self.declared_type(Kind::Equal, depth)?;
@@ -98,7 +99,7 @@ impl<'a> Parser<'a> {
 
     /// {ident "=" type ";"}
     fn type_declarations(&mut self, depth: usize) -> Result<Vec<TypeDecl>, ParseFault>
-        ensures { Answers (λ xs. map type_decl_of xs.items) (forms.type_declarations depth) (state self.old) result (state self.new) }
+        ensures { Answers (λ xs. map type_decl_of xs.items) (forms.type_declarations depth) (S.state self.old.source) result (S.state self.new.source) }
     {
         let mut all = Vec::new(self.alloc);
         while self.at(Kind::Ident) {
@@ -110,7 +111,7 @@ impl<'a> Parser<'a> {
 
     /// ["TYPE" {ident "=" type ";"}]
     fn types(&mut self, depth: usize) -> Result<Option<Types>, ParseFault>
-        ensures { Answers (λ x. option_map types_of x) (forms.types depth) (state self.old) result (state self.new) }
+        ensures { Answers (λ x. option_map types_of x) (forms.types depth) (S.state self.old.source) result (S.state self.new.source) }
     {
         if !self.at(Kind::Type) {
             return Ok(None);
@@ -122,8 +123,8 @@ impl<'a> Parser<'a> {
 
     /// IdentList ":" type ";"
     fn var_declaration(&mut self, depth: usize) -> Result<VarDecl, ParseFault>
-        ensures answers { Answers var_decl_of (forms.var_declaration depth) (state self.old) result (state self.new) }
-        ensures moved { OnOk result (self.old.position < self.new.position) }
+        ensures answers { Answers var_decl_of (forms.var_declaration depth) (S.state self.old.source) result (S.state self.new.source) }
+        ensures moved { OnOk result ((S.state self.new.source).left < (S.state self.old.source).left) }
     {
         let names = self.ident_list()?;
         let of_type = self.declared_type(Kind::Colon, depth)?;
@@ -132,7 +133,7 @@ impl<'a> Parser<'a> {
 
     /// {IdentList ":" type ";"}
     fn var_declarations(&mut self, depth: usize) -> Result<Vec<VarDecl>, ParseFault>
-        ensures { Answers (λ xs. map var_decl_of xs.items) (forms.var_declarations depth) (state self.old) result (state self.new) }
+        ensures { Answers (λ xs. map var_decl_of xs.items) (forms.var_declarations depth) (S.state self.old.source) result (S.state self.new.source) }
     {
         let mut all = Vec::new(self.alloc);
         while self.at(Kind::Ident) {
@@ -144,7 +145,7 @@ impl<'a> Parser<'a> {
 
     /// ["VAR" {IdentList ":" type ";"}]
     fn variables(&mut self, depth: usize) -> Result<Option<Variables>, ParseFault>
-        ensures { Answers (λ x. option_map variables_of x) (forms.variables depth) (state self.old) result (state self.new) }
+        ensures { Answers (λ x. option_map variables_of x) (forms.variables depth) (S.state self.old.source) result (S.state self.new.source) }
     {
         if !self.at(Kind::Var) {
             return Ok(None);
@@ -156,7 +157,7 @@ impl<'a> Parser<'a> {
 
     /// FPSection = ["VAR"] IdentList ":" type
     fn section(&mut self, depth: usize) -> Result<Section, ParseFault>
-        ensures { Answers section_of (forms.section depth) (state self.old) result (state self.new) }
+        ensures { Answers section_of (forms.section depth) (S.state self.old.source) result (S.state self.new.source) }
     {
         let is_var = self.word(Kind::Var);
         let names = self.ident_list()?;
@@ -171,7 +172,7 @@ impl<'a> Parser<'a> {
 
     /// FPSection {";" FPSection}
     fn sections(&mut self, depth: usize) -> Result<Vec<Section>, ParseFault>
-        ensures { Answers (λ ss. map section_of ss.items) (forms.sections depth) (state self.old) result (state self.new) }
+        ensures { Answers (λ ss. map section_of ss.items) (forms.sections depth) (S.state self.old.source) result (S.state self.new.source) }
     {
         let mut all = Vec::new(self.alloc);
         let first = self.section(depth)?;
@@ -186,7 +187,7 @@ impl<'a> Parser<'a> {
 
     /// FormalParameters = "(" [FPSection {";" FPSection}] ")"
     fn formal_parameters(&mut self, depth: usize) -> Result<Vec<Section>, ParseFault>
-        ensures { Answers (λ ss. map section_of ss.items) (forms.formal_parameters depth) (state self.old) result (state self.new) }
+        ensures { Answers (λ ss. map section_of ss.items) (forms.formal_parameters depth) (S.state self.old.source) result (S.state self.new.source) }
     {
         self.expect(Kind::LeftParen)?;
         if self.at(Kind::RightParen) {
@@ -200,7 +201,7 @@ impl<'a> Parser<'a> {
 
     /// [FormalParameters]
     fn parameters(&mut self, depth: usize) -> Result<Option<Vec<Section>>, ParseFault>
-        ensures { Answers (λ p. option_map (λ ss. map section_of ss.items) p) (forms.parameters depth) (state self.old) result (state self.new) }
+        ensures { Answers (λ p. option_map (λ ss. map section_of ss.items) p) (forms.parameters depth) (S.state self.old.source) result (S.state self.new.source) }
     {
         if !self.at(Kind::LeftParen) {
             return Ok(None);
@@ -212,7 +213,7 @@ impl<'a> Parser<'a> {
     /// ProcedureHeading = "PROCEDURE" ident ["*"] [FormalParameters]; the parameters stand within the procedure.
     fn heading(&mut self, depth: usize) -> Result<Heading, ParseFault>
         requires { depth < DEEPEST_NESTING }
-        ensures { Answers heading_in (forms.heading depth) (state self.old) result (state self.new) }
+        ensures { Answers heading_in (forms.heading depth) (S.state self.old.source) result (S.state self.new.source) }
     {
         let place = self.expect(Kind::Procedure)?;
         let name = self.name()?;
@@ -230,7 +231,7 @@ impl<'a> Parser<'a> {
     #[cycle(declarations)]
     fn procedure(&mut self, depth: usize) -> Result<Procedure, ParseFault>
         requires { depth < DEEPEST_NESTING }
-        ensures { Answers procedure_of (forms.procedure_declaration depth) (state self.old) result (state self.new) }
+        ensures { Answers procedure_of (forms.procedure_declaration depth) (S.state self.old.source) result (S.state self.new.source) }
     {
         let heading = self.heading(depth)?;
         let block = self.block(depth + 1, &heading.name)?;
@@ -247,7 +248,7 @@ impl<'a> Parser<'a> {
 
     /// "END" ident
     fn ending(&mut self, name: &Name) -> Result<Name, ParseFault>
-        ensures { AnswersPart (λ n p. (p, name_of n)) (forms.ending (name_of name.now)) (state self.old) result (state self.new) }
+        ensures { AnswersPart (λ n p. (p, name_of n)) (forms.ending (name_of name.now)) (S.state self.old.source) result (S.state self.new.source) }
     {
         self.expect(Kind::End)?;
         self.end_name(name)
@@ -256,7 +257,7 @@ impl<'a> Parser<'a> {
     /// ";" declarations ["BEGIN" StatementSequence] "END" ident
     #[cycle(declarations)]
     fn block(&mut self, depth: usize, name: &Name) -> Result<Block, ParseFault>
-        ensures { AnswersPart block_in (forms.block depth (name_of name.now)) (state self.old) result (state self.new) }
+        ensures { AnswersPart block_in (forms.block depth (name_of name.now)) (S.state self.old.source) result (S.state self.new.source) }
     {
         self.expect(Kind::Semicolon)?;
         let declarations = self.declarations(depth)?;
@@ -272,7 +273,7 @@ impl<'a> Parser<'a> {
     /// {ProcedureDeclaration ";"}
     #[cycle(declarations)]
     fn procedures(&mut self, depth: usize) -> Result<Vec<Procedure>, ParseFault>
-        ensures { Answers (λ ps. procedures_in ps.items) (forms.procedures depth) (state self.old) result (state self.new) }
+        ensures { Answers (λ ps. procedures_in ps.items) (forms.procedures depth) (S.state self.old.source) result (S.state self.new.source) }
     {
         let mut all = Vec::new(self.alloc);
         while self.at(Kind::Procedure) {
@@ -290,7 +291,7 @@ impl<'a> Parser<'a> {
     ///   ["VAR" {IdentList ":" type ";"}] {ProcedureDeclaration ";"}
     #[cycle(declarations)]
     fn declarations(&mut self, depth: usize) -> Result<Declarations, ParseFault>
-        ensures { Answers declarations_of (forms.declarations depth) (state self.old) result (state self.new) }
+        ensures { Answers declarations_of (forms.declarations depth) (S.state self.old.source) result (S.state self.new.source) }
     {
         let constants = self.constants(depth)?;
         let types = self.types(depth)?;
@@ -305,8 +306,8 @@ impl<'a> Parser<'a> {
     }
 
     /// module = "MODULE" ident ";" declarations ["BEGIN" StatementSequence] "END" ident "."
-    pub(super) fn module_text(&mut self) -> Result<ModuleTree, ParseFault>
-        ensures { Answers module_of forms.module_text (state self.old) result (state self.new) }
+    fn module_text(&mut self) -> Result<ModuleTree, ParseFault>
+        ensures { Answers module_of forms.module_text (S.state self.old.source) result (S.state self.new.source) }
     {
         self.expect(Kind::Module)?;
         let name = self.name()?;
@@ -318,5 +319,16 @@ impl<'a> Parser<'a> {
             body: block.body,
             end_name: block.end_name,
         })
+    }
+
+    /// The module that all tokens derive.
+    pub(super) fn whole_module(&mut self) -> Result<ModuleTree, ParseFault>
+        ensures { AnswersModule (S.state self.old.source) result (S.state self.new.source) }
+    {
+        let tree = self.module_text()?;
+        if self.source.here().is_some() {
+            return Err(self.unexpected());
+        }
+        Ok(tree)
     }
 }

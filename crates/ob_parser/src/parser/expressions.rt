@@ -1,6 +1,6 @@
 //! Expressions, from the operators that bind least inwards.
 
-ghost use Rattle.std.specs.Prelude.{◌≡◌, ℕ, ◌<◌, ◌≤◌, pos, IsTrue, length, IfSome, IfNone, OnSome};
+ghost use Rattle.std.specs.Prelude.{◌≡◌, ℕ, ◌<◌, ◌≤◌, pos, IsTrue, IsSome, IfSome, IfNone, OnOk, OnSome};
 ghost use Rattle.std.specs.List.{list_all};
 ghost use Rattle.std.specs.Char.{is_ascii_digit};
 ghost use Rattle.ob_scan.specs.declared.token.Kind.{Kind};
@@ -9,10 +9,11 @@ ghost use Rattle.ob_grammar.specs.declared.tree.Operator.{Operator};
 ghost use Rattle.ob_grammar.specs.Grammar.{IsRelation, IsAddition, IsMultiplication};
 ghost use Rattle.ob_grammar.specs.View.{expr_of, operands_in, selectors_in};
 ghost use Rattle.ob_parser.specs.Forms as forms;
-ghost use Rattle.ob_parser.specs.Answers.{state, IsAt, Went, Answers, selector_of};
+ghost use Rattle.ob_parser.specs.Answers.{IsAt, Went, Answers, selector_of};
 
 use crate::parser::{ParseFault, Parser};
 use ob_grammar::tree::{DEEPEST_NESTING, Designator, Expr, Operand, Operator, Selector, Sign};
+use ob_parser_source::TokenSource;
 use ob_scan::Kind;
 use ob_scan::token::LARGEST_NUMBER;
 
@@ -29,11 +30,11 @@ fn number_of(digits: &[u8]) -> i32
     value as i32
 }
 
-impl<'a> Parser<'a> {
+impl<S: TokenSource> Parser<S> {
     /// expression = SimpleExpression [("=" | "#" | "<" | "<=" | ">" | ">=") SimpleExpression]
     #[cycle(expr)]
     pub(super) fn expression(&mut self, depth: usize) -> Result<Expr, ParseFault>
-        ensures { Answers expr_of (forms.expression depth) (state self.old) result (state self.new) }
+        ensures { Answers expr_of (forms.expression depth) (S.state self.old.source) result (S.state self.new.source) }
     {
         let left = self.simple_expression(depth)?;
         let Some(operator) = self.relation() else {
@@ -53,11 +54,11 @@ impl<'a> Parser<'a> {
 
     /// "=" | "#" | "<" | "<=" | ">" | ">=", where one stands here.
     fn relation(&self) -> Option<Operator>
-        ensures some { IfSome result (λ operator. (kind : Kind) × IsRelation kind operator × (IsAt (state self.now) kind)) }
-        ensures none { IfNone result ((kind : Kind) (operator : Operator) → IsRelation kind operator → IsAt (state self.now) kind → ⊥) }
-        ensures within { OnSome result (self.now.position < length self.now.tokens.now.tokens) }
+        ensures some { IfSome result (λ operator. (kind : Kind) × IsRelation kind operator × (IsAt (S.state self.now.source) kind)) }
+        ensures none { IfNone result ((kind : Kind) (operator : Operator) → IsRelation kind operator → IsAt (S.state self.now.source) kind → ⊥) }
+        ensures within { OnSome result (IsSome (S.state self.now.source).here) }
     {
-        match self.current()?.kind {
+        match self.source.here()?.kind {
             Kind::Equal => Some(Operator::Equal),
             Kind::NotEqual => Some(Operator::NotEqual),
             Kind::Less => Some(Operator::Less),
@@ -71,7 +72,7 @@ impl<'a> Parser<'a> {
     /// SimpleExpression = ["+" | "-"] term {("+" | "-" | "OR") term}
     #[cycle(expr)]
     fn simple_expression(&mut self, depth: usize) -> Result<Expr, ParseFault>
-        ensures { Answers expr_of (forms.simple_expression depth) (state self.old) result (state self.new) }
+        ensures { Answers expr_of (forms.simple_expression depth) (S.state self.old.source) result (S.state self.new.source) }
     {
         let sign = self.sign();
         let first = self.term(depth)?;
@@ -85,7 +86,7 @@ impl<'a> Parser<'a> {
 
     /// ["+" | "-"]
     fn sign(&mut self) -> Option<Sign>
-        ensures { Went forms.sign (state self.old) result (state self.new) }
+        ensures { Went forms.sign (S.state self.old.source) result (S.state self.new.source) }
     {
         let is_minus = self.at(Kind::Minus);
         if !is_minus && !self.at(Kind::Plus) {
@@ -98,7 +99,7 @@ impl<'a> Parser<'a> {
     /// {("+" | "-" | "OR") term}
     #[cycle(expr)]
     fn terms(&mut self, depth: usize) -> Result<Vec<Operand>, ParseFault>
-        ensures { Answers (λ os. operands_in os.items) (forms.terms depth) (state self.old) result (state self.new) }
+        ensures { Answers (λ os. operands_in os.items) (forms.terms depth) (S.state self.old.source) result (S.state self.new.source) }
     {
         let mut all = Vec::new(self.alloc);
         while let Some(operator) = self.addition() {
@@ -115,11 +116,11 @@ impl<'a> Parser<'a> {
 
     /// "+" | "-" | "OR", where one stands here.
     fn addition(&self) -> Option<Operator>
-        ensures some { IfSome result (λ operator. (kind : Kind) × IsAddition kind operator × (IsAt (state self.now) kind)) }
-        ensures none { IfNone result ((kind : Kind) (operator : Operator) → IsAddition kind operator → IsAt (state self.now) kind → ⊥) }
-        ensures within { OnSome result (self.now.position < length self.now.tokens.now.tokens) }
+        ensures some { IfSome result (λ operator. (kind : Kind) × IsAddition kind operator × (IsAt (S.state self.now.source) kind)) }
+        ensures none { IfNone result ((kind : Kind) (operator : Operator) → IsAddition kind operator → IsAt (S.state self.now.source) kind → ⊥) }
+        ensures within { OnSome result (IsSome (S.state self.now.source).here) }
     {
-        match self.current()?.kind {
+        match self.source.here()?.kind {
             Kind::Plus => Some(Operator::Plus),
             Kind::Minus => Some(Operator::Minus),
             Kind::Or => Some(Operator::Or),
@@ -130,7 +131,7 @@ impl<'a> Parser<'a> {
     /// term = factor {("*" | "DIV" | "MOD" | "&") factor}
     #[cycle(expr)]
     fn term(&mut self, depth: usize) -> Result<Expr, ParseFault>
-        ensures { Answers expr_of (forms.term depth) (state self.old) result (state self.new) }
+        ensures { Answers expr_of (forms.term depth) (S.state self.old.source) result (S.state self.new.source) }
     {
         let first = self.factor(depth)?;
         let rest = self.factors(depth)?;
@@ -144,7 +145,7 @@ impl<'a> Parser<'a> {
     /// {("*" | "DIV" | "MOD" | "&") factor}
     #[cycle(expr)]
     fn factors(&mut self, depth: usize) -> Result<Vec<Operand>, ParseFault>
-        ensures { Answers (λ os. operands_in os.items) (forms.factors depth) (state self.old) result (state self.new) }
+        ensures { Answers (λ os. operands_in os.items) (forms.factors depth) (S.state self.old.source) result (S.state self.new.source) }
     {
         let mut all = Vec::new(self.alloc);
         while let Some(operator) = self.multiplication() {
@@ -161,11 +162,11 @@ impl<'a> Parser<'a> {
 
     /// "*" | "DIV" | "MOD" | "&", where one stands here.
     fn multiplication(&self) -> Option<Operator>
-        ensures some { IfSome result (λ operator. (kind : Kind) × IsMultiplication kind operator × (IsAt (state self.now) kind)) }
-        ensures none { IfNone result ((kind : Kind) (operator : Operator) → IsMultiplication kind operator → IsAt (state self.now) kind → ⊥) }
-        ensures within { OnSome result (self.now.position < length self.now.tokens.now.tokens) }
+        ensures some { IfSome result (λ operator. (kind : Kind) × IsMultiplication kind operator × (IsAt (S.state self.now.source) kind)) }
+        ensures none { IfNone result ((kind : Kind) (operator : Operator) → IsMultiplication kind operator → IsAt (S.state self.now.source) kind → ⊥) }
+        ensures within { OnSome result (IsSome (S.state self.now.source).here) }
     {
-        match self.current()?.kind {
+        match self.source.here()?.kind {
             Kind::Times => Some(Operator::Times),
             Kind::Div => Some(Operator::Div),
             Kind::Mod => Some(Operator::Mod),
@@ -177,7 +178,7 @@ impl<'a> Parser<'a> {
     /// factor = ident selector | number | "(" expression ")" | "~" factor
     #[cycle(expr)]
     fn factor(&mut self, depth: usize) -> Result<Expr, ParseFault>
-        ensures { Answers expr_of (forms.factor depth) (state self.old) result (state self.new) }
+        ensures { Answers expr_of (forms.factor depth) (S.state self.old.source) result (S.state self.new.source) }
     {
         if self.at(Kind::LeftParen) {
             self.parenthesized(depth)
@@ -196,8 +197,8 @@ impl<'a> Parser<'a> {
 
     /// number
     fn number(&mut self) -> Expr
-        requires { IsAt (state self.old) Kind.Number }
-        ensures { (depth : ℕ) → Went (forms.factor depth) (state self.old) (expr_of result) (state self.new) }
+        requires { IsAt (S.state self.old.source) Kind.Number }
+        ensures { (depth : ℕ) → Went (forms.factor depth) (S.state self.old.source) (expr_of result) (S.state self.new.source) }
     {
         let value = number_of(self.bytes());
         let place = self.take();
@@ -207,8 +208,8 @@ impl<'a> Parser<'a> {
     /// "(" expression ")"
     #[cycle(expr)]
     fn parenthesized(&mut self, depth: usize) -> Result<Expr, ParseFault>
-        requires { IsAt (state self.old) Kind.LeftParen }
-        ensures { Answers expr_of (forms.factor depth) (state self.old) result (state self.new) }
+        requires { IsAt (S.state self.old.source) Kind.LeftParen }
+        ensures { Answers expr_of (forms.factor depth) (S.state self.old.source) result (S.state self.new.source) }
     {
         if depth >= DEEPEST_NESTING {
             return Err(self.too_deep());
@@ -223,8 +224,8 @@ impl<'a> Parser<'a> {
     /// "~" factor
     #[cycle(expr)]
     fn negation(&mut self, depth: usize) -> Result<Expr, ParseFault>
-        requires { IsAt (state self.old) Kind.Not }
-        ensures { Answers expr_of (forms.factor depth) (state self.old) result (state self.new) }
+        requires { IsAt (S.state self.old.source) Kind.Not }
+        ensures { Answers expr_of (forms.factor depth) (S.state self.old.source) result (S.state self.new.source) }
     {
         if depth >= DEEPEST_NESTING {
             return Err(self.too_deep());
@@ -238,7 +239,7 @@ impl<'a> Parser<'a> {
     /// selector = {"." ident | "[" expression "]"}
     #[cycle(expr)]
     pub(super) fn selectors(&mut self, depth: usize) -> Result<Vec<Selector>, ParseFault>
-        ensures { Answers (λ ss. selectors_in ss.items) (forms.selectors depth) (state self.old) result (state self.new) }
+        ensures { Answers (λ ss. selectors_in ss.items) (forms.selectors depth) (S.state self.old.source) result (S.state self.new.source) }
     {
         let mut all = Vec::new(self.alloc);
         while self.at(Kind::Dot) || self.at(Kind::LeftBracket) {
@@ -251,7 +252,8 @@ impl<'a> Parser<'a> {
     /// "." ident | "[" expression "]"
     #[cycle(expr)]
     fn selector(&mut self, depth: usize) -> Result<Selector, ParseFault>
-        ensures { Answers selector_of (forms.selector depth) (state self.old) result (state self.new) }
+        ensures answers { Answers selector_of (forms.selector depth) (S.state self.old.source) result (S.state self.new.source) }
+        ensures moved { OnOk result ((S.state self.new.source).left < (S.state self.old.source).left) }
     {
         if self.at(Kind::LeftBracket) {
             return self.index(depth);
@@ -264,8 +266,9 @@ impl<'a> Parser<'a> {
     /// "[" expression "]"
     #[cycle(expr)]
     fn index(&mut self, depth: usize) -> Result<Selector, ParseFault>
-        requires { IsAt (state self.old) Kind.LeftBracket }
-        ensures { Answers selector_of (forms.selector depth) (state self.old) result (state self.new) }
+        requires { IsAt (S.state self.old.source) Kind.LeftBracket }
+        ensures answers { Answers selector_of (forms.selector depth) (S.state self.old.source) result (S.state self.new.source) }
+        ensures moved { OnOk result ((S.state self.new.source).left < (S.state self.old.source).left) }
     {
         if depth >= DEEPEST_NESTING {
             return Err(self.too_deep());

@@ -5,10 +5,11 @@ ghost use Rattle.std.specs.List.{list_all};
 ghost use Rattle.std.specs.Char.{is_ascii_alphanumeric};
 ghost use Rattle.ob_grammar.specs.View.{name_of};
 ghost use Rattle.ob_parser.specs.Forms as forms;
-ghost use Rattle.ob_parser.specs.Answers.{state, Answers, AnswersName};
+ghost use Rattle.ob_parser.specs.Answers.{Answers, AnswersName};
 
 use crate::parser::{ParseFault, Parser};
 use ob_grammar::tree::Name;
+use ob_parser_source::TokenSource;
 use ob_scan::Kind;
 use std::alloc::{AllocError, Global};
 
@@ -23,10 +24,10 @@ fn text_of(alloc: Global, bytes: &[u8]) -> Result<String, AllocError>
     }
 }
 
-impl<'a> Parser<'a> {
+impl<S: TokenSource> Parser<S> {
     /// ident
     pub(super) fn name(&mut self) -> Result<Name, ParseFault>
-        ensures { AnswersName (state self.old) result (state self.new) }
+        ensures { AnswersName (S.state self.old.source) result (S.state self.new.source) }
     {
         if !self.at(Kind::Ident) {
             return Err(self.unexpected());
@@ -38,7 +39,7 @@ impl<'a> Parser<'a> {
 
     /// The ident behind an END, which is to be this name.
     pub(super) fn end_name(&mut self, name: &Name) -> Result<Name, ParseFault>
-        ensures { Answers name_of (forms.end_name (name_of name.now)) (state self.old) result (state self.new) }
+        ensures { Answers name_of (forms.end_name (name_of name.now)) (S.state self.old.source) result (S.state self.new.source) }
     {
         let end_name = self.name()?;
         if name.text != end_name.text {
@@ -49,7 +50,7 @@ impl<'a> Parser<'a> {
 
     /// IdentList = ident {"," ident}
     pub(super) fn ident_list(&mut self) -> Result<Vec<Name>, ParseFault>
-        ensures { Answers (λ ns. map name_of ns.items) forms.ident_list (state self.old) result (state self.new) }
+        ensures { Answers (λ ns. map name_of ns.items) forms.ident_list (S.state self.old.source) result (S.state self.new.source) }
     {
         let mut all = Vec::new(self.alloc);
         let first = self.name()?;

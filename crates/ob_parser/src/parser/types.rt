@@ -3,17 +3,18 @@
 ghost use Rattle.ob_scan.specs.declared.token.Kind.{Kind};
 ghost use Rattle.ob_grammar.specs.View.{type_of, fields_in};
 ghost use Rattle.ob_parser.specs.Forms as forms;
-ghost use Rattle.ob_parser.specs.Answers.{state, IsAt, Answers, AnswersPart, field_list_of};
+ghost use Rattle.ob_parser.specs.Answers.{IsAt, Answers, AnswersPart, field_list_of};
 
 use crate::parser::{ParseFault, Parser};
 use ob_grammar::tree::{DEEPEST_NESTING, FieldList, TypeExpr};
+use ob_parser_source::TokenSource;
 use ob_scan::Kind;
 
-impl<'a> Parser<'a> {
+impl<S: TokenSource> Parser<S> {
     /// type = ident | ArrayType | RecordType
     #[cycle(types)]
     pub(super) fn type_expr(&mut self, depth: usize) -> Result<TypeExpr, ParseFault>
-        ensures { Answers type_of (forms.type_expr depth) (state self.old) result (state self.new) }
+        ensures { Answers type_of (forms.type_expr depth) (S.state self.old.source) result (S.state self.new.source) }
     {
         if self.at(Kind::Array) {
             self.array_type(depth)
@@ -28,8 +29,8 @@ impl<'a> Parser<'a> {
     /// ArrayType = "ARRAY" expression "OF" type
     #[cycle(types)]
     fn array_type(&mut self, depth: usize) -> Result<TypeExpr, ParseFault>
-        requires { IsAt (state self.old) Kind.Array }
-        ensures { Answers type_of (forms.type_expr depth) (state self.old) result (state self.new) }
+        requires { IsAt (S.state self.old.source) Kind.Array }
+        ensures { Answers type_of (forms.type_expr depth) (S.state self.old.source) result (S.state self.new.source) }
     {
         if depth >= DEEPEST_NESTING {
             return Err(self.too_deep());
@@ -48,7 +49,7 @@ impl<'a> Parser<'a> {
     /// "OF" type
     #[cycle(types)]
     fn element(&mut self, depth: usize) -> Result<TypeExpr, ParseFault>
-        ensures { AnswersPart (λ t p. (p, type_of t)) (forms.element depth) (state self.old) result (state self.new) }
+        ensures { AnswersPart (λ t p. (p, type_of t)) (forms.element depth) (S.state self.old.source) result (S.state self.new.source) }
     {
         self.expect(Kind::Of)?;
         self.type_expr(depth)
@@ -57,8 +58,8 @@ impl<'a> Parser<'a> {
     /// RecordType = "RECORD" FieldList {";" FieldList} "END"
     #[cycle(types)]
     fn record_type(&mut self, depth: usize) -> Result<TypeExpr, ParseFault>
-        requires { IsAt (state self.old) Kind.Record }
-        ensures { Answers type_of (forms.type_expr depth) (state self.old) result (state self.new) }
+        requires { IsAt (S.state self.old.source) Kind.Record }
+        ensures { Answers type_of (forms.type_expr depth) (S.state self.old.source) result (S.state self.new.source) }
     {
         if depth >= DEEPEST_NESTING {
             return Err(self.too_deep());
@@ -72,7 +73,7 @@ impl<'a> Parser<'a> {
     /// FieldList {";" FieldList}
     #[cycle(types)]
     fn field_lists(&mut self, depth: usize) -> Result<Vec<FieldList>, ParseFault>
-        ensures { Answers (λ fs. fields_in fs.items) (forms.field_lists depth) (state self.old) result (state self.new) }
+        ensures { Answers (λ fs. fields_in fs.items) (forms.field_lists depth) (S.state self.old.source) result (S.state self.new.source) }
     {
         let mut all = Vec::new(self.alloc);
         let first = self.field_list(depth)?;
@@ -88,7 +89,7 @@ impl<'a> Parser<'a> {
     /// FieldList = [IdentList ":" type]
     #[cycle(types)]
     fn field_list(&mut self, depth: usize) -> Result<FieldList, ParseFault>
-        ensures { Answers field_list_of (forms.field_list depth) (state self.old) result (state self.new) }
+        ensures { Answers field_list_of (forms.field_list depth) (S.state self.old.source) result (S.state self.new.source) }
     {
         if !self.at(Kind::Ident) {
             return Ok(FieldList::Empty);

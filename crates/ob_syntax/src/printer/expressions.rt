@@ -6,8 +6,8 @@ ghost use Rattle.ob_syntax.specs.Printing.{spaced, number, fixed, operator_kind,
 
 use crate::printer::{push_name, push_word};
 use itoa::Buffer;
-use ob_grammar::NoMemory;
 use ob_grammar::tree::{Expr, Operand, Operator, Selector, Sign};
+use ob_interface::NoMemory;
 
 /// Appends an expression.
 #[cycle(expr)]

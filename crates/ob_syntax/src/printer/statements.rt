@@ -6,8 +6,8 @@ ghost use Rattle.ob_syntax.specs.Printing.{spaced, perhaps, actual_words, stmt_w
 
 use crate::printer::expressions::{push_expr, push_selectors};
 use crate::printer::{push_name, push_separator, push_word};
-use ob_grammar::NoMemory;
 use ob_grammar::tree::{Branch, Expr, Stmt};
+use ob_interface::NoMemory;
 
 /// Appends `BEGIN` and the statements of a body, where they stand.
 pub(super) fn push_body(text: &mut String, body: &Option<Vec<Stmt>>) -> Result<(), NoMemory>
@@ -76,6 +76,16 @@ fn push_statement(text: &mut String, statement: &Stmt) -> Result<(), NoMemory>
             push_word(text, "DO")?;
             push_statements(text, body)?;
             push_word(text, "END")
+        }
+        Stmt::Repeat {
+            body,
+            condition,
+            ..
+        } => {
+            push_word(text, "REPEAT")?;
+            push_statements(text, body)?;
+            push_word(text, "UNTIL")?;
+            push_expr(text, condition)
         }
     }
 }

@@ -6,8 +6,8 @@ ghost use Rattle.ob_syntax.specs.Printing.{spaced, type_words, field_words};
 
 use crate::printer::expressions::push_expr;
 use crate::printer::{push_name, push_names, push_separator, push_word};
-use ob_grammar::NoMemory;
 use ob_grammar::tree::{FieldList, TypeExpr};
+use ob_interface::NoMemory;
 
 /// Appends a type.
 #[cycle(types)]

@@ -1,5 +1,5 @@
 use Rattle.std.proofs.Common.{map}
-use Rattle.ob_command.proofs.ClapWords.{check_asked, draw_asked, explain_asked, explain_script_asked, list_asked, run_asked, seq_asked, serve_asked, verify_asked}
+use Rattle.ob_command.proofs.ClapWords.{check_asked, draw_asked, explain_asked, explain_script_asked, explain_short_asked, list_asked, run_asked, seq_asked, seq_short_asked, serve_asked, verify_asked}
 use Rattle.ob_answer.proofs.PlainWords.{answered_as}
 use Rattle.ob_answer.proofs.answer.answer.Goals as goal
 
@@ -11,6 +11,10 @@ returns-clause-list g c m is no_m = answered_as g.F.Files.reads (map (λ word. w
 
 pub returns-clause-seq : goal.returns-clause-seq
 returns-clause-seq g c m s is no_m no_s = answered_as g.F.Files.reads (map (λ word. word.now) c.args.words.now) _ _ _ _ c.obey_words.result is (seq_asked m s no_m no_s) c.obey_words.ensures
+
+pub returns-clause-seq_budget : goal.returns-clause-seq_budget
+returns-clause-seq_budget g c m s b k is no_m no_s number =
+    answered_as g.F.Files.reads (map (λ word. word.now) c.args.words.now) _ _ _ _ c.obey_words.result is (seq_short_asked m s b k no_m no_s number) c.obey_words.ensures
 
 pub returns-clause-run : goal.returns-clause-run
 returns-clause-run g c m s q n k is no_m no_s no_q number =
@@ -32,3 +36,7 @@ returns-clause-explain g c m is no_m = answered_as g.F.Files.reads (map (λ word
 
 pub returns-clause-explain_calls : goal.returns-clause-explain_calls
 returns-clause-explain_calls g c m s is no_m no_s = answered_as g.F.Files.reads (map (λ word. word.now) c.args.words.now) _ _ _ _ c.obey_words.result is (explain_script_asked m s no_m no_s) c.obey_words.ensures
+
+pub returns-clause-explain_budget : goal.returns-clause-explain_budget
+returns-clause-explain_budget g c m s b k is no_m no_s number =
+    answered_as g.F.Files.reads (map (λ word. word.now) c.args.words.now) _ _ _ _ c.obey_words.result is (explain_short_asked m s b k no_m no_s number) c.obey_words.ensures

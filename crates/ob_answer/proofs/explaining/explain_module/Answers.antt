@@ -13,4 +13,4 @@ returns-in_ok-from_str-in-Ok c whole is =
 
 pub returns-in-Err : goal.returns-in-Err
 returns-in-Err c = module_wrong_made c.args.name.now c.args.module.now c.in-Err.fault c.module_wrong.result c.module_wrong.ensures.fault c.module_wrong.ensures.memory
-    c.in-Err.ensures.fault c.in-Err.ensures.memory (λ long. let e = c.in-Err.ensures.too_long long in cc)
+    c.in-Err.ensures.fault c.in-Err.ensures.memory c.in-Err.ensures.none (λ long. let e = c.in-Err.ensures.too_long long in cc)

@@ -3,7 +3,7 @@ use Rattle.std.proofs.lemmas.Result.{IfOk-weaker}
 use Rattle.ob_answer.proofs.explaining.obey_explain_module.Goals as goal
 
 pub returns-in-Ok : goal.returns-in-Ok
-returns-in-Ok g c = IfOk-weaker c.explain_module.result _ _ (λ a h. inr (
+returns-in-Ok g c = IfOk-weaker c.explain_module.result _ _ (λ a h budget. inr (
   c.in-Ok.ensures.0,
   c.read_beginning.new.self,
   c.in-Ok.ensures.1,

@@ -13,4 +13,4 @@ returns-in_ok-from_str-in-Ok c whole is =
 
 pub returns-in-Err : goal.returns-in-Err
 returns-in-Err c = check_refused_made c.args.module.now c.in-Err.fault c.check_refused.result c.check_refused.ensures.fault c.check_refused.ensures.memory
-    c.in-Err.ensures.fault c.in-Err.ensures.memory (λ long. let e = c.in-Err.ensures.too_long long in cc)
+    c.in-Err.ensures.fault c.in-Err.ensures.memory c.in-Err.ensures.none (λ long. let e = c.in-Err.ensures.too_long long in cc)

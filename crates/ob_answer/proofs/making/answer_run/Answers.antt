@@ -14,4 +14,4 @@ returns-in-Ok c whole is =
 pub returns-in-Err : goal.returns-in-Err
 returns-in-Err c =
     run_refused_made c.args.product c.args.module.now c.args.processes c.args.script.now c.args.schedule.now c.in-Err.fault c.run_refused.result c.run_refused.ensures.fault c.run_refused.ensures.memory
-    c.in-Err.ensures.fault c.in-Err.ensures.memory (λ h. let e = c.in-Err.ensures.processes h in cc) (λ some few long. let e = c.in-Err.ensures.too_long some few long in cc)
+    c.in-Err.ensures.fault c.in-Err.ensures.memory c.in-Err.ensures.none (λ h. let e = c.in-Err.ensures.processes h in cc) (λ some few long. let e = c.in-Err.ensures.too_long some few long in cc)

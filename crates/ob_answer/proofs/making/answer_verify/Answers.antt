@@ -13,4 +13,4 @@ returns-in_ok-from_str-in-Ok c whole is =
 
 pub returns-in-Err : goal.returns-in-Err
 returns-in-Err c = verify_refused_made c.args.module.now c.args.record.now c.in-Err.fault c.verify_refused.result c.verify_refused.ensures.fault c.verify_refused.ensures.memory
-    c.in-Err.ensures.fault c.in-Err.ensures.memory (λ long. let e = c.in-Err.ensures.too_long long in cc)
+    c.in-Err.ensures.fault c.in-Err.ensures.memory c.in-Err.ensures.none (λ long. let e = c.in-Err.ensures.too_long long in cc)

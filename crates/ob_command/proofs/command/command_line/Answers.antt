@@ -15,7 +15,7 @@ pub returns : goal.returns
 returns c =
     let check = added _ _ _ _ _ c.in_ok-program-2.ensures c.module_line-check.ensures.app c.in_ok-program.ensures in
     let list = added _ _ _ _ _ c.in_ok-program-3.ensures c.module_line-list.ensures.app check in
-    let seq = added _ _ _ _ _ c.in_ok-program-4.ensures c.script_line.ensures.app list in
+    let seq = added _ _ _ _ _ c.in_ok-program-4.ensures c.seq_line.ensures.app list in
     let run = added _ _ _ _ _ c.in_ok-program-5.ensures c.run_line.ensures.app seq in
     let serve = added _ _ _ _ _ c.in_ok-program-6.ensures c.serve_line.ensures.app run in
     let draw = added _ _ _ _ _ c.in_ok-program-7.ensures c.run_line-2.ensures.app serve in

@@ -1,7 +1,7 @@
 use Rattle.std.proofs.Common.{◌∙◌, ap, codes, option_map, refl, sym}
 use Rattle.clap.specs.Words.{found_of, rows_of}
 use Rattle.ob_command.specs.Commands.{request_of, run_request_of}
-use Rattle.ob_command.proofs.Readings.{a_check, a_draw, a_list, a_run, a_seq, a_serve, a_verify, an_explain, first_row, no_module}
+use Rattle.ob_command.proofs.Readings.{a_check, a_draw, a_list, a_run, a_seq, a_serve, a_verify, an_explain, first_row, no_module, no_seq_script, seq_by}
 use Rattle.ob_command.proofs.command.command_of.Goals as goal
 
 pub returns-in_err-module_name : goal.returns-in_err-module_name
@@ -17,7 +17,7 @@ returns-in_err-get_str-in-seq c =
     let s = first_row (found_of c.args.matches.now) (codes "SCRIPT") c.get_str-in-seq.result _ c.get_str-in-seq.ensures
     (ap (option_map (λ s. s.now)) c.in_err-get_str-in-seq.was) in
     ap (option_map request_of) c.from_residual-in_err-get_str-in-seq.ensures
-    ∙ sym (a_seq c.args.name.now _ (rows_of (found_of c.args.matches.now)) _ c.in-seq.is m s)
+    ∙ sym (a_seq c.args.name.now _ (rows_of (found_of c.args.matches.now)) c.in-seq.is m ∙ no_seq_script _ (rows_of (found_of c.args.matches.now)) s)
 
 pub returns-in-check : goal.returns-in-check
 returns-in-check c =
@@ -31,13 +31,24 @@ returns-in-list c =
     (ap (option_map (λ s. s.now)) c.in_ok-module_name.was) in
     sym (a_list c.args.name.now _ (rows_of (found_of c.args.matches.now)) c.in-list.is m)
 
-pub returns-in_ok-get_str-in-seq : goal.returns-in_ok-get_str-in-seq
-returns-in_ok-get_str-in-seq c =
+pub returns-in_err-budget_of-in-seq : goal.returns-in_err-budget_of-in-seq
+returns-in_err-budget_of-in-seq c =
     let m = first_row (found_of c.args.matches.now) (codes "MODULE") c.get_str.result _ c.get_str.ensures
     (ap (option_map (λ s. s.now)) c.in_ok-module_name.was) in
     let s = first_row (found_of c.args.matches.now) (codes "SCRIPT") c.get_str-in-seq.result _ c.get_str-in-seq.ensures
     (ap (option_map (λ s. s.now)) c.in_ok-get_str-in-seq.was) in
-    sym (a_seq c.args.name.now _ (rows_of (found_of c.args.matches.now)) _ c.in-seq.is m s)
+    ap (option_map request_of) c.from_residual-in_err-budget_of-in-seq.ensures
+    ∙ sym (a_seq c.args.name.now _ (rows_of (found_of c.args.matches.now)) c.in-seq.is m
+    ∙ seq_by _ _ (rows_of (found_of c.args.matches.now)) _ s (sym c.budget_of.ensures ∙ c.in_err-budget_of-in-seq.was))
+
+pub returns-in_ok-budget_of-in-seq : goal.returns-in_ok-budget_of-in-seq
+returns-in_ok-budget_of-in-seq c =
+    let m = first_row (found_of c.args.matches.now) (codes "MODULE") c.get_str.result _ c.get_str.ensures
+    (ap (option_map (λ s. s.now)) c.in_ok-module_name.was) in
+    let s = first_row (found_of c.args.matches.now) (codes "SCRIPT") c.get_str-in-seq.result _ c.get_str-in-seq.ensures
+    (ap (option_map (λ s. s.now)) c.in_ok-get_str-in-seq.was) in
+    sym (a_seq c.args.name.now _ (rows_of (found_of c.args.matches.now)) c.in-seq.is m
+    ∙ seq_by _ _ (rows_of (found_of c.args.matches.now)) _ s (sym c.budget_of.ensures ∙ c.in_ok-budget_of-in-seq.was))
 
 pub returns-in_ok-run_of-in-run : goal.returns-in_ok-run_of-in-run
 returns-in_ok-run_of-in-run c =
@@ -76,9 +87,19 @@ returns-in_ok-get_str-in-verify c =
     (ap (option_map (λ s. s.now)) c.in_ok-get_str-in-verify.was) in
     sym (a_verify c.args.name.now _ (rows_of (found_of c.args.matches.now)) _ c.in-verify.is m r)
 
-pub returns-in-explain : goal.returns-in-explain
-returns-in-explain c =
+pub returns-in_err-budget_of-in-explain : goal.returns-in_err-budget_of-in-explain
+returns-in_err-budget_of-in-explain c =
     let m = first_row (found_of c.args.matches.now) (codes "MODULE") c.get_str.result _ c.get_str.ensures
     (ap (option_map (λ s. s.now)) c.in_ok-module_name.was) in
     let s = first_row (found_of c.args.matches.now) (codes "SCRIPT") c.get_str-in-explain.result _ c.get_str-in-explain.ensures refl in
-    sym (an_explain c.args.name.now _ (rows_of (found_of c.args.matches.now)) _ c.in-explain.is m s)
+    ap (option_map request_of) c.from_residual-in_err-budget_of-in-explain.ensures
+    ∙ sym (an_explain c.args.name.now _ (rows_of (found_of c.args.matches.now)) _ _ c.in-explain.is m s
+    (sym c.budget_of-in-explain.ensures ∙ c.in_err-budget_of-in-explain.was))
+
+pub returns-in_ok-budget_of-in-explain : goal.returns-in_ok-budget_of-in-explain
+returns-in_ok-budget_of-in-explain c =
+    let m = first_row (found_of c.args.matches.now) (codes "MODULE") c.get_str.result _ c.get_str.ensures
+    (ap (option_map (λ s. s.now)) c.in_ok-module_name.was) in
+    let s = first_row (found_of c.args.matches.now) (codes "SCRIPT") c.get_str-in-explain.result _ c.get_str-in-explain.ensures refl in
+    sym (an_explain c.args.name.now _ (rows_of (found_of c.args.matches.now)) _ _ c.in-explain.is m s
+    (sym c.budget_of-in-explain.ensures ∙ c.in_ok-budget_of-in-explain.was))

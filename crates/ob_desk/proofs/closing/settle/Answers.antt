@@ -1,8 +1,9 @@
 use Rattle.std.proofs.Common.{List, All, ℕ, ◌<◌, refl, subst, sym}
-use Rattle.ob_mean.specs.Object.{ObjectCall, Reply}
+use Rattle.ob_interface.specs.Call.{ObjectCall, Reply}
 use Rattle.wf_history.specs.History.{Event}
 use Rattle.wf_table.specs.declared.schedule.Turns.{Turns}
-use Rattle.ob_desk.specs.Close.{AgreeAt, Agrees, AreSeats, IsCodeFloor}
+use Rattle.ob_desk.specs.Close.{AgreeAt, AreSeats, IsCodeFloor}
+use Rattle.ob_desk_floor.specs.Agreeing.{Agrees}
 use Rattle.ob_desk.specs.Desk.{desk_in}
 use Rattle.ob_desk.proofs.Closes.{all_agree}
 use Rattle.ob_desk.proofs.closing.settle.Goals as goal

@@ -1,6 +1,6 @@
 use Rattle.std.proofs.Common.{List, [], ◌∷◌, ◌++◌, ap, ◌∙◌, sym, arith}
 use Rattle.std.proofs.lemmas.List.FromFn.{map-range_with_len_more}
-use Rattle.ob_desk.specs.Seat.{Seat, new_seat}
+use Rattle.ob_desk_floor.specs.Seat.{Seat, new_seat}
 use Rattle.ob_desk.specs.Desk.{seats_of}
 use Rattle.ob_desk.proofs.desk.seats.Goals as goal
 

@@ -1,8 +1,8 @@
-use Rattle.std.proofs.Common.{ap, ◌∙◌, map, [], ◌∷◌, ◌++◌}
+use Rattle.std.proofs.Common.{ap, ◌∙◌, map, [], ◌∷◌}
 use Rattle.std.proofs.lemmas.Result.{err_from_is_err_and}
 use Rattle.ob_checked.specs.View.{program_of, statements_in, table_of, variable_of}
 use Rattle.ob_positions.specs.Statements.{begun}
-use Rattle.ob_store.specs.View.{store_in, held_in, activation_in}
+use Rattle.ob_store.specs.View.{store_in, state_of, activation_in}
 use Rattle.ob_interpreter.proofs.Openings.{opening_ran, opening_done, opening_stops}
 use Rattle.ob_interpreter.proofs.opening.run_body.Goals as goal
 
@@ -14,21 +14,19 @@ returns-in_err-run c =
     (opening_stops (program_of program) c.args.turns _ c.in_err-run.field-0.0 (store_in c.run.new.store)
     (opening_ran (program_of program) c.args.turns (statements_in c.as_slice-2.result.now) (store_in c.new-store.result)
     (c.new-store.ensures.activations
-    ∙ ap (λ others. activation_in c.in_ok-module.module ∷ map activation_in others) c.new-2.ensures.items
-    ∙ ap (λ a. a ∷ []) (c.in_ok-module.ensures ∙ ap (λ hs. map held_in hs ++ begun (map (variable_of (table_of program.types)) c.as_slice.result.now)) c.new.ensures.items
-    ∙ ap (λ vs. begun (map (variable_of (table_of program.types)) vs)) c.as_slice.ensures.value))
+    ∙ ap (λ others. state_of c.in_ok-begun.begun ∷ map activation_in others) c.new.ensures.items
+    ∙ ap (λ a. a ∷ []) (c.in_ok-begun.ensures ∙ ap (λ vs. begun (map (variable_of (table_of program.types)) vs)) c.as_slice.ensures.value))
     (ap statements_in c.as_slice-2.ensures.value))
     c.in_err-run.ensures.outcome)
 
 pub returns : goal.returns
 returns c =
     let program = c.args.program.now in
-    opening_done (program_of program) c.args.turns _ (store_in c.run.new.store) c.new-3.result
+    opening_done (program_of program) c.args.turns _ (store_in c.run.new.store) c.into_state.result
     (opening_ran (program_of program) c.args.turns (statements_in c.as_slice-2.result.now) (store_in c.new-store.result)
     (c.new-store.ensures.activations
-    ∙ ap (λ others. activation_in c.in_ok-module.module ∷ map activation_in others) c.new-2.ensures.items
-    ∙ ap (λ a. a ∷ []) (c.in_ok-module.ensures ∙ ap (λ hs. map held_in hs ++ begun (map (variable_of (table_of program.types)) c.as_slice.result.now)) c.new.ensures.items
-    ∙ ap (λ vs. begun (map (variable_of (table_of program.types)) vs)) c.as_slice.ensures.value))
+    ∙ ap (λ others. state_of c.in_ok-begun.begun ∷ map activation_in others) c.new.ensures.items
+    ∙ ap (λ a. a ∷ []) (c.in_ok-begun.ensures ∙ ap (λ vs. begun (map (variable_of (table_of program.types)) vs)) c.as_slice.ensures.value))
     (ap statements_in c.as_slice-2.ensures.value)
     ∙ c.in_ok-run.ensures.outcome)
-    (c.new-3.ensures ∙ c.into_module.ensures)
+    c.into_state.ensures

@@ -3,11 +3,11 @@ use Rattle.std.proofs.lemmas.Result.{err_from_is_err_and}
 use Rattle.ob_checked.specs.View.{expression_of, statement_of, statements_in, branches_in, otherwise_of, program_of, procedure_of, table_of}
 use Rattle.ob_positions.specs.Statements as Statements
 use Rattle.ob_scalars.specs.Traps.{trap_number}
-use Rattle.ob_store.specs.View.{store_in, activation_in}
+use Rattle.ob_store.specs.View.{store_in, activation_in, variables_in}
 use Rattle.ob_interpreter.specs.Running.{calls_of}
 use Rattle.ob_interpreter.proofs.CallsMade.{comes_as, stops_call, procedure_here, call_made, some_behind}
-use Rattle.ob_checked.proofs.Rows.{statement_of-if, statement_of-while}
-use Rattle.ob_interpreter.proofs.Runs.{branch_traps, branch_taken, branches_end, loop_goes, loop_ends}
+use Rattle.ob_checked.proofs.Rows.{statement_of-if, statement_of-while, statement_of-repeat}
+use Rattle.ob_interpreter.proofs.Runs.{branch_traps, branch_taken, branches_end, loop_goes, loop_ends, rounds_again, rounds_end, rounds_trap}
 use Rattle.ob_interpreter.proofs.Sizes.{size, size_of_all, size_of_branches, turn_of, size_at, branch_at, last_at, body_at, within_less}
 use Rattle.ob_interpreter.proofs.statements.+running.Goals as goal
 
@@ -43,7 +43,7 @@ call-returns-clause-outcome t c =
     ∙ ap (Statements.Done c.in_ok-left.left)
     (sym (c.leave.ensures.left
     (some_behind (program_of c.args.context.program.now) (c.args.context.more - 1) (c.args.turns - 1) c.in_ok-left.left (statements_in c.as_slice-2.result.now)
-    (activation_in c.args.store.now.variables) (activation_in c.in_ok-activation.activation) (map activation_in c.args.store.now.others.items)
+    (variables_in c.args.store.now.variables.items) (activation_in c.in_ok-activation.activation) (map activation_in c.args.store.now.others.items)
     (store_in c.enter.new.self) (store_in c.run.new.store) c.in_ok-enter.ensures.entered c.in_ok-left.ensures.outcome)))
 
 pub choose-returns-in_err-condition-clause-outcome : goal.choose-returns-in_err-condition-clause-outcome
@@ -100,10 +100,16 @@ execute-choose-requires t c =
     let parts = ap (λ bs. size_of_branches (branches_in bs (otherwise_of c.in-If.otherwise))) c.as_slice-in-If.ensures.value in
     (omega (arith, whole, parts), tt)
 
-pub execute-repeat-requires : goal.execute-repeat-requires
-execute-repeat-requires t c =
+pub execute-run_while-requires : goal.execute-run_while-requires
+execute-run_while-requires t c =
     let whole = ap size (ap statement_of c.in-While.is ∙ statement_of-while c.in-While.condition c.in-While.body) in
     let parts = ap (λ ss. size_of_all (statements_in ss)) c.as_slice-in-While.ensures.value in
+    (omega (arith, whole, parts), tt)
+
+pub execute-run_repeat-requires : goal.execute-run_repeat-requires
+execute-run_repeat-requires t c =
+    let whole = ap size (ap statement_of c.in-Repeat.is ∙ statement_of-repeat c.in-Repeat.body c.in-Repeat.condition) in
+    let parts = ap (λ ss. size_of_all (statements_in ss)) c.as_slice-in-Repeat.ensures.value in
     (omega (arith, whole, parts), tt)
 
 pub execute-returns-in-Assign-clause-outcome : goal.execute-returns-in-Assign-clause-outcome
@@ -128,13 +134,23 @@ execute-returns-in-While-clause-outcome t c =
     let calls = calls_of c.args.context in
     let store = store_in c.args.store.now in
     let condition = expression_of c.in-While.condition in
-    comes_as _ _ c.repeat.result (store_in c.repeat.new.store)
+    comes_as _ _ c.run_while.result (store_in c.run_while.new.store)
     (ap (λ s. Statements.meaning calls s c.args.turns store) (ap statement_of c.in-While.is ∙ statement_of-while c.in-While.condition c.in-While.body)
     ∙ ap (λ ss. Statements.loop c.args.turns condition (Statements.meaning_of_all calls (statements_in ss)) c.args.turns store) (sym c.as_slice-in-While.ensures.value))
-    c.repeat.ensures.outcome
+    c.run_while.ensures.outcome
 
-pub repeat-again-preserved : goal.repeat-again-preserved
-repeat-again-preserved t c =
+pub execute-returns-in-Repeat-clause-outcome : goal.execute-returns-in-Repeat-clause-outcome
+execute-returns-in-Repeat-clause-outcome t c =
+    let calls = calls_of c.args.context in
+    let store = store_in c.args.store.now in
+    let condition = expression_of c.in-Repeat.condition in
+    comes_as _ _ c.run_repeat.result (store_in c.run_repeat.new.store)
+    (ap (λ s. Statements.meaning calls s c.args.turns store) (ap statement_of c.in-Repeat.is ∙ statement_of-repeat c.in-Repeat.body c.in-Repeat.condition)
+    ∙ ap (λ ss. Statements.rounds c.args.turns (Statements.meaning_of_all calls (statements_in ss)) condition c.args.turns store) (sym c.as_slice-in-Repeat.ensures.value))
+    c.run_repeat.ensures.outcome
+
+pub run_while-again-preserved : goal.run_while-again-preserved
+run_while-again-preserved t c =
     let calls = calls_of c.args.context in
     let condition = expression_of c.args.condition.now in
     let body = Statements.meaning_of_all calls (statements_in c.args.body.now) in
@@ -153,11 +169,31 @@ repeat-again-preserved t c =
       (omega (arith, fewer, c.again.invariant.1.0), c.run.ensures.begun ∙ c.again.invariant.1.1),
     )
 
-pub repeat-returns-clause-outcome : goal.repeat-returns-clause-outcome
-repeat-returns-clause-outcome t c =
+pub run_while-returns-clause-outcome : goal.run_while-returns-clause-outcome
+run_while-returns-clause-outcome t c =
     let body = Statements.meaning_of_all (calls_of c.args.context) (statements_in c.args.body.now) in
     sym c.again.invariant.0.1.1
     ∙ loop_ends c.again.invariant.0.0 (expression_of c.args.condition.now) body c.again.left (store_in c.again.store) c.in_ok-evaluate.field-0 c.in_ok-evaluate.ensures (sym c.truth_of.ensures ∙ c.if-truth_of.false)
+
+pub run_repeat-rounds-preserved : goal.run_repeat-rounds-preserved
+run_repeat-rounds-preserved t c =
+    let calls = calls_of c.args.context in
+    let condition = expression_of c.args.condition.now in
+    let body = Statements.meaning_of_all calls (statements_in c.args.body.now) in
+    let n = c.rounds.invariant.0.0 in
+    let le = c.rounds.invariant.0.1.0 in
+    let fewer = c.in_ok-left.ensures.turns in
+    let goes = rounds_again n body condition c.rounds.left c.in_ok-left.left (store_in c.rounds.store) (store_in c.run.new.store) (omega arith) le c.in_ok-left.ensures.outcome c.in_ok-evaluate.field-0 c.in_ok-evaluate.ensures (sym c.truth_of.ensures ∙ c.if-truth_of.false) in (
+      (n - 1, (omega (arith, le, fewer), sym goes ∙ c.rounds.invariant.0.1.1)),
+      (omega (arith, fewer, c.rounds.invariant.1.0), c.run.ensures.begun ∙ c.rounds.invariant.1.1),
+    )
+
+pub run_repeat-returns-then-truth_of-clause-outcome : goal.run_repeat-returns-then-truth_of-clause-outcome
+run_repeat-returns-then-truth_of-clause-outcome t c =
+    let body = Statements.meaning_of_all (calls_of c.args.context) (statements_in c.args.body.now) in
+    sym c.rounds.invariant.0.1.1
+    ∙ rounds_end c.rounds.invariant.0.0 body (expression_of c.args.condition.now) c.rounds.left c.in_ok-left.left (store_in c.rounds.store) (store_in c.run.new.store)
+    (omega arith) c.rounds.invariant.0.1.0 c.in_ok-left.ensures.outcome c.in_ok-evaluate.field-0 c.in_ok-evaluate.ensures (sym c.truth_of.ensures ∙ c.if-truth_of.true)
 
 pub run-execute-requires : goal.run-execute-requires
 run-execute-requires t c =

@@ -18,8 +18,11 @@ abbrev pub decreases-choose : goal.decreases-choose
 decreases-choose l =
     l.context.more * turn_of (program_of l.context.program.now) + (2 * size_of_branches (branches_in l.branches.now (otherwise_of l.otherwise.now)) + 1)
 
-abbrev pub decreases-repeat : goal.decreases-repeat
-decreases-repeat l = l.context.more * turn_of (program_of l.context.program.now) + (2 * size_of_all (statements_in l.body.now) + 1)
+abbrev pub decreases-run_while : goal.decreases-run_while
+decreases-run_while l = l.context.more * turn_of (program_of l.context.program.now) + (2 * size_of_all (statements_in l.body.now) + 1)
+
+abbrev pub decreases-run_repeat : goal.decreases-run_repeat
+decreases-run_repeat l = l.context.more * turn_of (program_of l.context.program.now) + (2 * size_of_all (statements_in l.body.now) + 1)
 
 abbrev pub decreases-call : goal.decreases-call
 decreases-call l = l.context.more * turn_of (program_of l.context.program.now) + 1
@@ -39,12 +42,22 @@ invariant-choose-loop-branch l =
     × (begun_in l.store ≡ begun_in l.initial.store)
 
 -- the loop goes on with at least as many turns to take as there are left
-abbrev pub invariant-repeat-again : goal.invariant-repeat-again
-invariant-repeat-again l =
+abbrev pub invariant-run_while-again : goal.invariant-run_while-again
+invariant-run_while-again l =
     ((n : ℕ) × ((l.left ≤ n)
     × (Statements.loop n (expression_of l.condition) (Statements.meaning_of_all (calls_of l.context) (statements_in l.body)) l.left (store_in l.store)
     ≡ Statements.meaning (calls_of l.context) (Programs.While (expression_of l.condition) (statements_in l.body)) l.turns (store_in l.initial.store))))
     × ((l.left ≤ l.turns) × (begun_in l.store ≡ begun_in l.initial.store))
 
-abbrev pub decreases-repeat-again : goal.decreases-repeat-again
-decreases-repeat-again l = l.left
+abbrev pub decreases-run_while-again : goal.decreases-run_while-again
+decreases-run_while-again l = l.left
+
+abbrev pub invariant-run_repeat-rounds : goal.invariant-run_repeat-rounds
+invariant-run_repeat-rounds l =
+    ((n : ℕ) × ((l.left ≤ n)
+    × (Statements.rounds n (Statements.meaning_of_all (calls_of l.context) (statements_in l.body)) (expression_of l.condition) l.left (store_in l.store)
+    ≡ Statements.meaning (calls_of l.context) (Programs.Repeat (statements_in l.body) (expression_of l.condition)) l.turns (store_in l.initial.store))))
+    × ((l.left ≤ l.turns) × (begun_in l.store ≡ begun_in l.initial.store))
+
+abbrev pub decreases-run_repeat-rounds : goal.decreases-run_repeat-rounds
+decreases-run_repeat-rounds l = l.left

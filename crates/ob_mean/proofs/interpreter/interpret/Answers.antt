@@ -6,7 +6,8 @@ use Rattle.ob_check.specs.View.{parameter_of, procedure_of, statements_in}
 use Rattle.ob_mean.specs.Object.{results_begun, bound}
 use Rattle.ob_mean.specs.Running.{store_of}
 use Rattle.ob_mean.specs.Statements.{meaning_of_all}
-use Rattle.ob_mean.specs.View.{state_of, call_of}
+use Rattle.ob_interface.specs.View.{call_of}
+use Rattle.ob_mean.specs.View.{state_of}
 use Rattle.ob_mean.proofs.Calls.{call_done}
 use Rattle.ob_mean.proofs.Kept.{state_settled}
 use Rattle.ob_mean.proofs.interpreter.interpret.Goals as goal

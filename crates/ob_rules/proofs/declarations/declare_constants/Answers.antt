@@ -2,7 +2,7 @@ use Rattle.std.proofs.Common.{◌+◌, arith, map, drop, ap, ◌∙◌}
 use Rattle.std.proofs.lemmas.List.{at_drop_all}
 use Rattle.ob_grammar.proofs.Exits.{passed_on}
 use Rattle.ob_grammar.specs.View.{const_decl_of}
-use Rattle.ob_typing.proofs.CheckedModules.{constants}
+use Rattle.ob_typing.specs.ModuleVerdicts.{constants}
 use Rattle.ob_scopes.specs.Names.{env_of}
 use Rattle.ob_rules.proofs.Steps.{fails_as}
 use Rattle.ob_scopes.proofs.Lists.{next_left}

@@ -1,6 +1,6 @@
 use Rattle.std.proofs.Common.{◌≡◌, map, drop}
 use Rattle.ob_grammar.specs.View.{const_decl_of}
-use Rattle.ob_typing.proofs.CheckedModules.{constants}
+use Rattle.ob_typing.specs.ModuleVerdicts.{constants}
 use Rattle.ob_scopes.specs.Names.{types_in, env_of}
 use Rattle.ob_rules.proofs.declarations.declare_constants.Given as goal
 

@@ -6,7 +6,7 @@ use Rattle.ob_grammar.proofs.Loops.{map-push}
 use Rattle.ob_typing.specs.Scopes.{words, declared, variable_in}
 use Rattle.ob_typing.specs.Declarations.{with_words, first_beyond, with_variables, room_behind, variables_of}
 use Rattle.ob_typing.specs.declared.rule.Rule.TheVariants.{PassesLimit}
-use Rattle.ob_typing.proofs.Verdict.{unless_name}
+use Rattle.ob_typing.specs.Verdict.{unless_name}
 use Rattle.ob_checked.specs.Types.{type_in, is_below}
 use Rattle.ob_checked.specs.View.{variable_of}
 use Rattle.ob_scopes.specs.Names.{types_in, env_of}

@@ -4,7 +4,7 @@ use Rattle.ob_grammar.specs.View.{name_of, var_decl_of}
 use Rattle.ob_typing.specs.Scopes.{is_declared, words}
 use Rattle.ob_typing.specs.Types.{second}
 use Rattle.ob_typing.specs.Declarations.{first_beyond, with_variables, room_behind, variables_of}
-use Rattle.ob_typing.proofs.CheckedModules.{variables}
+use Rattle.ob_typing.specs.ModuleVerdicts.{variables}
 use Rattle.ob_checked.specs.Types.{type_in}
 use Rattle.ob_checked.specs.View.{variable_of}
 use Rattle.ob_scopes.specs.Names.{types_in, env_of}

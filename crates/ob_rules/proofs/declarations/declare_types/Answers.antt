@@ -1,7 +1,7 @@
 use Rattle.std.proofs.Common.{◌+◌, map, drop, ap, ◌∙◌}
 use Rattle.ob_grammar.proofs.Exits.{passed_on}
 use Rattle.ob_grammar.specs.View.{type_decl_of}
-use Rattle.ob_typing.proofs.CheckedModules.{types}
+use Rattle.ob_typing.specs.ModuleVerdicts.{types}
 use Rattle.ob_scopes.specs.Names.{env_of}
 use Rattle.ob_rules.proofs.Steps.{fails_as}
 use Rattle.ob_scopes.proofs.Lists.{next_left}

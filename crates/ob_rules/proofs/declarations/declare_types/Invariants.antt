@@ -1,6 +1,6 @@
 use Rattle.std.proofs.Common.{◌≡◌, map, drop}
 use Rattle.ob_grammar.specs.View.{type_decl_of}
-use Rattle.ob_typing.proofs.CheckedModules.{types}
+use Rattle.ob_typing.specs.ModuleVerdicts.{types}
 use Rattle.ob_checked.specs.Types.{Extends}
 use Rattle.ob_scopes.specs.Names.{types_in, env_of}
 use Rattle.ob_rules.proofs.declarations.declare_types.Given as goal

@@ -3,8 +3,8 @@ use Rattle.std.proofs.lemmas.List.{at_drop_all}
 use Rattle.std.proofs.lemmas.Result.{IfOk-weaker, IfErr-weaker}
 use Rattle.ob_grammar.proofs.Exits.{passed_on}
 use Rattle.ob_grammar.specs.View.{expr_of, operands_in, selectors_in}
-use Rattle.ob_typing.proofs.Verdict.{Right, ◌>>=◌}
-use Rattle.ob_typing.proofs.CheckedExpressions.{expression, operands, selecting}
+use Rattle.ob_typing.specs.Verdict.{Right, ◌>>=◌}
+use Rattle.ob_typing.specs.ExpressionVerdicts.{expression, operands, selecting}
 use Rattle.ob_checked.specs.Types.{type_in}
 use Rattle.ob_scopes.specs.Usages.{use_of}
 use Rattle.ob_scopes.specs.Names.{types_in, env_of}

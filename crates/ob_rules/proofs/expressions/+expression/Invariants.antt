@@ -1,7 +1,7 @@
 use Rattle.std.proofs.Common.{◌≡◌, drop}
 use Rattle.ob_grammar.specs.View.{operands_in, selectors_in}
-use Rattle.ob_typing.proofs.Verdict.{◌>>=◌}
-use Rattle.ob_typing.proofs.CheckedExpressions.{operands, selecting}
+use Rattle.ob_typing.specs.Verdict.{◌>>=◌}
+use Rattle.ob_typing.specs.ExpressionVerdicts.{operands, selecting}
 use Rattle.ob_checked.specs.Types.{type_in}
 use Rattle.ob_scopes.specs.Usages.{use_of}
 use Rattle.ob_scopes.specs.Names.{types_in, env_of}

@@ -1,6 +1,6 @@
 use Rattle.std.proofs.Common.{ap, ◌∙◌}
 use Rattle.ob_typing.specs.Program as Programs
-use Rattle.ob_typing.proofs.CheckedExpressions as Verdicts
+use Rattle.ob_typing.specs.ExpressionVerdicts as Verdicts
 use Rattle.ob_checked.specs.View.{expression_of, operations_in}
 use Rattle.ob_checked.proofs.Rows.{expression_of-computed}
 use Rattle.ob_rules.proofs.expressions.joined.Goals as goal

@@ -1,8 +1,8 @@
 use Rattle.std.proofs.Common.{List, ℕ, None, ap, sym, ◌∙◌}
 use Rattle.std.specs.Prelude.{string_bytes}
 use Rattle.ob_typing.specs.Program as Programs
-use Rattle.ob_typing.proofs.Verdict.{Right}
-use Rattle.ob_typing.proofs.CheckedExpressions as Verdicts
+use Rattle.ob_typing.specs.Verdict.{Right}
+use Rattle.ob_typing.specs.ExpressionVerdicts as Verdicts
 use Rattle.ob_checked.specs.View.{table_of, owner_of, selectors_in}
 use Rattle.ob_checked.specs.Types.{type_in}
 use Rattle.ob_scopes.specs.Usages.{use_of}

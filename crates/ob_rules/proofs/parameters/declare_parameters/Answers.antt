@@ -2,8 +2,8 @@ use Rattle.std.proofs.Common.{◌+◌, arith, length, map, drop, sym, ap, ◌∙
 use Rattle.std.proofs.lemmas.List.{at_drop_all, append-nil}
 use Rattle.ob_grammar.proofs.Exits.{passed_on}
 use Rattle.ob_grammar.specs.View.{section_of}
-use Rattle.ob_typing.proofs.Verdict.{Right}
-use Rattle.ob_typing.proofs.CheckedModules.{parameters}
+use Rattle.ob_typing.specs.Verdict.{Right}
+use Rattle.ob_typing.specs.ModuleVerdicts.{parameters}
 use Rattle.ob_checked.specs.View.{parameter_of}
 use Rattle.ob_scopes.specs.Objects.{known_parameters}
 use Rattle.ob_scopes.specs.Names.{types_in, env_of}

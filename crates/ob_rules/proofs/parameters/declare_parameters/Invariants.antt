@@ -1,6 +1,6 @@
 use Rattle.std.proofs.Common.{◌≡◌, map, drop, length, true}
 use Rattle.ob_grammar.specs.View.{section_of}
-use Rattle.ob_typing.proofs.CheckedModules.{parameters}
+use Rattle.ob_typing.specs.ModuleVerdicts.{parameters}
 use Rattle.ob_checked.specs.Types.{Extends}
 use Rattle.ob_scopes.specs.Objects.{known_parameters}
 use Rattle.ob_scopes.specs.Names.{types_in, env_of}

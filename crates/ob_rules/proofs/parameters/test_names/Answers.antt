@@ -3,8 +3,8 @@ use Rattle.std.specs.Prelude.{slice_get}
 use Rattle.std.proofs.lemmas.Option.{slice_get_read}
 use Rattle.ob_grammar.specs.View.{name_of}
 use Rattle.ob_typing.specs.Scopes.{is_declared}
-use Rattle.ob_typing.specs.Declarations.{parameter_broken}
-use Rattle.ob_typing.proofs.Verdict.{unless_broken}
+use Rattle.ob_typing.specs.DeclarationFaults.{parameter_broken}
+use Rattle.ob_typing.specs.Verdict.{unless_broken}
 use Rattle.ob_scopes.specs.Names.{env_of}
 use Rattle.ob_rules.proofs.Steps.{fails_when}
 use Rattle.ob_rules.proofs.ParameterSteps.{first_bad, names_tested, got_past}

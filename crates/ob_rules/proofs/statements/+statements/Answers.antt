@@ -3,12 +3,12 @@ use Rattle.std.proofs.lemmas.List.{at_drop_all}
 use Rattle.ob_grammar.specs.View.{expr_of, stmt_of, stmts_in}
 use Rattle.ob_grammar.specs.View as Trees
 use Rattle.ob_grammar.proofs.Exits.{passed_on}
-use Rattle.ob_typing.proofs.Verdict.{◌>>=◌}
-use Rattle.ob_typing.proofs.CheckedStatements.{statements, branches}
+use Rattle.ob_typing.specs.Verdict.{◌>>=◌}
+use Rattle.ob_typing.specs.StatementVerdicts.{statements, branches}
 use Rattle.ob_scopes.specs.Names.{env_of}
 use Rattle.ob_rules.proofs.Steps.{fails_as, fails_on}
 use Rattle.ob_scopes.proofs.Lists.{next_left}
-use Rattle.ob_rules.proofs.Bodies.{behind_done, branched, done_all, statements_first, statements_next, branch_condition_fails, branch_body_fails, branches_next, if_tree, if_fails, else_fails, if_right, while_tree, body_fails, while_right}
+use Rattle.ob_rules.proofs.Bodies.{behind_done, branched, done_all, statements_first, statements_next, branch_condition_fails, branch_body_fails, branches_next, if_tree, if_fails, else_fails, if_right, while_tree, body_fails, while_right, repeat_tree, repeated_fails, until_fails, repeat_right}
 use Rattle.ob_rules.proofs.Sizes.{size, size_of_all, size_of_else, statement_smaller, body_smaller}
 use Rattle.ob_rules.proofs.statements.+statements.Goals as goal
 
@@ -120,7 +120,7 @@ if_branches-returns-clause-typed t c =
     λ last. c.loop-branch.invariant last
     ∙ ap (λ bs. ◌>>=◌ (branches env bs last) (branched env c.loop-branch.checked.items)) end
 
--- IF and WHILE in front of others
+-- IF, WHILE and REPEAT in front of others
 
 pub statement-returns-in_err-branches-in-If-clause-fault : goal.statement-returns-in_err-branches-in-If-clause-fault
 statement-returns-in_err-branches-in-If-clause-fault t c =
@@ -146,3 +146,23 @@ pub statement-returns-in_ok-body-in-While-clause-typed : goal.statement-returns-
 statement-returns-in_ok-body-in-While-clause-typed t c =
     while_right (env_of c.args.scopes.now) c.args.written.now _ _ _ c.in-While.is _ c.deref-in-While.ensures.value
     c.in_ok-condition-in-While.condition c.in_ok-condition-in-While.ensures.typed c.in_ok-body-in-While.body c.in_ok-body-in-While.ensures.typed
+
+pub statement-statements-requires-in-Repeat : goal.statement-statements-requires-in-Repeat
+statement-statements-requires-in-Repeat t c =
+    let whole = ap size (repeat_tree (env_of c.args.scopes.now) c.args.written.now _ _ _ c.in-Repeat.is _ c.deref-in-Repeat.ensures.value) in
+    (omega (arith, whole, c.decreases), tt)
+
+pub statement-returns-in_err-body-in-Repeat-clause-fault : goal.statement-returns-in_err-body-in-Repeat-clause-fault
+statement-returns-in_err-body-in-Repeat-clause-fault t c =
+    passed_on _ _ _ c.from_residual-in_err-body-in-Repeat.ensures.1
+    (repeated_fails (env_of c.args.scopes.now) c.args.written.now _ _ _ c.in-Repeat.is _ c.deref-in-Repeat.ensures.value _ c.in_err-body-in-Repeat.ensures.fault)
+
+pub statement-returns-in_err-condition-in-Repeat-clause-fault : goal.statement-returns-in_err-condition-in-Repeat-clause-fault
+statement-returns-in_err-condition-in-Repeat-clause-fault t c =
+    passed_on _ _ _ c.from_residual-in_err-condition-in-Repeat.ensures.1
+    (until_fails (env_of c.args.scopes.now) c.args.written.now _ _ _ c.in-Repeat.is _ c.deref-in-Repeat.ensures.value c.in_ok-body-in-Repeat.body c.in_ok-body-in-Repeat.ensures.typed _ c.in_err-condition-in-Repeat.ensures.fault)
+
+pub statement-returns-in_ok-condition-in-Repeat-clause-typed : goal.statement-returns-in_ok-condition-in-Repeat-clause-typed
+statement-returns-in_ok-condition-in-Repeat-clause-typed t c =
+    repeat_right (env_of c.args.scopes.now) c.args.written.now _ _ _ c.in-Repeat.is _ c.deref-in-Repeat.ensures.value
+    c.in_ok-body-in-Repeat.body c.in_ok-body-in-Repeat.ensures.typed c.in_ok-condition-in-Repeat.condition c.in_ok-condition-in-Repeat.ensures.typed

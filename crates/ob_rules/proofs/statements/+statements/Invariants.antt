@@ -2,8 +2,8 @@ use Rattle.std.proofs.Common.{◌≡◌, drop}
 use Rattle.ob_grammar.specs.View.{stmt_of, stmts_in}
 use Rattle.ob_grammar.specs.View as Trees
 use Rattle.ob_typing.specs.Program as Programs
-use Rattle.ob_typing.proofs.Verdict.{Verdict, ◌>>=◌}
-use Rattle.ob_typing.proofs.CheckedStatements.{statements, branches}
+use Rattle.ob_typing.specs.Verdict.{Verdict, ◌>>=◌}
+use Rattle.ob_typing.specs.StatementVerdicts.{statements, branches}
 use Rattle.ob_scopes.specs.Names.{env_of}
 use Rattle.ob_rules.proofs.Bodies.{behind_done, branched}
 use Rattle.ob_rules.proofs.Sizes.{size, size_of_all, size_of_branches, size_of_else}

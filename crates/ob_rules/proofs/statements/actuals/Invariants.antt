@@ -1,7 +1,7 @@
 use Rattle.std.proofs.Common.{◌≡◌, length, map}
 use Rattle.ob_grammar.specs.View.{expr_of}
-use Rattle.ob_typing.proofs.Verdict.{◌>>=◌}
-use Rattle.ob_typing.proofs.CheckedStatements.{actuals}
+use Rattle.ob_typing.specs.Verdict.{◌>>=◌}
+use Rattle.ob_typing.specs.StatementVerdicts.{actuals}
 use Rattle.ob_checked.specs.View.{parameter_of}
 use Rattle.ob_scopes.specs.Names.{types_in, env_of}
 use Rattle.ob_rules.proofs.Passed.{behind_passed, actuals_from}

@@ -4,8 +4,8 @@ use Rattle.std.proofs.lemmas.Result.{IfOk-weaker, IfErr-weaker, on_ok_weaker}
 use Rattle.ob_grammar.proofs.Exits.{passed_on}
 use Rattle.ob_grammar.specs.View.{name_of, type_of, fields_in}
 use Rattle.ob_typing.specs.Types.{second, and_all_taken, with_fields}
-use Rattle.ob_typing.proofs.Verdict.{Right}
-use Rattle.ob_typing.proofs.CheckedTypes.{denoted_fields}
+use Rattle.ob_typing.specs.Verdict.{Right}
+use Rattle.ob_typing.specs.TypeVerdicts.{denoted_fields}
 use Rattle.ob_checked.specs.Types.{type_by, types_of}
 use Rattle.ob_scopes.specs.Names.{types_in, env_of}
 use Rattle.ob_scopes.specs.TakenNames.{taken_in}

@@ -1,7 +1,7 @@
 use Rattle.std.proofs.Common.{◌≡◌, drop, true, length}
 use Rattle.ob_grammar.specs.View.{fields_in}
 use Rattle.ob_typing.specs.Types.{none_taken}
-use Rattle.ob_typing.proofs.CheckedTypes.{denoted_fields}
+use Rattle.ob_typing.specs.TypeVerdicts.{denoted_fields}
 use Rattle.ob_checked.specs.Types.{all_below, Extends}
 use Rattle.ob_scopes.specs.Names.{types_in, env_of}
 use Rattle.ob_scopes.specs.TakenNames.{taken_in}

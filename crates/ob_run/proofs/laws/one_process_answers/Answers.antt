@@ -1,7 +1,7 @@
 use Rattle.std.proofs.Common.{List, map, subst, sym}
 use Rattle.std.specs.Prelude.{take}
 use Rattle.ll_cell.specs.Cell.{block_of}
-use Rattle.ob_mean.specs.Object.{ObjectCall, Reply}
+use Rattle.ob_interface.specs.Call.{ObjectCall, Reply}
 use Rattle.ob_run.proofs.Chain.{legal_states}
 use Rattle.ob_run.proofs.Sequential.{has_replies}
 use Rattle.ob_run.specs.OwnCalls.{HasReplies}

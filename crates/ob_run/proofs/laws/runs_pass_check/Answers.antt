@@ -1,12 +1,12 @@
 use Rattle.std.proofs.Common.{List, subst}
 use Rattle.std.specs.Prelude.{take}
-use Rattle.ob_mean.specs.Object.{ObjectCall, Reply}
+use Rattle.ob_interface.specs.Call.{ObjectCall, Reply}
 use Rattle.ob_run.proofs.Chain.{legal_states}
 use Rattle.ob_run.proofs.Checks.{only_means}
 use Rattle.ll_cell.specs.Cell.{block_of}
 use Rattle.wf_help.proofs.Effects.{begun_fits}
 use Rattle.wf_history.specs.History.{Event}
-use Rattle.wf_history.specs.OrderFaults.{IsOrderFault}
+use Rattle.ob_order.specs.OrderFaults.{IsOrderFault}
 use Rattle.wf_history.specs.declared.event.CallId.{CallId}
 use Rattle.wf_table.specs.Runs.{performed}
 use Rattle.wf_table.specs.Start.{sizes_of}

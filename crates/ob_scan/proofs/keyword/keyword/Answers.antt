@@ -66,6 +66,14 @@ pub returns-in-DO-clause-is : goal.returns-in-DO-clause-is
 returns-in-DO-clause-is c =
     ap Some (sym (text_from_reads c.args.word.now (codes "DO") (omega arith) (search rules)))
 
+pub returns-in-REPEAT-clause-is : goal.returns-in-REPEAT-clause-is
+returns-in-REPEAT-clause-is c =
+    ap Some (sym (text_from_reads c.args.word.now (codes "REPEAT") (omega arith) (search rules)))
+
+pub returns-in-UNTIL-clause-is : goal.returns-in-UNTIL-clause-is
+returns-in-UNTIL-clause-is c =
+    ap Some (sym (text_from_reads c.args.word.now (codes "UNTIL") (omega arith) (search rules)))
+
 pub returns-in-DIV-clause-is : goal.returns-in-DIV-clause-is
 returns-in-DIV-clause-is c =
     ap Some (sym (text_from_reads c.args.word.now (codes "DIV") (omega arith) (search rules)))

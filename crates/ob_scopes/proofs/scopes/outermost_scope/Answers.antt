@@ -1,7 +1,7 @@
 use Rattle.std.proofs.Common.{true, false, refl, ap, ◌∙◌}
 use Rattle.std.specs.Prelude.{codes}
-use Rattle.ob_typing.specs.declared.scalar.Scalar.TheVariants.{Bool}
-use Rattle.ob_typing.specs.declared.scalar.ScalarType.TheVariants.{Integer, Boolean}
+use Rattle.ob_interface.specs.declared.scalar.Scalar.TheVariants.{Bool}
+use Rattle.ob_interface.specs.declared.scalar.ScalarType.TheVariants.{Integer, Boolean}
 use Rattle.ob_typing.specs.Program.{Simple}
 use Rattle.ob_typing.specs.Scopes.{Scope, Constant, TypeName, with_name}
 use Rattle.ob_scopes.specs.Objects.{known_names}

@@ -12,7 +12,7 @@ use Rattle.ob_sequential.proofs.sequential.seq_text.Goals as goal
 pub returns-in_err-checked-clause-fault : goal.returns-in_err-checked-clause-fault
 returns-in_err-checked-clause-fault c =
     let p = err_from_is_err_and c.from_residual.result c.from_residual.ensures.1 in
-    rw (p.1, p.2) (seq_fault c.args.module.now c.args.script.now c.in_err-checked.field-0.0 c.in_err-checked.ensures.fault)
+    rw (p.1, p.2) (seq_fault c.args.module.now c.args.script.now c.args.budget c.in_err-checked.field-0.0 c.in_err-checked.ensures.fault)
 
 pub returns-in_err-checked-clause-no_run : goal.returns-in_err-checked-clause-no_run
 returns-in_err-checked-clause-no_run c =
@@ -31,23 +31,23 @@ replies_text-requires c =
 pub returns-in-Ok-clause-no_run : goal.returns-in-Ok-clause-no_run
 returns-in-Ok-clause-no_run c =
     IfErr-weaker c.replies_text.result _ _
-    (λ e h. no_run_replies c.args.module.now c.args.script.now _ c.in_ok-checked.ensures.alone (map script_call_of c.into_calls.result.items) e (rw (← c.into_calls.ensures) at c.in-Ok.ensures.alone) h)
+    (λ e h. no_run_replies c.args.module.now c.args.script.now c.args.budget _ c.in_ok-checked.ensures.alone (map script_call_of c.into_calls.result.items) e (rw (← c.into_calls.ensures) at c.in-Ok.ensures.alone) h)
     c.replies_text.ensures.fault
 
 pub returns-in_err-opening-in-Err-clause-no_run : goal.returns-in_err-opening-in-Err-clause-no_run
 returns-in_err-opening-in-Err-clause-no_run c =
     let p = err_from_is_err_and c.from_residual-in_err-opening-in-Err.result c.from_residual-in_err-opening-in-Err.ensures.1 in
     let fails = opening_fails c.args.module.now _ c.in_err-opening-in-Err.field-0.0 c.in_ok-checked.ensures.program c.in_err-opening-in-Err.ensures.fault in
-    rw (p.1, p.2) (no_run_opening c.args.module.now c.args.script.now _ c.in_ok-checked.ensures.alone c.in_err-opening-in-Err.field-0.0 fails)
+    rw (p.1, p.2) (no_run_opening c.args.module.now c.args.script.now c.args.budget _ c.in_ok-checked.ensures.alone c.in_err-opening-in-Err.field-0.0 fails)
 
 pub returns-in_err-opening-in-Err-clause-fault : goal.returns-in_err-opening-in-Err-clause-fault
 returns-in_err-opening-in-Err-clause-fault c =
     let p = err_from_is_err_and c.from_residual-in_err-opening-in-Err.result c.from_residual-in_err-opening-in-Err.ensures.1 in
-    rw (p.1, p.2) (seq_open_fault c.args.module.now c.args.script.now _ c.in_err-opening-in-Err.field-0.0 c.in_ok-checked.ensures.program c.in_err-opening-in-Err.ensures.fault)
+    rw (p.1, p.2) (seq_open_fault c.args.module.now c.args.script.now c.args.budget _ c.in_err-opening-in-Err.field-0.0 c.in_ok-checked.ensures.program c.in_err-opening-in-Err.ensures.fault)
 
 pub returns-clause-no_run : goal.returns-clause-no_run
 returns-clause-no_run c =
-    no_run_script c.args.module.now c.args.script.now _ c.in_ok-checked.ensures.alone c.in-Err.fault c.in-Err.ensures.fault
+    no_run_script c.args.module.now c.args.script.now c.args.budget _ c.in_ok-checked.ensures.alone c.in-Err.fault c.in-Err.ensures.fault
 
 pub returns-clause-fault : goal.returns-clause-fault
 returns-clause-fault c =

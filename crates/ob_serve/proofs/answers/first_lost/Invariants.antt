@@ -1,8 +1,9 @@
-use Rattle.std.proofs.Common.{map}
-use Rattle.ob_serve.specs.Served.{HaveEnded}
+use Rattle.std.proofs.Common.{◌<◌, ℕ, [], get_or, map}
+use Rattle.ob_serve.specs.ServeFaults.{IsToldAll}
 use Rattle.ob_text.specs.ScriptView.{script_call_of}
 use Rattle.wf_history.specs.View.{event_of}
 use Rattle.ob_serve.proofs.answers.first_lost.Given as goal
 
 abbrev pub invariant-loop-process : goal.invariant-loop-process
-invariant-loop-process l = HaveEnded l.process (map script_call_of l.scripts) (map event_of l.events)
+invariant-loop-process l =
+    (p : ℕ) → p < l.process → IsToldAll (map event_of l.events) (map script_call_of l.scripts) (λ k. get_or (map (λ list. list.items) l.sent) k []) p

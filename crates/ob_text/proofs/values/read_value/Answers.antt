@@ -1,7 +1,7 @@
 use Rattle.std.proofs.Common.{rules, w32, to_z, of_z}
 use Rattle.std.proofs.lemmas.Int.{to_z-of_z}
 use Rattle.ob_check.specs.declared.program.DataType.TheVariants.{Integer}
-use Rattle.ob_check.specs.declared.program.Scalar.TheVariants.{Int}
+use Rattle.ob_interface.specs.declared.scalar.Scalar.TheVariants.{Int}
 use Rattle.ob_text.specs.Values.{IsValue, integer}
 use Rattle.ob_text.proofs.values.read_value.Goals as goal
 use mir.Val.{SFits}

@@ -3,7 +3,7 @@ use Rattle.std.specs.Prelude.{◌||◌, not}
 use Rattle.ob_grammar.proofs.Exits.{passed_on}
 use Rattle.ob_grammar.specs.View.{heading_of}
 use Rattle.ob_typing.specs.Declarations.{all_simple, inner_scope, with_procedure}
-use Rattle.ob_typing.proofs.Verdict.{Right}
+use Rattle.ob_typing.specs.Verdict.{Right}
 use Rattle.ob_checked.specs.View.{table_of, parameter_of}
 use Rattle.ob_scopes.specs.Objects.{env_behind}
 use Rattle.ob_scopes.specs.Names.{types_in, env_of}

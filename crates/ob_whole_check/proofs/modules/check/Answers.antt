@@ -2,7 +2,7 @@ use Rattle.std.proofs.Common.{sym, ap, subst, ◌∙◌}
 use Rattle.ob_grammar.proofs.Exits.{passed_on}
 use Rattle.ob_grammar.specs.View.{module_of}
 use Rattle.ob_typing.specs.Declarations.{WellTyped}
-use Rattle.ob_typing.proofs.CheckedModules.{checked}
+use Rattle.ob_typing.specs.ModuleVerdicts.{checked}
 use Rattle.ob_rules.proofs.Steps.{fails_as}
 use Rattle.ob_whole_check.proofs.Refused.{well_typed, only_program, refused}
 use Rattle.ob_whole_check.proofs.modules.check.Goals as goal

@@ -5,8 +5,8 @@ use Rattle.ob_grammar.specs.declared.tree.Procedure.{out-Procedure}
 use Rattle.ob_grammar.specs.declared.tree.Declarations.TheViews.{out-Declarations}
 use Rattle.ob_grammar.specs.View.{name_of, constants_of, types_of, variables_of, procedures_in, procedure_before, heading_of, inner_of, body_of}
 use Rattle.ob_typing.specs.Declarations.{declared_by, with_procedure}
-use Rattle.ob_typing.proofs.Verdict.{Right}
-use Rattle.ob_typing.proofs.CheckedModules.{constants, types, variables, procedures}
+use Rattle.ob_typing.specs.Verdict.{Right}
+use Rattle.ob_typing.specs.ModuleVerdicts.{constants, types, variables, procedures}
 use Rattle.ob_checked.specs.declared.program.Procedure.{Procedure}
 use Rattle.ob_checked.specs.View.{parameter_of, procedure_of}
 use Rattle.ob_scopes.specs.Names.{types_in, env_of}

@@ -1,6 +1,6 @@
 use Rattle.std.proofs.Common.{◌≡◌, ◌+◌, drop, length, true}
 use Rattle.ob_grammar.specs.View.{procedures_in}
-use Rattle.ob_typing.proofs.CheckedModules.{procedures}
+use Rattle.ob_typing.specs.ModuleVerdicts.{procedures}
 use Rattle.ob_checked.specs.Types.{Extends}
 use Rattle.ob_scopes.specs.Names.{types_in, env_of}
 use Rattle.ob_rules.specs.Checking.{and_then}

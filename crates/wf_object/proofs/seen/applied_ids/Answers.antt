@@ -23,6 +23,6 @@ pub loop-q-preserved : goal.loop-q-preserved
 loop-q-preserved g c =
     one_more
     (λ q. record { process = q; number = slice_index (begun_of c.args.processes.now) q })
-    (λ q. not (int_eq (toggle_in c.args.z (block_of c.args.shared.now c.args.shared.now.root) q) (toggle_in c.args.z (own_block c.args.shared.now c.args.p) q)))
+    (λ q. not (int_eq (toggle_in c.args.z (block_of c.args.shared.now.cell c.args.shared.now.cell.root) q) (toggle_in c.args.z (own_block c.args.shared.now.cell c.args.p) q)))
     c.loop-q.q c.loop-q.ids.items c.add_if.new.ids.items c.differs.result c.open_id.result
     c.in_ok-add_if.ensures c.differs.ensures c.open_id.ensures c.loop-q.invariant

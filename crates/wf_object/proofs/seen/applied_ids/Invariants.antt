@@ -10,4 +10,4 @@ use Rattle.wf_object.proofs.seen.applied_ids.Given as goal
 abbrev pub invariant-loop-q : goal.invariant-loop-q
 invariant-loop-q g l =
     l.ids.items ≡ map (λ q. record { process = q; number = slice_index (begun_of l.processes) q })
-    (filter (λ q. not (int_eq (toggle_in l.z (block_of l.shared l.shared.root) q) (toggle_in l.z (own_block l.shared l.p) q))) (range_with_len 0 l.q))
+    (filter (λ q. not (int_eq (toggle_in l.z (block_of l.shared.cell l.shared.cell.root) q) (toggle_in l.z (own_block l.shared.cell l.p) q))) (range_with_len 0 l.q))

@@ -1,8 +1,8 @@
 use Rattle.std.proofs.Common.{◌≡◌, ◌+◌, arith, subst, rules}
 use Rattle.std.specs.Prelude.{Option, Some}
 use Rattle.std.proofs.lemmas.Grind.{common_steps}
-use Rattle.ob_mean.specs.Object.{ObjectCall, Reply}
-use Rattle.ob_mean.specs.View.{call_of}
+use Rattle.ob_interface.specs.Call.{ObjectCall, Reply}
+use Rattle.ob_interface.specs.View.{call_of}
 use Rattle.wf_history.specs.History.{Event, IsHistory, Begin}
 use Rattle.wf_table.specs.Object.{history_after, began}
 use Rattle.wf_object.proofs.seen.begin.Goals as goal

@@ -9,7 +9,7 @@ use Rattle.wf_object.proofs.seen.commit.Goals as goal
 
 pub note_commit-requires-clause-in_turn : goal.note_commit-requires-clause-in_turn
 note_commit-requires-clause-in_turn g c =
-    let cell = c.args.shared.now in
+    let cell = c.args.shared.now.cell in
     let ids = applied_ids c.args.z (block_of cell cell.root) (own_block cell c.args.p) (begun_of c.args.processes.now) in
     let linked : is_linked cell c.args.p ≡ true = search rules in
     let here = subst (λ (b : Bool). IsHistory (history_after c.args.records.now.history (if b then Some (Applied ids) else None))) linked c.requires.in_turn in

@@ -2,8 +2,8 @@ use Rattle.std.proofs.Common.{◌≡◌, ◌<◌, ◌-◌, ap, sym, subst, arith
 use Rattle.std.specs.Prelude.{Option, Some}
 use Rattle.std.proofs.lemmas.Grind.{common_steps}
 use Rattle.std.proofs.lemmas.List.{length-map}
-use Rattle.ob_mean.specs.Object.{ObjectCall, Reply}
-use Rattle.ob_mean.specs.View.{call_of, reply_of}
+use Rattle.ob_interface.specs.Call.{ObjectCall, Reply}
+use Rattle.ob_interface.specs.View.{call_of, reply_of}
 use Rattle.wf_history.specs.History.{Event, IsHistory, End}
 use Rattle.wf_table.specs.Table.{Process}
 use Rattle.wf_table.specs.Labels.{at_next}

@@ -50,7 +50,8 @@ returns-in-If-clause-fault c =
     let place = c.in-If.place in
     let next = next_left c.args.statements.now c.loop-statement.statement-index c.statement-item.result c.loop-statement-test.true c.statement-item.is in
     let outside : outside_stmt (stmt_of c.statement-item.result) ≡ Some place =
-    ⊎_elim {C = outside_stmt (stmt_of c.statement-item.result) ≡ Some place} (λ k. ap (λ s. outside_stmt (stmt_of s)) k.2) (λ k. ap (λ s. outside_stmt (stmt_of s)) k.2) c.in-If.is in
+    ⊎_elim {C = outside_stmt (stmt_of c.statement-item.result) ≡ Some place} (λ k. ap (λ s. outside_stmt (stmt_of s)) k.2)
+    (⊎_elim {C = outside_stmt (stmt_of c.statement-item.result) ≡ Some place} (λ k. ap (λ s. outside_stmt (stmt_of s)) k.2) (λ k. ap (λ s. outside_stmt (stmt_of s)) k.2)) c.in-If.is in
     c.loop-statement.invariant.fault (NotSupported place) (outside_fault (env_of c.args.scopes.now) _ c.statement-item.result _ next place place outside)
 
 pub loop-statement-preserved : goal.loop-statement-preserved

@@ -1,9 +1,10 @@
 use Rattle.std.proofs.Common.{◌<◌, All, List, subst}
 use Rattle.std.proofs.lemmas.Result.{err_from_is_err_and}
 use Rattle.ob_check.specs.Exports.{signatures}
-use Rattle.ob_desk.specs.Close.{Agrees, IsCloseFault}
+use Rattle.ob_desk.specs.Close.{IsCloseFault}
+use Rattle.ob_desk_floor.specs.Agreeing.{Agrees}
 use Rattle.ob_desk.specs.Desk.{Terms, desk_in}
-use Rattle.ob_desk.specs.Seat.{Seat}
+use Rattle.ob_desk_floor.specs.Seat.{Seat}
 use Rattle.ob_record.specs.Record.{AreOfExports}
 use Rattle.wf_table.specs.declared.schedule.Turns.{Turns}
 use Rattle.ob_desk.proofs.desk.Desk.closed.Goals as goal

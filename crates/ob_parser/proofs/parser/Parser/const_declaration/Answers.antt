@@ -1,5 +1,4 @@
 use Rattle.std.proofs.Common.{refl}
-use Rattle.ob_parser.specs.Answers.{state}
 use Rattle.ob_parser.proofs.Steps.{closed, fill_token, fill_both}
 use Rattle.ob_parser.proofs.States.{starts, reaches, fails, fails_in, fails_here, past, passed}
 use Rattle.ob_parser.proofs.Names.{begins_name, fill_name}
@@ -8,17 +7,17 @@ use Rattle.ob_parser.proofs.Declarations.{leads_const_declaration}
 use Rattle.ob_parser.proofs.parser.Parser.const_declaration.Goals as goal
 
 pub returns-in_err-name-clause-answers : goal.returns-in_err-name-clause-answers
-returns-in_err-name-clause-answers c =
+returns-in_err-name-clause-answers g c =
     passed _ _ _ _ _ _ c.from_residual.ensures.1
-    (fails_in (starts leads_const_declaration) (closed (λ k. refl)) (fill_both fill_token (fill_both fill_expression fill_token)) _
-    (fails_here (state c.args.self.now) begins_name fill_name _ c.in_err-name.ensures))
+    (fails_in (starts (λ _ _ w. leads_const_declaration)) (closed (λ k. refl)) (fill_both fill_token (fill_both fill_expression fill_token)) _ _
+    (fails_here (g.S.TokenSource.state c.args.self.now.source) begins_name fill_name _ _ c.in_err-name.ensures))
 
 pub returns-in_err-value-clause-answers : goal.returns-in_err-value-clause-answers
-returns-in_err-value-clause-answers c =
-    let way = past (starts leads_const_declaration) (closed (λ k. refl)) c.in_ok-name.ensures in
-    passed _ _ _ _ _ _ c.from_residual-in_err-value.ensures.1 (fails way _ c.in_err-value.ensures.answers)
+returns-in_err-value-clause-answers g c =
+    let way = past (starts (λ _ _ w. leads_const_declaration)) (closed (λ k. refl)) c.in_ok-name.ensures in
+    passed _ _ _ _ _ _ c.from_residual-in_err-value.ensures.1 (fails way _ _ c.in_err-value.ensures.answers)
 
 pub returns-clause-answers : goal.returns-clause-answers
-returns-clause-answers c =
-    let way = past (starts leads_const_declaration) (closed (λ k. refl)) c.in_ok-name.ensures in
+returns-clause-answers g c =
+    let way = past (starts (λ _ _ w. leads_const_declaration)) (closed (λ k. refl)) c.in_ok-name.ensures in
     reaches way c.in_ok-value.ensures.answers.1

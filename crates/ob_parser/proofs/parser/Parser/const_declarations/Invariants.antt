@@ -1,12 +1,11 @@
 use Rattle.std.proofs.Common.{◌-◌, ◌++◌, length, map}
-use Rattle.ob_parser.specs.Answers.{state}
 use Rattle.ob_parser.specs.Forms as forms
 use Rattle.ob_grammar.specs.View.{const_decl_of}
 use Rattle.ob_parser.proofs.States.{Path}
 use Rattle.ob_parser.proofs.parser.Parser.const_declarations.Given as goal
 
 abbrev pub invariant-loop-self : goal.invariant-loop-self
-invariant-loop-self l = Path (forms.const_declarations l.depth) (state l.fn.self) (forms.const_declarations l.depth) (state l.self) (λ xs. map const_decl_of l.all.items ++ xs)
+invariant-loop-self g l = Path (forms.const_declarations l.depth) (g.S.TokenSource.state l.fn.self.source) (forms.const_declarations l.depth) (g.S.TokenSource.state l.self.source) (λ xs. map const_decl_of l.all.items ++ xs)
 
 abbrev pub decreases-loop-self : goal.decreases-loop-self
-decreases-loop-self l = length l.self.tokens.now.tokens - l.self.position
+decreases-loop-self g l = (g.S.TokenSource.state l.self.source).left

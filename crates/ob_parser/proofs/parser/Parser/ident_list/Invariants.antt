@@ -1,5 +1,4 @@
 use Rattle.std.proofs.Common.{◌-◌, ◌++◌, length, map}
-use Rattle.ob_parser.specs.Answers.{state}
 use Rattle.ob_parser.specs.Forms as forms
 use Rattle.ob_scan.specs.declared.token.Kind.{Kind}
 use Rattle.ob_grammar.specs.View.{name_of}
@@ -8,7 +7,7 @@ use Rattle.ob_parser.proofs.States.{Path}
 use Rattle.ob_parser.proofs.parser.Parser.ident_list.Given as goal
 
 abbrev pub invariant-loop-self : goal.invariant-loop-self
-invariant-loop-self l = Path forms.ident_list (state l.fn.self) (tail Kind.Comma forms.comma forms.none forms.name) (state l.self) (λ xs. map name_of l.all.items ++ xs)
+invariant-loop-self g l = Path forms.ident_list (g.S.TokenSource.state l.fn.self.source) (tail Kind.Comma forms.comma forms.none forms.name) (g.S.TokenSource.state l.self.source) (λ xs. map name_of l.all.items ++ xs)
 
 abbrev pub decreases-loop-self : goal.decreases-loop-self
-decreases-loop-self l = length l.self.tokens.now.tokens - l.self.position
+decreases-loop-self g l = (g.S.TokenSource.state l.self.source).left

@@ -1,9 +1,8 @@
-use Rattle.ob_parser.specs.Answers.{state}
 use Rattle.ob_parser.proofs.Names.{went_name}
 use Rattle.ob_parser.proofs.States.{true_at}
 use Rattle.ob_parser.proofs.parser.Parser.name.Goals as goal
 
 pub returns : goal.returns
-returns c =
-    went_name (state c.args.self.now) (state c.take-place.new.self) _ _ c.take-place.ensures.kept c.take-place.ensures.moved
-    (true_at c.if-not-at.ensures.kind) c.bytes.ensures.spelling c.in_ok-text.ensures c.take-place.ensures.place
+returns g c =
+    went_name _ _ c.take-place.ensures.steps (true_at c.if-not-at.ensures.kind) c.bytes.ensures.spelling c.in_ok-text.ensures
+    c.take-place.ensures.place

@@ -1,5 +1,4 @@
 use Rattle.std.proofs.Common.{◌-◌, ◌++◌, length, map, flat_map}
-use Rattle.ob_parser.specs.Answers.{state}
 use Rattle.ob_parser.specs.Forms as forms
 use Rattle.ob_scan.specs.declared.token.Kind.{Kind}
 use Rattle.ob_grammar.specs.Conditions.{in_type}
@@ -10,10 +9,10 @@ use Rattle.ob_parser.proofs.States.{Path}
 use Rattle.ob_parser.proofs.parser.Parser.sections.Given as goal
 
 abbrev pub invariant-loop-self : goal.invariant-loop-self
-invariant-loop-self l =
-    Path (forms.sections l.depth) (state l.fn.self)
-    (tail Kind.Semicolon forms.semicolon (flat_map (λ (s : Section). in_type l.depth s.of_type)) (forms.section l.depth)) (state l.self)
+invariant-loop-self g l =
+    Path (forms.sections l.depth) (g.S.TokenSource.state l.fn.self.source)
+    (tail Kind.Semicolon forms.semicolon (flat_map (λ (s : Section). in_type l.depth s.of_type)) (forms.section l.depth)) (g.S.TokenSource.state l.self.source)
     (λ xs. map section_of l.all.items ++ xs)
 
 abbrev pub decreases-loop-self : goal.decreases-loop-self
-decreases-loop-self l = length l.self.tokens.now.tokens - l.self.position
+decreases-loop-self g l = (g.S.TokenSource.state l.self.source).left

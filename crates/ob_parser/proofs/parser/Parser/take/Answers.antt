@@ -1,12 +1,12 @@
-use Rattle.std.proofs.Common.{arith}
-use Rattle.ob_parser.specs.Answers.{state}
+use Rattle.std.proofs.Common.{Option, sym, ap}
+use Rattle.std.specs.Option.{option_map_or}
+use Rattle.ob_scan.specs.Lexemes.{Lexeme, place_of}
 use Rattle.ob_parser.proofs.States.{went_token}
-use Rattle.ob_parser.proofs.Texts.{place_there}
 use Rattle.ob_parser.proofs.parser.Parser.take.Goals as goal
 
 pub returns-clause-place : goal.returns-clause-place
-returns-clause-place c = place_there c.args.self.now.tokens.now.text _ _ _ _ c.as_slice.ensures.tokens c.requires
+returns-clause-place g c = sym (ap (λ (t : Option Lexeme). option_map_or place_of t 0) c.here-place.ensures.there)
 
 pub returns-clause-took : goal.returns-clause-took
-returns-clause-took c = λ k h.
-    went_token (state c.args.self.now) _ _ h (place_there c.args.self.now.tokens.now.text _ _ _ _ c.as_slice.ensures.tokens c.requires) (omega arith)
+returns-clause-took g c = λ k h.
+    went_token _ c.step.ensures h (sym (ap (λ (t : Option Lexeme). option_map_or place_of t 0) c.here-place.ensures.there))

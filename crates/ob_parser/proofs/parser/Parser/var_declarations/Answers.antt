@@ -2,29 +2,29 @@ use Rattle.std.proofs.Common.{◌++◌, map, sym, ◌∙◌, ap}
 use Rattle.std.proofs.lemmas.List.{append-nil}
 use Rattle.ob_grammar.specs.View.{var_decl_of}
 use Rattle.ob_parser.proofs.Phrases.{leads_each, reads_no_each, each_follows, fill_each}
-use Rattle.ob_parser.proofs.States.{starts, reaches, past, fails_in, passed, path_on, path_as, no_way, stays, went_as, false_at, true_at}
+use Rattle.ob_parser.proofs.States.{at_here, away, starts, reaches, past, fails_in, passed, path_on, path_as, no_way, stays, went_as, false_at, true_at}
 use Rattle.ob_grammar.proofs.Loops.{map-push}
 use Rattle.ob_parser.proofs.Declarations.{repeated_variables}
 use Rattle.ob_parser.proofs.parser.Parser.var_declarations.Goals as goal
 
 pub loop-self-init : goal.loop-self-init
-loop-self-init c = path_as (λ xs. ap (λ all. map var_decl_of all ++ xs) (sym c.new-all.ensures.items)) (no_way _)
+loop-self-init g c = path_as (λ xs. ap (λ all. map var_decl_of all ++ xs) (sym c.new-all.ensures.items)) (no_way _)
 
 pub returns-in_err-next : goal.returns-in_err-next
-returns-in_err-next c =
+returns-in_err-next g c =
     let here = true_at c.loop-self-test.ensures.kind in
-    let way = path_on c.loop-self.invariant (starts (leads_each repeated_variables here)) in
+    let way = path_on c.loop-self.invariant (starts (λ _ _ w. leads_each repeated_variables (at_here w here))) in
     passed _ _ _ _ _ _ c.from_residual.ensures.1
-    (fails_in way (each_follows repeated_variables) (fill_each repeated_variables) _ c.in_err-next.ensures.answers)
+    (fails_in way (each_follows repeated_variables) (fill_each repeated_variables) _ _ c.in_err-next.ensures.answers)
 
 pub loop-self-preserved : goal.loop-self-preserved
-loop-self-preserved c =
+loop-self-preserved g c =
     let here = true_at c.loop-self-test.ensures.kind in
-    let way = path_on c.loop-self.invariant (starts (leads_each repeated_variables here)) in
+    let way = path_on c.loop-self.invariant (starts (λ _ _ w. leads_each repeated_variables (at_here w here))) in
     let way = past way (each_follows repeated_variables) c.in_ok-next.ensures.answers in
     path_as (λ xs. map-push var_decl_of c.loop-self.all.items c.in_ok-next.next xs ∙ ap (λ all. map var_decl_of all ++ xs) (sym c.in_ok-push.ensures.items)) way
 
 pub returns : goal.returns
-returns c =
-    let end = reaches c.loop-self.invariant (stays (reads_no_each repeated_variables (false_at c.loop-self-test.ensures.kind))) in
+returns g c =
+    let end = reaches c.loop-self.invariant (stays (λ _ _ w. reads_no_each repeated_variables (away w (false_at c.loop-self-test.ensures.kind)))) in
     went_as (append-nil (map var_decl_of c.loop-self.all.items)) end

@@ -1,5 +1,5 @@
 use Rattle.std.proofs.Common.{◌≡◌, ◌++◌, ◌∷◌, [], ◌<◌, length}
-use Rattle.ob_mean.specs.View.{call_of}
+use Rattle.ob_interface.specs.View.{call_of}
 use Rattle.wf_history.specs.History.{Begin, IsHistory}
 use Rattle.ob_record_reading.proofs.Seating.{seats_begun}
 use Rattle.ob_record_reading.proofs.calls.Calls.begin.Goals as goal

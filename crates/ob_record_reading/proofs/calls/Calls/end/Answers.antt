@@ -1,5 +1,5 @@
 use Rattle.std.proofs.Common.{◌≡◌, ◌++◌, ◌∷◌, [], ◌<◌, length}
-use Rattle.ob_mean.specs.View.{reply_of}
+use Rattle.ob_interface.specs.View.{reply_of}
 use Rattle.wf_history.specs.History.{End, IsHistory}
 use Rattle.ob_record_reading.proofs.Seating.{seats_ended}
 use Rattle.ob_record_reading.proofs.calls.Calls.end.Goals as goal

@@ -1,4 +1,4 @@
-use Rattle.std.proofs.Common.{[], ◌∷◌, ◌++◌, length, is_ok, ap, ◌∙◌}
+use Rattle.std.proofs.Common.{[], ◌∷◌, ◌++◌, length, is_ok, if◌then◌else◌, ap, ◌∙◌}
 use Rattle.ob_scopes.specs.Objects.{scope_of, env_behind}
 use Rattle.ob_scopes.specs.Names.{types_in}
 use Rattle.ob_scopes.proofs.Kept.{entered}
@@ -14,10 +14,11 @@ invariant_of-self c =
           c.replace-outer.ensures.value c.replace-outer.ensures.after c.push.ensures.items;
     }
 
-pub returns-clause-ok : goal.returns-clause-ok
-returns-clause-ok c =
+pub returns-in-Ok-clause-ok : goal.returns-in-Ok-clause-ok
+returns-in-Ok-clause-ok c =
     let s = c.args.self.now in
     let types = types_in s in
+    let pushed = c.push.ensures.items ∙ ap (λ r. if is_ok r then s.around.items ++ c.replace-outer.result ∷ [] else s.around.items) c.in-Ok.is in
     ap (λ x. scope_of types x ∷ env_behind types c.push.new.self.items []) c.replace-outer.ensures.after
-    ∙ ap (λ ss. scope_of types c.args.scope ∷ env_behind types ss []) (c.in_ok-push.ensures.items ∙ ap (λ x. s.around.items ++ x ∷ []) c.replace-outer.ensures.value)
+    ∙ ap (λ ss. scope_of types c.args.scope ∷ env_behind types ss []) (pushed ∙ ap (λ x. s.around.items ++ x ∷ []) c.replace-outer.ensures.value)
     ∙ ap (λ env. scope_of types c.args.scope ∷ env) (env_behind-push types s.around.items s.own [])

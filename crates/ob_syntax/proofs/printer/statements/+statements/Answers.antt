@@ -6,7 +6,7 @@ use Rattle.ob_grammar.specs.Tree
 use Rattle.ob_grammar.specs.View.{expr_of, stmt_of, stmts_in, branches_in}
 use Rattle.ob_grammar.specs.View.{otherwise_of}
 use Rattle.ob_syntax.specs.Printing.{spaced, fixed, expr_words, stmt_words, stmts_words, branch_words, else_words}
-use Rattle.ob_grammar.proofs.Rows.{stmt_of-if, stmt_of-while}
+use Rattle.ob_grammar.proofs.Rows.{stmt_of-if, stmt_of-while, stmt_of-repeat}
 use Rattle.ob_syntax.proofs.PrintedLoops.{writes_both}
 use Rattle.ob_syntax.proofs.printer.statements.+statements.Goals as goal
 use Rattle.ob_syntax.proofs.printer.statements.+statements.Goals.{push_statement-in-Some+in_ok-push_word-in-If-2+in_ok-push_statements-in-If, push_statement-in_default}
@@ -54,3 +54,19 @@ push_statement-returns-in_ok-push_statements-in-While t c =
     (writes_both _ (stmts_words (stmts_in body)) (fixed Kind.End ∷ []) c.in_ok-push_statements-in-While.ensures last)))
     ∙ ap (λ s. string_bytes c.args.text.now ++ spaced (stmt_words s)) (sym e))
     c.push_word-in-While-3.ensures
+
+pub push_statement-returns-in_ok-push_word-in-Repeat-2 : goal.push_statement-returns-in_ok-push_word-in-Repeat-2
+push_statement-returns-in_ok-push_word-in-Repeat-2 t c =
+    let place = c.in-Repeat.place in
+    let condition = c.in-Repeat.condition in
+    let body = c.deref-in-Repeat.result.now in
+    let behind = fixed Kind.Until ∷ expr_words (expr_of condition) in
+    let e : stmt_of c.args.statement.now ≡ Tree.Repeat place (stmts_in body) (expr_of condition) =
+    ap stmt_of c.in-Repeat.is ∙ stmt_of-repeat place c.in-Repeat.body condition ∙ ap (λ ss. Tree.Repeat place (stmts_in ss) (expr_of condition)) (sym c.deref-in-Repeat.ensures.value) in
+    on_ok_weaker c.push_expr-in-Repeat.result
+    (λ (last : string_bytes c.push_expr-in-Repeat.new.text ≡ string_bytes c.push_word-in-Repeat-2.new.text ++ spaced (expr_words (expr_of condition))).
+    writes_both _ (fixed Kind.Repeat ∷ []) (stmts_words (stmts_in body) ++ behind) c.in_ok-push_word-in-Repeat.ensures
+    (writes_both _ (stmts_words (stmts_in body)) behind c.in_ok-push_statements-in-Repeat.ensures
+    (writes_both _ (fixed Kind.Until ∷ []) (expr_words (expr_of condition)) c.in_ok-push_word-in-Repeat-2.ensures last))
+    ∙ ap (λ s. string_bytes c.args.text.now ++ spaced (stmt_words s)) (sym e))
+    c.push_expr-in-Repeat.ensures

@@ -35,8 +35,8 @@ note_step-requires-clause-in_turn g c =
     let within : c.args.p < s.sizes.processes = rw (← c.self.view_is) at c.requires in
     let y = c.index-process.result.now in
     let also = stands s.processes.items s.sizes.processes c.args.p y c.self.invariant.sound.count within c.index-process.ensures in
-    subst (λ (ps : List (Process _)). IsHistory (history_after s.records.history (event_at y.label m s.sizes s.shared ps c.args.p y))) (sym c.deref.ensures.value)
-    (event_in_turn y.label m s.sizes s.shared s.processes.items c.args.p y s.records.history refl (c.self.invariant.sound.in_range _ _ also) (c.self.invariant.sound.own_events _ _ also) c.self.invariant.sound.in_turn)
+    subst (λ (ps : List (Process _)). IsHistory (history_after s.records.history (event_at y.label m s.sizes s.shared.cell ps c.args.p y))) (sym c.deref.ensures.value)
+    (event_in_turn y.label m s.sizes s.shared.cell s.processes.items c.args.p y s.records.history refl (c.self.invariant.sound.in_range _ _ also) (c.self.invariant.sound.own_events _ _ also) c.self.invariant.sound.in_turn)
 
 pub count_step-requires-clause-bodies : goal.count_step-requires-clause-bodies
 count_step-requires-clause-bodies g c =
@@ -103,7 +103,7 @@ invariant_of-self-2 g c =
     let at = stands s.processes.items s.sizes.processes c.args.p x c.self.invariant.sound.count within c.index_mut.ensures.value in
     let also = stands s.processes.items s.sizes.processes c.args.p y c.self.invariant.sound.count within c.index-process.ensures in
     let same : y ≡ x = same_Some y x (sym also ∙ at) in
-    let state : State _ = record { cell = s.shared; processes = s.processes.items; records = s.records } in
+    let state : State _ = record { cell = s.shared.cell; processes = s.processes.items; records = s.records } in
     let records = noted_is m s.sizes state c.args.p x at c.note_step.new.records c.deref.result.now y c.in_ok-out.ensures.ok c.deref.ensures.value same in
     let sp = c.index_mut-spent.result.now in
     let count : c.args.p < length s.spent.items = omega (arith, within, c.self.invariant.spends.count, c.self.invariant.sound.count) in
@@ -113,8 +113,8 @@ invariant_of-self-2 g c =
     ∙ ap (λ (b : Bool). spent_after c.process.inside.label b (spent_of s.spent.items c.args.p)) c.has_more-begins.ensures
     ∙ ap (λ (k : Process _). spent_after k.label (has_more y) (spent_of s.spent.items c.args.p)) c.process.view_is
     ∙ ap (λ (k : Process _). spent_after k.label (has_more k) (spent_of s.spent.items c.args.p)) same in
-    rw (c.act.ensures.cell, c.act.ensures.process, records, spends)
-    (step_kept m (e.lawful s.engine) (e.fits s.engine) (e.ready s.engine) (e.effect s.engine) (g.met.E.Engine.law s.engine) s.sizes s.opening.items state c.args.p x at s.spent.items c.self.invariant)
+    rw (c.act.ensures.cell, c.act.ensures.form, c.act.ensures.process, records, spends)
+    (step_kept m (e.lawful s.engine) (e.fits s.engine) (e.ready s.engine) (e.effect s.engine) (g.met.E.Engine.law s.engine) s.sizes s.opening.items state c.args.p x at s.spent.items s.shared.form c.self.invariant)
 
 pub returns-clause-stepped : goal.returns-clause-stepped
 returns-clause-stepped g c =
@@ -126,7 +126,7 @@ returns-clause-stepped g c =
     let at = stands s.processes.items s.sizes.processes c.args.p x c.self.invariant.sound.count within c.index_mut.ensures.value in
     let also = stands s.processes.items s.sizes.processes c.args.p y c.self.invariant.sound.count within c.index-process.ensures in
     let same : y ≡ x = same_Some y x (sym also ∙ at) in
-    let state : State _ = record { cell = s.shared; processes = s.processes.items; records = s.records } in
+    let state : State _ = record { cell = s.shared.cell; processes = s.processes.items; records = s.records } in
     let records = noted_is m s.sizes state c.args.p x at c.note_step.new.records c.deref.result.now y c.in_ok-out.ensures.ok c.deref.ensures.value same in
     let sp = c.index_mut-spent.result.now in
     let count : c.args.p < length s.spent.items = omega (arith, within, c.self.invariant.spends.count, c.self.invariant.sound.count) in
@@ -136,7 +136,7 @@ returns-clause-stepped g c =
     ∙ ap (λ (b : Bool). spent_after c.process.inside.label b (spent_of s.spent.items c.args.p)) c.has_more-begins.ensures
     ∙ ap (λ (k : Process _). spent_after k.label (has_more y) (spent_of s.spent.items c.args.p)) c.process.view_is
     ∙ ap (λ (k : Process _). spent_after k.label (has_more k) (spent_of s.spent.items c.args.p)) same in
-    let moved = step_is m s.sizes state c.args.p x at c.act.new.shared c.act.new.q c.note_step.new.records c.act.ensures.cell c.act.ensures.process records in
+    let moved = step_is m s.sizes state c.args.p x at c.act.new.shared.cell c.act.new.q c.note_step.new.records c.act.ensures.cell c.act.ensures.process records in
     let paid : set s.spent.items c.args.p c.count_step.new.spent ≡ spent_by_step state s.spent.items c.args.p =
     ap (λ (k : Spent). set s.spent.items c.args.p k) spends ∙ sym (ap (count_by spent_after unspent s.spent.items c.args.p) at) in
     rw (← c.self.view_is)
@@ -150,7 +150,7 @@ returns-clause-answer g c =
     let within : c.args.p < s.sizes.processes = rw (← c.self.view_is) at c.requires in
     let y = c.index-process.result.now in
     let also = stands s.processes.items s.sizes.processes c.args.p y c.self.invariant.sound.count within c.index-process.ensures in
-    rw (← c.self.view_is) (answer_is m s.sizes (record { cell = s.shared; processes = s.processes.items; records = s.records }) c.args.p y also _ (event_at y.label m s.sizes s.shared c.deref.result.now c.args.p y) c.in_ok-out.ensures.answer (ap (λ (ps : List (Process _)). event_at y.label m s.sizes s.shared ps c.args.p y) c.deref.ensures.value))
+    rw (← c.self.view_is) (answer_is m s.sizes (record { cell = s.shared.cell; processes = s.processes.items; records = s.records }) c.args.p y also _ (event_at y.label m s.sizes s.shared.cell c.deref.result.now c.args.p y) c.in_ok-out.ensures.answer (ap (λ (ps : List (Process _)). event_at y.label m s.sizes s.shared.cell ps c.args.p y) c.deref.ensures.value))
 
 pub returns-clause-turn : goal.returns-clause-turn
 returns-clause-turn g c =
@@ -165,6 +165,6 @@ returns-clause-few g c =
     let within : c.args.p < s.sizes.processes = rw (← c.self.view_is) at c.requires in
     let y = c.index-process.result.now in
     let also = stands s.processes.items s.sizes.processes c.args.p y c.self.invariant.sound.count within c.index-process.ensures in
-    let state : State _ = record { cell = s.shared; processes = s.processes.items; records = s.records } in
-    let answer = answer_is m s.sizes state c.args.p y also _ (event_at y.label m s.sizes s.shared c.deref.result.now c.args.p y) c.in_ok-out.ensures.answer (ap (λ (ps : List (Process _)). event_at y.label m s.sizes s.shared ps c.args.p y) c.deref.ensures.value) in
+    let state : State _ = record { cell = s.shared.cell; processes = s.processes.items; records = s.records } in
+    let answer = answer_is m s.sizes state c.args.p y also _ (event_at y.label m s.sizes s.shared.cell c.deref.result.now c.args.p y) c.in_ok-out.ensures.answer (ap (λ (ps : List (Process _)). event_at y.label m s.sizes s.shared.cell ps c.args.p y) c.deref.ensures.value) in
     subst (λ (a : Answer). length (values_answered a) ≤ 8) (sym answer) (few_answered m (e.lawful s.engine) (e.fits s.engine) (e.ready s.engine) (e.effect s.engine) (g.met.E.Engine.law s.engine) s.sizes s.opening.items state c.args.p c.self.invariant.sound)

@@ -1,5 +1,5 @@
 use Rattle.std.proofs.Common.{◌<◌, ℕ, sym, ap}
-use Rattle.ob_mean.specs.View.{call_of}
+use Rattle.ob_interface.specs.View.{call_of}
 use Rattle.wf_table.specs.Object.{State, submit_by}
 use Rattle.wf_table.specs.Table.{Process}
 use Rattle.wf_object.proofs.Keeps.{submit_kept}
@@ -14,9 +14,9 @@ invariant_of-self-2 g c =
     let x = c.index_mut-process.result.now in
     let at = stands s.processes.items s.sizes.processes c.args.p x c.self.invariant.sound.count within c.index_mut-process.ensures.value in
     let e = g.E.Engine in
-    let state : State _ = record { cell = s.shared; processes = s.processes.items; records = s.records } in
+    let state : State _ = record { cell = s.shared.cell; processes = s.processes.items; records = s.records } in
     rw (c.in_ok-number.ensures.submitted)
-    (submit_kept (e.meaning s.engine) (e.lawful s.engine) (e.fits s.engine) (e.ready s.engine) (e.effect s.engine) (g.met.E.Engine.law s.engine) s.sizes s.opening.items state c.args.p x at s.spent.items c.self.invariant (call_of c.args.call) fit)
+    (submit_kept (e.meaning s.engine) (e.lawful s.engine) (e.fits s.engine) (e.ready s.engine) (e.effect s.engine) (g.met.E.Engine.law s.engine) s.sizes s.opening.items state c.args.p x at s.spent.items s.shared.form c.self.invariant (call_of c.args.call) fit)
 
 pub returns-clause-submitted : goal.returns-clause-submitted
 returns-clause-submitted g c =
@@ -24,7 +24,7 @@ returns-clause-submitted g c =
     let within : c.args.p < s.sizes.processes = rw (← c.self.view_is) at c.requires.process in
     let x = c.index_mut-process.result.now in
     let at = stands s.processes.items s.sizes.processes c.args.p x c.self.invariant.sound.count within c.index_mut-process.ensures.value in
-    let state : State _ = record { cell = s.shared; processes = s.processes.items; records = s.records } in
+    let state : State _ = record { cell = s.shared.cell; processes = s.processes.items; records = s.records } in
     rw (← c.self.view_is, c.in_ok-number.ensures.submitted) (ap (λ (k : State _). record { engine = s.engine; sizes = s.sizes; opening = s.opening.items; state = k; spent = s.spent.items }) (sym (ap (submit_by state c.args.p (call_of c.args.call)) at)))
 
 pub returns-clause-id : goal.returns-clause-id
@@ -33,5 +33,5 @@ returns-clause-id g c =
     let within : c.args.p < s.sizes.processes = rw (← c.self.view_is) at c.requires.process in
     let x = c.index_mut-process.result.now in
     let at = stands s.processes.items s.sizes.processes c.args.p x c.self.invariant.sound.count within c.index_mut-process.ensures.value in
-    let state : State _ = record { cell = s.shared; processes = s.processes.items; records = s.records } in
+    let state : State _ = record { cell = s.shared.cell; processes = s.processes.items; records = s.records } in
     rw (← c.self.view_is) (ap (λ (n : ℕ). record { process = c.args.p; number = n }) (number_is (g.E.Engine.meaning s.engine) s.sizes state c.args.p x at c.in_ok-number.number c.submit.new.self.calls (call_of c.args.call) c.in_ok-number.ensures.number (ap (λ (q : Process _). q.calls) c.in_ok-number.ensures.submitted)))

@@ -1,0 +1,142 @@
+//! Blocks of one form, whose words lie side by side.
+
+ghost use Rattle.std.specs.Prelude.{◌≡◌, ◌≢◌, ℕ, ◌+◌, ◌*◌, ◌<◌, ◌≤◌, IfOk, length, take, drop, replicate, pos, slice_index_or, slice_set, []};
+ghost use Rattle.std.specs.Borrow.{sem};
+ghost use Rattle.std.specs.Int.{bit_at};
+ghost use Rattle.ll_cell.specs.Cell.{word_at};
+ghost use Rattle.ll_cell.specs.Form.{row_words, kept_words, IsBit, MayStand};
+
+use crate::fault::CellFault;
+use crate::form::{Form, Place};
+use std::alloc::Global;
+use std::marker::Model;
+
+/// Blocks of one form. The words that are no bits lie in one list, block after block; the bits of
+/// a block are the bits of one number.
+#[derive(Drop)]
+pub struct Table {
+    form: Form,
+    /// How many words of a block are no bits.
+    stride: usize,
+    words: Vec<i64>,
+    bits: Vec<u16>,
+}
+
+impl Model for Table {
+    ghost use Rattle.ll_cell.specs.Rows.{Rows, rows_kept, IsTable};
+
+    ghost Value = { Rows };
+
+    ghost view = { λ t. record { form = t.form; rows = rows_kept t.form t.words.items t.bits.items } };
+
+    ghost invariant = { λ t. IsTable t.form t.stride t.words.items t.bits.items };
+}
+
+impl Table {
+    ghost use Rattle.ll_cell.specs.Rows.{row_of};
+    ghost use Rattle.ll_cell.specs.LendingRows.{LendsFront};
+
+    /// So many blocks of 0s.
+    pub fn new(alloc: Global, rows: usize, form: Form) -> Result<Self, CellFault>
+        requires few { form.parts ≤ 16 }
+        requires part { 0 < form.part }
+        ensures form { IfOk result (λ t. t.form ≡ form) }
+        ensures rows { IfOk result (λ t. t.rows ≡ replicate rows (replicate (row_words form) (pos 0))) }
+        ensures fault { result ≢ Err CellFault.Processes }
+    {
+        let Some(stride) = form.kept() else {
+            return Err(CellFault::NoMemory);
+        };
+        let Some(count) = stride.checked_mul(rows) else {
+            return Err(CellFault::NoMemory);
+        };
+        let words = vec![in alloc; 0; count]?;
+        let bits = vec![in alloc; 0; rows]?;
+        Ok(Table {
+            form,
+            stride,
+            words,
+            bits,
+        })
+    }
+
+    /// How many words are kept that are no bits.
+    pub fn words(&self) -> usize
+        ensures { result ≡ kept_words self.now.form * length self.now.rows }
+    {
+        self.words.len()
+    }
+
+    /// Word i of a block.
+    pub fn word(&self, row: usize, i: usize) -> i64
+        requires row { row < length self.now.rows }
+        requires word { i < length (row_of self.now row) }
+        ensures { result ≡ word_at (row_of self.now row) i }
+    {
+        match self.form.place(i) {
+            Place::Word(k) => self.words[row * self.stride + k],
+            Place::Bit(q) => i64::from(self.bits[row] >> q & 1),
+        }
+    }
+
+    /// Writes word i of a block.
+    pub fn write(&mut self, row: usize, i: usize, w: i64)
+        requires row { row < length self.old.rows }
+        requires word { i < length (row_of self.old row) }
+        requires bit { MayStand self.old.form i w }
+        ensures { self.new ≡ record self.old { rows = slice_set self.old.rows row (slice_set (row_of self.old row) i w) } }
+    {
+        match self.form.place(i) {
+            Place::Word(k) => {
+                self.words[row * self.stride + k] = w;
+            }
+            Place::Bit(q) => {
+                let bits = self.bits[row];
+                self.bits[row] = with_bit(bits, q, w);
+            }
+        }
+    }
+
+    /// The first words of a block.
+    pub fn front(&self, row: usize, count: usize) -> &[i64]
+        requires row { row < length self.now.rows }
+        requires words { count ≤ self.now.form.head }
+        ensures { result.now ≡ take count (row_of self.now row) }
+    {
+        let first = row * self.stride;
+        run(&self.words, first, count)
+    }
+
+    /// The first words of a block, lent to be written.
+    pub fn front_mut(&mut self, row: usize, count: usize) -> &mut [i64]
+        requires row { row < length self.old.rows }
+        requires words { count ≤ self.old.form.head }
+        ensures* writes_back { sem 𝓛 (LendsFront self.entry row result) }
+        ensures value { result.now ≡ take count (row_of self.old row) }
+    {
+        let first = row * self.stride;
+        self.words.slice_mut(first..first + count)
+    }
+}
+
+/// So many words from the first one on.
+fn run(words: &[i64], first: usize, count: usize) -> &[i64]
+    requires { first + count ≤ length words.now }
+    ensures { result.now ≡ take count (drop first words.now) }
+{
+    &words[first..first + count]
+}
+
+/// The bits with bit q set to w.
+fn with_bit(bits: u16, q: usize, w: i64) -> u16
+    requires place { q < 16 }
+    requires bit { IsBit w }
+    ensures set { pos (bit_at result q) ≡ w }
+    ensures others { (j : ℕ) → j < 16 → j ≢ q → bit_at result j ≡ bit_at bits j }
+{
+    if w == 0 {
+        bits & !(1 << q)
+    } else {
+        bits | 1 << q
+    }
+}

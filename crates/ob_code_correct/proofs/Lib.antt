@@ -1,0 +1,4 @@
+pub mod Fitting
+pub mod Ends
+pub mod Law
+pub mod Bodies

@@ -1,0 +1,4 @@
+pub mod Scoped
+pub mod Growing
+pub mod Entering
+pub mod Behind

@@ -1,0 +1,6 @@
+pub mod Counted
+pub mod Shapes
+pub mod Frames
+pub mod View
+pub mod Reading
+pub mod Layout

@@ -1,0 +1,6 @@
+use Rattle.ob_code_machine.proofs.Listings.{line_more}
+use Rattle.ob_code_machine.proofs.listing.push_lines.Goals as goal
+
+pub loop-place-preserved : goal.loop-place-preserved
+loop-place-preserved c =
+    line_more _ _ _ c.args.code.now.instructions c.loop-place.place c.args.to c.loop-place-test.true c.in_ok-push_line_at.ensures c.loop-place.invariant

@@ -1,0 +1,18 @@
+-- What the private functions of a step do, told by the definitions of the machine.
+use Rattle.std.specs.Prelude.{◌≡◌, ℤ, List}
+use Rattle.ob_code_machine.specs.declared.effect.Answer.{Answer}
+use Rattle.ob_code_machine.specs.declared.effect.Answer.TheVariants.{Done, Trap, Stuck}
+use Rattle.ob_code_machine.specs.Words.{Made, Gives, Traps, Sticks}
+use Rattle.ob_code_machine.specs.StackWords.{StackWords, with_words}
+
+-- the stack is left as the definition makes it; with a trap, and where there is nothing to be made, as it was
+abbrev pub LeavesStack : Answer → (old new : StackWords) → Made (List ℤ) → Type 0
+LeavesStack r old new (Gives words) = (r ≡ Done) × (new ≡ with_words old words)
+LeavesStack r old new (Traps k) = (r ≡ Trap k) × (new ≡ old)
+LeavesStack r old new Sticks = (r ≡ Stuck) × (new ≡ old)
+
+-- the same of block and stack
+abbrev pub HasEffect : Answer → (old_block new_block : List ℤ) → (old new : StackWords) → Made (List ℤ × List ℤ) → Type 0
+HasEffect r b b' s s' (Gives made) = (r ≡ Done) × (b' ≡ made.0) × (s' ≡ with_words s made.1)
+HasEffect r b b' s s' (Traps k) = (r ≡ Trap k) × (b' ≡ b) × (s' ≡ s)
+HasEffect r b b' s s' Sticks = (r ≡ Stuck) × (b' ≡ b) × (s' ≡ s)

@@ -1,0 +1,24 @@
+//! A room of ob_code: the stack machine. Here stand its instructions, the code of procedures and its text, and the body of one call, which runs it.
+#![tactic(auto)]
+
+pub mod argument;
+pub mod body;
+pub mod code;
+mod effect;
+mod entering;
+pub mod fault;
+pub mod instr;
+pub mod laws;
+pub mod listing;
+mod operators;
+mod saved;
+mod stack;
+pub mod turn;
+
+pub use argument::Argument;
+pub use body::Body;
+pub use code::Code;
+pub use fault::CodeFault;
+pub use instr::Instr;
+pub use listing::list;
+pub use turn::BodyTurn;

@@ -1,0 +1,9 @@
+mod Shapes
+mod Plain
+mod Names
+mod Ranges
+mod Typed
+mod Declared
+mod Formed
+mod Held
+mod Programs

@@ -1,0 +1,20 @@
+//! Laws of checked programs. What a function here ensures is proved; it does nothing.
+
+ghost use Rattle.std.specs.Prelude.{List, ℕ};
+ghost use Rattle.ob_grammar.specs.Conditions.{KeepsConditions};
+ghost use Rattle.ob_grammar.specs.Texts.{HasText};
+ghost use Rattle.ob_grammar.specs.Tree.{Module};
+ghost use Rattle.ob_typing.specs.Declarations.{WellTyped};
+ghost use Rattle.ob_typing.specs.ModuleText.{IsModule};
+ghost use Rattle.ob_typing.specs.Program.{Program};
+ghost use Rattle.ob_code_scheme.specs.WellFormed.{IsWellFormed};
+
+/// The program of a well typed module is well formed, where the module has a text and keeps the conditions beside the grammar.
+pub fn well_typed_is_well_formed()
+    ensures { (m : Module) (program : Program) → HasText m → KeepsConditions m → WellTyped m program → IsWellFormed program }
+{}
+
+/// So is the program that a text stands for.
+pub fn modules_are_well_formed()
+    ensures { (text : List ℕ) (program : Program) → IsModule text program → IsWellFormed program }
+{}

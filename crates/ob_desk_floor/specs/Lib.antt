@@ -1,0 +1,3 @@
+pub mod Seat
+pub mod Floor
+pub mod Agreeing

@@ -1,0 +1,180 @@
+//! The machine that a desk keeps under its lock.
+
+ghost use Rattle.std.specs.Prelude.{◌≡◌, ◌-◌, ◌^◌, ◌<◌, ◌≤◌, All, IfOk, OnOk, OnErr, length, map};
+ghost use Rattle.ob_interface.specs.View.{call_of};
+ghost use Rattle.ob_text.specs.ScriptView.{object_call, script_call_of};
+ghost use Rattle.wf_play.specs.Played.{IsSameObject, scripts_of};
+ghost use Rattle.wf_table.specs.Runs.{run, submissions};
+
+use crate::seat::Seat;
+use ob_interface::NoMemory;
+use ob_interface::call::Call;
+use ob_text::script::ScriptCall;
+use smallvec::SmallVec;
+use std::alloc::Global;
+use std::marker::Model;
+use wf_object::{Engine, Machine, NewFault, StepOut, Turns};
+use wf_theorems::runs::every_turn;
+
+/// A machine, the calls that were submitted to it before any step, and the turns that each process took.
+#[derive(Drop)]
+pub struct Floor<E: Engine> {
+    machine: Machine<E>,
+    scripts: Vec<ScriptCall>,
+    counts: Vec<u128>,
+}
+
+impl<E: Engine> Model for Floor<E> {
+    ghost use Rattle.std.specs.Prelude.{map};
+    ghost use Rattle.ob_desk_floor.specs.Floor as floor;
+    ghost use Rattle.ob_text.specs.ScriptView.{script_call_of};
+
+    ghost Value = { floor.Floor E E.Run };
+
+    ghost view = { λ f. record { machine = f.machine; scripts = map script_call_of f.scripts.items; counts = f.counts.items } };
+
+    ghost invariant = { λ f. floor.IsFloor (E.meaning f.machine.engine) (E.lawful f.machine.engine) (E.fits f.machine.engine) (E.ready f.machine.engine) (record { machine = f.machine; scripts = map script_call_of f.scripts.items; counts = f.counts.items }) };
+}
+
+impl<E: Engine> Floor<E> {
+    ghost use Rattle.ob_desk_floor.specs.Floor.{IsFloor, HasNoTurns, floor_after};
+    ghost use Rattle.ob_desk_floor.specs.Seat.{seat_after};
+    ghost use Rattle.wf_object.specs.View.{answer_in};
+    ghost use Rattle.wf_table.specs.Object.{answer_of};
+    ghost use Rattle.wf_table.specs.Start.{sizes_of};
+
+    /// An object of n processes that begins with a lawful block, with the calls of the scripts submitted in order, before any
+    /// turn.
+    pub fn new(
+        alloc: Global,
+        engine: E,
+        n: usize,
+        opening: &[i64],
+        scripts: Vec<ScriptCall>,
+    ) -> Result<Floor<E>, NoMemory>
+        requires some { 0 < n }
+        requires few { n ≤ 16 }
+        requires opening { E.lawful engine opening.now }
+        requires callers { All (λ c. c.process < n) scripts.items }
+        requires fits { All (λ c. E.fits engine (object_call (script_call_of c))) scripts.items }
+        ensures engine { IfOk result (λ f. f.machine.engine ≡ engine) }
+        ensures sizes { IfOk result (λ f. f.machine.sizes ≡ sizes_of (E.meaning engine) n) }
+        ensures opening { IfOk result (λ f. f.machine.opening ≡ opening.now) }
+        ensures scripts { IfOk result (λ f. f.scripts ≡ map script_call_of scripts.items) }
+        ensures no_turns { IfOk result HasNoTurns }
+        ensures floor { IfOk result (IsFloor (E.meaning engine) (E.lawful engine) (E.fits engine) (E.ready engine)) }
+    {
+        let mut machine = match Machine::new(alloc, engine, n, opening) {
+            Ok(machine) => machine,
+            Err(NewFault::NoMemory) => return Err(NoMemory),
+            Err(NewFault::Processes) => unreachable!(),
+        };
+        submit_all(alloc, &mut machine, scripts.as_slice())?;
+        let counts = vec![in alloc; 0; n]?;
+        Ok(Floor {
+            machine,
+            scripts,
+            counts,
+        })
+    }
+
+    /// One turn of the seat's process: a step of the machine, one turn more on floor and seat, and the step's answer, if there
+    /// is one, added to the seat's. Nothing changes where memory runs out.
+    pub fn turn(&mut self, seat: &mut Seat) -> Result<StepOut, NoMemory>
+        requires process { seat.old.process < self.old.machine.sizes.processes }
+        requires room { seat.old.turns < 2 ^ 128 - 1 }
+        ensures floor { OnOk result (self.new ≡ floor_after (E.meaning self.old.machine.engine) self.old seat.old.process) }
+        ensures answer { IfOk result (λ out. answer_in out ≡ answer_of (E.meaning self.old.machine.engine) self.old.machine.sizes self.old.machine.state seat.old.process) }
+        ensures seat { IfOk result (λ out. seat.new ≡ seat_after (answer_in out) seat.old) }
+        ensures no_floor { OnErr result (self.new ≡ self.old) }
+        ensures no_seat { OnErr result (seat.new ≡ seat.old) }
+    {
+        let process = seat.process();
+        // These do nothing: the count of the process's turns is in the range of a u128.
+        every_turn::<E>();
+        self.machine.keeps();
+        count_runs(self.machine.schedule());
+        let out = seat.step(&mut self.machine)?;
+        self.counts[process] += 1;
+        Ok(out)
+    }
+
+    /// The machine: a run of the scripts and of its own schedule brought it where it stands.
+    pub fn machine(&self) -> &Machine<E>
+        ensures machine { result.now ≡ self.now.machine }
+        ensures floor { IsFloor (E.meaning self.now.machine.engine) (E.lawful self.now.machine.engine) (E.fits self.now.machine.engine) (E.ready self.now.machine.engine) self.now }
+    {
+        &self.machine
+    }
+
+    /// The calls that were submitted before any turn.
+    pub fn scripts(&self) -> &[ScriptCall]
+        ensures { map script_call_of result.now ≡ self.now.scripts }
+    {
+        self.scripts.as_slice()
+    }
+
+    /// How many processes share the machine.
+    pub fn processes(&self) -> usize
+        ensures { result ≡ self.now.machine.sizes.processes }
+    {
+        self.counts.len()
+    }
+
+    /// The turns that each process took.
+    pub fn counts(&self) -> &[u128]
+        ensures { result.now ≡ self.now.counts }
+    {
+        self.counts.as_slice()
+    }
+
+    /// The machine, the scripts, and the turns of each process.
+    pub fn into_parts(self) -> (Machine<E>, Vec<ScriptCall>, Vec<u128>)
+        ensures machine { result.0 ≡ self.machine }
+        ensures scripts { map script_call_of result.1.items ≡ self.scripts }
+        ensures counts { result.2.items ≡ self.counts }
+        ensures floor { IsFloor (E.meaning self.machine.engine) (E.lawful self.machine.engine) (E.fits self.machine.engine) (E.ready self.machine.engine) self }
+    {
+        let Floor {
+            machine,
+            scripts,
+            counts,
+        } = self;
+        (machine, scripts, counts)
+    }
+}
+
+/// Nothing happens: a schedule has fewer runs of turns than numbers of its length.
+fn count_runs(schedule: &[Turns])
+    ensures { length schedule.now < 2 ^ 64 }
+{
+    let _ = schedule.len();
+}
+
+/// Submits copies of the calls, in order.
+fn submit_all<E: Engine>(
+    alloc: Global,
+    machine: &mut Machine<E>,
+    scripts: &[ScriptCall],
+) -> Result<(), NoMemory>
+    requires callers { All (λ c. c.process < machine.old.sizes.processes) scripts.now }
+    requires fits { All (λ c. E.fits machine.old.engine (object_call (script_call_of c))) scripts.now }
+    ensures object { OnOk result (IsSameObject machine.new machine.old) }
+    ensures state { OnOk result (machine.new.state ≡ run (E.meaning machine.old.engine) machine.old.sizes (submissions (scripts_of (map script_call_of scripts.now))) machine.old.state) }
+{
+    for call in scripts {
+        let asked = asked(alloc, call)?;
+        machine.submit(call.process, asked)?;
+    }
+    Ok(())
+}
+
+/// What a script's call asks of the object.
+fn asked(alloc: Global, call: &ScriptCall) -> Result<Call, NoMemory>
+    ensures { IfOk result (λ c. call_of c ≡ object_call (script_call_of call.now)) }
+{
+    Ok(Call {
+        proc: call.proc,
+        args: SmallVec::from_slice(alloc, call.args.as_slice())?,
+    })
+}

@@ -1,0 +1,11 @@
+//! What a desk has under its lock, and what those who step its processes have in hand: a floor, which is a machine that a run
+//! led to, and a seat for each process.
+#![tactic(auto)]
+
+pub mod agreeing;
+pub mod floor;
+pub mod seat;
+
+pub use agreeing::are_shown;
+pub use floor::Floor;
+pub use seat::{CallAnswer, Seat};

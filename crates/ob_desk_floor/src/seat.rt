@@ -1,0 +1,129 @@
+//! What the one who steps a process has in hand.
+
+ghost use Rattle.std.specs.Prelude.{◌≡◌, ◌+◌, ◌-◌, ◌^◌, ◌<◌, ◌≤◌, [], ◌++◌, ◌∷◌, IfOk, OnOk, OnErr, length, map};
+ghost use Rattle.ob_interface.specs.View.{reply_of};
+ghost use Rattle.wf_table.specs.Meaning.{values_in};
+
+use ob_interface::NoMemory;
+use ob_interface::call::Reply;
+use smallvec::SmallVec;
+use std::alloc::Global;
+use std::marker::Model;
+use wf_history::CallId;
+use wf_object::{Engine, Machine, StepOut};
+
+/// A call that ended, with its reply.
+#[derive(Drop)]
+pub struct CallAnswer {
+    pub id: CallId,
+    pub reply: Reply,
+}
+
+/// A process's seat: the turns that it took, and the answers that it was given. The tag tells the seats of one desk from
+/// those of another.
+#[derive(Drop)]
+pub struct Seat {
+    alloc: Global,
+    process: usize,
+    tag: u64,
+    turns: u128,
+    answers: Vec<CallAnswer>,
+}
+
+impl Model for Seat {
+    ghost use Rattle.std.specs.Prelude.{map};
+    ghost use Rattle.ob_desk_floor.specs.Seat as seat;
+
+    ghost Value = { seat.Seat };
+
+    ghost view = { λ s. record { process = s.process; tag = s.tag; turns = s.turns; answers = map seat.answered_call s.answers.items } };
+}
+
+impl Seat {
+    ghost use Rattle.ob_desk_floor.specs.Floor.{machine_after};
+    ghost use Rattle.ob_desk_floor.specs.Seat.{answered_call, new_seat, seat_after};
+    ghost use Rattle.wf_object.specs.View.{answer_in};
+    ghost use Rattle.wf_table.specs.Object as Steps;
+    ghost use Rattle.wf_table.specs.Schedule.{steps_of};
+
+    /// A seat without turns or answers.
+    pub fn new(alloc: Global, process: usize, tag: u64) -> Seat
+        ensures { result ≡ new_seat process tag }
+    {
+        Seat {
+            alloc,
+            process,
+            tag,
+            turns: 0,
+            answers: Vec::new(alloc),
+        }
+    }
+
+    pub fn process(&self) -> usize
+        ensures { result ≡ self.now.process }
+    {
+        self.process
+    }
+
+    pub fn tag(&self) -> u64
+        ensures { result ≡ self.now.tag }
+    {
+        self.tag
+    }
+
+    pub fn turns(&self) -> u128
+        ensures { result ≡ self.now.turns }
+    {
+        self.turns
+    }
+
+    pub fn answers(&self) -> &[CallAnswer]
+        ensures { map answered_call result.now ≡ self.now.answers }
+    {
+        self.answers.as_slice()
+    }
+
+    /// One step of the seat's process; its answer, if there is one, is added to the seat's. Nothing changes where memory
+    /// runs out.
+    pub fn step<E: Engine>(&mut self, machine: &mut Machine<E>) -> Result<StepOut, NoMemory>
+        requires process { self.old.process < machine.old.sizes.processes }
+        requires room { self.old.turns < 2 ^ 128 - 1 }
+        ensures machine { OnOk result (machine.new ≡ machine_after (E.meaning machine.old.engine) machine.old self.old.process) }
+        ensures answer { IfOk result (λ out. answer_in out ≡ Steps.answer_of (E.meaning machine.old.engine) machine.old.sizes machine.old.state self.old.process) }
+        ensures turn { OnOk result (steps_of machine.new.state.records.schedule ≡ steps_of machine.old.state.records.schedule ++ self.old.process ∷ []) }
+        ensures seat { IfOk result (λ out. self.new ≡ seat_after (answer_in out) self.old) }
+        ensures no_machine { OnErr result (machine.new ≡ machine.old) }
+        ensures no_seat { OnErr result (self.new ≡ self.old) }
+    {
+        self.answers.try_reserve(1)?;
+        let out = machine.step(self.process)?;
+        self.turns += 1;
+        if let StepOut::Answered(id, reply) = &out {
+            let reply = copied(self.alloc, reply);
+            self.answers.push_reserved(CallAnswer { id: *id, reply });
+        }
+        Ok(out)
+    }
+
+    /// A turn that found no process.
+    pub fn pass(&mut self)
+        requires { self.old.turns < 2 ^ 128 - 1 }
+        ensures { self.new ≡ seat_after Steps.Halts self.old }
+    {
+        self.turns += 1;
+    }
+}
+
+/// An equal reply. At most 8 values stand in place, so that no memory is taken.
+fn copied(alloc: Global, reply: &Reply) -> Reply
+    requires { length (values_in (reply_of reply.now)) ≤ 8 }
+    ensures { reply_of result ≡ reply_of reply.now }
+{
+    match reply {
+        Reply::Done(values) => match SmallVec::from_slice(alloc, values.as_slice()) {
+            Ok(values) => Reply::Done(values),
+            Err(_) => unreachable!(),
+        },
+        Reply::Trap(number) => Reply::Trap(*number),
+    }
+}

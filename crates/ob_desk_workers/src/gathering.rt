@@ -1,0 +1,124 @@
+//! The workers of a desk, started, heard and joined.
+
+ghost use Rattle.std.specs.Prelude.{◌≡◌, ◌≤◌, ◌+◌, ◌++◌, ◌∷◌, [], All, IfOk, IsFalse, IsTrue, List, false, length};
+ghost use Rattle.std.specs.Thread.{IsSync};
+ghost use Rattle.ob_desk_floor.specs.declared.seat.CallAnswer.{CallAnswer};
+ghost use Rattle.ob_desk_workers.specs.Gathered.{AreHeard};
+ghost use Rattle.ob_desk_workers.specs.Rounds.{IsPromised};
+
+use crate::gate::Gate;
+use crate::worker::{Ended, PassedBy, Worked, work};
+use crossbeam_channel::{Receiver, unbounded};
+use ob_desk::Desk;
+use ob_desk_floor::{CallAnswer, Seat};
+use std::alloc::{AllocError, Global};
+use std::sync::Wait;
+use std::thread;
+use std::thread::{PromisedHandle, Threads};
+
+/// What came of the workers: how each ended, in the order of their seats; the seats that they handed back, in that order; the
+/// answers in the order in which they came; and whether memory wanted.
+#[derive(Drop)]
+pub struct Gathered {
+    pub ended: Vec<Ended>,
+    pub seats: Vec<Seat>,
+    pub answers: Vec<CallAnswer>,
+    pub is_short: bool,
+}
+
+/// Starts a worker for each seat, on a thread of its own, collects the answers that they send, and joins all.
+pub fn gather<R: Threads + Wait + Sync, G: Gate + Sync>(
+    rt: &R,
+    alloc: Global,
+    desk: &Desk,
+    gate: &G,
+    limit: u64,
+    seats: Vec<Seat>,
+) -> Result<Gathered, AllocError>
+    requires { 1 ≤ limit }
+    ensures { IfOk result (AreHeard G.may_refuse (length seats.items)) }
+{
+    let (sender, receiver) = unbounded(alloc)?;
+    let count = seats.len();
+    thread::scope(
+        thread::scope_env(),
+        rt,
+        move |scope| -> Result<Gathered, AllocError>
+            requires limit { 1 ≤ limit }
+            requires count { count ≡ length seats.items }
+            requires shared { IsSync R.row × IsSync G.row }
+            ensures { IfOk result (AreHeard G.may_refuse count) }
+        {
+            let mut gathered = Gathered::new(alloc, count)?;
+            let mut handles = Vec::with_capacity(alloc, count)?;
+            for seat in seats {
+                let Ok(answers) = sender.clone() else {
+                    gathered.is_short = true;
+                    continue;
+                };
+                let started = scope.spawn_with(PassedBy::<G>::new(), move || {
+                    work(rt, desk, gate, limit, seat, answers)
+                });
+                gathered.is_short |= handles.push(started.ok()).is_err();
+            }
+            // The collector stops where no sender is left.
+            drop(sender);
+            collect(rt, receiver, &mut gathered);
+            join_all(rt, handles, &mut gathered);
+            Ok(gathered)
+        },
+    )
+}
+
+impl Gathered {
+    /// With room for so many workers.
+    fn new(alloc: Global, count: usize) -> Result<Gathered, AllocError>
+        ensures { IfOk result (λ g. g.ended.items ≡ []) }
+    {
+        Ok(Gathered {
+            ended: Vec::with_capacity(alloc, count)?,
+            seats: Vec::with_capacity(alloc, count)?,
+            answers: Vec::new(alloc),
+            is_short: false,
+        })
+    }
+}
+
+/// Keeps each answer that comes, until every sender is gone. Where memory wants it goes on without keeping.
+fn collect<R: Wait>(rt: &R, receiver: Receiver<CallAnswer, Global>, gathered: &mut Gathered)
+    ensures ended { gathered.new.ended ≡ gathered.old.ended }
+    ensures seats { gathered.new.seats ≡ gathered.old.seats }
+    ensures answers { (later : List CallAnswer) × (gathered.new.answers.items ≡ gathered.old.answers.items ++ later) }
+    ensures short { gathered.new.is_short ≡ false → gathered.old.is_short ≡ false }
+{
+    for answer in receiver.iter(rt) {
+        if !gathered.is_short && gathered.answers.push(answer).is_err() {
+            gathered.is_short = true;
+        }
+    }
+}
+
+/// Adds what each worker hands back, and that one was not started. Where memory wants it goes on joining.
+fn join_all<R: Threads + Wait, G: Gate>(
+    rt: &R,
+    handles: Vec<Option<PromisedHandle<Worked, PassedBy<G>>>>,
+    gathered: &mut Gathered,
+)
+    requires { gathered.old.ended.items ≡ [] }
+    ensures few { length gathered.new.ended.items ≤ length handles.items }
+    ensures all { gathered.new.is_short ≡ false → length gathered.new.ended.items ≡ length handles.items }
+    ensures refused { All (IsPromised G.may_refuse) gathered.new.ended.items }
+    ensures short { gathered.new.is_short ≡ false → gathered.old.is_short ≡ false }
+{
+    for handle in handles {
+        let ended = match handle {
+            None => Ended::NotStarted,
+            Some(handle) => {
+                let worked = handle.join(rt);
+                gathered.is_short |= gathered.seats.push(worked.seat).is_err();
+                worked.ended
+            }
+        };
+        gathered.is_short |= gathered.ended.push(ended).is_err();
+    }
+}

@@ -1,0 +1,4 @@
+pub mod Call
+pub mod Export
+pub mod View
+pub mod Processes

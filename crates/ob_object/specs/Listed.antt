@@ -1,0 +1,11 @@
+-- The listing of the code of a module's text.
+use Rattle.std.specs.Prelude.{◌≡◌, ℕ, List, map}
+use Rattle.ob_code.specs.Listing.{listing}
+use Rattle.ob_object.specs.Compilation.{ObjectParts, IsCompilation}
+use Rattle.ob_scheme.specs.Scheme.{code_of}
+
+-- the bytes are the listing of the code of the text's module, which has an object, if of one process alone
+pub record IsListing (text output : List ℕ) : Type 0 where
+  pub object : ObjectParts
+  pub compiled : IsCompilation text 1 object
+  pub printed : output ≡ listing (code_of object.program).instructions (code_of object.program).entries (map (λ p. p.name) object.program.procedures)

@@ -1,0 +1,3 @@
+pub mod OfModule
+pub mod OrderFaults
+pub mod Places

@@ -1,2 +1,0 @@
-pub mod ModuleCode
-pub mod ModuleCodeParts

@@ -1,0 +1,2 @@
+mod TextFaults
+mod ReadCalls

@@ -1,0 +1,96 @@
+-- Workers served from the texts of a module and of scripts: what is printed of them, and why there is nothing.
+use Rattle.std.specs.Prelude.{◌≡◌, ◌≢◌, ℕ, ◌<◌, ◌^◌, Bool, List, length}
+use Rattle.ob_check.specs.Exports.{signatures}
+use Rattle.ob_check.specs.Program.{Program}
+use Rattle.ob_desk.specs.Close.{IsRecordOf}
+use Rattle.ob_object.specs.Compilation as Compilation
+use Rattle.ob_object.specs.Compilation.{ObjectParts, IsCompilation, IsCompileFault}
+use Rattle.ob_object.specs.Performance.{IsScriptFaultOf}
+use Rattle.ob_object.specs.declared.compiling.CompileFault.{CompileFault}
+use Rattle.ob_object.specs.declared.compiling.CompileFault.TheVariants as Compile
+use Rattle.ob_opened.specs.ModuleText.{IsModule}
+use Rattle.ob_record.specs.Record.{Record}
+use Rattle.ob_record.specs.RecordText.{record_text}
+use Rattle.ob_serve.specs.ServeFaults.{IsServeFault}
+use Rattle.ob_serve.specs.Served as Served
+use Rattle.ob_serve.specs.Served.{HaveEnded, desk_of}
+use Rattle.ob_serve.specs.declared.fault.ServeFault.{ServeFault}
+use Rattle.ob_serve.specs.declared.fault.ServeFault.TheVariants as Serve
+use Rattle.ob_serve_texts.specs.declared.texts.ServeTextFault.{ServeTextFault}
+use Rattle.ob_serve_texts.specs.declared.texts.ServeTextFault.TheVariants as Faults
+use Rattle.ob_text.specs.Script.{IsScript, ScriptCall}
+use Rattle.ob_text.specs.declared.script.ScriptFault.{ScriptFault}
+use Rattle.ob_text.specs.declared.script.ScriptFault.TheVariants as Script
+
+-- the object of a module's text for n processes, and the calls of the scripts, which each text has one of
+pub record AreReadCalls (text : List ℕ) (n : ℕ) (scripts : List ℕ) (o : ObjectParts) (calls : List ScriptCall) : Type 0 where
+  pub compiled : IsCompilation text n o
+  pub alone : (other : Program) → IsModule text other → other ≡ o.program
+  pub calls_are : IsScript (signatures o.program) n scripts calls
+
+-- the bytes are the text of a record in which workers made the calls of the scripts on the module's object, each to its end
+pub record IsServedPrinted (text : List ℕ) (n : ℕ) (scripts output : List ℕ) : Type 0 where
+  pub object : ObjectParts
+  pub calls : List ScriptCall
+  pub read : AreReadCalls text n scripts object calls
+  pub shown : Record
+  pub is_record : IsRecordOf (desk_of object calls) shown
+  pub events : length shown.history < 2 ^ 64
+  pub ended : HaveEnded n calls shown.history
+  pub printed : output ≡ record_text (signatures object.program) shown
+
+-- The workers of the desk of the texts' object and calls fail so. Their gate refuses or never does.
+pub record IsServeFaultOf (may_refuse : Bool) (text : List ℕ) (n : ℕ) (scripts : List ℕ) (fault : ServeFault) : Type 0 where
+  pub object : ObjectParts
+  pub calls : List ScriptCall
+  pub read : AreReadCalls text n scripts object calls
+  pub fails : IsServeFault may_refuse (desk_of object calls) fault
+
+-- what each fault says that comes before there are workers
+abbrev pub IsReadFault : (text : List ℕ) (n : ℕ) (scripts : List ℕ) → ServeTextFault → Type 0
+IsReadFault text n scripts (Faults.Compile e) = IsCompileFault text n e
+IsReadFault text n scripts (Faults.Script e) = IsScriptFaultOf text n scripts e
+IsReadFault text n scripts (Faults.Serve e) = ⊥
+IsReadFault text n scripts Faults.NoMemory = Unit {0}
+
+-- what each fault says
+abbrev pub IsServeTextFault : (may_refuse : Bool) (text : List ℕ) (n : ℕ) (scripts : List ℕ) → ServeTextFault → Type 0
+IsServeTextFault may_refuse text n scripts (Faults.Compile e) = IsCompileFault text n e
+IsServeTextFault may_refuse text n scripts (Faults.Script e) = IsScriptFaultOf text n scripts e
+IsServeTextFault may_refuse text n scripts (Faults.Serve e) = IsServeFaultOf may_refuse text n scripts e
+IsServeTextFault may_refuse text n scripts Faults.NoMemory = Unit {0}
+
+-- want of memory is told in one place
+
+abbrev pub of_compile : CompileFault → ServeTextFault
+of_compile Compile.NoMemory = Faults.NoMemory
+of_compile e = Faults.Compile e
+
+abbrev pub of_script : ScriptFault → ServeTextFault
+of_script Script.NoMemory = Faults.NoMemory
+of_script e = Faults.Script e
+
+abbrev pub of_serve : ServeFault → ServeTextFault
+of_serve Serve.NoMemory = Faults.NoMemory
+of_serve e = Faults.Serve e
+
+-- want of memory is told by its own variant alone
+abbrev pub TellsMemoryApart : ServeTextFault → Type 0
+TellsMemoryApart (Faults.Compile e) = Compilation.TellsMemoryApart e × (e ≢ Compile.NoMemory)
+TellsMemoryApart (Faults.Script e) = e ≢ Script.NoMemory
+TellsMemoryApart (Faults.Serve e) = Served.TellsMemoryApart e × (e ≢ Serve.NoMemory)
+TellsMemoryApart Faults.NoMemory = Unit {0}
+
+-- a fault with a number, so no want of memory
+abbrev pub IsNumbered : ServeTextFault → Type 0
+IsNumbered e = (e ≢ Faults.NoMemory) × TellsMemoryApart e
+
+-- a fault of the texts, and with a number
+abbrev pub IsOfTexts : ServeTextFault → Type 0
+IsOfTexts (Faults.Compile e) = Compilation.IsNumbered e
+IsOfTexts (Faults.Script e) = e ≢ Script.NoMemory
+IsOfTexts _ = ⊥
+
+-- the texts have no object, or no calls on it
+abbrev pub HasNoCalls : (text : List ℕ) (n : ℕ) (scripts : List ℕ) → Type 0
+HasNoCalls text n scripts = (o : ObjectParts) (calls : List ScriptCall) → IsCompilation text n o → IsScript (signatures o.program) n scripts calls → ⊥

@@ -1,0 +1,6 @@
+use Rattle.wf_theorems.proofs.PresentBodies.{run_never_stuck}
+use Rattle.wf_theorems.proofs.runs.every_present_body.Goals as goal
+
+pub returns : goal.returns
+returns g c = λ e n opening acts s leads.
+    let i = g.E.Engine in run_never_stuck (i.meaning e) (i.lawful e) (i.fits e) (i.ready e) (i.effect e) (g.met.E.Engine.law e) n opening acts s leads
