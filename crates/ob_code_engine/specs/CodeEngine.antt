@@ -1,0 +1,27 @@
+-- What an engine over code shows.
+use Rattle.std.specs.Prelude.{◌≡◌}
+use Rattle.std.specs.Coded.{Coded, coded×, coded_list, coded_ℕ}
+use base.Stored.{coded_via}
+use mathlib.Core.HLevel.{is_prop→PathP}
+use Rattle.ob_code_engine.specs.contracts.entrance.Entrance as Entrances
+use Rattle.ob_code_law.specs.CodeMeaning.{EngineParts}
+use Rattle.ob_code_law.specs.Parts.{HasProgram}
+use Rattle.ob_code_machine.specs.contracts.code.Code as Codes
+
+-- the parts of an engine for some program
+pub record CompiledParts : Type 0 where
+  pub parts : EngineParts
+  pub compiled : ∥ HasProgram parts ∥₁
+
+-- which are the same where their parts are
+pub compiled_same : (a b : CompiledParts) → a.parts ≡ b.parts → a ≡ b
+compiled_same a b e i = record {
+  parts = e i;
+  compiled = is_prop→PathP (λ j. ∥ HasProgram (e j) ∥₁) (λ j. squash₁) a.compiled b.compiled i;
+}
+
+abbrev pub compiled_code : Coded CompiledParts
+compiled_code =
+    coded_via (coded× coded_ℕ (coded× (coded_list Entrances.the_row.coded) (coded× Codes.the_row.coded (coded× coded_ℕ coded_ℕ))))
+    (λ e. (e.parts.variables, (e.parts.exports, (e.parts.code, (e.parts.reserve, e.parts.budget)))))
+    (λ a b e. compiled_same a b (λ i. record { variables = (e i).0; exports = (e i).1.0; code = (e i).1.1.0; reserve = (e i).1.1.1.0; budget = (e i).1.1.1.1 }))

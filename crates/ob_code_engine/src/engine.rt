@@ -1,0 +1,238 @@
+//! The engine over compiled code.
+
+ghost use Rattle.std.specs.Prelude.{◌≡◌, ◌≤◌, ◌↔◌, IsTrue};
+ghost use Rattle.ob_code_law.specs.CodeMeaning.{most, result_count, value_count};
+ghost use Rattle.ob_code_law.specs.Parts.{HasProgram};
+ghost use Rattle.ob_meaning.specs.Object.{most_turns};
+
+use crate::entrance::{Entrance, are_same, copied, entrances, most_results, most_values};
+use crate::laws::checked_is_well_formed;
+use crate::turns::turn_of;
+use crate::words::{arguments_in, lay, split, trap_in, values_of};
+use ob_checked::checked::Checked;
+use ob_code_layout::Layout;
+use ob_code_machine::{Body, Code};
+use ob_interface::NoMemory;
+use ob_interface::call::{Call, Reply};
+use ob_interface::scalar::Scalar;
+use smallvec::SmallVec;
+use std::alloc::Global;
+use std::marker::Model;
+use wf_object::{Engine, EngineTurn};
+
+/// The code of a checked module as an engine: a body is a call of an export, with a budget of turns, and a step is one
+/// instruction. A run has a stack of the words that the layout counts.
+#[derive(Drop)]
+pub struct CodeEngine {
+    alloc: Global,
+    code: Code,
+    exports: Vec<Entrance>,
+    block_words: u32,
+    stack_words: u32,
+    budget: u32,
+    results: usize,
+    values: usize,
+    ghost most_results: { results ≡ most result_count exports.items },
+    ghost most_values: { values ≡ most value_count exports.items },
+    ghost few_turns: { budget ≤ most_turns },
+    ghost compiled: { ∥ HasProgram (record { variables = block_words; exports = exports.items; code = code; reserve = stack_words; budget = budget }) ∥₁ },
+}
+
+impl Model for CodeEngine {
+    ghost use Rattle.ob_code_engine.specs.CodeEngine.{CompiledParts, compiled_code};
+
+    ghost Value = { CompiledParts };
+
+    ghost coded = { compiled_code };
+
+    ghost view = { λ e. record { parts = record { variables = e.block_words; exports = e.exports.items; code = e.code; reserve = e.stack_words; budget = e.budget }; compiled = e.compiled } };
+}
+
+impl CodeEngine {
+    ghost use Rattle.std.specs.Prelude.{IfOk, option_copied, slice_get};
+    ghost use Rattle.ob_checked.specs.CheckedModule.{program_in};
+    ghost use Rattle.ob_code_law.specs.CodeMeaning as Words;
+    ghost use Rattle.ob_code_law.specs.Compiled as Compiled;
+    ghost use Rattle.ob_code_law.specs.Parts.{IsCompiledTo};
+    ghost use Rattle.ob_code_layout.specs.Layout as Layouts;
+    ghost use Rattle.ob_code_scheme.specs.Scheme.{code_of};
+
+    /// The engine of a checked module, by its layout and its code, with a budget of turns for each call.
+    pub fn new(
+        alloc: Global,
+        checked: &Checked,
+        layout: &Layout,
+        code: Code,
+        budget: u64,
+    ) -> Result<CodeEngine, NoMemory>
+        requires layout { Layouts.parts_of layout.now ≡ Layouts.layout_of (program_in checked.now) }
+        requires code { code ≡ code_of (program_in checked.now) }
+        requires budget { budget ≤ most_turns }
+        ensures parts { IfOk result (λ e. e.parts ≡ Compiled.parts_of (program_in checked.now) budget) }
+        ensures compiled { IfOk result (λ e. ∥ IsCompiledTo (program_in checked.now) e.parts ∥₁) }
+    {
+        checked_is_well_formed(checked);
+        let exports = entrances(alloc, checked.program())?;
+        Ok(CodeEngine {
+            alloc,
+            results: most_results(exports.as_slice()),
+            values: most_values(exports.as_slice()),
+            code,
+            exports,
+            block_words: layout.variable_words() as u32,
+            stack_words: layout.stack_words() as u32,
+            budget: budget as u32,
+        })
+    }
+
+    /// An equal engine.
+    pub fn copy(&self, alloc: Global) -> Result<CodeEngine, NoMemory>
+        ensures { IfOk result (λ e. e ≡ self.now) }
+    {
+        Ok(CodeEngine {
+            alloc,
+            code: self.code.copy(alloc)?,
+            exports: copied(alloc, self.exports.as_slice())?,
+            block_words: self.block_words,
+            stack_words: self.stack_words,
+            budget: self.budget,
+            results: self.results,
+            values: self.values,
+        })
+    }
+
+    /// Whether the other is the same: equal code, the same exports, as many words in a block and in a stack, and as many turns.
+    pub fn is_same(&self, other: &CodeEngine) -> bool
+        ensures { IsTrue result ↔ (self.now ≡ other.now) }
+    {
+        self.block_words == other.block_words
+            && self.stack_words == other.stack_words
+            && self.budget == other.budget
+            && is_same_code(&self.code, &other.code)
+            && are_same(self.exports.as_slice(), other.exports.as_slice())
+    }
+
+    /// The code that it runs.
+    pub fn code(&self) -> &Code
+        ensures { result.now ≡ self.now.parts.code }
+    {
+        &self.code
+    }
+
+    /// The turns that each call has.
+    pub fn budget(&self) -> u64
+        ensures turns { result ≡ self.now.parts.budget }
+        ensures few { result ≤ most_turns }
+    {
+        u64::from(self.budget)
+    }
+
+    /// How calls enter the code, for each export in text order.
+    pub fn exports(&self) -> &[Entrance]
+        ensures { result.now ≡ self.now.parts.exports }
+    {
+        self.exports.as_slice()
+    }
+
+    /// The export of a number.
+    fn export(&self, number: i64) -> Option<&Entrance>
+        ensures { option_copied result ≡ Words.entrance_at self.now.parts.exports number }
+    {
+        if number < 0 {
+            return None;
+        }
+        self.exports.as_slice().get(number as usize)
+    }
+
+    /// The values that words stand for as results of an export; none where there is no such export.
+    fn results_of(&self, number: usize, words: &[i64]) -> SmallVec<Scalar, 8>
+        ensures { result.items ≡ Words.values_of (Words.parameters_of (slice_get self.now.parts.exports number)) words.now }
+    {
+        match self.exports.as_slice().get(number) {
+            Some(export) => values_of(self.alloc, export.parameters(), words),
+            None => SmallVec::new(self.alloc),
+        }
+    }
+}
+
+/// Whether the instructions are the same, and the places where procedures begin.
+fn is_same_code(code: &Code, other: &Code) -> bool
+    ensures { IsTrue result ↔ (code.now ≡ other.now) }
+{
+    code.instructions() == other.instructions() && code.entries() == other.entries()
+}
+
+impl Engine for CodeEngine {
+    ghost use Rattle.ob_code_law.specs.CodeMeaning.{code_meaning};
+    ghost use Rattle.ob_code_law.specs.Compiled.{HasReserve, IsFitting};
+    ghost use Rattle.ob_code_law.specs.Parts.{IsEffectOf, IsLawfulFor};
+    ghost use Rattle.ob_code_law.proofs.PartsLaw.{parts_lawful};
+
+    type Run = Body;
+
+    ghost meaning = { λ e. code_meaning e.parts };
+
+    ghost lawful = { λ e. IsLawfulFor e.parts };
+
+    ghost fits = { λ e. IsFitting e.parts.exports };
+
+    ghost ready = { λ e. HasReserve e.parts };
+
+    ghost effect = { λ e. IsEffectOf e.parts };
+
+    fn variable_words(&self) -> usize {
+        self.block_words as usize
+    }
+
+    fn reply_words(&self) -> usize {
+        self.results
+    }
+
+    fn announce_words(&self) -> usize {
+        1 + self.values
+    }
+
+    fn new_run(&self, alloc: Global) -> Result<Body, NoMemory> {
+        Body::with_reserve(alloc, self.stack_words)
+    }
+
+    fn lay(&self, call: &Call, words: &mut [i64]) {
+        lay(call, words);
+    }
+
+    fn start(&self, run: &mut Body, words: &[i64]) {
+        let (number, rest) = split(words);
+        let (procedure, arguments) = match self.export(number) {
+            Some(export) => (
+                export.procedure(),
+                arguments_in(self.alloc, export.parameters(), rest),
+            ),
+            None => (self.code.entries().len(), SmallVec::new(self.alloc)),
+        };
+        run.start(
+            &self.code,
+            procedure,
+            self.block_words,
+            arguments.as_slice(),
+            self.budget,
+        );
+    }
+
+    fn step(&self, run: &mut Body, block: &mut [i64]) -> EngineTurn {
+        turn_of(run.step(&self.code, block))
+    }
+
+    fn result(&self, run: &Body, i: usize) -> i64 {
+        run.result(i)
+    }
+
+    fn reply(&self, call: &Call, words: &[i64]) -> Reply {
+        let (status, results) = split(words);
+        if status != 0 {
+            return Reply::Trap(trap_in(status));
+        }
+        Reply::Done(self.results_of(call.proc, results))
+    }
+
+    ghost law = { λ e. parts_lawful e.parts e.compiled };
+}

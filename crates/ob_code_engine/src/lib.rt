@@ -1,0 +1,12 @@
+//! The engine over compiled code of the whole language: calls on a checked module's object, each with a budget of turns, an
+//! instruction a step.
+#![tactic(auto)]
+
+pub mod engine;
+mod entrance;
+pub mod laws;
+mod turns;
+mod words;
+
+pub use engine::CodeEngine;
+pub use entrance::Entrance;
