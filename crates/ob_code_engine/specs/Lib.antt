@@ -1,1 +1,2 @@
 pub mod CodeEngine
+pub mod Total

@@ -1,9 +1,9 @@
 mod StepLaw
-mod ExportLaw
+pub mod ExportLaw
 mod WordLaw
 mod CallLaw
 pub mod CodeLaw
 mod Carried
 mod OneEnd
-mod PartsLaw
+pub mod PartsLaw
 mod Named
