@@ -1,5 +1,6 @@
 -- The entrances of the first procedure and of those behind it, and the types of their parameters.
 use Rattle.std.proofs.Common.{◌≡◌, ℕ, zero, suc, Bool, true, false, cond, List, [], ◌∷◌, ◌++◌, map, get_or, refl, sym, ap, ◌∙◌, append_assoc}
+use Rattle.ob_interface.specs.declared.export.Formal.{Formal}
 use Rattle.ob_interface.specs.declared.scalar.ScalarType.{ScalarType}
 use Rattle.ob_interface.specs.declared.scalar.ScalarType.TheVariants.{Integer}
 use Rattle.ob_typing.specs.Program.{DataType, Simple, Procedure}
@@ -41,8 +42,11 @@ structured_are es = behind_are [] es none_are
 
 -- ---- entrances
 
+abbrev pub made : ℕ → List Formal → Entrance
+made n fs = record { procedure = n; parameters = fs }
+
 abbrev pub entrance : ℕ → Procedure → Entrance
-entrance n p = record { procedure = n; parameters = formals_of p.parameters }
+entrance n p = made n (formals_of p.parameters)
 
 pub exported : (n : ℕ) (p : Procedure) (ps : List Procedure) → p.is_exported ≡ true → entrances_from n (p ∷ ps) ≡ entrance n p ∷ entrances_from (suc n) ps
 exported n p ps h = ap (λ (b : Bool). cond b (entrance n p ∷ entrances_from (suc n) ps) (entrances_from (suc n) ps)) h

@@ -131,7 +131,7 @@ impl CodeEngine {
     pub fn exports(&self) -> &[Entrance]
         ensures { result.now ≡ self.now.parts.exports }
     {
-        self.exports.as_slice()
+        &self.exports
     }
 
     /// The export of a number.

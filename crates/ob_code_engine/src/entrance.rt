@@ -44,24 +44,6 @@ impl Entrance {
     {
         self.parameters.as_slice()
     }
-
-    /// An equal entrance.
-    fn copy(&self, alloc: Global) -> Result<Entrance, AllocError>
-        ensures { IfOk result (λ e. e ≡ self.now) }
-    {
-        Ok(Entrance {
-            procedure: self.procedure,
-            parameters: Vec::from_slice(alloc, self.parameters.as_slice())?,
-        })
-    }
-
-    /// Whether the other is the same.
-    fn is_same(&self, other: &Entrance) -> bool
-        ensures { IsTrue result ↔ (self.now ≡ other.now) }
-    {
-        self.procedure == other.procedure
-            && self.parameters.as_slice() == other.parameters.as_slice()
-    }
 }
 
 /// The type of a scalar; INTEGER for a structured type, as no parameter of an export has.
@@ -111,9 +93,20 @@ pub fn copied(alloc: Global, entrances: &[Entrance]) -> Result<Vec<Entrance>, Al
 {
     let mut copies = Vec::new(alloc);
     for entrance in entrances {
-        copies.push(entrance.copy(alloc)?)?;
+        copies.push(Entrance {
+            procedure: entrance.procedure,
+            parameters: Vec::from_slice(alloc, entrance.parameters.as_slice())?,
+        })?;
     }
     Ok(copies)
+}
+
+/// Whether two entrances are the same.
+fn is_same(entrance: &Entrance, other: &Entrance) -> bool
+    ensures { IsTrue result ↔ (entrance.now ≡ other.now) }
+{
+    entrance.procedure == other.procedure
+        && entrance.parameters.as_slice() == other.parameters.as_slice()
 }
 
 /// Whether the entrances are the same, each as the other in its place.
@@ -124,7 +117,7 @@ pub fn are_same(entrances: &[Entrance], others: &[Entrance]) -> bool
         return false;
     }
     for place in 0..entrances.len() {
-        if !entrances[place].is_same(&others[place]) {
+        if !is_same(&entrances[place], &others[place]) {
             return false;
         }
     }
