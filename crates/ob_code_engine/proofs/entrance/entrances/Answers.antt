@@ -3,6 +3,7 @@ use Rattle.std.specs.declared.alloc.Global.{Global}
 use Rattle.std.proofs.lemmas.List.{drop_more}
 use Rattle.ob_checked.specs.View.{procedure_of, parameter_of, table_of}
 use Rattle.ob_checked.specs.declared.program.Procedure.{Procedure}
+use Rattle.ob_code_scheme.specs.Correct.{formals_of}
 use Rattle.ob_code_law.specs.CodeMeaning.{Entrance}
 use Rattle.ob_code_law.specs.Compiled.{entrances_from}
 use Rattle.ob_code_engine.proofs.Found.{hidden, made, one_more}
@@ -24,7 +25,7 @@ loop-number-preserved c =
     ap (λ (k : ℕ). c.if-procedure.entrances.items ++ entrances_from k behind) up
     ∙ elim c.if-procedure.branch [
       | then-procedure+in_ok-parameters+in_ok-push w ↦
-          let formals = w.in_ok-parameters.ensures types ∙ ap (λ qs. map (parameter_of types) qs) w.as_slice.ensures.value in
+          let formals = w.in_ok-parameters.ensures types ∙ ap (λ qs. formals_of (map (parameter_of types) qs)) w.as_slice.ensures.value in
           ap (λ (v : Vec Entrance Global). v.items ++ rest) w.entrances-is
           ∙ ap (λ (es : List Entrance). es ++ rest) w.in_ok-push.ensures.items
           ∙ one_more before _ i (procedure_of types p) behind w.if-procedure.true (ap (made i) formals)
