@@ -61,3 +61,6 @@ one_more before x n p ps h e =
     append_assoc before (x ∷ []) (entrances_from (suc n) ps)
     ∙ ap (λ (y : Entrance). before ++ y ∷ entrances_from (suc n) ps) e
     ∙ ap (λ (xs : List Entrance). before ++ xs) (sym (exported n p ps h))
+
+pub same_entrance : (n m : ℕ) (fs gs : List Formal) → n ≡ m → fs ≡ gs → made n fs ≡ made m gs
+same_entrance n m fs gs e f = ap (λ (k : ℕ). made k fs) e ∙ ap (made m) f

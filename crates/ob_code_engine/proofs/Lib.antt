@@ -1,4 +1,6 @@
 mod Laid
+mod Counts
+mod Exports
 mod Found
 mod Made
 mod Choices

@@ -13,6 +13,7 @@ use Rattle.ob_code_layout.specs.Counted.{counted}
 use Rattle.ob_code_law.specs.CodeMeaning.{Entrance, EngineParts}
 use Rattle.ob_code_law.specs.Compiled.{entrances_from, parts_of}
 use Rattle.ob_code_law.specs.Parts.{IsCompiledTo, HasProgram}
+use Rattle.ob_code_engine.specs.CodeEngine.{CompiledParts, HasSameNumbers, compiled_same}
 
 abbrev pub made : ℕ → List Entrance → CodeParts → ℕ → ℕ → EngineParts
 made variables exports code reserve budget = record { variables = variables; exports = exports; code = code; reserve = reserve; budget = budget }
@@ -43,3 +44,24 @@ few_in_block program well = ∥∥₁_elim well le_prop (λ w. w.variables)
 -- so the count of a stack's words is exact
 pub counted_stack : (program : Program) → ∥ IsWellFormed program ∥₁ → counted (stack_words program.procedures) ≡ stack_words program.procedures
 counted_stack program well = let few = few_in_stack program well in omega (arith, few)
+
+-- ---- parts that are the same
+
+pub same_parts : (v w : ℕ) (xs ys : List Entrance) (code other : CodeParts) (r s b d : ℕ) → v ≡ w → xs ≡ ys → code ≡ other → r ≡ s → b ≡ d → made v xs code r b ≡ made w ys other s d
+same_parts v w xs ys code other r s b d same_variables same_exports same_code same_reserve same_budget =
+    ap (λ (n : ℕ). made n xs code r b) same_variables
+    ∙ ap (λ (es : List Entrance). made w es code r b) same_exports
+    ∙ ap (λ (k : CodeParts). made w ys k r b) same_code
+    ∙ ap (λ (n : ℕ). made w ys other n b) same_reserve
+    ∙ ap (λ (n : ℕ). made w ys other s n) same_budget
+
+pub same_numbers : (a b : EngineParts) → a ≡ b → HasSameNumbers a b
+same_numbers a b e = record {
+  variables = ap (λ (q : EngineParts). q.variables) e;
+  reserve = ap (λ (q : EngineParts). q.reserve) e;
+  budget = ap (λ (q : EngineParts). q.budget) e;
+}
+
+-- engines with the same numbers, exports and code are the same
+pub same_engines : (a b : CompiledParts) → HasSameNumbers a.parts b.parts → a.parts.exports ≡ b.parts.exports → a.parts.code ≡ b.parts.code → a ≡ b
+same_engines a b numbers exports code = compiled_same a b (same_parts _ _ _ _ _ _ _ _ _ _ numbers.variables exports code numbers.reserve numbers.budget)

@@ -25,3 +25,9 @@ compiled_code =
     coded_via (coded× coded_ℕ (coded× (coded_list Entrances.the_row.coded) (coded× Codes.the_row.coded (coded× coded_ℕ coded_ℕ))))
     (λ e. (e.parts.variables, (e.parts.exports, (e.parts.code, (e.parts.reserve, e.parts.budget)))))
     (λ a b e. compiled_same a b (λ i. record { variables = (e i).0; exports = (e i).1.0; code = (e i).1.1.0; reserve = (e i).1.1.1.0; budget = (e i).1.1.1.1 }))
+
+-- as many words in a block and in a stack, and as many turns
+pub record HasSameNumbers (one other : EngineParts) : Type 0 where
+  pub variables : one.variables ≡ other.variables
+  pub reserve : one.reserve ≡ other.reserve
+  pub budget : one.budget ≡ other.budget

@@ -56,6 +56,7 @@ impl CodeEngine {
     ghost use Rattle.ob_code_law.specs.Parts.{IsCompiledTo};
     ghost use Rattle.ob_code_layout.specs.Layout as Layouts;
     ghost use Rattle.ob_code_scheme.specs.Scheme.{code_of};
+    ghost use Rattle.ob_code_engine.specs.CodeEngine.{HasSameNumbers};
 
     /// The engine of a checked module, by its layout and its code, with a budget of turns for each call.
     pub fn new(
@@ -101,13 +102,20 @@ impl CodeEngine {
         })
     }
 
-    /// Whether the other is the same: equal code, the same exports, as many words in a block and in a stack, and as many turns.
-    pub fn is_same(&self, other: &CodeEngine) -> bool
-        ensures { IsTrue result ↔ (self.now ≡ other.now) }
+    /// Whether the other has as many words in a block and in a stack, and as many turns.
+    fn has_same_numbers(&self, other: &CodeEngine) -> bool
+        ensures { IsTrue result ↔ HasSameNumbers self.now.parts other.now.parts }
     {
         self.block_words == other.block_words
             && self.stack_words == other.stack_words
             && self.budget == other.budget
+    }
+
+    /// Whether the other is the same: equal code, the same exports, as many words in a block and in a stack, and as many turns.
+    pub fn is_same(&self, other: &CodeEngine) -> bool
+        ensures { IsTrue result ↔ (self.now ≡ other.now) }
+    {
+        self.has_same_numbers(other)
             && is_same_code(&self.code, &other.code)
             && are_same(self.exports.as_slice(), other.exports.as_slice())
     }
@@ -135,20 +143,27 @@ impl CodeEngine {
     }
 
     /// The export of a number.
-    fn export(&self, number: i64) -> Option<&Entrance>
-        ensures { option_copied result ≡ Words.entrance_at self.now.parts.exports number }
+    fn export_at(&self, number: usize) -> Option<&Entrance>
+        ensures { option_copied result ≡ slice_get self.now.parts.exports number }
     {
-        if number < 0 {
+        self.exports.as_slice().get(number)
+    }
+
+    /// The export of the number that a word is.
+    fn export(&self, word: i64) -> Option<&Entrance>
+        ensures { option_copied result ≡ Words.entrance_at self.now.parts.exports word }
+    {
+        if word < 0 {
             return None;
         }
-        self.exports.as_slice().get(number as usize)
+        self.export_at(word as usize)
     }
 
     /// The values that words stand for as results of an export; none where there is no such export.
     fn results_of(&self, number: usize, words: &[i64]) -> SmallVec<Scalar, 8>
         ensures { result.items ≡ Words.values_of (Words.parameters_of (slice_get self.now.parts.exports number)) words.now }
     {
-        match self.exports.as_slice().get(number) {
+        match self.export_at(number) {
             Some(export) => values_of(self.alloc, export.parameters(), words),
             None => SmallVec::new(self.alloc),
         }
@@ -197,25 +212,29 @@ impl Engine for CodeEngine {
     }
 
     fn lay(&self, call: &Call, words: &mut [i64]) {
+        // The exports stand in memory, so that their numbers are words.
+        let _exports = &self.exports;
         lay(call, words);
     }
 
     fn start(&self, run: &mut Body, words: &[i64]) {
         let (number, rest) = split(words);
-        let (procedure, arguments) = match self.export(number) {
-            Some(export) => (
-                export.procedure(),
-                arguments_in(self.alloc, export.parameters(), rest),
-            ),
-            None => (self.code.entries().len(), SmallVec::new(self.alloc)),
-        };
-        run.start(
-            &self.code,
-            procedure,
-            self.block_words,
-            arguments.as_slice(),
-            self.budget,
-        );
+        match self.export(number) {
+            Some(export) => {
+                let arguments = arguments_in(self.alloc, export.parameters(), rest);
+                run.start(
+                    &self.code,
+                    export.procedure(),
+                    self.block_words,
+                    arguments.as_slice(),
+                    self.budget,
+                );
+            }
+            None => {
+                let behind = self.code.entries().len();
+                run.start(&self.code, behind, self.block_words, &[], self.budget);
+            }
+        }
     }
 
     fn step(&self, run: &mut Body, block: &mut [i64]) -> EngineTurn {

@@ -1,8 +1,22 @@
-use Rattle.std.proofs.Common.{◌≡◌}
+use Rattle.std.proofs.Common.{◌≡◌, ◌<◌, ◌^◌, List, length, ap, arith}
+use Rattle.std.proofs.lemmas.Option.{slice_get_within}
+use Rattle.ob_code_law.specs.CodeMeaning.{value_count}
+use Rattle.ob_code_law.proofs.ExportLaw.{most_has}
+use Rattle.ob_code_engine.specs.CodeEngine.{CompiledParts}
+use Rattle.ob_code_engine.proofs.Counts.{arguments_count}
 use Rattle.ob_code_engine.proofs.engine.CodeEngineEngine.lay.Goals as goal
 
 pub lay-requires-clause-number : goal.lay-requires-clause-number
-lay-requires-clause-number c = ?
+lay-requires-clause-number c =
+    let f = c.requires.fits in
+    let within = slice_get_within c.args.self.now.parts.exports c.args.call.now.proc f.entrance f.there in
+    let same : length c.self.inside.exports.items ≡ length c.args.self.now.parts.exports = ap (λ (v : CompiledParts). length v.parts.exports) c.self.view_is in
+    omega (arith, within, same, c.self.inside.exports.ok, c.self.inside.exports.small)
 
 pub lay-requires-clause-room : goal.lay-requires-clause-room
-lay-requires-clause-room c = ?
+lay-requires-clause-room c =
+    let f = c.requires.fits in
+    let count = arguments_count f.entrance.parameters c.args.call.now.args.items f.typed in
+    let has = most_has value_count c.args.self.now.parts.exports c.args.call.now.proc f.entrance f.there in
+    let long = c.requires.words in
+    omega (arith, count, has, long)
