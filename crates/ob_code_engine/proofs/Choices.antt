@@ -1,5 +1,5 @@
 -- Where a derived comparison of an enum decides equality: where that of each variant's fields does.
-use Rattle.std.proofs.Common.{◌≡◌, refl, sym, ap, ◌∙◌, Bool, true, false, List, [], ◌∷◌}
+use Rattle.std.proofs.Common.{◌≡◌, sym, ap, ◌∙◌, Bool, false, List, [], ◌∷◌}
 use Rattle.std.specs.Bool.{Decides}
 use mathlib.Core.Logic.{◌⊎◌, inl, inr}
 use denote.Struct.Field.{Field}

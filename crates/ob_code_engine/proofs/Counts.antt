@@ -1,14 +1,13 @@
 -- Parameters counted by their modes.
-use Rattle.std.proofs.Common.{◌≡◌, ℕ, suc, ◌+◌, ◌<◌, ◌≤◌, Bool, true, false, cond, not, count_by, List, ◌∷◌, length, map, filter, Some, refl, sym, ap, ◌∙◌, arith}
+use Rattle.std.proofs.Common.{◌≡◌, ℕ, suc, ◌+◌, Bool, true, false, cond, not, count_by, List, length, filter, refl, sym, ap, ◌∙◌, arith}
 use Rattle.std.proofs.lemmas.List.{length-map}
 use Rattle.std.proofs.lemmas.List.Recursion.{is_count_by}
 use Rattle.std.proofs.lemmas.List.Sums.{length-filter}
-use Rattle.std.specs.Prelude.{slice_get}
 use Rattle.ob_interface.specs.declared.export.Formal.{Formal}
 use Rattle.ob_interface.specs.declared.scalar.Scalar.{Scalar}
 use Rattle.ob_interface.specs.declared.scalar.ScalarType.{ScalarType}
-use Rattle.ob_interface.specs.Export.{ArgumentsFit, type_of, value_types}
-use Rattle.ob_code_law.specs.CodeMeaning.{Entrance, most, result_count, value_count}
+use Rattle.ob_interface.specs.Export.{ArgumentsFit, type_of}
+use Rattle.ob_code_law.specs.CodeMeaning.{result_count, value_count}
 
 -- one more of them, or not
 one_yes : (b : Bool) (n : ℕ) → cond b (suc n) n ≡ cond b (1 + n) n

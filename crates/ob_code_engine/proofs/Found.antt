@@ -1,7 +1,6 @@
 -- The entrances of the first procedure and of those behind it, and the types of their parameters.
-use Rattle.std.proofs.Common.{◌≡◌, ℕ, zero, suc, Bool, true, false, cond, List, [], ◌∷◌, ◌++◌, map, get_or, refl, sym, ap, ◌∙◌, append_assoc}
+use Rattle.std.proofs.Common.{◌≡◌, ℕ, zero, suc, Bool, true, false, cond, List, [], ◌∷◌, ◌++◌, get_or, refl, sym, ap, ◌∙◌, append_assoc}
 use Rattle.ob_interface.specs.declared.export.Formal.{Formal}
-use Rattle.ob_interface.specs.declared.scalar.ScalarType.{ScalarType}
 use Rattle.ob_interface.specs.declared.scalar.ScalarType.TheVariants.{Integer}
 use Rattle.ob_typing.specs.Program.{DataType, Simple, Procedure}
 use Rattle.ob_checked.specs.Types.{Entry, entry_by, structure_by, types_behind, types_of}

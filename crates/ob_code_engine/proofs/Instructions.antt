@@ -1,8 +1,8 @@
 -- Instructions that a test finds equal are equal.
-use Rattle.std.proofs.Common.{arith, ◌≡◌, ◌∙◌, refl, ap, ℕ, ℤ, Bool, true, false, nat_eq, ◌&&◌}
+use Rattle.std.proofs.Common.{arith, ◌≡◌, refl, ap, ℕ, ℤ, Bool, true, nat_eq, ◌&&◌}
 use Rattle.std.specs.Bool.{Decides}
 use Rattle.std.specs.Ordering.{int_eq}
-use Rattle.std.proofs.lemmas.Bool.Decides.{nat_tests, Decides-int_eq, Decides-like}
+use Rattle.std.proofs.lemmas.Bool.Decides.{nat_tests, Decides-int_eq}
 use Rattle.ob_code_machine.specs.contracts.instr.InstrPartialEq.TheImpl
 use Rattle.ob_code_machine.specs.contracts.instr.Instr.{enum}
 use Rattle.ob_code_machine.specs.declared.instr.Instr.{Instr}

@@ -1,5 +1,5 @@
 -- What a call takes over an engine is what it takes over the code of a program with these parts.
-use Rattle.std.proofs.Common.{◌≡◌, ℕ, ℤ, List, sym, subst}
+use Rattle.std.proofs.Common.{ℕ, ℤ, List, sym, subst}
 use Rattle.wf_table.specs.Object.{State}
 use Rattle.wf_table.specs.Runs.{Act, IsRun}
 use Rattle.wf_table.specs.Start.{sizes_of}
@@ -28,5 +28,5 @@ keep_total calls parts n opening acts s r =
     let l = r.opens in
     subst (Keeps n opening acts s (IsLawfulFor parts)) (sym l.compiled.parts_are)
     (λ q. calls l.program parts.budget n l.compiled.well opening acts s
-      (record { some = q.some; few = q.few; opens = l.is; fit = q.fit; start = q.start; begins = q.begins; leads = q.leads }))
+    (record { some = q.some; few = q.few; opens = l.is; fit = q.fit; start = q.start; begins = q.begins; leads = q.leads }))
     r

@@ -1,4 +1,4 @@
-use Rattle.std.proofs.Common.{◌≡◌, ◌∙◌, count_by, not, rules}
+use Rattle.std.proofs.Common.{◌≡◌, ◌∙◌, count_by, rules}
 use Rattle.ob_code_engine.proofs.Counts.{count_by-results}
 use Rattle.ob_code_engine.proofs.entrance.result_count.Goals as goal
 

@@ -1,4 +1,4 @@
-use Rattle.std.proofs.Common.{◌≡◌, sym, subst}
+use Rattle.std.proofs.Common.{subst}
 use Rattle.std.proofs.Math.Logic.{∥∥₁_map}
 use Rattle.ob_checked.specs.CheckedModule.{tree_in, program_in}
 use Rattle.ob_grammar.specs.Conditions.{KeepsConditions}

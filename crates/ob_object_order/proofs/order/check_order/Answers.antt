@@ -45,8 +45,8 @@ returns-clause-legal c =
     ok_weaker c.replay.result (λ (s : State). LeadsTo Ends opening events listed (length c.deref.result.now) (state_of s))
     (λ (s : State). IsLegalOrder (program_in c.args.checked.now) c.args.budget opening c.args.history.now c.args.order.now (state_of s))
     (λ s l.
-      arranged_legal c.args.history.now c.args.order.now Ends opening (state_of s) (subst (λ (es : List (Event Calls.ObjectCall Calls.Reply)). IsArranged es c.args.order.now) c.events-events.ensures.value c.in_ok-arranged.ensures.arranged)
-          (leads_same Ends opening (state_of s) events c.args.history.now c.deref.result.now c.args.order.now c.events-events.ensures.value ids l))
+    arranged_legal c.args.history.now c.args.order.now Ends opening (state_of s) (subst (λ (es : List (Event Calls.ObjectCall Calls.Reply)). IsArranged es c.args.order.now) c.events-events.ensures.value c.in_ok-arranged.ensures.arranged)
+    (leads_same Ends opening (state_of s) events c.args.history.now c.deref.result.now c.args.order.now c.events-events.ensures.value ids l))
     c.replay.ensures.made
 
 pub returns-clause-fault : goal.returns-clause-fault

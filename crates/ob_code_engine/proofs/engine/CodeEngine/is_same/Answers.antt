@@ -1,4 +1,4 @@
-use Rattle.std.proofs.Common.{◌≡◌, sym, ap, ◌∙◌}
+use Rattle.std.proofs.Common.{sym, ap, ◌∙◌}
 use Rattle.ob_code_engine.specs.CodeEngine.{CompiledParts}
 use Rattle.ob_code_engine.proofs.Made.{same_numbers, same_engines}
 use Rattle.ob_code_engine.proofs.engine.CodeEngine.is_same.Goals as goal

@@ -1,4 +1,4 @@
-use Rattle.std.proofs.Common.{◌≡◌, List, length, Option, sym, ap, ◌∙◌, arith}
+use Rattle.std.proofs.Common.{List, length, Option, sym, ap, ◌∙◌, arith}
 use Rattle.ob_interface.specs.declared.export.Formal.{Formal}
 use Rattle.ob_code_law.specs.CodeMeaning.{Entrance, values_of, parameters_of}
 use Rattle.ob_code_engine.proofs.Exports.{few}

@@ -1,4 +1,4 @@
-use Rattle.std.proofs.Common.{◌≡◌, List, length, sym, ap, arith}
+use Rattle.std.proofs.Common.{List, length, sym, ap, arith}
 use Rattle.ob_interface.specs.declared.export.Formal.{Formal}
 use Rattle.ob_code_engine.proofs.Exports.{few_at}
 use Rattle.ob_code_engine.proofs.engine.CodeEngineEngine.start.Goals as goal
