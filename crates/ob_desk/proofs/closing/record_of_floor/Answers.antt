@@ -1,4 +1,4 @@
-use Rattle.std.proofs.Common.{◌≡◌, ◌∙◌, ap, subst}
+use Rattle.std.proofs.Common.{◌≡◌, ◌∙◌, ℕ, ◌<◌, All, ap, subst}
 use Rattle.ob_code.specs.Body.{Run}
 use Rattle.ob_desk.specs.Desk.{desk_in}
 use Rattle.ob_desk.proofs.Closes.{computed_by, exports_of, record_of_run}
@@ -9,6 +9,7 @@ use Rattle.ob_object.specs.Compilation.{ObjectParts}
 use Rattle.ob_record.specs.Record.{record_of}
 use Rattle.ob_run.specs.Recorded.{IsLegalFor}
 use Rattle.wf_object.specs.View.{Object}
+use Rattle.wf_table.specs.declared.schedule.Turns.{Turns}
 use Rattle.ob_desk.proofs.closing.record_of_floor.Goals as goal
 
 pub recorded-requires : goal.recorded-requires
@@ -41,3 +42,8 @@ returns-clause-exports c =
     let machine = c.into_parts-machine.result.0 in
     let code : parts_in machine.engine ≡ o.engine = ap (λ (m : Object CodeEngine Run). parts_in m.engine) c.into_parts-machine.ensures.machine ∙ c.requires.code in
     exports_of o (parts_in machine.engine) c.in_ok-recorded.field-0.history c.object-object.ensures.sound code c.in_ok-recorded.ensures.begun
+
+pub returns-clause-turns : goal.returns-clause-turns
+returns-clause-turns c =
+    let processes = ap (λ (m : Object CodeEngine Run). m.sizes.processes) c.into_parts-machine.ensures.machine ∙ c.requires.processes in
+    subst (λ (n : ℕ). All (λ (t : Turns). t.process < n) c.in_ok-recorded.field-0.schedule.items) processes c.in_ok-recorded.ensures.turns

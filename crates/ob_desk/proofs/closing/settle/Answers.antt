@@ -20,3 +20,8 @@ returns-clause-agree c =
     let all = all_agree d f seats is (c.if-not-is_of.ensures.yes refl) are each in
     subst (λ (events : List (Event ObjectCall Reply)). All (Agrees events r.schedule.items) seats) (sym c.in_ok-record_of_floor.ensures.history)
     (subst (λ (schedule : List Turns). All (Agrees f.machine.state.records.history schedule) seats) (sym c.in_ok-record_of_floor.ensures.schedule) all)
+
+pub returns-in-Some-first_apart-clause-fault : goal.returns-in-Some-first_apart-clause-fault
+returns-in-Some-first_apart-clause-fault c =
+    let are : AreSeats (desk_in c.args.terms.now) c.args.seats.now = record { own = c.in_default.ensures.none; each = c.in_default-first_uneven.ensures.none } in
+    (are, c.if-not-is_of.ensures.yes refl, c.in-Some-first_apart.ensures.some)
