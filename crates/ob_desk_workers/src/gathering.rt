@@ -9,8 +9,7 @@ ghost use Rattle.ob_desk_workers.specs.Rounds.{IsPromised};
 use crate::gate::Gate;
 use crate::worker::{Ended, PassedBy, Worked, work};
 use crossbeam_channel::{Receiver, unbounded};
-use ob_desk::Desk;
-use ob_desk_floor::{CallAnswer, Seat};
+use ob_desk_floor::{CallAnswer, Seat, TakeTurn};
 use std::alloc::{AllocError, Global};
 use std::sync::Wait;
 use std::thread;
@@ -27,10 +26,10 @@ pub struct Gathered {
 }
 
 /// Starts a worker for each seat, on a thread of its own, collects the answers that they send, and joins all.
-pub fn gather<R: Threads + Wait + Sync, G: Gate + Sync>(
+pub fn gather<R: Threads + Wait + Sync, D: TakeTurn + Sync, G: Gate + Sync>(
     rt: &R,
     alloc: Global,
-    desk: &Desk,
+    desk: &D,
     gate: &G,
     limit: u64,
     seats: Vec<Seat>,
@@ -46,7 +45,7 @@ pub fn gather<R: Threads + Wait + Sync, G: Gate + Sync>(
         move |scope| -> Result<Gathered, AllocError>
             requires limit { 1 ≤ limit }
             requires count { count ≡ length seats.items }
-            requires shared { IsSync R.row × IsSync G.row }
+            requires shared { IsSync R.row × IsSync D.row × IsSync G.row }
             ensures { IfOk result (AreHeard G.may_refuse count) }
         {
             let mut gathered = Gathered::new(alloc, count)?;

@@ -6,8 +6,7 @@ ghost use Rattle.ob_desk_workers.specs.declared.worker.Ended.TheVariants as Ende
 
 use crate::gate::Gate;
 use crossbeam_channel::Sender;
-use ob_desk::Desk;
-use ob_desk_floor::{CallAnswer, Seat};
+use ob_desk_floor::{CallAnswer, Seat, TakeTurn};
 use std::alloc::Global;
 use std::marker::PhantomData;
 use std::sync::Wait;
@@ -54,9 +53,9 @@ impl<G: Gate> Promise<Worked> for PassedBy<G> {
 
 /// Takes turns of the seat's process, as the gate lets it, until the process is halted or its seat can count no more turns,
 /// and sends each answer. The desk's lock is free between two turns.
-pub fn work<R: Wait, G: Gate>(
+pub fn work<R: Wait, D: TakeTurn, G: Gate>(
     rt: &R,
-    desk: &Desk,
+    desk: &D,
     gate: &G,
     limit: u64,
     mut seat: Seat,
@@ -76,9 +75,9 @@ pub fn work<R: Wait, G: Gate>(
 }
 
 /// One round: the gate is asked, and where it passes a turn is taken. Answers how the worker ends, if it does.
-fn go_round<R: Wait, G: Gate>(
+fn go_round<R: Wait, D: TakeTurn, G: Gate>(
     rt: &R,
-    desk: &Desk,
+    desk: &D,
     gate: &G,
     limit: u64,
     seat: &mut Seat,
@@ -108,9 +107,9 @@ fn go_round<R: Wait, G: Gate>(
 
 /// One turn of the seat's process, whose answer, if there is one, is told to the gate and sent. Answers how the worker ends, if
 /// it does.
-fn take_turn<R: Wait, G: Gate>(
+fn take_turn<R: Wait, D: TakeTurn, G: Gate>(
     rt: &R,
-    desk: &Desk,
+    desk: &D,
     gate: &G,
     seat: &mut Seat,
     answers: &Sender<CallAnswer, Global>,
