@@ -2,9 +2,6 @@
 use Rattle.std.proofs.Common.{◌≡◌, ◌<◌, ◌∙◌, [], Bool, List, None, Option, Some, ap, arith, get_or, length, subst, sym, ℕ}
 use Rattle.std.specs.Prelude.{unwrap_or}
 use Rattle.std.proofs.lemmas.Option.{slice_get-get_or}
-use Rattle.ob_desk.specs.Desk.{Desk}
-use Rattle.ob_desk.specs.declared.fault.CloseFault.{CloseFault}
-use Rattle.ob_desk.specs.declared.fault.CloseFault.TheVariants as Close
 use Rattle.ob_desk_floor.specs.Seat.{Seat}
 use Rattle.ob_desk_floor.specs.declared.seat.CallAnswer.{CallAnswer}
 use Rattle.ob_desk_workers.specs.Gathered.{AreHeard}
@@ -12,9 +9,10 @@ use Rattle.ob_desk_workers.specs.declared.gathering.Gathered.{Gathered}
 use Rattle.ob_desk_workers.specs.declared.worker.Ended.{Ended}
 use Rattle.ob_desk_workers.specs.declared.worker.Ended.TheVariants as Ended
 use Rattle.ob_interface.specs.Call.{ObjectCall, Reply}
+use Rattle.ob_object.specs.Compilation.{ObjectParts}
 use Rattle.ob_serve.specs.Gathered.{AreByProcess, IsFirst, IsGatherFault, sent_by}
-use Rattle.ob_serve.specs.ServeFaults.{IsFinishFault, IsLowestLost, IsServeFault, IsTold, IsToldAll, TellsClosing}
-use Rattle.ob_serve.specs.Served.{TellsMemoryApart, calls_for, of_close}
+use Rattle.ob_serve.specs.ServeFaults.{IsFinishFault, IsLowestLost, IsServeFault, IsTold, IsToldAll}
+use Rattle.ob_serve.specs.Served.{calls_for}
 use Rattle.ob_serve.specs.declared.fault.ServeFault.{ServeFault}
 use Rattle.ob_serve.specs.declared.fault.ServeFault.TheVariants as Faults
 use Rattle.ob_text.specs.Script.{ScriptCall}
@@ -24,37 +22,23 @@ use Rattle.wf_history.specs.History.{Event}
 ended_at : (which : Ended) (ended : List Ended) (p : ℕ) → IsFirst which ended p → get_or ended p which ≡ which
 ended_at which ended p h = ap (λ (o : Option Ended). unwrap_or o which) (sym (slice_get-get_or ended p which h.within) ∙ h.there)
 
--- what is told of workers that did not end well
-pub gather_fault : (b : Bool) (d : Desk) (count : ℕ) (g : Gathered) → AreHeard b count g → count ≡ d.object.processes → (e : ServeFault) → IsGatherFault g e → IsServeFault b d e
-gather_fault b d count g heard is (Faults.NotStarted p) h = omega (arith, h.within, heard.few, is)
-gather_fault b d count g heard is Faults.NoMemory h = tt
-gather_fault b d count g heard is (Faults.Refused p) h =
-    (omega (arith, h.2.within, heard.few, is), heard.refused p Ended.Refused h.2.within (ended_at Ended.Refused g.ended.items p h.2))
-gather_fault b d count g heard is (Faults.Lost p) h = absurd h
-gather_fault b d count g heard is (Faults.Close e) h = absurd h
+module _ (b : Bool) (o : ObjectParts) (scripts : List ScriptCall) where
+  -- what is told of workers that did not end well
+  pub gather_fault : (count : ℕ) (g : Gathered) → AreHeard b count g → count ≡ o.processes → (e : ServeFault) → IsGatherFault g e → IsServeFault b o scripts e
+  gather_fault count g heard is (Faults.NotStarted p) h = omega (arith, h.within, heard.few, is)
+  gather_fault count g heard is Faults.NoMemory h = tt
+  gather_fault count g heard is (Faults.Refused p) h =
+      (omega (arith, h.2.within, heard.few, is), heard.refused p Ended.Refused h.2.within (ended_at Ended.Refused g.ended.items p h.2))
+  gather_fault count g heard is (Faults.Lost p) h = absurd h
+  gather_fault count g heard is (Faults.Close e) h = absurd h
 
-pub gather_memory : (g : Gathered) (e : ServeFault) → IsGatherFault g e → TellsMemoryApart e
-gather_memory g (Faults.NotStarted p) h = tt
-gather_memory g Faults.NoMemory h = tt
-gather_memory g (Faults.Refused p) h = tt
-gather_memory g (Faults.Lost p) h = tt
-gather_memory g (Faults.Close e) h = absurd h
-
--- what is told of workers that did
-pub finish_fault : (b : Bool) (d : Desk) (seats : List Seat) (answers : List CallAnswer) (e : ServeFault) → IsFinishFault d d.object.processes d.scripts seats answers e → IsServeFault b d e
-finish_fault b d seats answers (Faults.NotStarted p) h = absurd h
-finish_fault b d seats answers Faults.NoMemory h = tt
-finish_fault b d seats answers (Faults.Refused p) h = absurd h
-finish_fault b d seats answers (Faults.Lost p) h = (seats, answers, h)
-finish_fault b d seats answers (Faults.Close e) h = (seats, h)
-
--- a fault of closing goes up as it is
-pub close_fault : (d : Desk) (processes : ℕ) (scripts : List ScriptCall) (seats : List Seat) (answers : List CallAnswer) (e : CloseFault) → TellsClosing d seats e → IsFinishFault d processes scripts seats answers (of_close e)
-close_fault d processes scripts seats answers (Close.Stranger p) h = h
-close_fault d processes scripts seats answers (Close.Uneven p) h = h
-close_fault d processes scripts seats answers Close.OtherFloor h = h
-close_fault d processes scripts seats answers (Close.Disagrees p) h = h
-close_fault d processes scripts seats answers Close.NoMemory h = tt
+  -- what is told of workers that did
+  pub finish_fault : (seats : List Seat) (answers : List CallAnswer) (e : ServeFault) → IsFinishFault o scripts seats answers e → IsServeFault b o scripts e
+  finish_fault seats answers (Faults.NotStarted p) h = absurd h
+  finish_fault seats answers Faults.NoMemory h = tt
+  finish_fault seats answers (Faults.Refused p) h = absurd h
+  finish_fault seats answers (Faults.Lost p) h = (seats, answers, h)
+  finish_fault seats answers (Faults.Close e) h = (seats, h)
 
 -- the lowest process by the lists of the processes is that by all that came
 module _ (processes : ℕ) (history : List (Event ObjectCall Reply)) (scripts : List ScriptCall) (answers : List CallAnswer) (lists : List (List CallAnswer)) (by : AreByProcess processes answers lists) where

@@ -1,4 +1,4 @@
-mod Faults
 mod Ends
 mod Numbered
 mod ByProcess
+mod Closed

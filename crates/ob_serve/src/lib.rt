@@ -4,6 +4,7 @@
 mod answers;
 mod ending;
 pub mod fault;
+mod recording;
 pub mod serving;
 
 pub use fault::ServeFault;

@@ -2,27 +2,34 @@
 
 ghost use Rattle.std.specs.Prelude.{◌≡◌, ◌<◌, ◌≤◌, All, IfErr, IfOk, map};
 ghost use Rattle.ob_check.specs.Exports.{signatures};
-ghost use Rattle.ob_desk.specs.Close.{IsRecordOf};
-ghost use Rattle.ob_desk.specs.Desk.{desk_in};
+ghost use Rattle.ob_desk.specs.Desk.{desk_in, seats_of};
+ghost use Rattle.ob_desk_floor.specs.Submission.{submission_of};
 ghost use Rattle.ob_engine.specs.Compiled.{IsFitting};
+ghost use Rattle.ob_engine.specs.Parts.{parts_in};
 ghost use Rattle.ob_object.specs.Performance.{IsSoundObject};
 ghost use Rattle.ob_object.specs.View.{object_in};
 ghost use Rattle.ob_record.specs.Record.{AreOfExports, record_of};
 ghost use Rattle.ob_serve.specs.ServeFaults.{IsFinishFault, IsServeFault};
-ghost use Rattle.ob_serve.specs.Served.{HaveEnded, TellsMemoryApart, desk_of};
+ghost use Rattle.ob_serve.specs.Served.{HaveEnded, IsRecordOf, desk_of};
 ghost use Rattle.ob_text.specs.ScriptView.{object_call, script_call_of};
+ghost use Rattle.wf_play.specs.Played.{scripts_of};
 
 use crate::answers::{by_process, first_lost};
 use crate::ending::handed_back;
 use crate::fault::ServeFault;
+use crate::recording::record_of_machine;
 use ob_desk::Desk;
-use ob_desk_floor::{CallAnswer, Seat};
+use ob_desk_floor::{CallAnswer, Seat, Submission};
 use ob_desk_workers::{Gate, gather};
-use ob_interface::MOST_PROCESSES;
-use ob_object::{Object, copied_calls};
+use ob_engine::CodeEngine;
+use ob_interface::call::Call;
+use ob_interface::{MOST_PROCESSES, NoMemory};
+use ob_layout::encode;
+use ob_object::Object;
 use ob_record::Record;
 use ob_text::script::ScriptCall;
-use std::alloc::Global;
+use smallvec::SmallVec;
+use std::alloc::{AllocError, Global};
 use std::sync::Wait;
 use std::thread::Threads;
 
@@ -34,82 +41,93 @@ const TAG: u64 = 0;
 pub fn serve<R: Threads + Wait + Sync, G: Gate + Sync>(
     rt: &R,
     alloc: Global,
-    object: Object,
-    scripts: Vec<ScriptCall>,
+    object: &Object,
+    scripts: &[ScriptCall],
     gate: &G,
     limit: u64,
 ) -> Result<Record, ServeFault>
-    requires sound { IsSoundObject (object_in object) }
-    requires some { 0 < (object_in object).processes }
-    requires few { (object_in object).processes ≤ MOST_PROCESSES }
-    requires callers { All (λ c. c.process < (object_in object).processes) scripts.items }
-    requires fits { All (λ c. IsFitting (object_in object).engine (object_call (script_call_of c))) scripts.items }
+    requires sound { IsSoundObject (object_in object.now) }
+    requires some { 0 < (object_in object.now).processes }
+    requires few { (object_in object.now).processes ≤ MOST_PROCESSES }
+    requires callers { All (λ c. c.process < (object_in object.now).processes) scripts.now }
+    requires fits { All (λ c. IsFitting (object_in object.now).engine (object_call (script_call_of c))) scripts.now }
     requires limit { 1 ≤ limit }
-    ensures record { IfOk result (λ r. IsRecordOf (desk_of (object_in object) (map script_call_of scripts.items)) (record_of r)) }
-    ensures ended { IfOk result (λ r. HaveEnded (object_in object).processes (map script_call_of scripts.items) r.history) }
+    ensures record { IfOk result (λ r. IsRecordOf (object_in object.now) (map script_call_of scripts.now) (record_of r)) }
+    ensures ended { IfOk result (λ r. HaveEnded (object_in object.now).processes (map script_call_of scripts.now) r.history) }
 
-    ensures fault { IfErr result (IsServeFault G.may_refuse (desk_of (object_in object) (map script_call_of scripts.items))) }
+    // Of calls on the module's exports, and of turns of the object's processes.
+    ensures exports { IfOk result (λ r. AreOfExports (signatures (object_in object.now).program) r.history) }
+    ensures turns { IfOk result (λ r. All (λ t. t.process < (object_in object.now).processes) r.schedule.items) }
 
-    // Want of memory is told by its own variant alone.
-    ensures memory { IfErr result TellsMemoryApart }
+    ensures fault { IfErr result (IsServeFault G.may_refuse (object_in object.now) (map script_call_of scripts.now)) }
 {
-    let (_, record) = served(rt, alloc, object, scripts, gate, limit)?;
-    Ok(record)
-}
-
-/// The same, with the object, by whose module the record is written.
-pub fn served<R: Threads + Wait + Sync, G: Gate + Sync>(
-    rt: &R,
-    alloc: Global,
-    object: Object,
-    scripts: Vec<ScriptCall>,
-    gate: &G,
-    limit: u64,
-) -> Result<(Object, Record), ServeFault>
-    requires sound { IsSoundObject (object_in object) }
-    requires some { 0 < (object_in object).processes }
-    requires few { (object_in object).processes ≤ MOST_PROCESSES }
-    requires callers { All (λ c. c.process < (object_in object).processes) scripts.items }
-    requires fits { All (λ c. IsFitting (object_in object).engine (object_call (script_call_of c))) scripts.items }
-    requires limit { 1 ≤ limit }
-    ensures object { IfOk result (λ r. object_in r.0 ≡ object_in object) }
-    ensures record { IfOk result (λ r. IsRecordOf (desk_of (object_in object) (map script_call_of scripts.items)) (record_of r.1)) }
-    ensures ended { IfOk result (λ r. HaveEnded (object_in object).processes (map script_call_of scripts.items) r.1.history) }
-    ensures exports { IfOk result (λ r. AreOfExports (signatures (object_in object).program) r.1.history) }
-    ensures turns { IfOk result (λ r. All (λ t. t.process < (object_in object).processes) r.1.schedule.items) }
-    ensures fault { IfErr result (IsServeFault G.may_refuse (desk_of (object_in object) (map script_call_of scripts.items))) }
-    ensures memory { IfErr result TellsMemoryApart }
-{
-    let processes = object.processes();
-    let calls = copied_calls(alloc, scripts.as_slice())?;
-    let (desk, seats) = Desk::open(alloc, object, scripts, TAG)?;
+    let (desk, seats) = opened(alloc, object, scripts)?;
     let gathered = gather(rt, alloc, &desk, gate, limit, seats)?;
     let (seats, answers) = handed_back(gathered)?;
-    finish(alloc, desk, processes, calls.as_slice(), seats, answers)
+    finish(alloc, desk, object, scripts, seats.as_slice(), answers)
 }
 
-/// Closes the desk, and compares the answers that were sent with its record.
+/// The desk at which the object's processes make the calls, and its seats.
+fn opened(
+    alloc: Global,
+    object: &Object,
+    scripts: &[ScriptCall],
+) -> Result<(Desk<CodeEngine>, Vec<Seat>), NoMemory>
+    requires sound { IsSoundObject (object_in object.now) }
+    requires some { 0 < (object_in object.now).processes }
+    requires few { (object_in object.now).processes ≤ MOST_PROCESSES }
+    requires callers { All (λ c. c.process < (object_in object.now).processes) scripts.now }
+    requires fits { All (λ c. IsFitting (object_in object.now).engine (object_call (script_call_of c))) scripts.now }
+    ensures desk { IfOk result (λ r. desk_in parts_in r.0 ≡ desk_of (object_in object.now) (map script_call_of scripts.now)) }
+    ensures seats { IfOk result (λ r. r.1.items ≡ seats_of (object_in object.now).processes 0) }
+{
+    let engine = object.engine().copy(alloc)?;
+    let opening = encode(alloc, object.opening())?;
+    let calls = submissions(alloc, scripts)?;
+    Desk::open(alloc, engine, object.processes(), opening, calls, TAG)
+}
+
+/// The calls of scripts, as processes make them.
+fn submissions(alloc: Global, scripts: &[ScriptCall]) -> Result<Vec<Submission>, AllocError>
+    ensures { IfOk result (λ v. map submission_of v.items ≡ scripts_of (map script_call_of scripts.now)) }
+{
+    let mut submissions = Vec::with_capacity(alloc, scripts.len())?;
+    for script in scripts {
+        let call = Call {
+            proc: script.proc,
+            args: SmallVec::from_slice(alloc, script.args.as_slice())?,
+        };
+        submissions.push(Submission {
+            process: script.process,
+            call,
+        })?;
+    }
+    Ok(submissions)
+}
+
+/// Closes the desk, makes the record of its machine, and compares the answers that were sent with the record.
 fn finish(
     alloc: Global,
-    desk: Desk,
-    processes: usize,
+    desk: Desk<CodeEngine>,
+    object: &Object,
     scripts: &[ScriptCall],
-    seats: Vec<Seat>,
+    seats: &[Seat],
     answers: Vec<CallAnswer>,
-) -> Result<(Object, Record), ServeFault>
-    requires { 0 < processes }
-    ensures object { IfOk result (λ r. object_in r.0 ≡ (desk_in desk).object) }
-    ensures record { IfOk result (λ r. IsRecordOf (desk_in desk) (record_of r.1)) }
-    ensures ended { IfOk result (λ r. HaveEnded processes (map script_call_of scripts.now) r.1.history) }
-    ensures exports { IfOk result (λ r. AreOfExports (signatures (desk_in desk).object.program) r.1.history) }
-    ensures turns { IfOk result (λ r. All (λ t. t.process < (desk_in desk).object.processes) r.1.schedule.items) }
-    ensures fault { IfErr result (IsFinishFault (desk_in desk) processes (map script_call_of scripts.now) seats.items answers.items) }
-    ensures memory { IfErr result TellsMemoryApart }
+) -> Result<Record, ServeFault>
+    requires sound { IsSoundObject (object_in object.now) }
+    requires some { 0 < (object_in object.now).processes }
+    requires desk { desk_in parts_in desk ≡ desk_of (object_in object.now) (map script_call_of scripts.now) }
+    ensures record { IfOk result (λ r. IsRecordOf (object_in object.now) (map script_call_of scripts.now) (record_of r)) }
+    ensures ended { IfOk result (λ r. HaveEnded (object_in object.now).processes (map script_call_of scripts.now) r.history) }
+    ensures exports { IfOk result (λ r. AreOfExports (signatures (object_in object.now).program) r.history) }
+    ensures turns { IfOk result (λ r. All (λ t. t.process < (object_in object.now).processes) r.schedule.items) }
+    ensures fault { IfErr result (IsFinishFault (object_in object.now) (map script_call_of scripts.now) seats.now answers.items) }
 {
-    let sent = by_process(alloc, processes, answers)?;
-    let (object, record) = desk.closed(alloc, seats)?;
-    match first_lost(processes, scripts, sent.as_slice(), record.history.events()) {
+    let sent = by_process(alloc, object.processes(), answers)?;
+    let machine = desk.close(seats)?;
+    let record = record_of_machine(alloc, object, machine)?;
+    match first_lost(object.processes(), scripts, sent.as_slice(), record.history.events()) {
         Some(process) => Err(ServeFault::Lost(process)),
-        None => Ok((object, record)),
+        None => Ok(record),
     }
 }

@@ -8,8 +8,6 @@ use Rattle.ob_object.specs.declared.compiling.CompileFault.{CompileFault}
 use Rattle.ob_object.specs.declared.compiling.CompileFault.TheVariants as Compile
 use Rattle.ob_opened.specs.ModuleText.{IsModule}
 use Rattle.ob_serve.specs.ServeFaults.{IsServeFault}
-use Rattle.ob_serve.specs.Served as Served
-use Rattle.ob_serve.specs.Served.{desk_of}
 use Rattle.ob_serve_texts.specs.ServedTexts.{AreReadCalls, HasNoCalls, IsOfTexts, IsReadFault, IsServeTextFault, TellsMemoryApart, of_compile, of_script, of_serve}
 use Rattle.ob_serve.specs.declared.fault.ServeFault.{ServeFault}
 use Rattle.ob_serve.specs.declared.fault.ServeFault.TheVariants as Serve
@@ -35,12 +33,12 @@ script_memory (Script.Arguments line) = λ bad. cc
 script_memory (Script.Process line) = λ bad. cc
 script_memory Script.NoMemory = tt
 
-pub serve_memory : (e : ServeFault) → Served.TellsMemoryApart e → TellsMemoryApart (of_serve e)
-serve_memory (Serve.NotStarted p) h = (h, λ bad. cc)
-serve_memory Serve.NoMemory h = tt
-serve_memory (Serve.Refused p) h = (h, λ bad. cc)
-serve_memory (Serve.Lost p) h = (h, λ bad. cc)
-serve_memory (Serve.Close e) h = (h, λ bad. cc)
+pub serve_memory : (e : ServeFault) → TellsMemoryApart (of_serve e)
+serve_memory (Serve.NotStarted p) = λ bad. cc
+serve_memory Serve.NoMemory = tt
+serve_memory (Serve.Refused p) = λ bad. cc
+serve_memory (Serve.Lost p) = λ bad. cc
+serve_memory (Serve.Close e) = λ bad. cc
 
 module _ (text : List ℕ) (n : ℕ) (scripts : List ℕ) where
   -- ---- what faults say
@@ -66,7 +64,7 @@ module _ (text : List ℕ) (n : ℕ) (scripts : List ℕ) where
   read_fault may_refuse (Faults.Serve e) h = absurd h
   read_fault may_refuse Faults.NoMemory h = tt
 
-  pub serve_fault : (may_refuse : Bool) (o : ObjectParts) (calls : List ScriptCall) → AreReadCalls text n scripts o calls → (e : ServeFault) → IsServeFault may_refuse (desk_of o calls) e → IsServeTextFault may_refuse text n scripts (of_serve e)
+  pub serve_fault : (may_refuse : Bool) (o : ObjectParts) (calls : List ScriptCall) → AreReadCalls text n scripts o calls → (e : ServeFault) → IsServeFault may_refuse o calls e → IsServeTextFault may_refuse text n scripts (of_serve e)
   serve_fault may_refuse o calls read (Serve.NotStarted p) h = record { object = o; calls = calls; read = read; fails = h }
   serve_fault may_refuse o calls read Serve.NoMemory h = tt
   serve_fault may_refuse o calls read (Serve.Refused p) h = record { object = o; calls = calls; read = read; fails = h }

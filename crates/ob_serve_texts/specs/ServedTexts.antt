@@ -2,7 +2,6 @@
 use Rattle.std.specs.Prelude.{◌≡◌, ◌≢◌, ℕ, ◌<◌, ◌^◌, Bool, List, length}
 use Rattle.ob_check.specs.Exports.{signatures}
 use Rattle.ob_check.specs.Program.{Program}
-use Rattle.ob_desk.specs.Close.{IsRecordOf}
 use Rattle.ob_object.specs.Compilation as Compilation
 use Rattle.ob_object.specs.Compilation.{ObjectParts, IsCompilation, IsCompileFault}
 use Rattle.ob_object.specs.Performance.{IsScriptFaultOf}
@@ -12,8 +11,7 @@ use Rattle.ob_opened.specs.ModuleText.{IsModule}
 use Rattle.ob_record.specs.Record.{Record}
 use Rattle.ob_record.specs.RecordText.{record_text}
 use Rattle.ob_serve.specs.ServeFaults.{IsServeFault}
-use Rattle.ob_serve.specs.Served as Served
-use Rattle.ob_serve.specs.Served.{HaveEnded, desk_of}
+use Rattle.ob_serve.specs.Served.{HaveEnded, IsRecordOf}
 use Rattle.ob_serve.specs.declared.fault.ServeFault.{ServeFault}
 use Rattle.ob_serve.specs.declared.fault.ServeFault.TheVariants as Serve
 use Rattle.ob_serve_texts.specs.declared.texts.ServeTextFault.{ServeTextFault}
@@ -34,17 +32,17 @@ pub record IsServedPrinted (text : List ℕ) (n : ℕ) (scripts output : List �
   pub calls : List ScriptCall
   pub read : AreReadCalls text n scripts object calls
   pub shown : Record
-  pub is_record : IsRecordOf (desk_of object calls) shown
+  pub is_record : IsRecordOf object calls shown
   pub events : length shown.history < 2 ^ 64
   pub ended : HaveEnded n calls shown.history
   pub printed : output ≡ record_text (signatures object.program) shown
 
--- The workers of the desk of the texts' object and calls fail so. Their gate refuses or never does.
+-- The workers on the texts' object fail so with their calls. Their gate refuses or never does.
 pub record IsServeFaultOf (may_refuse : Bool) (text : List ℕ) (n : ℕ) (scripts : List ℕ) (fault : ServeFault) : Type 0 where
   pub object : ObjectParts
   pub calls : List ScriptCall
   pub read : AreReadCalls text n scripts object calls
-  pub fails : IsServeFault may_refuse (desk_of object calls) fault
+  pub fails : IsServeFault may_refuse object calls fault
 
 -- what each fault says that comes before there are workers
 abbrev pub IsReadFault : (text : List ℕ) (n : ℕ) (scripts : List ℕ) → ServeTextFault → Type 0
@@ -78,7 +76,7 @@ of_serve e = Faults.Serve e
 abbrev pub TellsMemoryApart : ServeTextFault → Type 0
 TellsMemoryApart (Faults.Compile e) = Compilation.TellsMemoryApart e × (e ≢ Compile.NoMemory)
 TellsMemoryApart (Faults.Script e) = e ≢ Script.NoMemory
-TellsMemoryApart (Faults.Serve e) = Served.TellsMemoryApart e × (e ≢ Serve.NoMemory)
+TellsMemoryApart (Faults.Serve e) = e ≢ Serve.NoMemory
 TellsMemoryApart Faults.NoMemory = Unit {0}
 
 -- a fault with a number, so no want of memory

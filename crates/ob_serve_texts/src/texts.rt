@@ -12,8 +12,7 @@ use ob_opened::checked_text::TextFault;
 use ob_record::write_record;
 use ob_scan::ScanFault;
 use ob_scan::scanner::LONGEST_TEXT;
-use ob_serve::ServeFault;
-use ob_serve::serving::served;
+use ob_serve::{ServeFault, serve};
 use ob_text::script::{ScriptCall, ScriptFault, read_scripts};
 use std::alloc::{AllocError, Global};
 use std::sync::Wait;
@@ -144,7 +143,7 @@ pub fn serve_text_with<R: Threads + Wait + Sync, G: Gate + Sync>(
     ensures too_long { 0 < n → n ≤ MOST_PROCESSES → LONGEST_TEXT < length text.now → result ≡ Err (ServeTextFault.Compile (CompileFault.Text (TextFault.Scan ScanFault.TooLong))) }
 {
     let (object, calls) = read_calls(alloc, text, n, scripts)?;
-    let (object, record) = served(rt, alloc, object, calls, gate, limit)?;
+    let record = serve(rt, alloc, &object, calls.as_slice(), gate, limit)?;
     count_events(&record.history);
     Ok(write_record(alloc, object.checked(), &record)?)
 }
