@@ -2,8 +2,7 @@
 
 ghost use Rattle.std.specs.Prelude.{◌≡◌, ◌<◌, ◌≤◌, All, IfErr, IfOk, map};
 ghost use Rattle.ob_check.specs.Exports.{signatures};
-ghost use Rattle.ob_desk.specs.Desk.{desk_in, seats_of};
-ghost use Rattle.ob_desk_floor.specs.Submission.{submission_of};
+ghost use Rattle.ob_desk.specs.Desk.{desk_in};
 ghost use Rattle.ob_engine.specs.Compiled.{IsFitting};
 ghost use Rattle.ob_engine.specs.Parts.{parts_in};
 ghost use Rattle.ob_object.specs.Performance.{IsSoundObject};
@@ -12,29 +11,23 @@ ghost use Rattle.ob_record.specs.Record.{AreOfExports, record_of};
 ghost use Rattle.ob_serve.specs.ServeFaults.{IsFinishFault, IsServeFault};
 ghost use Rattle.ob_serve.specs.Served.{HaveEnded, IsRecordOf, desk_of};
 ghost use Rattle.ob_text.specs.ScriptView.{object_call, script_call_of};
-ghost use Rattle.wf_play.specs.Played.{scripts_of};
 
 use crate::answers::{by_process, first_lost};
 use crate::ending::handed_back;
 use crate::fault::ServeFault;
+use crate::opening::opened_desk;
 use crate::recording::record_of_machine;
 use ob_desk::Desk;
-use ob_desk_floor::{CallAnswer, Seat, Submission};
+use ob_desk_floor::{CallAnswer, Seat};
 use ob_desk_workers::{Gate, gather};
 use ob_engine::CodeEngine;
-use ob_interface::call::Call;
-use ob_interface::{MOST_PROCESSES, NoMemory};
-use ob_layout::encode;
+use ob_interface::MOST_PROCESSES;
 use ob_object::Object;
 use ob_record::Record;
 use ob_text::script::ScriptCall;
-use smallvec::SmallVec;
-use std::alloc::{AllocError, Global};
+use std::alloc::Global;
 use std::sync::Wait;
 use std::thread::Threads;
-
-/// The tag of the seats of a desk at which workers are served.
-const TAG: u64 = 0;
 
 /// The record of a run in which one worker thread for each process takes its turns on the object, as the gate lets it, until
 /// every call of the scripts has ended. A worker that the gate refuses `limit` times in a row gives up.
@@ -61,48 +54,10 @@ pub fn serve<R: Threads + Wait + Sync, G: Gate + Sync>(
 
     ensures fault { IfErr result (IsServeFault G.may_refuse (object_in object.now) (map script_call_of scripts.now)) }
 {
-    let (desk, seats) = opened(alloc, object, scripts)?;
+    let (desk, seats) = opened_desk(alloc, object, scripts)?;
     let gathered = gather(rt, alloc, &desk, gate, limit, seats)?;
     let (seats, answers) = handed_back(gathered)?;
     finish(alloc, desk, object, scripts, seats.as_slice(), answers)
-}
-
-/// The desk at which the object's processes make the calls, and its seats.
-fn opened(
-    alloc: Global,
-    object: &Object,
-    scripts: &[ScriptCall],
-) -> Result<(Desk<CodeEngine>, Vec<Seat>), NoMemory>
-    requires sound { IsSoundObject (object_in object.now) }
-    requires some { 0 < (object_in object.now).processes }
-    requires few { (object_in object.now).processes ≤ MOST_PROCESSES }
-    requires callers { All (λ c. c.process < (object_in object.now).processes) scripts.now }
-    requires fits { All (λ c. IsFitting (object_in object.now).engine (object_call (script_call_of c))) scripts.now }
-    ensures desk { IfOk result (λ r. desk_in parts_in r.0 ≡ desk_of (object_in object.now) (map script_call_of scripts.now)) }
-    ensures seats { IfOk result (λ r. r.1.items ≡ seats_of (object_in object.now).processes 0) }
-{
-    let engine = object.engine().copy(alloc)?;
-    let opening = encode(alloc, object.opening())?;
-    let calls = submissions(alloc, scripts)?;
-    Desk::open(alloc, engine, object.processes(), opening, calls, TAG)
-}
-
-/// The calls of scripts, as processes make them.
-fn submissions(alloc: Global, scripts: &[ScriptCall]) -> Result<Vec<Submission>, AllocError>
-    ensures { IfOk result (λ v. map submission_of v.items ≡ scripts_of (map script_call_of scripts.now)) }
-{
-    let mut submissions = Vec::with_capacity(alloc, scripts.len())?;
-    for script in scripts {
-        let call = Call {
-            proc: script.proc,
-            args: SmallVec::from_slice(alloc, script.args.as_slice())?,
-        };
-        submissions.push(Submission {
-            process: script.process,
-            call,
-        })?;
-    }
-    Ok(submissions)
 }
 
 /// Closes the desk, makes the record of its machine, and compares the answers that were sent with the record.
