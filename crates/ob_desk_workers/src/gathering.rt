@@ -1,13 +1,13 @@
 //! The workers of a desk, started, heard and joined.
 
-ghost use Rattle.std.specs.Prelude.{◌≡◌, ◌≤◌, ◌+◌, ◌++◌, ◌∷◌, [], All, IfOk, IsFalse, IsTrue, List, false, length};
+ghost use Rattle.std.specs.Prelude.{◌≡◌, ◌≤◌, ◌+◌, ◌++◌, ◌∷◌, [], IfOk, IsFalse, IsTrue, List, false, length};
 ghost use Rattle.std.specs.Thread.{IsSync};
 ghost use Rattle.ob_desk_floor.specs.declared.seat.CallAnswer.{CallAnswer};
 ghost use Rattle.ob_desk_workers.specs.Gathered.{AreHeard};
-ghost use Rattle.ob_desk_workers.specs.Rounds.{IsPromised};
+ghost use Rattle.ob_desk_workers.specs.Joined.{AreJoined};
 
 use crate::gate::Gate;
-use crate::worker::{Ended, PassedBy, Worked, work};
+use crate::worker::{Ended, PassedBy, Worked, promise, work};
 use crossbeam_channel::{Receiver, unbounded};
 use ob_desk_floor::{CallAnswer, Seat, TakeTurn};
 use std::alloc::{AllocError, Global};
@@ -25,6 +25,9 @@ pub struct Gathered {
     pub is_short: bool,
 }
 
+/// A worker's thread, or how a worker ended that was not started.
+type Start<G> = Result<PromisedHandle<Worked, PassedBy<G>>, Ended>;
+
 /// Starts a worker for each seat, on a thread of its own, collects the answers that they send, and joins all.
 pub fn gather<R: Threads + Wait + Sync, D: TakeTurn + Sync, G: Gate + Sync>(
     rt: &R,
@@ -35,7 +38,7 @@ pub fn gather<R: Threads + Wait + Sync, D: TakeTurn + Sync, G: Gate + Sync>(
     seats: Vec<Seat>,
 ) -> Result<Gathered, AllocError>
     requires { 1 ≤ limit }
-    ensures { IfOk result (AreHeard G.may_refuse (length seats.items)) }
+    ensures { IfOk result (AreHeard (G.passes gate.now) (G.refuses gate.now) limit seats.items) }
 {
     let (sender, receiver) = unbounded(alloc)?;
     let count = seats.len();
@@ -44,26 +47,28 @@ pub fn gather<R: Threads + Wait + Sync, D: TakeTurn + Sync, G: Gate + Sync>(
         rt,
         move |scope| -> Result<Gathered, AllocError>
             requires limit { 1 ≤ limit }
-            requires count { count ≡ length seats.items }
             requires shared { IsSync R.row × IsSync D.row × IsSync G.row }
-            ensures { IfOk result (AreHeard G.may_refuse count) }
+            ensures { IfOk result (AreHeard (G.passes gate.entry.now) (G.refuses gate.entry.now) limit seats.items) }
         {
             let mut gathered = Gathered::new(alloc, count)?;
-            let mut handles = Vec::with_capacity(alloc, count)?;
+            let mut starts = Vec::with_capacity(alloc, count)?;
             for seat in seats {
-                let Ok(answers) = sender.clone() else {
-                    gathered.is_short = true;
-                    continue;
+                let start = match sender.clone() {
+                    Err(_) => Err(Ended::NoMemory),
+                    Ok(answers) => {
+                        let kept = promise(gate, limit, &seat);
+                        let started = scope.spawn_with(kept, move || {
+                            work(rt, desk, gate, limit, seat, answers)
+                        });
+                        started.map_err(|_| Ended::NotStarted)
+                    }
                 };
-                let started = scope.spawn_with(PassedBy::<G>::new(), move || {
-                    work(rt, desk, gate, limit, seat, answers)
-                });
-                gathered.is_short |= handles.push(started.ok()).is_err();
+                gathered.is_short |= starts.push(start).is_err();
             }
             // The collector stops where no sender is left.
             drop(sender);
             collect(rt, receiver, &mut gathered);
-            join_all(rt, handles, &mut gathered);
+            join_all(rt, starts, &mut gathered);
             Ok(gathered)
         },
     )
@@ -72,7 +77,8 @@ pub fn gather<R: Threads + Wait + Sync, D: TakeTurn + Sync, G: Gate + Sync>(
 impl Gathered {
     /// With room for so many workers.
     fn new(alloc: Global, count: usize) -> Result<Gathered, AllocError>
-        ensures { IfOk result (λ g. g.ended.items ≡ []) }
+        ensures ended { IfOk result (λ g. g.ended.items ≡ []) }
+        ensures seats { IfOk result (λ g. g.seats.items ≡ []) }
     {
         Ok(Gathered {
             ended: Vec::with_capacity(alloc, count)?,
@@ -97,22 +103,22 @@ fn collect<R: Wait>(rt: &R, receiver: Receiver<CallAnswer, Global>, gathered: &m
     }
 }
 
-/// Adds what each worker hands back, and that one was not started. Where memory wants it goes on joining.
+/// Adds what each worker hands back, and how one ended that was not started. Where memory wants it goes on joining.
 fn join_all<R: Threads + Wait, G: Gate>(
     rt: &R,
-    handles: Vec<Option<PromisedHandle<Worked, PassedBy<G>>>>,
+    starts: Vec<Start<G>>,
     gathered: &mut Gathered,
 )
-    requires { gathered.old.ended.items ≡ [] }
-    ensures few { length gathered.new.ended.items ≤ length handles.items }
-    ensures all { gathered.new.is_short ≡ false → length gathered.new.ended.items ≡ length handles.items }
-    ensures refused { All (IsPromised G.may_refuse) gathered.new.ended.items }
+    requires ended { gathered.old.ended.items ≡ [] }
+    requires seats { gathered.old.seats.items ≡ [] }
+    ensures few { length gathered.new.ended.items ≤ length starts.items }
+    ensures joined { gathered.new.is_short ≡ false → AreJoined G.passes G.refuses starts.items gathered.new.ended.items gathered.new.seats.items }
     ensures short { gathered.new.is_short ≡ false → gathered.old.is_short ≡ false }
 {
-    for handle in handles {
-        let ended = match handle {
-            None => Ended::NotStarted,
-            Some(handle) => {
+    for start in starts {
+        let ended = match start {
+            Err(ended) => ended,
+            Ok(handle) => {
                 let worked = handle.join(rt);
                 gathered.is_short |= gathered.seats.push(worked.seat).is_err();
                 worked.ended
