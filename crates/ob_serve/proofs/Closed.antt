@@ -5,6 +5,8 @@ use Rattle.ob_check.specs.Exports.{signatures}
 use Rattle.ob_code.specs.Body.{Run}
 use Rattle.ob_desk.specs.Close as Close
 use Rattle.ob_desk.specs.Desk.{Desk}
+use Rattle.ob_desk.specs.declared.fault.CloseFault.{CloseFault}
+use Rattle.ob_desk_floor.specs.Seat.{Seat}
 use Rattle.ob_engine.specs.CodeMeaning.{EngineParts, code_meaning}
 use Rattle.ob_engine.specs.Compiled.{EffectIsCalled, HasReserve, IsEffect, IsFitting, IsLawfulBlock}
 use Rattle.ob_engine.specs.Parts.{parts_in}
@@ -31,6 +33,10 @@ use Rattle.wf_table.specs.Runs.{IsRun, performed}
 -- a closed machine over code
 abbrev pub IsClosed : Desk EngineParts → Object CodeEngine Run → Type 0
 IsClosed d m = Close.IsClosed parts_in (λ (x : CodeEngine). code_meaning (parts_in x)) (λ x. IsLawfulBlock (parts_in x)) (λ x. IsFitting (parts_in x)) (λ x. HasReserve (parts_in x)) d m
+
+-- what closing over code tells
+abbrev pub TellsClosing : Desk EngineParts → List Seat → CloseFault → Type 0
+TellsClosing d seats e = Close.TellsClosing parts_in (λ (x : CodeEngine). code_meaning (parts_in x)) (λ x. IsLawfulBlock (parts_in x)) (λ x. IsFitting (parts_in x)) (λ x. HasReserve (parts_in x)) d seats e
 
 module _ (o : ObjectParts) (parts : EngineParts) (words : List ℤ) (sound : IsSoundObject o) (code : parts ≡ o.engine) where
   -- an object's opening is lawful for each engine of its parts

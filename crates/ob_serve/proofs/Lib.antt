@@ -2,3 +2,4 @@ mod Ends
 mod Numbered
 mod ByProcess
 mod Closed
+mod Submitted

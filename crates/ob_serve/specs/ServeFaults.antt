@@ -1,11 +1,12 @@
 -- What each fault of workers says.
-use Rattle.std.specs.Prelude.{◌≡◌, ℕ, ℤ, ◌<◌, All, Bool, List, map, true}
+use Rattle.std.specs.Prelude.{◌≡◌, ℕ, ◌<◌, All, List, map}
 use Rattle.ob_desk.specs.Close as Close
 use Rattle.ob_desk.specs.Close.{AreSeats}
 use Rattle.ob_desk.specs.declared.fault.CloseFault.{CloseFault}
 use Rattle.ob_desk_floor.specs.Agreeing.{Agrees}
 use Rattle.ob_desk_floor.specs.Seat.{Seat, answered_call}
 use Rattle.ob_desk_floor.specs.declared.seat.CallAnswer.{CallAnswer}
+use Rattle.ob_desk_workers.specs.Rounds.{IsRefused, Says}
 use Rattle.ob_engine.specs.CodeMeaning.{code_meaning}
 use Rattle.ob_engine.specs.Compiled.{HasReserve, IsFitting, IsLawfulBlock}
 use Rattle.ob_engine.specs.Parts.{parts_in}
@@ -55,11 +56,11 @@ IsFinishFault o scripts seats answers (Faults.Close e) = TellsClosing o scripts 
 IsFinishFault o scripts seats answers Faults.NoMemory = Unit {0}
 IsFinishFault o scripts seats answers _ = ⊥
 
--- What each fault says of the workers on an object, by whose gate they go: V1, V2 and V3 name a process of the object, and V1 comes
--- only of a gate that may refuse.
-abbrev pub IsServeFault : Bool → ObjectParts → List ScriptCall → ServeFault → Type 0
-IsServeFault may_refuse o scripts (Faults.NotStarted p) = p < o.processes
-IsServeFault may_refuse o scripts Faults.NoMemory = Unit {0}
-IsServeFault may_refuse o scripts (Faults.Refused p) = (p < o.processes) × (may_refuse ≡ true)
-IsServeFault may_refuse o scripts (Faults.Lost p) = (seats : List Seat) × (answers : List CallAnswer) × HasLost o scripts seats answers p
-IsServeFault may_refuse o scripts (Faults.Close e) = (seats : List Seat) × TellsClosing o scripts seats e
+-- What each fault says of the workers on an object, by whose gate they go: V1, V2 and V3 name a process of the object, and of that of
+-- V1 the gate refused a turn as often in a row as the limit says.
+abbrev pub IsServeFault : (refuses : Says) (limit : ℕ) → ObjectParts → List ScriptCall → ServeFault → Type 0
+IsServeFault refuses limit o scripts (Faults.NotStarted p) = p < o.processes
+IsServeFault refuses limit o scripts Faults.NoMemory = Unit {0}
+IsServeFault refuses limit o scripts (Faults.Refused p) = (p < o.processes) × IsRefused refuses limit p
+IsServeFault refuses limit o scripts (Faults.Lost p) = (seats : List Seat) × (answers : List CallAnswer) × HasLost o scripts seats answers p
+IsServeFault refuses limit o scripts (Faults.Close e) = (seats : List Seat) × TellsClosing o scripts seats e

@@ -2,6 +2,8 @@
 use Rattle.std.specs.Prelude.{◌≡◌, ℕ, ◌<◌, List, count_by, map, nat_eq}
 use Rattle.ob_code.specs.Body.{Run}
 use Rattle.ob_desk.specs.Desk.{Desk}
+use Rattle.ob_desk_floor.specs.Floor.{turns_in}
+use Rattle.ob_desk_workers.specs.Rounds.{IsLet, Says}
 use Rattle.ob_engine.specs.CodeMeaning.{EngineParts, code_meaning}
 use Rattle.ob_engine.specs.Compiled.{HasReserve, IsFitting, IsLawfulBlock}
 use Rattle.ob_interface.specs.Call.{ObjectCall, Reply}
@@ -14,6 +16,7 @@ use Rattle.wf_history.specs.History.{Event, own_answers}
 use Rattle.wf_play.specs.Played.{scripts_of}
 use Rattle.wf_table.specs.Object.{State}
 use Rattle.wf_table.specs.Runs.{IsRun, performed}
+use Rattle.wf_table.specs.declared.schedule.Turns.{Turns}
 use Rattle.wf_theorems.specs.FirstCalls.{first_ids}
 
 -- the desk at which the workers of an object's processes take their turns
@@ -42,3 +45,7 @@ EndsFirst history p count = map (λ a. a.0) (own_answers p history) ≡ first_id
 -- each call of the scripts has its one End, those of a process in turn
 abbrev pub HaveEnded : ℕ → List ScriptCall → List (Event ObjectCall Reply) → Type 0
 HaveEnded processes scripts history = (p : ℕ) → p < processes → EndsFirst history p (calls_for p scripts)
+
+-- each turn that the schedule has of a process is one that the gate let it take
+abbrev pub AreTurnsLet : Says → (limit processes : ℕ) → List Turns → Type 0
+AreTurnsLet passes limit processes schedule = (p turns : ℕ) → p < processes → turns < turns_in p schedule → IsLet passes limit p turns

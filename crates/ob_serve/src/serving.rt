@@ -1,15 +1,17 @@
 //! One worker for each process, and the record of what they did.
 
-ghost use Rattle.std.specs.Prelude.{◌≡◌, ◌<◌, ◌≤◌, All, IfErr, IfOk, map};
+ghost use Rattle.std.specs.Prelude.{◌≡◌, ◌<◌, ◌≤◌, All, IfErr, IfOk, OnOk, map};
 ghost use Rattle.ob_check.specs.Exports.{signatures};
+ghost use Rattle.ob_desk.specs.Close.{AreSeats};
 ghost use Rattle.ob_desk.specs.Desk.{desk_in};
+ghost use Rattle.ob_desk_floor.specs.Agreeing.{Agrees};
 ghost use Rattle.ob_engine.specs.Compiled.{IsFitting};
 ghost use Rattle.ob_engine.specs.Parts.{parts_in};
 ghost use Rattle.ob_object.specs.Performance.{IsSoundObject};
 ghost use Rattle.ob_object.specs.View.{object_in};
 ghost use Rattle.ob_record.specs.Record.{AreOfExports, record_of};
 ghost use Rattle.ob_serve.specs.ServeFaults.{IsFinishFault, IsServeFault};
-ghost use Rattle.ob_serve.specs.Served.{HaveEnded, IsRecordOf, desk_of};
+ghost use Rattle.ob_serve.specs.Served.{AreTurnsLet, HaveEnded, IsRecordOf, desk_of};
 ghost use Rattle.ob_text.specs.ScriptView.{object_call, script_call_of};
 
 use crate::answers::{by_process, first_lost};
@@ -52,7 +54,10 @@ pub fn serve<R: Threads + Wait + Sync, G: Gate + Sync>(
     ensures exports { IfOk result (λ r. AreOfExports (signatures (object_in object.now).program) r.history) }
     ensures turns { IfOk result (λ r. All (λ t. t.process < (object_in object.now).processes) r.schedule.items) }
 
-    ensures fault { IfErr result (IsServeFault G.may_refuse (object_in object.now) (map script_call_of scripts.now)) }
+    // The gate let each process take each of these turns, before it had refused it one as often in a row as the limit says.
+    ensures passed { IfOk result (λ r. AreTurnsLet (G.passes gate.now) limit (object_in object.now).processes r.schedule.items) }
+
+    ensures fault { IfErr result (IsServeFault (G.refuses gate.now) limit (object_in object.now) (map script_call_of scripts.now)) }
 {
     let (desk, seats) = opened_desk(alloc, object, scripts)?;
     let gathered = gather(rt, alloc, &desk, gate, limit, seats)?;
@@ -76,6 +81,8 @@ fn finish(
     ensures ended { IfOk result (λ r. HaveEnded (object_in object.now).processes (map script_call_of scripts.now) r.history) }
     ensures exports { IfOk result (λ r. AreOfExports (signatures (object_in object.now).program) r.history) }
     ensures turns { IfOk result (λ r. All (λ t. t.process < (object_in object.now).processes) r.schedule.items) }
+    ensures seats { OnOk result (AreSeats (desk_of (object_in object.now) (map script_call_of scripts.now)) seats.now) }
+    ensures agree { IfOk result (λ r. All (Agrees r.history r.schedule.items) seats.now) }
     ensures fault { IfErr result (IsFinishFault (object_in object.now) (map script_call_of scripts.now) seats.now answers.items) }
 {
     let sent = by_process(alloc, object.processes(), answers)?;

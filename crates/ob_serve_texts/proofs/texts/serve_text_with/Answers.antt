@@ -7,7 +7,7 @@ use Rattle.ob_object.specs.View.{object_in}
 use Rattle.ob_record.specs.Record.{record_of}
 use Rattle.ob_record.specs.RecordText.{record_text}
 use Rattle.ob_serve.specs.ServeFaults.{IsServeFault}
-use Rattle.ob_serve.specs.Served.{HaveEnded, IsRecordOf}
+use Rattle.ob_serve.specs.Served.{AreTurnsLet, HaveEnded, IsRecordOf}
 use Rattle.ob_serve_texts.proofs.ReadCalls as Read
 use Rattle.ob_serve_texts.proofs.TextFaults.{read_fault, serve_fault}
 use Rattle.ob_text.specs.ScriptView.{object_call, script_call_of}
@@ -51,28 +51,31 @@ returns-clause-served g c =
     let shown = record_of c.in_ok-record.record in
     let given = c.as_slice.ensures.value in
     record {
-      object = o;
-      calls = calls;
-      read = ready;
-      shown = shown;
-      is_record = subst (λ (xs : List ScriptCall). IsRecordOf o (map script_call_of xs) shown) given c.in_ok-record.ensures.record;
-      events = c.count_events.ensures;
-      ended = subst (λ (k : ℕ). HaveEnded k calls shown.history) ready.compiled.processes
-          (subst (λ (xs : List ScriptCall). HaveEnded o.processes (map script_call_of xs) shown.history) given c.in_ok-record.ensures.ended);
-      printed = c.in_ok-write_record.ensures ∙ ap (λ (p : Program). record_text (signatures p) shown) c.checked.ensures;
+      served = record {
+        object = o;
+        calls = calls;
+        read = ready;
+        shown = shown;
+        is_record = subst (λ (xs : List ScriptCall). IsRecordOf o (map script_call_of xs) shown) given c.in_ok-record.ensures.record;
+        events = c.count_events.ensures;
+        ended = subst (λ (k : ℕ). HaveEnded k calls shown.history) ready.compiled.processes
+            (subst (λ (xs : List ScriptCall). HaveEnded o.processes (map script_call_of xs) shown.history) given c.in_ok-record.ensures.ended);
+        printed = c.in_ok-write_record.ensures ∙ ap (λ (p : Program). record_text (signatures p) shown) c.checked.ensures;
+      };
+      passed = subst (λ (k : ℕ). AreTurnsLet (g.G.Gate.passes c.args.gate.now) c.args.limit k shown.schedule) ready.compiled.processes c.in_ok-record.ensures.passed;
     }
 
 pub returns-in_err-object-clause-fault : goal.returns-in_err-object-clause-fault
 returns-in_err-object-clause-fault g c =
     let p = err_from_is_err_and c.from_residual.result c.from_residual.ensures.1 in
-    rw (p.1, p.2) (read_fault c.args.text.now c.args.n c.args.scripts.now g.G.Gate.may_refuse c.in_err-object.field-0.0 c.in_err-object.ensures.fault)
+    rw (p.1, p.2) (read_fault c.args.text.now c.args.n c.args.scripts.now (g.G.Gate.refuses c.args.gate.now) c.args.limit c.in_err-object.field-0.0 c.in_err-object.ensures.fault)
 
 pub returns-in_err-record-clause-fault : goal.returns-in_err-record-clause-fault
 returns-in_err-record-clause-fault g c =
     let p = err_from_is_err_and c.from_residual-in_err-record.result c.from_residual-in_err-record.ensures.1 in
     let o = object_in c.in_ok-object.object in
-    let may_refuse = g.G.Gate.may_refuse in
+    let refuses = g.G.Gate.refuses c.args.gate.now in
     let e = c.in_err-record.field-0.0 in
     rw (p.1, p.2)
-    (serve_fault c.args.text.now c.args.n c.args.scripts.now may_refuse o (map script_call_of c.in_ok-object.calls.items) c.in_ok-object.ensures.ready e
-    (subst (λ (xs : List ScriptCall). IsServeFault may_refuse o (map script_call_of xs) e) c.as_slice.ensures.value c.in_err-record.ensures.fault))
+    (serve_fault c.args.text.now c.args.n c.args.scripts.now refuses c.args.limit o (map script_call_of c.in_ok-object.calls.items) c.in_ok-object.ensures.ready e
+    (subst (λ (xs : List ScriptCall). IsServeFault refuses c.args.limit o (map script_call_of xs) e) c.as_slice.ensures.value c.in_err-record.ensures.fault))
