@@ -88,7 +88,12 @@ fn finish(
     let sent = by_process(alloc, object.processes(), answers)?;
     let machine = desk.close(seats)?;
     let record = record_of_machine(alloc, object, machine)?;
-    match first_lost(object.processes(), scripts, sent.as_slice(), record.history.events()) {
+    match first_lost(
+        object.processes(),
+        scripts,
+        sent.as_slice(),
+        record.history.events(),
+    ) {
         Some(process) => Err(ServeFault::Lost(process)),
         None => Ok(record),
     }
