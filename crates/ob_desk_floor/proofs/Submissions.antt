@@ -1,16 +1,19 @@
 -- Calls that are submitted before any step.
-use Rattle.std.proofs.Common.{◌≡◌, ℕ, suc, ◌+◌, List, [], ◌∷◌, ◌++◌, map, take, refl, ap, ◌∙◌, arith}
+use Rattle.std.proofs.Common.{◌≡◌, ℕ, suc, ◌+◌, List, [], ◌∷◌, ◌++◌, map, take, refl, ap, ◌∙◌, sym, arith}
 use Rattle.std.specs.Prelude.{Option, Some, None, slice_get}
 use Rattle.std.specs.List.{All}
 use Rattle.std.proofs.lemmas.List.Elements.{All-head, All-tail}
 use Rattle.ob_interface.specs.Call.{ObjectCall}
 use Rattle.ob_interface.specs.View.{call_of}
+use Rattle.ob_interface.specs.declared.call.Call.{Call}
 use Rattle.wf_history.proofs.Positions.{take_next}
+use Rattle.wf_object.specs.View.{Object}
 use Rattle.wf_table.specs.declared.process.Sizes.{Sizes}
 use Rattle.wf_table.specs.Meaning.{Meaning}
 use Rattle.wf_table.specs.Object.{State, submit_by, submit_of}
 use Rattle.wf_table.specs.Runs.{ActsFit, run, submissions, turns}
 use Rattle.wf_table.specs.Table.{Process}
+use Rattle.ob_desk_floor.specs.Floor.{with_submissions}
 use Rattle.ob_desk_floor.specs.Submission.{submission_of}
 use Rattle.ob_desk_floor.specs.declared.submission.Submission.{Submission}
 
@@ -41,3 +44,12 @@ module _ {Run : Type 0} (m : Meaning Run) (z : Sizes) where
   submitted_more cs i c s at =
       let more : i + 1 ≡ suc i = omega arith in
       ap (λ (xs : List Submission). run m z (submissions (map submission_of xs)) s) (ap (λ (j : ℕ). take j cs) more ∙ take_next cs i c at) ∙ submitted_last (take i cs) c s
+
+-- a machine with the calls so far, and with one more
+pub one_submission_more : {E Run : Type 0} (m : Meaning Run) (a b next : Object E Run) (cs : List Submission) (i : ℕ) (c : Submission) (call : Call) → slice_get cs i ≡ Some c → call_of call ≡ call_of c.call →
+    b ≡ with_submissions m (map submission_of (take i cs)) a → next ≡ record b { state = submit_of b.state c.process (call_of call) } → next ≡ with_submissions m (map submission_of (take (i + 1) cs)) a
+one_submission_more {E} {Run} m a b next cs i c call at same so_far done =
+    done
+    ∙ ap (λ (x : ObjectCall). record b { state = submit_of b.state c.process x }) same
+    ∙ ap (λ (o : Object E Run). record o { state = submit_of o.state c.process (call_of c.call) }) so_far
+    ∙ ap (λ (s : State Run). record a { state = s }) (sym (submitted_more m a.sizes cs i c a.state at))
