@@ -61,7 +61,18 @@ refused tree Check.NoMemory h numbered program typed = let bad : true ≡ false 
 pub no_module_check : (text : List ℕ) (tree : Module) (e : CheckFault) → ((other : Module) → IsTextOf text other → other ≡ tree)
     → IsRefused e tree → IsNumberedText (of_check e) → (program : Program) → IsModule text program → ⊥
 no_module_check text tree e only h numbered program m =
-    refused tree e h numbered (subst (λ (x : Module). WellTyped x program) (only m.tree m.text_of) m.typed)
+    refused tree e h numbered program (subst (λ (x : Module). WellTyped x program) (only m.tree m.text_of) m.typed)
+
+-- ---- one module
+
+pub one_program : (text : List ℕ) (tree : Module) (program : Program) → ((other : Module) → IsTextOf text other → other ≡ tree)
+    → ((other : Program) → WellTyped tree other → other ≡ program) → (other : Program) → IsModule text other → other ≡ program
+one_program text tree program only alone other m =
+    alone other (subst (λ (x : Module). WellTyped x other) (only m.tree m.text_of) m.typed)
+
+pub one_tree : (text : List ℕ) (tree kept : Module) → kept ≡ tree → ((other : Module) → IsTextOf text other → other ≡ tree)
+    → (other : Module) → IsTextOf text other → other ≡ kept
+one_tree text tree kept is only other of = let e = only other of in cc
 
 -- ---- no opening
 

@@ -15,12 +15,12 @@ const DEPTH: &[u8] = b"MODULE R; PROCEDURE Down*(k: INTEGER); \
 fn a_call_is_made_on_the_opening_state(rt: HostRuntime) -> Result<(), Fail> {
     let alloc = rt.alloc();
     let checked = check(alloc, read(alloc, DEPTH)?)?;
-    let state = opening(alloc, &checked, 0)?;
+    let state = opening(alloc, &checked)?;
     let call = Call {
         export: 0,
         arguments: vec![in alloc; Scalar::Int(65)]?,
     };
-    let (_, reply) = interpret(alloc, &checked, &state, &call, 100)?.ok_or("more turns")?;
+    let (_, reply) = interpret(alloc, &checked, &state, &call, 100)?;
     assert!(rt; matches!(reply, Reply::Trapped(4)));
     Ok(())
 }

@@ -1,7 +1,13 @@
 use Rattle.std.proofs.lemmas.Result.{err_from_is_err_and}
 use Rattle.ob_grammar.specs.View.{module_of}
-use Rattle.ob_sequential.proofs.NoModule.{no_module_check, no_module_source, source_fault}
+use Rattle.ob_sequential.proofs.NoModule.{no_module_check, no_module_source, one_program, one_tree, source_fault}
 use Rattle.ob_sequential.proofs.checked_text.checked_text.Goals as goal
+
+pub returns-clause-alone : goal.returns-clause-alone
+returns-clause-alone c = one_program _ _ _ c.in_ok-tree.ensures.alone c.in_ok-check.ensures.alone
+
+pub returns-clause-one_tree : goal.returns-clause-one_tree
+returns-clause-one_tree c = one_tree _ _ _ c.in_ok-check.ensures.tree c.in_ok-tree.ensures.alone
 
 pub returns-in_err-tree-clause-none : goal.returns-in_err-tree-clause-none
 returns-in_err-tree-clause-none c =
