@@ -25,5 +25,5 @@ returns-clause-makers c =
     let again = c.in_ok-again.again in
     let makers = c.in_ok-makers.makers.items in
     let calls : map script_call_of again.calls.items ≡ map script_call_of c.args.calls.items = c.in_ok-again.ensures.calls ∙ ap (map script_call_of) c.as_slice.ensures.value in
-    makers_of o again.engine c.processes-processes.result c.as_slice-opening.result.now (map script_call_of again.calls.items) (map script_call_of c.args.calls.items) c.as_slice-turns.result.now (record_of c.in_ok-checked.record) makers
-    c.in_ok-again.ensures.engine c.processes-processes.ensures (c.as_slice-opening.ensures.value ∙ c.in_ok-again.ensures.opening) calls c.as_slice-turns.ensures.value c.in_ok-makers.ensures.makers
+    makers_of o again.engine c.processes-processes.result c.as_slice-2.result.now (map script_call_of again.calls.items) (map script_call_of c.args.calls.items) c.as_slice-turns.result.now (record_of c.in_ok-checked.record) makers
+    c.in_ok-again.ensures.engine c.processes-processes.ensures (c.as_slice-2.ensures.value ∙ c.in_ok-again.ensures.opening) calls c.as_slice-turns.ensures.value c.in_ok-makers.ensures.makers
