@@ -140,11 +140,7 @@ fn collect<R: Wait>(rt: &R, receiver: Receiver<CallAnswer, Global>, gathered: &m
 }
 
 /// Adds what each worker hands back, and how one ended that was not started. Where memory wants it goes on joining.
-fn join_all<R: Threads + Wait, G: Gate>(
-    rt: &R,
-    starts: Vec<Start<G>>,
-    gathered: &mut Gathered,
-)
+fn join_all<R: Threads + Wait, G: Gate>(rt: &R, starts: Vec<Start<G>>, gathered: &mut Gathered)
     requires ended { gathered.old.ended.items ≡ [] }
     requires seats { gathered.old.seats.items ≡ [] }
     ensures few { length gathered.new.ended.items ≤ length starts.items }
