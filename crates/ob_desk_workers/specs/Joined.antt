@@ -1,6 +1,6 @@
 -- What the threads of workers hand back, by what they have promised.
 use Rattle.std.specs.Prelude.{◌≡◌, ◌≢◌, ℕ, List, [], ◌∷◌, Result, Ok, Err}
-use Rattle.core.specs.declared.thread.PromisedHandle.{PromisedHandle}
+use Rattle.std.specs.declared.thread.PromisedHandle.{PromisedHandle}
 use Rattle.ob_desk_floor.specs.Seat.{Seat}
 use Rattle.ob_desk_workers.specs.Rounds.{HasWorked, Says}
 use Rattle.ob_desk_workers.specs.declared.worker.Ended.{Ended}
@@ -8,18 +8,18 @@ use Rattle.ob_desk_workers.specs.declared.worker.Ended.TheVariants as Ended
 use Rattle.ob_desk_workers.specs.declared.worker.PassedBy.{PassedBy}
 use Rattle.ob_desk_workers.specs.declared.worker.Worked.{Worked}
 
-module _ {G : Type 0} where
-  -- a worker's thread, or how a worker ended that was not started
-  abbrev pub Start : Type 0
-  Start = Result (PromisedHandle Worked (PassedBy G)) Ended
+-- a worker's thread, or how a worker ended that was not started
+abbrev pub Start : Type 0 → Type 0
+Start G = Result (PromisedHandle Worked (PassedBy G)) Ended
 
+module _ {G : Type 0} where
   -- for this seat, by this gate and limit
-  abbrev pub IsStartOf : (gate : G) (limit : ℕ) → Seat → Start → Type 0
+  abbrev pub IsStartOf : (gate : G) (limit : ℕ) → Seat → Start G → Type 0
   IsStartOf gate limit s (Ok h) = (h.promise.gate.value ≡ gate) × (h.promise.limit ≡ limit) × (h.promise.seat.value ≡ s)
   IsStartOf gate limit s (Err ended) = ended ≢ Ended.Refused
 
   -- one for each seat, in order
-  abbrev pub AreStartsOf : (gate : G) (limit : ℕ) → List Seat → List Start → Type 0
+  abbrev pub AreStartsOf : (gate : G) (limit : ℕ) → List Seat → List (Start G) → Type 0
   AreStartsOf gate limit [] [] = Unit {0}
   AreStartsOf gate limit (s ∷ seats) (x ∷ starts) = IsStartOf gate limit s x × AreStartsOf gate limit seats starts
   AreStartsOf gate limit [] (x ∷ starts) = ⊥
@@ -27,7 +27,7 @@ module _ {G : Type 0} where
 
   module _ (passes refuses : G → Says) where
     -- how the worker of each start ended, in order, and the seats of those that were started, in that order
-    abbrev pub AreJoined : List Start → List Ended → List Seat → Type 0
+    abbrev pub AreJoined : List (Start G) → List Ended → List Seat → Type 0
     AreJoined [] [] [] = Unit {0}
     AreJoined (Ok h ∷ starts) (e ∷ ended) (s ∷ seats) =
         HasWorked (passes h.promise.gate.value) (refuses h.promise.gate.value) h.promise.limit h.promise.seat.value s e × AreJoined starts ended seats

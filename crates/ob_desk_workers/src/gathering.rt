@@ -1,10 +1,11 @@
 //! The workers of a desk, started, heard and joined.
 
-ghost use Rattle.std.specs.Prelude.{◌≡◌, ◌≤◌, ◌+◌, ◌++◌, ◌∷◌, [], IfOk, IsFalse, IsTrue, List, false, length};
+ghost use Rattle.std.specs.Prelude.{◌≡◌, ◌≤◌, ◌+◌, ◌++◌, ◌∷◌, [], Err, IfOk, IsTrue, List, MatchResult, Ok, false, length};
 ghost use Rattle.std.specs.Thread.{IsSync};
 ghost use Rattle.ob_desk_floor.specs.declared.seat.CallAnswer.{CallAnswer};
 ghost use Rattle.ob_desk_workers.specs.Gathered.{AreHeard};
 ghost use Rattle.ob_desk_workers.specs.Joined.{AreJoined};
+ghost use Rattle.ob_desk_workers.specs.declared.worker.Ended.TheVariants as Ended;
 
 use crate::gate::Gate;
 use crate::worker::{Ended, PassedBy, Worked, promise, work};
@@ -53,17 +54,15 @@ pub fn gather<R: Threads + Wait + Sync, D: TakeTurn + Sync, G: Gate + Sync>(
             let mut gathered = Gathered::new(alloc, count)?;
             let mut starts = Vec::with_capacity(alloc, count)?;
             for seat in seats {
-                let start = match sender.clone() {
-                    Err(_) => Err(Ended::NoMemory),
-                    Ok(answers) => {
-                        let kept = promise(gate, limit, &seat);
-                        let started = scope.spawn_with(kept, move || {
-                            work(rt, desk, gate, limit, seat, answers)
-                        });
-                        started.map_err(|_| Ended::NotStarted)
-                    }
+                let Ok(answers) = sender.clone() else {
+                    gathered.is_short |= !add_start(&mut starts, Err(Ended::NoMemory));
+                    continue;
                 };
-                gathered.is_short |= starts.push(start).is_err();
+                let kept = promise(gate, limit, &seat);
+                let started = scope.spawn_with(kept, move || {
+                    work(rt, desk, gate, limit, seat, answers)
+                });
+                gathered.is_short |= !add_start(&mut starts, start_of(started));
             }
             // The collector stops where no sender is left.
             drop(sender);
@@ -72,6 +71,24 @@ pub fn gather<R: Threads + Wait + Sync, D: TakeTurn + Sync, G: Gate + Sync>(
             Ok(gathered)
         },
     )
+}
+
+/// The thread, or that none was started.
+fn start_of<G: Gate, E: Drop>(started: Result<PromisedHandle<Worked, PassedBy<G>>, E>) -> Start<G>
+    ensures { MatchResult started (λ h. result ≡ Ok h) (λ _. result ≡ Err Ended.NotStarted) }
+{
+    match started {
+        Ok(handle) => Ok(handle),
+        Err(_) => Err(Ended::NotStarted),
+    }
+}
+
+/// Adds a start, and answers whether there was memory for it.
+fn add_start<G: Gate>(starts: &mut Vec<Start<G>>, start: Start<G>) -> bool
+    ensures few { length starts.new.items ≤ length starts.old.items + 1 }
+    ensures added { IsTrue result → starts.new.items ≡ starts.old.items ++ start ∷ [] }
+{
+    starts.push(start).is_ok()
 }
 
 impl Gathered {
@@ -86,6 +103,25 @@ impl Gathered {
             answers: Vec::new(alloc),
             is_short: false,
         })
+    }
+
+    /// One more worker ended so.
+    fn note_end(&mut self, ended: Ended)
+        ensures few { length self.new.ended.items ≤ length self.old.ended.items + 1 }
+        ensures noted { self.new.is_short ≡ false → self.new.ended.items ≡ self.old.ended.items ++ ended ∷ [] }
+        ensures seats { self.new.seats ≡ self.old.seats }
+        ensures short { self.new.is_short ≡ false → self.old.is_short ≡ false }
+    {
+        self.is_short |= self.ended.push(ended).is_err();
+    }
+
+    /// One more seat was handed back.
+    fn take_back(&mut self, seat: Seat)
+        ensures ended { self.new.ended ≡ self.old.ended }
+        ensures taken { self.new.is_short ≡ false → self.new.seats.items ≡ self.old.seats.items ++ seat ∷ [] }
+        ensures short { self.new.is_short ≡ false → self.old.is_short ≡ false }
+    {
+        self.is_short |= self.seats.push(seat).is_err();
     }
 }
 
@@ -112,14 +148,13 @@ fn join_all<R: Threads + Wait, G: Gate>(rt: &R, starts: Vec<Start<G>>, gathered:
     ensures short { gathered.new.is_short ≡ false → gathered.old.is_short ≡ false }
 {
     for start in starts {
-        let ended = match start {
-            Err(ended) => ended,
+        match start {
+            Err(ended) => gathered.note_end(ended),
             Ok(handle) => {
                 let worked = handle.join(rt);
-                gathered.is_short |= gathered.seats.push(worked.seat).is_err();
-                worked.ended
+                gathered.take_back(worked.seat);
+                gathered.note_end(worked.ended);
             }
-        };
-        gathered.is_short |= gathered.ended.push(ended).is_err();
+        }
     }
 }
