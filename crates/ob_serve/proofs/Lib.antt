@@ -1,5 +1,5 @@
 mod Ends
 mod Numbered
 mod ByProcess
-mod Closed
+pub mod Closed
 mod Submitted
