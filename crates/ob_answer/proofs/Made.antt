@@ -31,7 +31,7 @@ use Rattle.ob_sequential.specs.declared.opened.ModuleFault.TheVariants as Opened
 use Rattle.ob_sequential.specs.declared.sequential.SeqTextFault.{SeqTextFault}
 use Rattle.ob_sequential.specs.declared.sequential.SeqTextFault.TheVariants as Runs
 use Rattle.ob_serve_texts.specs.ServedTexts as Serves
-use Rattle.ob_serve_texts.specs.ServedTexts.{HasNoCalls, IsOfTexts, IsServeTextFault}
+use Rattle.ob_serve_texts.specs.ServedTexts.{HasNoCalls, IsOfTexts, IsUngatedFault}
 use Rattle.ob_serve_texts.specs.declared.texts.ServeTextFault.{ServeTextFault}
 use Rattle.ob_serve_texts.specs.declared.texts.ServeTextFault.TheVariants as Serve
 use Rattle.ob_verify.specs.Verified.{IsVerifiedWithin}
@@ -160,14 +160,14 @@ run_refused_made product part n script schedule e (Err x) told numbered stands a
 
 pub serve_refused_made : {E : Type 0} (part : List ℕ) (n : ℕ) (script : List ℕ) (e : ServeTextFault) (result : Result Answer E)
     → IfOk result (λ a. IsRefused a 1 (serve_fault_line e ++ codes "\n")) → IfOk result (λ _. e ≢ Serve.NoMemory)
-    → IsServeTextFault false part n script e → Serves.TellsMemoryApart e → (IsOfTexts e → HasNoCalls part n script)
+    → IsUngatedFault part n script e → Serves.TellsMemoryApart e → (IsOfTexts e → HasNoCalls part n script)
     → ((n ≡ 0) ⊎ (16 < n) → e ≡ Serve.Compile Compile.Processes) → (0 < n → n ≤ 16 → 65536 < length part → e ≡ Serve.Compile (Compile.Text (Texts.Scan Scan.TooLong)))
     → IfOk result (λ a. (whole : List ℕ) → part ≡ beginning whole → IsServeAnswer whole n script a)
 serve_refused_made part n script e (Ok a) told known stands apart none processes too_long =
     λ whole is.
     refused e
-    (of_whole_or_long (λ t. IsServeTextFault false t n script e) part whole is
-    (λ long longer. fault_too_long Serve.Compile (IsServeTextFault false whole n script) whole n e (λ x h. h) longer processes (λ some few. too_long some few long)) stands)
+    (of_whole_or_long (λ t. IsUngatedFault t n script e) part whole is
+    (λ long longer. fault_too_long Serve.Compile (IsUngatedFault whole n script) whole n e (λ x h. h) longer processes (λ some few. too_long some few long)) stands)
     (known, apart)
     (λ of_texts. of_whole_or_long (λ t. HasNoCalls t n script) part whole is
     (λ long longer o calls compiled read. not_compiled whole longer o.program compiled.is_module) (none of_texts)) told

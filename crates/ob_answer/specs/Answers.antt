@@ -16,7 +16,7 @@ use Rattle.ob_object.specs.Performance as Performs
 use Rattle.ob_object.specs.Performance.{HasNoPerformance, IsPerformFault}
 use Rattle.ob_object.specs.Printed.{HasPerformance, IsRecordPrinted}
 use Rattle.ob_serve_texts.specs.ServedTexts as Serves
-use Rattle.ob_serve_texts.specs.ServedTexts.{HasNoCalls, IsOfTexts, IsServedPrinted, IsServeTextFault}
+use Rattle.ob_serve_texts.specs.ServedTexts.{HasNoCalls, IsOfTexts, IsServedPrinted, IsUngatedFault}
 use Rattle.ob_verify.specs.Verified.{IsVerified, IsVerifiedWithin}
 use Rattle.ob_verify.specs.VerifyFaults as Verifies
 use Rattle.ob_verify.specs.VerifyFaults.{IsVerifyFault}
@@ -74,7 +74,7 @@ IsRunAnswer product module_bytes processes script_bytes schedule_bytes =
 -- the workers rules nothing out.
 abbrev pub IsServeAnswer : (module_bytes : List ℕ) (processes : ℕ) (script_bytes : List ℕ) → Answer → Type 0
 IsServeAnswer module_bytes processes script_bytes =
-    IsTextAnswer (IsServedPrinted module_bytes processes script_bytes) (IsServeTextFault false module_bytes processes script_bytes) Serves.IsNumbered
+    IsTextAnswer (IsServedPrinted module_bytes processes script_bytes) (IsUngatedFault module_bytes processes script_bytes) Serves.IsNumbered
     (λ e. IsOfTexts e → HasNoCalls module_bytes processes script_bytes) serve_fault_line
 
 -- To the bytes of a module and of a record: `ok` where the record's order is a legal one. A fault rules out that it is one whose calls

@@ -9,10 +9,10 @@ use Rattle.ob_desk.specs.Desk.{Desk}
 use Rattle.ob_desk_floor.specs.Seat.{Seat}
 
 -- of the first so many seats
-abbrev pub Found : Desk → List Seat → ℕ → Option ℕ → Type 0
+abbrev pub Found : {Code : Type 0} → Desk Code → List Seat → ℕ → Option ℕ → Type 0
 Found d seats k first = MatchOption first (All (IsOwn d) (take k seats)) (IsLowestStranger d (take k seats))
 
-module _ (d : Desk) (seats : List Seat) (i : ℕ) (s : Seat) (lt : i < length seats) (is : s ≡ get_or seats i s) where
+module _ {Code : Type 0} (d : Desk Code) (seats : List Seat) (i : ℕ) (s : Seat) (lt : i < length seats) (is : s ≡ get_or seats i s) where
   abbrev OwnOrFrom : ℕ → Seat → Type 0
   OwnOrFrom p x = IsOwn d x ⊎ (p ≤ x.process)
 

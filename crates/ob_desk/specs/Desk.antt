@@ -1,33 +1,28 @@
 -- What a desk keeps beside its lock.
-use Rattle.std.specs.Prelude.{◌≡◌, ℕ, ℤ, List, map}
+use Rattle.std.specs.Prelude.{ℕ, ℤ, List, map}
 use Rattle.std.specs.List.{range_with_len}
-use Rattle.ob_layout.specs.Encoding.{encoded}
-use Rattle.ob_object.specs.Compilation.{ObjectParts}
-use Rattle.ob_object.specs.Performance.{IsSoundObject}
-use Rattle.ob_object.specs.View.{object_in}
-use Rattle.ob_object.specs.declared.compiling.Object.{Object}
-use Rattle.ob_text.specs.Script.{ScriptCall}
 use Rattle.ob_desk_floor.specs.Seat.{Seat, new_seat}
+use Rattle.ob_interface.specs.Call.{ObjectCall}
 
--- the object, the calls that were submitted before any turn, and the tag of its seats
-pub record Desk : Type 0 where
-  pub object : ObjectParts
-  pub scripts : List ScriptCall
+-- the code of the engine, the number of processes, the words with which the object begins, the calls that were submitted before
+-- any turn, each with its process, and the tag of the seats
+pub record Desk (Code : Type 0) : Type 0 where
+  pub code : Code
+  pub processes : ℕ
+  pub opening : List ℤ
+  pub scripts : List (ℕ × ObjectCall)
   pub tag : ℕ
 
--- the same, with the object as the program has it
-pub record Terms : Type 0 where
-  pub object : Object
-  pub scripts : List ScriptCall
+-- the same, with the engine as the program has it
+pub record Terms (E : Type 0) : Type 0 where
+  pub engine : E
+  pub processes : ℕ
+  pub opening : List ℤ
+  pub scripts : List (ℕ × ObjectCall)
   pub tag : ℕ
 
-abbrev pub desk_in : Terms → Desk
-desk_in t = record { object = object_in t.object; scripts = t.scripts; tag = t.tag }
-
--- the object can be run, and these are the words of its opening
-pub record IsKept (o : ObjectParts) (opening : List ℤ) : Type 0 where
-  pub sound : IsSoundObject o
-  pub opening_is : opening ≡ encoded o.opening
+abbrev pub desk_in : {E Code : Type 0} → (E → Code) → Terms E → Desk Code
+desk_in code t = record { code = code t.engine; processes = t.processes; opening = t.opening; scripts = t.scripts; tag = t.tag }
 
 -- one seat for each process, in order, without turns or answers
 abbrev pub seats_of : ℕ → ℕ → List Seat

@@ -1,9 +1,8 @@
-//! Why a desk gives no record.
+//! Why a desk gives no machine.
 
-use ob_interface::NoMemory;
 use thiserror::Error;
 
-/// Why closing a desk gives no record: the first fault, in the order of the variants, of the lowest process.
+/// Why closing a desk gives no machine: the first fault, in the order of the variants, of the lowest process.
 #[derive(Clone, Copy, Debug, Error)]
 pub enum CloseFault {
     /// K1: a seat has another tag, or is of no process of the desk.
@@ -18,18 +17,4 @@ pub enum CloseFault {
     /// K3: the process's seat took other turns, or has other answers, than the floor shows.
     #[error("K3 process {0}")]
     Disagrees(usize),
-    /// Want of memory.
-    #[error("NoMemory")]
-    NoMemory,
-}
-
-impl From<NoMemory> for CloseFault {
-    ghost use Rattle.std.specs.Prelude.{◌≡◌};
-    ghost use Rattle.ob_desk.specs.declared.fault.CloseFault.TheVariants as Faults;
-
-    ghost from_gives = { λ _ fault. fault ≡ Faults.NoMemory };
-
-    fn from(_: NoMemory) -> CloseFault {
-        CloseFault::NoMemory
-    }
 }

@@ -1,5 +1,5 @@
-//! The desk at which processes take their turns on one object: a lock round a floor, and the closing, which compares floor and
-//! seats and gives the record.
+//! The desk at which processes take their turns on one object, over any engine that can be copied and compared: a lock round a
+//! floor, and the closing, which compares floor and seats and gives the machine.
 #![tactic(auto)]
 
 pub mod closing;

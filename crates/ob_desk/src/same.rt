@@ -1,34 +1,34 @@
 //! Whether calls, or words, are the same.
 
 ghost use Rattle.std.specs.Prelude.{◌≡◌, ◌≢◌, IsFalse, IsTrue, map};
-ghost use Rattle.ob_text.specs.ScriptView.{script_call_of};
+ghost use Rattle.ob_desk_floor.specs.Submission.{submission_of};
 
-use ob_text::script::ScriptCall;
+use ob_desk_floor::Submission;
 
-/// Whether these are the same calls, in the same order.
-pub fn same_calls(calls: &[ScriptCall], others: &[ScriptCall]) -> bool
-    ensures yes { IsTrue result → map script_call_of calls.now ≡ map script_call_of others.now }
-    ensures no { IsFalse result → map script_call_of calls.now ≢ map script_call_of others.now }
+/// Whether these are the same calls of the same processes, in the same order.
+pub fn same_submissions(submissions: &[Submission], others: &[Submission]) -> bool
+    ensures yes { IsTrue result → map submission_of submissions.now ≡ map submission_of others.now }
+    ensures no { IsFalse result → map submission_of submissions.now ≢ map submission_of others.now }
 {
-    if calls.len() != others.len() {
+    if submissions.len() != others.len() {
         return false;
     }
-    for i in 0..calls.len() {
-        if !same_call(&calls[i], &others[i]) {
+    for i in 0..submissions.len() {
+        if !same_submission(&submissions[i], &others[i]) {
             return false;
         }
     }
     true
 }
 
-fn same_call(call: &ScriptCall, other: &ScriptCall) -> bool
-    ensures yes { IsTrue result → script_call_of call.now ≡ script_call_of other.now }
-    ensures no { IsFalse result → script_call_of call.now ≢ script_call_of other.now }
+fn same_submission(submission: &Submission, other: &Submission) -> bool
+    ensures yes { IsTrue result → submission_of submission.now ≡ submission_of other.now }
+    ensures no { IsFalse result → submission_of submission.now ≢ submission_of other.now }
 {
-    if call.process != other.process || call.proc != other.proc {
+    if submission.process != other.process || submission.call.proc != other.call.proc {
         return false;
     }
-    call.args.as_slice() == other.args.as_slice()
+    submission.call.args.as_slice() == other.call.args.as_slice()
 }
 
 /// Whether these are the same words.

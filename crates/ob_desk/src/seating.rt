@@ -6,11 +6,12 @@ ghost use Rattle.ob_desk.specs.Desk.{desk_in};
 
 use crate::terms::Terms;
 use ob_desk_floor::Seat;
+use wf_coded::CodedEngine;
 
 /// The lowest process of a seat that is not the desk's.
-pub fn first_stranger(terms: &Terms, seats: &[Seat]) -> Option<usize>
-    ensures none { IfNone result (All (IsOwn (desk_in terms.now)) seats.now) }
-    ensures some { IfSome result (IsLowestStranger (desk_in terms.now) seats.now) }
+pub fn first_stranger<E: CodedEngine>(terms: &Terms<E>, seats: &[Seat]) -> Option<usize>
+    ensures none { IfNone result (All (IsOwn (desk_in E.code terms.now)) seats.now) }
+    ensures some { IfSome result (IsLowestStranger (desk_in E.code terms.now) seats.now) }
 {
     let mut first = None;
     for seat in seats {
@@ -22,9 +23,9 @@ pub fn first_stranger(terms: &Terms, seats: &[Seat]) -> Option<usize>
 }
 
 /// Whether the seat is the desk's.
-fn is_own(terms: &Terms, seat: &Seat) -> bool
-    ensures yes { IsTrue result → IsOwn (desk_in terms.now) seat.now }
-    ensures no { IsFalse result → ¬ (IsOwn (desk_in terms.now) seat.now) }
+fn is_own<E: CodedEngine>(terms: &Terms<E>, seat: &Seat) -> bool
+    ensures yes { IsTrue result → IsOwn (desk_in E.code terms.now) seat.now }
+    ensures no { IsFalse result → ¬ (IsOwn (desk_in E.code terms.now) seat.now) }
 {
     seat.tag() == terms.tag() && seat.process() < terms.processes()
 }
@@ -40,9 +41,9 @@ fn lower(first: Option<usize>, process: usize) -> usize
 }
 
 /// The lowest process that has not just one seat.
-pub fn first_uneven(terms: &Terms, seats: &[Seat]) -> Option<usize>
-    ensures none { IfNone result ((p : ℕ) → p < (desk_in terms.now).object.processes → seats_at p seats.now ≡ 1) }
-    ensures some { IfSome result (IsLowestUneven (desk_in terms.now) seats.now) }
+pub fn first_uneven<E: CodedEngine>(terms: &Terms<E>, seats: &[Seat]) -> Option<usize>
+    ensures none { IfNone result ((p : ℕ) → p < (desk_in E.code terms.now).processes → seats_at p seats.now ≡ 1) }
+    ensures some { IfSome result (IsLowestUneven (desk_in E.code terms.now) seats.now) }
 {
     for process in 0..terms.processes() {
         if count_seats(process, seats) != 1 {

@@ -2,109 +2,88 @@
 
 ghost use Rattle.std.specs.Prelude.{◌≡◌, IfOk, map};
 ghost use Rattle.ob_desk.specs.Desk.{desk_in};
-ghost use Rattle.ob_layout.specs.Encoding.{encoded};
-ghost use Rattle.ob_object.specs.Performance.{IsSoundObject};
-ghost use Rattle.ob_object.specs.View.{object_in};
-ghost use Rattle.ob_text.specs.ScriptView.{script_call_of};
+ghost use Rattle.ob_desk_floor.specs.Submission.{submission_of};
 
+use ob_desk_floor::Submission;
+use ob_desk_floor::submission::copied_submissions;
 use ob_interface::NoMemory;
-use ob_layout::encode;
-use ob_object::{Object, copied_calls};
-use ob_text::script::ScriptCall;
 use std::alloc::Global;
 use std::marker::Model;
+use wf_coded::CodedEngine;
 
-/// The object, the words of its opening, the calls that were submitted before any turn, and the tag of the seats.
+/// An engine, the number of processes, the words with which their object begins, the calls that were submitted before any
+/// turn, and the tag of the seats.
 #[derive(Drop)]
-pub struct Terms {
-    object: Object,
+pub struct Terms<E: CodedEngine> {
+    engine: E,
+    processes: usize,
     opening: Vec<i64>,
-    scripts: Vec<ScriptCall>,
+    scripts: Vec<Submission>,
     tag: u64,
 }
 
-impl Model for Terms {
+impl<E: CodedEngine> Model for Terms<E> {
     ghost use Rattle.std.specs.Prelude.{map};
     ghost use Rattle.ob_desk.specs.Desk as desk;
-    ghost use Rattle.ob_object.specs.contracts.compiling.Object as objects;
-    ghost use Rattle.std.specs.Coded.{codes};
-    ghost use Rattle.ob_object.specs.View.{object_in};
-    ghost use Rattle.ob_text.specs.ScriptView.{script_call_of};
+    ghost use Rattle.ob_desk_floor.specs.Submission.{submission_of};
 
-    ghost Value = { desk.Terms };
+    ghost Value = { desk.Terms E };
 
-    ghost coded = { Prim.hlevel (codes, objects.the_row.coded) };
-
-    ghost view = { λ t. record { object = t.object; scripts = map script_call_of t.scripts.items; tag = t.tag } };
-
-    ghost invariant = { λ t. desk.IsKept (object_in t.object) t.opening.items };
+    ghost view = { λ t. record { engine = t.engine; processes = t.processes; opening = t.opening.items; scripts = map submission_of t.scripts.items; tag = t.tag } };
 }
 
-impl Terms {
-    /// The object, and copies of the calls.
+impl<E: CodedEngine> Terms<E> {
+    /// The engine and the opening, and copies of the calls.
     pub fn new(
         alloc: Global,
-        object: Object,
-        scripts: &[ScriptCall],
+        engine: E,
+        processes: usize,
+        opening: Vec<i64>,
+        scripts: &[Submission],
         tag: u64,
-    ) -> Result<Terms, NoMemory>
-        requires { IsSoundObject (object_in object) }
-        ensures { IfOk result (λ t. desk_in t ≡ record { object = object_in object; scripts = map script_call_of scripts.now; tag = tag }) }
+    ) -> Result<Terms<E>, NoMemory>
+        ensures { IfOk result (λ t. t ≡ record { engine = engine; processes = processes; opening = opening.items; scripts = map submission_of scripts.now; tag = tag }) }
     {
-        let opening = encode(alloc, object.opening())?;
-        let scripts = copied_calls(alloc, scripts)?;
+        let scripts = copied_submissions(alloc, scripts)?;
         Ok(Terms {
-            object,
+            engine,
+            processes,
             opening,
             scripts,
             tag,
         })
     }
 
-    pub fn object(&self) -> &Object
-        ensures object { object_in result.now ≡ (desk_in self.now).object }
-        ensures sound { IsSoundObject (desk_in self.now).object }
+    pub fn engine(&self) -> &E
+        ensures { result.now ≡ self.now.engine }
     {
-        &self.object
+        &self.engine
     }
 
     /// The words with which the object begins.
     pub fn opening(&self) -> &[i64]
-        ensures { result.now ≡ encoded (desk_in self.now).object.opening }
+        ensures { result.now ≡ self.now.opening }
     {
         self.opening.as_slice()
     }
 
     /// How many processes there are.
     pub fn processes(&self) -> usize
-        ensures { result ≡ (desk_in self.now).object.processes }
+        ensures { result ≡ self.now.processes }
     {
-        self.object.processes()
+        self.processes
     }
 
     /// The calls that were submitted before any turn.
-    pub fn scripts(&self) -> &[ScriptCall]
-        ensures { map script_call_of result.now ≡ (desk_in self.now).scripts }
+    pub fn scripts(&self) -> &[Submission]
+        ensures { map submission_of result.now ≡ self.now.scripts }
     {
         self.scripts.as_slice()
     }
 
     pub fn tag(&self) -> u64
-        ensures { result ≡ (desk_in self.now).tag }
+        ensures { result ≡ self.now.tag }
     {
         self.tag
-    }
-
-    /// The object alone.
-    pub fn into_object(self) -> Object
-        ensures { object_in result ≡ (desk_in self).object }
-    {
-        let Terms {
-            object,
-            opening: _,
-            scripts: _,
-            tag: _,
-        } = self;
-        object
     }
 }

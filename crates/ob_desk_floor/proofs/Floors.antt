@@ -5,10 +5,8 @@ use Rattle.std.specs.List.{All}
 use Rattle.std.proofs.lemmas.Bool.Decides.{nat_tests}
 use Rattle.std.proofs.lemmas.List.{get_or-set_same, get_or-set_other, get_or-replicate, length-replicate}
 use Rattle.ob_interface.specs.Call.{ObjectCall}
-use Rattle.ob_text.specs.declared.script.ScriptCall.{ScriptCall}
-use Rattle.ob_text.specs.ScriptView.{object_call, script_call_of}
+use Rattle.ob_interface.specs.View.{call_of}
 use Rattle.wf_object.specs.View.{Object}
-use Rattle.wf_play.specs.Played.{IsSameObject, scripts_of}
 use Rattle.wf_table.specs.declared.process.Sizes.{Sizes}
 use Rattle.wf_table.specs.declared.schedule.Turns.{Turns}
 use Rattle.wf_table.specs.Meaning.{Meaning}
@@ -16,19 +14,21 @@ use Rattle.wf_table.specs.Object.{State, step_of}
 use Rattle.wf_table.specs.Runs.{Act, IsRun, performed, run, submissions}
 use Rattle.wf_table.specs.Schedule.{AreTurns, steps_of}
 use Rattle.wf_table.specs.Start.{IsStart, sizes_of}
-use Rattle.ob_desk_floor.specs.Floor.{Floor, IsFloor, HasNoTurns, floor_after, turns_in}
+use Rattle.ob_desk_floor.specs.Floor.{Floor, IsFloor, HasNoTurns, floor_after, turns_in, with_submissions}
+use Rattle.ob_desk_floor.specs.Submission.{submission_of}
+use Rattle.ob_desk_floor.specs.declared.submission.Submission.{Submission}
 use Rattle.ob_desk_floor.proofs.Submissions.{scripts_fit, submitted_records}
 use Rattle.ob_desk_floor.proofs.Turns.{as_often, few_turns, once_more, times}
 
 module _ {E Run : Type 0} (m : Meaning Run) (lawful : List ℤ → Type 0) (fits : ObjectCall → Type 0) (ready : Run → Type 0) where
   -- the run goes on by a step, and the count of its process by one
   pub floor_turned : (f : Floor E Run) (p : ℕ) → p < f.machine.sizes.processes → IsFloor m lawful fits ready f →
-      IsRun m lawful fits ready f.machine.sizes.processes f.machine.opening (performed (scripts_of f.scripts) (step_of m (sizes_of m f.machine.sizes.processes) f.machine.state p).records.schedule) (step_of m (sizes_of m f.machine.sizes.processes) f.machine.state p) →
+      IsRun m lawful fits ready f.machine.sizes.processes f.machine.opening (performed f.scripts (step_of m (sizes_of m f.machine.sizes.processes) f.machine.state p).records.schedule) (step_of m (sizes_of m f.machine.sizes.processes) f.machine.state p) →
       steps_of (step_of m f.machine.sizes f.machine.state p).records.schedule ≡ steps_of f.machine.state.records.schedule ++ p ∷ [] →
       IsFloor m lawful fits ready (floor_after m f p)
   floor_turned f p below h goes more = record {
     sizes = h.sizes;
-    runs = subst (λ (z : Sizes). IsRun m lawful fits ready f.machine.sizes.processes f.machine.opening (performed (scripts_of f.scripts) (step_of m z f.machine.state p).records.schedule) (step_of m z f.machine.state p)) (sym h.sizes) goes;
+    runs = subst (λ (z : Sizes). IsRun m lawful fits ready f.machine.sizes.processes f.machine.opening (performed f.scripts (step_of m z f.machine.state p).records.schedule) (step_of m z f.machine.state p)) (sym h.sizes) goes;
     each = length-set f.counts p (slice_index f.counts p + 1) ∙ h.each;
     counts = λ k within. counted k within more (nat_eq p k) refl;
   }
@@ -47,11 +47,11 @@ module _ {E Run : Type 0} (m : Meaning Run) (lawful : List ℤ → Type 0) (fits
   count_fits f p below h turns few = rw (h.counts p below) (few_turns f.machine.sizes.processes f.machine.state.records.schedule p turns few)
 
   -- all calls submitted, and no step yet
-  pub floor_begun : (o : Object E Run) (n : ℕ) (opening : List ℤ) (cs : List ScriptCall) (counts : List ℕ) (start : State Run) → 0 < n → n ≤ 16 → lawful opening → All (λ c. fits (object_call (script_call_of c))) cs →
-      o.sizes ≡ sizes_of m n → o.opening ≡ opening → IsStart ready (sizes_of m n) opening start → o.state ≡ run m (sizes_of m n) (submissions (scripts_of (map script_call_of cs))) start → counts ≡ replicate n 0 →
-      IsFloor m lawful fits ready (record { machine = o; scripts = map script_call_of cs; counts = counts }) × HasNoTurns {E = E} {Run = Run} (record { machine = o; scripts = map script_call_of cs; counts = counts })
+  pub floor_begun : (o : Object E Run) (n : ℕ) (opening : List ℤ) (cs : List Submission) (counts : List ℕ) (start : State Run) → 0 < n → n ≤ 16 → lawful opening → All (λ c. fits (call_of c.call)) cs →
+      o.sizes ≡ sizes_of m n → o.opening ≡ opening → IsStart ready (sizes_of m n) opening start → o.state ≡ run m (sizes_of m n) (submissions (map submission_of cs)) start → counts ≡ replicate n 0 →
+      IsFloor m lawful fits ready (record { machine = o; scripts = map submission_of cs; counts = counts }) × HasNoTurns {E = E} {Run = Run} (record { machine = o; scripts = map submission_of cs; counts = counts })
   floor_begun o n opening cs counts start some few opens fit sizes opened begins leads zeros =
-      let scripts = scripts_of (map script_call_of cs) in
+      let scripts = map submission_of cs in
       let same : o.sizes.processes ≡ n = ap (λ (z : Sizes). z.processes) sizes in
       let none : o.state.records.schedule ≡ [] = ap (λ (s : State Run). s.records.schedule) leads ∙ ap (λ (r : _). r.schedule) (submitted_records m (sizes_of m n) scripts start ∙ begins.records) in
       let runs : IsRun m lawful fits ready n opening (performed scripts o.state.records.schedule) o.state = record {
@@ -74,14 +74,14 @@ module _ {E Run : Type 0} (m : Meaning Run) (lawful : List ℤ → Type 0) (fits
 
 module _ {E Run : Type 0} (meaning : E → Meaning Run) (lawful : E → List ℤ → Type 0) (fits : E → ObjectCall → Type 0) (ready : E → Run → Type 0) where
   -- the machine of an engine, with all calls submitted
-  pub floor_opened : (engine : E) (n : ℕ) (opening : List ℤ) (cs given : List ScriptCall) (a b : Object E Run) (counts : List ℕ) → 0 < n → n ≤ 16 → lawful engine opening → All (λ c. fits engine (object_call (script_call_of c))) cs →
+  pub floor_opened : (engine : E) (n : ℕ) (opening : List ℤ) (cs given : List Submission) (a b : Object E Run) (counts : List ℕ) → 0 < n → n ≤ 16 → lawful engine opening → All (λ c. fits engine (call_of c.call)) cs →
       a.engine ≡ engine → a.sizes ≡ sizes_of (meaning engine) n → a.opening ≡ opening → IsStart (ready engine) (sizes_of (meaning engine) n) opening a.state →
-      IsSameObject b a → b.state ≡ run (meaning a.engine) a.sizes (submissions (scripts_of (map script_call_of given))) a.state → given ≡ cs → counts ≡ replicate n 0 →
-      IsFloor (meaning engine) (lawful engine) (fits engine) (ready engine) (record { machine = b; scripts = map script_call_of cs; counts = counts }) × HasNoTurns {E = E} {Run = Run} (record { machine = b; scripts = map script_call_of cs; counts = counts })
-  floor_opened engine n opening cs given a b counts some few opens fit engine_is sizes_are opening_is begins same leads given_are zeros =
-      let led : b.state ≡ run (meaning engine) (sizes_of (meaning engine) n) (submissions (scripts_of (map script_call_of cs))) a.state =
-      leads
-      ∙ ap (λ (xs : List ScriptCall). run (meaning a.engine) a.sizes (submissions (scripts_of (map script_call_of xs))) a.state) given_are
-      ∙ ap (λ (x : E). run (meaning x) a.sizes (submissions (scripts_of (map script_call_of cs))) a.state) engine_is
-      ∙ ap (λ (z : Sizes). run (meaning engine) z (submissions (scripts_of (map script_call_of cs))) a.state) sizes_are in
-      floor_begun (meaning engine) (lawful engine) (fits engine) (ready engine) b n opening cs counts a.state some few opens fit (same.sizes ∙ sizes_are) (same.opening ∙ opening_is) begins led zeros
+      b ≡ with_submissions (meaning a.engine) (map submission_of given) a → given ≡ cs → counts ≡ replicate n 0 →
+      IsFloor (meaning engine) (lawful engine) (fits engine) (ready engine) (record { machine = b; scripts = map submission_of cs; counts = counts }) × HasNoTurns {E = E} {Run = Run} (record { machine = b; scripts = map submission_of cs; counts = counts })
+  floor_opened engine n opening cs given a b counts some few opens fit engine_is sizes_are opening_is begins done given_are zeros =
+      let led : b.state ≡ run (meaning engine) (sizes_of (meaning engine) n) (submissions (map submission_of cs)) a.state =
+      ap (λ (o : Object E Run). o.state) done
+      ∙ ap (λ (xs : List Submission). run (meaning a.engine) a.sizes (submissions (map submission_of xs)) a.state) given_are
+      ∙ ap (λ (x : E). run (meaning x) a.sizes (submissions (map submission_of cs)) a.state) engine_is
+      ∙ ap (λ (z : Sizes). run (meaning engine) z (submissions (map submission_of cs)) a.state) sizes_are in
+      floor_begun (meaning engine) (lawful engine) (fits engine) (ready engine) b n opening cs counts a.state some few opens fit (ap (λ (o : Object E Run). o.sizes) done ∙ sizes_are) (ap (λ (o : Object E Run). o.opening) done ∙ opening_is) begins led zeros

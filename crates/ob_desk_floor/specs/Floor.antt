@@ -1,13 +1,11 @@
--- A floor: a machine that the run of its scripts and of its own schedule leads to, with the turns of each process.
+-- A floor: a machine that the run of its submissions and of its own schedule leads to, with the turns of each process.
 use Rattle.std.specs.Prelude.{◌≡◌, ℕ, ◌+◌, ◌<◌, ℤ, List, [], count_by, length, nat_eq, replicate, slice_index, slice_set}
 use Rattle.ob_interface.specs.Call.{ObjectCall}
-use Rattle.ob_text.specs.Script.{ScriptCall}
 use Rattle.wf_bound.specs.Counted.{spent_by_step}
 use Rattle.wf_object.specs.View.{Object}
-use Rattle.wf_play.specs.Played.{scripts_of}
 use Rattle.wf_table.specs.Meaning.{Meaning}
 use Rattle.wf_table.specs.Object.{step_of}
-use Rattle.wf_table.specs.Runs.{IsRun, performed}
+use Rattle.wf_table.specs.Runs.{IsRun, performed, run, submissions}
 use Rattle.wf_table.specs.Schedule.{steps_of}
 use Rattle.wf_table.specs.Start.{sizes_of}
 use Rattle.wf_table.specs.declared.schedule.Turns.{Turns}
@@ -16,17 +14,17 @@ use Rattle.wf_table.specs.declared.schedule.Turns.{Turns}
 abbrev pub turns_in : ℕ → List Turns → ℕ
 turns_in p schedule = count_by (λ q. nat_eq q p) (steps_of schedule)
 
--- the machine, the calls that were submitted before any turn, and each process's number of turns
+-- the machine, the calls that were submitted before any turn, each with its process, and each process's number of turns
 pub record Floor (E Run : Type 0) : Type 0 where
   pub machine : Object E Run
-  pub scripts : List ScriptCall
+  pub scripts : List (ℕ × ObjectCall)
   pub counts : List ℕ
 
 -- from the machine's opening all calls of the scripts are submitted, and then the processes of its own schedule step: this leads
 -- to where it stands; and each process has taken as many turns as it stands in the schedule
 pub record IsFloor {E Run : Type 0} (m : Meaning Run) (lawful : List ℤ → Type 0) (fits : ObjectCall → Type 0) (ready : Run → Type 0) (f : Floor E Run) : Type 0 where
   pub sizes : f.machine.sizes ≡ sizes_of m f.machine.sizes.processes
-  pub runs : IsRun m lawful fits ready f.machine.sizes.processes f.machine.opening (performed (scripts_of f.scripts) f.machine.state.records.schedule) f.machine.state
+  pub runs : IsRun m lawful fits ready f.machine.sizes.processes f.machine.opening (performed f.scripts f.machine.state.records.schedule) f.machine.state
   pub each : length f.counts ≡ f.machine.sizes.processes
   pub counts : (p : ℕ) → p < f.machine.sizes.processes → slice_index f.counts p ≡ turns_in p f.machine.state.records.schedule
 
@@ -34,6 +32,10 @@ pub record IsFloor {E Run : Type 0} (m : Meaning Run) (lawful : List ℤ → Typ
 pub record HasNoTurns {E Run : Type 0} (f : Floor E Run) : Type 0 where
   pub schedule : f.machine.state.records.schedule ≡ []
   pub counts : f.counts ≡ replicate f.machine.sizes.processes 0
+
+-- the calls of the scripts submitted to the machine
+abbrev pub with_submissions : {E Run : Type 0} → Meaning Run → List (ℕ × ObjectCall) → Object E Run → Object E Run
+with_submissions m scripts o = record o { state = run m o.sizes (submissions scripts) o.state }
 
 -- one step of the process
 abbrev pub machine_after : {E Run : Type 0} → Meaning Run → Object E Run → ℕ → Object E Run

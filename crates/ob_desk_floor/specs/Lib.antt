@@ -1,3 +1,4 @@
+pub mod Submission
 pub mod Seat
 pub mod Floor
 pub mod Agreeing

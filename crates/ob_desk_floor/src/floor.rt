@@ -1,16 +1,13 @@
 //! The machine that a desk keeps under its lock.
 
 ghost use Rattle.std.specs.Prelude.{◌≡◌, ◌-◌, ◌^◌, ◌<◌, ◌≤◌, All, IfOk, OnOk, OnErr, length, map};
+ghost use Rattle.ob_desk_floor.specs.Floor.{with_submissions};
+ghost use Rattle.ob_desk_floor.specs.Submission.{submission_of};
 ghost use Rattle.ob_interface.specs.View.{call_of};
-ghost use Rattle.ob_text.specs.ScriptView.{object_call, script_call_of};
-ghost use Rattle.wf_play.specs.Played.{IsSameObject, scripts_of};
-ghost use Rattle.wf_table.specs.Runs.{run, submissions};
 
 use crate::seat::Seat;
+use crate::submission::{Submission, copied_call};
 use ob_interface::NoMemory;
-use ob_interface::call::Call;
-use ob_text::script::ScriptCall;
-use smallvec::SmallVec;
 use std::alloc::Global;
 use std::marker::Model;
 use wf_object::{Engine, Machine, NewFault, StepOut, Turns};
@@ -20,20 +17,20 @@ use wf_theorems::runs::every_turn;
 #[derive(Drop)]
 pub struct Floor<E: Engine> {
     machine: Machine<E>,
-    scripts: Vec<ScriptCall>,
+    scripts: Vec<Submission>,
     counts: Vec<u128>,
 }
 
 impl<E: Engine> Model for Floor<E> {
     ghost use Rattle.std.specs.Prelude.{map};
     ghost use Rattle.ob_desk_floor.specs.Floor as floor;
-    ghost use Rattle.ob_text.specs.ScriptView.{script_call_of};
+    ghost use Rattle.ob_desk_floor.specs.Submission.{submission_of};
 
     ghost Value = { floor.Floor E E.Run };
 
-    ghost view = { λ f. record { machine = f.machine; scripts = map script_call_of f.scripts.items; counts = f.counts.items } };
+    ghost view = { λ f. record { machine = f.machine; scripts = map submission_of f.scripts.items; counts = f.counts.items } };
 
-    ghost invariant = { λ f. floor.IsFloor (E.meaning f.machine.engine) (E.lawful f.machine.engine) (E.fits f.machine.engine) (E.ready f.machine.engine) (record { machine = f.machine; scripts = map script_call_of f.scripts.items; counts = f.counts.items }) };
+    ghost invariant = { λ f. floor.IsFloor (E.meaning f.machine.engine) (E.lawful f.machine.engine) (E.fits f.machine.engine) (E.ready f.machine.engine) (record { machine = f.machine; scripts = map submission_of f.scripts.items; counts = f.counts.items }) };
 }
 
 impl<E: Engine> Floor<E> {
@@ -50,17 +47,17 @@ impl<E: Engine> Floor<E> {
         engine: E,
         n: usize,
         opening: &[i64],
-        scripts: Vec<ScriptCall>,
+        scripts: Vec<Submission>,
     ) -> Result<Floor<E>, NoMemory>
         requires some { 0 < n }
         requires few { n ≤ 16 }
         requires opening { E.lawful engine opening.now }
         requires callers { All (λ c. c.process < n) scripts.items }
-        requires fits { All (λ c. E.fits engine (object_call (script_call_of c))) scripts.items }
+        requires fits { All (λ c. E.fits engine (call_of c.call)) scripts.items }
         ensures engine { IfOk result (λ f. f.machine.engine ≡ engine) }
         ensures sizes { IfOk result (λ f. f.machine.sizes ≡ sizes_of (E.meaning engine) n) }
         ensures opening { IfOk result (λ f. f.machine.opening ≡ opening.now) }
-        ensures scripts { IfOk result (λ f. f.scripts ≡ map script_call_of scripts.items) }
+        ensures scripts { IfOk result (λ f. f.scripts ≡ map submission_of scripts.items) }
         ensures no_turns { IfOk result HasNoTurns }
         ensures floor { IfOk result (IsFloor (E.meaning engine) (E.lawful engine) (E.fits engine) (E.ready engine)) }
     {
@@ -108,8 +105,8 @@ impl<E: Engine> Floor<E> {
     }
 
     /// The calls that were submitted before any turn.
-    pub fn scripts(&self) -> &[ScriptCall]
-        ensures { map script_call_of result.now ≡ self.now.scripts }
+    pub fn scripts(&self) -> &[Submission]
+        ensures { map submission_of result.now ≡ self.now.scripts }
     {
         self.scripts.as_slice()
     }
@@ -128,19 +125,17 @@ impl<E: Engine> Floor<E> {
         self.counts.as_slice()
     }
 
-    /// The machine, the scripts, and the turns of each process.
-    pub fn into_parts(self) -> (Machine<E>, Vec<ScriptCall>, Vec<u128>)
-        ensures machine { result.0 ≡ self.machine }
-        ensures scripts { map script_call_of result.1.items ≡ self.scripts }
-        ensures counts { result.2.items ≡ self.counts }
+    /// The machine alone.
+    pub fn into_machine(self) -> Machine<E>
+        ensures machine { result ≡ self.machine }
         ensures floor { IsFloor (E.meaning self.machine.engine) (E.lawful self.machine.engine) (E.fits self.machine.engine) (E.ready self.machine.engine) self }
     {
         let Floor {
             machine,
-            scripts,
-            counts,
+            scripts: _,
+            counts: _,
         } = self;
-        (machine, scripts, counts)
+        machine
     }
 }
 
@@ -155,26 +150,15 @@ fn count_runs(schedule: &[Turns])
 fn submit_all<E: Engine>(
     alloc: Global,
     machine: &mut Machine<E>,
-    scripts: &[ScriptCall],
+    scripts: &[Submission],
 ) -> Result<(), NoMemory>
     requires callers { All (λ c. c.process < machine.old.sizes.processes) scripts.now }
-    requires fits { All (λ c. E.fits machine.old.engine (object_call (script_call_of c))) scripts.now }
-    ensures object { OnOk result (IsSameObject machine.new machine.old) }
-    ensures state { OnOk result (machine.new.state ≡ run (E.meaning machine.old.engine) machine.old.sizes (submissions (scripts_of (map script_call_of scripts.now))) machine.old.state) }
+    requires fits { All (λ c. E.fits machine.old.engine (call_of c.call)) scripts.now }
+    ensures { OnOk result (machine.new ≡ with_submissions (E.meaning machine.old.engine) (map submission_of scripts.now) machine.old) }
 {
-    for call in scripts {
-        let asked = asked(alloc, call)?;
-        machine.submit(call.process, asked)?;
+    for script in scripts {
+        let call = copied_call(alloc, &script.call)?;
+        machine.submit(script.process, call)?;
     }
     Ok(())
-}
-
-/// What a script's call asks of the object.
-fn asked(alloc: Global, call: &ScriptCall) -> Result<Call, NoMemory>
-    ensures { IfOk result (λ c. call_of c ≡ object_call (script_call_of call.now)) }
-{
-    Ok(Call {
-        proc: call.proc,
-        args: SmallVec::from_slice(alloc, call.args.as_slice())?,
-    })
 }

@@ -1,8 +1,10 @@
 //! Desks at which turns are taken by hand.
 
 use ob_desk::{CloseFault, Desk};
-use ob_desk_floor::Seat;
+use ob_desk_floor::{Seat, TakeTurn};
+use ob_engine::CodeEngine;
 use ob_object::{compile, perform};
+use ob_serve::opened_desk;
 use ob_text::script::read_scripts;
 use std::alloc::Global;
 use std::sync::Wait;
@@ -17,20 +19,19 @@ END C.";
 /// Process 1 gets 1 where process 0 was there before it, and else 0.
 const CALLS: &[u8] = b"0 Inc\n1 Get\n";
 
-/// The tag of the seats.
-const TAG: u64 = 7;
+type CodeDesk = Desk<CodeEngine>;
 
 /// A desk of two processes, and its seats.
-fn opened(alloc: Global, text: &[u8], calls: &[u8]) -> Result<(Desk, Vec<Seat>), Fail> {
+fn opened(alloc: Global, text: &[u8], calls: &[u8]) -> Result<(CodeDesk, Vec<Seat>), Fail> {
     let object = compile(alloc, text, 2)?;
     let scripts = read_scripts(alloc, object.checked(), 2, calls)?;
-    Ok(Desk::open(alloc, object, scripts.into_calls(), TAG)?)
+    Ok(opened_desk(alloc, &object, scripts.calls())?)
 }
 
 /// So many turns of a process.
 fn take_turns<R: Wait>(
     rt: &R,
-    desk: &Desk,
+    desk: &CodeDesk,
     seats: &mut Vec<Seat>,
     process: usize,
     count: usize,
@@ -51,7 +52,7 @@ fn used<R: Wait>(
     alloc: Global,
     first: usize,
     other: usize,
-) -> Result<(Desk, Vec<Seat>), Fail> {
+) -> Result<(CodeDesk, Vec<Seat>), Fail> {
     let (desk, mut seats) = opened(alloc, COUNTER, CALLS)?;
     take_turns(rt, &desk, &mut seats, first, 100)?;
     take_turns(rt, &desk, &mut seats, other, 100)?;
@@ -62,11 +63,11 @@ fn used<R: Wait>(
 fn turns_by_hand_are_the_run_of_their_schedule(rt: HostRuntime) -> Result<(), Fail> {
     let alloc = rt.alloc();
     let (desk, seats) = used(&rt, alloc, 0, 1)?;
-    let closed = desk.close(alloc, seats)?;
+    let closed = desk.close(seats.as_slice())?;
     let performed = perform(alloc, COUNTER, 2, CALLS, b"0*100 1*100")?;
-    assert_eq!(rt; closed.history.len(), performed.history.len());
-    assert!(rt; closed.order.as_slice() == performed.order.as_slice());
-    assert!(rt; closed.schedule.as_slice() == performed.schedule.as_slice());
+    assert_eq!(rt; closed.history().len(), performed.history.len());
+    assert!(rt; closed.order() == performed.order.as_slice());
+    assert!(rt; closed.schedule() == performed.schedule.as_slice());
     Ok(())
 }
 
@@ -75,7 +76,7 @@ fn a_seat_is_missing(rt: HostRuntime) -> Result<(), Fail> {
     let alloc = rt.alloc();
     let (desk, mut seats) = used(&rt, alloc, 0, 1)?;
     seats.pop();
-    let fault = desk.close(alloc, seats).err();
+    let fault = desk.close(seats.as_slice()).err();
     assert!(rt; matches!(fault, Some(CloseFault::Uneven(1))));
     Ok(())
 }
@@ -93,7 +94,7 @@ fn with_stranger(alloc: Global, mut seats: Vec<Seat>) -> Result<Vec<Seat>, Fail>
 fn a_seat_of_another_tag(rt: HostRuntime) -> Result<(), Fail> {
     let alloc = rt.alloc();
     let (desk, seats) = used(&rt, alloc, 0, 1)?;
-    let fault = desk.close(alloc, with_stranger(alloc, seats)?).err();
+    let fault = desk.close(with_stranger(alloc, seats)?.as_slice()).err();
     assert!(rt; matches!(fault, Some(CloseFault::Stranger(0))));
     Ok(())
 }
@@ -117,7 +118,7 @@ fn a_seat_that_was_at_another_desk(rt: HostRuntime) -> Result<(), Fail> {
     let alloc = rt.alloc();
     let others = other_seats(&rt, alloc)?;
     let (desk, seats) = used(&rt, alloc, 0, 1)?;
-    let fault = desk.close(alloc, with_last_of(seats, others)?).err();
+    let fault = desk.close(with_last_of(seats, others)?.as_slice()).err();
     assert!(rt; matches!(fault, Some(CloseFault::Disagrees(1))));
     Ok(())
 }

@@ -7,7 +7,9 @@ ghost use Rattle.ob_object.specs.View.{object_in};
 use ob_desk::{CloseFault, Terms, settle};
 use ob_desk_floor::{Floor, Seat};
 use ob_engine::CodeEngine;
+use ob_layout::encode;
 use ob_object::{Object, compile};
+use ob_serve::opening::submissions;
 use ob_text::script::read_scripts;
 use std::alloc::Global;
 use std::test::Fail;
@@ -33,15 +35,18 @@ fn object_of(alloc: Global, text: &[u8], n: usize) -> Result<Object, Fail>
 fn floor_of(alloc: Global, text: &[u8], n: usize) -> Result<Floor<CodeEngine>, Fail> {
     let object = object_of(alloc, text, n)?;
     let engine = object.engine().copy(alloc)?;
-    let terms = Terms::new(alloc, object, &[], 0)?;
-    Ok(Floor::new(alloc, engine, n, terms.opening(), Vec::new(alloc))?)
+    let opening = encode(alloc, object.opening())?;
+    Ok(Floor::new(alloc, engine, n, opening.as_slice(), Vec::new(alloc))?)
 }
 
 /// What a desk of two processes of the counter keeps, with these calls.
-fn terms_of(alloc: Global, calls: &[u8]) -> Result<Terms, Fail> {
+fn terms_of(alloc: Global, calls: &[u8]) -> Result<Terms<CodeEngine>, Fail> {
     let object = object_of(alloc, COUNTER, 2)?;
-    let calls = read_scripts(alloc, object.checked(), 2, calls)?.into_calls();
-    Ok(Terms::new(alloc, object, calls.as_slice(), 0)?)
+    let scripts = read_scripts(alloc, object.checked(), 2, calls)?;
+    let calls = submissions(alloc, scripts.calls())?;
+    let engine = object.engine().copy(alloc)?;
+    let opening = encode(alloc, object.opening())?;
+    Ok(Terms::new(alloc, engine, 2, opening, calls.as_slice(), 0)?)
 }
 
 fn two_seats(alloc: Global) -> Result<Vec<Seat>, Fail> {
@@ -56,7 +61,7 @@ fn told(alloc: Global, calls: &[u8], text: &[u8], n: usize) -> Result<Option<Clo
     let seats = two_seats(alloc)?;
     let terms = terms_of(alloc, calls)?;
     let floor = floor_of(alloc, text, n)?;
-    Ok(settle(alloc, &terms, floor, seats.as_slice()).err())
+    Ok(settle(&terms, floor, seats.as_slice()).err())
 }
 
 /// Whether closing tells that the floor is not the desk's.

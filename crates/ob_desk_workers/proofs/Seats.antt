@@ -1,9 +1,10 @@
--- A seat after turns.
-use Rattle.std.proofs.Common.{◌≡◌, ◌≤◌, ◌+◌, ◌++◌, ◌∙◌, [], List, ap, arith, length, refl, sym}
+-- A seat after turns, and what the gate said of them.
+use Rattle.std.proofs.Common.{◌≡◌, ℕ, ◌<◌, ◌≤◌, ◌+◌, ◌++◌, ◌∙◌, [], List, ap, arith, length, refl, subst, sym, ⊎_elim}
+use Rattle.std.proofs.lemmas.Bool.{cases_lt}
 use Rattle.std.proofs.lemmas.List.{append-nil, append_assoc, length-append}
 use Rattle.ob_desk_floor.specs.Seat.{Seat, answers_in, seat_after}
 use Rattle.ob_interface.specs.Call.{Reply}
-use Rattle.ob_desk_workers.specs.Rounds.{IsAfterTurns}
+use Rattle.ob_desk_workers.specs.Rounds.{AreLet, AreRefused, IsAfterTurns, IsLet, IsRefused, Says}
 use Rattle.wf_history.specs.declared.event.CallId.{CallId}
 use Rattle.wf_table.specs.Object.{Answer, Begins, GoesOn, Halts, Replies}
 
@@ -27,3 +28,23 @@ more_turns a b c one two = record {
   answers = two.answers ∙ ap (λ (l : List (CallId × Reply)). l ++ two.later) one.answers ∙ append_assoc a.answers one.later two.later;
   turns = omega (arith, one.turns, two.turns, length-append one.later two.later);
 }
+
+-- at most one turn more, which the gate let the process take
+pub one_let_more : (passes : Says) (limit : ℕ) (before after : Seat) (refusals : ℕ) → after.process ≡ before.process → after.turns ≤ before.turns + 1 → refusals < limit → passes before.process before.turns refusals → AreLet passes limit before → AreLet passes limit after
+one_let_more passes limit before after refusals same few less said so turns lt =
+    ⊎_elim
+    (λ earlier. subst (λ (p : ℕ). IsLet passes limit p turns) (sym same) (so turns earlier))
+    (λ later.
+    let now : before.turns ≡ turns = omega (arith, later, lt, few) in
+    subst (λ (p : ℕ). IsLet passes limit p turns) (sym same) (subst (λ (k : ℕ). IsLet passes limit before.process k) now (refusals, less, said)))
+    (cases_lt turns before.turns)
+
+-- one refusal more
+pub one_refused_more : (refuses : Says) (s : Seat) (count : ℕ) → refuses s.process s.turns count → AreRefused refuses s count → AreRefused refuses s (count + 1)
+one_refused_more refuses s count said so k lt =
+    ⊎_elim (λ earlier. so k earlier) (λ later. let now : count ≡ k = omega (arith, later, lt) in subst (λ (j : ℕ). refuses s.process s.turns j) now said) (cases_lt k count)
+
+-- as many as the limit says
+pub refused_as_often : (refuses : Says) (limit : ℕ) (before after : Seat) (count : ℕ) → after.process ≡ before.process → count ≡ limit → AreRefused refuses after count → IsRefused refuses limit before.process
+refused_as_often refuses limit before after count same all so =
+    (after.turns, λ k lt. subst (λ (p : ℕ). refuses p after.turns k) same (so k (subst (λ (n : ℕ). k < n) (sym all) lt)))

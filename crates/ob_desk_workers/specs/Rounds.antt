@@ -1,10 +1,12 @@
--- What a worker's rounds come to: its seat, and how often in a row the gate has refused.
-use Rattle.std.specs.Prelude.{◌≡◌, ℕ, ◌+◌, ◌<◌, ◌≤◌, ◌++◌, Bool, List, Option, Some, length, true}
+-- What a worker's rounds come to: its seat, how often in a row the gate has refused, and what the gate says of that.
+use Rattle.std.specs.Prelude.{◌≡◌, ℕ, ◌+◌, ◌<◌, ◌≤◌, ◌++◌, List, length}
 use Rattle.ob_desk_floor.specs.Seat.{Seat}
 use Rattle.ob_desk_workers.specs.declared.worker.Ended.{Ended}
 use Rattle.ob_desk_workers.specs.declared.worker.Ended.TheVariants as Ended
 use Rattle.ob_interface.specs.Call.{Reply}
 use Rattle.wf_history.specs.declared.event.CallId.{CallId}
+
+-- ---- the seat
 
 -- the seat after some turns: still of its process and desk, and no turn added more than one answer
 pub record IsAfterTurns (before after : Seat) : Type 0 where
@@ -14,17 +16,42 @@ pub record IsAfterTurns (before after : Seat) : Type 0 where
   pub answers : after.answers ≡ before.answers ++ later
   pub turns : before.turns + length later ≤ after.turns
 
--- Refusals in a row, one round later: at most one more; none where the seat took a turn; and one more only where the gate may
--- refuse.
-pub record AreCounted (may_refuse : Bool) (before after : Seat) (refusals now : ℕ) : Type 0 where
+-- Refusals in a row, one round later: at most one more, and none where the seat took a turn.
+pub record AreCounted (before after : Seat) (refusals now : ℕ) : Type 0 where
   pub more : now ≤ refusals + 1
   pub anew : before.turns < after.turns → now ≡ 0
-  pub refused : refusals < now → may_refuse ≡ true
 
--- a worker ends as refused only where the gate, which may refuse, did so as often in a row as the limit says
-abbrev pub EndsRefused : Bool → (limit refusals : ℕ) → Option Ended → Type 0
-EndsRefused may_refuse limit refusals ended = ended ≡ Some Ended.Refused → (refusals ≡ limit) × (may_refuse ≡ true)
+-- ---- the gate
 
--- what a worker of such a gate promises
-abbrev pub IsPromised : Bool → Ended → Type 0
-IsPromised may_refuse ended = ended ≡ Ended.Refused → may_refuse ≡ true
+-- What a gate says where it passes, or where it refuses: of a process, of how many turns its seat has taken, and of how often in a
+-- row it has refused the next one.
+abbrev pub Says : Type 1
+Says = ℕ → ℕ → ℕ → Type 0
+
+-- a gate that never does
+abbrev pub never : Says
+never process turns refusals = ⊥
+
+-- The gate let the process take the turn behind so many, and had refused it fewer times in a row than the limit says.
+abbrev pub IsLet : Says → (limit process turns : ℕ) → Type 0
+IsLet passes limit process turns = (refusals : ℕ) × (refusals < limit) × passes process turns refusals
+
+-- it let the process take each turn of the seat
+abbrev pub AreLet : Says → (limit : ℕ) → Seat → Type 0
+AreLet passes limit s = (turns : ℕ) → turns < s.turns → IsLet passes limit s.process turns
+
+-- it refused the seat's next turn so often in a row
+abbrev pub AreRefused : Says → Seat → ℕ → Type 0
+AreRefused refuses s count = (k : ℕ) → k < count → refuses s.process s.turns k
+
+-- It refused the process a turn, behind so many, as often in a row as the limit says.
+abbrev pub IsRefused : Says → (limit process : ℕ) → Type 0
+IsRefused refuses limit process = (turns : ℕ) × ((k : ℕ) → k < limit → refuses process turns k)
+
+-- ---- a worker
+
+-- from the seat with which it began to the one that it hands back, and how it ended
+pub record HasWorked (passes refuses : Says) (limit : ℕ) (before after : Seat) (ended : Ended) : Type 0 where
+  pub seat : IsAfterTurns before after
+  pub are_let : AreLet passes limit before → AreLet passes limit after
+  pub refused : ended ≡ Ended.Refused → IsRefused refuses limit before.process

@@ -2,14 +2,20 @@
 
 /// Lets the workers of a desk go on, or not. All of them share it.
 pub trait Gate {
-    ghost use Rattle.std.specs.Prelude.{◌≡◌, Bool, IsFalse, true};
+    ghost use Rattle.std.specs.Prelude.{ℕ, IsFalse, IsTrue};
 
-    // Whether it ever refuses.
-    ghost may_refuse: { Bool };
+    // What is so where it lets a process take a turn: of the process, of how many turns its seat has taken, and of how often in a
+    // row it has refused this one.
+    ghost passes: { Self → ℕ → ℕ → ℕ → Type 0 };
 
-    /// Whether the process may take one more turn now. `turns` is how many its seat has taken.
-    fn pass(&self, process: usize, turns: u128) -> bool
-        ensures { IsFalse result → may_refuse ≡ true };
+    // The same where it refuses the turn.
+    ghost refuses: { Self → ℕ → ℕ → ℕ → Type 0 };
+
+    /// Whether the process may take one more turn now. `turns` is how many its seat has taken, and `refusals` how often in a row
+    /// it was refused since then.
+    fn pass(&self, process: usize, turns: u128, refusals: u64) -> bool
+        ensures passed { IsTrue result → passes self.now process turns refusals }
+        ensures refused { IsFalse result → refuses self.now process turns refusals };
 
     /// The process's call of this number was answered.
     fn answered(&self, process: usize, number: u64);
@@ -20,11 +26,13 @@ pub trait Gate {
 pub struct Open;
 
 impl Gate for Open {
-    ghost use Rattle.std.specs.Prelude.{false};
+    ghost use Rattle.ob_desk_workers.specs.Rounds.{never};
 
-    ghost may_refuse = { false };
+    ghost passes = { λ _ _ _ _. Unit {0} };
 
-    fn pass(&self, _process: usize, _turns: u128) -> bool {
+    ghost refuses = { λ _. never };
+
+    fn pass(&self, _process: usize, _turns: u128, _refusals: u64) -> bool {
         true
     }
 

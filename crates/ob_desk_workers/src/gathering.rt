@@ -1,16 +1,16 @@
 //! The workers of a desk, started, heard and joined.
 
-ghost use Rattle.std.specs.Prelude.{◌≡◌, ◌≤◌, ◌+◌, ◌++◌, ◌∷◌, [], All, IfOk, IsFalse, IsTrue, List, false, length};
+ghost use Rattle.std.specs.Prelude.{◌≡◌, ◌≤◌, ◌+◌, ◌++◌, ◌∷◌, [], Err, IfOk, IsTrue, List, MatchResult, Ok, false, length};
 ghost use Rattle.std.specs.Thread.{IsSync};
 ghost use Rattle.ob_desk_floor.specs.declared.seat.CallAnswer.{CallAnswer};
 ghost use Rattle.ob_desk_workers.specs.Gathered.{AreHeard};
-ghost use Rattle.ob_desk_workers.specs.Rounds.{IsPromised};
+ghost use Rattle.ob_desk_workers.specs.Joined.{AreJoined};
+ghost use Rattle.ob_desk_workers.specs.declared.worker.Ended.TheVariants as Ended;
 
 use crate::gate::Gate;
-use crate::worker::{Ended, PassedBy, Worked, work};
+use crate::worker::{Ended, PassedBy, Worked, promise, work};
 use crossbeam_channel::{Receiver, unbounded};
-use ob_desk::Desk;
-use ob_desk_floor::{CallAnswer, Seat};
+use ob_desk_floor::{CallAnswer, Seat, TakeTurn};
 use std::alloc::{AllocError, Global};
 use std::sync::Wait;
 use std::thread;
@@ -26,17 +26,20 @@ pub struct Gathered {
     pub is_short: bool,
 }
 
+/// A worker's thread, or how a worker ended that was not started.
+type Start<G> = Result<PromisedHandle<Worked, PassedBy<G>>, Ended>;
+
 /// Starts a worker for each seat, on a thread of its own, collects the answers that they send, and joins all.
-pub fn gather<R: Threads + Wait + Sync, G: Gate + Sync>(
+pub fn gather<R: Threads + Wait + Sync, D: TakeTurn + Sync, G: Gate + Sync>(
     rt: &R,
     alloc: Global,
-    desk: &Desk,
+    desk: &D,
     gate: &G,
     limit: u64,
     seats: Vec<Seat>,
 ) -> Result<Gathered, AllocError>
     requires { 1 ≤ limit }
-    ensures { IfOk result (AreHeard G.may_refuse (length seats.items)) }
+    ensures { IfOk result (AreHeard (G.passes gate.now) (G.refuses gate.now) limit seats.items) }
 {
     let (sender, receiver) = unbounded(alloc)?;
     let count = seats.len();
@@ -45,35 +48,54 @@ pub fn gather<R: Threads + Wait + Sync, G: Gate + Sync>(
         rt,
         move |scope| -> Result<Gathered, AllocError>
             requires limit { 1 ≤ limit }
-            requires count { count ≡ length seats.items }
-            requires shared { IsSync R.row × IsSync G.row }
-            ensures { IfOk result (AreHeard G.may_refuse count) }
+            requires shared { IsSync R.row × IsSync D.row × IsSync G.row }
+            ensures { IfOk result (AreHeard (G.passes gate.entry.now) (G.refuses gate.entry.now) limit seats.items) }
         {
             let mut gathered = Gathered::new(alloc, count)?;
-            let mut handles = Vec::with_capacity(alloc, count)?;
+            let mut starts = Vec::with_capacity(alloc, count)?;
             for seat in seats {
                 let Ok(answers) = sender.clone() else {
-                    gathered.is_short = true;
+                    gathered.is_short |= !add_start(&mut starts, Err(Ended::NoMemory));
                     continue;
                 };
-                let started = scope.spawn_with(PassedBy::<G>::new(), move || {
+                let kept = promise(gate, limit, &seat);
+                let started = scope.spawn_with(kept, move || {
                     work(rt, desk, gate, limit, seat, answers)
                 });
-                gathered.is_short |= handles.push(started.ok()).is_err();
+                gathered.is_short |= !add_start(&mut starts, start_of(started));
             }
             // The collector stops where no sender is left.
             drop(sender);
             collect(rt, receiver, &mut gathered);
-            join_all(rt, handles, &mut gathered);
+            join_all(rt, starts, &mut gathered);
             Ok(gathered)
         },
     )
 }
 
+/// The thread, or that none was started.
+fn start_of<G: Gate, E: Drop>(started: Result<PromisedHandle<Worked, PassedBy<G>>, E>) -> Start<G>
+    ensures { MatchResult started (λ h. result ≡ Ok h) (λ _. result ≡ Err Ended.NotStarted) }
+{
+    match started {
+        Ok(handle) => Ok(handle),
+        Err(_) => Err(Ended::NotStarted),
+    }
+}
+
+/// Adds a start, and answers whether there was memory for it.
+fn add_start<G: Gate>(starts: &mut Vec<Start<G>>, start: Start<G>) -> bool
+    ensures few { length starts.new.items ≤ length starts.old.items + 1 }
+    ensures added { IsTrue result → starts.new.items ≡ starts.old.items ++ start ∷ [] }
+{
+    starts.push(start).is_ok()
+}
+
 impl Gathered {
     /// With room for so many workers.
     fn new(alloc: Global, count: usize) -> Result<Gathered, AllocError>
-        ensures { IfOk result (λ g. g.ended.items ≡ []) }
+        ensures ended { IfOk result (λ g. g.ended.items ≡ []) }
+        ensures seats { IfOk result (λ g. g.seats.items ≡ []) }
     {
         Ok(Gathered {
             ended: Vec::with_capacity(alloc, count)?,
@@ -81,6 +103,25 @@ impl Gathered {
             answers: Vec::new(alloc),
             is_short: false,
         })
+    }
+
+    /// One more worker ended so.
+    fn note_end(&mut self, ended: Ended)
+        ensures few { length self.new.ended.items ≤ length self.old.ended.items + 1 }
+        ensures noted { self.new.is_short ≡ false → self.new.ended.items ≡ self.old.ended.items ++ ended ∷ [] }
+        ensures seats { self.new.seats ≡ self.old.seats }
+        ensures short { self.new.is_short ≡ false → self.old.is_short ≡ false }
+    {
+        self.is_short |= self.ended.push(ended).is_err();
+    }
+
+    /// One more seat was handed back.
+    fn take_back(&mut self, seat: Seat)
+        ensures ended { self.new.ended ≡ self.old.ended }
+        ensures taken { self.new.is_short ≡ false → self.new.seats.items ≡ self.old.seats.items ++ seat ∷ [] }
+        ensures short { self.new.is_short ≡ false → self.old.is_short ≡ false }
+    {
+        self.is_short |= self.seats.push(seat).is_err();
     }
 }
 
@@ -98,27 +139,22 @@ fn collect<R: Wait>(rt: &R, receiver: Receiver<CallAnswer, Global>, gathered: &m
     }
 }
 
-/// Adds what each worker hands back, and that one was not started. Where memory wants it goes on joining.
-fn join_all<R: Threads + Wait, G: Gate>(
-    rt: &R,
-    handles: Vec<Option<PromisedHandle<Worked, PassedBy<G>>>>,
-    gathered: &mut Gathered,
-)
-    requires { gathered.old.ended.items ≡ [] }
-    ensures few { length gathered.new.ended.items ≤ length handles.items }
-    ensures all { gathered.new.is_short ≡ false → length gathered.new.ended.items ≡ length handles.items }
-    ensures refused { All (IsPromised G.may_refuse) gathered.new.ended.items }
+/// Adds what each worker hands back, and how one ended that was not started. Where memory wants it goes on joining.
+fn join_all<R: Threads + Wait, G: Gate>(rt: &R, starts: Vec<Start<G>>, gathered: &mut Gathered)
+    requires ended { gathered.old.ended.items ≡ [] }
+    requires seats { gathered.old.seats.items ≡ [] }
+    ensures few { length gathered.new.ended.items ≤ length starts.items }
+    ensures joined { gathered.new.is_short ≡ false → AreJoined G.passes G.refuses starts.items gathered.new.ended.items gathered.new.seats.items }
     ensures short { gathered.new.is_short ≡ false → gathered.old.is_short ≡ false }
 {
-    for handle in handles {
-        let ended = match handle {
-            None => Ended::NotStarted,
-            Some(handle) => {
+    for start in starts {
+        match start {
+            Err(ended) => gathered.note_end(ended),
+            Ok(handle) => {
                 let worked = handle.join(rt);
-                gathered.is_short |= gathered.seats.push(worked.seat).is_err();
-                worked.ended
+                gathered.take_back(worked.seat);
+                gathered.note_end(worked.ended);
             }
-        };
-        gathered.is_short |= gathered.ended.push(ended).is_err();
+        }
     }
 }

@@ -1,15 +1,14 @@
 //! One worker.
 
-ghost use Rattle.std.specs.Prelude.{◌≡◌, ◌≢◌, ◌<◌, ◌≤◌, ◌-◌, ◌^◌, IfNone, Some};
-ghost use Rattle.ob_desk_workers.specs.Rounds.{AreCounted, EndsRefused, IsAfterTurns, IsPromised};
+ghost use Rattle.std.specs.Prelude.{◌≡◌, ◌≢◌, ◌+◌, ◌<◌, ◌≤◌, ◌-◌, ◌^◌, IfNone, Some};
+ghost use Rattle.ob_desk_workers.specs.Rounds.{AreCounted, AreLet, AreRefused, HasWorked, IsAfterTurns};
 ghost use Rattle.ob_desk_workers.specs.declared.worker.Ended.TheVariants as Ended;
 
 use crate::gate::Gate;
 use crossbeam_channel::Sender;
-use ob_desk::Desk;
-use ob_desk_floor::{CallAnswer, Seat};
+use ob_desk_floor::{CallAnswer, Seat, TakeTurn};
 use std::alloc::Global;
-use std::marker::PhantomData;
+use std::snapshot::Snapshot;
 use std::sync::Wait;
 use std::thread::Promise;
 use wf_object::StepOut;
@@ -34,37 +33,46 @@ pub struct Worked {
     pub ended: Ended,
 }
 
-/// What a worker promises, whose gate is a `G`: it ends as refused only if such a gate may refuse.
+/// What a worker promises: what its gate, by this limit, says of the turns that it took from this seat on, and where it ends as
+/// refused, that the gate refused a turn as often in a row.
 #[derive(Drop)]
 pub struct PassedBy<G: Gate> {
-    gate: PhantomData<G>,
-}
-
-impl<G: Gate> PassedBy<G> {
-    pub fn new() -> PassedBy<G> {
-        PassedBy { gate: PhantomData }
-    }
+    pub gate: Snapshot<G>,
+    pub limit: u64,
+    pub seat: Snapshot<Seat>,
 }
 
 impl<G: Gate> Promise<Worked> for PassedBy<G> {
-    ghost use Rattle.ob_desk_workers.specs.Rounds.{IsPromised};
+    ghost use Rattle.ob_desk_workers.specs.Rounds.{HasWorked};
 
-    ghost kept_by = { λ _ worked. IsPromised G.may_refuse worked.ended };
+    ghost kept_by = { λ p worked. HasWorked (G.passes p.gate.value) (G.refuses p.gate.value) p.limit p.seat.value worked.seat worked.ended };
+}
+
+/// What a worker of the seat promises.
+pub fn promise<G: Gate>(gate: &G, limit: u64, seat: &Seat) -> PassedBy<G>
+    ensures gate { result.gate.value ≡ gate.now }
+    ensures limit { result.limit ≡ limit }
+    ensures seat { result.seat.value ≡ seat.now }
+{
+    PassedBy {
+        gate: Snapshot::of(gate),
+        limit,
+        seat: Snapshot::of(seat),
+    }
 }
 
 /// Takes turns of the seat's process, as the gate lets it, until the process is halted or its seat can count no more turns,
 /// and sends each answer. The desk's lock is free between two turns.
-pub fn work<R: Wait, G: Gate>(
+pub fn work<R: Wait, D: TakeTurn, G: Gate>(
     rt: &R,
-    desk: &Desk,
+    desk: &D,
     gate: &G,
     limit: u64,
     mut seat: Seat,
     answers: Sender<CallAnswer, Global>,
 ) -> Worked
     requires { 1 ≤ limit }
-    ensures seat { IsAfterTurns seat result.seat }
-    ensures ended { IsPromised G.may_refuse result.ended }
+    ensures { HasWorked (G.passes gate.now) (G.refuses gate.now) limit seat result.seat result.ended }
 {
     let mut refusals = 0u64;
     for _ in rt.forever() {
@@ -76,25 +84,28 @@ pub fn work<R: Wait, G: Gate>(
 }
 
 /// One round: the gate is asked, and where it passes a turn is taken. Answers how the worker ends, if it does.
-fn go_round<R: Wait, G: Gate>(
+fn go_round<R: Wait, D: TakeTurn, G: Gate>(
     rt: &R,
-    desk: &Desk,
+    desk: &D,
     gate: &G,
     limit: u64,
     seat: &mut Seat,
     refusals: &mut u64,
     answers: &Sender<CallAnswer, Global>,
 ) -> Option<Ended>
-    requires { refusals.old < limit }
+    requires few { refusals.old < limit }
+    requires refused { AreRefused (G.refuses gate.now) seat.old refusals.old }
     ensures seat { IsAfterTurns seat.old seat.new }
-    ensures counted { AreCounted G.may_refuse seat.old seat.new refusals.old refusals.new }
-    ensures refused { EndsRefused G.may_refuse limit refusals.new result }
+    ensures counted { AreCounted seat.old seat.new refusals.old refusals.new }
+    ensures are_let { AreLet (G.passes gate.now) limit seat.old → AreLet (G.passes gate.now) limit seat.new }
+    ensures are_refused { AreRefused (G.refuses gate.now) seat.new refusals.new }
+    ensures ends { result ≡ Some Ended.Refused → refusals.new ≡ limit }
     ensures on { IfNone result (refusals.new < limit) }
 {
     if seat.turns() == u128::MAX {
         return Some(Ended::Done);
     }
-    if !gate.pass(seat.process(), seat.turns()) {
+    if !gate.pass(seat.process(), seat.turns(), *refusals) {
         *refusals += 1;
         return if *refusals == limit {
             Some(Ended::Refused)
@@ -108,15 +119,16 @@ fn go_round<R: Wait, G: Gate>(
 
 /// One turn of the seat's process, whose answer, if there is one, is told to the gate and sent. Answers how the worker ends, if
 /// it does.
-fn take_turn<R: Wait, G: Gate>(
+fn take_turn<R: Wait, D: TakeTurn, G: Gate>(
     rt: &R,
-    desk: &Desk,
+    desk: &D,
     gate: &G,
     seat: &mut Seat,
     answers: &Sender<CallAnswer, Global>,
 ) -> Option<Ended>
     requires { seat.old.turns < 2 ^ 128 - 1 }
     ensures seat { IsAfterTurns seat.old seat.new }
+    ensures turns { seat.new.turns ≤ seat.old.turns + 1 }
     ensures passed { result ≢ Some Ended.Refused }
 {
     match desk.turn(rt, seat) {

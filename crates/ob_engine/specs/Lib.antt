@@ -7,3 +7,4 @@ pub mod WordLaw
 pub mod StepLaw
 pub mod CallLaw
 pub mod CodeLaw
+pub mod SameCode

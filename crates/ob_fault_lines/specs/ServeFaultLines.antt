@@ -19,7 +19,6 @@ close_line (Close.Stranger process) = of_process (codes "K1") process
 close_line (Close.Uneven process) = of_process (codes "K2") process
 close_line Close.OtherFloor = codes "K5"
 close_line (Close.Disagrees process) = of_process (codes "K3") process
-close_line Close.NoMemory = no_memory_line
 
 abbrev pub serve_line : ServeFault → Text
 serve_line (Serve.NotStarted process) = of_process (codes "V3") process

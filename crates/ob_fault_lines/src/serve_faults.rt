@@ -45,7 +45,6 @@ fn push_close_fault(line: &mut String, fault: CloseFault) -> Result<(), AllocErr
         CloseFault::Uneven(process) => push_process(line, "K2", process),
         CloseFault::OtherFloor => line.push_str("K5"),
         CloseFault::Disagrees(process) => push_process(line, "K3", process),
-        CloseFault::NoMemory => line.push_str("NoMemory"),
     }
 }
 

@@ -8,3 +8,4 @@ pub mod NoPerformance
 pub mod Readings
 mod Copies
 mod Names
+mod Replays

@@ -23,9 +23,11 @@ use Rattle.ob_text.specs.Script.{ScriptCall, IsScript, IsScriptFault}
 use Rattle.ob_text.specs.declared.script.ScriptFault.{ScriptFault}
 use Rattle.ob_text.specs.declared.script.ScriptFault.TheVariants as Script
 use Rattle.ob_order.specs.OfModule.{IsLegalOrder}
+use Rattle.wf_play.specs.Makers.{AreMakersOf}
 use Rattle.wf_play.specs.Played.{IsPlayFault, scripts_of}
 use Rattle.wf_play.specs.declared.playing.PlayFault.{PlayFault}
 use Rattle.wf_play.specs.declared.playing.PlayFault.TheVariants as Play
+use Rattle.wf_table.specs.Schedule.{steps_of}
 
 -- what a run needs of an object: the layout and the engine are those of its program, and it opens with values of its variables
 pub record IsSoundObject (o : ObjectParts) : Type 0 where
@@ -41,6 +43,10 @@ IsRunFault o calls items fault = IsPlayFault (code_meaning o.engine) (HasReserve
 abbrev pub Shows : ObjectParts → List ScriptCall → List Item → Record → Type 0
 Shows o calls items r =
     IsRecorded (code_meaning o.engine) (IsLawfulBlock o.engine) (IsFitting o.engine) (HasReserve o.engine) o.processes (encoded o.opening) (scripts_of calls) items r
+
+-- for each event of a record that shows a run of these calls on an object, the process whose step showed it
+abbrev pub AreMakersIn : ObjectParts → List ScriptCall → Record → List ℕ → Type 0
+AreMakersIn o calls r makers = AreMakersOf (code_meaning o.engine) (HasReserve o.engine) o.processes (encoded o.opening) (scripts_of calls) (steps_of r.schedule) makers
 
 -- where an item is too long, no record shows a run
 abbrev pub ShowsNone : ObjectParts → List ScriptCall → List Item → PlayFault → Type 0

@@ -5,7 +5,7 @@ ghost use Rattle.ob_engine.specs.Compiled.{IsFitting};
 ghost use Rattle.ob_engine.specs.Parts.{parts_in};
 ghost use Rattle.ob_layout.specs.Encoding.{encoded};
 ghost use Rattle.ob_mean.specs.View.{state_of};
-ghost use Rattle.ob_object.specs.Performance.{IsRunFault, IsSoundObject, Shows, ShowsNone};
+ghost use Rattle.ob_object.specs.Performance.{AreMakersIn, IsRunFault, IsSoundObject, Shows, ShowsNone};
 ghost use Rattle.ob_object.specs.View.{object_in};
 ghost use Rattle.ob_record.specs.Record.{record_of};
 ghost use Rattle.ob_schedule.specs.Schedule.{process_of};
@@ -49,6 +49,7 @@ pub(crate) fn run_with_makers(
     requires items { All (λ item. process_of item < (object_in object).processes) items.now }
     ensures shows { IfOk result (λ r. Shows (object_in object) (map script_call_of calls.items) items.now (record_of r.1)) }
     ensures legal { IfOk result (λ r. ∥ IsLegalOrder (object_in object).program (object_in object).opening r.1.history r.1.order.items (state_of r.1.state) ∥₁) }
+    ensures makers { IfOk result (λ r. AreMakersIn (object_in object) (map script_call_of calls.items) (record_of r.1) r.2.items) }
     ensures fault { IfErr result (IsRunFault (object_in object) (map script_call_of calls.items) items.now) }
     ensures none { IfErr result (ShowsNone (object_in object) (map script_call_of calls.items) items.now) }
 {

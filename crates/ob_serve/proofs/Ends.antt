@@ -1,60 +1,82 @@
 -- What the faults of the parts of serving say of the whole.
-use Rattle.std.proofs.Common.{◌≡◌, ◌<◌, ◌∙◌, [], Bool, List, None, Option, Some, ap, arith, get_or, length, subst, sym, ℕ}
-use Rattle.std.specs.Prelude.{unwrap_or}
+use Rattle.std.proofs.Common.{◌≡◌, ◌+◌, ◌<◌, ◌∙◌, [], ◌∷◌, All, Bool, List, Some, ap, arith, cond, false, get_or, inl, length, nat_eq, refl, subst, sym, true, ℕ}
+use Rattle.std.specs.Prelude.{slice_get}
+use Rattle.std.proofs.lemmas.Bool.Decides.{nat_tests}
+use Rattle.std.proofs.lemmas.List.Elements.{All-head, All-tail}
+use Rattle.std.proofs.lemmas.List.FromFn.{get_or-map-range_with_len, length-map-range_with_len}
 use Rattle.std.proofs.lemmas.Option.{slice_get-get_or}
-use Rattle.ob_desk.specs.Desk.{Desk}
-use Rattle.ob_desk.specs.declared.fault.CloseFault.{CloseFault}
-use Rattle.ob_desk.specs.declared.fault.CloseFault.TheVariants as Close
-use Rattle.ob_desk_floor.specs.Seat.{Seat}
+use Rattle.ob_desk.specs.Close.{AreSeats, seats_at}
+use Rattle.ob_desk.specs.Desk.{seats_of}
+use Rattle.ob_desk_floor.specs.Agreeing.{Agrees}
+use Rattle.ob_desk_floor.specs.Floor.{turns_in}
+use Rattle.ob_desk_floor.specs.Seat.{Seat, new_seat}
 use Rattle.ob_desk_floor.specs.declared.seat.CallAnswer.{CallAnswer}
 use Rattle.ob_desk_workers.specs.Gathered.{AreHeard}
+use Rattle.ob_desk_workers.specs.Rounds.{AreLet, IsLet, Says}
 use Rattle.ob_desk_workers.specs.declared.gathering.Gathered.{Gathered}
-use Rattle.ob_desk_workers.specs.declared.worker.Ended.{Ended}
-use Rattle.ob_desk_workers.specs.declared.worker.Ended.TheVariants as Ended
 use Rattle.ob_interface.specs.Call.{ObjectCall, Reply}
-use Rattle.ob_serve.specs.Gathered.{AreByProcess, IsFirst, IsGatherFault, sent_by}
-use Rattle.ob_serve.specs.ServeFaults.{IsFinishFault, IsLowestLost, IsServeFault, IsTold, IsToldAll, TellsClosing}
-use Rattle.ob_serve.specs.Served.{TellsMemoryApart, calls_for, of_close}
+use Rattle.ob_object.specs.Compilation.{ObjectParts}
+use Rattle.ob_serve.specs.Gathered.{AreBack, AreByProcess, IsGatherFault, sent_by}
+use Rattle.ob_serve.specs.ServeFaults.{IsFinishFault, IsLowestLost, IsServeFault, IsTold, IsToldAll}
+use Rattle.ob_serve.specs.Served.{AreTurnsLet, calls_for, desk_of}
 use Rattle.ob_serve.specs.declared.fault.ServeFault.{ServeFault}
 use Rattle.ob_serve.specs.declared.fault.ServeFault.TheVariants as Faults
 use Rattle.ob_text.specs.Script.{ScriptCall}
 use Rattle.wf_history.specs.History.{Event}
+use Rattle.wf_table.specs.declared.schedule.Turns.{Turns}
 
--- the worker at a place ended so
-ended_at : (which : Ended) (ended : List Ended) (p : ℕ) → IsFirst which ended p → get_or ended p which ≡ which
-ended_at which ended p h = ap (λ (o : Option Ended). unwrap_or o which) (sym (slice_get-get_or ended p which h.within) ∙ h.there)
+not_short : (b : Bool) → (b ≡ true → ⊥) → b ≡ false
+not_short true h = absurd (h refl)
+not_short false h = refl
 
--- what is told of workers that did not end well
-pub gather_fault : (b : Bool) (d : Desk) (count : ℕ) (g : Gathered) → AreHeard b count g → count ≡ d.object.processes → (e : ServeFault) → IsGatherFault g e → IsServeFault b d e
-gather_fault b d count g heard is (Faults.NotStarted p) h = omega (arith, h.within, heard.few, is)
-gather_fault b d count g heard is Faults.NoMemory h = tt
-gather_fault b d count g heard is (Faults.Refused p) h =
-    (omega (arith, h.2.within, heard.few, is), heard.refused p Ended.Refused h.2.within (ended_at Ended.Refused g.ended.items p h.2))
-gather_fault b d count g heard is (Faults.Lost p) h = absurd h
-gather_fault b d count g heard is (Faults.Close e) h = absurd h
+seat_at : (n p : ℕ) → p < n → slice_get (seats_of n 0) p ≡ Some (new_seat p 0)
+seat_at n p lt =
+    let f : ℕ → Seat = λ q. new_seat q 0 in
+    let long : p < length (seats_of n 0) = omega (arith, lt, length-map-range_with_len f 0 n) in
+    slice_get-get_or (seats_of n 0) p (f 0) long ∙ ap Some (get_or-map-range_with_len f 0 n p p (f 0) lt (omega arith))
 
-pub gather_memory : (g : Gathered) (e : ServeFault) → IsGatherFault g e → TellsMemoryApart e
-gather_memory g (Faults.NotStarted p) h = tt
-gather_memory g Faults.NoMemory h = tt
-gather_memory g (Faults.Refused p) h = tt
-gather_memory g (Faults.Lost p) h = tt
-gather_memory g (Faults.Close e) h = absurd h
+module _ (passes refuses : Says) (limit : ℕ) (o : ObjectParts) (scripts : List ScriptCall) where
+  -- what is told of workers that did not end well
+  pub gather_fault : (g : Gathered) → AreHeard passes refuses limit (seats_of o.processes 0) g → (e : ServeFault) → IsGatherFault g e → IsServeFault refuses limit o scripts e
+  gather_fault g heard (Faults.NotStarted p) h = omega (arith, h.within, heard.few, length-map-range_with_len (λ (q : ℕ). new_seat q 0) 0 o.processes)
+  gather_fault g heard Faults.NoMemory h = tt
+  gather_fault g heard (Faults.Refused p) h =
+      let below : p < o.processes = omega (arith, h.2.within, heard.few, length-map-range_with_len (λ (q : ℕ). new_seat q 0) 0 o.processes) in
+      (below, heard.refused (not_short g.is_short (λ short. h.1 (inl short))) p (new_seat p 0) (seat_at o.processes p below) h.2.there)
+  gather_fault g heard (Faults.Lost p) h = absurd h
+  gather_fault g heard (Faults.Close e) h = absurd h
 
--- what is told of workers that did
-pub finish_fault : (b : Bool) (d : Desk) (seats : List Seat) (answers : List CallAnswer) (e : ServeFault) → IsFinishFault d d.object.processes d.scripts seats answers e → IsServeFault b d e
-finish_fault b d seats answers (Faults.NotStarted p) h = absurd h
-finish_fault b d seats answers Faults.NoMemory h = tt
-finish_fault b d seats answers (Faults.Refused p) h = absurd h
-finish_fault b d seats answers (Faults.Lost p) h = (seats, answers, h)
-finish_fault b d seats answers (Faults.Close e) h = (seats, h)
+  -- what is told of workers that did
+  pub finish_fault : (seats : List Seat) (answers : List CallAnswer) (e : ServeFault) → IsFinishFault o scripts seats answers e → IsServeFault refuses limit o scripts e
+  finish_fault seats answers (Faults.NotStarted p) h = absurd h
+  finish_fault seats answers Faults.NoMemory h = tt
+  finish_fault seats answers (Faults.Refused p) h = absurd h
+  finish_fault seats answers (Faults.Lost p) h = (seats, answers, h)
+  finish_fault seats answers (Faults.Close e) h = (seats, h)
 
--- a fault of closing goes up as it is
-pub close_fault : (d : Desk) (processes : ℕ) (scripts : List ScriptCall) (seats : List Seat) (answers : List CallAnswer) (e : CloseFault) → TellsClosing d seats e → IsFinishFault d processes scripts seats answers (of_close e)
-close_fault d processes scripts seats answers (Close.Stranger p) h = h
-close_fault d processes scripts seats answers (Close.Uneven p) h = h
-close_fault d processes scripts seats answers Close.OtherFloor h = h
-close_fault d processes scripts seats answers (Close.Disagrees p) h = h
-close_fault d processes scripts seats answers Close.NoMemory h = tt
+  -- the seats that came back of such workers were let take each turn
+  pub back_are_let : (g : Gathered) → AreHeard passes refuses limit (seats_of o.processes 0) g → (seats : List Seat) (answers : List CallAnswer) → AreBack g seats answers → All (AreLet passes limit) seats
+  back_are_let g heard seats answers back =
+      subst (All (AreLet passes limit)) (sym back.seats_are)
+      (heard.are_let (not_short g.is_short (λ short. back.enough (inl short))) (λ k d lt.
+      let f : ℕ → Seat = λ q. new_seat q 0 in
+      let below : k < o.processes = omega (arith, lt, length-map-range_with_len f 0 o.processes) in
+      subst (AreLet passes limit) (sym (get_or-map-range_with_len f 0 o.processes k k d below (omega arith))) (λ turns none. absurd (omega arith))))
+
+  -- so were all turns of a schedule with which they agree
+  turns_of : (history : List (Event ObjectCall Reply)) (schedule : List Turns) (p turns : ℕ) (seats : List Seat) → 0 < seats_at p seats → All (Agrees history schedule) seats → All (AreLet passes limit) seats → turns < turns_in p schedule → IsLet passes limit p turns
+  turns_of history schedule p turns [] some agree are_let lt = absurd (omega arith)
+  turns_of history schedule p turns (s ∷ seats) some agree are_let lt = by (nat_eq s.process p) refl
+    where
+      by : (b : Bool) → nat_eq s.process p ≡ b → IsLet passes limit p turns
+      by true is =
+          let same : s.process ≡ p = grind (arith, nat_tests, is) in
+          let own : s.turns ≡ turns_in p schedule = (All-head (Agrees history schedule) s seats agree).turns ∙ ap (λ (k : ℕ). turns_in k schedule) same in
+          subst (λ (k : ℕ). IsLet passes limit k turns) same (All-head (AreLet passes limit) s seats are_let turns (omega (arith, lt, own)))
+      by false is = turns_of history schedule p turns seats (subst (λ (b : Bool). 0 < cond b 1 0 + seats_at p seats) is some) (All-tail (Agrees history schedule) s seats agree) (All-tail (AreLet passes limit) s seats are_let) lt
+
+  pub turns_are_let : (history : List (Event ObjectCall Reply)) (schedule : List Turns) (seats : List Seat) → AreSeats (desk_of o scripts) seats → All (Agrees history schedule) seats → All (AreLet passes limit) seats → AreTurnsLet passes limit o.processes schedule
+  turns_are_let history schedule seats own agree are_let p turns below lt = turns_of history schedule p turns seats (omega (arith, own.each p below)) agree are_let lt
 
 -- the lowest process by the lists of the processes is that by all that came
 module _ (processes : ℕ) (history : List (Event ObjectCall Reply)) (scripts : List ScriptCall) (answers : List CallAnswer) (lists : List (List CallAnswer)) (by : AreByProcess processes answers lists) where

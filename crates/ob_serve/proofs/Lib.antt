@@ -1,4 +1,5 @@
-mod Faults
 mod Ends
 mod Numbered
 mod ByProcess
+pub mod Closed
+mod Submitted

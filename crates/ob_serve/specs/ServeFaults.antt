@@ -1,15 +1,21 @@
 -- What each fault of workers says.
-use Rattle.std.specs.Prelude.{◌≡◌, ℕ, ◌<◌, All, Bool, List, map, true}
-use Rattle.ob_desk.specs.Close.{AreSeats, CodeFloor, IsCloseFault, IsCodeFloor, IsRecordOf}
-use Rattle.ob_desk.specs.Desk.{Desk}
+use Rattle.std.specs.Prelude.{◌≡◌, ℕ, ◌<◌, All, List, map}
+use Rattle.ob_desk.specs.Close as Close
+use Rattle.ob_desk.specs.Close.{AreSeats}
 use Rattle.ob_desk.specs.declared.fault.CloseFault.{CloseFault}
 use Rattle.ob_desk_floor.specs.Agreeing.{Agrees}
 use Rattle.ob_desk_floor.specs.Seat.{Seat, answered_call}
 use Rattle.ob_desk_floor.specs.declared.seat.CallAnswer.{CallAnswer}
+use Rattle.ob_desk_workers.specs.Rounds.{IsRefused, Says}
+use Rattle.ob_engine.specs.CodeMeaning.{code_meaning}
+use Rattle.ob_engine.specs.Compiled.{HasReserve, IsFitting, IsLawfulBlock}
+use Rattle.ob_engine.specs.Parts.{parts_in}
+use Rattle.ob_engine.specs.declared.engine.CodeEngine.{CodeEngine}
 use Rattle.ob_interface.specs.Call.{ObjectCall, Reply}
+use Rattle.ob_object.specs.Compilation.{ObjectParts}
 use Rattle.ob_record.specs.Record.{Record}
 use Rattle.ob_serve.specs.Gathered.{sent_by}
-use Rattle.ob_serve.specs.Served.{EndsFirst, calls_for}
+use Rattle.ob_serve.specs.Served.{EndsFirst, IsRecordOf, calls_for, desk_of}
 use Rattle.ob_serve.specs.declared.fault.ServeFault.{ServeFault}
 use Rattle.ob_serve.specs.declared.fault.ServeFault.TheVariants as Faults
 use Rattle.ob_text.specs.Script.{ScriptCall}
@@ -30,30 +36,31 @@ pub record IsLowestLost (processes : ℕ) (history : List (Event ObjectCall Repl
   pub lost : ¬ (IsToldAll history scripts sent p)
   pub below : (k : ℕ) → k < p → IsToldAll history scripts sent k
 
--- closing these seats has no fault, and of the record that it gives other answers came
-pub record HasLost (d : Desk) (processes : ℕ) (scripts : List ScriptCall) (seats : List Seat) (answers : List CallAnswer) (p : ℕ) : Type 0 where
+-- closing these seats has no fault, and of the record that is then made other answers came
+pub record HasLost (o : ObjectParts) (scripts : List ScriptCall) (seats : List Seat) (answers : List CallAnswer) (p : ℕ) : Type 0 where
   pub shown : Record
-  pub is_record : IsRecordOf d shown
-  pub own : AreSeats d seats
+  pub is_record : IsRecordOf o scripts shown
+  pub own : AreSeats (desk_of o scripts) seats
   pub agree : All (Agrees shown.history shown.schedule) seats
-  pub lowest : IsLowestLost processes shown.history scripts (sent_by processes answers) p
+  pub lowest : IsLowestLost o.processes shown.history scripts (sent_by o.processes answers) p
 
--- closing these seats tells this
-abbrev pub TellsClosing : Desk → List Seat → CloseFault → Type 0
-TellsClosing d seats e = (f : CodeFloor) × IsCodeFloor f × IsCloseFault d f seats e
+-- closing the object's desk with these seats tells this, of some floor over code
+abbrev pub TellsClosing : ObjectParts → List ScriptCall → List Seat → CloseFault → Type 0
+TellsClosing o scripts seats e =
+    Close.TellsClosing parts_in (λ (x : CodeEngine). code_meaning (parts_in x)) (λ x. IsLawfulBlock (parts_in x)) (λ x. IsFitting (parts_in x)) (λ x. HasReserve (parts_in x)) (desk_of o scripts) seats e
 
 -- what is told where all workers ended well: a fault of closing as closing tells it, and V2 where closing has none
-abbrev pub IsFinishFault : Desk → ℕ → List ScriptCall → List Seat → List CallAnswer → ServeFault → Type 0
-IsFinishFault d processes scripts seats answers (Faults.Lost p) = HasLost d processes scripts seats answers p
-IsFinishFault d processes scripts seats answers (Faults.Close e) = TellsClosing d seats e
-IsFinishFault d processes scripts seats answers Faults.NoMemory = Unit {0}
-IsFinishFault d processes scripts seats answers _ = ⊥
+abbrev pub IsFinishFault : ObjectParts → List ScriptCall → List Seat → List CallAnswer → ServeFault → Type 0
+IsFinishFault o scripts seats answers (Faults.Lost p) = HasLost o scripts seats answers p
+IsFinishFault o scripts seats answers (Faults.Close e) = TellsClosing o scripts seats e
+IsFinishFault o scripts seats answers Faults.NoMemory = Unit {0}
+IsFinishFault o scripts seats answers _ = ⊥
 
--- What each fault says of the workers of a desk, by whose gate they go: V1, V2 and V3 name a process of the desk, and V1 comes only
--- of a gate that may refuse.
-abbrev pub IsServeFault : Bool → Desk → ServeFault → Type 0
-IsServeFault may_refuse d (Faults.NotStarted p) = p < d.object.processes
-IsServeFault may_refuse d Faults.NoMemory = Unit {0}
-IsServeFault may_refuse d (Faults.Refused p) = (p < d.object.processes) × (may_refuse ≡ true)
-IsServeFault may_refuse d (Faults.Lost p) = (seats : List Seat) × (answers : List CallAnswer) × HasLost d d.object.processes d.scripts seats answers p
-IsServeFault may_refuse d (Faults.Close e) = (seats : List Seat) × TellsClosing d seats e
+-- What each fault says of the workers on an object, by whose gate they go: V1, V2 and V3 name a process of the object, and of that of
+-- V1 the gate refused a turn as often in a row as the limit says.
+abbrev pub IsServeFault : (refuses : Says) (limit : ℕ) → ObjectParts → List ScriptCall → ServeFault → Type 0
+IsServeFault refuses limit o scripts (Faults.NotStarted p) = p < o.processes
+IsServeFault refuses limit o scripts Faults.NoMemory = Unit {0}
+IsServeFault refuses limit o scripts (Faults.Refused p) = (p < o.processes) × IsRefused refuses limit p
+IsServeFault refuses limit o scripts (Faults.Lost p) = (seats : List Seat) × (answers : List CallAnswer) × HasLost o scripts seats answers p
+IsServeFault refuses limit o scripts (Faults.Close e) = (seats : List Seat) × TellsClosing o scripts seats e

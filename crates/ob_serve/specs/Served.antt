@@ -1,19 +1,38 @@
--- What the record of workers at a desk shows.
-use Rattle.std.specs.Prelude.{◌≡◌, ◌≢◌, ℕ, ◌<◌, List, count_by, map, nat_eq}
+-- What the record of workers on an object shows.
+use Rattle.std.specs.Prelude.{◌≡◌, ℕ, ◌<◌, List, count_by, map, nat_eq}
+use Rattle.ob_code.specs.Body.{Run}
 use Rattle.ob_desk.specs.Desk.{Desk}
-use Rattle.ob_desk.specs.declared.fault.CloseFault.{CloseFault}
-use Rattle.ob_desk.specs.declared.fault.CloseFault.TheVariants as Close
+use Rattle.ob_desk_floor.specs.Floor.{turns_in}
+use Rattle.ob_desk_workers.specs.Rounds.{IsLet, Says}
+use Rattle.ob_engine.specs.CodeMeaning.{EngineParts, code_meaning}
+use Rattle.ob_engine.specs.Compiled.{HasReserve, IsFitting, IsLawfulBlock}
 use Rattle.ob_interface.specs.Call.{ObjectCall, Reply}
+use Rattle.ob_layout.specs.Encoding.{encoded}
 use Rattle.ob_object.specs.Compilation.{ObjectParts}
-use Rattle.ob_serve.specs.declared.fault.ServeFault.{ServeFault}
-use Rattle.ob_serve.specs.declared.fault.ServeFault.TheVariants as Faults
+use Rattle.ob_order.specs.OfModule.{IsLegalOrder}
+use Rattle.ob_record.specs.Record.{Record}
 use Rattle.ob_text.specs.Script.{ScriptCall}
 use Rattle.wf_history.specs.History.{Event, own_answers}
+use Rattle.wf_play.specs.Played.{scripts_of}
+use Rattle.wf_table.specs.Object.{State}
+use Rattle.wf_table.specs.Runs.{IsRun, performed}
+use Rattle.wf_table.specs.declared.schedule.Turns.{Turns}
 use Rattle.wf_theorems.specs.FirstCalls.{first_ids}
 
 -- the desk at which the workers of an object's processes take their turns
-abbrev pub desk_of : ObjectParts → List ScriptCall → Desk
-desk_of object scripts = record { object = object; scripts = scripts; tag = 0 }
+abbrev pub desk_of : ObjectParts → List ScriptCall → Desk EngineParts
+desk_of o scripts = record { code = o.engine; processes = o.processes; opening = encoded o.opening; scripts = scripts_of scripts; tag = 0 }
+
+-- the record is of a run of the object by the scripts and the record's own schedule, from the object's opening, and its order
+-- is a legal order of its history by the meaning of the module, to the record's state
+pub record IsRecordOf (o : ObjectParts) (scripts : List ScriptCall) (r : Record) : Type 0 where
+  pub state : State Run
+  pub runs : IsRun (code_meaning o.engine) (IsLawfulBlock o.engine) (IsFitting o.engine) (HasReserve o.engine) o.processes (encoded o.opening) (performed (scripts_of scripts) state.records.schedule) state
+  pub processes : r.processes ≡ o.processes
+  pub history : r.history ≡ state.records.history
+  pub order : r.order ≡ state.records.order
+  pub schedule : r.schedule ≡ state.records.schedule
+  pub legal : ∥ IsLegalOrder o.program o.opening r.history r.order r.state ∥₁
 
 -- how many calls the scripts have for a process
 abbrev pub calls_for : ℕ → List ScriptCall → ℕ
@@ -27,12 +46,6 @@ EndsFirst history p count = map (λ a. a.0) (own_answers p history) ≡ first_id
 abbrev pub HaveEnded : ℕ → List ScriptCall → List (Event ObjectCall Reply) → Type 0
 HaveEnded processes scripts history = (p : ℕ) → p < processes → EndsFirst history p (calls_for p scripts)
 
--- want of memory is told in one place
-abbrev pub of_close : CloseFault → ServeFault
-of_close Close.NoMemory = Faults.NoMemory
-of_close e = Faults.Close e
-
--- want of memory is told by its own variant alone
-abbrev pub TellsMemoryApart : ServeFault → Type 0
-TellsMemoryApart (Faults.Close e) = e ≢ Close.NoMemory
-TellsMemoryApart _ = Unit {0}
+-- each turn that the schedule has of a process is one that the gate let it take
+abbrev pub AreTurnsLet : Says → (limit processes : ℕ) → List Turns → Type 0
+AreTurnsLet passes limit processes schedule = (p turns : ℕ) → p < processes → turns < turns_in p schedule → IsLet passes limit p turns

@@ -6,7 +6,8 @@ use std::alloc::AllocError;
 use thiserror::Error;
 
 /// Why workers give no record. All are joined first. Of several faults V3 is told, else want of memory, else V1, each of the
-/// lowest process. The faults of closing come where all workers ended well, and V2 where closing has none.
+/// lowest process. The faults of closing come where all workers ended well, and V2 where closing has none. Want of memory is
+/// told by its own variant alone.
 #[derive(Clone, Copy, Debug, Error)]
 pub enum ServeFault {
     /// V3: the process's worker was not started.
@@ -21,22 +22,19 @@ pub enum ServeFault {
     /// V2: an answer to the process was lost, or came twice, or another one came.
     #[error("V2 process {0}")]
     Lost(usize),
-    /// A fault of the desk's closing, but want of memory.
+    /// A fault of the desk's closing.
     #[error("{0}")]
     Close(CloseFault),
 }
 
 impl From<CloseFault> for ServeFault {
     ghost use Rattle.std.specs.Prelude.{◌≡◌};
-    ghost use Rattle.ob_serve.specs.Served.{of_close};
+    ghost use Rattle.ob_serve.specs.declared.fault.ServeFault.TheVariants as Faults;
 
-    ghost from_gives = { λ e fault. fault ≡ of_close e };
+    ghost from_gives = { λ e fault. fault ≡ Faults.Close e };
 
     fn from(fault: CloseFault) -> ServeFault {
-        match fault {
-            CloseFault::NoMemory => ServeFault::NoMemory,
-            other => ServeFault::Close(other),
-        }
+        ServeFault::Close(fault)
     }
 }
 

@@ -4,7 +4,10 @@
 mod answers;
 mod ending;
 pub mod fault;
+pub mod opening;
+mod recording;
 pub mod serving;
 
 pub use fault::ServeFault;
+pub use opening::opened_desk;
 pub use serving::serve;

@@ -1,16 +1,15 @@
 -- What the faults of serving texts say, from what those of its parts say.
-use Rattle.std.proofs.Common.{◌≡◌, ℕ, Bool, List, subst}
+use Rattle.std.proofs.Common.{◌≡◌, ℕ, List, arith, subst}
 use Rattle.ob_check.specs.Exports.{signatures}
 use Rattle.ob_check.specs.Program.{Program}
+use Rattle.ob_desk_workers.specs.Rounds.{Says}
 use Rattle.ob_object.specs.Compilation as Compilation
 use Rattle.ob_object.specs.Compilation.{HasNoObject, IsCompilation, IsCompileFault, ObjectParts}
 use Rattle.ob_object.specs.declared.compiling.CompileFault.{CompileFault}
 use Rattle.ob_object.specs.declared.compiling.CompileFault.TheVariants as Compile
 use Rattle.ob_opened.specs.ModuleText.{IsModule}
 use Rattle.ob_serve.specs.ServeFaults.{IsServeFault}
-use Rattle.ob_serve.specs.Served as Served
-use Rattle.ob_serve.specs.Served.{desk_of}
-use Rattle.ob_serve_texts.specs.ServedTexts.{AreReadCalls, HasNoCalls, IsOfTexts, IsReadFault, IsServeTextFault, TellsMemoryApart, of_compile, of_script, of_serve}
+use Rattle.ob_serve_texts.specs.ServedTexts.{AreReadCalls, HasNoCalls, IsOfTexts, IsReadFault, IsServeTextFault, IsUngatedFault, TellsMemoryApart, of_compile, of_script, of_serve}
 use Rattle.ob_serve.specs.declared.fault.ServeFault.{ServeFault}
 use Rattle.ob_serve.specs.declared.fault.ServeFault.TheVariants as Serve
 use Rattle.ob_serve_texts.specs.declared.texts.ServeTextFault.{ServeTextFault}
@@ -35,12 +34,12 @@ script_memory (Script.Arguments line) = λ bad. cc
 script_memory (Script.Process line) = λ bad. cc
 script_memory Script.NoMemory = tt
 
-pub serve_memory : (e : ServeFault) → Served.TellsMemoryApart e → TellsMemoryApart (of_serve e)
-serve_memory (Serve.NotStarted p) h = (h, λ bad. cc)
-serve_memory Serve.NoMemory h = tt
-serve_memory (Serve.Refused p) h = (h, λ bad. cc)
-serve_memory (Serve.Lost p) h = (h, λ bad. cc)
-serve_memory (Serve.Close e) h = (h, λ bad. cc)
+pub serve_memory : (e : ServeFault) → TellsMemoryApart (of_serve e)
+serve_memory (Serve.NotStarted p) = λ bad. cc
+serve_memory Serve.NoMemory = tt
+serve_memory (Serve.Refused p) = λ bad. cc
+serve_memory (Serve.Lost p) = λ bad. cc
+serve_memory (Serve.Close e) = λ bad. cc
 
 module _ (text : List ℕ) (n : ℕ) (scripts : List ℕ) where
   -- ---- what faults say
@@ -60,18 +59,22 @@ module _ (text : List ℕ) (n : ℕ) (scripts : List ℕ) where
   script_fault o c Script.NoMemory h = tt
 
   -- whatever gate there is
-  pub read_fault : (may_refuse : Bool) (e : ServeTextFault) → IsReadFault text n scripts e → IsServeTextFault may_refuse text n scripts e
-  read_fault may_refuse (Faults.Compile e) h = h
-  read_fault may_refuse (Faults.Script e) h = h
-  read_fault may_refuse (Faults.Serve e) h = absurd h
-  read_fault may_refuse Faults.NoMemory h = tt
+  pub read_fault : (refuses : Says) (limit : ℕ) (e : ServeTextFault) → IsReadFault text n scripts e → IsServeTextFault refuses limit text n scripts e
+  read_fault refuses limit (Faults.Compile e) h = h
+  read_fault refuses limit (Faults.Script e) h = h
+  read_fault refuses limit (Faults.Serve e) h = absurd h
+  read_fault refuses limit Faults.NoMemory h = tt
 
-  pub serve_fault : (may_refuse : Bool) (o : ObjectParts) (calls : List ScriptCall) → AreReadCalls text n scripts o calls → (e : ServeFault) → IsServeFault may_refuse (desk_of o calls) e → IsServeTextFault may_refuse text n scripts (of_serve e)
-  serve_fault may_refuse o calls read (Serve.NotStarted p) h = record { object = o; calls = calls; read = read; fails = h }
-  serve_fault may_refuse o calls read Serve.NoMemory h = tt
-  serve_fault may_refuse o calls read (Serve.Refused p) h = record { object = o; calls = calls; read = read; fails = h }
-  serve_fault may_refuse o calls read (Serve.Lost p) h = record { object = o; calls = calls; read = read; fails = h }
-  serve_fault may_refuse o calls read (Serve.Close e) h = record { object = o; calls = calls; read = read; fails = h }
+  pub serve_fault : (refuses : Says) (limit : ℕ) (o : ObjectParts) (calls : List ScriptCall) → AreReadCalls text n scripts o calls → (e : ServeFault) → IsServeFault refuses limit o calls e → IsServeTextFault refuses limit text n scripts (of_serve e)
+  serve_fault refuses limit o calls read (Serve.NotStarted p) h = record { object = o; calls = calls; read = read; fails = h }
+  serve_fault refuses limit o calls read Serve.NoMemory h = tt
+  serve_fault refuses limit o calls read (Serve.Refused p) h = record { object = o; calls = calls; read = read; fails = h }
+  serve_fault refuses limit o calls read (Serve.Lost p) h = record { object = o; calls = calls; read = read; fails = h }
+  serve_fault refuses limit o calls read (Serve.Close e) h = record { object = o; calls = calls; read = read; fails = h }
+
+  -- a gate that never refuses has no V1
+  pub not_refused : (p : ℕ) → IsUngatedFault text n scripts (Faults.Serve (Serve.Refused p)) → ⊥
+  not_refused p h = h.fails.1.1 0 (omega arith)
 
   -- ---- no object, or no calls
 

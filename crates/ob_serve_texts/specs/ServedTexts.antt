@@ -1,8 +1,8 @@
 -- Workers served from the texts of a module and of scripts: what is printed of them, and why there is nothing.
-use Rattle.std.specs.Prelude.{◌≡◌, ◌≢◌, ℕ, ◌<◌, ◌^◌, Bool, List, length}
+use Rattle.std.specs.Prelude.{◌≡◌, ◌≢◌, ℕ, ◌<◌, ◌^◌, List, length}
 use Rattle.ob_check.specs.Exports.{signatures}
 use Rattle.ob_check.specs.Program.{Program}
-use Rattle.ob_desk.specs.Close.{IsRecordOf}
+use Rattle.ob_desk_workers.specs.Rounds.{Says, never}
 use Rattle.ob_object.specs.Compilation as Compilation
 use Rattle.ob_object.specs.Compilation.{ObjectParts, IsCompilation, IsCompileFault}
 use Rattle.ob_object.specs.Performance.{IsScriptFaultOf}
@@ -12,8 +12,7 @@ use Rattle.ob_opened.specs.ModuleText.{IsModule}
 use Rattle.ob_record.specs.Record.{Record}
 use Rattle.ob_record.specs.RecordText.{record_text}
 use Rattle.ob_serve.specs.ServeFaults.{IsServeFault}
-use Rattle.ob_serve.specs.Served as Served
-use Rattle.ob_serve.specs.Served.{HaveEnded, desk_of}
+use Rattle.ob_serve.specs.Served.{AreTurnsLet, HaveEnded, IsRecordOf}
 use Rattle.ob_serve.specs.declared.fault.ServeFault.{ServeFault}
 use Rattle.ob_serve.specs.declared.fault.ServeFault.TheVariants as Serve
 use Rattle.ob_serve_texts.specs.declared.texts.ServeTextFault.{ServeTextFault}
@@ -34,17 +33,22 @@ pub record IsServedPrinted (text : List ℕ) (n : ℕ) (scripts output : List �
   pub calls : List ScriptCall
   pub read : AreReadCalls text n scripts object calls
   pub shown : Record
-  pub is_record : IsRecordOf (desk_of object calls) shown
+  pub is_record : IsRecordOf object calls shown
   pub events : length shown.history < 2 ^ 64
   pub ended : HaveEnded n calls shown.history
   pub printed : output ≡ record_text (signatures object.program) shown
 
--- The workers of the desk of the texts' object and calls fail so. Their gate refuses or never does.
-pub record IsServeFaultOf (may_refuse : Bool) (text : List ℕ) (n : ℕ) (scripts : List ℕ) (fault : ServeFault) : Type 0 where
+-- so they are of workers whose gate let them take each turn of the record, by this limit
+pub record IsServedBy (passes : Says) (limit : ℕ) (text : List ℕ) (n : ℕ) (scripts output : List ℕ) : Type 0 where
+  pub served : IsServedPrinted text n scripts output
+  pub passed : AreTurnsLet passes limit n served.shown.schedule
+
+-- The workers on the texts' object fail so with their calls, by a gate that says so where it refuses, and by this limit.
+pub record IsServeFaultOf (refuses : Says) (limit : ℕ) (text : List ℕ) (n : ℕ) (scripts : List ℕ) (fault : ServeFault) : Type 0 where
   pub object : ObjectParts
   pub calls : List ScriptCall
   pub read : AreReadCalls text n scripts object calls
-  pub fails : IsServeFault may_refuse (desk_of object calls) fault
+  pub fails : IsServeFault refuses limit object calls fault
 
 -- what each fault says that comes before there are workers
 abbrev pub IsReadFault : (text : List ℕ) (n : ℕ) (scripts : List ℕ) → ServeTextFault → Type 0
@@ -54,11 +58,15 @@ IsReadFault text n scripts (Faults.Serve e) = ⊥
 IsReadFault text n scripts Faults.NoMemory = Unit {0}
 
 -- what each fault says
-abbrev pub IsServeTextFault : (may_refuse : Bool) (text : List ℕ) (n : ℕ) (scripts : List ℕ) → ServeTextFault → Type 0
-IsServeTextFault may_refuse text n scripts (Faults.Compile e) = IsCompileFault text n e
-IsServeTextFault may_refuse text n scripts (Faults.Script e) = IsScriptFaultOf text n scripts e
-IsServeTextFault may_refuse text n scripts (Faults.Serve e) = IsServeFaultOf may_refuse text n scripts e
-IsServeTextFault may_refuse text n scripts Faults.NoMemory = Unit {0}
+abbrev pub IsServeTextFault : (refuses : Says) (limit : ℕ) (text : List ℕ) (n : ℕ) (scripts : List ℕ) → ServeTextFault → Type 0
+IsServeTextFault refuses limit text n scripts (Faults.Compile e) = IsCompileFault text n e
+IsServeTextFault refuses limit text n scripts (Faults.Script e) = IsScriptFaultOf text n scripts e
+IsServeTextFault refuses limit text n scripts (Faults.Serve e) = IsServeFaultOf refuses limit text n scripts e
+IsServeTextFault refuses limit text n scripts Faults.NoMemory = Unit {0}
+
+-- what each says of workers in whose way no gate stands: V1 is none of them
+abbrev pub IsUngatedFault : (text : List ℕ) (n : ℕ) (scripts : List ℕ) → ServeTextFault → Type 0
+IsUngatedFault text n scripts fault = IsServeTextFault never 1 text n scripts fault
 
 -- want of memory is told in one place
 
@@ -78,7 +86,7 @@ of_serve e = Faults.Serve e
 abbrev pub TellsMemoryApart : ServeTextFault → Type 0
 TellsMemoryApart (Faults.Compile e) = Compilation.TellsMemoryApart e × (e ≢ Compile.NoMemory)
 TellsMemoryApart (Faults.Script e) = e ≢ Script.NoMemory
-TellsMemoryApart (Faults.Serve e) = Served.TellsMemoryApart e × (e ≢ Serve.NoMemory)
+TellsMemoryApart (Faults.Serve e) = e ≢ Serve.NoMemory
 TellsMemoryApart Faults.NoMemory = Unit {0}
 
 -- a fault with a number, so no want of memory

@@ -1,8 +1,8 @@
 //! Workers served from texts.
 
-ghost use Rattle.std.specs.Prelude.{◌≡◌, ◌<◌, ◌≤◌, ◌⊎◌, ◌^◌, Err, IfErr, IfOk, false, length, map, string_bytes};
+ghost use Rattle.std.specs.Prelude.{◌≡◌, ◌≢◌, ℕ, ◌<◌, ◌≤◌, ◌⊎◌, ◌^◌, Err, IfErr, IfOk, length, map, string_bytes};
 ghost use Rattle.ob_object.specs.View.{object_in};
-ghost use Rattle.ob_serve_texts.specs.ServedTexts.{AreReadCalls, HasNoCalls, IsOfTexts, IsReadFault, IsServedPrinted, IsServeTextFault, TellsMemoryApart};
+ghost use Rattle.ob_serve_texts.specs.ServedTexts.{AreReadCalls, HasNoCalls, IsOfTexts, IsReadFault, IsServedBy, IsServedPrinted, IsServeTextFault, IsUngatedFault, TellsMemoryApart};
 ghost use Rattle.ob_text.specs.ScriptView.{script_call_of};
 
 use ob_desk_workers::{Gate, Open};
@@ -12,8 +12,7 @@ use ob_opened::checked_text::TextFault;
 use ob_record::write_record;
 use ob_scan::ScanFault;
 use ob_scan::scanner::LONGEST_TEXT;
-use ob_serve::ServeFault;
-use ob_serve::serving::served;
+use ob_serve::{ServeFault, serve};
 use ob_text::script::{ScriptCall, ScriptFault, read_scripts};
 use std::alloc::{AllocError, Global};
 use std::sync::Wait;
@@ -99,8 +98,10 @@ pub fn serve_text<R: Threads + Wait + Sync>(
 ) -> Result<String, ServeTextFault>
     ensures served { IfOk result (λ lines. IsServedPrinted text.now n scripts.now (string_bytes lines)) }
 
+    ensures fault { IfErr result (IsUngatedFault text.now n scripts.now) }
+
     // No fault is that of a gate which refused.
-    ensures fault { IfErr result (IsServeTextFault false text.now n scripts.now) }
+    ensures open { (p : ℕ) → result ≢ Err (ServeTextFault.Serve (ServeFault.Refused p)) }
 
     // With a fault of the texts that has a number there is no object of them, or there are no calls on it.
     ensures none { IfErr result (λ e. IsOfTexts e → HasNoCalls text.now n scripts.now) }
@@ -128,8 +129,10 @@ pub fn serve_text_with<R: Threads + Wait + Sync, G: Gate + Sync>(
     limit: u64,
 ) -> Result<String, ServeTextFault>
     requires { 1 ≤ limit }
-    ensures served { IfOk result (λ lines. IsServedPrinted text.now n scripts.now (string_bytes lines)) }
-    ensures fault { IfErr result (IsServeTextFault G.may_refuse text.now n scripts.now) }
+
+    // By this gate and this limit: it let the workers take each turn that is printed, and where V1 is told, it refused as often.
+    ensures served { IfOk result (λ lines. IsServedBy (G.passes gate.now) limit text.now n scripts.now (string_bytes lines)) }
+    ensures fault { IfErr result (IsServeTextFault (G.refuses gate.now) limit text.now n scripts.now) }
 
     // With a fault of the texts that has a number there is no object of them, or there are no calls on it.
     ensures none { IfErr result (λ e. IsOfTexts e → HasNoCalls text.now n scripts.now) }
@@ -144,7 +147,7 @@ pub fn serve_text_with<R: Threads + Wait + Sync, G: Gate + Sync>(
     ensures too_long { 0 < n → n ≤ MOST_PROCESSES → LONGEST_TEXT < length text.now → result ≡ Err (ServeTextFault.Compile (CompileFault.Text (TextFault.Scan ScanFault.TooLong))) }
 {
     let (object, calls) = read_calls(alloc, text, n, scripts)?;
-    let (object, record) = served(rt, alloc, object, calls, gate, limit)?;
+    let record = serve(rt, alloc, &object, calls.as_slice(), gate, limit)?;
     count_events(&record.history);
     Ok(write_record(alloc, object.checked(), &record)?)
 }

@@ -34,11 +34,13 @@ fn served<R: Threads + Wait + Sync, G: Gate + Sync>(
 struct Closed;
 
 impl Gate for Closed {
-    ghost use Rattle.std.specs.Prelude.{true};
+    ghost use Rattle.ob_desk_workers.specs.Rounds.{never};
 
-    ghost may_refuse = { true };
+    ghost passes = { λ _. never };
 
-    fn pass(&self, _process: usize, _turns: u128) -> bool {
+    ghost refuses = { λ _ _ _ _. Unit {0} };
+
+    fn pass(&self, _process: usize, _turns: u128, _refusals: u64) -> bool {
         false
     }
 
@@ -62,11 +64,11 @@ struct Meeting {
 }
 
 impl Gate for Meeting {
-    ghost use Rattle.std.specs.Prelude.{true};
+    ghost passes = { λ _ _ _ _. Unit {0} };
 
-    ghost may_refuse = { true };
+    ghost refuses = { λ _ _ _ _. Unit {0} };
 
-    fn pass(&self, process: usize, turns: u128) -> bool {
+    fn pass(&self, process: usize, turns: u128, _refusals: u64) -> bool {
         if process > 1 || turns >= 25 {
             return true;
         }
@@ -86,11 +88,11 @@ struct Standstill {
 }
 
 impl Gate for Standstill {
-    ghost use Rattle.std.specs.Prelude.{true};
+    ghost passes = { λ _ _ _ _. Unit {0} };
 
-    ghost may_refuse = { true };
+    ghost refuses = { λ _ _ _ _. Unit {0} };
 
-    fn pass(&self, process: usize, turns: u128) -> bool {
+    fn pass(&self, process: usize, turns: u128, _refusals: u64) -> bool {
         match (process, turns) {
             (0, 3) => {
                 self.stands.store(1, Ordering::SeqCst);
@@ -109,36 +111,22 @@ impl Gate for Standstill {
 }
 
 /// A gate that refuses each process so often before each of its turns.
-#[derive(Drop)]
 struct Reluctant {
     refusals: u64,
-    asked: [AtomicU64; 2],
 }
 
 impl Gate for Reluctant {
-    ghost use Rattle.std.specs.Prelude.{true};
+    ghost use Rattle.std.specs.Prelude.{◌<◌, ◌≤◌};
 
-    ghost may_refuse = { true };
+    ghost passes = { λ gate _ _ refusals. gate.refusals ≤ refusals };
 
-    fn pass(&self, process: usize, _turns: u128) -> bool {
-        if process > 1 {
-            return true;
-        }
-        let asked = self.asked[process].load(Ordering::SeqCst);
-        let passes = asked >= self.refusals;
-        let next = if passes { 0 } else { asked.saturating_add(1) };
-        self.asked[process].store(next, Ordering::SeqCst);
-        passes
+    ghost refuses = { λ gate _ _ refusals. refusals < gate.refusals };
+
+    fn pass(&self, _process: usize, _turns: u128, refusals: u64) -> bool {
+        refusals >= self.refusals
     }
 
     fn answered(&self, _process: usize, _number: u64) {}
-}
-
-fn refusing(refusals: u64) -> Reluctant {
-    Reluctant {
-        refusals,
-        asked: [AtomicU64::new(0), AtomicU64::new(0)],
-    }
 }
 
 #[test]
@@ -184,7 +172,7 @@ fn one_worker_stands_still(rt: HostRuntime) -> Result<(), Fail> {
 /// It refuses far more than three times in all, but never three times in a row.
 #[test]
 fn a_gate_that_refuses_by_turns(rt: HostRuntime) -> Result<(), Fail> {
-    let text = served(&rt, rt.alloc(), &refusing(2), 3)?;
+    let text = served(&rt, rt.alloc(), &Reluctant { refusals: 2 }, 3)?;
     assert!(rt; text.ends_with("\nV x 2\n"), "both are applied");
     Ok(())
 }
@@ -192,6 +180,6 @@ fn a_gate_that_refuses_by_turns(rt: HostRuntime) -> Result<(), Fail> {
 /// The third refusal in a row is the last.
 #[test]
 fn as_many_refusals_as_the_limit(rt: HostRuntime) {
-    let fault = served(&rt, rt.alloc(), &refusing(3), 3).err();
+    let fault = served(&rt, rt.alloc(), &Reluctant { refusals: 3 }, 3).err();
     assert!(rt; matches!(fault, Some(ServeTextFault::Serve(ServeFault::Refused(0)))));
 }

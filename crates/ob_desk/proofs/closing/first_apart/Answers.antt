@@ -7,7 +7,7 @@ use Rattle.wf_history.specs.View.{event_of}
 use Rattle.ob_desk.proofs.closing.first_apart.Goals as goal
 
 pub loop-process-preserved : goal.loop-process-preserved
-loop-process-preserved c =
+loop-process-preserved g c =
     let p = c.loop-process.process in
     let f = c.args.floor.now in
     let seats = c.args.seats.now in

@@ -3,4 +3,4 @@ use Rattle.ob_desk.specs.Close.{AgreeAt}
 use Rattle.ob_desk.proofs.closing.first_apart.Given as goal
 
 abbrev pub invariant-loop-process : goal.invariant-loop-process
-invariant-loop-process l = (p : ℕ) → p < l.process → AgreeAt l.floor l.seats p
+invariant-loop-process g l = (p : ℕ) → p < l.process → AgreeAt l.floor l.seats p

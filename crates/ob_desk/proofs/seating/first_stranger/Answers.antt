@@ -5,8 +5,8 @@ use Rattle.ob_desk.proofs.seating.first_stranger.Goals.{then-not-is_own, else-no
 use Rattle.ob_desk.proofs.seating.first_stranger.Goals as goal
 
 pub loop-seat-preserved : goal.loop-seat-preserved
-loop-seat-preserved c =
-    let d = desk_in c.args.terms.now in
+loop-seat-preserved g c =
+    let d = desk_in g.E.CodedEngine.code c.args.terms.now in
     let seats = c.args.seats.now in
     let i = c.loop-seat.seat-index in
     let s = c.seat-item.result in

@@ -5,4 +5,4 @@ use Rattle.ob_desk.specs.Desk.{desk_in}
 use Rattle.ob_desk.proofs.seating.first_stranger.Given as goal
 
 abbrev pub invariant-loop-seat : goal.invariant-loop-seat
-invariant-loop-seat l = MatchOption l.first (All (IsOwn (desk_in l.terms)) (take l.seat-index l.seats)) (IsLowestStranger (desk_in l.terms) (take l.seat-index l.seats))
+invariant-loop-seat g l = MatchOption l.first (All (IsOwn (desk_in g.E.CodedEngine.code l.terms)) (take l.seat-index l.seats)) (IsLowestStranger (desk_in g.E.CodedEngine.code l.terms) (take l.seat-index l.seats))

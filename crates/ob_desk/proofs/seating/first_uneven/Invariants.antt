@@ -3,4 +3,4 @@ use Rattle.ob_desk.specs.Close.{seats_at}
 use Rattle.ob_desk.proofs.seating.first_uneven.Given as goal
 
 abbrev pub invariant-loop-process : goal.invariant-loop-process
-invariant-loop-process l = (p : ℕ) → p < l.process → seats_at p l.seats ≡ 1
+invariant-loop-process g l = (p : ℕ) → p < l.process → seats_at p l.seats ≡ 1

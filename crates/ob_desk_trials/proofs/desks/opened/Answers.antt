@@ -11,21 +11,21 @@ use Rattle.ob_text.specs.Script.{IsScript}
 use Rattle.ob_text.specs.ScriptView.{object_call, script_call_of}
 use Rattle.ob_desk_trials.proofs.desks.opened.Goals as goal
 
-pub open-requires-clause-sound : goal.open-requires-clause-sound
-open-requires-clause-sound c = sound_of c.args.text.now 2 (object_in c.in_ok-object.object) c.in_ok-object.ensures.object
+pub opened_desk-requires-clause-sound : goal.opened_desk-requires-clause-sound
+opened_desk-requires-clause-sound c = sound_of c.args.text.now 2 (object_in c.in_ok-object.object) c.in_ok-object.ensures.object
 
-pub open-requires-clause-callers : goal.open-requires-clause-callers
-open-requires-clause-callers c =
+pub opened_desk-requires-clause-callers : goal.opened_desk-requires-clause-callers
+opened_desk-requires-clause-callers c =
     let o = object_in c.in_ok-object.object in
     let compiled = c.in_ok-object.ensures.object in
-    let calls = c.into_calls.result.items in
-    let script = subst (λ (q : Program). IsScript (signatures q) 2 c.args.calls.now (map script_call_of calls)) c.checked.ensures (rw c.into_calls.ensures c.in_ok-scripts.ensures.script) in
+    let calls = c.calls.result.now in
+    let script = subst (λ (q : Program). IsScript (signatures q) 2 c.args.calls.now (map script_call_of calls)) c.checked.ensures (rw c.calls.ensures c.in_ok-scripts.ensures.script) in
     subst (λ (n : ℕ). All (λ x. x.process < n) calls) (sym compiled.processes) (callers_below o.program 2 c.args.calls.now calls script)
 
-pub open-requires-clause-fits : goal.open-requires-clause-fits
-open-requires-clause-fits c =
+pub opened_desk-requires-clause-fits : goal.opened_desk-requires-clause-fits
+opened_desk-requires-clause-fits c =
     let o = object_in c.in_ok-object.object in
     let compiled = c.in_ok-object.ensures.object in
-    let calls = c.into_calls.result.items in
-    let script = subst (λ (q : Program). IsScript (signatures q) 2 c.args.calls.now (map script_call_of calls)) c.checked.ensures (rw c.into_calls.ensures c.in_ok-scripts.ensures.script) in
+    let calls = c.calls.result.now in
+    let script = subst (λ (q : Program). IsScript (signatures q) 2 c.args.calls.now (map script_call_of calls)) c.checked.ensures (rw c.calls.ensures c.in_ok-scripts.ensures.script) in
     subst (λ (parts : EngineParts). All (λ x. IsFitting parts (object_call (script_call_of x))) calls) (sym compiled.compiled.parts_are) (calls_fit o.program 2 c.args.calls.now calls script)

@@ -1,12 +1,11 @@
-use Rattle.std.proofs.Common.{◌≡◌, ◌≤◌, All, false, length}
-use Rattle.ob_desk_workers.specs.Rounds.{IsPromised}
+use Rattle.std.proofs.Common.{◌≡◌, ◌≤◌, false, length}
+use Rattle.ob_desk_workers.specs.Joined.{AreJoined}
 use Rattle.ob_desk_workers.proofs.gathering.join_all.Given as goal
 
-abbrev pub invariant-loop-handle : goal.invariant-loop-handle
-invariant-loop-handle g l =
+abbrev pub invariant-loop-start : goal.invariant-loop-start
+invariant-loop-start g l =
     record {
       few : length l.gathered.ended.items ≤ length l.yielded;
-      all : l.gathered.is_short ≡ false → length l.gathered.ended.items ≡ length l.yielded;
-      refused : All (IsPromised g.G.Gate.may_refuse) l.gathered.ended.items;
+      joined : l.gathered.is_short ≡ false → AreJoined g.G.Gate.passes g.G.Gate.refuses l.yielded l.gathered.ended.items l.gathered.seats.items;
       short : l.gathered.is_short ≡ false → l.initial.gathered.is_short ≡ false;
     }

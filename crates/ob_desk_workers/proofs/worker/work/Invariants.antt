@@ -1,5 +1,5 @@
 use Rattle.std.proofs.Common.{◌<◌}
-use Rattle.ob_desk_workers.specs.Rounds.{IsAfterTurns}
+use Rattle.ob_desk_workers.specs.Rounds.{AreLet, AreRefused, IsAfterTurns}
 use Rattle.ob_desk_workers.proofs.worker.work.Given as goal
 
 abbrev pub invariant-loop : goal.invariant-loop
@@ -7,4 +7,6 @@ invariant-loop g l =
     record {
       seat : IsAfterTurns l.initial.seat l.seat;
       few : l.refusals < l.limit;
+      are_let : AreLet (g.G.Gate.passes l.gate) l.limit l.initial.seat → AreLet (g.G.Gate.passes l.gate) l.limit l.seat;
+      are_refused : AreRefused (g.G.Gate.refuses l.gate) l.seat l.refusals;
     }

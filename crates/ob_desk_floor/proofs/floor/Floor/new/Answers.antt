@@ -1,6 +1,7 @@
-use Rattle.std.proofs.Common.{◌∙◌, sym, subst, map}
-use Rattle.ob_text.specs.ScriptView.{script_call_of}
+use Rattle.std.proofs.Common.{◌∙◌, sym, subst, map, ap}
+use Rattle.wf_object.specs.View.{Object}
 use Rattle.ob_desk_floor.specs.Floor.{Floor, IsFloor}
+use Rattle.ob_desk_floor.specs.Submission.{submission_of}
 use Rattle.ob_desk_floor.proofs.Floors.{floor_opened}
 use Rattle.ob_desk_floor.proofs.floor.Floor.new.Goals as goal
 
@@ -8,17 +9,18 @@ pub invariant_of-result : goal.invariant_of-result
 invariant_of-result g c =
     let i = g.E.Engine in
     let opened = c.in-Ok.ensures in
-    let f : Floor _ _ = record { machine = c.submit_all.new.machine; scripts = map script_call_of c.args.scripts.items; counts = c.in_ok-counts.counts.items } in
+    let done = c.in_ok-submit_all.ensures in
+    let f : Floor _ _ = record { machine = c.submit_all.new.machine; scripts = map submission_of c.args.scripts.items; counts = c.in_ok-counts.counts.items } in
     let both = floor_opened i.meaning i.lawful i.fits i.ready c.args.engine c.args.n c.args.opening.now c.args.scripts.items c.as_slice.result.now c.in-Ok.machine c.submit_all.new.machine c.in_ok-counts.counts.items c.requires.some c.requires.few c.requires.opening c.requires.fits
-    opened.engine opened.sizes opened.opening opened.state c.in_ok-submit_all.ensures.object c.in_ok-submit_all.ensures.state c.as_slice.ensures.value (c.in_ok-counts.ensures.items_if_clones_equal (λ y x. x)) in
-    subst (λ e. IsFloor (i.meaning e) (i.lawful e) (i.fits e) (i.ready e) f) (sym (c.in_ok-submit_all.ensures.object.engine ∙ opened.engine)) both.0
+    opened.engine opened.sizes opened.opening opened.state done c.as_slice.ensures.value (c.in_ok-counts.ensures.items_if_clones_equal (λ y x. x)) in
+    subst (λ e. IsFloor (i.meaning e) (i.lawful e) (i.fits e) (i.ready e) f) (sym (ap (λ (o : Object _ _). o.engine) done ∙ opened.engine)) both.0
 
 pub returns-clause-no_turns : goal.returns-clause-no_turns
 returns-clause-no_turns g c =
     let i = g.E.Engine in
     let opened = c.in-Ok.ensures in
     let both = floor_opened i.meaning i.lawful i.fits i.ready c.args.engine c.args.n c.args.opening.now c.args.scripts.items c.as_slice.result.now c.in-Ok.machine c.submit_all.new.machine c.in_ok-counts.counts.items c.requires.some c.requires.few c.requires.opening c.requires.fits
-    opened.engine opened.sizes opened.opening opened.state c.in_ok-submit_all.ensures.object c.in_ok-submit_all.ensures.state c.as_slice.ensures.value (c.in_ok-counts.ensures.items_if_clones_equal (λ y x. x)) in
+    opened.engine opened.sizes opened.opening opened.state c.in_ok-submit_all.ensures c.as_slice.ensures.value (c.in_ok-counts.ensures.items_if_clones_equal (λ y x. x)) in
     both.1
 
 pub returns-clause-floor : goal.returns-clause-floor
@@ -26,5 +28,5 @@ returns-clause-floor g c =
     let i = g.E.Engine in
     let opened = c.in-Ok.ensures in
     let both = floor_opened i.meaning i.lawful i.fits i.ready c.args.engine c.args.n c.args.opening.now c.args.scripts.items c.as_slice.result.now c.in-Ok.machine c.submit_all.new.machine c.in_ok-counts.counts.items c.requires.some c.requires.few c.requires.opening c.requires.fits
-    opened.engine opened.sizes opened.opening opened.state c.in_ok-submit_all.ensures.object c.in_ok-submit_all.ensures.state c.as_slice.ensures.value (c.in_ok-counts.ensures.items_if_clones_equal (λ y x. x)) in
+    opened.engine opened.sizes opened.opening opened.state c.in_ok-submit_all.ensures c.as_slice.ensures.value (c.in_ok-counts.ensures.items_if_clones_equal (λ y x. x)) in
     both.0

@@ -1,0 +1,25 @@
+use Rattle.std.proofs.Common.{◌≡◌, ◌∙◌, ◌<◌, ℕ, All, IfOk, List, ap, map, subst, sym}
+use Rattle.std.proofs.lemmas.Result.{IfOk-weaker}
+use Rattle.ob_engine.specs.CodeMeaning.{EngineParts}
+use Rattle.ob_engine.specs.Compiled.{IsFitting}
+use Rattle.ob_engine.specs.Parts.{parts_in}
+use Rattle.ob_interface.specs.Call.{ObjectCall}
+use Rattle.ob_object.specs.View.{object_in}
+use Rattle.ob_serve.proofs.Closed.{lawful_opening}
+use Rattle.ob_serve.proofs.Submitted.{all_submitted}
+use Rattle.ob_text.specs.ScriptView.{script_call_of}
+use Rattle.ob_serve.proofs.opening.opened_desk.Goals as goal
+
+pub open-requires-clause-opening : goal.open-requires-clause-opening
+open-requires-clause-opening c =
+    let o = object_in c.args.object.now in
+    lawful_opening o (parts_in c.in_ok-engine.engine) c.in_ok-opening.opening.items c.requires.sound ? ?
+
+pub open-requires-clause-callers : goal.open-requires-clause-callers
+open-requires-clause-callers c =
+    let o = object_in c.args.object.now in
+    all_submitted (λ (x : ℕ × ObjectCall). x.0 < c.processes.result) c.in_ok-calls.calls.items c.args.scripts.now c.in_ok-calls.ensures ?
+
+pub open-requires-clause-fits : goal.open-requires-clause-fits
+open-requires-clause-fits c =
+    all_submitted (λ (x : ℕ × ObjectCall). IsFitting (parts_in c.in_ok-engine.engine) x.1) c.in_ok-calls.calls.items c.args.scripts.now c.in_ok-calls.ensures ?
