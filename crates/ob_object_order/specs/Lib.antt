@@ -1,3 +1,0 @@
-pub mod LegalOrder
-pub mod OrderFaults
-pub mod Places
