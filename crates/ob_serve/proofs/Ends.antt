@@ -3,6 +3,7 @@ use Rattle.std.proofs.Common.{◌≡◌, ◌+◌, ◌<◌, ◌∙◌, [], ◌∷
 use Rattle.std.specs.Prelude.{slice_get}
 use Rattle.std.proofs.lemmas.Bool.Decides.{nat_tests}
 use Rattle.std.proofs.lemmas.List.Elements.{All-head, All-tail}
+use Rattle.std.proofs.lemmas.List.Sums.{sum_by-cons}
 use Rattle.std.proofs.lemmas.List.FromFn.{get_or-map-range_with_len, length-map-range_with_len}
 use Rattle.std.proofs.lemmas.Option.{slice_get-get_or}
 use Rattle.ob_desk.specs.Close.{AreSeats, seats_at}
@@ -63,17 +64,24 @@ module _ (passes refuses : Says) (limit : ℕ) (o : ObjectParts) (scripts : List
       let below : k < o.processes = omega (arith, lt, length-map-range_with_len f 0 o.processes) in
       subst (AreLet passes limit) (sym (get_or-map-range_with_len f 0 o.processes k k d below (omega arith))) (λ turns none. absurd (omega arith))))
 
-  -- so were all turns of a schedule with which they agree
+  -- so were all turns of a schedule with which they agree: by the first seat, or by another one
+  by_first : (schedule : List Turns) (p turns : ℕ) (s : Seat) (b : Bool) → nat_eq s.process p ≡ b → s.turns ≡ turns_in s.process schedule → AreLet passes limit s → turns < turns_in p schedule → (b ≡ false → IsLet passes limit p turns) → IsLet passes limit p turns
+  by_first schedule p turns s true is own are_let lt others =
+      let same : s.process ≡ p = grind (arith, nat_tests, is) in
+      let all : s.turns ≡ turns_in p schedule = own ∙ ap (λ (k : ℕ). turns_in k schedule) same in
+      subst (λ (k : ℕ). IsLet passes limit k turns) same (are_let turns (omega (arith, lt, all)))
+  by_first schedule p turns s false is own are_let lt others = others refl
+
+  fewer : (p : ℕ) (s : Seat) (seats : List Seat) → 0 < seats_at p (s ∷ seats) → nat_eq s.process p ≡ false → 0 < seats_at p seats
+  fewer p s seats some other =
+      let all : seats_at p (s ∷ seats) ≡ cond false 1 0 + seats_at p seats = sum_by-cons (λ (x : Seat). cond (nat_eq x.process p) 1 0) s seats ∙ ap (λ (b : Bool). cond b 1 0 + seats_at p seats) other in
+      omega (arith, some, all)
+
   turns_of : (history : List (Event ObjectCall Reply)) (schedule : List Turns) (p turns : ℕ) (seats : List Seat) → 0 < seats_at p seats → All (Agrees history schedule) seats → All (AreLet passes limit) seats → turns < turns_in p schedule → IsLet passes limit p turns
-  turns_of history schedule p turns [] some agree are_let lt = absurd (omega arith)
-  turns_of history schedule p turns (s ∷ seats) some agree are_let lt = by (nat_eq s.process p) refl
-    where
-      by : (b : Bool) → nat_eq s.process p ≡ b → IsLet passes limit p turns
-      by true is =
-          let same : s.process ≡ p = grind (arith, nat_tests, is) in
-          let own : s.turns ≡ turns_in p schedule = (All-head (Agrees history schedule) s seats agree).turns ∙ ap (λ (k : ℕ). turns_in k schedule) same in
-          subst (λ (k : ℕ). IsLet passes limit k turns) same (All-head (AreLet passes limit) s seats are_let turns (omega (arith, lt, own)))
-      by false is = turns_of history schedule p turns seats (subst (λ (b : Bool). 0 < cond b 1 0 + seats_at p seats) is some) (All-tail (Agrees history schedule) s seats agree) (All-tail (AreLet passes limit) s seats are_let) lt
+  turns_of history schedule p turns [] some agree are_let lt = absurd (omega (arith, some))
+  turns_of history schedule p turns (s ∷ seats) some agree are_let lt =
+      by_first schedule p turns s (nat_eq s.process p) refl (All-head (Agrees history schedule) s seats agree).turns (All-head (AreLet passes limit) s seats are_let) lt
+      (λ other. turns_of history schedule p turns seats (fewer p s seats some other) (All-tail (Agrees history schedule) s seats agree) (All-tail (AreLet passes limit) s seats are_let) lt)
 
   pub turns_are_let : (history : List (Event ObjectCall Reply)) (schedule : List Turns) (seats : List Seat) → AreSeats (desk_of o scripts) seats → All (Agrees history schedule) seats → All (AreLet passes limit) seats → AreTurnsLet passes limit o.processes schedule
   turns_are_let history schedule seats own agree are_let p turns below lt = turns_of history schedule p turns seats (omega (arith, own.each p below)) agree are_let lt

@@ -1,5 +1,5 @@
 -- What holds of the calls of scripts holds of them as processes make them.
-use Rattle.std.proofs.Common.{◌≡◌, ◌∙◌, ℕ, List, All, length, map, ap, sym, subst, arith}
+use Rattle.std.proofs.Common.{◌≡◌, ◌∙◌, ℕ, List, [], ◌∷◌, All, refl, length, map, ap, sym, subst, arith}
 use Rattle.std.specs.Prelude.{slice_index_or}
 use Rattle.std.proofs.lemmas.List.{length-map}
 use Rattle.std.proofs.Math.ListN.{get_or-map}
@@ -15,7 +15,8 @@ abbrev pub asked : ScriptCall → ℕ × ObjectCall
 asked c = (c.process, object_call (script_call_of c))
 
 asked_all : (cs : List ScriptCall) → scripts_of (map script_call_of cs) ≡ map asked cs
-asked_all cs = ?
+asked_all [] = refl
+asked_all (c ∷ cs) = ap (λ (xs : List (ℕ × ObjectCall)). asked c ∷ xs) (asked_all cs)
 
 pub all_submitted : (P : ℕ × ObjectCall → Type 0) (xs : List Submission) (cs : List ScriptCall) → map submission_of xs ≡ scripts_of (map script_call_of cs) → All (λ c. P (asked c)) cs → All (λ x. P (submission_of x)) xs
 all_submitted P xs cs same h =

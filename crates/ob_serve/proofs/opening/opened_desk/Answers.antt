@@ -7,19 +7,25 @@ use Rattle.ob_interface.specs.Call.{ObjectCall}
 use Rattle.ob_object.specs.View.{object_in}
 use Rattle.ob_serve.proofs.Closed.{lawful_opening}
 use Rattle.ob_serve.proofs.Submitted.{all_submitted}
-use Rattle.ob_text.specs.ScriptView.{script_call_of}
+use Rattle.ob_layout.specs.Encoding.{encoded}
+use Rattle.ob_text.specs.ScriptView.{object_call, script_call_of}
+use Rattle.ob_text.specs.declared.script.ScriptCall.{ScriptCall}
 use Rattle.ob_serve.proofs.opening.opened_desk.Goals as goal
 
 pub open-requires-clause-opening : goal.open-requires-clause-opening
 open-requires-clause-opening c =
     let o = object_in c.args.object.now in
-    lawful_opening o (parts_in c.in_ok-engine.engine) c.in_ok-opening.opening.items c.requires.sound ? ?
+    let code : parts_in c.in_ok-engine.engine ≡ o.engine = c.in_ok-engine.ensures ∙ c.engine.ensures in
+    lawful_opening o (parts_in c.in_ok-engine.engine) c.in_ok-opening.opening.items c.requires.sound code (c.in_ok-opening.ensures ∙ ap encoded c.opening.ensures)
 
 pub open-requires-clause-callers : goal.open-requires-clause-callers
 open-requires-clause-callers c =
-    let o = object_in c.args.object.now in
-    all_submitted (λ (x : ℕ × ObjectCall). x.0 < c.processes.result) c.in_ok-calls.calls.items c.args.scripts.now c.in_ok-calls.ensures ?
+    all_submitted (λ (x : ℕ × ObjectCall). x.0 < c.processes.result) c.in_ok-calls.calls.items c.args.scripts.now c.in_ok-calls.ensures
+    (subst (λ (n : ℕ). All (λ (x : ScriptCall). x.process < n) c.args.scripts.now) (sym c.processes.ensures) c.requires.callers)
 
 pub open-requires-clause-fits : goal.open-requires-clause-fits
 open-requires-clause-fits c =
-    all_submitted (λ (x : ℕ × ObjectCall). IsFitting (parts_in c.in_ok-engine.engine) x.1) c.in_ok-calls.calls.items c.args.scripts.now c.in_ok-calls.ensures ?
+    let o = object_in c.args.object.now in
+    let code : parts_in c.in_ok-engine.engine ≡ o.engine = c.in_ok-engine.ensures ∙ c.engine.ensures in
+    all_submitted (λ (x : ℕ × ObjectCall). IsFitting (parts_in c.in_ok-engine.engine) x.1) c.in_ok-calls.calls.items c.args.scripts.now c.in_ok-calls.ensures
+    (subst (λ (parts : EngineParts). All (λ (x : ScriptCall). IsFitting parts (object_call (script_call_of x))) c.args.scripts.now) (sym code) c.requires.fits)
