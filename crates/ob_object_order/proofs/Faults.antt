@@ -16,12 +16,11 @@ use Rattle.ob_object_order.specs.declared.order.OrderFault.{OrderFault}
 use Rattle.ob_object_order.specs.declared.places.Placed.{Placed}
 use Rattle.ob_object_order.specs.declared.order.OrderFault.TheVariants as F
 use Rattle.wf_history.specs.History.{Event, Begin, Applied, End, IsHistory}
-use Rattle.wf_history.specs.Legal.{OneAtATime, HasBegun, RepliesAgree, IsLegal, none, more}
+use Rattle.wf_history.specs.Legal.{OneAtATime, HasBegun, RepliesAgree, IsLegal, more}
 use Rattle.ob_object_order.specs.LegalOrder.{CallEnds, IsLegalOrder}
 use Rattle.ob_object_order.specs.OrderFaults.{IsFirst, IsNowhere, IsUnknown, EndsUnlisted, IsListFault, IsReplayFault, IsTooEarly, IsArranged, LeadsTo, IsNext, AnswersOtherwise, IsOrderFault}
-use Rattle.wf_history.proofs.Once.{one_call}
 use Rattle.wf_history.proofs.Positions.{one_item, place_of, contains_at, place_take, place_in_take, no_repeats, one_place, is_listed, split_twice, places_of_split}
-use Rattle.ob_object_order.proofs.Replay.{same_state, passes}
+use Rattle.ob_object_order.proofs.Replay.{passes}
 
 module _ {A : Type 0} {Fact : ℕ → A → Type 0} (items : List A) where
   first_once : (x y : A) → IsFirst Fact items x → IsFirst Fact items y → x ≡ y

@@ -1,7 +1,11 @@
 -- Calls made one at a time: one call more, and two ways to make the same calls.
-use Rattle.std.proofs.Common.{◌≡◌, refl, sym, subst, ℕ, zero, suc, List, [], ◌∷◌, ◌++◌, take, Some}
+use Rattle.std.proofs.Common.{◌≡◌, ◌∙◌, refl, sym, ap, subst, ℕ, zero, suc, List, [], ◌∷◌, ◌++◌, take, Some}
 use Rattle.std.proofs.lemmas.Option.{same_Some}
 use Rattle.std.specs.List.{slice_get, Contains}
+use Rattle.ob_interface.specs.Call.{ObjectCall}
+use Rattle.ob_typing.specs.Program.{Program}
+use Rattle.ob_positions.specs.Store.{Activation}
+use Rattle.ob_positions.specs.Object.{Effect, effect}
 use Rattle.wf_history.specs.declared.event.CallId.{CallId}
 use Rattle.wf_history.specs.History.{Event, End, IsHistory}
 use Rattle.wf_history.specs.Legal.{OneAtATime, HasBegun, RepliesAgree, none, more}
@@ -87,3 +91,9 @@ module _ {State Call Reply : Type 0} where
         let both = one other before between middle r a (subst (λ (c : Call). Effect c before between r) same ends) so in
         passes ids k id call replies answers between state last here begun rest
         (subst (λ (s : State). OneAtATime (HasBegun history) Other s ids answers last) (sym both.0) others) agreed
+
+-- what a call came to, of the program and the call that it was made for
+pub call_ends : (program given : Program) (call made : ObjectCall) (budget : ℕ) (before : Activation) (e : Effect) → given ≡ program → made ≡ call →
+    effect given made budget before ≡ e → effect program call budget before ≡ e
+call_ends program given call made budget before e programs calls is =
+    ap (λ (c : ObjectCall). effect program c budget before) (sym calls) ∙ ap (λ (p : Program). effect p made budget before) (sym programs) ∙ is
