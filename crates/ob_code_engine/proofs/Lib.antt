@@ -7,3 +7,4 @@ mod Choices
 mod Instructions
 mod Formals
 mod Total
+mod Effects

@@ -1,2 +1,3 @@
 pub mod CodeEngine
 pub mod Total
+pub mod Effects

@@ -1,6 +1,7 @@
 //! Laws of engines over code. What a function here ensures is proved; it does nothing.
 
 ghost use Rattle.ob_checked.specs.CheckedModule.{program_in};
+ghost use Rattle.ob_code_engine.specs.Effects.{EffectsAreTotal};
 ghost use Rattle.ob_code_engine.specs.Total.{EnginesKeepTotal};
 ghost use Rattle.ob_code_scheme.specs.WellFormed.{IsWellFormed};
 
@@ -16,6 +17,11 @@ pub fn checked_is_well_formed(checked: &Checked)
     let _typed = checked.program();
     let _tree = checked.module().tree();
 }
+
+/// A call that fits leads from a lawful block to one block, with one reply.
+pub fn effects_are_total()
+    ensures { EffectsAreTotal }
+{}
 
 /// No call over an engine takes more own steps than the bound and, in each of at most two bodies for each process, what its
 /// budget pays for.

@@ -4,6 +4,6 @@ mod WordLaw
 mod CallLaw
 pub mod CodeLaw
 mod Carried
-mod OneEnd
+pub mod OneEnd
 pub mod PartsLaw
 mod Named

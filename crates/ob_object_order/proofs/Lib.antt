@@ -1,0 +1,5 @@
+mod Arranging
+mod Early
+pub mod Faults
+mod Placing
+mod Replay

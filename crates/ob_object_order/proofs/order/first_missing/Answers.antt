@@ -1,0 +1,54 @@
+-- The End of a call that isn't in the set is the first of those.
+use Rattle.std.proofs.Common.{◌≡◌, sym, ap, map, length, arith, ◌<◌, ◌∙◌, Some, None}
+use Rattle.std.proofs.lemmas.List.{length-map}
+use Rattle.ob_object_order.proofs.Placing.{item_of, nowhere_more, nowhere_all}
+use Rattle.ob_object_order.proofs.Arranging.{no_end, end_listed}
+use Rattle.ob_object_order.proofs.order.first_missing.Goals as goal
+use Rattle.ob_object_order.proofs.order.first_missing.Goals.{in_default-via-in-None-1, in_default-via-in-Some+else-not-contains}
+use Rattle.wf_history.specs.declared.event.CallId.{CallId}
+use Rattle.wf_history.specs.History.{End}
+use Rattle.ob_interface.specs.Call.{Reply}
+use Rattle.std.proofs.lemmas.Option.{MatchOption-at_none}
+use Rattle.std.proofs.lemmas.Bool.{false≢true}
+use Rattle.ob_object_order.specs.OrderFaults.{EndsUnlisted}
+use Rattle.wf_history.specs.View.{event_of}
+
+pub returns-in-loop-event : goal.returns-in-loop-event
+returns-in-loop-event c =
+    let i = c.loop-event.event-index in
+    let lt : i < length c.args.events.now = omega arith in
+    let at = item_of event_of c.args.events.now i c.event-item.result lt c.event-item.is in
+    let ended = c.in-Some.ensures in
+    let has = c.contains.ensures in
+    let lacks = c.if-not-contains.true in (
+      ended.0,
+      record {
+        place = i;
+        here = at ∙ ap Some ended.1;
+        holds = λ listed. false≢true (sym lacks ∙ has ∙ (c.in_ok-listed.ensures c.in-Some.id).1 listed);
+        earlier = c.loop-event.invariant;
+      },
+    )
+
+pub loop-event-preserved : goal.loop-event-preserved
+loop-event-preserved c =
+    let i = c.loop-event.event-index in
+    let history = map event_of c.args.events.now in
+    let lt : i < length c.args.events.now = omega arith in
+    let at = item_of event_of c.args.events.now i c.event-item.result lt c.event-item.is in
+    nowhere_more (EndsUnlisted history c.args.order.now) history i (event_of c.event-item.result) at c.loop-event.invariant
+    (elim c.in_default.branch [
+      | in_default-via-in-None-1 w ↦
+          let none : c.ended.result ≡ None = cc in
+          no_end history c.args.order.now i (event_of c.event-item.result)
+          (MatchOption-at_none ((id : CallId) (reply : Reply) → event_of c.event-item.result ≡ End id reply → ⊥) (λ (id : CallId). (reply : Reply) × (event_of c.event-item.result ≡ End id reply)) none c.ended.ensures)
+      | in_default-via-in-Some+else-not-contains w ↦
+          end_listed history c.args.order.now i (event_of c.event-item.result) w.in-Some.id w.in-Some.ensures.0 w.in-Some.ensures.1
+          ((c.in_ok-listed.ensures w.in-Some.id).0 (sym w.contains.ensures ∙ w.if-not-contains.false))
+    ])
+
+pub returns : goal.returns
+returns c =
+    let history = map event_of c.args.events.now in
+    let all = length-map c.args.events.now event_of in
+    nowhere_all (EndsUnlisted history c.args.order.now) history c.loop-event.event-index (omega (arith, all)) c.loop-event.invariant

@@ -1,0 +1,47 @@
+-- One call more from the end: its End may be the least, and it may begin after one.
+use Rattle.std.proofs.Common.{◌≡◌, ℕ, subst, sym, ◌+◌, ◌-◌, ◌^◌, ◌<◌, length, get_or, arith, None, Option}
+use Rattle.std.proofs.lemmas.Option.{slice_get-get_or}
+use Rattle.ob_object_order.proofs.Early.{IsLeast, IsFirstFrom, least_same, least_more, first_here, first_same}
+use Rattle.ob_object_order.proofs.order.first_too_early.Goals as goal
+use Rattle.ob_object_order.proofs.order.first_too_early.Goals.{then-least-x, else-least-x}
+use Rattle.wf_history.specs.declared.event.CallId.{CallId}
+use Rattle.ob_object_order.specs.declared.places.Placed.{Placed}
+
+abbrev default : Placed
+default = record { id = record { process = 0; number = 0 }; begin = 0; end = None }
+
+pub loop-k-preserved-in-Some : goal.loop-k-preserved-in-Some
+loop-k-preserved-in-Some c =
+    let placed = c.args.placed.now in
+    let j = c.loop-k.k - 1 in
+    let x = get_or placed j default in
+    let lt : j < length placed = omega arith in
+    let here = slice_get-get_or placed j default lt in
+    let step : c.loop-k.k ≡ j + 1 = omega arith in
+    let least = subst (λ (n : ℕ). IsLeast placed n c.loop-k.least) step c.loop-k.invariant.0 in
+    let first = subst (λ (n : ℕ). IsFirstFrom placed n c.loop-k.first) step c.loop-k.invariant.1 in
+    let fits : x.begin < 2 ^ 64 = omega arith in (
+      subst (λ (n : ℕ). IsLeast placed j n) (sym c.min-least.ensures) (least_more placed j x here c.loop-k.least c.in-Some.end c.in-Some.is least),
+      elim c.if-least-x.branch [
+        | then-least-x w ↦ subst (λ (o : Option CallId). IsFirstFrom placed j o) (sym w.first-is) (first_here placed j x here c.loop-k.least fits least w.if-least-x.true)
+        | else-least-x w ↦ subst (λ (o : Option CallId). IsFirstFrom placed j o) (sym w.first-is) (first_same placed j x here c.loop-k.least c.loop-k.first least w.if-least-x.false first)
+      ],
+    )
+
+pub loop-k-preserved : goal.loop-k-preserved
+loop-k-preserved c =
+    let placed = c.args.placed.now in
+    let j = c.loop-k.k - 1 in
+    let x = get_or placed j default in
+    let lt : j < length placed = omega arith in
+    let here = slice_get-get_or placed j default lt in
+    let step : c.loop-k.k ≡ j + 1 = omega arith in
+    let least = subst (λ (n : ℕ). IsLeast placed n c.loop-k.least) step c.loop-k.invariant.0 in
+    let first = subst (λ (n : ℕ). IsFirstFrom placed n c.loop-k.first) step c.loop-k.invariant.1 in
+    let fits : x.begin < 2 ^ 64 = omega arith in (
+      least_same placed j x here c.loop-k.least c.in_default.is least,
+      elim c.if-least-x.branch [
+        | then-least-x w ↦ subst (λ (o : Option CallId). IsFirstFrom placed j o) (sym w.first-is) (first_here placed j x here c.loop-k.least fits least w.if-least-x.true)
+        | else-least-x w ↦ subst (λ (o : Option CallId). IsFirstFrom placed j o) (sym w.first-is) (first_same placed j x here c.loop-k.least c.loop-k.first least w.if-least-x.false first)
+      ],
+    )

@@ -1,0 +1,3 @@
+pub mod LegalOrder
+pub mod OrderFaults
+pub mod Places

@@ -1,0 +1,9 @@
+//! The checker of orders: whether a list of calls is a legal order of a history on a module's object, where each call has a
+//! budget of turns.
+#![tactic(auto)]
+
+pub mod order;
+mod places;
+mod replies;
+
+pub use order::{OrderFault, check_order};

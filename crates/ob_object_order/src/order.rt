@@ -1,0 +1,266 @@
+//! The checker of orders: whether a list of calls is a legal order of a history.
+
+ghost use Rattle.std.specs.Prelude.{◌≡◌, ◌↔◌, ◌⊎◌, map, length, slice_get, Some, OnOk, IfOk, IfErr, MatchOption, MatchResult, IsTrue, Contains};
+ghost use Rattle.std.specs.HashSet as bag;
+ghost use Rattle.ob_checked.specs.CheckedModule.{program_in};
+ghost use Rattle.ob_interface.specs.Call as Calls;
+ghost use Rattle.ob_interface.specs.View.{call_of, reply_of};
+ghost use Rattle.ob_positions.specs.Store.{Activation};
+ghost use Rattle.ob_store.specs.View.{state_of};
+ghost use Rattle.wf_history.specs.declared.event.CallId.{CallId};
+ghost use Rattle.wf_history.specs.History.{Begin, End, IsHistory};
+ghost use Rattle.wf_history.specs.View.{event_of};
+ghost use Rattle.ob_object_order.specs.declared.order.OrderFault.{OrderFault};
+ghost use Rattle.ob_object_order.specs.declared.order.OrderFault.TheVariants as Faults;
+ghost use Rattle.ob_object_order.specs.declared.places.Placed.{Placed};
+ghost use Rattle.ob_object_order.specs.LegalOrder.{CallEnds, IsLegalOrder};
+ghost use Rattle.ob_object_order.specs.OrderFaults.{IsFirst, IsNowhere, IsUnknown, IsListFault, EndsUnlisted, IsFirstUnlisted, IsArranged, LeadsTo, IsReplayFault, IsOrderFault};
+ghost use Rattle.ob_object_order.specs.Places.{same_id, ArePlaced, BeginsAt, EndsAt, BeginsTooLate};
+
+use crate::places::{Placed, places_of};
+use crate::replies::{call_in, is_same_reply};
+use ob_checked::checked::Checked;
+use ob_interface::NoMemory;
+use ob_interface::call::{Call, Reply};
+use ob_interpreter::object::step;
+use ob_store::state::State;
+use std::alloc::{AllocError, AllocFailed, Global};
+use std::collections::HashSet;
+use thiserror::Error;
+use wf_history::{CallId, Event, History};
+
+/// Why a list of calls is no legal order of a history.
+#[derive(Clone, Copy, Debug, Error)]
+pub enum OrderFault {
+    /// H1: the first call, by its End, that has ended and that the list lacks.
+    #[error("H1 {0}")]
+    Missing(CallId),
+    /// H2: the first id of the list that never began, or stood in it before.
+    #[error("H2 {0}")]
+    Unknown(CallId),
+    /// H3: the first call of the list that began after the end of one that stands behind it.
+    #[error("H3 {0}")]
+    TooEarly(CallId),
+    /// H4: made in its turn, this call ends with another reply than the history's.
+    #[error("H4 {0}")]
+    OtherReply(CallId),
+    /// Want of memory.
+    #[error("NoMemory")]
+    NoMemory,
+}
+
+impl From<NoMemory> for OrderFault {
+    ghost use Rattle.std.specs.Prelude.{◌≡◌};
+    ghost use Rattle.ob_object_order.specs.declared.order.OrderFault.TheVariants as Faults;
+
+    ghost from_gives = { λ _ e. e ≡ Faults.NoMemory };
+
+    fn from(_: NoMemory) -> OrderFault {
+        OrderFault::NoMemory
+    }
+}
+
+impl From<AllocError> for OrderFault {
+    ghost use Rattle.std.specs.Prelude.{◌≡◌};
+    ghost use Rattle.ob_object_order.specs.declared.order.OrderFault.TheVariants as Faults;
+
+    ghost from_gives = { λ _ e. e ≡ Faults.NoMemory };
+
+    fn from(_: AllocError) -> OrderFault {
+        OrderFault::NoMemory
+    }
+}
+
+impl<T: Drop> From<AllocFailed<T>> for OrderFault {
+    ghost use Rattle.std.specs.Prelude.{◌≡◌};
+    ghost use Rattle.ob_object_order.specs.declared.order.OrderFault.TheVariants as Faults;
+
+    ghost from_gives = { λ _ e. e ≡ Faults.NoMemory };
+
+    fn from(_: AllocFailed<T>) -> OrderFault {
+        OrderFault::NoMemory
+    }
+}
+
+/// Each id of the list with its places, where all have begun and none stands in it twice.
+fn placed(alloc: Global, events: &[Event], order: &[CallId]) -> Result<Vec<Placed>, OrderFault>
+    ensures ids { IfOk result (λ ps. map (λ x. x.id) ps.items ≡ order.now) }
+    ensures placed { IfOk result (λ ps. ArePlaced (map event_of events.now) ps.items) }
+    ensures known { OnOk result (IsNowhere (IsUnknown (map event_of events.now) order.now) order.now) }
+    ensures fault { IfErr result (IsListFault (map event_of events.now) order.now) }
+{
+    let places = places_of(alloc, events)?;
+    let mut seen = HashSet::new(alloc);
+    let mut placed = Vec::new(alloc);
+    for id in order {
+        let Some(begin) = places.begins.get(id) else {
+            return Err(OrderFault::Unknown(*id));
+        };
+        if !seen.insert(*id)? {
+            return Err(OrderFault::Unknown(*id));
+        }
+        placed.push(Placed {
+            id: *id,
+            begin: *begin,
+            end: places.ends.get(id).copied(),
+        })?;
+    }
+    Ok(placed)
+}
+
+/// The ids of a list, as a set.
+fn set_of(alloc: Global, order: &[CallId]) -> Result<HashSet<CallId>, NoMemory>
+    ensures { IfOk result (λ s. (q : CallId) → IsTrue (bag.contains same_id s q) ↔ Contains order.now q) }
+{
+    let mut ids = HashSet::new(alloc);
+    for id in order {
+        ids.insert(*id)?;
+    }
+    Ok(ids)
+}
+
+/// The call that ends with an event, if one does.
+fn ended(event: &Event) -> Option<CallId>
+    ensures { MatchOption result
+        ((id : CallId) (reply : Calls.Reply) → event_of event.now ≡ End id reply → ⊥)
+        (λ id. (reply : Calls.Reply) × (event_of event.now ≡ End id reply)) }
+{
+    match event {
+        Event::End(id, _) => Some(*id),
+        _ => None,
+    }
+}
+
+/// The first call, by its End, that has ended and that the list lacks.
+fn first_missing(
+    alloc: Global,
+    events: &[Event],
+    order: &[CallId],
+) -> Result<Option<CallId>, NoMemory>
+    ensures { IfOk result (λ o. MatchOption o
+        (IsNowhere (EndsUnlisted (map event_of events.now) order.now) (map event_of events.now))
+        (IsFirstUnlisted (map event_of events.now) order.now)) }
+{
+    let listed = set_of(alloc, order)?;
+    for event in events {
+        if let Some(id) = ended(event)
+            && !listed.contains(&id)
+        {
+            return Ok(Some(id));
+        }
+    }
+    Ok(None)
+}
+
+/// The first call that began after the end of one that stands behind it.
+fn first_too_early(placed: &[Placed]) -> Option<CallId>
+    ensures { MatchOption result
+        (IsNowhere (BeginsTooLate placed.now) placed.now)
+        (λ id. (x : Placed) × (x.id ≡ id) × IsFirst (BeginsTooLate placed.now) placed.now x) }
+{
+    let mut first = None;
+    let mut least = usize::MAX;
+    for k in (0..placed.len()).rev() {
+        let x = placed[k];
+        if least < x.begin {
+            first = Some(x.id);
+        }
+        if let Some(end) = x.end {
+            least = least.min(end);
+        }
+    }
+    first
+}
+
+/// Each id of the list with its places, where the list is right but for the replies.
+fn arranged(alloc: Global, events: &[Event], order: &[CallId]) -> Result<Vec<Placed>, OrderFault>
+    requires { IsHistory (map event_of events.now) }
+    ensures ids { IfOk result (λ ps. map (λ x. x.id) ps.items ≡ order.now) }
+    ensures placed { IfOk result (λ ps. ArePlaced (map event_of events.now) ps.items) }
+    ensures arranged { OnOk result (IsArranged (map event_of events.now) order.now) }
+    ensures fault { IfErr result (IsListFault (map event_of events.now) order.now) }
+{
+    let placed = placed(alloc, events, order)?;
+    if let Some(id) = first_missing(alloc, events, order)? {
+        return Err(OrderFault::Missing(id));
+    }
+    if let Some(id) = first_too_early(&placed) {
+        return Err(OrderFault::TooEarly(id));
+    }
+    Ok(placed)
+}
+
+/// The call that begins at a place.
+fn call_at(events: &[Event], place: usize) -> &Call
+    requires { (id : CallId) × BeginsAt (map event_of events.now) id place }
+    ensures { (id : CallId) × (slice_get (map event_of events.now) place ≡ Some (Begin id (call_of result.now))) }
+{
+    match &events[place] {
+        Event::Begin(_, call) => call,
+        _ => unreachable!(),
+    }
+}
+
+/// The reply of the End at a place.
+fn reply_at(events: &[Event], place: usize) -> &Reply
+    requires { (id : CallId) × EndsAt (map event_of events.now) id place }
+    ensures { (id : CallId) × (slice_get (map event_of events.now) place ≡ Some (End id (reply_of result.now))) }
+{
+    match &events[place] {
+        Event::End(_, reply) => reply,
+        _ => unreachable!(),
+    }
+}
+
+/// Makes the calls one at a time, and compares the replies of those that have ended: the state that they lead to.
+fn replay(
+    alloc: Global,
+    events: &[Event],
+    placed: &[Placed],
+    checked: &Checked,
+    opening: &State,
+    budget: u64,
+) -> Result<State, OrderFault>
+    requires history { IsHistory (map event_of events.now) }
+    requires placed { ArePlaced (map event_of events.now) placed.now }
+    ensures made { IfOk result (λ last. LeadsTo (CallEnds (program_in checked.now) budget) (state_of opening.now) (map event_of events.now) (map (λ x. x.id) placed.now) (length placed.now) (state_of last)) }
+    ensures fault { IfErr result (IsReplayFault (program_in checked.now) budget (state_of opening.now) (map event_of events.now) (map (λ x. x.id) placed.now)) }
+{
+    let mut state = opening.copy(alloc)?;
+    for x in placed {
+        let call = call_in(alloc, call_at(events, x.begin))?;
+        let (next, reply) = step(alloc, checked.program(), state, &call, budget)?;
+        if let Some(end) = x.end
+            && !is_same_reply(&reply, reply_at(events, end))
+        {
+            return Err(OrderFault::OtherReply(x.id));
+        }
+        state = next;
+    }
+    Ok(state)
+}
+
+/// Whether a list of calls is a legal order of a history: made one at a time from the opening state, each with the budget of
+/// turns, the calls give the history's replies. It gives the state that they lead to. Applied events are not looked at.
+pub fn check_order(
+    alloc: Global,
+    history: &History,
+    order: &[CallId],
+    checked: &Checked,
+    opening: &State,
+    budget: u64,
+) -> Result<State, OrderFault>
+    ensures legal { IfOk result (λ last. IsLegalOrder (program_in checked.now) budget (state_of opening.now) history.now order.now (state_of last)) }
+    ensures fault { IfErr result (IsOrderFault (program_in checked.now) budget (state_of opening.now) history.now order.now) }
+
+    // The fault that stands there is answered, want of memory aside.
+    ensures exact { (fault : OrderFault) → IsOrderFault (program_in checked.now) budget (state_of opening.now) history.now order.now fault
+        → (fault ≡ Faults.NoMemory) ⊎ MatchResult result (λ _. ⊥) (λ e. (e ≡ fault) ⊎ (e ≡ Faults.NoMemory)) }
+    // A legal order is accepted, want of memory aside.
+    ensures accepted { (last : Activation) → IsLegalOrder (program_in checked.now) budget (state_of opening.now) history.now order.now last
+        → IfErr result (λ e. e ≡ Faults.NoMemory) }
+{
+    let events = history.events();
+    let arranged = arranged(alloc, events, order)?;
+    replay(alloc, events, &arranged, checked, opening, budget)
+}
