@@ -1,10 +1,11 @@
 //! Reply lines: what is printed of the replies to calls.
 
-ghost use Rattle.std.specs.Prelude.{◌≡◌, ◌<◌, ◌++◌, [], map, codes, decimal, All, IfOk, OnOk, string_bytes};
+ghost use Rattle.std.specs.Prelude.{◌≡◌, ◌<◌, ◌++◌, [], map, codes, decimal, All, IfOk, OnErr, OnOk, string_bytes};
 ghost use Rattle.std.specs.List.{flat_map};
 ghost use Rattle.ob_interpreter.specs.View.{reply_of};
-ghost use Rattle.ob_calls.specs.ReplyLines.{reply_line, reply_lines};
+ghost use Rattle.ob_calls.specs.ReplyLines.{reply_line, reply_lines, reply_text};
 ghost use Rattle.ob_calls.specs.Values.{scalar_text};
+ghost use Rattle.ob_text.specs.Appending.{GoesOn};
 
 use crate::values::push_value;
 use ob_interface::scalar::Scalar;
@@ -39,22 +40,32 @@ pub fn push_reply_line(
     number: u64,
     reply: &Reply,
 ) -> Result<(), AllocError>
-    ensures { OnOk result (string_bytes text.new ≡ string_bytes text.old ++ reply_line process number (reply_of reply.now)) }
+    ensures ok { OnOk result (string_bytes text.new ≡ string_bytes text.old ++ reply_line process number (reply_of reply.now)) }
+    ensures left { OnErr result (GoesOn (string_bytes text.old) (string_bytes text.new)) }
 {
     text.push_str("E ")?;
     push_number(text, process)?;
     text.push_str(".")?;
     push_number(text, number)?;
-    match reply {
-        Reply::Answers(values) => push_answers(text, values)?,
-        Reply::Trapped(trap) => push_trap(text, *trap)?,
-    }
+    push_reply(text, reply)?;
     text.push_str("\n")
+}
+
+/// Appends what stands behind the id of a call.
+fn push_reply(text: &mut String, reply: &Reply) -> Result<(), AllocError>
+    ensures ok { OnOk result (string_bytes text.new ≡ string_bytes text.old ++ reply_text (reply_of reply.now)) }
+    ensures left { OnErr result (GoesOn (string_bytes text.old) (string_bytes text.new)) }
+{
+    match reply {
+        Reply::Answers(values) => push_answers(text, values),
+        Reply::Trapped(trap) => push_trap(text, *trap),
+    }
 }
 
 /// Appends what stands behind the id of a call that traps.
 fn push_trap(text: &mut String, trap: u8) -> Result<(), AllocError>
-    ensures { OnOk result (string_bytes text.new ≡ string_bytes text.old ++ (codes " trap " ++ decimal trap)) }
+    ensures ok { OnOk result (string_bytes text.new ≡ string_bytes text.old ++ (codes " trap " ++ decimal trap)) }
+    ensures left { OnErr result (GoesOn (string_bytes text.old) (string_bytes text.new)) }
 {
     text.push_str(" trap ")?;
     push_number(text, trap)
@@ -62,7 +73,8 @@ fn push_trap(text: &mut String, trap: u8) -> Result<(), AllocError>
 
 /// Appends what stands behind the id of a call that is done.
 fn push_answers(text: &mut String, values: &[Scalar]) -> Result<(), AllocError>
-    ensures { OnOk result (string_bytes text.new ≡ string_bytes text.old ++ (codes " done" ++ flat_map (λ v. codes " " ++ scalar_text v) values.now)) }
+    ensures ok { OnOk result (string_bytes text.new ≡ string_bytes text.old ++ (codes " done" ++ flat_map (λ v. codes " " ++ scalar_text v) values.now)) }
+    ensures left { OnErr result (GoesOn (string_bytes text.old) (string_bytes text.new)) }
 {
     text.push_str(" done")?;
     for value in values {

@@ -1,6 +1,6 @@
 //! Values of parameters, as words and as text.
 
-ghost use Rattle.std.specs.Prelude.{◌≡◌, ◌++◌, Bool, map, IfOk, OnOk, MatchOption, List, string_bytes};
+ghost use Rattle.std.specs.Prelude.{◌≡◌, ◌++◌, Bool, map, IfOk, OnErr, OnOk, MatchOption, List, string_bytes};
 ghost use Rattle.ob_checked.specs.Types.{type_in};
 ghost use Rattle.ob_checked.specs.View.{parameter_of, table_of};
 ghost use Rattle.ob_interface.specs.declared.scalar.Scalar.{Scalar};
@@ -64,7 +64,8 @@ pub fn read_values(
 
 /// Appends a value: a number, `TRUE` or `FALSE`.
 pub fn push_value(text: &mut String, value: Scalar) -> Result<(), AllocError>
-    ensures { OnOk result (string_bytes text.new ≡ string_bytes text.old ++ scalar_text value) }
+    ensures ok { OnOk result (string_bytes text.new ≡ string_bytes text.old ++ scalar_text value) }
+    ensures unchanged { OnErr result (string_bytes text.new ≡ string_bytes text.old) }
 {
     match value {
         Scalar::Int(integer) => push_number(text, integer),

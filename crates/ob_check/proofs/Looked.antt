@@ -2,10 +2,12 @@
 use Rattle.std.proofs.Common.{◌≡◌, Bool, true, false, cond, [], ◌∷◌, Option, Some, None, option_map, is_some, String, refl, sym, ap, subst, ◌∙◌}
 use Rattle.std.specs.declared.alloc.Global.{Global}
 use Rattle.std.specs.Prelude.{bytes_eq, string_bytes, codes}
-use Rattle.std.specs.String.{string_eq}
+use Rattle.std.specs.Cmp.Lexicographic.{slice_cmp}
+use Rattle.std.specs.Ordering.{nat_cmp}
+use Rattle.std.specs.String.{string_cmp}
 use Rattle.std.specs.Map.{lookup}
-use Rattle.std.proofs.lemmas.Map.Text.{hash_map_updates_text}
-use Rattle.indexmap.specs.IndexMap.{IndexMap, UpdatesBy, IsEmpty, get_by_text}
+use Rattle.std.specs.BTreeMap.{BTreeMap, UpdatesBy, IsEmpty, get_by_text, is_at}
+use Rattle.std.proofs.lemmas.Map.Text.{btree_map_updates_text}
 use Rattle.ob_check.specs.declared.checker.scopes.Object.{Object}
 use Rattle.ob_check.specs.declared.checker.scopes.Scopes.{Scopes}
 use Rattle.ob_check.specs.declared.program.DataType.{DataType}
@@ -16,8 +18,8 @@ use Rattle.ob_check.specs.Scopes as Names
 use Rattle.ob_check.specs.Scopes.{Environment, Scope, no_names, with_name, or_else, found, IsNew, declared, level, variable_in, outermost}
 use Rattle.ob_check.specs.Checking.{meaning_of, scope_of, scopes_around, env_of, outer}
 
-module _ {S : Type 0} (is_own : Bool) where
-  pub scope_of-updated : (m n : IndexMap (String Global) Object S) (name : Name) (o : Object) → UpdatesBy string_eq (λ k. bytes_eq name (string_bytes k)) m n (Some o) →
+module _ (is_own : Bool) where
+  pub scope_of-updated : (m n : BTreeMap (String Global) Object) (name : Name) (o : Object) → UpdatesBy string_cmp (λ k. slice_cmp nat_cmp name (string_bytes k)) m n (Some o) →
       scope_of is_own n ≡ with_name (scope_of is_own m) name (meaning_of is_own o)
   scope_of-updated m n name o h = λ i q. at q i
     where
@@ -26,10 +28,10 @@ module _ {S : Type 0} (is_own : Bool) where
       by false old = refl
 
       at : (q : Name) → scope_of is_own n q ≡ with_name (scope_of is_own m) name (meaning_of is_own o) q
-      at q = ap (option_map (meaning_of is_own)) (hash_map_updates_text name m n (Some o) h q) ∙ by (bytes_eq name q) (get_by_text m q)
+      at q = ap (option_map (meaning_of is_own)) (btree_map_updates_text name m n (Some o) h q) ∙ by (bytes_eq name q) (get_by_text m q)
 
-  pub scope_of-empty : (m : IndexMap (String Global) Object S) → IsEmpty m → scope_of is_own m ≡ no_names
-  scope_of-empty m e = ap (λ es q. option_map (meaning_of is_own) (lookup (λ k. bytes_eq q (string_bytes k)) es)) e
+  pub scope_of-empty : (m : BTreeMap (String Global) Object) → IsEmpty m → scope_of is_own m ≡ no_names
+  scope_of-empty m e = ap (λ es q. option_map (meaning_of is_own) (lookup (is_at (λ k. slice_cmp nat_cmp q (string_bytes k))) es)) e
 
 -- names in the innermost scope
 
@@ -52,7 +54,7 @@ declared_outside s map name key t is k e =
 
 -- a name in the module's scope, around another one
 
-around_own : {S : Type 0} (own : Option (IndexMap (String Global) Object S)) (new old : Scope) (rest : Environment) (name : Name) (o : Names.Object) →
+around_own : (own : Option (BTreeMap (String Global) Object)) (new old : Scope) (rest : Environment) (name : Name) (o : Names.Object) →
     is_some own ≡ true → new ≡ with_name old name o →
     scopes_around own (new ∷ rest) ≡ inner_scope (scopes_around own (old ∷ rest)) (declared (outer (scopes_around own (old ∷ rest))) name o)
 around_own None new old rest name o h e = absurd cc

@@ -1,7 +1,7 @@
 -- What the parts of the checker answer.
 use Rattle.std.specs.Prelude.{◌≡◌, ◌++◌, Bool, true, false, List, [], ◌∷◌, map, Option, Some, None, option_map, String}
 use Rattle.std.specs.declared.alloc.Global.{Global}
-use Rattle.indexmap.specs.IndexMap.{IndexMap, get_by_text}
+use Rattle.std.specs.BTreeMap.{BTreeMap, get_by_text}
 use Rattle.ob_grammar.specs.Tree
 use Rattle.ob_check.specs.declared.checker.CheckFault.{CheckFault}
 use Rattle.ob_check.specs.declared.checker.CheckFault.TheVariants.{NotSupported, NoMemory}
@@ -27,10 +27,10 @@ meaning_of true (Objects.Variable t) = LocalVariable 3 t
 meaning_of false (Objects.Variable t) = ModuleVariable t
 meaning_of is_own (Objects.Procedure number parameters) = ProcedureName number parameters.items
 
-abbrev pub scope_of : {S : Type 0} → Bool → IndexMap (String Global) Object S → Scope
+abbrev pub scope_of : Bool → BTreeMap (String Global) Object → Scope
 scope_of is_own names name = option_map (meaning_of is_own) (get_by_text names name)
 
-abbrev pub scopes_around : {S : Type 0} → Option (IndexMap (String Global) Object S) → Environment → Environment
+abbrev pub scopes_around : Option (BTreeMap (String Global) Object) → Environment → Environment
 scopes_around None outer = outer
 scopes_around (Some own) outer = scope_of true own ∷ outer
 

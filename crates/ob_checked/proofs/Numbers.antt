@@ -12,7 +12,7 @@ use Rattle.ob_checked.specs.declared.types.DataType.{DataType}
 use Rattle.ob_checked.specs.declared.types.DataType.TheVariants.{Simple, Structured}
 use Rattle.ob_checked.specs.declared.types.Structure.{Structure}
 use Rattle.ob_checked.specs.declared.types.Structure.TheVariants.{Array, Record}
-use Rattle.ob_checked.specs.Types.{Entry, type_by, fields_by, structure_by, entry_by, types_behind, types_of, type_in, is_below, all_below, is_within, IsEntry, IsTable, Extends}
+use Rattle.ob_checked.specs.Types.{Entry, type_by, fields_in, fields_by, structure_by, entry_by, types_behind, types_of, type_in, is_below, all_below, is_within, IsEntry, IsTable, Extends}
 
 abbrev pub none : Program.DataType
 none = Program.Simple Integer
@@ -44,7 +44,7 @@ same_fields_by n ts us h (f ∷ fs) b =
 pub same_structure_by : (n : ℕ) (ts us : List Program.DataType) → SameBelow n ts us → (place : ℕ) (s : Structure) → is_within n s ≡ true →
     structure_by ts place s ≡ structure_by us place s
 same_structure_by n ts us h place (Array length element) b = ap (Program.Array place length) (same_type_by n ts us h element b)
-same_structure_by n ts us h place (Record fields) b = ap (Program.Record place) (same_fields_by n ts us h fields.entries b)
+same_structure_by n ts us h place (Record fields) b = ap (Program.Record place) (same_fields_by n ts us h (fields_in fields) b)
 
 pub length_behind : (ts : List Program.DataType) (es : List Entry) → length (types_behind ts es) ≡ length ts + length es
 length_behind ts [] = omega arith

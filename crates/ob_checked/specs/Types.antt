@@ -10,6 +10,7 @@ use Rattle.ob_checked.specs.declared.types.DataType.TheVariants.{Simple, Structu
 use Rattle.ob_checked.specs.declared.types.Structure.{Structure}
 use Rattle.ob_checked.specs.declared.types.Structure.TheVariants.{Array, Record}
 use Rattle.ob_checked.specs.declared.types.Structured as Entries
+use Rattle.ob_checked.specs.declared.fields.Fields.{Fields}
 
 abbrev pub Entry : Type 0
 Entry = Entries.Structured
@@ -19,13 +20,17 @@ abbrev pub type_by : List Program.DataType → DataType → Program.DataType
 type_by ts (Simple t) = Program.Simple t
 type_by ts (Structured n) = get_or ts n (Program.Simple Integer)
 
+-- the fields of a record in text order
+abbrev pub fields_in : Fields → List (String Global × DataType)
+fields_in f = f.entries.items
+
 abbrev pub fields_by : List Program.DataType → List (String Global × DataType) → Program.Fields
 fields_by ts [] = Program.no_field
 fields_by ts (f ∷ fs) = Program.field (string_bytes f.0) (type_by ts f.1) (fields_by ts fs)
 
 abbrev pub structure_by : List Program.DataType → ℕ → Structure → Program.DataType
 structure_by ts place (Array length element) = Program.Array place length (type_by ts element)
-structure_by ts place (Record fields) = Program.Record place (fields_by ts fields.entries)
+structure_by ts place (Record fields) = Program.Record place (fields_by ts (fields_in fields))
 
 abbrev pub entry_by : List Program.DataType → Entry → Program.DataType
 entry_by ts e = structure_by ts e.place e.structure
@@ -54,7 +59,7 @@ all_below n (f ∷ fs) = is_below n f.1 && all_below n fs
 -- what stands within has numbers below n
 abbrev pub is_within : ℕ → Structure → Prelude.Bool
 is_within n (Array length element) = is_below n element
-is_within n (Record fields) = all_below n fields.entries
+is_within n (Record fields) = all_below n (fields_in fields)
 
 -- an entry behind n others
 pub record IsEntry (ts : List Program.DataType) (n : ℕ) (e : Entry) : Type 0 where

@@ -1,37 +1,52 @@
 //! A module that is well typed.
 
+ghost use Rattle.std.specs.Prelude.{◌≡◌, map};
+ghost use Rattle.std.proofs.Props.{props};
 ghost use Rattle.ob_grammar.specs.View.{module_of};
+ghost use Rattle.ob_interface.specs.View.{signature_of};
 ghost use Rattle.ob_typing.specs.Declarations.{WellTyped};
+ghost use Rattle.ob_checked.specs.Exports.{signatures};
 ghost use Rattle.ob_checked.specs.View.{program_of};
 
 use crate::program::Program;
 use ob_grammar::module::Module;
 use ob_grammar::tree::ModuleTree;
+use ob_interface::export::Export;
 
-/// A module that is well typed, with its tree unchanged and the program that it is well typed as.
+/// A module that is well typed, with its tree unchanged, the program that it is well typed as, and what callers know of its
+/// exports.
 #[derive(Drop)]
 pub struct Checked {
     module: Module,
     program: Program,
+    exports: Vec<Export>,
+    ghost listed: { map signature_of exports.items ≡ signatures (program_of program) } by { Prim.hlevel props },
     ghost typed: { ∥ WellTyped (module_of «module») (program_of program) ∥₁ },
 }
 
 impl Checked {
-    ghost use Rattle.std.specs.Prelude.{◌≡◌};
+    ghost use Rattle.std.specs.Prelude.{◌≡◌, map};
     ghost use Rattle.ob_grammar.specs.Conditions.{KeepsConditions};
     ghost use Rattle.ob_grammar.specs.View.{module_of};
+    ghost use Rattle.ob_interface.specs.View.{signature_of};
     ghost use Rattle.ob_typing.specs.Declarations.{WellTyped};
     ghost use Rattle.ob_typing.specs.Limits.{KeepsLimits};
     ghost use Rattle.ob_checked.specs.View.{program_of};
     ghost use Rattle.ob_checked.specs.CheckedModule.{tree_in, program_in};
+    ghost use Rattle.ob_checked.specs.Exports.{signatures};
 
-    /// A module with the program that it is well typed as.
-    pub fn new(module: Module, program: Program) -> Checked
-        requires { WellTyped (module_of «module») (program_of program) }
+    /// A module with the program that it is well typed as, and the exports of that.
+    pub fn new(module: Module, program: Program, exports: Vec<Export>) -> Checked
+        requires typed { WellTyped (module_of «module») (program_of program) }
+        requires listed { map signature_of exports.items ≡ signatures (program_of program) }
         ensures tree { tree_in result ≡ module_of «module» }
         ensures program { program_in result ≡ program_of program }
     {
-        Checked { module, program }
+        Checked {
+            module,
+            program,
+            exports,
+        }
     }
 
     /// The module that was checked.
@@ -62,6 +77,14 @@ impl Checked {
         ensures typed { ∥ WellTyped (tree_in self.now) (program_in self.now) ∥₁ }
     {
         &self.program
+    }
+
+    /// The exports of the program in text order, numbered from 0, each with the modes and types of its parameters. No parameter
+    /// of an export is structured, as the limits say.
+    pub fn exports(&self) -> &[Export]
+        ensures { map signature_of result.now ≡ signatures (program_in self.now) }
+    {
+        &self.exports
     }
 
     /// The program keeps the limits on parameters, frames, the module's variables and exports.

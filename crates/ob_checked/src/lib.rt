@@ -2,5 +2,6 @@
 #![tactic(auto)]
 
 pub mod checked;
+pub mod fields;
 pub mod program;
 pub mod types;

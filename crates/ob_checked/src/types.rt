@@ -4,7 +4,7 @@
 ghost use Rattle.std.proofs.Props.{props};
 ghost use Rattle.ob_checked.specs.Types.{IsTable};
 
-use indexmap::IndexMap;
+use crate::fields::Fields;
 use ob_interface::scalar::ScalarType;
 use std::alloc::{AllocFailed, Global};
 
@@ -25,8 +25,7 @@ pub enum DataType {
 #[derive(Drop)]
 pub enum Structure {
     Array { length: usize, element: DataType },
-    /// The fields in text order.
-    Record { fields: IndexMap<String, DataType> },
+    Record { fields: Fields },
 }
 
 /// An occurrence of ARRAY or RECORD, with its place in the text, its words, and how deep arrays and records stand in it.
@@ -52,7 +51,7 @@ impl Types {
     ghost use Rattle.ob_typing.specs.Program as Programs;
     ghost use Rattle.ob_typing.specs.Scopes as Declared;
     ghost use Rattle.ob_typing.specs.Scopes.{words, depth, words_of_fields, depth_of_fields};
-    ghost use Rattle.ob_checked.specs.Types.{type_in, types_of, fields_by, structure_by, is_below, all_below, is_within, if_small, Extends, IsTable};
+    ghost use Rattle.ob_checked.specs.Types.{type_in, types_of, fields_in, fields_by, structure_by, is_below, all_below, is_within, if_small, Extends, IsTable};
     ghost use Rattle.ob_checked.specs.View.{table_of};
 
     /// The table without types.
@@ -99,23 +98,25 @@ impl Types {
     }
 
     /// The words of fields together, or `None` where there are more than any number.
-    fn words_of_fields(&self, fields: &IndexMap<String, DataType>) -> Option<usize>
-        ensures words { IfSome result (λ w. w ≡ words_of_fields (fields_by (types_of (table_of self.now)) fields.now.entries)) }
-        ensures many { IfNone result (4096 < words_of_fields (fields_by (types_of (table_of self.now)) fields.now.entries)) }
+    fn words_of_fields(&self, fields: &Fields) -> Option<usize>
+        ensures words { IfSome result (λ w. w ≡ words_of_fields (fields_by (types_of (table_of self.now)) (fields_in fields.now))) }
+        ensures many { IfNone result (4096 < words_of_fields (fields_by (types_of (table_of self.now)) (fields_in fields.now))) }
     {
+        let entries = fields.as_slice();
         let mut words: usize = 0;
-        for (_, data_type) in fields.iter() {
+        for (_, data_type) in entries {
             words = words.checked_add(self.words(*data_type))?;
         }
         Some(words)
     }
 
     /// How deep the deepest of fields is.
-    fn depth_of_fields(&self, fields: &IndexMap<String, DataType>) -> usize
-        ensures { result ≡ depth_of_fields (fields_by (types_of (table_of self.now)) fields.now.entries) }
+    fn depth_of_fields(&self, fields: &Fields) -> usize
+        ensures { result ≡ depth_of_fields (fields_by (types_of (table_of self.now)) (fields_in fields.now)) }
     {
+        let entries = fields.as_slice();
         let mut depth: usize = 0;
-        for (_, data_type) in fields.iter() {
+        for (_, data_type) in entries {
             depth = depth.max(self.depth(*data_type));
         }
         depth
@@ -174,10 +175,10 @@ impl Types {
     pub fn record(
         &mut self,
         place: usize,
-        fields: IndexMap<String, DataType>,
+        fields: Fields,
     ) -> Result<Option<DataType>, AllocFailed<Structured>>
-        requires known { all_below (length (table_of self.old)) fields.entries ≡ true }
-        ensures given { IfOk result (λ r. option_map (type_in (table_of self.new)) r ≡ if_small (Programs.Record place (fields_by (types_of (table_of self.old)) fields.entries))) }
+        requires known { all_below (length (table_of self.old)) (fields_in fields) ≡ true }
+        ensures given { IfOk result (λ r. option_map (type_in (table_of self.new)) r ≡ if_small (Programs.Record place (fields_by (types_of (table_of self.old)) (fields_in fields)))) }
         ensures known { IfOk result (λ r. IfSome r (λ t. is_below (Lists.length (table_of self.new)) t ≡ true)) }
         ensures extends { Extends (table_of self.old) (table_of self.new) }
         ensures unchanged { OnErr result (table_of self.new ≡ table_of self.old) }

@@ -32,6 +32,10 @@ same_more xs f rest all e left is same h =
     moved [] f rest = refl
     moved (x ∷ xs) f rest = ap (λ l. bare x ∷ l) (moved xs f rest)
 
+-- the fields from a place on
+pub next_field : (fs : List (String Global × DataType)) (i : ℕ) (f : String Global × DataType) → i < length fs → f ≡ get_or fs i f → drop i fs ≡ f ∷ drop (i + 1) fs
+next_field fs i f h e = drop_more fs i f h ∙ ap (λ y. y ∷ drop (i + 1) fs) (sym e)
+
 module _ (ts : List Program.DataType) where
   pub words_more : (xs : List Field) (f : Field) → words_of_fields (fields_by ts (xs ++ f ∷ [])) ≡ words_of_fields (fields_by ts xs) + words (type_by ts f.data_type)
   words_more [] f = omega arith

@@ -3,7 +3,7 @@
 ghost use Rattle.std.proofs.Props.{props};
 ghost use Rattle.ob_code_layout.specs.Shapes.{AreShapes};
 
-use indexmap::IndexMap;
+use ob_checked::fields::Fields;
 use ob_checked::types::{DataType, Structure, Structured, Types};
 use ob_interface::NoMemory;
 use ob_interface::scalar::ScalarType;
@@ -137,14 +137,15 @@ impl Shapes {
         &self,
         alloc: Global,
         place: usize,
-        fields: &IndexMap<String, DataType>,
+        fields: &Fields,
     ) -> Result<Shape, NoMemory>
-        requires { Sizes.words_of_fields (Given.fields_by (types_of (shapes_of self.now)) fields.now.entries) ≤ 4096 }
-        ensures { IfOk result (IsRecord (types_of (shapes_of self.now)) place fields.now.entries) }
+        requires { Sizes.words_of_fields (Given.fields_by (types_of (shapes_of self.now)) (Given.fields_in fields.now)) ≤ 4096 }
+        ensures { IfOk result (IsRecord (types_of (shapes_of self.now)) place (Given.fields_in fields.now)) }
     {
+        let entries = fields.as_slice();
         let mut laid = Vec::new(alloc);
         let mut words = 0;
-        for (name, data_type) in fields.iter() {
+        for (name, data_type) in entries {
             laid.push(Field {
                 name: String::from_str(alloc, name.as_str())?,
                 data_type: *data_type,

@@ -8,7 +8,6 @@ ghost use Rattle.ob_positions.specs.Value as Values;
 ghost use Rattle.ob_positions.specs.Statements as Statements;
 ghost use Rattle.ob_store.specs.View.{value_in, values_in, activation_in, state_of};
 
-use indexmap::IndexMap;
 use ob_checked::program::Variable;
 use ob_checked::types::{DataType, Structure, Types};
 use ob_interface::scalar::{Scalar, ScalarType};
@@ -57,7 +56,7 @@ pub fn initial(alloc: Global, types: &Types, data_type: DataType) -> Result<Valu
                 Ok(Value::Parts(copies(alloc, *length, &first)?))
             }
             Structure::Record { fields } => {
-                Ok(Value::Parts(initial_fields(alloc, types, fields)?))
+                Ok(Value::Parts(initial_fields(alloc, types, fields.as_slice())?))
             }
         },
     }
@@ -69,18 +68,14 @@ pub fn initial(alloc: Global, types: &Types, data_type: DataType) -> Result<Valu
 fn initial_fields(
     alloc: Global,
     types: &Types,
-    fields: &IndexMap<String, DataType>,
+    fields: &[(String, DataType)],
 ) -> Result<Vec<Value>, AllocError>
     ensures { IfOk result (λ vs. values_in vs.items
-        ≡ Values.initial_fields (fields_by (types_of (table_of types.now)) fields.now.entries)) }
+        ≡ Values.initial_fields (fields_by (types_of (table_of types.now)) fields.now)) }
 {
-    let entries = fields.as_slice();
-    let mut parts = Vec::with_capacity(alloc, entries.len())?;
-    for position in 0..entries.len() {
-        let Some((_, field_type)) = entries.get_index(position) else {
-            return Ok(parts);
-        };
-        let part = initial(alloc, types, *field_type)?;
+    let mut parts = Vec::with_capacity(alloc, fields.len())?;
+    for field in fields {
+        let part = initial(alloc, types, field.1)?;
         parts.push(part)?;
     }
     Ok(parts)

@@ -1,7 +1,8 @@
 //! The lines of a module's faults: of its text and of its opening.
 
-ghost use Rattle.std.specs.Prelude.{◌≡◌, ◌++◌, OnOk, string_bytes};
+ghost use Rattle.std.specs.Prelude.{◌≡◌, ◌++◌, OnErr, OnOk, string_bytes};
 ghost use Rattle.ob_fault_lines.specs.ModuleFaultLines.{at_place, open_line, parse_line, rule_line, rule_number, scan_line, text_line};
+ghost use Rattle.ob_text.specs.Appending.{GoesOn};
 
 use ob_mean::opening::OpenFault;
 use ob_opened::checked_text::TextFault;
@@ -15,7 +16,8 @@ use std::alloc::AllocError;
 
 /// Appends the line of a fault of a module's text, without a line feed.
 pub fn push_text_fault(line: &mut String, fault: TextFault) -> Result<(), AllocError>
-    ensures { OnOk result (string_bytes line.new ≡ string_bytes line.old ++ text_line fault) }
+    ensures ok { OnOk result (string_bytes line.new ≡ string_bytes line.old ++ text_line fault) }
+    ensures left { OnErr result (GoesOn (string_bytes line.old) (string_bytes line.new)) }
 {
     match fault {
         TextFault::Scan(fault) => push_scan_fault(line, fault),
@@ -28,7 +30,8 @@ pub fn push_text_fault(line: &mut String, fault: TextFault) -> Result<(), AllocE
 
 /// Appends the line of a fault of a module's opening, without a line feed.
 pub fn push_open_fault(line: &mut String, fault: OpenFault) -> Result<(), AllocError>
-    ensures { OnOk result (string_bytes line.new ≡ string_bytes line.old ++ open_line fault) }
+    ensures ok { OnOk result (string_bytes line.new ≡ string_bytes line.old ++ open_line fault) }
+    ensures left { OnErr result (GoesOn (string_bytes line.old) (string_bytes line.new)) }
 {
     match fault {
         OpenFault::Trap(trap) => {
@@ -41,7 +44,8 @@ pub fn push_open_fault(line: &mut String, fault: OpenFault) -> Result<(), AllocE
 }
 
 pub(crate) fn push_scan_fault(line: &mut String, fault: ScanFault) -> Result<(), AllocError>
-    ensures { OnOk result (string_bytes line.new ≡ string_bytes line.old ++ scan_line fault) }
+    ensures ok { OnOk result (string_bytes line.new ≡ string_bytes line.old ++ scan_line fault) }
+    ensures left { OnErr result (GoesOn (string_bytes line.old) (string_bytes line.new)) }
 {
     match fault {
         ScanFault::StrayByte(place) => push_place(line, "S1", place),
@@ -54,7 +58,8 @@ pub(crate) fn push_scan_fault(line: &mut String, fault: ScanFault) -> Result<(),
 }
 
 pub(crate) fn push_parse_fault(line: &mut String, fault: ParseFault) -> Result<(), AllocError>
-    ensures { OnOk result (string_bytes line.new ≡ string_bytes line.old ++ parse_line fault) }
+    ensures ok { OnOk result (string_bytes line.new ≡ string_bytes line.old ++ parse_line fault) }
+    ensures left { OnErr result (GoesOn (string_bytes line.old) (string_bytes line.new)) }
 {
     match fault {
         ParseFault::Unexpected(place) => push_place(line, "P1", place),
@@ -66,7 +71,8 @@ pub(crate) fn push_parse_fault(line: &mut String, fault: ParseFault) -> Result<(
 
 /// Appends the line of a rule that is broken.
 pub(crate) fn push_broken_rule(line: &mut String, fault: CheckFault) -> Result<(), AllocError>
-    ensures { OnOk result (string_bytes line.new ≡ string_bytes line.old ++ rule_line fault) }
+    ensures ok { OnOk result (string_bytes line.new ≡ string_bytes line.old ++ rule_line fault) }
+    ensures left { OnErr result (GoesOn (string_bytes line.old) (string_bytes line.new)) }
 {
     match fault {
         CheckFault::Broken(broken) => push_place(line, rule_number(broken.rule), broken.place),
@@ -94,7 +100,8 @@ fn rule_number(rule: Rule) -> &'static str
 
 /// Appends a fault at a byte offset of the module's text.
 pub(crate) fn push_place(line: &mut String, fault: &str, place: usize) -> Result<(), AllocError>
-    ensures { OnOk result (string_bytes line.new ≡ string_bytes line.old ++ at_place fault.now place) }
+    ensures ok { OnOk result (string_bytes line.new ≡ string_bytes line.old ++ at_place fault.now place) }
+    ensures left { OnErr result (GoesOn (string_bytes line.old) (string_bytes line.new)) }
 {
     line.push_str(fault)?;
     line.push_str(" at ")?;

@@ -1,7 +1,8 @@
 //! The lines of a script's faults.
 
-ghost use Rattle.std.specs.Prelude.{◌≡◌, ◌++◌, OnOk, string_bytes};
+ghost use Rattle.std.specs.Prelude.{◌≡◌, ◌++◌, OnErr, OnOk, string_bytes};
 ghost use Rattle.ob_fault_lines.specs.ScriptFaultLines.{at_line, script_line};
+ghost use Rattle.ob_text.specs.Appending.{GoesOn};
 
 use ob_text::numbers::push_number;
 use ob_text::script::ScriptFault;
@@ -9,7 +10,8 @@ use std::alloc::AllocError;
 
 /// Appends the line of a fault of a script, without a line feed.
 pub fn push_script_fault(line: &mut String, fault: ScriptFault) -> Result<(), AllocError>
-    ensures { OnOk result (string_bytes line.new ≡ string_bytes line.old ++ script_line fault) }
+    ensures ok { OnOk result (string_bytes line.new ≡ string_bytes line.old ++ script_line fault) }
+    ensures left { OnErr result (GoesOn (string_bytes line.old) (string_bytes line.new)) }
 {
     match fault {
         ScriptFault::Form(number) => push_line_number(line, "L1", number),
@@ -26,7 +28,8 @@ pub(crate) fn push_line_number(
     fault: &str,
     number: usize,
 ) -> Result<(), AllocError>
-    ensures { OnOk result (string_bytes line.new ≡ string_bytes line.old ++ at_line fault.now number) }
+    ensures ok { OnOk result (string_bytes line.new ≡ string_bytes line.old ++ at_line fault.now number) }
+    ensures left { OnErr result (GoesOn (string_bytes line.old) (string_bytes line.new)) }
 {
     line.push_str(fault)?;
     line.push_str(" line ")?;

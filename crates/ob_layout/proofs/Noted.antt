@@ -2,10 +2,12 @@
 use Rattle.std.proofs.Common.{◌≡◌, ◌∙◌, ℕ, ◌+◌, ◌≤◌, Bool, true, false, cond, List, [], ◌∷◌, Option, Some, None, option_map, is_some, IfSome, String, refl, sym, ap, subst, arith}
 use Rattle.std.specs.declared.alloc.Global.{Global}
 use Rattle.std.specs.Prelude.{bytes_eq, string_bytes, if◌then◌else◌}
-use Rattle.std.specs.HashMap.{HashMap, UpdatesBy, get_by_text}
+use Rattle.std.specs.BTreeMap.{BTreeMap, UpdatesBy, get_by_text}
+use Rattle.std.specs.Cmp.Lexicographic.{slice_cmp}
+use Rattle.std.specs.Ordering.{nat_cmp}
 use Rattle.std.specs.Option.{option_or}
-use Rattle.std.specs.String.{string_eq}
-use Rattle.std.proofs.lemmas.Map.Text.{hash_map_updates_text}
+use Rattle.std.specs.String.{string_cmp}
+use Rattle.std.proofs.lemmas.Map.Text.{btree_map_updates_text}
 use Rattle.std.proofs.lemmas.List.Sums.{sum_by-cons}
 use Rattle.std.proofs.lemmas.Slice.Eq.{bytes_eq-Decides}
 use Rattle.ob_check.specs.Program.{Name, Variable}
@@ -22,15 +24,15 @@ added word true old none = sym (ap (λ (o : Option ℕ). option_or o (Some word)
 added word false old none = refl
 
 -- what is found once a name that stood nowhere was noted
-pub new_name : {S : Type 0} (m n : HashMap (String Global) ℕ S) (name : Name) (word : ℕ) → is_some (get_by_text m name) ≡ false →
-    UpdatesBy string_eq (λ k. bytes_eq name (string_bytes k)) m n (Some word) →
+pub new_name : (m n : BTreeMap (String Global) ℕ) (name : Name) (word : ℕ) → is_some (get_by_text m name) ≡ false →
+    UpdatesBy string_cmp (λ k. slice_cmp nat_cmp name (string_bytes k)) m n (Some word) →
     (q : Name) → get_by_text n q ≡ (if bytes_eq name q then option_or (get_by_text m q) (Some word) else get_by_text m q)
 new_name m n name word fresh updates q =
-    hash_map_updates_text name m n (Some word) updates q
+    btree_map_updates_text name m n (Some word) updates q
     ∙ added word (bytes_eq name q) (get_by_text m q) (λ same. subst (λ (k : Name). get_by_text m k ≡ None) ((bytes_eq-Decides name q).0 same) (nothing (get_by_text m name) fresh))
 
 -- a name among those that are noted, or where it stands among the variables that are left, so many words behind the first
-abbrev pub found : {S : Type 0} → HashMap (String Global) ℕ S → ℕ → List Variable → Name → Option ℕ
+abbrev pub found : BTreeMap (String Global) ℕ → ℕ → List Variable → Name → Option ℕ
 found places word left q = option_or (get_by_text places q) (option_map (λ slot. word + word_in (module_scope left) q) (slot_of (module_scope left) q))
 
 -- a name begins within the words of its scope

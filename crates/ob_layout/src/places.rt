@@ -1,7 +1,7 @@
 //! Where the variables of a module stand.
 
 ghost use Rattle.std.specs.Prelude.{◌≡◌, ◌<◌, ◌^◌, ◌+◌, IfOk, OnOk, Some, map, bytes_eq, if◌then◌else◌};
-ghost use Rattle.std.specs.HashMap.{get_by_text};
+ghost use Rattle.std.specs.BTreeMap.{get_by_text};
 ghost use Rattle.std.specs.Option.{option_or};
 ghost use Rattle.ob_check.specs.Program.{Name};
 ghost use Rattle.ob_check.specs.Scopes as Declared;
@@ -12,10 +12,10 @@ use crate::frames::words;
 use ob_check::program::Variable;
 use ob_interface::NoMemory;
 use std::alloc::Global;
-use std::collections::HashMap;
+use std::collections::BTreeMap;
 
-/// The first word of each variable, under its name.
-pub type Places = HashMap<String, u32>;
+/// The first word of each variable, under its name. Names are kept in order and not hashed: who writes a module chooses them.
+pub type Places = BTreeMap<String, u32>;
 
 /// Notes where the variable of a name begins, unless one before it has the name.
 fn note(alloc: Global, places: &mut Places, name: &str, word: u32) -> Result<(), NoMemory>
@@ -33,7 +33,7 @@ pub fn places(alloc: Global, variables: &[Variable]) -> Result<Places, NoMemory>
     requires { Declared.variable_words (map variable_of variables.now) < 2 ^ 32 }
     ensures { IfOk result (HasWords (map variable_of variables.now)) }
 {
-    let mut places = HashMap::new(alloc);
+    let mut places = BTreeMap::new(alloc);
     let mut word = 0;
     for variable in variables {
         note(alloc, &mut places, variable.name.as_str(), word)?;

@@ -1,6 +1,6 @@
 //! Records written.
 
-ghost use Rattle.std.specs.Prelude.{◌≡◌, ◌++◌, ◌<◌, IfOk, OnOk, length, map, slice_get, string_bytes};
+ghost use Rattle.std.specs.Prelude.{◌≡◌, ◌++◌, ◌<◌, IfOk, OnErr, OnOk, length, map, slice_get, string_bytes};
 ghost use Rattle.std.specs.List.{flat_map};
 ghost use Rattle.ob_check.specs.CheckedModule.{program_in};
 ghost use Rattle.ob_check.specs.Exports.{export_of, signatures};
@@ -8,6 +8,7 @@ ghost use Rattle.ob_interface.specs.View.{call_of};
 ghost use Rattle.ob_record.specs.Record.{AreOfExports, IsOfExport, record_of};
 ghost use Rattle.ob_record.specs.RecordText.{begin_text, event_text, id_text, ids_text, name_of, order_text, record_text, schedule_text, scalars_text, turns_text};
 ghost use Rattle.wf_history.specs.View.{event_of};
+ghost use Rattle.ob_text.specs.Appending.{GoesOn};
 
 use crate::record::Record;
 use crate::state::push_variables;
@@ -120,7 +121,8 @@ fn push_ids(text: &mut String, ids: &[CallId]) -> Result<(), AllocError>
 
 /// Appends the id of a call, as `0.2` for the second call of process 0.
 pub fn push_id(text: &mut String, id: CallId) -> Result<(), AllocError>
-    ensures { OnOk result (string_bytes text.new ≡ string_bytes text.old ++ id_text id) }
+    ensures ok { OnOk result (string_bytes text.new ≡ string_bytes text.old ++ id_text id) }
+    ensures left { OnErr result (GoesOn (string_bytes text.old) (string_bytes text.new)) }
 {
     push_number(text, id.process)?;
     text.push_str(".")?;

@@ -8,15 +8,15 @@ ghost use Rattle.ob_typing.specs.Types.{second, none_taken, and_all_taken, with_
 ghost use Rattle.std.specs.Prelude as Lists;
 ghost use Rattle.ob_typing.specs.Verdict.{Right};
 ghost use Rattle.ob_typing.specs.TypeVerdicts as Constants;
-ghost use Rattle.ob_checked.specs.Types.{type_in, type_by, types_of, fields_by, is_below, all_below, Extends};
+ghost use Rattle.ob_checked.specs.Types.{type_in, type_by, types_of, fields_in, fields_by, is_below, all_below, Extends};
 ghost use Rattle.ob_scopes.specs.Names.{types_in, env_of};
-ghost use Rattle.ob_scopes.specs.TakenNames.{taken_in};
+ghost use Rattle.ob_scopes.specs.TakenNames.{taken_by};
 ghost use Rattle.ob_rules.specs.Checking.{Fails, and_then};
 ghost use Rattle.ob_rules.specs.CheckingTypes.{length_at, small_at, list_before, fields_before, behind_fields};
 
 use crate::declarations::constant;
 use crate::expressions::first_place;
-use indexmap::IndexMap;
+use ob_checked::fields::Fields;
 use ob_checked::types::DataType;
 use ob_grammar::tree::{FieldList, Name, TypeExpr};
 use ob_interface::scalar::Scalar;
@@ -94,14 +94,14 @@ fn record_fields(
     alloc: Global,
     scopes: &mut Scopes,
     lists: &[FieldList],
-) -> Result<IndexMap<String, DataType>, CheckFault>
-    ensures typed { IfOk result (λ fs. Constants.denoted_fields (env_of scopes.old) (fields_in lists.now) none_taken ≡ Right (fields_by (types_of (types_in scopes.new)) fs.entries)) }
-    ensures known { IfOk result (λ fs. all_below (length (types_in scopes.new)) fs.entries ≡ true) }
+) -> Result<Fields, CheckFault>
+    ensures typed { IfOk result (λ fs. Constants.denoted_fields (env_of scopes.old) (fields_in lists.now) none_taken ≡ Right (fields_by (types_of (types_in scopes.new)) (fields_in fs))) }
+    ensures known { IfOk result (λ fs. all_below (length (types_in scopes.new)) (fields_in fs) ≡ true) }
     ensures names { OnOk result (env_of scopes.new ≡ env_of scopes.old) }
     ensures extends { OnOk result (Extends (types_in scopes.old) (types_in scopes.new)) }
     ensures fault { IfErr result (λ f. Fails f (Constants.denoted_fields (env_of scopes.old) (fields_in lists.now) none_taken)) }
 {
-    let mut fields = IndexMap::new(alloc);
+    let mut fields = Fields::new(alloc);
     for list in lists {
         add_list(alloc, scopes, list, &mut fields)?;
     }
@@ -114,21 +114,21 @@ fn add_list(
     alloc: Global,
     scopes: &mut Scopes,
     list: &FieldList,
-    fields: &mut IndexMap<String, DataType>,
+    fields: &mut Fields,
 ) -> Result<(), CheckFault>
-    requires known { all_below (length (types_in scopes.old)) fields.old.entries ≡ true }
+    requires known { all_below (length (types_in scopes.old)) (fields_in fields.old) ≡ true }
     ensures ok { OnOk result ((rest : trees.FieldLists) →
-        and_then (Constants.denoted_fields (env_of scopes.old) (list_before list.now rest) (taken_in fields.old)) (behind_fields (types_in scopes.old) fields.old.entries)
-        ≡ and_then (Constants.denoted_fields (env_of scopes.old) rest (taken_in fields.new)) (behind_fields (types_in scopes.new) fields.new.entries)) }
-    ensures known { OnOk result (all_below (length (types_in scopes.new)) fields.new.entries ≡ true) }
+        and_then (Constants.denoted_fields (env_of scopes.old) (list_before list.now rest) (taken_by fields.old)) (behind_fields (types_in scopes.old) (fields_in fields.old))
+        ≡ and_then (Constants.denoted_fields (env_of scopes.old) rest (taken_by fields.new)) (behind_fields (types_in scopes.new) (fields_in fields.new))) }
+    ensures known { OnOk result (all_below (length (types_in scopes.new)) (fields_in fields.new) ≡ true) }
     ensures names { OnOk result (env_of scopes.new ≡ env_of scopes.old) }
     ensures extends { OnOk result (Extends (types_in scopes.old) (types_in scopes.new)) }
-    ensures fault { IfErr result (λ f. (rest : trees.FieldLists) → Fails f (Constants.denoted_fields (env_of scopes.old) (list_before list.now rest) (taken_in fields.old))) }
+    ensures fault { IfErr result (λ f. (rest : trees.FieldLists) → Fails f (Constants.denoted_fields (env_of scopes.old) (list_before list.now rest) (taken_by fields.old))) }
 {
     match list {
         FieldList::Empty => Ok(()),
         FieldList::Fields { names, of_type } => {
-            if let Some(name) = second(alloc, fields, names)? {
+            if let Some(name) = second(alloc, fields.positions(), names)? {
                 return Err(broken(Rule::DeclaredTwice, name.place));
             }
             let data_type = denoted(alloc, scopes, of_type)?;
@@ -141,18 +141,18 @@ fn add_list(
 fn add_fields(
     names: &[Name],
     data_type: DataType,
-    fields: &mut IndexMap<String, DataType>,
+    fields: &mut Fields,
 ) -> Result<(), CheckFault>
-    requires new { second (taken_in fields.old) (map name_of names.now) ≡ None }
+    requires new { second (taken_by fields.old) (map name_of names.now) ≡ None }
     ensures fields { OnOk result ((types : List Programs.DataType) (rest : Programs.Fields) →
-        fields_before types fields.new.entries rest ≡ fields_before types fields.old.entries (with_fields (map name_of names.now) (type_by types data_type) rest)) }
-    ensures taken { OnOk result (taken_in fields.new ≡ and_all_taken (taken_in fields.old) (map name_of names.now)) }
-    ensures known { OnOk result ((n : ℕ) → all_below n fields.old.entries ≡ true → is_below n data_type ≡ true → all_below n fields.new.entries ≡ true) }
+        fields_before types (fields_in fields.new) rest ≡ fields_before types (fields_in fields.old) (with_fields (map name_of names.now) (type_by types data_type) rest)) }
+    ensures taken { OnOk result (taken_by fields.new ≡ and_all_taken (taken_by fields.old) (map name_of names.now)) }
+    ensures known { OnOk result ((n : ℕ) → all_below n (fields_in fields.old) ≡ true → is_below n data_type ≡ true → all_below n (fields_in fields.new) ≡ true) }
     ensures fault { IfErr result (λ f. f ≡ CheckFault.NoMemory) }
 {
     for name in names {
         let text = name.text.clone()?;
-        fields.insert(text, data_type)?;
+        fields.push(text, data_type)?;
     }
     Ok(())
 }
@@ -211,14 +211,14 @@ fn array_of(
 fn record_of(
     scopes: &mut Scopes,
     place: usize,
-    fields: IndexMap<String, DataType>,
+    fields: Fields,
 ) -> Result<DataType, CheckFault>
-    requires known { all_below (length (types_in scopes.old)) fields.entries ≡ true }
-    ensures typed { IfOk result (λ t. small_at place (Programs.Record place (fields_by (types_of (types_in scopes.old)) fields.entries)) ≡ Right (type_in (types_in scopes.new) t)) }
+    requires known { all_below (length (types_in scopes.old)) (fields_in fields) ≡ true }
+    ensures typed { IfOk result (λ t. small_at place (Programs.Record place (fields_by (types_of (types_in scopes.old)) (fields_in fields))) ≡ Right (type_in (types_in scopes.new) t)) }
     ensures known { IfOk result (λ t. is_below (length (types_in scopes.new)) t ≡ true) }
     ensures names { OnOk result (env_of scopes.new ≡ env_of scopes.old) }
     ensures extends { OnOk result (Extends (types_in scopes.old) (types_in scopes.new)) }
-    ensures fault { IfErr result (λ f. Fails f (small_at place (Programs.Record place (fields_by (types_of (types_in scopes.old)) fields.entries)))) }
+    ensures fault { IfErr result (λ f. Fails f (small_at place (Programs.Record place (fields_by (types_of (types_in scopes.old)) (fields_in fields))))) }
 {
     match scopes.record(place, fields)? {
         Some(data_type) => Ok(data_type),

@@ -1,11 +1,13 @@
 -- Names that are declared one after another.
-use Rattle.std.proofs.Common.{◌≡◌, ℕ, Bool, true, false, cond, List, [], ◌∷◌, Option, Some, None, option_map, is_some, String, refl, ap, ◌∙◌}
-use Rattle.std.specs.Prelude.{◌&&◌, bytes_eq, string_bytes, if◌then◌else◌}
+use Rattle.std.proofs.Common.{◌≡◌, ℕ, Bool, true, false, cond, List, [], ◌∷◌, Option, Some, None, option_map, is_some, String, Ordering, Less, Equal, Greater, refl, ap, ◌∙◌}
+use Rattle.std.specs.Prelude.{◌&&◌, bytes_eq, string_bytes}
 use Rattle.std.specs.declared.alloc.Global.{Global}
-use Rattle.std.specs.String.{string_eq}
+use Rattle.std.specs.String.{string_cmp}
 use Rattle.std.specs.Map.{lookup}
-use Rattle.std.proofs.lemmas.Map.Text.{hash_map_updates_text}
-use Rattle.indexmap.specs.IndexMap.{IndexMap, UpdatesBy, IsEmpty, get_by_text, insert_entry}
+use Rattle.std.specs.BTreeMap.{BTreeMap, UpdatesBy, IsEmpty, get_by_text, insert_entry, is_at}
+use Rattle.std.specs.Cmp.Lexicographic.{slice_cmp}
+use Rattle.std.specs.Ordering.{nat_cmp, match_ordering}
+use Rattle.std.proofs.lemmas.Map.Text.{btree_map_updates_text}
 use Rattle.ob_grammar.specs.Tree.{ConstDecl}
 use Rattle.ob_typing.specs.declared.rule.Rule.TheVariants.{DeclaredTwice}
 use Rattle.ob_typing.specs.Program.{Name}
@@ -19,9 +21,9 @@ use Rattle.ob_checked.specs.Types.{Entry}
 use Rattle.ob_scopes.specs.declared.scopes.Object.{Object}
 use Rattle.ob_scopes.specs.Objects.{object_of, scope_of, known_object, known_names}
 
-module _ {S : Type 0} (types : List Entry) where
-  pub scope_of-updated : (m n : IndexMap (String Global) Object S) (key name : Name) (o : Object) → key ≡ name →
-      UpdatesBy string_eq (λ k. bytes_eq key (string_bytes k)) m n (Some o) → scope_of types n ≡ with_name (scope_of types m) name (object_of types o)
+module _ (types : List Entry) where
+  pub scope_of-updated : (m n : BTreeMap (String Global) Object) (key name : Name) (o : Object) → key ≡ name →
+      UpdatesBy string_cmp (λ k. slice_cmp nat_cmp key (string_bytes k)) m n (Some o) → scope_of types n ≡ with_name (scope_of types m) name (object_of types o)
   scope_of-updated m n key name o is h = (λ i q. at q i) ∙ ap (λ k. with_name (scope_of types m) k (object_of types o)) is
     where
       by : (b : Bool) (old : Option Object) → option_map (object_of types) (cond b (Some o) old) ≡ cond b (Some (object_of types o)) (option_map (object_of types) old)
@@ -29,10 +31,14 @@ module _ {S : Type 0} (types : List Entry) where
       by false old = refl
 
       at : (q : Name) → scope_of types n q ≡ with_name (scope_of types m) key (object_of types o) q
-      at q = ap (option_map (object_of types)) (hash_map_updates_text key m n (Some o) h q) ∙ by (bytes_eq key q) (get_by_text m q)
+      at q = ap (option_map (object_of types)) (btree_map_updates_text key m n (Some o) h q) ∙ by (bytes_eq key q) (get_by_text m q)
 
-  pub scope_of-empty : (m : IndexMap (String Global) Object S) → IsEmpty m → scope_of types m ≡ no_names
-  scope_of-empty m e = ap (λ es q. option_map (object_of types) (lookup (λ k. bytes_eq q (string_bytes k)) es)) e
+  -- the same entries declare the same
+  pub scope_of-unchanged : (m n : BTreeMap (String Global) Object) → n.entries ≡ m.entries → scope_of types n ≡ scope_of types m
+  scope_of-unchanged m n e = ap (λ es q. option_map (object_of types) (lookup (is_at (λ k. slice_cmp nat_cmp q (string_bytes k))) es)) e
+
+  pub scope_of-empty : (m : BTreeMap (String Global) Object) → IsEmpty m → scope_of types m ≡ no_names
+  scope_of-empty m e = ap (λ es q. option_map (object_of types) (lookup (is_at (λ k. slice_cmp nat_cmp q (string_bytes k))) es)) e
 
 pub is_some-mapped : {X Y : Type 0} (f : X → Y) (x : Option X) → is_some (option_map f x) ≡ is_some x
 is_some-mapped f None = refl
@@ -51,14 +57,15 @@ and_right true b h = h
 and_right false b h = absurd cc
 
 -- a name more has its types in the table too
-pub known-inserted : {K : Type 0} (eq : K → K → Bool) (n : ℕ) (es : List (K × Object)) (k : K) (o : Object) →
-    known_names n es ≡ true → known_object n o ≡ true → known_names n (insert_entry eq es k o) ≡ true
-known-inserted eq n [] k o h j = and_both (known_object n o) true j refl
-known-inserted {K = K} eq n (e ∷ es) k o h j = at (eq k e.0) (known-inserted eq n es k o (and_right (known_object n e.1) (known_names n es) h) j)
+pub known-inserted : {K : Type 0} (cmp : K → K → Ordering) (n : ℕ) (es : List (K × Object)) (k : K) (o : Object) →
+    known_names n es ≡ true → known_object n o ≡ true → known_names n (insert_entry cmp es k o) ≡ true
+known-inserted cmp n [] k o h j = and_both (known_object n o) true j refl
+known-inserted {K = K} cmp n (e ∷ es) k o h j = at (cmp k e.0) (known-inserted cmp n es k o (and_right (known_object n e.1) (known_names n es) h) j)
   where
-    at : (b : Bool) → known_names n (insert_entry eq es k o) ≡ true → known_names n (if b then (e.0, o) ∷ es else e ∷ insert_entry eq es k o) ≡ true
-    at true rest = and_both (known_object n o) (known_names n es) j (and_right (known_object n e.1) (known_names n es) h)
-    at false rest = and_both (known_object n e.1) (known_names n (insert_entry eq es k o)) (and_left (known_object n e.1) (known_names n es) h) rest
+    at : (r : Ordering) → known_names n (insert_entry cmp es k o) ≡ true → known_names n (match_ordering r ((k, o) ∷ e ∷ es) ((e.0, o) ∷ es) (e ∷ insert_entry cmp es k o)) ≡ true
+    at Less rest = and_both (known_object n o) (known_names n (e ∷ es)) j h
+    at Equal rest = and_both (known_object n o) (known_names n es) j (and_right (known_object n e.1) (known_names n es) h)
+    at Greater rest = and_both (known_object n e.1) (known_names n (insert_entry cmp es k o)) (and_left (known_object n e.1) (known_names n es) h) rest
 
 -- a constant in front of others
 module _ (env : Environment) (x : ConstDecl) (rest : List ConstDecl) where

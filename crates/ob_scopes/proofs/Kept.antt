@@ -1,11 +1,13 @@
 -- What names stand for stays, where the table of types grows.
 use Rattle.std.proofs.Common.{◌≡◌, ℕ, ◌≤◌, ◌<◌, arith, Bool, true, false, List, [], ◌∷◌, length, get_or, Some, option_map, String, refl, sym, ap, ◌∙◌, zero, suc, ◌+◌, ◌-◌, ◌++◌, map}
 use Rattle.std.specs.List.{remove}
-use Rattle.std.specs.Prelude.{◌&&◌, bytes_eq, string_bytes, if◌then◌else◌}
+use Rattle.std.specs.Prelude.{◌&&◌, string_bytes, if◌then◌else◌}
 use Rattle.std.specs.declared.alloc.Global.{Global}
 use Rattle.std.specs.Map.{lookup}
 use Rattle.std.proofs.lemmas.Bool.{ltb-true, lt-ltb}
-use Rattle.indexmap.specs.IndexMap.{IndexMap, get_by_text}
+use Rattle.std.specs.BTreeMap.{BTreeMap, get_by_text, is_at}
+use Rattle.std.specs.Cmp.Lexicographic.{slice_cmp}
+use Rattle.std.specs.Ordering.{nat_cmp}
 use Rattle.ob_typing.specs.Program as Programs
 use Rattle.ob_typing.specs.Scopes as Declared
 use Rattle.ob_typing.specs.Scopes.{Environment}
@@ -69,7 +71,7 @@ names_more n m h (e ∷ es) b =
     and_both (known_object m e.1) (known_names m es) (object_more n m h e.1 (and_left (known_object n e.1) (known_names n es) b))
     (names_more n m h es (and_right (known_object n e.1) (known_names n es) b))
 
-pub scopes_more : {K S : Type 0} (n m : ℕ) → n ≤ m → (ss : List (IndexMap K Object S)) → known_scopes n ss ≡ true → known_scopes m ss ≡ true
+pub scopes_more : {K : Type 0} (n m : ℕ) → n ≤ m → (ss : List (BTreeMap K Object)) → known_scopes n ss ≡ true → known_scopes m ss ≡ true
 scopes_more n m h [] b = refl
 scopes_more n m h (s ∷ ss) b =
     and_both (known_names m s.entries) (known_scopes m ss) (names_more n m h s.entries (and_left (known_names n s.entries) (known_scopes n ss) b))
@@ -103,32 +105,31 @@ module _ (es fs : List Entry) (h : Extends es fs) where
       at true first rest = ap Some first
       at false first rest = rest
 
-  module _ {S : Type 0} where
-    pub scope_kept : (s : IndexMap (String Global) Object S) → known_names (length es) s.entries ≡ true → scope_of fs s ≡ scope_of es s
-    scope_kept s b = λ i q. looked_kept (λ k. bytes_eq q (string_bytes k)) s.entries b i
+  pub scope_kept : (s : BTreeMap (String Global) Object) → known_names (length es) s.entries ≡ true → scope_of fs s ≡ scope_of es s
+  scope_kept s b = λ i q. looked_kept (is_at (λ k. slice_cmp nat_cmp q (string_bytes k))) s.entries b i
 
-    pub around_kept : (ss : List (IndexMap (String Global) Object S)) → known_scopes (length es) ss ≡ true → (outer : Environment) →
-        env_behind fs ss outer ≡ env_behind es ss outer
-    around_kept [] b outer = refl
-    around_kept (s ∷ ss) b outer =
-        ap (λ x. env_behind fs ss (x ∷ outer)) (scope_kept s (and_left (known_names (length es) s.entries) (known_scopes (length es) ss) b))
-        ∙ around_kept ss (and_right (known_names (length es) s.entries) (known_scopes (length es) ss) b) (scope_of es s ∷ outer)
+  pub around_kept : (ss : List (BTreeMap (String Global) Object)) → known_scopes (length es) ss ≡ true → (outer : Environment) →
+      env_behind fs ss outer ≡ env_behind es ss outer
+  around_kept [] b outer = refl
+  around_kept (s ∷ ss) b outer =
+      ap (λ x. env_behind fs ss (x ∷ outer)) (scope_kept s (and_left (known_names (length es) s.entries) (known_scopes (length es) ss) b))
+      ∙ around_kept ss (and_right (known_names (length es) s.entries) (known_scopes (length es) ss) b) (scope_of es s ∷ outer)
 
-    pub env_kept : (own : IndexMap (String Global) Object S) (ss : List (IndexMap (String Global) Object S)) →
-        (known_names (length es) own.entries && known_scopes (length es) ss) ≡ true →
-        scope_of fs own ∷ env_behind fs ss [] ≡ scope_of es own ∷ env_behind es ss []
-    env_kept own ss b =
-        let own_kept = scope_kept own (and_left (known_names (length es) own.entries) (known_scopes (length es) ss) b) in
-        let rest = around_kept ss (and_right (known_names (length es) own.entries) (known_scopes (length es) ss) b) [] in
-        ap (λ (x : Declared.Scope). x ∷ env_behind fs ss []) own_kept ∙ ap (λ (env : Environment). scope_of es own ∷ env) rest
+  pub env_kept : (own : BTreeMap (String Global) Object) (ss : List (BTreeMap (String Global) Object)) →
+      (known_names (length es) own.entries && known_scopes (length es) ss) ≡ true →
+      scope_of fs own ∷ env_behind fs ss [] ≡ scope_of es own ∷ env_behind es ss []
+  env_kept own ss b =
+      let own_kept = scope_kept own (and_left (known_names (length es) own.entries) (known_scopes (length es) ss) b) in
+      let rest = around_kept ss (and_right (known_names (length es) own.entries) (known_scopes (length es) ss) b) [] in
+      ap (λ (x : Declared.Scope). x ∷ env_behind fs ss []) own_kept ∙ ap (λ (env : Environment). scope_of es own ∷ env) rest
 
-    pub invariant_kept : (own : IndexMap (String Global) Object S) (ss : List (IndexMap (String Global) Object S)) →
-        (known_names (length es) own.entries && known_scopes (length es) ss) ≡ true →
-        (known_names (length fs) own.entries && known_scopes (length fs) ss) ≡ true
-    invariant_kept own ss b =
-        and_both (known_names (length fs) own.entries) (known_scopes (length fs) ss)
-        (names_more (length es) (length fs) h.longer own.entries (and_left (known_names (length es) own.entries) (known_scopes (length es) ss) b))
-        (scopes_more (length es) (length fs) h.longer ss (and_right (known_names (length es) own.entries) (known_scopes (length es) ss) b))
+  pub invariant_kept : (own : BTreeMap (String Global) Object) (ss : List (BTreeMap (String Global) Object)) →
+      (known_names (length es) own.entries && known_scopes (length es) ss) ≡ true →
+      (known_names (length fs) own.entries && known_scopes (length fs) ss) ≡ true
+  invariant_kept own ss b =
+      and_both (known_names (length fs) own.entries) (known_scopes (length fs) ss)
+      (names_more (length es) (length fs) h.longer own.entries (and_left (known_names (length es) own.entries) (known_scopes (length es) ss) b))
+      (scopes_more (length es) (length fs) h.longer ss (and_right (known_names (length es) own.entries) (known_scopes (length es) ss) b))
 
 -- what is found in known names is known
 pub known_looked : {K : Type 0} (n : ℕ) (test : K → Bool) (xs : List (K × Object)) (o : Object) → known_names n xs ≡ true →
@@ -140,7 +141,7 @@ known_looked {K = K} n test (x ∷ xs) o b h = at (test x.0) (known_looked n tes
     at true rest h = let is : o ≡ x.1 = cc in ap (known_object n) is ∙ and_left (known_object n x.1) (known_names n xs) b
     at false rest h = rest h
 
-pub known_scope_at : {K S : Type 0} (n k : ℕ) (ss : List (IndexMap K Object S)) (s : IndexMap K Object S) → k < length ss → s ≡ get_or ss k s →
+pub known_scope_at : {K : Type 0} (n k : ℕ) (ss : List (BTreeMap K Object)) (s : BTreeMap K Object) → k < length ss → s ≡ get_or ss k s →
     known_scopes n ss ≡ true → known_names n s.entries ≡ true
 known_scope_at n k [] s l is b = absurd (omega (arith, l))
 known_scope_at n zero (x ∷ ss) s l is b = ap (λ y. known_names n y.entries) is ∙ and_left (known_names n x.entries) (known_scopes n ss) b
@@ -149,23 +150,23 @@ known_scope_at n (suc k) (x ∷ ss) s l is b =
     known_scope_at n k ss s less is (and_right (known_names n x.entries) (known_scopes n ss) b)
 
 -- one scope more, and one less
-pub scope_pushed : {K S : Type 0} (n : ℕ) (ss : List (IndexMap K Object S)) (s : IndexMap K Object S) → known_scopes n ss ≡ true →
+pub scope_pushed : {K : Type 0} (n : ℕ) (ss : List (BTreeMap K Object)) (s : BTreeMap K Object) → known_scopes n ss ≡ true →
     known_names n s.entries ≡ true → known_scopes n (ss ++ s ∷ []) ≡ true
 scope_pushed n [] s b k = and_both (known_names n s.entries) true k refl
 scope_pushed n (x ∷ ss) s b k =
     and_both (known_names n x.entries) (known_scopes n (ss ++ s ∷ [])) (and_left (known_names n x.entries) (known_scopes n ss) b)
     (scope_pushed n ss s (and_right (known_names n x.entries) (known_scopes n ss) b) k)
 
-pub scope_popped : {K S : Type 0} (n : ℕ) (ss : List (IndexMap K Object S)) (s : IndexMap K Object S) → known_scopes n (ss ++ s ∷ []) ≡ true →
+pub scope_popped : {K : Type 0} (n : ℕ) (ss : List (BTreeMap K Object)) (s : BTreeMap K Object) → known_scopes n (ss ++ s ∷ []) ≡ true →
     (known_scopes n ss ≡ true) × (known_names n s.entries ≡ true)
 scope_popped n [] s b = (refl, and_left (known_names n s.entries) true b)
 scope_popped n (x ∷ ss) s b =
     let rest = scope_popped n ss s (and_right (known_names n x.entries) (known_scopes n (ss ++ s ∷ [])) b) in
     (and_both (known_names n x.entries) (known_scopes n ss) (and_left (known_names n x.entries) (known_scopes n (ss ++ s ∷ [])) b) rest.0, rest.1)
 
-module _ {K S : Type 0} (n : ℕ) (own scope : IndexMap K Object S) (ss : List (IndexMap K Object S)) where
+module _ {K : Type 0} (n : ℕ) (own scope : BTreeMap K Object) (ss : List (BTreeMap K Object)) where
   pub entered : (known_names n own.entries && known_scopes n ss) ≡ true → known_names n scope.entries ≡ true →
-      (b : Bool) (ts : List (IndexMap K Object S)) (outer inner : IndexMap K Object S) → outer ≡ own → inner ≡ scope →
+      (b : Bool) (ts : List (BTreeMap K Object)) (outer inner : BTreeMap K Object) → outer ≡ own → inner ≡ scope →
       ts ≡ (if b then ss ++ outer ∷ [] else ss) → (known_names n inner.entries && known_scopes n ts) ≡ true
   entered known new b ts outer inner is here items =
       let around : (c : Bool) → known_scopes n (if c then ss ++ own ∷ [] else ss) ≡ true = λ c. at c in
@@ -191,11 +192,11 @@ last_removed (y ∷ xs) (suc n) x h is =
     ap (λ zs. y ∷ zs) (last_removed xs n x less is)
 
 -- what a name is declared as is known
-module _ {S : Type 0} (n : ℕ) (name : List ℕ) (o : Object) where
-  pub known_own : (s : IndexMap (String Global) Object S) → known_names n s.entries ≡ true → Some o ≡ get_by_text s name → known_object n o ≡ true
-  known_own s b h = known_looked n (λ k. bytes_eq name (string_bytes k)) s.entries o b h
+module _ (n : ℕ) (name : List ℕ) (o : Object) where
+  pub known_own : (s : BTreeMap (String Global) Object) → known_names n s.entries ≡ true → Some o ≡ get_by_text s name → known_object n o ≡ true
+  known_own s b h = known_looked n (is_at (λ k. slice_cmp nat_cmp name (string_bytes k))) s.entries o b h
 
-  pub known_around : (ss : List (IndexMap (String Global) Object S)) (l : ℕ) (s : IndexMap (String Global) Object S) → 0 < l → l ≤ length ss →
+  pub known_around : (ss : List (BTreeMap (String Global) Object)) (l : ℕ) (s : BTreeMap (String Global) Object) → 0 < l → l ≤ length ss →
       s ≡ get_or ss (l - 1) s → known_scopes n ss ≡ true → Some o ≡ get_by_text s name → known_object n o ≡ true
   known_around ss l s some within is b h =
       let below : l - 1 < length ss = omega (arith, some, within) in

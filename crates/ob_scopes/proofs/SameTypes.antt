@@ -11,7 +11,7 @@ use Rattle.ob_typing.specs.Scopes.{same_type, same_fields, depth, depth_of_field
 use Rattle.ob_checked.specs.declared.types.DataType as Numbers
 use Rattle.ob_checked.specs.declared.types.Structure.{Structure}
 use Rattle.ob_checked.specs.declared.types.Structure.TheVariants as Structures
-use Rattle.ob_checked.specs.Types.{Entry, type_by, type_in, fields_by}
+use Rattle.ob_checked.specs.Types.{Entry, type_by, type_in, fields_in, fields_by}
 use Rattle.ob_scopes.proofs.Lists.{next_left}
 
 abbrev Numbered : Type 0
@@ -44,7 +44,7 @@ mutual
 -- what stands within is less deep
 abbrev pub inner_depth : List DataType → Structure → ℕ
 inner_depth ts (Structures.Array length element) = depth (type_by ts element)
-inner_depth ts (Structures.Record fields) = depth_of_fields (fields_by ts fields.entries)
+inner_depth ts (Structures.Record fields) = depth_of_fields (fields_by ts (fields_in fields))
 
 pub field_depth : (ts : List DataType) (fs : List (String Global × Numbered)) (i : ℕ) (f : String Global × Numbered) → slice_get fs i ≡ Some f →
     depth (type_by ts f.1) ≤ depth_of_fields (fields_by ts fs)

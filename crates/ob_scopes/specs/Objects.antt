@@ -2,7 +2,7 @@
 use Rattle.std.specs.Prelude.{◌≡◌, ℕ, true, ◌&&◌, List, [], ◌∷◌, map, option_map, String}
 use Rattle.std.specs.Prelude as Prelude
 use Rattle.std.specs.declared.alloc.Global.{Global}
-use Rattle.indexmap.specs.IndexMap.{IndexMap, get_by_text}
+use Rattle.std.specs.BTreeMap.{BTreeMap, get_by_text}
 use Rattle.ob_typing.specs.Scopes as Declared
 use Rattle.ob_typing.specs.Scopes.{Environment, Scope}
 use Rattle.ob_checked.specs.declared.program.Parameter.{Parameter}
@@ -18,14 +18,13 @@ object_of types (ModuleVariable position t) = Declared.ModuleVariable position (
 object_of types (LocalVariable level position t) = Declared.LocalVariable level position (type_in types t)
 object_of types (Procedure number parameters) = Declared.ProcedureName number (map (parameter_of types) parameters.items)
 
-module _ {S : Type 0} where
-  abbrev pub scope_of : List Entry → IndexMap (String Global) Object S → Scope
-  scope_of types names name = option_map (object_of types) (get_by_text names name)
+abbrev pub scope_of : List Entry → BTreeMap (String Global) Object → Scope
+scope_of types names name = option_map (object_of types) (get_by_text names name)
 
-  -- scopes from the outermost to the innermost, within others
-  abbrev pub env_behind : List Entry → List (IndexMap (String Global) Object S) → Environment → Environment
-  env_behind types [] outer = outer
-  env_behind types (s ∷ ss) outer = env_behind types ss (scope_of types s ∷ outer)
+-- scopes from the outermost to the innermost, within others
+abbrev pub env_behind : List Entry → List (BTreeMap (String Global) Object) → Environment → Environment
+env_behind types [] outer = outer
+env_behind types (s ∷ ss) outer = env_behind types ss (scope_of types s ∷ outer)
 
 -- the types of an object are in a table of so many entries
 
@@ -44,6 +43,6 @@ abbrev pub known_names : {K : Type 0} → ℕ → List (K × Object) → Prelude
 known_names n [] = true
 known_names n (e ∷ es) = known_object n e.1 && known_names n es
 
-abbrev pub known_scopes : {K S : Type 0} → ℕ → List (IndexMap K Object S) → Prelude.Bool
+abbrev pub known_scopes : {K : Type 0} → ℕ → List (BTreeMap K Object) → Prelude.Bool
 known_scopes n [] = true
 known_scopes n (s ∷ ss) = known_names n s.entries && known_scopes n ss

@@ -3,20 +3,17 @@
 ghost use Rattle.std.specs.Prelude.{◌≡◌, List, option_map};
 ghost use Rattle.ob_typing.specs.Program as Programs;
 ghost use Rattle.ob_typing.specs.Scopes as Declared;
-ghost use Rattle.ob_checked.specs.Types.{type_by, type_in, types_of, fields_by};
+ghost use Rattle.ob_checked.specs.Types.{type_by, type_in, types_of, fields_in, fields_by};
 ghost use Rattle.ob_checked.specs.View.{table_of};
 ghost use Rattle.ob_scopes.specs.SimpleTypes.{simple_type};
 
-use indexmap::IndexMap;
+use ob_checked::fields::Fields;
 use ob_checked::types::{DataType, Structure, Types};
 use ob_interface::scalar::ScalarType;
 
 /// The fields of a record.
-pub fn fields_of<'t>(
-    types: &'t Types,
-    data_type: DataType,
-) -> Option<&'t IndexMap<String, DataType>>
-    ensures { option_map (λ f. fields_by (types_of (table_of types.now)) f.now.entries) result ≡ Declared.fields_of (type_in (table_of types.now) data_type) }
+pub fn fields_of(types: &Types, data_type: DataType) -> Option<&Fields>
+    ensures { option_map (λ f. fields_by (types_of (table_of types.now)) (fields_in f.now)) result ≡ Declared.fields_of (type_in (table_of types.now) data_type) }
 {
     let DataType::Structured(number) = data_type else {
         return None;
@@ -47,13 +44,10 @@ pub fn elements_of(types: &Types, data_type: DataType) -> Option<(usize, DataTyp
 }
 
 /// The position and the type of the field of a name.
-pub fn field_named(fields: &IndexMap<String, DataType>, name: &str) -> Option<(usize, DataType)>
-    ensures { (types : List Programs.DataType) → option_map (λ f. (f.0, type_by types f.1)) result ≡ Declared.field_from 0 (fields_by types fields.now.entries) name.now }
+pub fn field_named(fields: &Fields, name: &str) -> Option<(usize, DataType)>
+    ensures { (types : List Programs.DataType) → option_map (λ f. (f.0, type_by types f.1)) result ≡ Declared.field_from 0 (fields_by types (fields_in fields.now)) name.now }
 {
-    match fields.get_full(name) {
-        Some((position, _, data_type)) => Some((position, *data_type)),
-        None => None,
-    }
+    fields.find(name)
 }
 
 /// The scalar type that a type is, where it is one.

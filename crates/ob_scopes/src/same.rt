@@ -6,7 +6,6 @@ ghost use Rattle.ob_checked.specs.Types.{type_in, types_of, structure_by, fields
 ghost use Rattle.ob_checked.specs.View.{table_of};
 ghost use Rattle.ob_scopes.specs.Shapes.{type_of_shape};
 
-use indexmap::IndexMap;
 use ob_checked::types::{DataType, Structure, Structured, Types};
 use ob_interface::scalar::ScalarType;
 use ob_scalars::written::same_scalar_type;
@@ -82,7 +81,7 @@ fn same_structure(types: &Types, left: &Structure, right: &Structure) -> bool
             same_type(types, *element, *of_other)
         }
         (Structure::Record { fields }, Structure::Record { fields: others }) => {
-            same_fields(types, fields, others)
+            same_fields(types, fields.as_slice(), others.as_slice())
         }
         _ => false,
     }
@@ -92,25 +91,21 @@ fn same_structure(types: &Types, left: &Structure, right: &Structure) -> bool
 #[cycle(same_type)]
 fn same_fields(
     types: &Types,
-    left: &IndexMap<String, DataType>,
-    right: &IndexMap<String, DataType>,
+    left: &[(String, DataType)],
+    right: &[(String, DataType)],
 ) -> bool
-    ensures { result ≡ same_fields (fields_by (types_of (table_of types.now)) left.now.entries) (fields_by (types_of (table_of types.now)) right.now.entries) }
+    ensures { result ≡ same_fields (fields_by (types_of (table_of types.now)) left.now) (fields_by (types_of (table_of types.now)) right.now) }
 {
     if left.len() != right.len() {
         return false;
     }
     for position in 0..left.len() {
-        let Some((name, data_type)) = left.get_index(position) else {
-            return false;
-        };
-        let Some((other, of_other)) = right.get_index(position) else {
-            return false;
-        };
-        if name != other {
+        let field = &left[position];
+        let other = &right[position];
+        if field.0 != other.0 {
             return false;
         }
-        if !same_type(types, *data_type, *of_other) {
+        if !same_type(types, field.1, other.1) {
             return false;
         }
     }

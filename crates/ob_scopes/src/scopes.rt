@@ -1,6 +1,6 @@
 //! The names that are declared so far, and the types that they speak of.
 
-ghost use Rattle.std.specs.Prelude.{◌≡◌, ◌&&◌, true, ℕ, length, option_map, List, [], OnOk, IfOk, IfErr, IfSome};
+ghost use Rattle.std.specs.Prelude.{◌≡◌, ◌&&◌, true, ℕ, length, option_map, List, [], OnOk, OnErr, IfOk, IfErr, IfSome};
 ghost use Rattle.ob_typing.specs.Scopes.{found, with_name, outermost};
 ghost use Rattle.ob_checked.specs.Types.{Entry};
 ghost use Rattle.ob_checked.specs.View.{table_of};
@@ -8,13 +8,14 @@ ghost use Rattle.ob_scopes.specs.Objects.{object_of, scope_of, env_behind, known
 
 use crate::fault::CheckFault;
 use crate::taken::second;
-use indexmap::IndexMap;
+use ob_checked::fields::Fields;
 use ob_checked::program::{Owner, Parameter};
 use ob_checked::types::{DataType, Types};
 use ob_grammar::tree::Name;
 use ob_interface::scalar::{Scalar, ScalarType};
 use ob_scalars::operators::type_of;
 use std::alloc::Global;
+use std::collections::BTreeMap;
 use std::mem::replace;
 
 /// The number of scopes in the module's declarations: its own, in the outermost one.
@@ -41,8 +42,8 @@ pub enum Object {
     },
 }
 
-/// What each name of a scope is declared as, in the order of declaration.
-pub type Scope = IndexMap<String, Object>;
+/// What each name of a scope is declared as. Names are kept in order and not hashed: who writes a module chooses them.
+pub type Scope = BTreeMap<String, Object>;
 
 /// The names that are declared so far, and the types that they speak of; those of inner scopes hide those of outer ones.
 #[derive(Drop)]
@@ -106,6 +107,7 @@ fn add(alloc: Global, scope: &mut Scope, name: &str, object: Object) -> Result<(
     ensures ok { OnOk result ((types : List Entry) → scope_of types scope.new ≡ with_name (scope_of types scope.old) name.now (object_of types object)) }
     ensures known { (n : ℕ) → known_names n scope.old.entries ≡ true → known_object n object ≡ true → known_names n scope.new.entries ≡ true }
     ensures fault { IfErr result (λ f. f ≡ CheckFault.NoMemory) }
+    ensures unchanged { OnErr result ((types : List Entry) → scope_of types scope.new ≡ scope_of types scope.old) }
 {
     let key = String::from_str(alloc, name)?;
     scope.insert(key, object)?;
@@ -118,7 +120,7 @@ fn outermost_scope(alloc: Global) -> Result<Scope, CheckFault>
     ensures known { IfOk result (λ s. (n : ℕ) → known_names n s.entries ≡ true) }
     ensures fault { IfErr result (λ f. f ≡ CheckFault.NoMemory) }
 {
-    let mut names = IndexMap::new(alloc);
+    let mut names = BTreeMap::new(alloc);
     let boolean = DataType::Simple(ScalarType::Boolean);
     let integer = DataType::Simple(ScalarType::Integer);
     add(
@@ -162,7 +164,7 @@ impl Scopes {
     ghost use Rattle.ob_typing.specs.Types.{second};
     ghost use Rattle.ob_typing.specs.Scopes as Declared;
     ghost use Rattle.ob_typing.specs.Scopes.{found, level, meant, is_declared, declared, opening_names, variable_in};
-    ghost use Rattle.ob_checked.specs.Types.{type_in, types_of, fields_by, is_below, all_below, if_small, Extends};
+    ghost use Rattle.ob_checked.specs.Types.{type_in, types_of, fields_in, fields_by, is_below, all_below, if_small, Extends};
     ghost use Rattle.ob_checked.specs.View.{table_of, parameter_of};
     ghost use Rattle.ob_scopes.specs.Objects.{object_of, scope_of, known_object, known_names, known_parameters};
     ghost use Rattle.ob_scopes.specs.Names.{types_in, env_of, meant_of, known_meant};
@@ -179,7 +181,7 @@ impl Scopes {
         Ok(Scopes {
             types: Types::new(alloc),
             around,
-            own: IndexMap::new(alloc),
+            own: BTreeMap::new(alloc),
         })
     }
 
@@ -267,6 +269,7 @@ impl Scopes {
         ensures ok { OnOk result (env_of self.new ≡ declared (env_of self.old) name.now (Declared.Constant value)) }
         ensures types { types_in self.new ≡ types_in self.old }
         ensures fault { IfErr result (λ f. f ≡ CheckFault.NoMemory) }
+        ensures unchanged { OnErr result (env_of self.new ≡ env_of self.old) }
     {
         add(alloc, &mut self.own, name, Object::Constant(value))
     }
@@ -296,6 +299,7 @@ impl Scopes {
         ensures extends { Extends (types_in self.old) (types_in self.new) }
         ensures names { env_of self.new ≡ env_of self.old }
         ensures fault { IfErr result (λ f. f ≡ CheckFault.NoMemory) }
+        ensures unchanged { OnErr result (types_in self.new ≡ types_in self.old) }
     {
         let added = self.types.array(place, length, element)?;
         Ok(added)
@@ -305,14 +309,15 @@ impl Scopes {
     pub fn record(
         &mut self,
         place: usize,
-        fields: IndexMap<String, DataType>,
+        fields: Fields,
     ) -> Result<Option<DataType>, CheckFault>
-        requires known { all_below (length (types_in self.old)) fields.entries ≡ true }
-        ensures given { IfOk result (λ r. option_map (type_in (types_in self.new)) r ≡ if_small (Programs.Record place (fields_by (types_of (types_in self.old)) fields.entries))) }
+        requires known { all_below (length (types_in self.old)) (fields_in fields) ≡ true }
+        ensures given { IfOk result (λ r. option_map (type_in (types_in self.new)) r ≡ if_small (Programs.Record place (fields_by (types_of (types_in self.old)) (fields_in fields)))) }
         ensures known { IfOk result (λ r. IfSome r (λ t. is_below (length (types_in self.new)) t ≡ true)) }
         ensures extends { Extends (types_in self.old) (types_in self.new) }
         ensures names { env_of self.new ≡ env_of self.old }
         ensures fault { IfErr result (λ f. f ≡ CheckFault.NoMemory) }
+        ensures unchanged { OnErr result (types_in self.new ≡ types_in self.old) }
     {
         let added = self.types.record(place, fields)?;
         Ok(added)
@@ -329,6 +334,7 @@ impl Scopes {
         ensures ok { OnOk result (env_of self.new ≡ declared (env_of self.old) name.now (Declared.TypeName (type_in (types_in self.old) data_type))) }
         ensures types { types_in self.new ≡ types_in self.old }
         ensures fault { IfErr result (λ f. f ≡ CheckFault.NoMemory) }
+        ensures unchanged { OnErr result (env_of self.new ≡ env_of self.old) }
     {
         add(alloc, &mut self.own, name, Object::TypeName(data_type))
     }
@@ -346,6 +352,7 @@ impl Scopes {
         ensures ok { OnOk result (env_of self.new ≡ declared (env_of self.old) name.now (variable_in (env_of self.old) position (type_in (types_in self.old) data_type))) }
         ensures types { types_in self.new ≡ types_in self.old }
         ensures fault { IfErr result (λ f. f ≡ CheckFault.NoMemory) }
+        ensures unchanged { OnErr result (env_of self.new ≡ env_of self.old) }
     {
         let level = self.level();
         let variable = if level == MODULE_LEVEL {
@@ -375,6 +382,7 @@ impl Scopes {
         ensures ok { OnOk result (env_of self.new ≡ declared (env_of self.old) name.now (Declared.ProcedureName number (map (parameter_of (types_in self.old)) parameters.items))) }
         ensures types { types_in self.new ≡ types_in self.old }
         ensures fault { IfErr result (λ f. f ≡ CheckFault.NoMemory) }
+        ensures unchanged { OnErr result (env_of self.new ≡ env_of self.old) }
     {
         add(
             alloc,

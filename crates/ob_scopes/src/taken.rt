@@ -6,20 +6,20 @@ ghost use Rattle.ob_typing.specs.Types.{second};
 ghost use Rattle.ob_scopes.specs.TakenNames.{taken_in};
 
 use crate::fault::CheckFault;
-use indexmap::IndexMap;
 use ob_grammar::tree::Name;
 use std::alloc::Global;
+use std::collections::BTreeMap;
 
 /// The first of the names that is taken, or stands before in the list.
 pub fn second<'n, V: Drop>(
     alloc: Global,
-    taken: &IndexMap<String, V>,
+    taken: &BTreeMap<String, V>,
     names: &'n [Name],
 ) -> Result<Option<&'n Name>, CheckFault>
     ensures second { IfOk result (λ r. option_map (λ n. name_of n.now) r ≡ second (taken_in taken.now) (map name_of names.now)) }
     ensures fault { IfErr result (λ f. f ≡ CheckFault.NoMemory) }
 {
-    let mut before = IndexMap::new(alloc);
+    let mut before = BTreeMap::new(alloc);
     for name in names {
         if taken.contains_key(&name.text) || before.contains_key(&name.text) {
             return Ok(Some(name));

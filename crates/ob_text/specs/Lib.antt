@@ -1,4 +1,5 @@
 pub mod Words
+pub mod Appending
 pub mod Values
 pub mod ExportNames
 pub mod Script

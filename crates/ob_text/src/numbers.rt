@@ -1,6 +1,6 @@
 //! Numbers in decimal digits.
 
-ghost use Rattle.std.specs.Prelude.{◌≡◌, ℕ, ℤ, ◌+◌, ◌*◌, ◌≤◌, ◌<◌, ◌^◌, ◌++◌, ◌∷◌, List, false, IsTrue, MatchOption, IfSome, OnOk, string_bytes};
+ghost use Rattle.std.specs.Prelude.{◌≡◌, ℕ, ℤ, ◌+◌, ◌*◌, ◌≤◌, ◌<◌, ◌^◌, ◌++◌, ◌∷◌, List, false, IsTrue, MatchOption, IfSome, OnErr, OnOk, string_bytes};
 ghost use Rattle.std.specs.Char.{digit_value, is_ascii_digit};
 ghost use Rattle.std.specs.List.{list_all};
 ghost use Rattle.ob_text.specs.Words.{IsDigits, IsNumeral, IsProcess, IsInteger};
@@ -96,7 +96,8 @@ pub fn read_integer(word: &[u8]) -> Option<i32>
 
 /// Appends a number in decimal digits, with a `-` where it is below 0.
 pub fn push_number<I: Integer>(text: &mut String, number: I) -> Result<(), AllocError>
-    ensures { OnOk result (string_bytes text.new ≡ string_bytes text.old ++ I.text number) }
+    ensures ok { OnOk result (string_bytes text.new ≡ string_bytes text.old ++ I.text number) }
+    ensures unchanged { OnErr result (string_bytes text.new ≡ string_bytes text.old) }
 {
     let mut buffer = Buffer::new();
     text.push_str(buffer.format(number))

@@ -1,6 +1,6 @@
 //! Values of parameters, as words and as text.
 
-ghost use Rattle.std.specs.Prelude.{◌≡◌, ◌++◌, map, IfOk, OnOk, MatchOption, List, string_bytes};
+ghost use Rattle.std.specs.Prelude.{◌≡◌, ◌++◌, map, IfOk, OnErr, OnOk, MatchOption, List, string_bytes};
 ghost use Rattle.ob_interface.specs.declared.scalar.Scalar.{Scalar};
 ghost use Rattle.ob_text.specs.Values.{AreValues, IsValue, formals_of, is_of_mode, scalar_text};
 
@@ -58,7 +58,8 @@ fn is_of_mode(is_var: bool, formal: &Formal) -> bool
 
 /// Appends a value: a number, `TRUE` or `FALSE`.
 pub fn push_value(text: &mut String, value: Scalar) -> Result<(), AllocError>
-    ensures { OnOk result (string_bytes text.new ≡ string_bytes text.old ++ scalar_text value) }
+    ensures ok { OnOk result (string_bytes text.new ≡ string_bytes text.old ++ scalar_text value) }
+    ensures unchanged { OnErr result (string_bytes text.new ≡ string_bytes text.old) }
 {
     match value {
         Scalar::Int(integer) => push_number(text, integer),

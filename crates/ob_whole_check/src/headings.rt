@@ -17,7 +17,6 @@ ghost use Rattle.ob_rules.specs.Checking.{Fails};
 ghost use Rattle.ob_whole_check.specs.CheckingProcedures.{around, headed};
 
 use crate::parts::sections_in;
-use indexmap::IndexMap;
 use ob_checked::program::Parameter;
 use ob_checked::types::Types;
 use ob_grammar::tree::Procedure;
@@ -27,6 +26,7 @@ use ob_scopes::parts::simple_type;
 use ob_scopes::scopes::Scopes;
 use ob_typing::rule::Rule;
 use std::alloc::Global;
+use std::collections::BTreeMap;
 
 /// The most exports of a module.
 const MOST_EXPORTS: usize = 64;
@@ -100,7 +100,7 @@ fn enter_parameters(
     ensures extends { OnOk result (Extends (types_in scopes.old) (types_in scopes.new)) }
     ensures fault { IfErr result (λ f. Fails f (parameters (listed (heading_of tree.now).parameters) (no_names ∷ env_of scopes.old) 0)) }
 {
-    scopes.enter(IndexMap::new(alloc))?;
+    scopes.enter(BTreeMap::new(alloc))?;
     declare_parameters(alloc, scopes, sections_in(&tree.parameters))
 }
 

@@ -1,6 +1,7 @@
 //! The check of a whole module: declarations with their procedures, and the module's body.
 #![tactic(auto)]
 
+pub mod exports;
 pub mod headings;
 pub mod modules;
 pub mod parts;

@@ -11,6 +11,7 @@ ghost use Rattle.ob_typing.specs.ModuleVerdicts as Verdicts;
 ghost use Rattle.ob_checked.specs.View.{program_of};
 ghost use Rattle.ob_rules.specs.Checking.{Fails};
 
+use crate::exports::exports_of;
 use crate::procedures::declarations;
 use ob_checked::checked::Checked;
 use ob_checked::program::Program;
@@ -33,7 +34,8 @@ pub fn check(alloc: Global, module: Module) -> Result<Checked, CheckFault>
     ensures fault { IfErr result (λ f. IsRefused f (module_of «module»)) }
 {
     let program = program(alloc, module.tree())?;
-    Ok(Checked::new(module, program))
+    let exports = exports_of(alloc, &program)?;
+    Ok(Checked::new(module, program, exports))
 }
 
 /// The checked program of a module.

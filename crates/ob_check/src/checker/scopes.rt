@@ -8,9 +8,9 @@ ghost use Rattle.ob_check.specs.Checking.{env_of, meaning_of, scope_of, outer, I
 
 use super::CheckFault;
 use crate::program::{DataType, Formal};
-use indexmap::IndexMap;
 use ob_grammar::tree::Name;
 use std::alloc::Global;
+use std::collections::BTreeMap;
 
 /// What a name stands for. The scope that it stands in says whose variable it is.
 #[derive(Drop)]
@@ -23,8 +23,8 @@ pub enum Object {
     },
 }
 
-/// What each name of a scope stands for, in the order of declaration.
-type Scope = IndexMap<String, Object>;
+/// What each name of a scope stands for. Names are kept in order and not hashed: who writes a module chooses them.
+type Scope = BTreeMap<String, Object>;
 
 /// The names that are declared so far; those of inner scopes hide those of outer ones.
 #[derive(Drop)]
@@ -51,12 +51,12 @@ impl Scopes {
         ensures outside { IfOk result (λ s. is_some s.own ≡ false) }
         ensures fault { IfErr result (λ e. e ≡ CheckFault.NoMemory) }
     {
-        let mut outermost = IndexMap::new(alloc);
+        let mut outermost = BTreeMap::new(alloc);
         let integer = String::from_str(alloc, "INTEGER")?;
         add(&mut outermost, integer, Object::Type(DataType::Integer))?;
         Ok(Scopes {
             outermost,
-            module: IndexMap::new(alloc),
+            module: BTreeMap::new(alloc),
             own: None,
         })
     }
@@ -131,7 +131,7 @@ impl Scopes {
         ensures opened { env_of self.new ≡ no_names ∷ env_of self.old }
         ensures own { is_some self.new.own ≡ true }
     {
-        self.own = Some(IndexMap::new(alloc));
+        self.own = Some(BTreeMap::new(alloc));
     }
 
     /// Closes the own scope of a procedure.

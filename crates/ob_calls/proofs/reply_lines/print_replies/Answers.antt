@@ -42,7 +42,7 @@ loop-caller-preserved c =
     get_or_read (set c.loop-caller.made.items p (c.index_mut.result.now + 1)) p _ (rw length-set in_range) c.index.ensures 0 ∙ get_or-set_same _ p _ 0 in_range ∙ ap (λ k. k + 1) read in
     let reply : reply_of c.in-Some.reply.now ≡ get_or (map reply_of c.args.replies.now) (length c.loop-caller.yielded) (reply_of c.in-Some.reply.now) =
     ap reply_of (turn.3 c.in-Some.reply.now) ∙ sym (get_or-map reply_of c.args.replies.now (length c.loop-caller.yielded) c.in-Some.reply.now) in
-    rw (length_push, c.in_ok-push_reply_line.ensures, number, read)
+    rw (length_push, c.in_ok-push_reply_line.ensures.ok, number, read)
     (HasPrinted-more _ _ _ _ _ _ c.loop-caller.invariant p (reply_of c.in-Some.reply.now) below turn.0 (turn.2 p) (rw length-map turn.1) reply)
 
 pub returns : goal.returns

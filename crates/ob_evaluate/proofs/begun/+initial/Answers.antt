@@ -1,8 +1,10 @@
-use Rattle.std.proofs.Common.{ap, sym, ◌∙◌, arith}
-use Rattle.std.specs.Prelude.{slice_get}
+use Rattle.std.proofs.Common.{ap, sym, refl, ◌∙◌, arith, length}
+use Rattle.std.proofs.lemmas.List.{take_all}
+use Rattle.std.proofs.lemmas.Option.{slice_get_read}
 use Rattle.ob_store.specs.View.{values_in}
-use Rattle.ob_checked.specs.Types.{structure_by, types_of, is_within}
+use Rattle.ob_checked.specs.Types.{structure_by, types_of, fields_in, fields_by, is_within}
 use Rattle.ob_checked.specs.View.{table_of}
+use Rattle.ob_positions.specs.Value as Values
 use Rattle.ob_evaluate.proofs.InitialValues.{rank_at, element_falls, fields_fall, fields_more, none_begun, array_begun, record_begun}
 use Rattle.ob_evaluate.proofs.begun.+initial.Goals as goal
 
@@ -18,7 +20,7 @@ initial-initial-requires t c =
 pub initial-initial_fields-requires : goal.initial-initial_fields-requires
 initial-initial_fields-requires t c =
     let n = c.in-Structured.number in
-    let falls = fields_fall (table_of c.args.types.now) c.in-Some.ensures.table c.args.data_type n c.in-Structured.is c.in-Some.structured.now c.in-Some.ensures.entry c.in-Record.fields.entries (ap (is_within n) c.in-Record.is) in
+    let falls = fields_fall (table_of c.args.types.now) c.in-Some.ensures.table c.args.data_type n c.in-Structured.is c.in-Some.structured.now c.in-Some.ensures.entry (fields_in c.in-Record.fields) (ap (is_within n) c.in-Record.is) in
     (omega (arith, falls), tt)
 
 pub initial-returns-in_ok-copies-in-Array : goal.initial-returns-in_ok-copies-in-Array
@@ -31,18 +33,26 @@ initial-returns-in_ok-initial_fields-in-Record t c =
     let es = table_of c.args.types.now in
     let e = c.in-Some.structured.now in
     record_begun es c.in-Some.ensures.table c.args.data_type c.in-Structured.number c.in-Structured.is
-    e c.in-Some.ensures.entry c.in_ok-initial_fields-in-Record.field-0 c.in-Record.fields.entries
+    e c.in-Some.ensures.entry c.in_ok-initial_fields-in-Record.field-0 (fields_in c.in-Record.fields)
     (ap (structure_by (types_of es) e.place) c.in-Record.is) c.in_ok-initial_fields-in-Record.ensures
 
 pub initial_fields-initial-requires : goal.initial_fields-initial-requires
 initial_fields-initial-requires t c =
-    let e = c.as_slice-entries.ensures.entries in
-    let at = c.in-Some.ensures.entry ∙ ap (λ es. slice_get es c.loop-position.position) e in
-    let falls = rank_at c.args.fields.now.entries c.loop-position.position (c.in-Some.field-0-0.now, c.in-Some.field_type.now) at in
+    let fields = c.args.fields.now in
+    let i = c.loop-field.field-index in
+    let falls = rank_at fields i c.field-item.result (sym (slice_get_read fields (length fields) i c.field-item.result refl c.loop-field-test.true c.field-item.is)) in
     (omega (arith, falls), tt)
 
-pub initial_fields-loop-position-preserved : goal.initial_fields-loop-position-preserved
-initial_fields-loop-position-preserved t c =
+pub initial_fields-loop-field-preserved : goal.initial_fields-loop-field-preserved
+initial_fields-loop-field-preserved t c =
+    let fields = c.args.fields.now in
+    let i = c.loop-field.field-index in
     ap values_in c.in_ok-push.ensures.items
-    ∙ fields_more (types_of (table_of c.args.types.now)) c.as_slice-entries.result _ _ c.loop-position.position (c.in-Some.field-0-0.now, c.in-Some.field_type.now)
-    c.in-Some.ensures.entry c.loop-position.invariant c.in_ok-part.ensures
+    ∙ fields_more (types_of (table_of c.args.types.now)) fields _ _ i c.field-item.result
+    (sym (slice_get_read fields (length fields) i c.field-item.result refl c.loop-field-test.true c.field-item.is)) c.loop-field.invariant c.in_ok-part.ensures
+
+-- the invariant at the end is of all fields
+pub initial_fields-returns : goal.initial_fields-returns
+initial_fields-returns t c =
+    let fields = c.args.fields.now in
+    c.loop-field.invariant ∙ ap (λ fs. Values.initial_fields (fields_by (types_of (table_of c.args.types.now)) fs)) (take_all c.loop-field.field-index fields (omega arith))

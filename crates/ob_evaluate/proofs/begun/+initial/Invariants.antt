@@ -10,9 +10,9 @@ abbrev pub decreases-initial : goal.decreases-initial
 decreases-initial l = 2 * rank l.data_type
 
 abbrev pub decreases-initial_fields : goal.decreases-initial_fields
-decreases-initial_fields l = 2 * most l.fields.now.entries + 1
+decreases-initial_fields l = 2 * most l.fields.now + 1
 
 -- the fields so far
-abbrev pub invariant-initial_fields-loop-position : goal.invariant-initial_fields-loop-position
-invariant-initial_fields-loop-position l =
-    values_in l.parts.items ≡ Values.initial_fields (fields_by (types_of (table_of l.types)) (take l.position l.entries))
+abbrev pub invariant-initial_fields-loop-field : goal.invariant-initial_fields-loop-field
+invariant-initial_fields-loop-field l =
+    values_in l.parts.items ≡ Values.initial_fields (fields_by (types_of (table_of l.types)) (take l.field-index l.fields))

@@ -8,7 +8,7 @@ appended title number feed events order schedule variables a b c d e f g ta tb t
 
 pub returns : goal.returns
 returns c =
-    appended _ _ _ _ _ _ _ _ _ _ _ _ _ _ c.in_ok-text.ensures.ok c.in_ok-push_number.ensures c.in_ok-push_str.ensures.bytes
+    appended _ _ _ _ _ _ _ _ _ _ _ _ _ _ c.in_ok-text.ensures.ok c.in_ok-push_number.ensures.ok c.in_ok-push_str.ensures.bytes
     (rw (c.exports.ensures, c.events.ensures.value) at c.in_ok-push_events.ensures)
     (rw c.deref.ensures.value at c.in_ok-push_order.ensures)
     (rw c.deref-2.ensures.value at c.in_ok-push_schedule.ensures)

@@ -2,18 +2,18 @@ use Rattle.std.proofs.Common.{◌≡◌, ℕ, List, None, map, drop, true}
 use Rattle.ob_grammar.specs.View.{name_of}
 use Rattle.ob_typing.specs.Program.{DataType, Fields}
 use Rattle.ob_typing.specs.Types.{second, and_all_taken, with_fields}
-use Rattle.ob_checked.specs.Types.{type_by, is_below, all_below}
-use Rattle.ob_scopes.specs.TakenNames.{taken_in}
+use Rattle.ob_checked.specs.Types.{type_by, fields_in, is_below, all_below}
+use Rattle.ob_scopes.specs.TakenNames.{taken_by}
 use Rattle.ob_rules.specs.CheckingTypes.{fields_before}
 use Rattle.ob_rules.proofs.types.add_fields.Given as goal
 
 -- what is left completes what is done, and is new
 abbrev pub invariant-loop-name : goal.invariant-loop-name
 invariant-loop-name l = record {
-  new : second (taken_in l.fields) (map name_of (drop l.name-index l.names)) ≡ None;
+  new : second (taken_by l.fields) (map name_of (drop l.name-index l.names)) ≡ None;
   fields : (types : List DataType) (rest : Fields) →
-      fields_before types l.fields.entries (with_fields (map name_of (drop l.name-index l.names)) (type_by types l.data_type) rest)
-      ≡ fields_before types l.initial.fields.entries (with_fields (map name_of l.names) (type_by types l.data_type) rest);
-  taken : and_all_taken (taken_in l.fields) (map name_of (drop l.name-index l.names)) ≡ and_all_taken (taken_in l.initial.fields) (map name_of l.names);
-  known : (n : ℕ) → all_below n l.initial.fields.entries ≡ true → is_below n l.data_type ≡ true → all_below n l.fields.entries ≡ true;
+      fields_before types (fields_in l.fields) (with_fields (map name_of (drop l.name-index l.names)) (type_by types l.data_type) rest)
+      ≡ fields_before types l.initia(fields_in l.fields) (with_fields (map name_of l.names) (type_by types l.data_type) rest);
+  taken : and_all_taken (taken_by l.fields) (map name_of (drop l.name-index l.names)) ≡ and_all_taken (taken_by l.initial.fields) (map name_of l.names);
+  known : (n : ℕ) → all_below n l.initia(fields_in l.fields) ≡ true → is_below n l.data_type ≡ true → all_below n (fields_in l.fields) ≡ true;
 }

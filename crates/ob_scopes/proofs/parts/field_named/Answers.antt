@@ -1,8 +1,8 @@
-use Rattle.ob_scopes.proofs.Fields.{field_found, field_missed}
+use Rattle.std.proofs.Common.{ap, option_map, ◌∙◌}
+use Rattle.ob_checked.specs.Types.{fields_in}
+use Rattle.ob_scopes.proofs.Fields.{typed, field_from-found}
 use Rattle.ob_scopes.proofs.parts.field_named.Goals as goal
 
-pub returns-in-Some : goal.returns-in-Some
-returns-in-Some c = λ types. field_found types c.args.name.now c.args.fields.now.entries _ _ c.in-Some.ensures.index c.in-Some.ensures.value
-
-pub returns-in-None : goal.returns-in-None
-returns-in-None c = λ types. field_missed types c.args.name.now c.args.fields.now.entries c.in-None.ensures.index
+pub returns : goal.returns
+returns c = λ types.
+    ap (option_map (typed types c.args.name.now)) c.find.ensures ∙ field_from-found types c.args.name.now 0 (fields_in c.args.fields.now)

@@ -1,4 +1,5 @@
-use Rattle.std.proofs.Common.{◌≡◌, Bool, true, false, not, arith, sym, ◌∙◌, refl}
+use Rattle.std.proofs.Common.{◌≡◌, ◌<◌, Bool, true, false, not, arith, length, sym, ◌∙◌, refl}
+use Rattle.std.proofs.lemmas.Option.{slice_get_read}
 use Rattle.ob_checked.specs.View.{table_of}
 use Rattle.ob_checked.specs.Types.{types_of}
 use Rattle.ob_scopes.proofs.SameTypes.{same_length, field_same, other_name, other_type, field_depth, same_number_type}
@@ -15,31 +16,47 @@ not_not false h = cc
 pub same_fields-returns-then-ne : goal.same_fields-returns-then-ne
 same_fields-returns-then-ne t c =
     let types = types_of (table_of c.args.types.now) in
-    other_name types c.args.left.now.entries c.args.right.now.entries c.loop-position.position _ _ (sym c.in-Some.ensures.entry) (sym c.in-Some-get_index.ensures.entry)
-    (not_so _ c.if-ne.ensures) ∙ sym c.loop-position.invariant
+    let left = c.args.left.now in
+    let right = c.args.right.now in
+    let i = c.loop-position.position in
+    let within : i < length right = omega (arith, c.loop-position-test.true, c.if-left-right.false) in
+    let here = slice_get_read left (length left) i c.index-left-position.result refl c.loop-position-test.true c.index-left-position.is in
+    let there = slice_get_read right (length right) i c.index-right-position.result refl within c.index-right-position.is in
+    other_name types left right i _ _ here there (not_so _ c.if-ne.ensures) ∙ sym c.loop-position.invariant
 
 pub same_fields-same_type-requires : goal.same_fields-same_type-requires
 same_fields-same_type-requires t c =
-    let types = types_of (table_of c.args.types.now) in
-    let h = field_depth types c.args.left.now.entries c.loop-position.position _ (sym c.in-Some.ensures.entry) in
+    let left = c.args.left.now in
+    let i = c.loop-position.position in
+    let here = slice_get_read left (length left) i c.index-left-position.result refl c.loop-position-test.true c.index-left-position.is in
+    let h = field_depth (types_of (table_of c.args.types.now)) left i c.index-left-position.result here in
     (omega (arith, h, c.decreases), tt)
 
 pub same_fields-returns-then-not-same_type : goal.same_fields-returns-then-not-same_type
 same_fields-returns-then-not-same_type t c =
     let types = types_of (table_of c.args.types.now) in
-    other_type types c.args.left.now.entries c.args.right.now.entries c.loop-position.position _ _ (sym c.in-Some.ensures.entry) (sym c.in-Some-get_index.ensures.entry)
-    c.if-not-same_type.ensures ∙ sym c.loop-position.invariant
+    let left = c.args.left.now in
+    let right = c.args.right.now in
+    let i = c.loop-position.position in
+    let within : i < length right = omega (arith, c.loop-position-test.true, c.if-left-right.false) in
+    let here = slice_get_read left (length left) i c.index-left-position.result refl c.loop-position-test.true c.index-left-position.is in
+    let there = slice_get_read right (length right) i c.index-right-position.result refl within c.index-right-position.is in
+    other_type types left right i _ _ here there c.if-not-same_type.ensures ∙ sym c.loop-position.invariant
 
-pub same_fields-returns-then-len : goal.same_fields-returns-then-len
-same_fields-returns-then-len t c =
-    let types = types_of (table_of c.args.types.now) in
-    same_length types c.args.left.now.entries c.args.right.now.entries (λ e. c.if-len.true (c.len.ensures.len ∙ e ∙ sym c.len-2.ensures.len))
+pub same_fields-returns-then-left-right : goal.same_fields-returns-then-left-right
+same_fields-returns-then-left-right t c =
+    same_length (types_of (table_of c.args.types.now)) c.args.left.now c.args.right.now c.if-left-right.true
 
 pub same_fields-loop-position-preserved : goal.same_fields-loop-position-preserved
 same_fields-loop-position-preserved t c =
     let types = types_of (table_of c.args.types.now) in
-    c.loop-position.invariant ∙ field_same types c.args.left.now.entries c.args.right.now.entries c.loop-position.position _ _ (sym c.in-Some.ensures.entry) (sym c.in-Some-get_index.ensures.entry)
-    (not_not _ c.if-ne.ensures) c.if-not-same_type.ensures
+    let left = c.args.left.now in
+    let right = c.args.right.now in
+    let i = c.loop-position.position in
+    let within : i < length right = omega (arith, c.loop-position-test.true, c.if-left-right.false) in
+    let here = slice_get_read left (length left) i c.index-left-position.result refl c.loop-position-test.true c.index-left-position.is in
+    let there = slice_get_read right (length right) i c.index-right-position.result refl within c.index-right-position.is in
+    c.loop-position.invariant ∙ field_same types left right i _ _ here there (not_not _ c.if-ne.ensures) c.if-not-same_type.ensures
 
 pub same_type-returns-then-same_number : goal.same_type-returns-then-same_number
 same_type-returns-then-same_number t c =

@@ -14,10 +14,10 @@ abbrev pub decreases-same_structure : goal.decreases-same_structure
 decreases-same_structure l = 3 * inner_depth (types_of (table_of l.types.now)) l.left.now + 2
 
 abbrev pub decreases-same_fields : goal.decreases-same_fields
-decreases-same_fields l = 3 * depth_of_fields (fields_by (types_of (table_of l.types.now)) l.left.now.entries) + 1
+decreases-same_fields l = 3 * depth_of_fields (fields_by (types_of (table_of l.types.now)) l.left.now) + 1
 
 -- the fields that were passed are the same
 abbrev pub invariant-same_fields-loop-position : goal.invariant-same_fields-loop-position
 invariant-same_fields-loop-position l =
-    same_fields (fields_by (types_of (table_of l.types)) l.left.entries) (fields_by (types_of (table_of l.types)) l.right.entries)
-    ≡ same_fields (fields_by (types_of (table_of l.types)) (drop l.position l.left.entries)) (fields_by (types_of (table_of l.types)) (drop l.position l.right.entries))
+    same_fields (fields_by (types_of (table_of l.types)) l.left) (fields_by (types_of (table_of l.types)) l.right)
+    ≡ same_fields (fields_by (types_of (table_of l.types)) (drop l.position l.left)) (fields_by (types_of (table_of l.types)) (drop l.position l.right))

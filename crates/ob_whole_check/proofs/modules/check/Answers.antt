@@ -13,8 +13,8 @@ returns-in_err-program-clause-fault c =
     (refused (module_of c.args.module) c.tree.ensures.has_text _
     (fails_as _ _ _ (ap (λ m. checked (module_of m)) (sym c.tree.ensures.tree)) c.in_err-program.ensures.fault))
 
-pub new-requires : goal.new-requires
-new-requires c = well_typed (module_of c.args.module) _ (ap (λ m. checked (module_of m)) (sym c.tree.ensures.tree) ∙ c.in_ok-program.ensures.typed)
+pub new-requires-clause-typed : goal.new-requires-clause-typed
+new-requires-clause-typed c = well_typed (module_of c.args.module) _ (ap (λ m. checked (module_of m)) (sym c.tree.ensures.tree) ∙ c.in_ok-program.ensures.typed)
 
 pub returns-clause-typed : goal.returns-clause-typed
 returns-clause-typed c =

@@ -1,5 +1,5 @@
 use Rattle.std.proofs.Common.{◌≡◌, arith, [], ◌∷◌, length, ap, ◌∙◌}
-use Rattle.std.proofs.lemmas.Result.{on_ok_weaker}
+use Rattle.std.proofs.lemmas.Result.{on_ok_weaker, on_err_weaker}
 use Rattle.ob_typing.specs.Scopes.{Scope, with_name, variable_in}
 use Rattle.ob_checked.specs.Types.{type_in}
 use Rattle.ob_scopes.specs.Objects.{object_of, scope_of, env_behind}
@@ -24,3 +24,8 @@ returns-clause-ok c =
           ap (object_of types) w.variable-is ∙ of_procedure own outer c.args.position t c.level-level.result c.level-level.ensures w.if-level-eq-MODULE_LEVEL.false
     ] in
     on_ok_weaker c.add.result (λ h. ap (λ (x : Scope). x ∷ outer) (h types ∙ ap (with_name own c.args.name.now) is)) c.add.ensures.ok
+
+pub returns-clause-unchanged : goal.returns-clause-unchanged
+returns-clause-unchanged c =
+    let types = types_in c.args.self.now in
+    on_err_weaker c.add.result (λ h. ap (λ (s : Scope). s ∷ env_behind types c.args.self.now.around.items []) (h types)) c.add.ensures.unchanged

@@ -1,5 +1,5 @@
 use Rattle.std.proofs.Common.{sym, ◌∙◌}
-use Rattle.indexmap.specs.IndexMap.{get_by_text}
+use Rattle.std.specs.BTreeMap.{get_by_text}
 use Rattle.ob_scopes.specs.Objects.{object_of}
 use Rattle.ob_scopes.specs.Names.{types_in}
 use Rattle.ob_scopes.proofs.Declared.{is_some-mapped}
