@@ -133,12 +133,7 @@ impl Shapes {
     }
 
     /// A record of these fields, each with the words of those before it.
-    fn record(
-        &self,
-        alloc: Global,
-        place: usize,
-        fields: &Fields,
-    ) -> Result<Shape, NoMemory>
+    fn record(&self, alloc: Global, place: usize, fields: &Fields) -> Result<Shape, NoMemory>
         requires { Sizes.words_of_fields (Given.fields_by (types_of (shapes_of self.now)) (Given.fields_in fields.now)) ≤ 4096 }
         ensures { IfOk result (IsRecord (types_of (shapes_of self.now)) place (Given.fields_in fields.now)) }
     {

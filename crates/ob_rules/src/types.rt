@@ -138,11 +138,7 @@ fn add_list(
 }
 
 /// Adds fields of one type, whose names are new.
-fn add_fields(
-    names: &[Name],
-    data_type: DataType,
-    fields: &mut Fields,
-) -> Result<(), CheckFault>
+fn add_fields(names: &[Name], data_type: DataType, fields: &mut Fields) -> Result<(), CheckFault>
     requires new { second (taken_by fields.old) (map name_of names.now) ≡ None }
     ensures fields { OnOk result ((types : List Programs.DataType) (rest : Programs.Fields) →
         fields_before types (fields_in fields.new) rest ≡ fields_before types (fields_in fields.old) (with_fields (map name_of names.now) (type_by types data_type) rest)) }
@@ -208,11 +204,7 @@ fn array_of(
 }
 
 /// A record that begins at a place.
-fn record_of(
-    scopes: &mut Scopes,
-    place: usize,
-    fields: Fields,
-) -> Result<DataType, CheckFault>
+fn record_of(scopes: &mut Scopes, place: usize, fields: Fields) -> Result<DataType, CheckFault>
     requires known { all_below (length (types_in scopes.old)) (fields_in fields) ≡ true }
     ensures typed { IfOk result (λ t. small_at place (Programs.Record place (fields_by (types_of (types_in scopes.old)) (fields_in fields))) ≡ Right (type_in (types_in scopes.new) t)) }
     ensures known { IfOk result (λ t. is_below (length (types_in scopes.new)) t ≡ true) }

@@ -89,11 +89,7 @@ fn same_structure(types: &Types, left: &Structure, right: &Structure) -> bool
 
 /// Whether fields have the same names and types, one by one.
 #[cycle(same_type)]
-fn same_fields(
-    types: &Types,
-    left: &[(String, DataType)],
-    right: &[(String, DataType)],
-) -> bool
+fn same_fields(types: &Types, left: &[(String, DataType)], right: &[(String, DataType)]) -> bool
     ensures { result ≡ same_fields (fields_by (types_of (table_of types.now)) left.now) (fields_by (types_of (table_of types.now)) right.now) }
 {
     if left.len() != right.len() {

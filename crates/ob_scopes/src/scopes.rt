@@ -306,11 +306,7 @@ impl Scopes {
     }
 
     /// Adds a record to the types, where it keeps the limits. What names stand for stays.
-    pub fn record(
-        &mut self,
-        place: usize,
-        fields: Fields,
-    ) -> Result<Option<DataType>, CheckFault>
+    pub fn record(&mut self, place: usize, fields: Fields) -> Result<Option<DataType>, CheckFault>
         requires known { all_below (length (types_in self.old)) (fields_in fields) ≡ true }
         ensures given { IfOk result (λ r. option_map (type_in (types_in self.new)) r ≡ if_small (Programs.Record place (fields_by (types_of (types_in self.old)) (fields_in fields)))) }
         ensures known { IfOk result (λ r. IfSome r (λ t. is_below (length (types_in self.new)) t ≡ true)) }
