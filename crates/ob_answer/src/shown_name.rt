@@ -3,7 +3,7 @@
 ghost use Rattle.std.specs.Prelude.{◌≡◌, ◌<◌, ◌++◌, true, [], ◌∷◌, OnErr, OnOk, string_bytes};
 ghost use Rattle.std.specs.Char.{digit_char};
 ghost use Rattle.ob_answer.specs.ShownNames.{is_written_out, shown, shown_character, written_out};
-ghost use Rattle.ob_text.specs.Appending.{GoesOn};
+ghost use Rattle.ob_text_words.specs.Appending.{GoesOn};
 
 use std::alloc::AllocError;
 

@@ -6,7 +6,7 @@ use Rattle.ob_checked.specs.declared.program.Procedure.{Procedure}
 use Rattle.ob_checked.specs.View.{procedure_of}
 use Rattle.ob_checked.specs.Types.{Entry}
 use Rattle.ob_typing.specs.Program as Programs
-use Rattle.ob_text.specs.Words.{Word}
+use Rattle.ob_text_words.specs.Words.{Word}
 
 module _ {X Y : Type 0} (f : X → Y) where
   abbrev numbered : ℕ × X → ℕ × Y

@@ -4,10 +4,11 @@ use Rattle.std.proofs.lemmas.Bool.{false≢true}
 use Rattle.ob_interface.specs.declared.scalar.Scalar.{Scalar}
 use Rattle.ob_interface.specs.declared.scalar.Scalar.TheVariants as Scalars
 use Rattle.ob_typing.specs.Program.{DataType, Parameter, Procedure, Program}
-use Rattle.ob_text.specs.Words as Words
-use Rattle.ob_text.specs.Words.{IsDigits, IsInteger, IsProcess, Word}
+use Rattle.ob_text_words.specs.Words as Words
+use Rattle.ob_text_words.specs.Words.{IsDigits, IsInteger, IsProcess, Word}
 use Rattle.ob_calls.specs.Values as Values
-use Rattle.ob_calls.specs.Values.{AreValues, IsValue, by_value, truth_text}
+use Rattle.ob_text_words.specs.ScalarTexts.{truth_text}
+use Rattle.ob_calls.specs.Values.{AreValues, IsValue, by_value}
 use Rattle.ob_calls.specs.Script as Script
 use Rattle.ob_calls.specs.Script.{AreLines, IsSkipped, Makes, ScriptCall}
 

@@ -4,7 +4,7 @@ use Rattle.std.proofs.lemmas.List.{length-map}
 use Rattle.std.proofs.lemmas.List.Elements.{All-cons, All-nil}
 use Rattle.std.proofs.Math.ListN.{get_or-map}
 use Rattle.ob_typing.specs.Program.{Program}
-use Rattle.ob_text.specs.Words.{Word}
+use Rattle.ob_text_words.specs.Words.{Word}
 use Rattle.ob_calls.specs.declared.script.ScriptCall.{ScriptCall}
 use Rattle.ob_calls.specs.Script
 use Rattle.ob_calls.specs.Script.{AreLines, none, skipped, call, Makes, makes, IsScript}

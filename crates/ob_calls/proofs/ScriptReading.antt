@@ -5,7 +5,7 @@ use Rattle.std.proofs.lemmas.Option.{slice_get_read}
 use Rattle.ob_scan.specs.Spelling.{number_value}
 use Rattle.ob_interface.specs.declared.scalar.Scalar.{Scalar}
 use Rattle.ob_typing.specs.Program.{Procedure, Program}
-use Rattle.ob_text.specs.Words.{Word, IsProcess, IsName, lines, words}
+use Rattle.ob_text_words.specs.Words.{Word, IsProcess, IsName, lines, words}
 use Rattle.ob_calls.specs.declared.script.ScriptFault.{ScriptFault}
 use Rattle.ob_calls.specs.declared.script.ScriptFault.TheVariants as Faults
 use Rattle.ob_calls.specs.Values.{by_value, AreValues}

@@ -8,7 +8,7 @@ use Rattle.ob_checked.specs.declared.program.Parameter.{Parameter}
 use Rattle.ob_checked.specs.Types.{Entry, type_in}
 use Rattle.ob_checked.specs.View.{parameter_of}
 use Rattle.ob_scopes.specs.SimpleTypes.{simple_type}
-use Rattle.ob_text.specs.Words.{Word}
+use Rattle.ob_text_words.specs.Words.{Word}
 use Rattle.ob_calls.specs.Values.{IsValue, AreValues, by_value, none, more}
 
 -- the type of a scalar type

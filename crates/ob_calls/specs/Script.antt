@@ -3,7 +3,7 @@ use Rattle.std.specs.Prelude.{◌≡◌, ℕ, ◌-◌, ◌<◌, ◌≤◌, List,
 use Rattle.ob_interface.specs.declared.scalar.Scalar.{Scalar}
 use Rattle.ob_typing.specs.Program.{Procedure, Program}
 use Rattle.ob_interface.specs.Call.{ObjectCall}
-use Rattle.ob_text.specs.Words.{Word, IsName, IsProcess, lines, words}
+use Rattle.ob_text_words.specs.Words.{Word, IsName, IsProcess, lines, words}
 use Rattle.ob_calls.specs.Values.{AreValues, by_value}
 use Rattle.ob_calls.specs.ExportNames.{export_named}
 use Rattle.ob_calls.specs.declared.script.ScriptFault.{ScriptFault}

@@ -1,22 +1,12 @@
--- Values of parameters: the words that say them, and the text that they are printed as.
-use Rattle.std.specs.Prelude.{◌≡◌, ℕ, ℤ, true, false, not, List, [], ◌∷◌, filter, codes}
+-- Values of parameters: the words that say them.
+use Rattle.std.specs.Prelude.{◌≡◌, ℕ, ℤ, true, false, not, List, [], ◌∷◌, filter}
 use Rattle.std.specs.Prelude as Prelude
-use Rattle.std.specs.Fmt.{signed_decimal}
 use Rattle.ob_interface.specs.declared.scalar.Scalar.{Scalar}
 use Rattle.ob_interface.specs.declared.scalar.Scalar.TheVariants.{Int, Bool}
 use Rattle.ob_interface.specs.declared.scalar.ScalarType.TheVariants.{Integer, Boolean}
 use Rattle.ob_typing.specs.Program.{DataType, Simple, Parameter}
-use Rattle.ob_text.specs.Words.{Word, IsInteger}
-
--- TRUE or FALSE
-abbrev pub truth_text : Prelude.Bool → List ℕ
-truth_text true = codes "TRUE"
-truth_text false = codes "FALSE"
-
--- a number in decimal digits with a `-` below 0, TRUE or FALSE
-abbrev pub scalar_text : Scalar → List ℕ
-scalar_text (Int z) = signed_decimal z
-scalar_text (Bool b) = truth_text b
+use Rattle.ob_text_words.specs.ScalarTexts.{truth_text}
+use Rattle.ob_text_words.specs.Words.{Word, IsInteger}
 
 -- a value of a type; an array or a record is said by no word
 pub data IsValue : DataType → Word → Scalar → Type 0 where

@@ -4,13 +4,13 @@ ghost use Rattle.std.specs.Prelude.{◌≡◌, ◌<◌, ◌++◌, [], map, codes
 ghost use Rattle.std.specs.List.{flat_map};
 ghost use Rattle.ob_interpreter.specs.View.{reply_of};
 ghost use Rattle.ob_calls.specs.ReplyLines.{reply_line, reply_lines, reply_text};
-ghost use Rattle.ob_calls.specs.Values.{scalar_text};
-ghost use Rattle.ob_text.specs.Appending.{GoesOn};
+ghost use Rattle.ob_text_words.specs.ScalarTexts.{scalar_text};
+ghost use Rattle.ob_text_words.specs.Appending.{GoesOn};
 
-use crate::values::push_value;
 use ob_interface::scalar::Scalar;
 use ob_interpreter::call::Reply;
-use ob_text::numbers::push_number;
+use ob_text_words::numbers::push_number;
+use ob_text_words::values::push_value;
 use std::alloc::{AllocError, Global};
 
 /// The lines of replies to the calls of these callers, processes below `processes`: the first caller made the first

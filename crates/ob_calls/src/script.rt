@@ -13,7 +13,7 @@ use crate::script::line::read_line;
 use ob_checked::checked::Checked;
 use ob_checked::program::Program;
 use ob_interpreter::call::Call;
-use ob_text::words::words_of;
+use ob_text_words::words::words_of;
 use std::alloc::{AllocError, AllocFailed, Global};
 use std::marker::Model;
 use thiserror::Error;

@@ -1,16 +1,17 @@
-//! Values of parameters, as words and as text.
+//! Values of parameters, as words.
 
-ghost use Rattle.std.specs.Prelude.{◌≡◌, ◌++◌, Bool, map, IfOk, OnErr, OnOk, MatchOption, List, string_bytes};
+ghost use Rattle.std.specs.Prelude.{◌≡◌, Bool, map, IfOk, MatchOption, List};
 ghost use Rattle.ob_checked.specs.Types.{type_in};
 ghost use Rattle.ob_checked.specs.View.{parameter_of, table_of};
 ghost use Rattle.ob_interface.specs.declared.scalar.Scalar.{Scalar};
-ghost use Rattle.ob_calls.specs.Values.{AreValues, IsValue, by_value, scalar_text, truth_text};
+ghost use Rattle.ob_text_words.specs.ScalarTexts.{scalar_text, truth_text};
+ghost use Rattle.ob_calls.specs.Values.{AreValues, IsValue, by_value};
 
 use ob_checked::program::Parameter;
 use ob_checked::types::{DataType, Types};
 use ob_interface::scalar::{Scalar, ScalarType};
 use ob_scopes::parts::simple_type;
-use ob_text::numbers::{push_number, read_integer};
+use ob_text_words::numbers::read_integer;
 use std::alloc::{AllocError, Global};
 
 /// The truth value that a word says.
@@ -60,16 +61,4 @@ pub fn read_values(
         }
     }
     Ok((values.len() == words.len()).then_some(values))
-}
-
-/// Appends a value: a number, `TRUE` or `FALSE`.
-pub fn push_value(text: &mut String, value: Scalar) -> Result<(), AllocError>
-    ensures ok { OnOk result (string_bytes text.new ≡ string_bytes text.old ++ scalar_text value) }
-    ensures unchanged { OnErr result (string_bytes text.new ≡ string_bytes text.old) }
-{
-    match value {
-        Scalar::Int(integer) => push_number(text, integer),
-        Scalar::Bool(true) => text.push_str("TRUE"),
-        Scalar::Bool(false) => text.push_str("FALSE"),
-    }
 }

@@ -7,7 +7,7 @@ ghost use Rattle.ob_explain.specs.Remarks.{remark_of};
 use crate::place::{Place, line_around, place_in};
 use crate::remark::Remark;
 use crate::shown::{push_blanks, push_line, push_named};
-use ob_text::numbers::push_number;
+use ob_text_words::numbers::push_number;
 use std::alloc::{AllocError, Global};
 
 /// What is wrong with a text of this name: `NAME:LINE:COLUMN`, the line, a mark below the column, and a sentence, each with a line

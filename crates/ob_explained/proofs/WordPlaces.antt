@@ -7,7 +7,7 @@ use Rattle.std.proofs.lemmas.List.Folds.{length-prefix_len}
 use Rattle.std.proofs.lemmas.List.Splits.{slice_split-cons_yes, slice_split_at, slice_split_none}
 use Rattle.std.proofs.lemmas.List.Sums.{prefix_len-le-length}
 use Rattle.std.proofs.Math.Seq.{take-add}
-use Rattle.ob_text.specs.Words.{Word, IsProcess, is_blank, words}
+use Rattle.ob_text_words.specs.Words.{Word, IsProcess, is_blank, words}
 use Rattle.ob_scan.specs.Spelling.{number_value}
 use Rattle.ob_explained.specs.Marks.{BeginsWord, HasProcess}
 use Rattle.ob_explained.specs.ScriptPlaces.{first_place, first_word, is_of_word, is_process, second_place}

@@ -2,7 +2,7 @@
 use Rattle.std.specs.Prelude.{◌≡◌, ◌≤◌, ◌-◌, ℕ, List, [], ◌∷◌, ◌++◌, Some, false, drop, length, slice_get, take}
 use Rattle.ob_calls.specs.declared.script.ScriptFault.{ScriptFault}
 use Rattle.ob_calls.specs.declared.script.ScriptFault.TheVariants as Script
-use Rattle.ob_text.specs.Words.{IsProcess, Word, is_blank, lines, words}
+use Rattle.ob_text_words.specs.Words.{IsProcess, Word, is_blank, lines, words}
 
 -- A place in a line at which its word of a number begins, counted from 0: the words before it stand up to there, and it and the
 -- others from there on. Where the line has fewer words it is its end.

@@ -2,7 +2,7 @@
 use Rattle.std.specs.Prelude.{ℕ, zero, suc, ◌+◌, ◌-◌, ◌&&◌, not, nat_le, Bool, List, [], ◌∷◌, length, take, drop, if◌then◌else◌}
 use Rattle.std.specs.Char.{is_ascii_digit}
 use Rattle.std.specs.List.{list_all, prefix_len}
-use Rattle.ob_text.specs.Words.{Word, is_blank}
+use Rattle.ob_text_words.specs.Words.{Word, is_blank}
 use Rattle.ob_explain.specs.Places.{is_line_feed, line_from}
 
 -- how many bytes a text has up to so many line feeds, with these; all bytes, where it has fewer line feeds

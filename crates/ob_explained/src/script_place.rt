@@ -2,7 +2,7 @@
 
 ghost use Rattle.std.specs.Prelude.{◌≡◌, ◌≤◌, ◌+◌, ◌-◌, ℕ, List, Some, length, slice_get};
 ghost use Rattle.std.specs.List.{prefix_len};
-ghost use Rattle.ob_text.specs.Words.{is_blank, lines};
+ghost use Rattle.ob_text_words.specs.Words.{is_blank, lines};
 ghost use Rattle.ob_explain.specs.Places.{line_from, place_in};
 ghost use Rattle.ob_explained.specs.Marks.{BeginsWord, HasProcess, IsInLine};
 ghost use Rattle.ob_explained.specs.ScriptPlaces.{behind_feeds, first_place, first_word, form_place, is_of_word, is_process, line_begin, second_place};

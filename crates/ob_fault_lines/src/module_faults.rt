@@ -2,7 +2,7 @@
 
 ghost use Rattle.std.specs.Prelude.{◌≡◌, ◌++◌, OnErr, OnOk, string_bytes};
 ghost use Rattle.ob_fault_lines.specs.ModuleFaultLines.{at_place, open_line, parse_line, rule_line, rule_number, scan_line, text_line};
-ghost use Rattle.ob_text.specs.Appending.{GoesOn};
+ghost use Rattle.ob_text_words.specs.Appending.{GoesOn};
 
 use ob_mean::opening::OpenFault;
 use ob_opened::checked_text::TextFault;
@@ -10,7 +10,7 @@ use ob_parser::parser::ParseFault;
 use ob_scan::ScanFault;
 use ob_scan::scanner::LONGEST_TEXT;
 use ob_scopes::fault::CheckFault;
-use ob_text::numbers::push_number;
+use ob_text_words::numbers::push_number;
 use ob_typing::rule::Rule;
 use std::alloc::AllocError;
 

@@ -8,7 +8,7 @@ use crate::script_faults::push_script_fault;
 use ob_object::compiling::CompileFault;
 use ob_object::performing::PerformFault;
 use ob_schedule::ScheduleFault;
-use ob_text::numbers::push_number;
+use ob_text_words::numbers::push_number;
 use std::alloc::{AllocError, Global};
 
 /// The line of a fault of a run, without a line feed.

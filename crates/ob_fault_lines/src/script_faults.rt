@@ -2,10 +2,10 @@
 
 ghost use Rattle.std.specs.Prelude.{◌≡◌, ◌++◌, OnErr, OnOk, string_bytes};
 ghost use Rattle.ob_fault_lines.specs.ScriptFaultLines.{at_line, script_line};
-ghost use Rattle.ob_text.specs.Appending.{GoesOn};
+ghost use Rattle.ob_text_words.specs.Appending.{GoesOn};
 
-use ob_text::numbers::push_number;
 use ob_text::script::ScriptFault;
+use ob_text_words::numbers::push_number;
 use std::alloc::AllocError;
 
 /// Appends the line of a fault of a script, without a line feed.

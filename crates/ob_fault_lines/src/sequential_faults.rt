@@ -8,7 +8,7 @@ use crate::script_faults::push_line_number;
 use ob_calls::script::ScriptFault;
 use ob_interpreter::opening::OpenFault;
 use ob_sequential::{ModuleFault, SeqTextFault, TextFault};
-use ob_text::numbers::push_number;
+use ob_text_words::numbers::push_number;
 use std::alloc::{AllocError, Global};
 
 /// The line of a fault of a module by itself, without a line feed.

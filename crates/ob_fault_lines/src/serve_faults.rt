@@ -8,7 +8,7 @@ use crate::script_faults::push_script_fault;
 use ob_desk::CloseFault;
 use ob_serve::ServeFault;
 use ob_serve_texts::ServeTextFault;
-use ob_text::numbers::push_number;
+use ob_text_words::numbers::push_number;
 use std::alloc::{AllocError, Global};
 
 /// The line of a fault of workers served from texts, without a line feed.

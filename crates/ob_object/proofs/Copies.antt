@@ -3,11 +3,11 @@ use Rattle.std.proofs.Common.{◌≡◌, ◌∙◌, List, All, length, map, ap, 
 use Rattle.std.specs.Prelude.{slice_index_or}
 use Rattle.std.proofs.lemmas.List.{length-map}
 use Rattle.std.proofs.Math.ListN.{get_or-map}
-use Rattle.ob_text.specs.Script as Script
-use Rattle.ob_text.specs.ScriptView.{script_call_of}
-use Rattle.ob_text.specs.declared.script.ScriptCall.{ScriptCall}
+use Rattle.ob_text_words.specs.ScriptCalls
+use Rattle.ob_text_words.specs.ScriptCalls.{script_call_of}
+use Rattle.ob_text_words.specs.declared.script_call.ScriptCall.{ScriptCall}
 
-pub All_along : (P : Script.ScriptCall → Type 0) (xs ys : List ScriptCall) → map script_call_of xs ≡ map script_call_of ys → All (λ x. P (script_call_of x)) ys → All (λ x. P (script_call_of x)) xs
+pub All_along : (P : ScriptCalls.ScriptCall → Type 0) (xs ys : List ScriptCall) → map script_call_of xs ≡ map script_call_of ys → All (λ x. P (script_call_of x)) ys → All (λ x. P (script_call_of x)) xs
 All_along P xs ys same h =
     λ k d below.
     let long = length-map xs script_call_of in

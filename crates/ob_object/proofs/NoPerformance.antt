@@ -18,7 +18,8 @@ use Rattle.ob_schedule.specs.Schedule.{IsSchedule, IsScheduleFault}
 use Rattle.ob_schedule.specs.declared.item.Item.{Item}
 use Rattle.ob_schedule.specs.declared.schedule.ScheduleFault.{ScheduleFault}
 use Rattle.ob_schedule.specs.declared.schedule.ScheduleFault.TheVariants as Schedule
-use Rattle.ob_text.specs.Script.{IsScript, IsScriptFault, ScriptCall}
+use Rattle.ob_text_words.specs.ScriptCalls.{ScriptCall}
+use Rattle.ob_text.specs.Script.{IsScript, IsScriptFault}
 use Rattle.ob_text.specs.declared.script.ScriptFault.{ScriptFault}
 use Rattle.ob_text.specs.declared.script.ScriptFault.TheVariants as Script
 use Rattle.wf_play.specs.declared.playing.PlayFault.{PlayFault}

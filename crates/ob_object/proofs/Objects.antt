@@ -15,7 +15,7 @@ use Rattle.ob_record.specs.Record.{AreOfExports, IsOfExport}
 use Rattle.ob_run.specs.Recorded.{DoFit}
 use Rattle.ob_schedule.specs.Schedule.{AreItems, IsSchedule, item_words, more, none, process_of}
 use Rattle.ob_schedule.specs.declared.item.Item.{Item}
-use Rattle.ob_text.specs.Words.{Word}
+use Rattle.ob_text_words.specs.Words.{Word}
 use Rattle.wf_history.specs.History.{Applied, Begin, End, Event}
 use Rattle.wf_history.specs.declared.event.CallId.{CallId}
 

@@ -9,8 +9,8 @@ use Rattle.ob_object.specs.Compilation.{ObjectParts}
 use Rattle.ob_object.specs.Performance.{AreRead, HasNoPerformance, IsNumbered, IsRunFault, IsSoundObject, ShowsNone, of_play}
 use Rattle.ob_schedule.specs.Schedule.{process_of}
 use Rattle.ob_schedule.specs.declared.item.Item.{Item}
-use Rattle.ob_text.specs.ScriptView.{object_call, script_call_of}
-use Rattle.ob_text.specs.declared.script.ScriptCall.{ScriptCall}
+use Rattle.ob_text_words.specs.ScriptCalls.{object_call, script_call_of}
+use Rattle.ob_text_words.specs.declared.script_call.ScriptCall.{ScriptCall}
 use Rattle.wf_play.specs.declared.playing.PlayFault.{PlayFault}
 
 module _ (text : List ℕ) (n : ℕ) (scripts schedule : List ℕ) (o : ObjectParts) (calls : List ScriptCall) (items : List Item)

@@ -9,7 +9,7 @@ use Rattle.ob_layout.specs.Encoding.{encoded}
 use Rattle.ob_object.specs.Compilation.{ObjectParts}
 use Rattle.ob_object.specs.Performance.{AreMakersIn}
 use Rattle.ob_record.specs.Record.{Record}
-use Rattle.ob_text.specs.Script.{ScriptCall}
+use Rattle.ob_text_words.specs.ScriptCalls.{ScriptCall}
 use Rattle.wf_play.specs.Makers.{AreMakersOf}
 use Rattle.wf_play.specs.Played.{scripts_of}
 use Rattle.wf_table.specs.Schedule.{steps_of}

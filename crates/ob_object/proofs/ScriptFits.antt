@@ -17,14 +17,14 @@ use Rattle.ob_engine.specs.Compiled.{FormalsFit, IsFitting, entrances_from, part
 use Rattle.ob_layout.specs.Encoding.{IsInteger, IsScalarOf}
 use Rattle.ob_mean.specs.Object.{first_argument, other_arguments}
 use Rattle.ob_text.specs.ExportNames.{Numbered, export_named, one_further}
-use Rattle.ob_text.specs.declared.script.ScriptCall.{ScriptCall}
+use Rattle.ob_text_words.specs.declared.script_call.ScriptCall.{ScriptCall}
 use Rattle.ob_text.specs.Script.{AreLines, IsScript, Makes, call, makes, none, skipped}
-use Rattle.ob_text.specs.Script as Script
-use Rattle.ob_text.specs.ScriptView.{object_call, script_call_of}
+use Rattle.ob_text_words.specs.ScriptCalls
+use Rattle.ob_text_words.specs.ScriptCalls.{object_call, script_call_of}
 use Rattle.ob_text.specs.Values.{AreValues, IsValue, formals_of, is_of_mode}
 use Rattle.ob_text.specs.Values as Values
-use Rattle.ob_text.specs.Words.{Word, lines, words}
-use Rattle.ob_text.specs.Words as Words
+use Rattle.ob_text_words.specs.Words.{Word, lines, words}
+use Rattle.ob_text_words.specs.Words as Words
 
 -- ---- the export of a name
 
@@ -118,24 +118,24 @@ fit (f ∷ formals) rest arguments h = go f.is_var refl (fit formals)
 -- ---- calls
 
 module _ (program : Program) (n : ℕ) where
-  abbrev pub Fits : Script.ScriptCall → Type 0
+  abbrev pub Fits : ScriptCalls.ScriptCall → Type 0
   Fits c = IsFitting (parts_of program) (object_call c)
 
-  call_fits : (line : List Word) (c : Script.ScriptCall) → Makes (signatures program) n line c → Fits c
+  call_fits : (line : List Word) (c : ScriptCalls.ScriptCall) → Makes (signatures program) n line c → Fits c
   call_fits line c (makes {name = name} {rest = rest} {e = e} {arguments = arguments} is below is_name named values) =
       let x = enters 0 program.procedures name e named in
       record { entrance = x.entrance; there = x.there; fit = subst (λ (fs : List Formal). FormalsFit fs arguments) (sym x.same) (fit e.signature.parameters rest arguments values) }
 
-  lines_fit : (ls : List (List Word)) (cs : List Script.ScriptCall) → AreLines (signatures program) n ls cs → All Fits cs
+  lines_fit : (ls : List (List Word)) (cs : List ScriptCalls.ScriptCall) → AreLines (signatures program) n ls cs → All Fits cs
   lines_fit ls cs none = All-nil Fits
   lines_fit ls cs (skipped {rest = rest} s h) = lines_fit rest cs h
   lines_fit ls cs (call {line = line} {rest = rest} {c = c} {calls = calls} m h) = All-cons Fits c calls (call_fits line c m) (lines_fit rest calls h)
 
-  lines_below : (ls : List (List Word)) (cs : List Script.ScriptCall) → AreLines (signatures program) n ls cs → All (λ c. c.process < n) cs
-  lines_below ls cs none = All-nil (λ (c : Script.ScriptCall). c.process < n)
+  lines_below : (ls : List (List Word)) (cs : List ScriptCalls.ScriptCall) → AreLines (signatures program) n ls cs → All (λ c. c.process < n) cs
+  lines_below ls cs none = All-nil (λ (c : ScriptCalls.ScriptCall). c.process < n)
   lines_below ls cs (skipped {rest = rest} s h) = lines_below rest cs h
   lines_below ls cs (call {rest = rest} {c = c} {calls = calls} (makes is below is_name named values) h) =
-      All-cons (λ (d : Script.ScriptCall). d.process < n) c calls below (lines_below rest calls h)
+      All-cons (λ (d : ScriptCalls.ScriptCall). d.process < n) c calls below (lines_below rest calls h)
 
   -- the same of the calls as they were read
   pub calls_fit : (text : List ℕ) (xs : List ScriptCall) → IsScript (signatures program) n text (map script_call_of xs) → All (λ c. Fits (script_call_of c)) xs
@@ -146,5 +146,5 @@ module _ (program : Program) (n : ℕ) where
   pub callers_below : (text : List ℕ) (xs : List ScriptCall) → IsScript (signatures program) n text (map script_call_of xs) → All (λ c. c.process < n) xs
   callers_below text xs h =
       λ k d below.
-      subst (λ (c : Script.ScriptCall). c.process < n) (get_or-map script_call_of xs k d)
+      subst (λ (c : ScriptCalls.ScriptCall). c.process < n) (get_or-map script_call_of xs k d)
       (lines_below (map words (lines text)) (map script_call_of xs) h k (script_call_of d) (rw length-map below))

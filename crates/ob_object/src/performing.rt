@@ -11,7 +11,7 @@ ghost use Rattle.ob_object.specs.View.{object_in};
 ghost use Rattle.ob_opened.specs.ModuleText.{IsModule};
 ghost use Rattle.ob_record.specs.Record.{AreOfExports, record_of};
 ghost use Rattle.ob_schedule.specs.Schedule.{process_of};
-ghost use Rattle.ob_text.specs.ScriptView.{object_call, script_call_of};
+ghost use Rattle.ob_text_words.specs.ScriptCalls.{object_call, script_call_of};
 ghost use Rattle.ob_order.specs.OfModule.{IsLegalOrder};
 
 use crate::compiling::{CompileFault, Object, compile};
@@ -25,7 +25,8 @@ use ob_run::record_run;
 use ob_scan::ScanFault;
 use ob_scan::scanner::LONGEST_TEXT;
 use ob_schedule::{Item, ScheduleFault, read_schedule};
-use ob_text::script::{ScriptCall, ScriptFault, read_scripts};
+use ob_text::script::{ScriptFault, read_scripts};
+use ob_text_words::script_call::ScriptCall;
 use std::alloc::{AllocError, Global};
 use thiserror::Error;
 use wf_history::History;

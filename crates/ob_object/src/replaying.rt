@@ -9,7 +9,7 @@ ghost use Rattle.ob_object.specs.Performance.{AreMakersIn, IsRunFault, IsSoundOb
 ghost use Rattle.ob_object.specs.View.{object_in};
 ghost use Rattle.ob_record.specs.Record.{record_of};
 ghost use Rattle.ob_schedule.specs.Schedule.{process_of};
-ghost use Rattle.ob_text.specs.ScriptView.{object_call, script_call_of};
+ghost use Rattle.ob_text_words.specs.ScriptCalls.{object_call, script_call_of};
 ghost use Rattle.ob_order.specs.OfModule.{IsLegalOrder};
 
 use crate::compiling::Object;
@@ -20,7 +20,7 @@ use ob_interface::{MOST_PROCESSES, NoMemory};
 use ob_layout::encode;
 use ob_record::Record;
 use ob_schedule::Item;
-use ob_text::script::ScriptCall;
+use ob_text_words::script_call::ScriptCall;
 use smallvec::SmallVec;
 use std::alloc::{AllocError, Global};
 use wf_play::{PlayFault, makers};

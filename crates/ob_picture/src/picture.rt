@@ -10,8 +10,8 @@ use ob_check::program::Export;
 use ob_interface::call::{Call, Reply};
 use ob_interface::scalar::Scalar;
 use ob_record::Record;
-use ob_text::numbers::push_number;
-use ob_text::values::push_value;
+use ob_text_words::numbers::push_number;
+use ob_text_words::values::push_value;
 use std::alloc::{AllocError, Global};
 use wf_history::{CallId, Event};
 

@@ -1,7 +1,7 @@
 //! The elements of a picture in SVG.
 
 use crate::places::Point;
-use ob_text::numbers::push_number;
+use ob_text_words::numbers::push_number;
 use std::alloc::AllocError;
 
 /// How the classes of elements look.

@@ -24,7 +24,7 @@ use Rattle.ob_scan.specs.declared.token.Token.{Token}
 use Rattle.ob_syntax.specs.Printing as Printing
 use Rattle.ob_syntax.specs.Printing.{between, body_words, declaration_words, fixed, heading_words, ident, name_words, part_words, procedure_words, type_words, var_decl_words, words_behind}
 use Rattle.ob_syntax.proofs.Worded.{derived_words, free_bytes, word_of}
-use Rattle.ob_text.specs.Words.{is_blank}
+use Rattle.ob_text_words.specs.Words.{is_blank}
 
 -- ---- letters and digits are a word
 

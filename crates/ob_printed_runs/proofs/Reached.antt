@@ -12,10 +12,11 @@ use Rattle.ob_printed_runs.proofs.ExportNames.{named_there}
 use Rattle.ob_printed_runs.proofs.Values.{values_fit}
 use Rattle.ob_read_back.specs.Writable.{FitsExport}
 use Rattle.ob_text.specs.Script as Script
-use Rattle.ob_text.specs.Script.{AreLines, IsScript, Makes, ScriptCall}
-use Rattle.ob_text.specs.ScriptView.{object_call}
+use Rattle.ob_text_words.specs.ScriptCalls.{ScriptCall}
+use Rattle.ob_text.specs.Script.{AreLines, IsScript, Makes}
+use Rattle.ob_text_words.specs.ScriptCalls.{object_call}
 use Rattle.ob_text.specs.Values.{value_formals}
-use Rattle.ob_text.specs.Words.{Word, lines, words}
+use Rattle.ob_text_words.specs.Words.{Word, lines, words}
 use Rattle.wf_help.proofs.Effects.{begun_fits}
 use Rattle.wf_history.specs.declared.event.CallId.{CallId}
 use Rattle.wf_history.specs.Legal.{HasBegun}

@@ -23,7 +23,8 @@ use Rattle.ob_read_back.proofs.ReadBack.{written_is_read}
 use Rattle.ob_read_back.specs.Writable.{FitsExport, IsCounted, IsNamed, IsReplyOf, IsWord, IsWritable, IsWritableEvent, RepliesTo, told_by}
 use Rattle.ob_record.specs.Record.{Record}
 use Rattle.ob_record.specs.RecordText.{record_text}
-use Rattle.ob_text.specs.Script.{IsScript, ScriptCall}
+use Rattle.ob_text_words.specs.ScriptCalls.{ScriptCall}
+use Rattle.ob_text.specs.Script.{IsScript}
 use Rattle.ob_verify.proofs.WithoutApplied.{runs_verified}
 use Rattle.ob_verify.specs.Verified.{IsVerified}
 use Rattle.wf_history.proofs.Positions.{place_left, place_of}

@@ -18,8 +18,8 @@ use Rattle.ob_read_back.specs.Writable.{FitFormals, IsInRange, IsOfType, IsPlain
 use Rattle.ob_scheme.specs.Correct.{AreValuesOf}
 use Rattle.ob_text.specs.Values as Values
 use Rattle.ob_text.specs.Values.{AreValues, IsValue, formals_of}
-use Rattle.ob_text.specs.Words as Words
-use Rattle.ob_text.specs.Words.{Word}
+use Rattle.ob_text_words.specs.Words as Words
+use Rattle.ob_text_words.specs.Words.{Word}
 
 -- ---- what words say
 

@@ -17,8 +17,8 @@ use Rattle.ob_record.specs.RecordText.{id_text, value_text}
 use Rattle.ob_record_reading.specs.RecordLines as Lines
 use Rattle.ob_record_reading.specs.RecordLines.{IsId}
 use Rattle.ob_scan.specs.Spelling.{number_value}
-use Rattle.ob_text.specs.Values.{scalar_text}
-use Rattle.ob_text.specs.Words.{Word, IsDigits, IsInteger, IsNumeral, is_blank, positive, negative}
+use Rattle.ob_text_words.specs.ScalarTexts.{scalar_text}
+use Rattle.ob_text_words.specs.Words.{Word, IsDigits, IsInteger, IsNumeral, is_blank, positive, negative}
 use Rattle.wf_history.specs.declared.event.CallId.{CallId}
 
 abbrev AreDigits : List ℕ → Type 0

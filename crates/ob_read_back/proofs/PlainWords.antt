@@ -8,7 +8,7 @@ use Rattle.std.specs.Io.BufRead.{ends_with_byte, strip_last}
 use Rattle.std.specs.List.{slice_split}
 use Rattle.ob_read_back.specs.Writable.{IsWord}
 use Rattle.ob_record_reading.specs.RecordLines.{Line, record_lines}
-use Rattle.ob_text.specs.Words.{Word, is_blank, lines, words}
+use Rattle.ob_text_words.specs.Words.{Word, is_blank, lines, words}
 
 -- words, each with a space before it
 abbrev pub spaced : List Word → List ℕ

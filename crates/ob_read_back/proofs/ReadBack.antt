@@ -13,8 +13,9 @@ use Rattle.ob_record.specs.RecordText.{id_text, name_of, record_text}
 use Rattle.ob_record_reading.specs.RecordLines as Lines
 use Rattle.ob_record_reading.specs.RecordLines.{AreIds, AreLines, IsEvent, IsNextEvent, IsRecord, IsRecordOf, IsReply, IsTail, Line}
 use Rattle.ob_text.specs.Values as Values
-use Rattle.ob_text.specs.Values.{AreValues, IsValue, formals_of, scalar_text, value_formals}
-use Rattle.ob_text.specs.Words.{Word}
+use Rattle.ob_text_words.specs.ScalarTexts.{scalar_text}
+use Rattle.ob_text.specs.Values.{AreValues, IsValue, formals_of, value_formals}
+use Rattle.ob_text_words.specs.Words.{Word}
 use Rattle.ob_verify.specs.RunRecords.{without_applied}
 use Rattle.wf_history.specs.declared.event.CallId.{CallId}
 use Rattle.wf_history.specs.History.{Event, Begin, Applied, End, IsHistory, own_calls}

@@ -12,8 +12,8 @@ use Rattle.ob_mean.specs.Store.{Binding, value_held}
 use Rattle.ob_record.specs.Record.{Record}
 use Rattle.ob_record.specs.RecordText.{event_text, id_text, name_of, order_text, record_text, schedule_text, value_text, variable_text}
 use Rattle.ob_record_reading.specs.RecordLines.{Line}
-use Rattle.ob_text.specs.Values.{scalar_text}
-use Rattle.ob_text.specs.Words.{Word}
+use Rattle.ob_text_words.specs.ScalarTexts.{scalar_text}
+use Rattle.ob_text_words.specs.Words.{Word}
 use Rattle.wf_history.specs.declared.event.CallId.{CallId}
 use Rattle.wf_history.specs.History.{Event, Begin, Applied, End, IsHistory, own_calls}
 use Rattle.wf_table.specs.declared.schedule.Turns.{Turns}

@@ -18,7 +18,7 @@ use Rattle.ob_record.specs.RecordText.{record_text}
 use Rattle.ob_record_reading.specs.RecordLines.{IsRecord, Told}
 use Rattle.ob_text.specs.ExportNames.{export_named}
 use Rattle.ob_text.specs.Values.{formals_of, value_formals}
-use Rattle.ob_text.specs.Words.{Word, is_blank}
+use Rattle.ob_text_words.specs.Words.{Word, is_blank}
 use Rattle.ob_verify.specs.RunRecords.{without_applied}
 use Rattle.ob_verify.specs.Verified.{IsVerified}
 use Rattle.wf_history.specs.declared.event.CallId.{CallId}

@@ -8,7 +8,7 @@ use Rattle.ob_mean.specs.Store.{Binding, value_held}
 use Rattle.ob_mean.specs.Value.{Value, Single}
 use Rattle.ob_record.specs.Record.{Record}
 use Rattle.ob_reply.specs.ReplyLines.{reply_line}
-use Rattle.ob_text.specs.Values.{scalar_text}
+use Rattle.ob_text_words.specs.ScalarTexts.{scalar_text}
 use Rattle.wf_history.specs.declared.event.CallId.{CallId}
 use Rattle.wf_history.specs.History.{Event, Begin, Applied, End}
 use Rattle.wf_table.specs.declared.schedule.Turns.{Turns}

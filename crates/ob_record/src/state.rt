@@ -7,7 +7,7 @@ ghost use Rattle.ob_record.specs.RecordText.{value_text, variable_text};
 
 use ob_mean::state::NamedValue;
 use ob_mean::value::Value;
-use ob_text::values::push_value;
+use ob_text_words::values::push_value;
 use std::alloc::AllocError;
 
 /// Appends a line for each variable, with its value.

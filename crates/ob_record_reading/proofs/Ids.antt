@@ -6,8 +6,8 @@ use Rattle.std.proofs.Math.Seq.{take-append_seam, drop-append_seam}
 use Rattle.std.specs.Char.{is_ascii_digit}
 use Rattle.std.specs.List.{list_all, prefix_len}
 use Rattle.ob_scan.specs.Spelling.{number_value}
-use Rattle.ob_text.specs.Words.{IsNumeral, Word}
-use Rattle.ob_text.proofs.DigitParts.{digits_before-mark}
+use Rattle.ob_text_words.specs.Words.{IsNumeral, Word}
+use Rattle.ob_text_words.proofs.DigitParts.{digits_before-mark}
 use Rattle.ob_record_reading.specs.RecordLines.{AreIds, IsId, id, more, none}
 use Rattle.wf_history.specs.declared.event.CallId.{CallId}
 

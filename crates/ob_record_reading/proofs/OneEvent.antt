@@ -8,7 +8,7 @@ use Rattle.ob_interface.specs.declared.call.Reply as Replied
 use Rattle.ob_interface.specs.View as View
 use Rattle.ob_text.specs.ExportNames.{Numbered, export_named}
 use Rattle.ob_text.specs.Values.{AreValues, formals_of, value_formals}
-use Rattle.ob_text.specs.Words.{IsNumeral, Word}
+use Rattle.ob_text_words.specs.Words.{IsNumeral, Word}
 use Rattle.ob_record_reading.specs.RecordLines as Lines
 use Rattle.ob_record_reading.specs.RecordLines.{IsApplied, IsCount, AreIds, IsEvent, IsId, IsNextEvent, IsOrder, IsReply, Line}
 use Rattle.ob_record_reading.specs.LineReading.{HasSaid, IsAppliedRead, IsOrderRead, SaysNothing}

@@ -5,9 +5,9 @@ use Rattle.ob_check.specs.declared.program.DataType.{DataType}
 use Rattle.ob_check.specs.declared.program.Formal.{Formal}
 use Rattle.ob_interface.specs.declared.scalar.Scalar.{Scalar}
 use Rattle.ob_interface.specs.declared.scalar.Scalar.TheVariants.{Int}
-use Rattle.ob_text.specs.Words as Words
+use Rattle.ob_text_words.specs.Words as Words
 use Rattle.ob_text.specs.Values as Values
-use Rattle.ob_text.specs.Words.{IsDigits, IsInteger, Word}
+use Rattle.ob_text_words.specs.Words.{IsDigits, IsInteger, Word}
 use Rattle.ob_text.specs.Values.{AreValues, IsValue}
 
 one_number : {most : ℕ} {word : Word} {m n : ℕ} → IsDigits most word m → IsDigits most word n → m ≡ n

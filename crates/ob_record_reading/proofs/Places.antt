@@ -2,9 +2,9 @@
 use Rattle.std.proofs.Common.{◌≡◌, ◌∙◌, ℕ, ◌+◌, ◌-◌, ◌<◌, ◌≤◌, zero, suc, List, [], ◌∷◌, ◌++◌, All, Bor, Bool, IsTrue, ◌==◌, drop, length, take, get_or, map, refl, sym, ap, ap₂, subst, arith}
 use Rattle.std.proofs.lemmas.List.{length-drop, length-map, take_all, take_more}
 use Rattle.std.proofs.Math.ListN.{get_or-map}
-use Rattle.ob_text.specs.Words.{words}
+use Rattle.ob_text_words.specs.Words.{words}
 use Rattle.std.proofs.lemmas.Bool.{eqb-true}
-use Rattle.ob_text.specs.Words.{Word}
+use Rattle.ob_text_words.specs.Words.{Word}
 use Rattle.ob_record_reading.specs.LineReading.{FailsBehind, IsFirstOther, SaysNothing}
 use Rattle.ob_record_reading.specs.RecordLines.{AreLines, IsApplied, IsNextEvent, IsOrder, IsTail, Line}
 use Rattle.std.proofs.lemmas.List.{drop-map}

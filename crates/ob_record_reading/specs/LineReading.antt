@@ -8,7 +8,7 @@ use Rattle.ob_record_reading.specs.declared.line.Line.TheVariants as Says
 use Rattle.ob_record_reading.specs.declared.reading.RecordFault.{RecordFault}
 use Rattle.ob_record_reading.specs.declared.reading.RecordFault.TheVariants as Faults
 use Rattle.ob_record_reading.specs.RecordLines.{AreIds, AreLines, IsApplied, IsNextEvent, IsOrder, IsTail, Line}
-use Rattle.ob_text.specs.Words.{Word}
+use Rattle.ob_text_words.specs.Words.{Word}
 use Rattle.wf_history.specs.declared.event.CallId.{CallId}
 use Rattle.wf_history.specs.History.{Event, Begin, End}
 

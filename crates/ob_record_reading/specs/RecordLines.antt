@@ -9,7 +9,7 @@ use Rattle.ob_record_reading.specs.declared.reading.RecordFault.{RecordFault}
 use Rattle.ob_record_reading.specs.declared.reading.RecordFault.TheVariants as Faults
 use Rattle.ob_text.specs.ExportNames.{Numbered, export_named}
 use Rattle.ob_text.specs.Values.{AreValues, formals_of, value_formals}
-use Rattle.ob_text.specs.Words.{IsNumeral, Word, lines, words}
+use Rattle.ob_text_words.specs.Words.{IsNumeral, Word, lines, words}
 use Rattle.wf_history.specs.declared.event.CallId.{CallId}
 use Rattle.wf_history.specs.History.{Event, Begin, End, IsHistory, own_calls}
 

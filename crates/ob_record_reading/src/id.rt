@@ -4,7 +4,7 @@ ghost use Rattle.std.specs.Prelude.{List, map, IfOk, MatchOption};
 ghost use Rattle.ob_record_reading.specs.RecordLines.{AreIds, IsId};
 ghost use Rattle.wf_history.specs.declared.event.CallId.{CallId};
 
-use ob_text::numbers::{read_numeral, split_digits};
+use ob_text_words::numbers::{read_numeral, split_digits};
 use std::alloc::{AllocError, Global};
 use wf_history::CallId;
 

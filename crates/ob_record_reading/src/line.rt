@@ -6,7 +6,7 @@ ghost use Rattle.ob_interface.specs.Call as Object;
 ghost use Rattle.ob_interface.specs.View.{reply_of};
 ghost use Rattle.ob_record_reading.specs.LineReading.{HasSaid, IsAppliedRead, IsEventRead, IsOrderRead, SaysNothing};
 ghost use Rattle.ob_record_reading.specs.RecordLines.{AreIds, IsNextEvent, IsReply};
-ghost use Rattle.ob_text.specs.Words.{IsNumeral};
+ghost use Rattle.ob_text_words.specs.Words.{IsNumeral};
 ghost use Rattle.wf_history.specs.History as History;
 ghost use Rattle.wf_history.specs.declared.event.CallId as Names;
 

@@ -1,9 +1,9 @@
 //! Numbers that are all that is said.
 
 ghost use Rattle.std.specs.Prelude.{◌≡◌, ◌≤◌, ◌∷◌, [], ℕ, List, map, MatchOption};
-ghost use Rattle.ob_text.specs.Words.{IsNumeral};
+ghost use Rattle.ob_text_words.specs.Words.{IsNumeral};
 
-use ob_text::numbers::read_numeral;
+use ob_text_words::numbers::read_numeral;
 
 /// The number from 1 to `most` that the only word says.
 pub(crate) fn read_only_number(words: &[&[u8]], most: u64) -> Option<u64>

@@ -7,7 +7,7 @@ ghost use Rattle.ob_check.specs.Exports.{export_of, signatures};
 ghost use Rattle.ob_record_reading.specs.LineReading.{FaultBehind, IsFirstOther};
 ghost use Rattle.ob_record_reading.specs.RecordLines.{AreLines, FaultStands, IsCount, IsRecord, IsRecordFault, IsRecordOf, IsTail, IsTitle, Told, record_lines};
 ghost use Rattle.ob_record_reading.specs.Told.{told_of};
-ghost use Rattle.ob_text.specs.Words.{lines, words};
+ghost use Rattle.ob_text_words.specs.Words.{lines, words};
 
 use crate::calls::Calls;
 use crate::line::{Line, read_line};
@@ -15,7 +15,7 @@ use crate::number::read_only_number;
 use ob_check::checked::Checked;
 use ob_check::program::Export;
 use ob_interface::NoMemory;
-use ob_text::words::words_of;
+use ob_text_words::words::words_of;
 use std::alloc::{AllocError, AllocFailed, Global};
 use thiserror::Error;
 use wf_history::{CallId, History};

@@ -2,7 +2,7 @@
 use Rattle.std.specs.Prelude.{ℕ, List, ◌++◌, codes, decimal}
 use Rattle.std.specs.List.{flat_map}
 use Rattle.ob_interface.specs.Call.{Reply, Answers, Trapped}
-use Rattle.ob_text.specs.Values.{scalar_text}
+use Rattle.ob_text_words.specs.ScalarTexts.{scalar_text}
 
 -- what stands behind the call's id
 abbrev pub reply_text : Reply → List ℕ

@@ -4,13 +4,13 @@ ghost use Rattle.std.specs.Prelude.{◌≡◌, ◌++◌, codes, decimal, OnErr, 
 ghost use Rattle.std.specs.List.{flat_map};
 ghost use Rattle.ob_interface.specs.View.{reply_of};
 ghost use Rattle.ob_reply.specs.ReplyLines.{reply_line, reply_text};
-ghost use Rattle.ob_text.specs.Values.{scalar_text};
-ghost use Rattle.ob_text.specs.Appending.{GoesOn};
+ghost use Rattle.ob_text_words.specs.ScalarTexts.{scalar_text};
+ghost use Rattle.ob_text_words.specs.Appending.{GoesOn};
 
 use ob_interface::call::Reply;
 use ob_interface::scalar::Scalar;
-use ob_text::numbers::push_number;
-use ob_text::values::push_value;
+use ob_text_words::numbers::push_number;
+use ob_text_words::values::push_value;
 use std::alloc::AllocError;
 
 /// Appends the line of a reply to a process's call of a number.

@@ -7,7 +7,7 @@ ghost use Rattle.ob_record.specs.Record.{record_of};
 ghost use Rattle.ob_run.specs.Computes.{IsComputed};
 ghost use Rattle.ob_run.specs.Recorded.{DoFit, IsLegalFor, IsRecorded};
 ghost use Rattle.ob_schedule.specs.Schedule.{process_of};
-ghost use Rattle.ob_text.specs.ScriptView.{object_call, script_call_of};
+ghost use Rattle.ob_text_words.specs.ScriptCalls.{object_call, script_call_of};
 ghost use Rattle.wf_play.specs.Played.{IsPlayFault, scripts_of};
 
 use ob_interface::NoMemory;
@@ -15,7 +15,7 @@ use ob_layout::{Layout, encode};
 use ob_mean::state::State;
 use ob_record::Record;
 use ob_schedule::Item;
-use ob_text::script::ScriptCall;
+use ob_text_words::script_call::ScriptCall;
 use std::alloc::Global;
 use wf_object::{Engine, Machine};
 use wf_play::{PlayFault, play};

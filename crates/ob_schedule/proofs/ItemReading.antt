@@ -5,7 +5,7 @@ use Rattle.std.specs.Char.{is_ascii_digit}
 use Rattle.std.specs.List.{list_all}
 use Rattle.ob_scan.specs.Spelling.{number_value}
 use Rattle.wf_table.specs.declared.process.Label.{Label}
-use Rattle.ob_text.specs.Words.{Word, IsDigits, IsProcess}
+use Rattle.ob_text_words.specs.Words.{Word, IsDigits, IsProcess}
 use Rattle.ob_schedule.specs.LabelNames.{label_name}
 use Rattle.ob_schedule.proofs.Labels.{one_label}
 use Rattle.ob_schedule.specs.Schedule.{IsItem, steps, until, to_answer}

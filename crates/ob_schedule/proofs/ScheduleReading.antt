@@ -4,7 +4,7 @@ use Rattle.std.proofs.lemmas.List.{take_more}
 use Rattle.std.proofs.lemmas.List.FromFn.{get_or-enumerate_from, length-enumerate_from}
 use Rattle.std.proofs.lemmas.Option.{slice_get_read}
 use Rattle.std.specs.List.{enumerate_from}
-use Rattle.ob_text.specs.Words.{Word}
+use Rattle.ob_text_words.specs.Words.{Word}
 use Rattle.ob_schedule.specs.Schedule.{AreItems, FailsAtItem, HasNoForm, HasNoProcess, IsItem, IsScheduleFault, item_words, more, none, process_of}
 use Rattle.ob_schedule.specs.declared.item.Item.{Item}
 use Rattle.ob_schedule.proofs.ItemReading.{one_item}

@@ -1,7 +1,7 @@
 -- Schedules: what each word says, of steps of so many processes.
 use Rattle.std.specs.Prelude.{◌≡◌, ℕ, ◌-◌, ◌<◌, ◌≤◌, ◌==◌, ◌||◌, not, Bool, List, [], ◌∷◌, ◌++◌, length, filter, take, slice_get, Some}
 use Rattle.std.specs.List.{slice_split}
-use Rattle.ob_text.specs.Words.{Word, IsDigits, IsProcess, is_blank}
+use Rattle.ob_text_words.specs.Words.{Word, IsDigits, IsProcess, is_blank}
 use Rattle.ob_schedule.specs.LabelNames.{label_name}
 use Rattle.ob_schedule.specs.declared.item.Item.{Item}
 use Rattle.ob_schedule.specs.declared.item.Item.TheVariants as Items

@@ -5,7 +5,7 @@ ghost use Rattle.ob_schedule.specs.declared.item.Item.{Item};
 ghost use Rattle.ob_schedule.specs.Schedule.{IsItem, process_of};
 
 use crate::label::label_named;
-use ob_text::numbers::{read_digits, read_process, split_digits};
+use ob_text_words::numbers::{read_digits, read_process, split_digits};
 use wf_table::Label;
 
 /// Steps of one process.

@@ -9,7 +9,7 @@ use Rattle.ob_meaning.specs.Object.{AreReplies}
 use Rattle.ob_interpreter.specs.View.{call_of}
 use Rattle.ob_calls.specs.declared.script.ScriptCall.{ScriptCall}
 use Rattle.ob_calls.specs.Script
-use Rattle.ob_text.specs.Words.{Word}
+use Rattle.ob_text_words.specs.Words.{Word}
 use Rattle.ob_calls.specs.Script.{AreLines, none, skipped, call, Makes, makes}
 use Rattle.ob_calls.specs.ScriptView.{script_call_of}
 use Rattle.ob_calls.specs.ReplyLines.{reply_lines}

@@ -17,7 +17,7 @@ use Rattle.ob_agreement.specs.Same.{SameOutcome, SameState, AreValuesOf, FitsExp
 use Rattle.ob_agreement.proofs.ResolvedModules.{resolved}
 use Rattle.ob_agreement.proofs.SameStatements.{opening_same}
 use Rattle.ob_agreement.proofs.SameCalls.{call_same}
-use Rattle.ob_text.specs.Words.{Word}
+use Rattle.ob_text_words.specs.Words.{Word}
 use Rattle.ob_interpreter.specs.declared.opening.OpenFault.{OpenFault}
 use Rattle.ob_interpreter.specs.declared.opening.OpenFault.TheVariants as Open
 use Rattle.ob_interpreter.specs.Sequences as Sequences

@@ -23,7 +23,7 @@ use Rattle.ob_run.specs.Computes.{IsComputed}
 use Rattle.ob_run.specs.Recorded.{DoFit, IsLegalFor}
 use Rattle.ob_order.specs.OfModule.{IsLegalOrder}
 use Rattle.ob_serve.specs.Served.{IsRecordOf, desk_of}
-use Rattle.ob_text.specs.Script.{ScriptCall}
+use Rattle.ob_text_words.specs.ScriptCalls.{ScriptCall}
 use Rattle.wf_history.specs.History.{Event}
 use Rattle.wf_object.specs.View.{Object}
 use Rattle.wf_play.specs.Played.{scripts_of}

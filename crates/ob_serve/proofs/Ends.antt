@@ -22,7 +22,7 @@ use Rattle.ob_serve.specs.ServeFaults.{IsFinishFault, IsLowestLost, IsServeFault
 use Rattle.ob_serve.specs.Served.{AreTurnsLet, calls_for, desk_of}
 use Rattle.ob_serve.specs.declared.fault.ServeFault.{ServeFault}
 use Rattle.ob_serve.specs.declared.fault.ServeFault.TheVariants as Faults
-use Rattle.ob_text.specs.Script.{ScriptCall}
+use Rattle.ob_text_words.specs.ScriptCalls.{ScriptCall}
 use Rattle.wf_history.specs.History.{Event}
 use Rattle.wf_table.specs.declared.schedule.Turns.{Turns}
 

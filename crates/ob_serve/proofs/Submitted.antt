@@ -6,8 +6,8 @@ use Rattle.std.proofs.Math.ListN.{get_or-map}
 use Rattle.ob_desk_floor.specs.Submission.{submission_of}
 use Rattle.ob_desk_floor.specs.declared.submission.Submission.{Submission}
 use Rattle.ob_interface.specs.Call.{ObjectCall}
-use Rattle.ob_text.specs.ScriptView.{object_call, script_call_of}
-use Rattle.ob_text.specs.declared.script.ScriptCall.{ScriptCall}
+use Rattle.ob_text_words.specs.ScriptCalls.{object_call, script_call_of}
+use Rattle.ob_text_words.specs.declared.script_call.ScriptCall.{ScriptCall}
 use Rattle.wf_play.specs.Played.{scripts_of}
 
 -- the process of a script's call, and what it asks of the object

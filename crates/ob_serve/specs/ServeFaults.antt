@@ -18,7 +18,7 @@ use Rattle.ob_serve.specs.Gathered.{sent_by}
 use Rattle.ob_serve.specs.Served.{EndsFirst, IsRecordOf, calls_for, desk_of}
 use Rattle.ob_serve.specs.declared.fault.ServeFault.{ServeFault}
 use Rattle.ob_serve.specs.declared.fault.ServeFault.TheVariants as Faults
-use Rattle.ob_text.specs.Script.{ScriptCall}
+use Rattle.ob_text_words.specs.ScriptCalls.{ScriptCall}
 use Rattle.wf_history.specs.History.{Event, own_answers}
 
 -- what came of a process is what the history shows of it: the Ends of just the first so many of its calls, in turn

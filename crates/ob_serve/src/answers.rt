@@ -4,13 +4,13 @@ ghost use Rattle.std.specs.Prelude.{◌≡◌, ◌≢◌, ◌<◌, ℕ, [], IfNo
 ghost use Rattle.ob_serve.specs.Gathered.{AreByProcess, owner_of};
 ghost use Rattle.ob_serve.specs.ServeFaults.{IsLowestLost, IsTold, IsToldAll};
 ghost use Rattle.ob_serve.specs.Served.{calls_for};
-ghost use Rattle.ob_text.specs.ScriptView.{script_call_of};
+ghost use Rattle.ob_text_words.specs.ScriptCalls.{script_call_of};
 ghost use Rattle.wf_history.specs.View.{event_of};
 ghost use Rattle.wf_theorems.specs.FirstCalls.{first_ids};
 
 use ob_desk_floor::{CallAnswer, are_shown};
 use ob_interface::NoMemory;
-use ob_text::script::ScriptCall;
+use ob_text_words::script_call::ScriptCall;
 use std::alloc::{AllocError, Global};
 use wf_history::{CallId, Event};
 

@@ -8,7 +8,7 @@ ghost use Rattle.ob_engine.specs.Parts.{parts_in};
 ghost use Rattle.ob_object.specs.Performance.{IsSoundObject};
 ghost use Rattle.ob_object.specs.View.{object_in};
 ghost use Rattle.ob_serve.specs.Served.{desk_of};
-ghost use Rattle.ob_text.specs.ScriptView.{object_call, script_call_of};
+ghost use Rattle.ob_text_words.specs.ScriptCalls.{object_call, script_call_of};
 ghost use Rattle.wf_play.specs.Played.{scripts_of};
 
 use ob_desk::Desk;
@@ -18,7 +18,7 @@ use ob_interface::call::Call;
 use ob_interface::{MOST_PROCESSES, NoMemory};
 use ob_layout::encode;
 use ob_object::Object;
-use ob_text::script::ScriptCall;
+use ob_text_words::script_call::ScriptCall;
 use smallvec::SmallVec;
 use std::alloc::{AllocError, Global};
 

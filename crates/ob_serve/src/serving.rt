@@ -12,7 +12,7 @@ ghost use Rattle.ob_object.specs.View.{object_in};
 ghost use Rattle.ob_record.specs.Record.{AreOfExports, record_of};
 ghost use Rattle.ob_serve.specs.ServeFaults.{IsFinishFault, IsServeFault};
 ghost use Rattle.ob_serve.specs.Served.{AreTurnsLet, HaveEnded, IsRecordOf, desk_of};
-ghost use Rattle.ob_text.specs.ScriptView.{object_call, script_call_of};
+ghost use Rattle.ob_text_words.specs.ScriptCalls.{object_call, script_call_of};
 
 use crate::answers::{by_process, first_lost};
 use crate::ending::handed_back;
@@ -26,7 +26,7 @@ use ob_engine::CodeEngine;
 use ob_interface::MOST_PROCESSES;
 use ob_object::Object;
 use ob_record::Record;
-use ob_text::script::ScriptCall;
+use ob_text_words::script_call::ScriptCall;
 use std::alloc::Global;
 use std::sync::Wait;
 use std::thread::Threads;

@@ -8,8 +8,8 @@ use Rattle.ob_object.specs.Compilation.{ObjectParts}
 use Rattle.ob_object.specs.Performance.{IsSoundObject}
 use Rattle.ob_interface.specs.declared.processes.TheConstants.{MOST_PROCESSES}
 use Rattle.ob_serve_texts.specs.ServedTexts.{AreReadCalls}
-use Rattle.ob_text.specs.ScriptView.{object_call, script_call_of}
-use Rattle.ob_text.specs.declared.script.ScriptCall.{ScriptCall}
+use Rattle.ob_text_words.specs.ScriptCalls.{object_call, script_call_of}
+use Rattle.ob_text_words.specs.declared.script_call.ScriptCall.{ScriptCall}
 
 module _ (text : List ℕ) (n : ℕ) (scripts : List ℕ) (o : ObjectParts) (calls : List ScriptCall) (h : AreReadCalls text n scripts o (map script_call_of calls)) where
   pub sound : IsSoundObject o

@@ -17,7 +17,8 @@ use Rattle.ob_serve.specs.declared.fault.ServeFault.{ServeFault}
 use Rattle.ob_serve.specs.declared.fault.ServeFault.TheVariants as Serve
 use Rattle.ob_serve_texts.specs.declared.texts.ServeTextFault.{ServeTextFault}
 use Rattle.ob_serve_texts.specs.declared.texts.ServeTextFault.TheVariants as Faults
-use Rattle.ob_text.specs.Script.{IsScript, ScriptCall}
+use Rattle.ob_text_words.specs.ScriptCalls.{ScriptCall}
+use Rattle.ob_text.specs.Script.{IsScript}
 use Rattle.ob_text.specs.declared.script.ScriptFault.{ScriptFault}
 use Rattle.ob_text.specs.declared.script.ScriptFault.TheVariants as Script
 

@@ -3,7 +3,7 @@
 ghost use Rattle.std.specs.Prelude.{◌≡◌, ◌≢◌, ℕ, ◌<◌, ◌≤◌, ◌⊎◌, ◌^◌, Err, IfErr, IfOk, length, map, string_bytes};
 ghost use Rattle.ob_object.specs.View.{object_in};
 ghost use Rattle.ob_serve_texts.specs.ServedTexts.{AreReadCalls, HasNoCalls, IsOfTexts, IsReadFault, IsServedBy, IsServedPrinted, IsServeTextFault, IsUngatedFault, TellsMemoryApart};
-ghost use Rattle.ob_text.specs.ScriptView.{script_call_of};
+ghost use Rattle.ob_text_words.specs.ScriptCalls.{script_call_of};
 
 use ob_desk_workers::{Gate, Open};
 use ob_interface::MOST_PROCESSES;
@@ -13,7 +13,8 @@ use ob_record::write_record;
 use ob_scan::ScanFault;
 use ob_scan::scanner::LONGEST_TEXT;
 use ob_serve::{ServeFault, serve};
-use ob_text::script::{ScriptCall, ScriptFault, read_scripts};
+use ob_text::script::{ScriptFault, read_scripts};
+use ob_text_words::script_call::ScriptCall;
 use std::alloc::{AllocError, Global};
 use std::sync::Wait;
 use std::thread::Threads;

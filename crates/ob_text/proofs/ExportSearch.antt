@@ -2,7 +2,7 @@
 use Rattle.std.proofs.Common.{ℕ, ◌+◌, List, drop, map, Option, option_map}
 use Rattle.ob_check.specs.declared.program.Export.{Export}
 use Rattle.ob_check.specs.Exports.{export_of}
-use Rattle.ob_text.specs.Words.{Word}
+use Rattle.ob_text_words.specs.Words.{Word}
 use Rattle.ob_text.specs.ExportNames.{Numbered, export_named}
 
 -- an export so much further on

@@ -6,13 +6,14 @@ use Rattle.ob_check.specs.declared.program.Formal.{Formal}
 use Rattle.ob_interface.specs.declared.scalar.Scalar.{Scalar}
 use Rattle.ob_interface.specs.declared.scalar.Scalar.TheVariants.{Int}
 use Rattle.ob_check.specs.Exports.{Signature}
-use Rattle.ob_text.specs.Words as Words
+use Rattle.ob_text_words.specs.Words as Words
 use Rattle.ob_text.specs.Values as Values
 use Rattle.ob_text.specs.Script as Script
-use Rattle.ob_text.specs.Words.{IsDigits, IsInteger, IsProcess, Word}
+use Rattle.ob_text_words.specs.Words.{IsDigits, IsInteger, IsProcess, Word}
 use Rattle.ob_text.specs.Values.{AreValues, IsValue, value_formals}
 use Rattle.ob_text.specs.ExportNames.{Numbered}
-use Rattle.ob_text.specs.Script.{AreLines, IsSkipped, Makes, ScriptCall}
+use Rattle.ob_text_words.specs.ScriptCalls.{ScriptCall}
+use Rattle.ob_text.specs.Script.{AreLines, IsSkipped, Makes}
 
 one_number : {most : ℕ} {word : Word} {m n : ℕ} → IsDigits most word m → IsDigits most word n → m ≡ n
 one_number h k = sym h.spells ∙ k.spells

@@ -10,33 +10,33 @@ use Rattle.ob_interface.specs.declared.scalar.Scalar.{Scalar}
 use Rattle.ob_check.specs.Exports.{Signature}
 use Rattle.ob_text.specs.declared.script.ScriptFault.{ScriptFault}
 use Rattle.ob_text.specs.declared.script.ScriptFault.TheVariants as Faults
-use Rattle.ob_text.specs.Script
-use Rattle.ob_text.specs.Words.{Word, IsProcess, IsName, lines, words}
+use Rattle.ob_text_words.specs.ScriptCalls
+use Rattle.ob_text_words.specs.Words.{Word, IsProcess, IsName, lines, words}
 use Rattle.ob_text.specs.Values.{value_formals, AreValues}
 use Rattle.ob_text.specs.ExportNames.{Numbered, export_named}
 use Rattle.ob_text.specs.Script.{AreLines, none, skipped, call, IsSkipped, Makes, makes, HasNoForm, no_process, no_second, no_name, HasNoProcess, past, HasNoExport, unknown, HasBadArguments, differ, IsScriptFault, FailsAtLine, FaultStands, SaysNone}
 use Rattle.ob_text.specs.ScriptLine.{HasFault}
 
 module _ (signatures : List Signature) (processes : ℕ) where
-  AreLines-append : (xs ys : List (List Word)) (cs ds : List Script.ScriptCall) → AreLines signatures processes xs cs → AreLines signatures processes ys ds →
+  AreLines-append : (xs ys : List (List Word)) (cs ds : List ScriptCalls.ScriptCall) → AreLines signatures processes xs cs → AreLines signatures processes ys ds →
       AreLines signatures processes (xs ++ ys) (cs ++ ds)
   AreLines-append xs ys cs ds none more = more
   AreLines-append xs ys cs ds (skipped {rest = rest} s h) more = skipped s (AreLines-append rest ys cs ds h more)
   AreLines-append xs ys cs ds (call {rest = rest} {calls = calls} m h) more = call m (AreLines-append rest ys calls ds h more)
 
-  pub AreLines-skip : (ls : List (List Word)) (i : ℕ) (line : List Word) (calls : List Script.ScriptCall) → i < length ls → line ≡ get_or ls i line →
+  pub AreLines-skip : (ls : List (List Word)) (i : ℕ) (line : List Word) (calls : List ScriptCalls.ScriptCall) → i < length ls → line ≡ get_or ls i line →
       IsSkipped signatures processes line → AreLines signatures processes (take i ls) calls → AreLines signatures processes (take (i + 1) ls) calls
   AreLines-skip ls i line calls below at s h =
       rw (take_more ls i line, ← at) (rw append-nil at (AreLines-append (take i ls) (line ∷ []) calls [] h (skipped s none)))
 
-  pub AreLines-more : (ls : List (List Word)) (i : ℕ) (line : List Word) (calls : List Script.ScriptCall) (c : Script.ScriptCall) → i < length ls → line ≡ get_or ls i line →
+  pub AreLines-more : (ls : List (List Word)) (i : ℕ) (line : List Word) (calls : List ScriptCalls.ScriptCall) (c : ScriptCalls.ScriptCall) → i < length ls → line ≡ get_or ls i line →
       Makes signatures processes line c → AreLines signatures processes (take i ls) calls → AreLines signatures processes (take (i + 1) ls) (calls ++ c ∷ [])
   AreLines-more ls i line calls c below at m h =
       rw (take_more ls i line, ← at) (AreLines-append (take i ls) (line ∷ []) calls (c ∷ []) h (call m none))
 
   -- at each place of lines that make calls stands a line that is skipped or one that makes a call
-  AreLines-at : (ls : List (List Word)) (calls : List Script.ScriptCall) (i : ℕ) (d : List Word) → i < length ls → AreLines signatures processes ls calls →
-      IsSkipped signatures processes (get_or ls i d) ⊎ ((c : Script.ScriptCall) × Makes signatures processes (get_or ls i d) c)
+  AreLines-at : (ls : List (List Word)) (calls : List ScriptCalls.ScriptCall) (i : ℕ) (d : List Word) → i < length ls → AreLines signatures processes ls calls →
+      IsSkipped signatures processes (get_or ls i d) ⊎ ((c : ScriptCalls.ScriptCall) × Makes signatures processes (get_or ls i d) c)
   AreLines-at ls calls i d below none = absurd (omega arith)
   AreLines-at ls calls zero d below (skipped s h) = inl s
   AreLines-at ls calls (suc i) d below (skipped {rest = rest} {calls = calls'} s h) = AreLines-at rest calls' i d (omega arith) h
@@ -58,7 +58,7 @@ module _ (signatures : List Signature) (processes : ℕ) where
     named : export_named signatures name ≡ Some e
     fit : AreValues (value_formals e.signature) rest arguments
 
-  Makes-parts : (line : List Word) (c : Script.ScriptCall) → Makes signatures processes line c → Parts line
+  Makes-parts : (line : List Word) (c : ScriptCalls.ScriptCall) → Makes signatures processes line c → Parts line
   Makes-parts line c (makes {first = first} {name = name} {rest = rest} {p = p} {e = e} {arguments = arguments} process below is_name named fit) =
       record { first = first; name = name; rest = rest; p = p; e = e; arguments = arguments; line_is = refl; process = process; below = below; is_name = is_name; named = named; fit = fit }
 
@@ -94,7 +94,7 @@ module _ (signatures : List Signature) (processes : ℕ) where
   fault_makes_none line number (Faults.Process told) s h m = no_such_process line m h.1
   fault_makes_none line number Faults.NoMemory s h m = s
 
-  module _ (text : List ℕ) (i : ℕ) (line : List Word) (calls : List Script.ScriptCall) (below : i < length (map words (lines text))) (at : line ≡ get_or (map words (lines text)) i line) (so_far : AreLines signatures processes (take i (map words (lines text))) calls) (says : IsSkipped signatures processes line → ⊥) where
+  module _ (text : List ℕ) (i : ℕ) (line : List Word) (calls : List ScriptCalls.ScriptCall) (below : i < length (map words (lines text))) (at : line ≡ get_or (map words (lines text)) i line) (so_far : AreLines signatures processes (take i (map words (lines text))) calls) (says : IsSkipped signatures processes line → ⊥) where
     fails_here : (IsFault : List Word → Type 0) → IsFault line → FailsAtLine signatures processes text (i + 1) IsFault
     fails_here IsFault h =
         let same : i + 1 - 1 ≡ i = omega arith in
@@ -125,12 +125,3 @@ module _ (signatures : List Signature) (processes : ℕ) where
                 | inr m ↦ fault_makes_none line number e s h (Makes-parts line m.0 (rw at m.1))
               ];
         }
-
--- what a turn of the loop over numbered lines has read
-pub line_at : (parts : List (List ℕ)) (n i : ℕ) (line : List ℕ) → n < length (enumerate_from 0 parts) →
-    (i, line) ≡ get_or (enumerate_from 0 parts) n (i, line) →
-    (n < length (map words parts)) × (i ≡ n) × (words line ≡ get_or (map words parts) n (words line))
-line_at parts n i line below at =
-    let within : n < length parts = rw length-enumerate_from at below in
-    let e : (i, line) ≡ (0 + n, get_or parts n line) = at ∙ get_or-enumerate_from 0 parts n (i, line) within in
-    (rw length-map within, ap (λ p. p.0) e ∙ zero-add n, ap words (ap (λ p. p.1) e) ∙ sym (get_or-map words parts n line))

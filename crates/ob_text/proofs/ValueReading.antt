@@ -5,7 +5,7 @@ use Rattle.std.proofs.lemmas.List.{drop_all, length_push, length-drop}
 use Rattle.std.proofs.Math.ListN.{get_or-map}
 use Rattle.ob_check.specs.declared.program.Formal.{Formal}
 use Rattle.ob_interface.specs.declared.scalar.Scalar.{Scalar}
-use Rattle.ob_text.specs.Words.{Word}
+use Rattle.ob_text_words.specs.Words.{Word}
 use Rattle.ob_text.specs.Values.{IsValue, AreValues, formals_of, is_of_mode, none, more}
 
 -- values of a parameter and of those behind it
@@ -126,13 +126,3 @@ left_over m formals ws i done past differ so_far all h =
     let empty : drop (length done) ws ≡ [] = no_values _ b.0 (rw no_formals at b.1) in
     let long : length ws - length done ≡ 0 = sym (length-drop (length done) ws) ∙ ap length empty in
     differ (omega (arith, so_far.within))
-
--- a word that was read in place
-pub word_at : (ws : List (Bor Word)) (n : ℕ) (w : Bor Word) → w ≡ get_or ws n w → w.now ≡ get_or (map (λ v. v.now) ws) n w.now
-word_at ws n w is = ap (λ v. v.now) is ∙ sym (get_or-map (λ (v : Bor Word). v.now) ws n w)
-
--- what a test gives by `then_some`
-pub by_then_some : {A : Type 0} (b : Bool) (a : A) (P : Type 0) (Q : A → Type 0) →
-    (b ≡ false → P) → (b ≡ true → Q a) → MatchOption (then_some b a) P Q
-by_then_some true a P Q fails holds = holds refl
-by_then_some false a P Q fails holds = fails refl

@@ -2,7 +2,7 @@
 use Rattle.std.specs.Prelude.{ℕ, suc, List, [], ◌∷◌, bytes_eq, if◌then◌else◌, Option, Some, None, option_map}
 use Rattle.ob_check.specs.declared.program.Export.{Export}
 use Rattle.ob_check.specs.Exports.{Signature, export_of}
-use Rattle.ob_text.specs.Words.{Word}
+use Rattle.ob_text_words.specs.Words.{Word}
 
 -- an export with its number
 pub record Numbered : Type 0 where

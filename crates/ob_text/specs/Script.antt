@@ -2,17 +2,12 @@
 use Rattle.std.specs.Prelude.{◌≡◌, ℕ, ◌-◌, ◌<◌, ◌≤◌, List, [], ◌∷◌, map, take, slice_get, Some, None}
 use Rattle.ob_interface.specs.declared.scalar.Scalar.{Scalar}
 use Rattle.ob_check.specs.Exports.{Signature}
-use Rattle.ob_text.specs.Words.{Word, IsName, IsProcess, lines, words}
+use Rattle.ob_text_words.specs.ScriptCalls.{ScriptCall}
+use Rattle.ob_text_words.specs.Words.{Word, IsName, IsProcess, lines, words}
 use Rattle.ob_text.specs.Values.{AreValues, value_formals}
 use Rattle.ob_text.specs.ExportNames.{Numbered, export_named}
 use Rattle.ob_text.specs.declared.script.ScriptFault.{ScriptFault}
 use Rattle.ob_text.specs.declared.script.ScriptFault.TheVariants as Faults
-
--- a call by a process: the number of the export, and the value arguments in text order
-pub record ScriptCall : Type 0 where
-  pub process : ℕ
-  pub export : ℕ
-  pub arguments : List Scalar
 
 -- the exports of a module, and how many processes there are
 module _ (signatures : List Signature) (processes : ℕ) where

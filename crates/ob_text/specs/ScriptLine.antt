@@ -1,7 +1,7 @@
 -- What a fault says of one line of a script.
 use Rattle.std.specs.Prelude.{◌≡◌, ℕ, List}
 use Rattle.ob_check.specs.Exports.{Signature}
-use Rattle.ob_text.specs.Words.{Word}
+use Rattle.ob_text_words.specs.Words.{Word}
 use Rattle.ob_text.specs.Script.{HasNoForm, HasNoExport, HasBadArguments, HasNoProcess}
 use Rattle.ob_text.specs.declared.script.ScriptFault.{ScriptFault}
 use Rattle.ob_text.specs.declared.script.ScriptFault.TheVariants as Faults

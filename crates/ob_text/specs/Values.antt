@@ -1,13 +1,12 @@
--- Values of parameters: the words that say them, and the text that they are printed as.
-use Rattle.std.specs.Prelude.{ℕ, ℤ, Bool, true, false, not, List, [], ◌∷◌, filter, codes}
-use Rattle.std.specs.Fmt.{signed_decimal}
+-- Values of parameters: the words that say them.
+use Rattle.std.specs.Prelude.{ℕ, ℤ, Bool, true, false, not, List, [], ◌∷◌, filter}
 use Rattle.ob_check.specs.declared.program.DataType.TheVariants.{Integer}
 use Rattle.ob_check.specs.declared.program.DataType.{DataType}
 use Rattle.ob_check.specs.declared.program.Formal.{Formal}
 use Rattle.ob_interface.specs.declared.scalar.Scalar.{Scalar}
 use Rattle.ob_interface.specs.declared.scalar.Scalar.TheVariants as Scalars
 use Rattle.ob_check.specs.Exports.{Signature}
-use Rattle.ob_text.specs.Words.{Word, IsInteger}
+use Rattle.ob_text_words.specs.Words.{Word, IsInteger}
 
 -- a value of a type
 pub data IsValue : DataType → Word → Scalar → Type 0 where
@@ -31,9 +30,3 @@ formals_of is_var = filter (is_of_mode is_var)
 -- those that a call has arguments for
 abbrev pub value_formals : Signature → List Formal
 value_formals signature = formals_of false signature.parameters
-
--- a number in decimal digits with a `-` below 0, TRUE or FALSE
-abbrev pub scalar_text : Scalar → List ℕ
-scalar_text (Scalars.Int z) = signed_decimal z
-scalar_text (Scalars.Bool true) = codes "TRUE"
-scalar_text (Scalars.Bool false) = codes "FALSE"

@@ -1,8 +1,6 @@
-//! The words of texts, and scripts: the calls that a run makes.
+//! Scripts of the compiled part: the calls that a run makes.
 #![tactic(auto)]
 
 pub mod exports;
-pub mod numbers;
 pub mod script;
 pub mod values;
-pub mod words;

@@ -4,28 +4,19 @@ ghost use Rattle.std.specs.Prelude.{◌≡◌, List, IfOk, IfErr, map};
 ghost use Rattle.ob_check.specs.CheckedModule.{program_in};
 ghost use Rattle.ob_check.specs.Exports.{export_of, signatures};
 ghost use Rattle.ob_text.specs.Script.{IsScript, IsScriptFault};
-ghost use Rattle.ob_text.specs.Script;
-ghost use Rattle.ob_text.specs.ScriptView.{script_call_of};
+ghost use Rattle.ob_text_words.specs.ScriptCalls as Script;
+ghost use Rattle.ob_text_words.specs.ScriptCalls.{script_call_of};
 
 mod line;
 
 use crate::script::line::read_line;
-use crate::words::words_of;
 use ob_check::checked::Checked;
 use ob_check::program::Export;
-use ob_interface::scalar::Scalar;
-use smallvec::SmallVec;
+use ob_text_words::script_call::ScriptCall;
+use ob_text_words::words::words_of;
 use std::alloc::{AllocError, AllocFailed, Global};
 use std::marker::Model;
 use thiserror::Error;
-
-/// A call by a process: the number of the export, and the value arguments in text order.
-#[derive(Drop)]
-pub struct ScriptCall {
-    pub process: usize,
-    pub proc: usize,
-    pub args: SmallVec<Scalar, 8>,
-}
 
 /// The calls of a script, in line order.
 #[derive(Drop)]
@@ -35,10 +26,10 @@ pub struct Scripts {
 
 impl Model for Scripts {
     ghost use Rattle.std.specs.Prelude.{List, map};
-    ghost use Rattle.ob_text.specs.Script;
-    ghost use Rattle.ob_text.specs.ScriptView.{script_call_of};
+    ghost use Rattle.ob_text_words.specs.ScriptCalls as Script;
+    ghost use Rattle.ob_text_words.specs.ScriptCalls.{script_call_of};
 
-    ghost Value = { List Script.ScriptCall };
+    ghost Value = { List ScriptCalls.ScriptCall };
 
     ghost view = { λ s. map script_call_of s.calls.items };
 }
@@ -107,7 +98,7 @@ pub fn read_scripts(
     text: &[u8],
 ) -> Result<Scripts, ScriptFault>
     ensures script { IfOk result (λ calls. IsScript (signatures (program_in checked.now)) processes text.now calls) }
-    ensures alone { IfOk result (λ calls. (others : List Script.ScriptCall) → IsScript (signatures (program_in checked.now)) processes text.now others → others ≡ calls) }
+    ensures alone { IfOk result (λ calls. (others : List ScriptCalls.ScriptCall) → IsScript (signatures (program_in checked.now)) processes text.now others → others ≡ calls) }
     ensures fault { IfErr result (λ e. IsScriptFault (signatures (program_in checked.now)) processes text.now e) }
 {
     let calls = read_calls(alloc, checked.exports(), processes, text)?;

@@ -1,12 +1,13 @@
-//! Values of parameters, as words and as text.
+//! Values of parameters, as words.
 
-ghost use Rattle.std.specs.Prelude.{◌≡◌, ◌++◌, map, IfOk, OnErr, OnOk, MatchOption, List, string_bytes};
+ghost use Rattle.std.specs.Prelude.{◌≡◌, map, IfOk, MatchOption, List};
 ghost use Rattle.ob_interface.specs.declared.scalar.Scalar.{Scalar};
-ghost use Rattle.ob_text.specs.Values.{AreValues, IsValue, formals_of, is_of_mode, scalar_text};
+ghost use Rattle.ob_text_words.specs.ScalarTexts.{scalar_text};
+ghost use Rattle.ob_text.specs.Values.{AreValues, IsValue, formals_of, is_of_mode};
 
-use crate::numbers::{push_number, read_integer};
 use ob_check::program::{DataType, Formal};
 use ob_interface::scalar::Scalar;
+use ob_text_words::numbers::read_integer;
 use smallvec::SmallVec;
 use std::alloc::{AllocError, Global};
 
@@ -53,17 +54,5 @@ fn is_of_mode(is_var: bool, formal: &Formal) -> bool
         formal.is_var
     } else {
         !formal.is_var
-    }
-}
-
-/// Appends a value: a number, `TRUE` or `FALSE`.
-pub fn push_value(text: &mut String, value: Scalar) -> Result<(), AllocError>
-    ensures ok { OnOk result (string_bytes text.new ≡ string_bytes text.old ++ scalar_text value) }
-    ensures unchanged { OnErr result (string_bytes text.new ≡ string_bytes text.old) }
-{
-    match value {
-        Scalar::Int(integer) => push_number(text, integer),
-        Scalar::Bool(true) => text.push_str("TRUE"),
-        Scalar::Bool(false) => text.push_str("FALSE"),
     }
 }

@@ -3,8 +3,8 @@ use Rattle.std.specs.Prelude.{◌≡◌, ℕ, ◌<◌, ◌⊎◌, ℤ, List, map
 use Rattle.ob_interface.specs.Call.{ObjectCall}
 use Rattle.ob_interface.specs.Processes.{most_processes}
 use Rattle.ob_schedule.specs.declared.item.Item.{Item}
-use Rattle.ob_text.specs.Script.{ScriptCall}
-use Rattle.ob_text.specs.ScriptView.{object_call}
+use Rattle.ob_text_words.specs.ScriptCalls.{ScriptCall}
+use Rattle.ob_text_words.specs.ScriptCalls.{object_call}
 use Rattle.wf_object.specs.View.{Object}
 use Rattle.wf_table.specs.declared.process.Sizes.{Sizes}
 use Rattle.wf_table.specs.Meaning.{Meaning}

@@ -1,7 +1,7 @@
 //! Who made the events of a run.
 
 ghost use Rattle.std.specs.Prelude.{◌≡◌, ◌++◌, ◌<◌, ◌≤◌, All, IfOk, IfErr, OnOk, map, replicate};
-ghost use Rattle.ob_text.specs.ScriptView.{object_call, script_call_of};
+ghost use Rattle.ob_text_words.specs.ScriptCalls.{object_call, script_call_of};
 ghost use Rattle.wf_play.specs.Makers.{AreMakersOf, maker_at, makers_in};
 ghost use Rattle.wf_play.specs.Played.{IsSameObject, scripts_of};
 ghost use Rattle.wf_play.specs.declared.playing.PlayFault.TheVariants as Faults;
@@ -11,7 +11,7 @@ ghost use Rattle.wf_table.specs.Schedule.{steps_of};
 
 use crate::playing::{PlayFault, submit_all};
 use ob_interface::NoMemory;
-use ob_text::script::ScriptCall;
+use ob_text_words::script_call::ScriptCall;
 use std::alloc::Global;
 use wf_object::{Engine, Machine, Turns};
 

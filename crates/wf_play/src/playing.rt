@@ -2,7 +2,7 @@
 
 ghost use Rattle.std.specs.Prelude.{◌≡◌, ◌<◌, ◌⊎◌, ◌↔◌, Err, All, IfOk, IfErr, OnOk, map};
 ghost use Rattle.ob_schedule.specs.Schedule.{process_of};
-ghost use Rattle.ob_text.specs.ScriptView.{object_call, script_call_of};
+ghost use Rattle.ob_text_words.specs.ScriptCalls.{object_call, script_call_of};
 ghost use Rattle.wf_play.specs.Played.{IsItemFault, IsPlayed, IsPlayFault, IsSameObject, scripts_of};
 ghost use Rattle.wf_play.specs.ItemSteps.{HasPlayed};
 ghost use Rattle.wf_play.specs.declared.playing.PlayFault.TheVariants as Faults;
@@ -13,7 +13,7 @@ use crate::item::play_item;
 use ob_interface::NoMemory;
 use ob_interface::call::Call;
 use ob_schedule::Item;
-use ob_text::script::ScriptCall;
+use ob_text_words::script_call::ScriptCall;
 use std::alloc::Global;
 use thiserror::Error;
 use wf_object::{Engine, Machine, NewFault};

@@ -11,8 +11,8 @@ use crate::script::{ScriptCall, ScriptFault};
 use crate::values::read_values;
 use ob_checked::program::Program;
 use ob_interpreter::call::Call;
-use ob_text::numbers::read_process;
-use ob_text::words::is_name;
+use ob_text_words::numbers::read_process;
+use ob_text_words::words::is_name;
 use std::alloc::Global;
 
 /// The call that a line of these words makes; `None` for a line with nothing to say.

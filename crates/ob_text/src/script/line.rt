@@ -4,14 +4,15 @@ ghost use Rattle.std.specs.Prelude.{◌≡◌, ◌↔◌, ℕ, ◌∷◌, map, I
 ghost use Rattle.ob_check.specs.Exports.{export_of};
 ghost use Rattle.ob_text.specs.Script.{IsSkipped, Makes};
 ghost use Rattle.ob_text.specs.ScriptLine.{HasFault};
-ghost use Rattle.ob_text.specs.ScriptView.{script_call_of};
+ghost use Rattle.ob_text_words.specs.ScriptCalls.{script_call_of};
 
 use crate::exports::export_named;
-use crate::numbers::read_process;
-use crate::script::{ScriptCall, ScriptFault};
+use crate::script::ScriptFault;
 use crate::values::read_values;
-use crate::words::is_name;
 use ob_check::program::Export;
+use ob_text_words::numbers::read_process;
+use ob_text_words::script_call::ScriptCall;
+use ob_text_words::words::is_name;
 use std::alloc::Global;
 
 /// The call that a line of these words makes; `None` for a line with nothing to say.

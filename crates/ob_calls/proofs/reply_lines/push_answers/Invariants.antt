@@ -1,7 +1,7 @@
 -- The values so far.
 use Rattle.std.proofs.Common.{◌≡◌, ◌++◌, take, codes, string_bytes}
 use Rattle.std.specs.List.{flat_map}
-use Rattle.ob_calls.specs.Values.{scalar_text}
+use Rattle.ob_text_words.specs.ScalarTexts.{scalar_text}
 use Rattle.ob_calls.proofs.reply_lines.push_answers.Given as goal
 
 abbrev pub invariant-loop-value : goal.invariant-loop-value

@@ -4,9 +4,9 @@ use Rattle.std.proofs.lemmas.Iterator.Splits.{YieldsList-from_slice_split}
 use Rattle.std.proofs.lemmas.List.{length_push, length-map, map-append, take_all}
 use Rattle.std.proofs.lemmas.List.FromFn.{length-enumerate_from}
 use Rattle.std.proofs.lemmas.Result.{err_from_is_err_and}
-use Rattle.ob_text.specs.Words.{lines, words}
+use Rattle.ob_text_words.specs.Words.{lines, words}
 use Rattle.ob_calls.specs.Script.{none}
-use Rattle.ob_text.proofs.ScriptReading.{line_at}
+use Rattle.ob_text_words.proofs.Reading.{line_at}
 use Rattle.ob_calls.proofs.ScriptReading.{AreLines-skip, AreLines-more, fault_here}
 use Rattle.ob_calls.proofs.script.read_calls.Goals as goal
 use Rattle.ob_calls.proofs.script.read_calls.Goals.{in-Some-2+in_ok-push, in_default}

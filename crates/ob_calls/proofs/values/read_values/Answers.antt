@@ -1,7 +1,7 @@
 use Rattle.std.proofs.Common.{◌≤◌, ◌<◌, ◌≡◌, length, get_or, rules, arith, sym, ◌∙◌}
 use Rattle.std.proofs.lemmas.List.{length-map}
 use Rattle.std.proofs.lemmas.Bool.{false≢true, eqb-true, eq-eqb}
-use Rattle.ob_text.proofs.ValueReading.{word_at, by_then_some}
+use Rattle.ob_text_words.proofs.Reading.{word_at, by_then_some}
 use Rattle.ob_calls.proofs.ValueReading.{HasRead-none, HasRead-skip, HasRead-more, no_word, no_value, HasRead-all, left_over}
 use Rattle.ob_calls.proofs.values.read_values.Goals as goal
 use Rattle.ob_calls.proofs.values.read_values.Goals.{then-not-parameter+in-Some+in-Some-read_value+in_ok-push, else-not-parameter}

@@ -8,7 +8,7 @@ use Rattle.ob_object.proofs.Objects.{sound_of}
 use Rattle.ob_object.proofs.ScriptFits.{callers_below, calls_fit}
 use Rattle.ob_object.specs.View.{object_in}
 use Rattle.ob_text.specs.Script.{IsScript}
-use Rattle.ob_text.specs.ScriptView.{object_call, script_call_of}
+use Rattle.ob_text_words.specs.ScriptCalls.{object_call, script_call_of}
 use Rattle.ob_desk_trials.proofs.desks.opened.Goals as goal
 
 pub opened_desk-requires-clause-sound : goal.opened_desk-requires-clause-sound

@@ -5,7 +5,7 @@ use Rattle.ob_store.specs.View.{values_in}
 use Rattle.ob_checked.specs.Types.{structure_by, types_of, fields_in, fields_by, is_within}
 use Rattle.ob_checked.specs.View.{table_of}
 use Rattle.ob_positions.specs.Value as Values
-use Rattle.ob_evaluate.proofs.InitialValues.{rank_at, element_falls, fields_fall, fields_more, none_begun, array_begun, record_begun}
+use Rattle.ob_evaluate.proofs.InitialValues.{most, rank_at, element_falls, fields_fall, fields_more, none_begun, array_begun, record_begun}
 use Rattle.ob_evaluate.proofs.begun.+initial.Goals as goal
 
 pub initial-returns-in-None : goal.initial-returns-in-None
@@ -21,7 +21,8 @@ pub initial-initial_fields-requires : goal.initial-initial_fields-requires
 initial-initial_fields-requires t c =
     let n = c.in-Structured.number in
     let falls = fields_fall (table_of c.args.types.now) c.in-Some.ensures.table c.args.data_type n c.in-Structured.is c.in-Some.structured.now c.in-Some.ensures.entry (fields_in c.in-Record.fields) (ap (is_within n) c.in-Record.is) in
-    (omega (arith, falls), tt)
+    let all : most c.as_slice.result.now ≡ most (fields_in c.in-Record.fields) = ap most c.as_slice.ensures in
+    (omega (arith, falls, all), tt)
 
 pub initial-returns-in_ok-copies-in-Array : goal.initial-returns-in_ok-copies-in-Array
 initial-returns-in_ok-copies-in-Array t c =
@@ -34,7 +35,8 @@ initial-returns-in_ok-initial_fields-in-Record t c =
     let e = c.in-Some.structured.now in
     record_begun es c.in-Some.ensures.table c.args.data_type c.in-Structured.number c.in-Structured.is
     e c.in-Some.ensures.entry c.in_ok-initial_fields-in-Record.field-0 (fields_in c.in-Record.fields)
-    (ap (structure_by (types_of es) e.place) c.in-Record.is) c.in_ok-initial_fields-in-Record.ensures
+    (ap (structure_by (types_of es) e.place) c.in-Record.is)
+    (c.in_ok-initial_fields-in-Record.ensures ∙ ap (λ fs. Values.initial_fields (fields_by (types_of es) fs)) c.as_slice.ensures)
 
 pub initial_fields-initial-requires : goal.initial_fields-initial-requires
 initial_fields-initial-requires t c =

@@ -5,8 +5,9 @@ use Rattle.ob_check.specs.Program.{Program}
 use Rattle.ob_object.proofs.NoPerformance.{no_schedule, no_script}
 use Rattle.ob_object.proofs.PerformFaults.{schedule_fault, schedule_memory, script_fault, script_memory}
 use Rattle.ob_object.specs.View.{object_in}
-use Rattle.ob_text.specs.Script.{IsScript, IsScriptFault, ScriptCall}
-use Rattle.ob_text.specs.ScriptView.{script_call_of}
+use Rattle.ob_text_words.specs.ScriptCalls.{ScriptCall}
+use Rattle.ob_text.specs.Script.{IsScript, IsScriptFault}
+use Rattle.ob_text_words.specs.ScriptCalls.{script_call_of}
 use Rattle.ob_object.proofs.performing.read_texts.Goals as goal
 
 pub returns-in_err-read_scripts-clause-fault : goal.returns-in_err-read_scripts-clause-fault

@@ -3,7 +3,7 @@ use Rattle.std.proofs.lemmas.Result.{err_from_is_err_and}
 use Rattle.ob_object.proofs.Readings as Read
 use Rattle.ob_object.specs.View.{object_in}
 use Rattle.ob_record.specs.Record.{record_of}
-use Rattle.ob_text.specs.ScriptView.{script_call_of}
+use Rattle.ob_text_words.specs.ScriptCalls.{script_call_of}
 use Rattle.ob_object.proofs.printing.draw_text.Goals as goal
 
 pub run_with_makers-requires-clause-callers : goal.run_with_makers-requires-clause-callers

@@ -1,5 +1,5 @@
 use Rattle.std.proofs.Common.{◌≡◌, map, take}
-use Rattle.ob_text.specs.ScriptView.{script_call_of}
+use Rattle.ob_text_words.specs.ScriptCalls.{script_call_of}
 use Rattle.ob_object.proofs.replaying.copied_calls.Given as goal
 
 abbrev pub invariant-loop-call : goal.invariant-loop-call

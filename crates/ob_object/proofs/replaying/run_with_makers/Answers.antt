@@ -3,7 +3,7 @@ use Rattle.ob_engine.specs.CodeMeaning.{EngineParts}
 use Rattle.ob_engine.specs.Compiled.{IsFitting}
 use Rattle.ob_engine.specs.Parts.{parts_in}
 use Rattle.ob_object.proofs.Copies.{All_along}
-use Rattle.ob_text.specs.ScriptView.{object_call, script_call_of}
+use Rattle.ob_text_words.specs.ScriptCalls.{object_call, script_call_of}
 use Rattle.ob_object.proofs.Replays.{makers_of}
 use Rattle.ob_object.specs.View.{object_in}
 use Rattle.ob_record.specs.Record.{record_of}

@@ -1,6 +1,6 @@
 -- The words of the lines so far.
 use Rattle.std.proofs.Common.{◌≡◌, map, take}
-use Rattle.ob_text.specs.Words.{words}
+use Rattle.ob_text_words.specs.Words.{words}
 use Rattle.ob_record_reading.proofs.reading.words_of_lines.Given as goal
 
 abbrev pub invariant-loop-line : goal.invariant-loop-line

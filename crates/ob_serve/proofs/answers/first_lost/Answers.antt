@@ -4,9 +4,9 @@ use Rattle.ob_desk_floor.specs.declared.seat.CallAnswer.{CallAnswer}
 use Rattle.ob_interface.specs.Call.{ObjectCall, Reply}
 use Rattle.ob_serve.specs.ServeFaults.{IsTold, IsToldAll}
 use Rattle.ob_serve.specs.Served.{calls_for}
-use Rattle.ob_text.specs.Script.{ScriptCall}
+use Rattle.ob_text_words.specs.ScriptCalls.{ScriptCall}
 use Rattle.wf_history.specs.History.{Event}
-use Rattle.ob_text.specs.ScriptView.{script_call_of}
+use Rattle.ob_text_words.specs.ScriptCalls.{script_call_of}
 use Rattle.wf_history.specs.View.{event_of}
 use Rattle.ob_serve.proofs.answers.first_lost.Goals as goal
 

@@ -1,6 +1,6 @@
 use Rattle.std.proofs.Common.{◌<◌, ℕ, [], get_or, map}
 use Rattle.ob_serve.specs.ServeFaults.{IsToldAll}
-use Rattle.ob_text.specs.ScriptView.{script_call_of}
+use Rattle.ob_text_words.specs.ScriptCalls.{script_call_of}
 use Rattle.wf_history.specs.View.{event_of}
 use Rattle.ob_serve.proofs.answers.first_lost.Given as goal
 

@@ -8,8 +8,8 @@ use Rattle.ob_object.specs.View.{object_in}
 use Rattle.ob_serve.proofs.Closed.{lawful_opening}
 use Rattle.ob_serve.proofs.Submitted.{all_submitted}
 use Rattle.ob_layout.specs.Encoding.{encoded}
-use Rattle.ob_text.specs.ScriptView.{object_call, script_call_of}
-use Rattle.ob_text.specs.declared.script.ScriptCall.{ScriptCall}
+use Rattle.ob_text_words.specs.ScriptCalls.{object_call, script_call_of}
+use Rattle.ob_text_words.specs.declared.script_call.ScriptCall.{ScriptCall}
 use Rattle.ob_serve.proofs.opening.opened_desk.Goals as goal
 
 pub open-requires-clause-opening : goal.open-requires-clause-opening

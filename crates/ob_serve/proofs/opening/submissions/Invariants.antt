@@ -1,6 +1,6 @@
 use Rattle.std.proofs.Common.{◌≡◌, map, take}
 use Rattle.ob_desk_floor.specs.Submission.{submission_of}
-use Rattle.ob_text.specs.ScriptView.{script_call_of}
+use Rattle.ob_text_words.specs.ScriptCalls.{script_call_of}
 use Rattle.wf_play.specs.Played.{scripts_of}
 use Rattle.ob_serve.proofs.opening.submissions.Given as goal
 

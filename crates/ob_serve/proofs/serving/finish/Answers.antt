@@ -17,7 +17,7 @@ use Rattle.ob_serve.proofs.Ends.{lowest_sent}
 use Rattle.ob_serve.specs.Gathered.{AreByProcess}
 use Rattle.ob_serve.specs.ServeFaults.{IsLowestLost}
 use Rattle.ob_serve.specs.Served.{EndsFirst, calls_for, desk_of}
-use Rattle.ob_text.specs.ScriptView.{script_call_of}
+use Rattle.ob_text_words.specs.ScriptCalls.{script_call_of}
 use Rattle.wf_history.specs.History.{Event}
 use Rattle.wf_history.specs.View.{event_of}
 use Rattle.wf_object.specs.View.{Object}

@@ -6,7 +6,7 @@ use Rattle.ob_desk_workers.specs.Gathered.{AreHeard}
 use Rattle.ob_desk_workers.specs.Rounds.{AreLet}
 use Rattle.ob_object.specs.View.{object_in}
 use Rattle.ob_serve.proofs.Ends.{back_are_let, finish_fault, gather_fault, turns_are_let}
-use Rattle.ob_text.specs.ScriptView.{script_call_of}
+use Rattle.ob_text_words.specs.ScriptCalls.{script_call_of}
 use Rattle.ob_serve.proofs.serving.serve.Goals as goal
 
 -- what holds with two facts that hold of a value

@@ -10,8 +10,8 @@ use Rattle.ob_serve.specs.ServeFaults.{IsServeFault}
 use Rattle.ob_serve.specs.Served.{AreTurnsLet, HaveEnded, IsRecordOf}
 use Rattle.ob_serve_texts.proofs.ReadCalls as Read
 use Rattle.ob_serve_texts.proofs.TextFaults.{read_fault, serve_fault}
-use Rattle.ob_text.specs.ScriptView.{object_call, script_call_of}
-use Rattle.ob_text.specs.declared.script.ScriptCall.{ScriptCall}
+use Rattle.ob_text_words.specs.ScriptCalls.{object_call, script_call_of}
+use Rattle.ob_text_words.specs.declared.script_call.ScriptCall.{ScriptCall}
 use Rattle.ob_serve_texts.proofs.texts.serve_text_with.Goals as goal
 
 pub serve-requires-clause-sound : goal.serve-requires-clause-sound

@@ -1,9 +1,9 @@
 -- The calls of the lines so far.
 use Rattle.std.proofs.Common.{length, map, take}
 use Rattle.ob_check.specs.Exports.{export_of}
-use Rattle.ob_text.specs.Words.{lines, words}
+use Rattle.ob_text_words.specs.Words.{lines, words}
 use Rattle.ob_text.specs.Script.{AreLines}
-use Rattle.ob_text.specs.ScriptView.{script_call_of}
+use Rattle.ob_text_words.specs.ScriptCalls.{script_call_of}
 use Rattle.ob_text.proofs.script.read_calls.Given as goal
 
 abbrev pub invariant-loop-index : goal.invariant-loop-index

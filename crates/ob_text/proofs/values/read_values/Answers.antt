@@ -1,7 +1,8 @@
 use Rattle.std.proofs.Common.{◌≤◌, ◌<◌, ◌≡◌, length, get_or, rules, arith, refl, sym, ◌∙◌}
 use Rattle.std.proofs.lemmas.List.{length-map}
 use Rattle.std.proofs.lemmas.Bool.{false≢true, eqb-true, eq-eqb}
-use Rattle.ob_text.proofs.ValueReading.{HasRead-none, HasRead-skip, HasRead-more, no_word, no_value, HasRead-all, left_over, word_at, by_then_some}
+use Rattle.ob_text_words.proofs.Reading.{word_at, by_then_some}
+use Rattle.ob_text.proofs.ValueReading.{HasRead-none, HasRead-skip, HasRead-more, no_word, no_value, HasRead-all, left_over}
 use Rattle.ob_text.proofs.values.read_values.Goals as goal
 use Rattle.ob_text.proofs.values.read_values.Goals.{then-is_of_mode+in-Some+in-Some-read_value+in_ok-push, else-is_of_mode}
 

@@ -1,5 +1,5 @@
 use Rattle.std.proofs.Common.{◌≡◌, map}
-use Rattle.ob_text.specs.ScriptView.{script_call_of}
+use Rattle.ob_text_words.specs.ScriptCalls.{script_call_of}
 use Rattle.wf_play.specs.Makers.{makers_in}
 use Rattle.wf_play.specs.Played.{scripts_of}
 use Rattle.wf_play.proofs.Makings.{makers_of_run}

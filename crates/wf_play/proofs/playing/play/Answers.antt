@@ -1,6 +1,6 @@
 use Rattle.std.proofs.Common.{inl, inr}
 use Rattle.std.proofs.lemmas.Result.{err_from_is_err_and}
-use Rattle.ob_text.specs.ScriptView.{script_call_of}
+use Rattle.ob_text_words.specs.ScriptCalls.{script_call_of}
 use Rattle.wf_play.specs.ItemSteps.{HasPlayed}
 use Rattle.wf_play.specs.Played.{IsItemFault, most_steps, scripts_of}
 use Rattle.wf_play.proofs.Plays.{at_least_one, at_most, is_fault, is_played, of_started}

@@ -1,6 +1,6 @@
 -- The calls so far are submitted.
 use Rattle.std.proofs.Common.{◌≡◌, map}
-use Rattle.ob_text.specs.ScriptView.{script_call_of}
+use Rattle.ob_text_words.specs.ScriptCalls.{script_call_of}
 use Rattle.wf_play.specs.Played.{IsSameObject, scripts_of}
 use Rattle.wf_table.specs.Runs.{run, submissions}
 use Rattle.wf_play.proofs.playing.submit_all.Given as goal

@@ -1,8 +1,8 @@
 use Rattle.std.proofs.Common.{rules, tests, ◌==◌, not, length}
 use Rattle.std.proofs.lemmas.Iterator.Consumers.{map_from_collect, YieldsList-from_filter, YieldsList-at}
 use Rattle.std.proofs.lemmas.Iterator.Splits.{YieldsList-from_slice_split}
-use Rattle.ob_text.specs.Words.{is_blank}
-use Rattle.ob_text.proofs.words.words_of.Goals as goal
+use Rattle.ob_text_words.specs.Words.{is_blank}
+use Rattle.ob_text_words.proofs.words.words_of.Goals as goal
 
 pub returns : goal.returns
 returns c =

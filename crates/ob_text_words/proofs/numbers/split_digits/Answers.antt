@@ -3,8 +3,8 @@ use Rattle.std.specs.Char.{is_ascii_digit}
 use Rattle.std.proofs.lemmas.Iterator.{YieldsList-from_slice}
 use Rattle.std.proofs.lemmas.Iterator.Search.{YieldsList-from_take_while}
 use Rattle.std.proofs.lemmas.Iterator.Consumers.{YieldsList-at, count_from_yields_List}
-use Rattle.ob_text.proofs.DigitParts.{split_here}
-use Rattle.ob_text.proofs.numbers.split_digits.Goals as goal
+use Rattle.ob_text_words.proofs.DigitParts.{split_here}
+use Rattle.ob_text_words.proofs.numbers.split_digits.Goals as goal
 
 pub returns-clause-alone : goal.returns-clause-alone
 returns-clause-alone c =

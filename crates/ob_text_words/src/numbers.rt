@@ -3,7 +3,7 @@
 ghost use Rattle.std.specs.Prelude.{◌≡◌, ℕ, ℤ, ◌+◌, ◌*◌, ◌≤◌, ◌<◌, ◌^◌, ◌++◌, ◌∷◌, List, false, IsTrue, MatchOption, IfSome, OnErr, OnOk, string_bytes};
 ghost use Rattle.std.specs.Char.{digit_value, is_ascii_digit};
 ghost use Rattle.std.specs.List.{list_all};
-ghost use Rattle.ob_text.specs.Words.{IsDigits, IsNumeral, IsProcess, IsInteger};
+ghost use Rattle.ob_text_words.specs.Words.{IsDigits, IsNumeral, IsProcess, IsInteger};
 
 use itoa::{Buffer, Integer};
 use std::alloc::AllocError;

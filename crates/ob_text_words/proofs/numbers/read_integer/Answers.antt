@@ -1,6 +1,6 @@
 use Rattle.std.proofs.Common.{◌≡◌, ◌∷◌, rules}
-use Rattle.ob_text.proofs.Numerals.{negative_read, positive_read, negated}
-use Rattle.ob_text.proofs.numbers.read_integer.Goals as goal
+use Rattle.ob_text_words.proofs.Numerals.{negative_read, positive_read, negated}
+use Rattle.ob_text_words.proofs.numbers.read_integer.Goals as goal
 
 pub returns-in_ok-magnitude-in-Some-eq45-default : goal.returns-in_ok-magnitude-in-Some-eq45-default
 returns-in_ok-magnitude-in-Some-eq45-default c =

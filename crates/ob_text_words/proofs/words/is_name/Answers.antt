@@ -3,9 +3,9 @@ use Rattle.std.specs.Char.{is_ascii_alphabetic, is_ascii_alphanumeric}
 use Rattle.std.specs.List.{list_all}
 use Rattle.std.proofs.lemmas.Iterator.{YieldsList-from_slice}
 use Rattle.std.proofs.lemmas.Iterator.Search.{all_from_yields_List}
-use Rattle.ob_text.proofs.Names.{found_name, found_no_name}
-use Rattle.ob_text.proofs.words.is_name.Goals as goal
-use Rattle.ob_text.proofs.words.is_name.Goals.{then-is_ascii_alphabetic, else-is_ascii_alphabetic}
+use Rattle.ob_text_words.proofs.Names.{found_name, found_no_name}
+use Rattle.ob_text_words.proofs.words.is_name.Goals as goal
+use Rattle.ob_text_words.proofs.words.is_name.Goals.{then-is_ascii_alphabetic, else-is_ascii_alphabetic}
 
 pub returns-then-all : goal.returns-then-all
 returns-then-all c =

@@ -1,7 +1,7 @@
 //! Words, and those that are names.
 
 ghost use Rattle.std.specs.Prelude.{◌≡◌, ◌↔◌, map, IsTrue, IfOk};
-ghost use Rattle.ob_text.specs.Words.{words, is_blank, IsName};
+ghost use Rattle.ob_text_words.specs.Words.{words, is_blank, IsName};
 
 use ob_scan::keyword::keyword;
 use std::alloc::{AllocError, Global};

@@ -1,6 +1,6 @@
 use Rattle.std.proofs.Common.{arith}
-use Rattle.ob_text.proofs.DigitParts.{too_large}
-use Rattle.ob_text.proofs.numbers.read_numeral.Goals as goal
+use Rattle.ob_text_words.proofs.DigitParts.{too_large}
+use Rattle.ob_text_words.proofs.numbers.read_numeral.Goals as goal
 
 pub returns-in_default : goal.returns-in_default
 returns-in_default c =

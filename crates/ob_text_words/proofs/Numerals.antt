@@ -4,7 +4,7 @@ use Rattle.std.proofs.lemmas.Bool.{false≢true}
 use Rattle.std.proofs.lemmas.Int.{ints}
 use Rattle.std.specs.Result.{OkIff, result_ok}
 use Rattle.ob_scan.specs.Spelling.{number_value}
-use Rattle.ob_text.specs.Words.{Word, IsDigits, IsInteger, positive, negative}
+use Rattle.ob_text_words.specs.Words.{Word, IsDigits, IsInteger, positive, negative}
 use mir.Val.{SFits}
 
 -- what a word that says an INTEGER is

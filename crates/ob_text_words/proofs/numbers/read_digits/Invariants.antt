@@ -1,13 +1,14 @@
--- The value that the digits so far spell.
-use Rattle.std.proofs.Common.{◌≡◌, true, take}
+-- The value that the digits so far spell, below the power of ten of their number.
+use Rattle.std.proofs.Common.{◌≡◌, ◌<◌, ◌^◌, true, take}
 use Rattle.std.specs.Char.{is_ascii_digit}
 use Rattle.std.specs.List.{list_all}
 use Rattle.ob_scan.specs.Spelling.{number_value}
-use Rattle.ob_text.proofs.numbers.read_numeral.Given as goal
+use Rattle.ob_text_words.proofs.numbers.read_digits.Given as goal
 
 abbrev pub invariant-loop-byte : goal.invariant-loop-byte
 invariant-loop-byte l =
     record {
       value : l.value ≡ number_value (take l.byte-index l.word);
       digits : list_all is_ascii_digit (take l.byte-index l.word) ≡ true;
+      small : l.value < 10 ^ l.byte-index;
     }

@@ -1,0 +1,5 @@
+pub mod Numerals
+pub mod Appended
+pub mod DigitParts
+pub mod Names
+pub mod Reading

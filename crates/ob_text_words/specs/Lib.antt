@@ -1,0 +1,4 @@
+pub mod Words
+pub mod Appending
+pub mod ScalarTexts
+pub mod ScriptCalls
