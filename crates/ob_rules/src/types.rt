@@ -2,7 +2,8 @@
 
 ghost use Rattle.std.specs.Prelude.{◌≡◌, ℕ, true, length, map, List, None, OnOk, IfOk, IfErr};
 ghost use Rattle.ob_grammar.specs.Tree as trees;
-ghost use Rattle.ob_grammar.specs.View.{type_of, name_of, fields_in};
+ghost use Rattle.ob_grammar.specs.View as Trees;
+ghost use Rattle.ob_grammar.specs.View.{type_of, name_of};
 ghost use Rattle.ob_typing.specs.Program as Programs;
 ghost use Rattle.ob_typing.specs.Types.{second, none_taken, and_all_taken, with_fields};
 ghost use Rattle.std.specs.Prelude as Lists;
@@ -95,11 +96,11 @@ fn record_fields(
     scopes: &mut Scopes,
     lists: &[FieldList],
 ) -> Result<Fields, CheckFault>
-    ensures typed { IfOk result (λ fs. Constants.denoted_fields (env_of scopes.old) (fields_in lists.now) none_taken ≡ Right (fields_by (types_of (types_in scopes.new)) (fields_in fs))) }
+    ensures typed { IfOk result (λ fs. Constants.denoted_fields (env_of scopes.old) (Trees.fields_in lists.now) none_taken ≡ Right (fields_by (types_of (types_in scopes.new)) (fields_in fs))) }
     ensures known { IfOk result (λ fs. all_below (length (types_in scopes.new)) (fields_in fs) ≡ true) }
     ensures names { OnOk result (env_of scopes.new ≡ env_of scopes.old) }
     ensures extends { OnOk result (Extends (types_in scopes.old) (types_in scopes.new)) }
-    ensures fault { IfErr result (λ f. Fails f (Constants.denoted_fields (env_of scopes.old) (fields_in lists.now) none_taken)) }
+    ensures fault { IfErr result (λ f. Fails f (Constants.denoted_fields (env_of scopes.old) (Trees.fields_in lists.now) none_taken)) }
 {
     let mut fields = Fields::new(alloc);
     for list in lists {

@@ -2,7 +2,8 @@ use Rattle.std.proofs.Common.{rules, ◌≡◌, ◌+◌, arith, length, map, dro
 use Rattle.std.proofs.lemmas.List.{at_drop_all}
 use Rattle.std.proofs.lemmas.Result.{IfOk-weaker, IfErr-weaker, on_ok_weaker}
 use Rattle.ob_grammar.proofs.Exits.{passed_on}
-use Rattle.ob_grammar.specs.View.{name_of, type_of, fields_in}
+use Rattle.ob_grammar.specs.View as Trees
+use Rattle.ob_grammar.specs.View.{name_of, type_of}
 use Rattle.ob_typing.specs.Types.{second, and_all_taken, with_fields}
 use Rattle.ob_typing.specs.Verdict.{Right}
 use Rattle.ob_typing.specs.TypeVerdicts.{denoted_fields}
@@ -80,14 +81,14 @@ record_fields-returns-in_err-add_list-clause-fault t c =
     passed_on _ _ _ c.from_residual.ensures.1
     (fails_as _ _ _
     (l.invariant.left
-    ∙ ap (λ e. and_then (denoted_fields e (fields_in (drop l.list-index all)) (taken_by l.fields)) behind) (sym l.invariant.names)
-    ∙ ap (λ xs. and_then (denoted_fields (env_of l.scopes) xs (taken_by l.fields)) behind) (ap fields_in next ∙ lists_first c.list-item.result rest))
-    (fails_on _ _ _ (c.in_err-add_list.ensures.fault (fields_in rest))))
+    ∙ ap (λ e. and_then (denoted_fields e (Trees.fields_in (drop l.list-index all)) (taken_by l.fields)) behind) (sym l.invariant.names)
+    ∙ ap (λ xs. and_then (denoted_fields (env_of l.scopes) xs (taken_by l.fields)) behind) (ap Trees.fields_in next ∙ lists_first c.list-item.result rest))
+    (fails_on _ _ _ (c.in_err-add_list.ensures.fault (Trees.fields_in rest))))
 
 pub record_fields-returns-clause-typed : goal.record_fields-returns-clause-typed
 record_fields-returns-clause-typed t c =
     let l = c.loop-list in
     let env = env_of c.args.scopes.now in
     let behind = behind_fields (types_in l.scopes) (fields_in l.fields) in
-    l.invariant.left ∙ at_drop_all (λ xs. and_then (denoted_fields env (fields_in xs) (taken_by l.fields)) behind) c.args.lists.now l.list-index (omega arith)
+    l.invariant.left ∙ at_drop_all (λ xs. and_then (denoted_fields env (Trees.fields_in xs) (taken_by l.fields)) behind) c.args.lists.now l.list-index (omega arith)
     ∙ ap Right (before_end (types_of (types_in l.scopes)) (fields_in l.fields))

@@ -1,5 +1,5 @@
 use Rattle.std.proofs.Common.{◌≡◌, drop, true, length}
-use Rattle.ob_grammar.specs.View.{fields_in}
+use Rattle.ob_grammar.specs.View as Trees
 use Rattle.ob_typing.specs.Types.{none_taken}
 use Rattle.ob_typing.specs.TypeVerdicts.{denoted_fields}
 use Rattle.ob_checked.specs.Types.{fields_in, all_below, Extends}
@@ -15,6 +15,6 @@ invariant-record_fields-loop-list l = record {
   names : env_of l.scopes ≡ env_of l.initial.scopes;
   extends : Extends (types_in l.initial.scopes) (types_in l.scopes);
   known : all_below (length (types_in l.scopes)) (fields_in l.fields) ≡ true;
-  left : denoted_fields (env_of l.initial.scopes) (fields_in l.lists) none_taken
-      ≡ and_then (denoted_fields (env_of l.initial.scopes) (fields_in (drop l.list-index l.lists)) (taken_by l.fields)) (behind_fields (types_in l.scopes) (fields_in l.fields));
+  left : denoted_fields (env_of l.initial.scopes) (Trees.fields_in l.lists) none_taken
+      ≡ and_then (denoted_fields (env_of l.initial.scopes) (Trees.fields_in (drop l.list-index l.lists)) (taken_by l.fields)) (behind_fields (types_in l.scopes) (fields_in l.fields));
 }

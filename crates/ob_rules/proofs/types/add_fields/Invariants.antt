@@ -13,7 +13,7 @@ invariant-loop-name l = record {
   new : second (taken_by l.fields) (map name_of (drop l.name-index l.names)) ≡ None;
   fields : (types : List DataType) (rest : Fields) →
       fields_before types (fields_in l.fields) (with_fields (map name_of (drop l.name-index l.names)) (type_by types l.data_type) rest)
-      ≡ fields_before types l.initia (fields_in l.fields) (with_fields (map name_of l.names) (type_by types l.data_type) rest);
+      ≡ fields_before types (fields_in l.initial.fields) (with_fields (map name_of l.names) (type_by types l.data_type) rest);
   taken : and_all_taken (taken_by l.fields) (map name_of (drop l.name-index l.names)) ≡ and_all_taken (taken_by l.initial.fields) (map name_of l.names);
-  known : (n : ℕ) → all_below n l.initia (fields_in l.fields) ≡ true → is_below n l.data_type ≡ true → all_below n (fields_in l.fields) ≡ true;
+  known : (n : ℕ) → all_below n (fields_in l.initial.fields) ≡ true → is_below n l.data_type ≡ true → all_below n (fields_in l.fields) ≡ true;
 }
