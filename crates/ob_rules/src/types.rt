@@ -1,6 +1,6 @@
 //! Type expressions.
 
-ghost use Rattle.std.specs.Prelude.{◌≡◌, ℕ, true, length, map, List, None, OnOk, IfOk, IfErr};
+ghost use Rattle.std.specs.Prelude.{◌≡◌, ℕ, true, length, map, option_map, List, None, OnOk, IfOk, IfErr};
 ghost use Rattle.ob_grammar.specs.Tree as trees;
 ghost use Rattle.ob_grammar.specs.View as Trees;
 ghost use Rattle.ob_grammar.specs.View.{type_of, name_of};
@@ -129,13 +129,25 @@ fn add_list(
     match list {
         FieldList::Empty => Ok(()),
         FieldList::Fields { names, of_type } => {
-            if let Some(name) = second(alloc, fields.positions(), names)? {
+            if let Some(name) = second_field(alloc, fields, names)? {
                 return Err(broken(Rule::DeclaredTwice, name.place));
             }
             let data_type = denoted(alloc, scopes, of_type)?;
             add_fields(names, data_type, fields)
         }
     }
+}
+
+/// The first of the names that is a field's, or stands before in the list.
+fn second_field<'n>(
+    alloc: Global,
+    fields: &Fields,
+    names: &'n [Name],
+) -> Result<Option<&'n Name>, CheckFault>
+    ensures second { IfOk result (λ r. option_map (λ n. name_of n.now) r ≡ second (taken_by fields.now) (map name_of names.now)) }
+    ensures fault { IfErr result (λ f. f ≡ CheckFault.NoMemory) }
+{
+    second(alloc, fields.positions(), names)
 }
 
 /// Adds fields of one type, whose names are new.

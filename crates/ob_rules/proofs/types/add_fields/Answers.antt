@@ -18,7 +18,7 @@ push-requires c =
     let rest = map name_of (drop (l.name-index + 1) c.args.names.now) in
     let next = next_left c.args.names.now l.name-index c.name-item.result c.loop-name-test.true c.name-item.is in
     let free = second_none (taken_by l.fields) name rest (ap (λ xs. second (taken_by l.fields) (map name_of xs)) (sym next) ∙ l.invariant.new) in
-    ap (found_from 0 (fields_in l.fields)) c.in_ok-text.ensures.cases ∙ found_from-free l.fields name.text free.0
+    record { new = ap (found_from 0 (fields_in l.fields)) c.in_ok-text.ensures.cases ∙ found_from-free l.fields name.text free.0 }
 
 pub loop-name-preserved : goal.loop-name-preserved
 loop-name-preserved c =
