@@ -14,8 +14,9 @@ loop-procedure-preserved c =
     let types = table_of c.args.program.now.types in
     let l = c.loop-procedure in
     let p = c.procedure-item.result in
-    let rest = drop (l.procedure-index + 1) l.procedures in
-    let next = next_left l.procedures l.procedure-index p c.loop-procedure-test.true c.procedure-item.is in
+    let all = c.as_slice-procedures.result.now in
+    let rest = drop (l.procedure-index + 1) all in
+    let next = next_left all l.procedure-index p c.loop-procedure-test.true c.procedure-item.is in
     let before = ap (λ ps. map signature_of l.exports.items ++ known_of types ps) (sym next) ∙ l.invariant in
     elim c.if-procedure.branch [
       | then-procedure+in_ok-name+in_ok-formals+in_ok-push w ↦
