@@ -12,15 +12,15 @@ use Rattle.ob_code_generate.proofs.statements.+statements.Goals as goal
 pub put_branch-returns-clause-code : goal.put_branch-returns-clause-code
 put_branch-returns-clause-code t c =
     branch_put (globals_in c.args.scopes.now) (own_in c.args.scopes.now) (entry_in c.args.entries.now)
-    c.args.code.now c.put_expression.new.code c.push.new.self c.put_statements.new.code c.put_over.new.code c.set.new.self c.args.branch.now c.as_slice.result.now c.args.more c.end-place.result c.end-end.result c.end-target.result
-    c.as_slice.ensures.value c.in_ok-put_expression.ensures c.end-place.ensures c.in_ok-push.ensures.ok c.in_ok-put_statements.ensures c.end-end.ensures
+    c.args.code.now c.put_expression.new.code c.push.new.code c.put_statements.new.code c.put_over.new.code c.set.new.self c.args.branch.now c.as_slice.result.now c.args.more c.end-place.result c.end-end.result c.end-target.result
+    c.as_slice.ensures.value c.in_ok-put_expression.ensures c.end-place.ensures c.in_ok-push.ensures c.in_ok-put_statements.ensures c.end-end.ensures
     c.in_ok-put_over.ensures c.end-target.ensures c.set.ensures
 
 pub put_branch-returns-clause-place : goal.put_branch-returns-clause-place
 put_branch-returns-clause-place t c =
     over_placed (globals_in c.args.scopes.now) (own_in c.args.scopes.now) (entry_in c.args.entries.now)
-    c.args.code.now c.put_expression.new.code c.push.new.self c.put_statements.new.code c.put_over.new.code c.set.new.self c.args.branch.now c.as_slice.result.now c.args.more c.end-place.result c.end-end.result c.end-target.result
-    c.as_slice.ensures.value c.in_ok-put_expression.ensures c.end-place.ensures c.in_ok-push.ensures.ok c.in_ok-put_statements.ensures c.end-end.ensures
+    c.args.code.now c.put_expression.new.code c.push.new.code c.put_statements.new.code c.put_over.new.code c.set.new.self c.args.branch.now c.as_slice.result.now c.args.more c.end-place.result c.end-end.result c.end-target.result
+    c.as_slice.ensures.value c.in_ok-put_expression.ensures c.end-place.ensures c.in_ok-push.ensures c.in_ok-put_statements.ensures c.end-end.ensures
 
 pub put_branches-set-requires : goal.put_branches-set-requires
 put_branches-set-requires t c =
@@ -41,16 +41,16 @@ pub put_repeat-returns : goal.put_repeat-returns
 put_repeat-returns t c =
     on_ok_weaker c.push-2.result
     (λ last. repeat_put (globals_in c.args.scopes.now) (own_in c.args.scopes.now) (entry_in c.args.entries.now)
-    c.args.code.now c.push.new.self c.put_statements.new.code c.put_expression.new.code c.push-2.new.self c.args.condition.now c.args.body.now c.end-start.result
-    c.end-start.ensures c.in_ok-push.ensures.ok c.in_ok-put_statements.ensures c.in_ok-put_expression.ensures last)
-    c.push-2.ensures.ok
+    c.args.code.now c.push.new.code c.put_statements.new.code c.put_expression.new.code c.push-2.new.code c.args.condition.now c.args.body.now c.end-start.result
+    c.end-start.ensures c.in_ok-push.ensures c.in_ok-put_statements.ensures c.in_ok-put_expression.ensures last)
+    c.push-2.ensures
 
 pub put_while-returns : goal.put_while-returns
 put_while-returns t c =
     while_put (globals_in c.args.scopes.now) (own_in c.args.scopes.now) (entry_in c.args.entries.now)
-    c.args.code.now c.put_expression.new.code c.push.new.self c.push-2.new.self c.put_statements.new.code c.push-3.new.self c.set.new.self c.args.condition.now c.args.body.now
+    c.args.code.now c.put_expression.new.code c.push.new.code c.push-2.new.code c.put_statements.new.code c.push-3.new.code c.set.new.self c.args.condition.now c.args.body.now
     c.end-start.result c.end-place.result c.end-target.result
-    c.end-start.ensures c.in_ok-put_expression.ensures c.end-place.ensures c.in_ok-push.ensures.ok c.in_ok-push-2.ensures.ok c.in_ok-put_statements.ensures c.in_ok-push-3.ensures.ok
+    c.end-start.ensures c.in_ok-put_expression.ensures c.end-place.ensures c.in_ok-push.ensures c.in_ok-push-2.ensures c.in_ok-put_statements.ensures c.in_ok-push-3.ensures
     c.end-target.ensures c.set.ensures
 
 pub put_statement-put_branches-requires : goal.put_statement-put_branches-requires
