@@ -4,7 +4,7 @@ ghost use Rattle.std.specs.Prelude.{◌≡◌, List, IfOk, IfErr, map};
 ghost use Rattle.ob_check.specs.CheckedModule.{program_in};
 ghost use Rattle.ob_check.specs.Exports.{export_of, signatures};
 ghost use Rattle.ob_text.specs.Script.{IsScript, IsScriptFault};
-ghost use Rattle.ob_text_words.specs.ScriptCalls as Script;
+ghost use Rattle.ob_text_words.specs.ScriptCalls;
 ghost use Rattle.ob_text_words.specs.ScriptCalls.{script_call_of};
 
 mod line;
@@ -26,7 +26,7 @@ pub struct Scripts {
 
 impl Model for Scripts {
     ghost use Rattle.std.specs.Prelude.{List, map};
-    ghost use Rattle.ob_text_words.specs.ScriptCalls as Script;
+    ghost use Rattle.ob_text_words.specs.ScriptCalls;
     ghost use Rattle.ob_text_words.specs.ScriptCalls.{script_call_of};
 
     ghost Value = { List ScriptCalls.ScriptCall };

@@ -8,7 +8,7 @@ use Rattle.ob_code_layout.proofs.shapes.Shapes.record.Goals as goal
 pub loop-name-preserved : goal.loop-name-preserved
 loop-name-preserved c =
     let ts = types_of (shapes_of c.args.self.now) in
-    let all = c.loop-name.entries in
+    let all = c.as_slice-entries.result.now in
     let left = drop (c.loop-name.name-index + 1) all in
     let e = c.loop-name-item.result in
     let f : Field = record { name = c.in_ok-from_str.field-0; data_type = e.1; offset = c.loop-name.words } in
