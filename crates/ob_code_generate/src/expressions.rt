@@ -73,9 +73,12 @@ pub fn put_expression(
     ensures { OnOk result (code.new ≡ value_behind scopes.now code.old (expression_of expression.now)) }
 {
     match expression {
-        Expression::Literal(scalar) => push(code, Instr::Literal {
-            value: number_of(*scalar),
-        }),
+        Expression::Literal(scalar) => push(
+            code,
+            Instr::Literal {
+                value: number_of(*scalar),
+            },
+        ),
         Expression::ValueOf { variable, .. } => {
             put_designator(scopes, code, variable)?;
             push(code, Instr::Get)
@@ -192,10 +195,13 @@ fn put_selector(
             let length = *length as u16;
             let element_words = scopes.layout.words(element) as u16;
             put_expression(scopes, code, index)?;
-            push(code, Instr::Index {
-                length,
-                element_words,
-            })?;
+            push(
+                code,
+                Instr::Index {
+                    length,
+                    element_words,
+                },
+            )?;
             Ok(element)
         }
     }

@@ -74,24 +74,32 @@ put_expression-put_expression-requires-in-Complement t c =
     (search rules, unary_first (globals_in c.args.scopes.now) (own_in c.args.scopes.now) c.args.code.now c.args.expression.now c.deref-in-Complement.result.now Instrs.Not is c.requires)
 
 pub put_expression-put_expression-requires-in-Computed : goal.put_expression-put_expression-requires-in-Computed
-put_expression-put_expression-requires-in-Computed t c =
-    (search rules, computed_first (globals_in c.args.scopes.now) (own_in c.args.scopes.now) c.args.code.now c.args.expression.now c.deref-in-Computed.result.now c.in-Computed.first c.in-Computed.rest _
-    c.in-Computed.is c.deref-in-Computed.ensures refl c.requires)
+put_expression-put_expression-requires-in-Computed t c = (
+  search rules,
+  computed_first (globals_in c.args.scopes.now) (own_in c.args.scopes.now) c.args.code.now c.args.expression.now c.deref-in-Computed.result.now c.in-Computed.first c.in-Computed.rest _
+      c.in-Computed.is c.deref-in-Computed.ensures refl c.requires,
+)
 
 pub put_expression-put_operations-requires : goal.put_expression-put_operations-requires
-put_expression-put_operations-requires t c =
-    (search rules, computed_rest (globals_in c.args.scopes.now) (own_in c.args.scopes.now) c.args.code.now c.args.expression.now c.deref-in-Computed.result.now c.in-Computed.first c.in-Computed.rest c.as_slice.result.now
-    c.in-Computed.is c.deref-in-Computed.ensures c.as_slice.ensures.value c.requires c.put_expression-in-Computed.new.code c.in_ok-put_expression-in-Computed.ensures)
+put_expression-put_operations-requires t c = (
+  search rules,
+  computed_rest (globals_in c.args.scopes.now) (own_in c.args.scopes.now) c.args.code.now c.args.expression.now c.deref-in-Computed.result.now c.in-Computed.first c.in-Computed.rest c.as_slice.result.now
+      c.in-Computed.is c.deref-in-Computed.ensures c.as_slice.ensures.value c.requires c.put_expression-in-Computed.new.code c.in_ok-put_expression-in-Computed.ensures,
+)
 
 pub put_expression-put_expression-requires-in-Compared : goal.put_expression-put_expression-requires-in-Compared
-put_expression-put_expression-requires-in-Compared t c =
-    (search rules, compared_left (globals_in c.args.scopes.now) (own_in c.args.scopes.now) c.args.code.now c.args.expression.now c.deref-in-Compared.result.now c.in-Compared.relation c.in-Compared.left c.in-Compared.right
-    c.in-Compared.is c.deref-in-Compared.ensures c.requires)
+put_expression-put_expression-requires-in-Compared t c = (
+  search rules,
+  compared_left (globals_in c.args.scopes.now) (own_in c.args.scopes.now) c.args.code.now c.args.expression.now c.deref-in-Compared.result.now c.in-Compared.relation c.in-Compared.left c.in-Compared.right
+      c.in-Compared.is c.deref-in-Compared.ensures c.requires,
+)
 
 pub put_expression-put_expression-requires-in-Compared-2 : goal.put_expression-put_expression-requires-in-Compared-2
-put_expression-put_expression-requires-in-Compared-2 t c =
-    (search rules, compared_right (globals_in c.args.scopes.now) (own_in c.args.scopes.now) c.args.code.now c.args.expression.now c.deref-in-Compared.result.now c.deref-in-Compared-2.result.now c.in-Compared.relation c.in-Compared.left c.in-Compared.right
-    c.in-Compared.is c.deref-in-Compared.ensures c.deref-in-Compared-2.ensures c.requires c.put_expression-in-Compared.new.code c.in_ok-put_expression-in-Compared.ensures)
+put_expression-put_expression-requires-in-Compared-2 t c = (
+  search rules,
+  compared_right (globals_in c.args.scopes.now) (own_in c.args.scopes.now) c.args.code.now c.args.expression.now c.deref-in-Compared.result.now c.deref-in-Compared-2.result.now c.in-Compared.relation c.in-Compared.left c.in-Compared.right
+      c.in-Compared.is c.deref-in-Compared.ensures c.deref-in-Compared-2.ensures c.requires c.put_expression-in-Compared.new.code c.in_ok-put_expression-in-Compared.ensures,
+)
 
 pub put_expression-push-requires-in-Compared : goal.put_expression-push-requires-in-Compared
 put_expression-push-requires-in-Compared t c =
@@ -100,19 +108,25 @@ put_expression-push-requires-in-Compared t c =
     c.in_ok-put_expression-in-Compared.ensures c.in_ok-put_expression-in-Compared-2.ensures
 
 pub put_operations-put_operation-requires : goal.put_operations-put_operation-requires
-put_operations-put_operation-requires t c =
-    (search rules, operations_next (globals_in c.args.scopes.now) (own_in c.args.scopes.now) c.loop-operation.code _ c.args.operations.now c.loop-operation.operation-index c.operation-item.result
-    c.loop-operation-test.true c.operation-item.is c.loop-operation.invariant c.requires)
+put_operations-put_operation-requires t c = (
+  search rules,
+  operations_next (globals_in c.args.scopes.now) (own_in c.args.scopes.now) c.loop-operation.code _ c.args.operations.now c.loop-operation.operation-index c.operation-item.result
+      c.loop-operation-test.true c.operation-item.is c.loop-operation.invariant c.requires,
+)
 
 pub put_operation-put_expression-requires : goal.put_operation-put_expression-requires
-put_operation-put_expression-requires t c =
-    (search rules, jump_operand (globals_in c.args.scopes.now) (own_in c.args.scopes.now) c.args.code.now c.args.operation.now And Instrs.AndJump (λ a n operand. refl) c.in-And.is c.requires
-    (Instrs.AndJump 0) refl (omega arith) c.push.new.code c.in_ok-push-in-And.ensures)
+put_operation-put_expression-requires t c = (
+  search rules,
+  jump_operand (globals_in c.args.scopes.now) (own_in c.args.scopes.now) c.args.code.now c.args.operation.now And Instrs.AndJump (λ a n operand. refl) c.in-And.is c.requires
+      (Instrs.AndJump 0) refl (omega arith) c.push.new.code c.in_ok-push-in-And.ensures,
+)
 
 pub put_operation-put_expression-requires-in-Or : goal.put_operation-put_expression-requires-in-Or
-put_operation-put_expression-requires-in-Or t c =
-    (search rules, jump_operand (globals_in c.args.scopes.now) (own_in c.args.scopes.now) c.args.code.now c.args.operation.now Or Instrs.OrJump (λ a n operand. refl) c.in-Or.is c.requires
-    (Instrs.OrJump 0) refl (omega arith) c.push-in-Or.new.code c.in_ok-push-in-Or.ensures)
+put_operation-put_expression-requires-in-Or t c = (
+  search rules,
+  jump_operand (globals_in c.args.scopes.now) (own_in c.args.scopes.now) c.args.code.now c.args.operation.now Or Instrs.OrJump (λ a n operand. refl) c.in-Or.is c.requires
+      (Instrs.OrJump 0) refl (omega arith) c.push-in-Or.new.code c.in_ok-push-in-Or.ensures,
+)
 
 pub put_operation-put_expression-requires-in-Plus : goal.put_operation-put_expression-requires-in-Plus
 put_operation-put_expression-requires-in-Plus t c =
@@ -153,6 +167,8 @@ pub put_designator-put_variable-requires : goal.put_designator-put_variable-requ
 put_designator-put_variable-requires t c = designator_first (globals_in c.args.scopes.now) (own_in c.args.scopes.now) c.args.code.now c.args.designator.now c.requires
 
 pub put_designator-put_selector-requires : goal.put_designator-put_selector-requires
-put_designator-put_selector-requires t c =
-    (search rules, selectors_next (globals_in c.args.scopes.now) (own_in c.args.scopes.now) c.loop-selector.code _ _ c.deref-selector-items.result.now c.loop-selector.selector-index c.selector-item.result
-    c.loop-selector-test.true c.selector-item.is c.loop-selector.invariant c.requires)
+put_designator-put_selector-requires t c = (
+  search rules,
+  selectors_next (globals_in c.args.scopes.now) (own_in c.args.scopes.now) c.loop-selector.code _ _ c.deref-selector-items.result.now c.loop-selector.selector-index c.selector-item.result
+      c.loop-selector-test.true c.selector-item.is c.loop-selector.invariant c.requires,
+)
