@@ -3,6 +3,7 @@ pub mod Within
 pub mod Values
 pub mod ValuesWithin
 pub mod Falls
+pub mod Weights
 pub mod Constructs
 pub mod Sums
 pub mod Procedures
