@@ -15,8 +15,10 @@ use Rattle.ob_checked.specs.declared.program.Expression.{Expression}
 use Rattle.ob_checked.specs.declared.program.Statement.{Statement}
 use Rattle.ob_checked.specs.View.{expression_of, designator_of, actual_of, statement_of, statements_in, branches_in}
 use Rattle.ob_code_generate.specs.Growing.{grown, is_more, over, over_many, alternative_at}
+use Rattle.ob_code_generate.specs.Limits.{IsWithinLimits}
 use Rattle.ob_code_generate.proofs.Grown.{grown_nothing, behind, jumps, seam}
 use Rattle.ob_code_generate.proofs.Values.{with_value, with_designator}
+use Rattle.ob_code_generate.proofs.Within.{within, other}
 
 pub over_is : (b : Program.Branches) (more : Bool) → more ≡ is_more b → (end : ℕ) → over more end ≡ over_code b end
 over_is Program.no_branch more is end = ap (λ m. over m end) is
@@ -31,6 +33,11 @@ over_counted (Program.branch condition statements rest) more is = ap over_many i
 pub over_length : (more : Bool) (end : ℕ) → length (over more end) ≡ over_many more
 over_length false end = refl
 over_length true end = refl
+
+-- a jump that knows another target
+over_other : (c : CodeParts) (x : List Instr) (more : Bool) (s t : ℕ) (y : List Instr) → IsWithinLimits (grown c (x ++ (over more s ++ y))) → IsWithinLimits (grown c (x ++ (over more t ++ y)))
+over_other c x false s t y w = w
+over_other c x true s t y w = other c x (Instrs.Jump s) (Instrs.Jump t) y (omega arith) w
 
 -- where there is an alternative there is more
 pub some_more : (bs : List Branch) (last : Program.Branches) (none : Bool) → none ≡ (length bs == 0) → none ≡ false → true ≡ is_more (branches_in bs last)
@@ -61,6 +68,21 @@ module _ (g o : Scope) where
   pub actuals_end : (c e : CodeParts) (xs : List Actual) (i : ℕ) → length xs ≤ i → with_actuals c (drop i xs) ≡ e → c ≡ e
   actuals_end c e xs i past so_far = sym (grown_nothing c) ∙ sym (at_drop_all (λ ys. with_actuals c ys) xs i past) ∙ so_far
 
+  abbrev pub with_assignment : CodeParts → Designator → Expression → CodeParts
+  with_assignment c target x =
+      let a = length c.instructions in
+      grown c (designator_at g o a (designator_of target) ++ (code_at g o (a + designator_size o (designator_of target)) (expression_of x) ++ Instrs.Put ∷ []))
+
+  pub assignment_put : (c d e f : CodeParts) (target : Designator) (x : Expression) →
+      d ≡ with_designator g o c target → e ≡ with_value g o d x → f ≡ grown e (Instrs.Put ∷ []) →
+      f ≡ with_assignment c target x
+  assignment_put c d e f target x put more last =
+      let a = length c.instructions in
+      let b = length d.instructions in
+      let inner = behind d e f (code_at g o b (expression_of x)) (λ k. Instrs.Put ∷ []) (size o (expression_of x)) more (code_long g o b (expression_of x)) last in
+      behind c d f (designator_at g o a (designator_of target)) (λ k. code_at g o k (expression_of x) ++ Instrs.Put ∷ []) (designator_size o (designator_of target))
+      put (designator_long g o a (designator_of target)) inner
+
   module _ (entry : ℕ → ℕ) where
     abbrev pub with_statement : CodeParts → Program.Statement → CodeParts
     with_statement c s = grown c (statement_at g o entry (length c.instructions) s)
@@ -70,16 +92,6 @@ module _ (g o : Scope) where
 
     abbrev pub with_branches : CodeParts → Program.Branches → CodeParts
     with_branches c bs = grown c (branches_at g o entry (length c.instructions) bs)
-
-    pub assignment_put : (c d e f : CodeParts) (target : Designator) (x : Expression) →
-        d ≡ with_designator g o c target → e ≡ with_value g o d x → f ≡ grown e (Instrs.Put ∷ []) →
-        f ≡ with_statement c (Program.Assign (designator_of target) (expression_of x))
-    assignment_put c d e f target x put more last =
-        let a = length c.instructions in
-        let b = length d.instructions in
-        let inner = behind d e f (code_at g o b (expression_of x)) (λ k. Instrs.Put ∷ []) (size o (expression_of x)) more (code_long g o b (expression_of x)) last in
-        behind c d f (designator_at g o a (designator_of target)) (λ k. code_at g o k (expression_of x) ++ Instrs.Put ∷ []) (designator_size o (designator_of target))
-        put (designator_long g o a (designator_of target)) inner
 
     pub call_put : (c d e : CodeParts) (xs : List Actual) (procedure first many : ℕ) → first ≡ entry procedure → many ≡ length xs →
         d ≡ with_actuals c xs → e ≡ grown d (Instrs.Call first many ∷ []) → e ≡ with_statement c (Program.Call procedure (map actual_of xs))
@@ -259,6 +271,13 @@ module _ (g o : Scope) where
           ∙ ap (λ z. grown c (code_at g o a (expression_of b.condition) ++ Instrs.JumpIfFalse (m + s + over_many more) ∷ (statements_at g o entry m (statements_in b.body.items) ++ (z ++ R)))) (over_is rest more is (next + branches_size o rest))
           ∙ ap (λ z. grown c (code_at g o a (expression_of b.condition) ++ Instrs.JumpIfFalse (m + s + z) ∷ (statements_at g o entry m (statements_in b.body.items)
           ++ (over_code rest (m + s + z + branches_size o rest) ++ branches_at g o entry (m + s + z) rest)))) (over_counted rest more is)
+
+      -- within the limits, where the whole is
+      pub branches_within : IsWithinLimits (with_branches c (Program.branch (expression_of b.condition) (statements_in b.body.items) rest)) → IsWithinLimits e
+      branches_within w =
+          let end = next + branches_size o rest in
+          let done : IsWithinLimits (grown c (front a b more ++ (over more end ++ R))) = within _ _ (whole end refl) w in
+          within e (grown c (front a b more ++ (over more 0 ++ R))) both (over_other c (front a b more) more end 0 R done)
 
       pub last_branch_put : more ≡ false → e ≡ with_branches c (Program.branch (expression_of b.condition) (statements_in b.body.items) rest)
       last_branch_put none =

@@ -1,7 +1,11 @@
 pub mod Grown
+pub mod Within
 pub mod Values
+pub mod ValuesWithin
 pub mod Falls
+pub mod Weights
 pub mod Constructs
 pub mod Sums
 pub mod Procedures
-pub mod Operands
+pub mod ConstructsWithin
+pub mod Small

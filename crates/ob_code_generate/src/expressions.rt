@@ -1,21 +1,23 @@
 //! The code of expressions and of addresses, behind code that stands already.
 
-ghost use Rattle.std.specs.Prelude.{◌≡◌, [], ◌∷◌, ◌++◌, IfOk, OnOk, length};
+ghost use Rattle.std.specs.Prelude.{◌≡◌, [], ◌∷◌, IfOk, OnOk};
 ghost use Rattle.ob_code_scheme.specs.Layout as Layout;
 ghost use Rattle.ob_code_scheme.specs.Scheme as Scheme;
 ghost use Rattle.ob_code_scheme.specs.Types as Sizes;
 ghost use Rattle.ob_checked.specs.View.{owner_of, expression_of, operations_in, selectors_in, designator_of};
-ghost use Rattle.ob_code_generate.specs.Behind.{designator_behind, operations_behind, selectors_behind, value_behind};
-ghost use Rattle.ob_code_generate.specs.Growing.{grown, selected};
-ghost use Rattle.ob_code_generate.specs.Scoped.{globals_in, own_in, scope_in, type_in};
+ghost use Rattle.ob_code_generate.specs.Behind.{designator_behind, operation_behind, operations_behind, selectors_behind, value_behind, variable_behind};
+ghost use Rattle.ob_code_generate.specs.Growing.{selected};
+ghost use Rattle.ob_code_generate.specs.Limits.{IsWithinLimits};
+ghost use Rattle.ob_code_generate.specs.Scoped.{scope_in, type_in};
 
-use crate::operand::operand;
+use crate::growth::push;
 use crate::scopes::Scopes;
 use ob_checked::program::{Designator, Expression, Operation, Owner, Selector, Slot};
 use ob_checked::types::DataType;
-use ob_code_machine::{Code, CodeFault, Instr};
+use ob_code_machine::{Code, Instr};
 use ob_interface::scalar::Scalar;
 use ob_typing::operator::{BinaryOperator, Relation};
+use std::alloc::AllocError;
 
 /// The number of a literal: TRUE is 1 and FALSE is 0.
 fn number_of(scalar: Scalar) -> i32
@@ -41,18 +43,19 @@ fn relation_instruction(relation: Relation) -> Instr
 }
 
 /// The address of a variable, and its type.
-fn put_variable(scopes: &Scopes<'_>, code: &mut Code, slot: &Slot) -> Result<DataType, CodeFault>
-    ensures code { OnOk result (code.new ≡ grown code.old (Scheme.variable_code (globals_in scopes.now) (own_in scopes.now) (owner_of slot.now.owner) slot.now.position)) }
+fn put_variable(scopes: &Scopes<'_>, code: &mut Code, slot: &Slot) -> Result<DataType, AllocError>
+    requires { IsWithinLimits (variable_behind scopes.now code.old slot.now) }
+    ensures code { OnOk result (code.new ≡ variable_behind scopes.now code.old slot.now) }
     ensures data_type { IfOk result (λ t. type_in scopes.now t ≡ Sizes.type_at (scope_in scopes.now (owner_of slot.now.owner)) slot.now.position) }
 {
     let place = scopes.variable(slot.owner, slot.position);
-    let word = operand(place.word)?;
+    let word = place.word as u16;
     match slot.owner {
-        Owner::Module => code.push(Instr::Global { word })?,
+        Owner::Module => push(code, Instr::Global { word })?,
         Owner::Own => {
-            code.push(Instr::Local { word })?;
+            push(code, Instr::Local { word })?;
             if place.is_var {
-                code.push(Instr::Get)?;
+                push(code, Instr::Get)?;
             }
         }
     }
@@ -65,24 +68,28 @@ pub fn put_expression(
     scopes: &Scopes<'_>,
     code: &mut Code,
     expression: &Expression,
-) -> Result<(), CodeFault>
+) -> Result<(), AllocError>
+    requires { IsWithinLimits (value_behind scopes.now code.old (expression_of expression.now)) }
     ensures { OnOk result (code.new ≡ value_behind scopes.now code.old (expression_of expression.now)) }
 {
     match expression {
-        Expression::Literal(scalar) => code.push(Instr::Literal {
-            value: number_of(*scalar),
-        }),
+        Expression::Literal(scalar) => push(
+            code,
+            Instr::Literal {
+                value: number_of(*scalar),
+            },
+        ),
         Expression::ValueOf { variable, .. } => {
             put_designator(scopes, code, variable)?;
-            code.push(Instr::Get)
+            push(code, Instr::Get)
         }
         Expression::Negated(operand) => {
             put_expression(scopes, code, operand)?;
-            code.push(Instr::Negate)
+            push(code, Instr::Negate)
         }
         Expression::Complement(operand) => {
             put_expression(scopes, code, operand)?;
-            code.push(Instr::Not)
+            push(code, Instr::Not)
         }
         Expression::Computed { first, rest } => {
             put_expression(scopes, code, first)?;
@@ -95,7 +102,7 @@ pub fn put_expression(
         } => {
             put_expression(scopes, code, left)?;
             put_expression(scopes, code, right)?;
-            code.push(relation_instruction(*relation))
+            push(code, relation_instruction(*relation))
         }
     }
 }
@@ -106,7 +113,8 @@ fn put_operations(
     scopes: &Scopes<'_>,
     code: &mut Code,
     operations: &[Operation],
-) -> Result<(), CodeFault>
+) -> Result<(), AllocError>
+    requires { IsWithinLimits (operations_behind scopes.now code.old (operations_in operations.now)) }
     ensures { OnOk result (code.new ≡ operations_behind scopes.now code.old (operations_in operations.now)) }
 {
     for operation in operations {
@@ -121,21 +129,21 @@ fn put_operation(
     scopes: &Scopes<'_>,
     code: &mut Code,
     operation: &Operation,
-) -> Result<(), CodeFault>
-    ensures { OnOk result (code.new ≡ grown code.old (Scheme.operator_at (length code.old.instructions) operation.now.operator
-        (Scheme.size (own_in scopes.now) (expression_of operation.now.operand)) (λ b. Scheme.code_at (globals_in scopes.now) (own_in scopes.now) b (expression_of operation.now.operand)))) }
+) -> Result<(), AllocError>
+    requires { IsWithinLimits (operation_behind scopes.now code.old operation.now) }
+    ensures { OnOk result (code.new ≡ operation_behind scopes.now code.old operation.now) }
 {
     let place = code.end();
     match operation.operator {
         BinaryOperator::And => {
-            code.push(Instr::AndJump { target: 0 })?;
+            push(code, Instr::AndJump { target: 0 })?;
             put_expression(scopes, code, &operation.operand)?;
             let target = code.end();
             code.set(place, Instr::AndJump { target });
             Ok(())
         }
         BinaryOperator::Or => {
-            code.push(Instr::OrJump { target: 0 })?;
+            push(code, Instr::OrJump { target: 0 })?;
             put_expression(scopes, code, &operation.operand)?;
             let target = code.end();
             code.set(place, Instr::OrJump { target });
@@ -143,32 +151,25 @@ fn put_operation(
         }
         BinaryOperator::Plus => {
             put_expression(scopes, code, &operation.operand)?;
-            code.push(Instr::Add)
+            push(code, Instr::Add)
         }
         BinaryOperator::Minus => {
             put_expression(scopes, code, &operation.operand)?;
-            code.push(Instr::Subtract)
+            push(code, Instr::Subtract)
         }
         BinaryOperator::Times => {
             put_expression(scopes, code, &operation.operand)?;
-            code.push(Instr::Multiply)
+            push(code, Instr::Multiply)
         }
         BinaryOperator::Div => {
             put_expression(scopes, code, &operation.operand)?;
-            code.push(Instr::Divide)
+            push(code, Instr::Divide)
         }
         BinaryOperator::Mod => {
             put_expression(scopes, code, &operation.operand)?;
-            code.push(Instr::Modulo)
+            push(code, Instr::Modulo)
         }
     }
-}
-
-/// The words of a type before a field, as an operand.
-fn field_offset(scopes: &Scopes<'_>, data_type: DataType, position: usize) -> Result<u16, CodeFault>
-    ensures { IfOk result (λ offset. offset ≡ Sizes.part_offset (type_in scopes.now data_type) position) }
-{
-    operand(scopes.layout.part_offset(data_type, position))
 }
 
 /// From the address of something to that of a part of it, and the type of the part.
@@ -178,25 +179,29 @@ fn put_selector(
     code: &mut Code,
     data_type: DataType,
     selector: &Selector,
-) -> Result<DataType, CodeFault>
+) -> Result<DataType, AllocError>
+    requires { IsWithinLimits (selectors_behind scopes.now code.old (type_in scopes.now data_type) (selectors_in (selector.now ∷ []))) }
     ensures code { OnOk result (code.new ≡ selectors_behind scopes.now code.old (type_in scopes.now data_type) (selectors_in (selector.now ∷ []))) }
     ensures data_type { IfOk result (λ t. type_in scopes.now t ≡ selected (type_in scopes.now data_type) selector.now) }
 {
     match selector {
         Selector::Field { position, .. } => {
-            let offset = field_offset(scopes, data_type, *position)?;
-            code.push(Instr::Field { offset })?;
+            let offset = scopes.layout.part_offset(data_type, *position) as u16;
+            push(code, Instr::Field { offset })?;
             Ok(scopes.layout.part_type(data_type, *position))
         }
         Selector::Element { length, index } => {
             let element = scopes.layout.part_type(data_type, 0);
-            let length = operand(*length)?;
-            let element_words = operand(scopes.layout.words(element))?;
+            let length = *length as u16;
+            let element_words = scopes.layout.words(element) as u16;
             put_expression(scopes, code, index)?;
-            code.push(Instr::Index {
-                length,
-                element_words,
-            })?;
+            push(
+                code,
+                Instr::Index {
+                    length,
+                    element_words,
+                },
+            )?;
             Ok(element)
         }
     }
@@ -208,7 +213,8 @@ pub fn put_designator(
     scopes: &Scopes<'_>,
     code: &mut Code,
     designator: &Designator,
-) -> Result<(), CodeFault>
+) -> Result<(), AllocError>
+    requires { IsWithinLimits (designator_behind scopes.now code.old (designator_of designator.now)) }
     ensures { OnOk result (code.new ≡ designator_behind scopes.now code.old (designator_of designator.now)) }
 {
     let mut data_type = put_variable(scopes, code, &designator.slot)?;

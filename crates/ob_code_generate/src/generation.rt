@@ -7,10 +7,11 @@ ghost use Rattle.ob_checked.specs.CheckedModule.{program_in};
 ghost use Rattle.ob_checked.specs.View.{program_of};
 ghost use Rattle.ob_code_layout.specs.Layout.{parts_of, layout_of, block_in};
 ghost use Rattle.ob_code_generate.specs.Behind.{procedure_behind};
-ghost use Rattle.ob_code_generate.specs.Entering.{entry_in, procedures_size};
+ghost use Rattle.ob_code_generate.specs.Entering.{code_by, entry_in, procedures_size};
+ghost use Rattle.ob_code_generate.specs.Limits.{IsWithinLimits};
 
 use crate::entries::Entries;
-use crate::operand::operand;
+use crate::growth::{begin_procedure, push};
 use crate::scopes::Scopes;
 use crate::sizes::statements_size;
 use crate::statements::put_statements;
@@ -18,7 +19,8 @@ use ob_checked::checked::Checked;
 use ob_checked::program::{Procedure, Program};
 use ob_code_layout::Layout;
 use ob_code_machine::{Code, CodeFault, Instr};
-use std::alloc::Global;
+use ob_code_well_formed::laws::checked_is_well_formed;
+use std::alloc::{AllocError, Global};
 
 /// A procedure behind the code before it: FRAME, its statements, RET.
 fn put_procedure(
@@ -26,15 +28,16 @@ fn put_procedure(
     entries: &Entries,
     code: &mut Code,
     procedure: &Procedure,
-) -> Result<(), CodeFault>
+) -> Result<(), AllocError>
+    requires { IsWithinLimits (procedure_behind scopes.now entries.now code.old procedure.now) }
     ensures { OnOk result (code.new ≡ procedure_behind scopes.now entries.now code.old procedure.now) }
 {
     let parameters = procedure.parameters.len();
-    let words = operand(scopes.layout.words_from(scopes.procedure, parameters))?;
-    code.begin_procedure()?;
-    code.push(Instr::Frame { words })?;
+    let words = scopes.layout.words_from(scopes.procedure, parameters) as u16;
+    begin_procedure(code)?;
+    push(code, Instr::Frame { words })?;
     put_statements(scopes, entries, code, procedure.body.as_slice())?;
-    code.push(Instr::Return)
+    push(code, Instr::Return)
 }
 
 /// The procedures of a program, one behind the other.
@@ -43,8 +46,9 @@ fn put_procedures(
     program: &Program,
     layout: &Layout,
     entries: &Entries,
-) -> Result<Code, CodeFault>
-    requires { (parts_of layout.now).frames ≡ map Sizes.frame_scope (program_of program.now).procedures }
+) -> Result<Code, AllocError>
+    requires frames { (parts_of layout.now).frames ≡ map Sizes.frame_scope (program_of program.now).procedures }
+    requires limits { IsWithinLimits (code_by (block_in layout.now) (entry_in entries.now) (program_of program.now).procedures) }
     ensures instructions { IfOk result (λ c. c.instructions ≡ Scheme.procedures_at (block_in layout.now) (entry_in entries.now) 0 (program_of program.now).procedures) }
     ensures entries { IfOk result (λ c. c.entries ≡ Scheme.entries_from 0 (program_of program.now).procedures) }
 {
@@ -93,10 +97,8 @@ pub fn generate(alloc: Global, checked: &Checked, layout: &Layout) -> Result<Cod
     ensures fits { OnOk result (length (Scheme.code_of (program_in checked.now)).instructions ≤ 65535) }
     ensures too_long { result ≡ Err CodeFault.TooLong → 65535 < length (Scheme.code_of (program_in checked.now)).instructions }
 {
+    checked_is_well_formed(checked);
     let program = checked.program();
     let entries = entries_of(alloc, program, layout)?;
-    let Ok(code) = put_procedures(alloc, program, layout, &entries) else {
-        return Err(CodeFault::NoMemory);
-    };
-    Ok(code)
+    Ok(put_procedures(alloc, program, layout, &entries)?)
 }

@@ -4,17 +4,18 @@ ghost use Rattle.std.specs.Prelude.{◌≡◌, ◌+◌, ◌++◌, IfOk, OnOk, le
 ghost use Rattle.ob_typing.specs.Program as Programs;
 ghost use Rattle.ob_code_scheme.specs.Scheme as Scheme;
 ghost use Rattle.ob_checked.specs.View.{expression_of, designator_of, actual_of, statement_of, statements_in, branches_in, otherwise_of};
-ghost use Rattle.ob_code_generate.specs.Behind.{actual_behind, actuals_behind, alternative_behind, branches_behind, statement_behind, statements_behind};
-ghost use Rattle.ob_code_generate.specs.Entering.{entry_in};
+ghost use Rattle.ob_code_generate.specs.Behind.{actual_behind, actuals_behind, alternative_behind, assignment_behind, branches_behind, statement_behind, statements_behind};
 ghost use Rattle.ob_code_generate.specs.Growing.{grown, is_more, over};
-ghost use Rattle.ob_code_generate.specs.Scoped.{globals_in, own_in};
+ghost use Rattle.ob_code_generate.specs.Limits.{IsWithinLimits};
+ghost use Rattle.ob_code_generate.specs.Scoped.{own_in};
 
 use crate::entries::Entries;
 use crate::expressions::{put_designator, put_expression};
-use crate::operand::operand;
+use crate::growth::push;
 use crate::scopes::Scopes;
 use ob_checked::program::{Actual, Branch, Designator, Expression, Statement};
-use ob_code_machine::{Code, CodeFault, Instr};
+use ob_code_machine::{Code, Instr};
+use std::alloc::AllocError;
 
 /// The address of the target, the value, PUT.
 fn put_assignment(
@@ -22,16 +23,18 @@ fn put_assignment(
     code: &mut Code,
     target: &Designator,
     value: &Expression,
-) -> Result<(), CodeFault>
-    ensures { (entry : _) → OnOk result (code.new ≡ grown code.old (Scheme.statement_at (globals_in scopes.now) (own_in scopes.now) entry (length code.old.instructions) (Programs.Assign (designator_of target.now) (expression_of value.now)))) }
+) -> Result<(), AllocError>
+    requires { IsWithinLimits (assignment_behind scopes.now code.old (designator_of target.now) (expression_of value.now)) }
+    ensures { OnOk result (code.new ≡ assignment_behind scopes.now code.old (designator_of target.now) (expression_of value.now)) }
 {
     put_designator(scopes, code, target)?;
     put_expression(scopes, code, value)?;
-    code.push(Instr::Put)
+    push(code, Instr::Put)
 }
 
 /// The value of an actual, or for a VAR parameter its address.
-fn put_actual(scopes: &Scopes<'_>, code: &mut Code, actual: &Actual) -> Result<(), CodeFault>
+fn put_actual(scopes: &Scopes<'_>, code: &mut Code, actual: &Actual) -> Result<(), AllocError>
+    requires { IsWithinLimits (actual_behind scopes.now code.old (actual_of actual.now)) }
     ensures { OnOk result (code.new ≡ actual_behind scopes.now code.old (actual_of actual.now)) }
 {
     match actual {
@@ -41,7 +44,8 @@ fn put_actual(scopes: &Scopes<'_>, code: &mut Code, actual: &Actual) -> Result<(
 }
 
 /// Actuals one behind the other.
-fn put_actuals(scopes: &Scopes<'_>, code: &mut Code, actuals: &[Actual]) -> Result<(), CodeFault>
+fn put_actuals(scopes: &Scopes<'_>, code: &mut Code, actuals: &[Actual]) -> Result<(), AllocError>
+    requires { IsWithinLimits (actuals_behind scopes.now code.old (map actual_of actuals.now)) }
     ensures { OnOk result (code.new ≡ actuals_behind scopes.now code.old (map actual_of actuals.now)) }
 {
     for actual in actuals {
@@ -57,13 +61,14 @@ fn put_call(
     code: &mut Code,
     procedure: usize,
     actuals: &[Actual],
-) -> Result<(), CodeFault>
+) -> Result<(), AllocError>
+    requires { IsWithinLimits (statement_behind scopes.now entries.now code.old (Programs.Call procedure (map actual_of actuals.now))) }
     ensures { OnOk result (code.new ≡ statement_behind scopes.now entries.now code.old (Programs.Call procedure (map actual_of actuals.now))) }
 {
-    let entry = operand(entries.entry(procedure))?;
-    let parameters = operand(actuals.len())?;
+    let entry = entries.entry(procedure) as u16;
+    let parameters = actuals.len() as u16;
     put_actuals(scopes, code, actuals)?;
-    code.push(Instr::Call { entry, parameters })
+    push(code, Instr::Call { entry, parameters })
 }
 
 /// Statements one behind the other.
@@ -73,7 +78,8 @@ pub fn put_statements(
     entries: &Entries,
     code: &mut Code,
     statements: &[Statement],
-) -> Result<(), CodeFault>
+) -> Result<(), AllocError>
+    requires { IsWithinLimits (statements_behind scopes.now entries.now code.old (statements_in statements.now)) }
     ensures { OnOk result (code.new ≡ statements_behind scopes.now entries.now code.old (statements_in statements.now)) }
 {
     for statement in statements {
@@ -89,7 +95,8 @@ fn put_statement(
     entries: &Entries,
     code: &mut Code,
     statement: &Statement,
-) -> Result<(), CodeFault>
+) -> Result<(), AllocError>
+    requires { IsWithinLimits (statement_behind scopes.now entries.now code.old (statement_of statement.now)) }
     ensures { OnOk result (code.new ≡ statement_behind scopes.now entries.now code.old (statement_of statement.now)) }
 {
     match statement {
@@ -118,16 +125,17 @@ fn put_while(
     code: &mut Code,
     condition: &Expression,
     body: &[Statement],
-) -> Result<(), CodeFault>
+) -> Result<(), AllocError>
+    requires { IsWithinLimits (statement_behind scopes.now entries.now code.old (Programs.While (expression_of condition.now) (statements_in body.now))) }
     ensures { OnOk result (code.new ≡ statement_behind scopes.now entries.now code.old (Programs.While (expression_of condition.now) (statements_in body.now))) }
 {
     let start = code.end();
     put_expression(scopes, code, condition)?;
     let place = code.end();
-    code.push(Instr::JumpIfFalse { target: 0 })?;
-    code.push(Instr::Turn)?;
+    push(code, Instr::JumpIfFalse { target: 0 })?;
+    push(code, Instr::Turn)?;
     put_statements(scopes, entries, code, body)?;
-    code.push(Instr::Jump { target: start })?;
+    push(code, Instr::Jump { target: start })?;
     let target = code.end();
     code.set(place, Instr::JumpIfFalse { target });
     Ok(())
@@ -141,14 +149,15 @@ fn put_repeat(
     code: &mut Code,
     body: &[Statement],
     condition: &Expression,
-) -> Result<(), CodeFault>
+) -> Result<(), AllocError>
+    requires { IsWithinLimits (statement_behind scopes.now entries.now code.old (Programs.Repeat (statements_in body.now) (expression_of condition.now))) }
     ensures { OnOk result (code.new ≡ statement_behind scopes.now entries.now code.old (Programs.Repeat (statements_in body.now) (expression_of condition.now))) }
 {
     let start = code.end();
-    code.push(Instr::Turn)?;
+    push(code, Instr::Turn)?;
     put_statements(scopes, entries, code, body)?;
     put_expression(scopes, code, condition)?;
-    code.push(Instr::JumpIfFalse { target: start })
+    push(code, Instr::JumpIfFalse { target: start })
 }
 
 /// Whether an alternative or ELSE follows.
@@ -162,11 +171,12 @@ pub fn follows(branches: &[Branch], otherwise: &Option<Vec<Statement>>) -> bool
 }
 
 /// The jump over what follows, whose target is not known yet.
-fn put_over(code: &mut Code, more: bool) -> Result<(), CodeFault>
+fn put_over(code: &mut Code, more: bool) -> Result<(), AllocError>
+    requires { IsWithinLimits (grown code.old (over more 0)) }
     ensures { OnOk result (code.new ≡ grown code.old (over more 0)) }
 {
     if more {
-        return code.push(Instr::Jump { target: 0 });
+        return push(code, Instr::Jump { target: 0 });
     }
     Ok(())
 }
@@ -179,13 +189,14 @@ fn put_branch(
     code: &mut Code,
     branch: &Branch,
     more: bool,
-) -> Result<u16, CodeFault>
+) -> Result<u16, AllocError>
+    requires { IsWithinLimits (alternative_behind scopes.now entries.now code.old branch.now more) }
     ensures code { OnOk result (code.new ≡ alternative_behind scopes.now entries.now code.old branch.now more) }
     ensures place { IfOk result (λ place. place ≡ length code.old.instructions + Scheme.size (own_in scopes.now) (expression_of branch.now.condition) + 1 + Scheme.statements_size (own_in scopes.now) (statements_in branch.now.body.items)) }
 {
     put_expression(scopes, code, &branch.condition)?;
     let place = code.end();
-    code.push(Instr::JumpIfFalse { target: 0 })?;
+    push(code, Instr::JumpIfFalse { target: 0 })?;
     put_statements(scopes, entries, code, branch.body.as_slice())?;
     let end = code.end();
     put_over(code, more)?;
@@ -202,7 +213,8 @@ fn put_branches(
     code: &mut Code,
     branches: &[Branch],
     otherwise: &Option<Vec<Statement>>,
-) -> Result<(), CodeFault>
+) -> Result<(), AllocError>
+    requires { IsWithinLimits (branches_behind scopes.now entries.now code.old (branches_in branches.now (otherwise_of otherwise.now))) }
     ensures { OnOk result (code.new ≡ branches_behind scopes.now entries.now code.old (branches_in branches.now (otherwise_of otherwise.now))) }
 {
     let Some((first, rest)) = branches.split_first() else {

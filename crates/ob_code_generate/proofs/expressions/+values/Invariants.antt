@@ -1,7 +1,24 @@
-use Rattle.std.proofs.Common.{◌≡◌, drop}
+use Rattle.std.proofs.Common.{◌≡◌, ◌+◌, [], ◌∷◌, drop}
+use Rattle.ob_checked.specs.View.{expression_of, operations_in, selectors_in, designator_of}
 use Rattle.ob_code_generate.specs.Scoped.{globals_in, own_in, type_in}
 use Rattle.ob_code_generate.proofs.Values.{with_operations, with_selectors, with_designator}
+use Rattle.ob_code_generate.proofs.Weights.{weight, weight_of_operations, weight_of_designator, weight_of_selectors}
 use Rattle.ob_code_generate.proofs.expressions.+values.Given as goal
+
+abbrev pub decreases-put_expression : goal.decreases-put_expression
+decreases-put_expression l = weight (expression_of l.expression.now)
+
+abbrev pub decreases-put_operations : goal.decreases-put_operations
+decreases-put_operations l = weight_of_operations (operations_in l.operations.now)
+
+abbrev pub decreases-put_operation : goal.decreases-put_operation
+decreases-put_operation l = weight (expression_of l.operation.now.operand) + 1
+
+abbrev pub decreases-put_selector : goal.decreases-put_selector
+decreases-put_selector l = weight_of_selectors (selectors_in (l.selector.now ∷ []))
+
+abbrev pub decreases-put_designator : goal.decreases-put_designator
+decreases-put_designator l = weight_of_designator (designator_of l.designator.now) + 1
 
 -- the code so far with that of the operations that are left
 abbrev pub invariant-put_operations-loop-operation : goal.invariant-put_operations-loop-operation
