@@ -1,16 +1,19 @@
 -- Texts of parts and of variables, one by one.
-use Rattle.std.proofs.Common.{◌≡◌, ◌∙◌, ℕ, ◌+◌, ◌<◌, ◌≤◌, min, suc, List, [], ◌∷◌, ◌++◌, codes, drop, length, get_or, map, Option, None, Some, String, string_bytes, inl, inr, refl, sym, ap, arith, add-one, drop-cons, append_assoc, append-nil}
-use Rattle.std.proofs.lemmas.List.{drop_all}
+use Rattle.std.proofs.Common.{◌≡◌, ◌∙◌, ℕ, ◌+◌, ◌<◌, ◌≤◌, min, suc, List, [], ◌∷◌, ◌++◌, codes, drop, length, get_or, map, Option, None, Some, String, string_bytes, inl, inr, refl, sym, ap, subst, arith, add-one, drop-cons, append_assoc, append-nil}
+use Rattle.std.proofs.lemmas.List.{drop_all, length-map}
 use Rattle.std.proofs.lemmas.Bool.{cases_lt}
+use Rattle.std.proofs.Math.ListN.{get_or-map}
 use Rattle.std.specs.declared.alloc.Global.{Global}
 use Rattle.ob_typing.specs.Program as Program
 use Rattle.ob_typing.specs.Scopes.{elements_of, fields_of}
 use Rattle.ob_checked.specs.declared.types.DataType.{DataType}
-use Rattle.ob_checked.specs.Types.{fields_by, type_by}
-use Rattle.ob_positions.specs.Store.{Activation, Held, value_held}
+use Rattle.ob_checked.specs.declared.program.Variable.{Variable}
+use Rattle.ob_checked.specs.Types.{Entry as Entries, fields_by, type_by}
+use Rattle.ob_checked.specs.View.{variable_of}
+use Rattle.ob_positions.specs.Store.{Activation, Held, Holds, value_held}
 use Rattle.ob_positions.specs.Value.{Values, Parts, no_part}
 use Rattle.ob_store.specs.declared.value.Value.{Value}
-use Rattle.ob_store.specs.View.{value_in, values_in}
+use Rattle.ob_store.specs.View.{value_in, values_in, variables_in}
 use Rattle.ob_text_values.specs.Values.{array_text, elements_text, fields_text, record_text, separator, value_text}
 use Rattle.ob_text_values.specs.Variables.{state_text, variable_line}
 
@@ -51,24 +54,32 @@ no_values n (Program.field name type rest) = refl
 pub values_end : (ts : List Program.DataType) (fs : List Entry) (vs : List Value) (n i : ℕ) → length vs ≤ i → fields_text n (fields_by ts (drop i fs)) (values_in (drop i vs)) ≡ []
 values_end ts fs vs n i past = ap (λ ws. fields_text n (fields_by ts (drop i fs)) (values_in ws)) (drop_all i vs past) ∙ no_values n (fields_by ts (drop i fs))
 
+element_or : Program.DataType → Option (ℕ × Program.DataType) → Program.DataType
+element_or d None = d
+element_or d (Some p) = p.1
+
+fields_or : Program.Fields → Option Program.Fields → Program.Fields
+fields_or d None = d
+fields_or d (Some fs) = fs
+
 -- the text of parts, by their type
 pub text_of_array : (t : Program.DataType) (n : ℕ) (element : Program.DataType) (vs : Values) → Some (n, element) ≡ elements_of t → value_text t (Parts vs) ≡ array_text element vs
 text_of_array (Program.Simple type) n element vs e = absurd cc
-text_of_array (Program.Array place length own) n element vs e =
-    let same : element ≡ own = cc in
+text_of_array (Program.Array place size own) n element vs e =
+    let same : element ≡ own = ap (element_or own) e in
     ap (λ u. array_text u vs) (sym same)
 text_of_array (Program.Record place fields) n element vs e = absurd cc
 
 pub text_of_record : (t : Program.DataType) (fields : Program.Fields) (vs : Values) → Some fields ≡ fields_of t → value_text t (Parts vs) ≡ record_text fields vs
 text_of_record (Program.Simple type) fields vs e = absurd cc
-text_of_record (Program.Array place length own) fields vs e = absurd cc
+text_of_record (Program.Array place size own) fields vs e = absurd cc
 text_of_record (Program.Record place own) fields vs e =
-    let same : fields ≡ own = cc in
+    let same : fields ≡ own = ap (fields_or own) e in
     ap (λ fs. record_text fs vs) (sym same)
 
 pub text_of_none : (t : Program.DataType) (vs : Values) → None ≡ elements_of t → None ≡ fields_of t → value_text t (Parts vs) ≡ []
 text_of_none (Program.Simple type) vs e f = refl
-text_of_none (Program.Array place length own) vs e f = absurd cc
+text_of_none (Program.Array place size own) vs e f = absurd cc
 text_of_none (Program.Record place own) vs e f = absurd cc
 
 -- the lines of variables from a position on
@@ -89,3 +100,22 @@ lines_end variables state i e =
           ap (state_text (drop i variables)) none ∙ no_values_left (drop i variables)
       | inr past ↦ ap (λ vs. state_text vs (drop i state)) (drop_all i variables past)
     ]
+
+-- the same of the variables of a program, with values of their own
+module _ (types : List Entries) (variables : List Variable) (values : List Value) (state : Activation) (own : variables_in values ≡ state) where
+  pub state_more : (text before all : List ℕ) (n : ℕ) (v : Variable) (w : Value) → n < length variables → v ≡ get_or variables n v → n < length values → w ≡ get_or values n w →
+      text ≡ before ++ variable_line (variable_of types v) (value_in w) →
+      before ++ state_text (drop n (map (variable_of types) variables)) (drop n state) ≡ all →
+      text ++ state_text (drop (n + 1) (map (variable_of types) variables)) (drop (n + 1) state) ≡ all
+  state_more text before all n v w below at within here is so_far =
+      let first : variable_of types v ≡ get_or (map (variable_of types) variables) n (variable_of types v) = ap (variable_of types) at ∙ sym (get_or-map (variable_of types) variables n v) in
+      let second : Holds (value_in w) ≡ get_or (variables_in values) n (Holds (value_in w)) = ap (λ u. Holds (value_in u)) here ∙ sym (get_or-map (λ u. Holds (value_in u)) values n w) in
+      let parts = lines_more (map (variable_of types) variables) (variables_in values) n (variable_of types v) (Holds (value_in w)) (rw length-map below) first (rw length-map within) second in
+      behind text before _ _ _ all is (sym (subst (λ s. state_text (drop n (map (variable_of types) variables)) (drop n s) ≡ variable_line (variable_of types v) (value_in w) ++ state_text (drop (n + 1) (map (variable_of types) variables)) (drop (n + 1) s)) own parts)) so_far
+
+  pub state_end : (text all : List ℕ) (n : ℕ) → n ≡ min (length variables) (length values) →
+      text ++ state_text (drop n (map (variable_of types) variables)) (drop n state) ≡ all → text ≡ all
+  state_end text all n e so_far =
+      let counts : length values ≡ length state = sym length-map ∙ ap length own in
+      let none = lines_end (map (variable_of types) variables) state n (rw (length-map, ← counts) e) in
+      sym (append-nil text) ∙ ap (λ t. text ++ t) (sym none) ∙ so_far
