@@ -29,6 +29,17 @@ elements_more element vs i v below at = rw (drop-cons vs i v, ← at, add-one) r
 pub no_elements : (n i : ℕ) (element : Program.DataType) (vs : List Value) → length vs ≤ i → elements_text n element (values_in (drop i vs)) ≡ []
 no_elements n i element vs past = ap (λ ws. elements_text n element (values_in ws)) (drop_all i vs past)
 
+-- one element more
+pub element_step : (element : Program.DataType) (vs : List Value) (i : ℕ) (v : Value) (before between text all : List ℕ) → i < length vs → v ≡ get_or vs i v →
+    between ≡ before ++ separator i → text ≡ between ++ value_text element (value_in v) →
+    before ++ elements_text i element (values_in (drop i vs)) ≡ all →
+    text ++ elements_text (i + 1) element (values_in (drop (i + 1) vs)) ≡ all
+element_step element vs i v before between text all below at a b so_far =
+    let parts = elements_more element vs i v below at in
+    behind text before (separator i ++ value_text element (value_in v)) _ _ all
+    (b ∙ ap (λ t. t ++ value_text element (value_in v)) a ∙ append_assoc before (separator i) (value_text element (value_in v)))
+    (append_assoc (separator i) (value_text element (value_in v)) _ ∙ sym parts) so_far
+
 abbrev Entry : Type 0
 Entry = String Global × DataType
 
@@ -38,6 +49,25 @@ pub fields_more : (ts : List Program.DataType) (fs : List Entry) (vs : List Valu
     fields_text i (fields_by ts (drop i fs)) (values_in (drop i vs))
     ≡ separator i ++ string_bytes f.0 ++ codes "=" ++ value_text (type_by ts f.1) (value_in v) ++ fields_text (i + 1) (fields_by ts (drop (i + 1) fs)) (values_in (drop (i + 1) vs))
 fields_more ts fs vs i f v below at within here = rw (drop-cons fs i f, ← at, drop-cons vs i v, ← here, add-one) refl
+
+four : (a b c d r : List ℕ) → (a ++ b ++ c ++ d) ++ r ≡ a ++ b ++ c ++ d ++ r
+four a b c d r =
+    append_assoc a (b ++ c ++ d) r ∙ ap (λ t. a ++ t) (append_assoc b (c ++ d) r ∙ ap (λ t. b ++ t) (append_assoc c d r))
+
+appended : (before a b c d t0 t1 t2 t3 : List ℕ) → t0 ≡ before ++ a → t1 ≡ t0 ++ b → t2 ≡ t1 ++ c → t3 ≡ t2 ++ d → t3 ≡ before ++ a ++ b ++ c ++ d
+appended before a b c d t0 t1 t2 t3 w x y z = rw (z, y, x, w) refl
+
+-- one field more
+pub field_step : (ts : List Program.DataType) (fs : List Entry) (vs : List Value) (i : ℕ) (f : Entry) (v : Value) (before t0 t1 t2 t3 all : List ℕ) →
+    i < length fs → f ≡ get_or fs i f → i < length vs → v ≡ get_or vs i v →
+    t0 ≡ before ++ separator i → t1 ≡ t0 ++ string_bytes f.0 → t2 ≡ t1 ++ codes "=" → t3 ≡ t2 ++ value_text (type_by ts f.1) (value_in v) →
+    before ++ fields_text i (fields_by ts (drop i fs)) (values_in (drop i vs)) ≡ all →
+    t3 ++ fields_text (i + 1) (fields_by ts (drop (i + 1) fs)) (values_in (drop (i + 1) vs)) ≡ all
+field_step ts fs vs i f v before t0 t1 t2 t3 all below at within here w x y z so_far =
+    let parts = fields_more ts fs vs i f v below at within here in
+    behind t3 before (separator i ++ string_bytes f.0 ++ codes "=" ++ value_text (type_by ts f.1) (value_in v)) _ _ all
+    (appended before _ _ _ _ t0 t1 t2 t3 w x y z)
+    (four (separator i) (string_bytes f.0) (codes "=") (value_text (type_by ts f.1) (value_in v)) _ ∙ sym parts) so_far
 
 no_fields : (n : ℕ) (vs : Values) → fields_text n Program.no_field vs ≡ []
 no_fields n Values.no_part = refl
@@ -54,11 +84,11 @@ no_values n (Program.field name type rest) = refl
 pub values_end : (ts : List Program.DataType) (fs : List Entry) (vs : List Value) (n i : ℕ) → length vs ≤ i → fields_text n (fields_by ts (drop i fs)) (values_in (drop i vs)) ≡ []
 values_end ts fs vs n i past = ap (λ ws. fields_text n (fields_by ts (drop i fs)) (values_in ws)) (drop_all i vs past) ∙ no_values n (fields_by ts (drop i fs))
 
-element_or : Program.DataType → Option (ℕ × Program.DataType) → Program.DataType
+abbrev element_or : Program.DataType → Option (ℕ × Program.DataType) → Program.DataType
 element_or d None = d
 element_or d (Some p) = p.1
 
-fields_or : Program.Fields → Option Program.Fields → Program.Fields
+abbrev fields_or : Program.Fields → Option Program.Fields → Program.Fields
 fields_or d None = d
 fields_or d (Some fs) = fs
 
@@ -116,6 +146,6 @@ module _ (types : List Entries) (variables : List Variable) (values : List Value
   pub state_end : (text all : List ℕ) (n : ℕ) → n ≡ min (length variables) (length values) →
       text ++ state_text (drop n (map (variable_of types) variables)) (drop n state) ≡ all → text ≡ all
   state_end text all n e so_far =
-      let counts : length values ≡ length state = sym length-map ∙ ap length own in
+      let counts : length values ≡ length state = sym (length-map values (λ v. Holds (value_in v))) ∙ ap length own in
       let none = lines_end (map (variable_of types) variables) state n (rw (length-map, ← counts) e) in
       sym (append-nil text) ∙ ap (λ t. text ++ t) (sym none) ∙ so_far
