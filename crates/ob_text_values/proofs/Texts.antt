@@ -38,7 +38,7 @@ element_step element vs i v before between text all below at a b so_far =
     let parts = elements_more element vs i v below at in
     behind text before (separator i ++ value_text element (value_in v)) _ _ all
     (b ∙ ap (λ t. t ++ value_text element (value_in v)) a ∙ append_assoc before (separator i) (value_text element (value_in v)))
-    (append_assoc (separator i) (value_text element (value_in v)) _ ∙ sym parts) so_far
+    (sym parts) so_far
 
 abbrev Entry : Type 0
 Entry = String Global × DataType
@@ -50,12 +50,10 @@ pub fields_more : (ts : List Program.DataType) (fs : List Entry) (vs : List Valu
     ≡ separator i ++ string_bytes f.0 ++ codes "=" ++ value_text (type_by ts f.1) (value_in v) ++ fields_text (i + 1) (fields_by ts (drop (i + 1) fs)) (values_in (drop (i + 1) vs))
 fields_more ts fs vs i f v below at within here = rw (drop-cons fs i f, ← at, drop-cons vs i v, ← here, add-one) refl
 
-four : (a b c d r : List ℕ) → (a ++ b ++ c ++ d) ++ r ≡ a ++ b ++ c ++ d ++ r
-four a b c d r =
-    append_assoc a (b ++ c ++ d) r ∙ ap (λ t. a ++ t) (append_assoc b (c ++ d) r ∙ ap (λ t. b ++ t) (append_assoc c d r))
-
-appended : (before a b c d t0 t1 t2 t3 : List ℕ) → t0 ≡ before ++ a → t1 ≡ t0 ++ b → t2 ≡ t1 ++ c → t3 ≡ t2 ++ d → t3 ≡ before ++ a ++ b ++ c ++ d
-appended before a b c d t0 t1 t2 t3 w x y z = rw (z, y, x, w) refl
+appended : (before a b c d t0 t1 t2 t3 : List ℕ) → t0 ≡ before ++ a → t1 ≡ t0 ++ b → t2 ≡ t1 ++ c → t3 ≡ t2 ++ d → t3 ≡ before ++ (a ++ b ++ c ++ d)
+appended before a b c d t0 t1 t2 t3 w x y z =
+    rw (z, y, x, w)
+    (ap (λ t. t ++ d) (ap (λ t. t ++ c) (append_assoc before a b) ∙ append_assoc before (a ++ b) c) ∙ append_assoc before (a ++ b ++ c) d)
 
 -- one field more
 pub field_step : (ts : List Program.DataType) (fs : List Entry) (vs : List Value) (i : ℕ) (f : Entry) (v : Value) (before t0 t1 t2 t3 all : List ℕ) →
@@ -67,7 +65,7 @@ field_step ts fs vs i f v before t0 t1 t2 t3 all below at within here w x y z so
     let parts = fields_more ts fs vs i f v below at within here in
     behind t3 before (separator i ++ string_bytes f.0 ++ codes "=" ++ value_text (type_by ts f.1) (value_in v)) _ _ all
     (appended before _ _ _ _ t0 t1 t2 t3 w x y z)
-    (four (separator i) (string_bytes f.0) (codes "=") (value_text (type_by ts f.1) (value_in v)) _ ∙ sym parts) so_far
+    (sym parts) so_far
 
 no_fields : (n : ℕ) (vs : Values) → fields_text n Program.no_field vs ≡ []
 no_fields n Values.no_part = refl

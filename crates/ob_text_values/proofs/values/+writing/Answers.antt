@@ -1,4 +1,4 @@
-use Rattle.std.proofs.Common.{◌≡◌, ◌∙◌, ◌<◌, ap, get_or, length, rules, string_bytes}
+use Rattle.std.proofs.Common.{◌≡◌, ◌∙◌, ◌<◌, ◌++◌, ap, get_or, length, rules, string_bytes}
 use Rattle.ob_checked.specs.Types.{fields_in, type_in, types_of}
 use Rattle.ob_checked.specs.View.{table_of}
 use Rattle.ob_positions.specs.Value as Values
@@ -6,6 +6,7 @@ use Rattle.ob_store.proofs.Parts.{value_in-parts}
 use Rattle.ob_store.specs.View.{value_in, values_in}
 use Rattle.ob_text_words.proofs.Appended.{left, more, no_more, some_more}
 use Rattle.ob_text_values.proofs.Texts.{element_step, field_step, text_of_array, text_of_record}
+use Rattle.ob_text_values.specs.Values.{value_text}
 use Rattle.ob_text_values.proofs.values.+writing.Goals as goal
 
 pub push_array-loop-position-preserved : goal.push_array-loop-position-preserved
@@ -36,13 +37,14 @@ push_record-loop-position-preserved n c =
     let here : v ≡ get_or c.args.parts.now i v = search rules in
     let below : i < length c.as_slice.result.now = search rules in
     let at : f ≡ get_or c.as_slice.result.now i f = search rules in
-    let name : c.deref.result.now ≡ string_bytes f.0 = c.deref.ensures ∙ ap string_bytes c.in-Some.name-is in
+    let name : c.deref.result.now ≡ string_bytes f.0 = c.deref.ensures in
+    let pushed : string_bytes c.push_value.new.text ≡ string_bytes c.push_str-in-loop-position-2.new.self ++ value_text (type_in (table_of c.args.types.now) f.1) (value_in v) = search rules in
     record {
       so_far =
           field_step (types_of (table_of c.args.types.now)) (fields_in c.args.fields.now) c.args.parts.now i f v _ _ _ _ _ _
           (rw c.as_slice.ensures at below) (rw c.as_slice.ensures at at) c.loop-position-test.true here
           c.in_ok-push_separator.ensures.ok (rw name at c.in_ok-push_str-2.ensures.bytes) c.in_ok-push_str-3.ensures.bytes
-          (rw c.in-Some.data_type-is at c.in_ok-push_value.ensures.ok) c.loop-position.invariant.so_far;
+          pushed c.loop-position.invariant.so_far;
       kept =
           more _
           (more _ (more _ (more _ c.loop-position.invariant.kept c.in_ok-push_separator.ensures.ok) c.in_ok-push_str-2.ensures.bytes) c.in_ok-push_str-3.ensures.bytes)
