@@ -1,7 +1,7 @@
 -- One value has one text, by position as by name.
-use Rattle.std.proofs.Common.{◌≡◌, ◌∙◌, ℕ, zero, suc, List, [], ◌∷◌, ◌++◌, codes, map, refl, sym, ap, ap₂}
+use Rattle.std.proofs.Common.{◌≡◌, ℕ, zero, suc, List, [], ◌∷◌, ◌++◌, codes, map, refl, sym, ap, ap₂}
 use Rattle.std.proofs.lemmas.Bool.{false≢true}
-use Rattle.ob_typing.specs.Program.{DataType, Simple, Array, Record, Fields, no_field, field, Parameter, Variable, Program}
+use Rattle.ob_typing.specs.Program.{DataType, Simple, Array, Record, Fields, no_field, field, Variable, Program}
 use Rattle.ob_agreement.specs.Resolved.{as_parameter, module_scope}
 use Rattle.ob_agreement.specs.Same.{SameActivation, SameElements, SameFields, SameHeld, SameState, SameValue, Scopes}
 use Rattle.ob_meaning.specs.Object as Objects

@@ -1,4 +1,4 @@
-use Rattle.std.proofs.Common.{◌≡◌, ◌++◌, codes, drop, string_bytes}
+use Rattle.std.proofs.Common.{◌≡◌, ◌++◌, drop, string_bytes}
 use Rattle.ob_checked.specs.Types.{type_in, types_of, fields_by, fields_in}
 use Rattle.ob_checked.specs.View.{table_of}
 use Rattle.ob_store.specs.View.{values_in}
