@@ -1,0 +1,51 @@
+//! Records written.
+
+ghost use Rattle.std.specs.Prelude.{◌≡◌, ◌++◌, IfOk, OnErr, OnOk, string_bytes};
+ghost use Rattle.ob_checked.specs.CheckedModule.{program_in};
+ghost use Rattle.ob_object_record.specs.Record.{record_of};
+ghost use Rattle.ob_text_record.specs.RecordText.{head_text, order_text, record_text};
+ghost use Rattle.ob_text_words.specs.Appending.{GoesOn};
+
+use crate::events::{push_events, push_ids};
+use crate::schedule::push_schedule;
+use ob_checked::checked::Checked;
+use ob_object_record::Record;
+use ob_text_values::variables::push_state;
+use ob_text_words::numbers::push_number;
+use std::alloc::{AllocError, Global};
+use wf_history::CallId;
+
+/// The text of a record of a module's object.
+pub fn write_record(alloc: Global, checked: &Checked, record: &Record) -> Result<String, AllocError>
+    ensures { IfOk result (λ text. string_bytes text ≡ record_text (program_in checked.now) (record_of «record».now)) }
+{
+    let mut text = String::from_str(alloc, "obl0 record 2\n")?;
+    push_head(&mut text, record.processes, record.budget)?;
+    push_events(&mut text, checked.exports(), record.history.events())?;
+    push_order(&mut text, &record.order)?;
+    push_schedule(&mut text, &record.schedule)?;
+    push_state(&mut text, checked.program(), &record.state)?;
+    Ok(text)
+}
+
+/// Appends how many processes there are, and the budget of each call.
+fn push_head(text: &mut String, processes: usize, budget: u64) -> Result<(), AllocError>
+    ensures ok { OnOk result (string_bytes text.new ≡ string_bytes text.old ++ head_text processes budget) }
+    ensures left { OnErr result (GoesOn (string_bytes text.old) (string_bytes text.new)) }
+{
+    text.push_str("n ")?;
+    push_number(text, processes)?;
+    text.push_str("\nb ")?;
+    push_number(text, budget)?;
+    text.push_str("\n")
+}
+
+/// Appends the order of the applied calls.
+fn push_order(text: &mut String, order: &[CallId]) -> Result<(), AllocError>
+    ensures ok { OnOk result (string_bytes text.new ≡ string_bytes text.old ++ order_text order.now) }
+    ensures left { OnErr result (GoesOn (string_bytes text.old) (string_bytes text.new)) }
+{
+    text.push_str("O")?;
+    push_ids(text, order)?;
+    text.push_str("\n")
+}

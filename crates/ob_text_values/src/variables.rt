@@ -1,0 +1,44 @@
+//! The lines of variables.
+
+ghost use Rattle.std.specs.Prelude.{◌≡◌, ◌++◌, map, OnErr, OnOk, string_bytes};
+ghost use Rattle.ob_checked.specs.View.{program_of, table_of, variable_of};
+ghost use Rattle.ob_store.specs.View.{state_of, value_in};
+ghost use Rattle.ob_text_words.specs.Appending.{GoesOn};
+ghost use Rattle.ob_text_values.specs.Variables.{state_text, variable_line};
+
+use crate::values::push_value;
+use ob_checked::program::{Program, Variable};
+use ob_checked::types::Types;
+use ob_store::state::State;
+use ob_store::value::Value;
+use std::alloc::AllocError;
+
+/// Appends the line of a variable with its value.
+pub fn push_variable_line(
+    text: &mut String,
+    types: &Types,
+    variable: &Variable,
+    value: &Value,
+) -> Result<(), AllocError>
+    ensures ok { OnOk result (string_bytes text.new
+        ≡ string_bytes text.old ++ variable_line (variable_of (table_of types.now) variable.now) (value_in value.now)) }
+    ensures left { OnErr result (GoesOn (string_bytes text.old) (string_bytes text.new)) }
+{
+    text.push_str("V ")?;
+    text.push_str(&variable.name)?;
+    text.push_str(" ")?;
+    push_value(text, types, variable.data_type, value)?;
+    text.push_str("\n")
+}
+
+/// Appends the lines of the module's variables with their values in a state, in text order.
+pub fn push_state(text: &mut String, program: &Program, state: &State) -> Result<(), AllocError>
+    ensures ok { OnOk result (string_bytes text.new
+        ≡ string_bytes text.old ++ state_text (program_of program.now).variables (state_of state.now)) }
+    ensures left { OnErr result (GoesOn (string_bytes text.old) (string_bytes text.new)) }
+{
+    for (variable, value) in program.variables.iter().zip(state.values()) {
+        push_variable_line(text, &program.types, variable, value)?;
+    }
+    Ok(())
+}
