@@ -1,0 +1,22 @@
+-- What a run showed, without pointers.
+use Rattle.std.specs.Prelude.{ℕ, List}
+use Rattle.ob_interface.specs.Call.{ObjectCall, Reply}
+use Rattle.ob_positions.specs.Store.{Activation}
+use Rattle.ob_store.specs.View.{state_of}
+use Rattle.ob_object_record.specs.declared.record.Record as Rust
+use Rattle.wf_history.specs.declared.event.CallId.{CallId}
+use Rattle.wf_history.specs.History.{Event}
+use Rattle.wf_table.specs.declared.schedule.Turns.{Turns}
+
+-- how many processes there are, the budget of turns that each call had, the events in the order in which they were seen, the
+-- order of the applied calls, who stepped, and the module's variables at the end
+pub record Record : Type 0 where
+  pub processes : ℕ
+  pub budget : ℕ
+  pub history : List (Event ObjectCall Reply)
+  pub order : List CallId
+  pub schedule : List Turns
+  pub state : Activation
+
+abbrev pub record_of : Rust.Record → Record
+record_of r = record { processes = r.processes; budget = r.budget; history = r.history; order = r.order.items; schedule = r.schedule.items; state = state_of r.state }

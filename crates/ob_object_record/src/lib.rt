@@ -1,0 +1,6 @@
+//! What a run of a module's object showed.
+#![tactic(auto)]
+
+pub mod record;
+
+pub use record::Record;
