@@ -6,6 +6,10 @@ use Rattle.ob_meaning.specs.Object.{State, replies_to}
 use Rattle.ob_positions.specs.Store.{Activation}
 use Rattle.ob_code_engine.specs.Total.{body_limit}
 use Rattle.ob_code_law.specs.CodeMeaning.{EngineParts, code_meaning}
+use Rattle.ob_code_law.specs.Compiled.{parts_of}
+use Rattle.ob_code_scheme.specs.Layout.{encoded}
+use Rattle.ob_code_scheme.specs.WellFormed.{IsWellFormed}
+use Rattle.ob_interpreter.specs.Sequences.{IsOpening}
 use Rattle.ob_object_order.specs.OrderFaults.{IsOrderFault}
 use Rattle.ob_object_order.specs.declared.order.OrderFault.{OrderFault}
 use Rattle.ob_object_order.specs.declared.order.OrderFault.TheVariants.{NoMemory}
@@ -15,6 +19,12 @@ use Rattle.ob_object_run.specs.OwnCalls.{HasReplies, calls_by}
 use Rattle.ob_object_run.specs.Recorded.{IsNamedObjectOf, IsObjectOf, IsRecorded}
 use Rattle.ob_schedule.specs.declared.item.Item.{Item}
 use Rattle.wf_theorems.specs.FirstCalls.{AreFirstCalls, own_ids}
+
+-- the opening state of a well-formed program is an object over the engine of its code, with any budget
+abbrev pub OpeningsAreObjects : Type 0
+OpeningsAreObjects =
+    (program : Program) (budget : ℕ) (opening : Activation) → IsWellFormed program → IsOpening program opening →
+    IsObjectOf program (parts_of program budget) opening (encoded opening)
 
 -- all calls of the scripts are of process 0
 abbrev pub AreOfOneProcess : List (ℕ × ObjectCall) → Type 0

@@ -1,6 +1,6 @@
 //! Laws of the records of runs. What a function here ensures is proved; it does nothing.
 
-ghost use Rattle.ob_object_run.specs.Laws.{OneProcessAnswers, OneProcessInTurn, OwnCallsInTurn, RunsKeepBound, RunsKeepBoundByCall, RunsKeepTotal, RunsPassCheck};
+ghost use Rattle.ob_object_run.specs.Laws.{OneProcessAnswers, OneProcessInTurn, OpeningsAreObjects, OwnCallsInTurn, RunsKeepBound, RunsKeepBoundByCall, RunsKeepTotal, RunsPassCheck};
 
 use ob_code_engine::CodeEngine;
 use ob_code_engine::laws::engines_keep_total;
@@ -8,6 +8,11 @@ use wf_theorems::alone::{every_process, process_alone};
 use wf_theorems::bound::{every_bound, every_call};
 use wf_theorems::runs::every_run;
 use wf_theorems::standing::legal_order;
+
+/// The opening state of a well-formed program is an object over the engine of its code, with any budget.
+pub fn openings_are_objects()
+    ensures { OpeningsAreObjects }
+{}
 
 /// In a record the calls of each process stand in the order as in the scripts.
 pub fn own_calls_in_turn()

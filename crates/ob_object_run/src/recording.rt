@@ -3,7 +3,6 @@
 ghost use Rattle.std.specs.Prelude.{◌≡◌, ◌<◌, All, IfOk, IfErr};
 ghost use Rattle.ob_code_layout.specs.Layout.{parts_of};
 ghost use Rattle.ob_code_law.specs.Compiled.{IsFitting};
-ghost use Rattle.ob_code_law.specs.Parts.{IsLawfulFor};
 ghost use Rattle.ob_code_scheme.specs.Layout.{encoded};
 ghost use Rattle.ob_object_record.specs.Record.{record_of};
 ghost use Rattle.ob_object_run.specs.Recorded.{DoFit, IsLegalFor, IsMeantFor, IsNoRun, IsObject, IsRecorded, scripts_in};
@@ -34,8 +33,7 @@ pub fn record_run(
     calls: Vec<ScriptCall>,
     items: &[Item],
 ) -> Result<Record, PlayFault>
-    requires object { ∥ IsObject (parts_of layout.now).variables engine.parts (encoded (state_of opening.now)) ∥₁ }
-    requires opening { IsLawfulFor engine.parts (encoded (state_of opening.now)) }
+    requires object { IsObject (parts_of layout.now).variables engine.parts (encoded (state_of opening.now)) }
     requires callers { All (λ c. c.process < n) calls.items }
     requires fits { All (λ c. IsFitting engine.parts.exports (object_call (script_call_of c))) calls.items }
     requires items { All (λ item. process_of item < n) items.now }
