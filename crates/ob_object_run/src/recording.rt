@@ -11,8 +11,7 @@ ghost use Rattle.ob_store.specs.View.{state_of};
 ghost use Rattle.ob_text_words.specs.ScriptCalls.{object_call, script_call_of};
 
 use ob_code_engine::CodeEngine;
-use ob_code_layout::Layout;
-use ob_code_layout::encoding::encode;
+use ob_code_layout::{Layout, encode};
 use ob_interface::NoMemory;
 use ob_object_record::Record;
 use ob_schedule::Item;

@@ -6,4 +6,3 @@ use Rattle.ob_code_scheme.specs.Layout.{encoded}
 use Rattle.ob_object_run.proofs.Engines.{may_begin}
 use Rattle.ob_store.specs.View.{state_of}
 use Rattle.ob_object_run.proofs.recording.record_run.Goals as goal
-
