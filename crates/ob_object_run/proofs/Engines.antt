@@ -12,7 +12,7 @@ use Rattle.wf_table.specs.Object.{State}
 use Rattle.wf_table.specs.Runs.{Act, ActsFit, IsRun, run}
 use Rattle.wf_table.specs.Start.{sizes_of}
 
-pub engine_in : (parts : EngineParts) (block : List ℤ) → IsLawfulFor parts block → CompiledParts
+abbrev pub engine_in : (parts : EngineParts) (block : List ℤ) → IsLawfulFor parts block → CompiledParts
 engine_in parts block l = record { parts = parts; compiled = ∣ (l.program, l.compiled) ∣₁ }
 
 module _ (parts : EngineParts) (n : ℕ) (block : List ℤ) where
@@ -20,7 +20,7 @@ module _ (parts : EngineParts) (n : ℕ) (block : List ℤ) where
   Runs acts s = IsRun (code_meaning parts) (IsLawfulFor parts) (IsFitting parts.exports) (HasReserve parts) n block acts s
 
   -- from where a run begins, other acts that fit are a run
-  pub reached : (all : List Act) (s : State Run) (runs : Runs all s) (acts : List Act) → ActsFit (IsFitting parts.exports) acts → Runs acts (run (code_meaning parts) (sizes_of (code_meaning parts) n) acts runs.start)
+  abbrev pub reached : (all : List Act) (s : State Run) (runs : Runs all s) (acts : List Act) → ActsFit (IsFitting parts.exports) acts → Runs acts (run (code_meaning parts) (sizes_of (code_meaning parts) n) acts runs.start)
   reached all s runs acts fit = record { some = runs.some; few = runs.few; opens = runs.opens; fit = fit; start = runs.start; begins = runs.begins; leads = refl }
 
 -- an object over an engine may begin with its block

@@ -4,6 +4,7 @@ ghost use Rattle.ob_object_run.specs.Laws.{OneProcessAnswers, OneProcessInTurn, 
 
 use ob_code_engine::CodeEngine;
 use ob_code_engine::laws::engines_keep_total;
+use ob_code_law::laws::orders_are_carried;
 use wf_theorems::alone::{every_process, process_alone};
 use wf_theorems::bound::{every_bound, every_call};
 use wf_theorems::runs::every_run;
@@ -35,6 +36,7 @@ pub fn one_process_answers()
 {
     every_run::<CodeEngine>();
     legal_order::<CodeEngine>();
+    orders_are_carried();
     one_process();
 }
 

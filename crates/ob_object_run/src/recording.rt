@@ -11,6 +11,7 @@ ghost use Rattle.ob_store.specs.View.{state_of};
 ghost use Rattle.ob_text_words.specs.ScriptCalls.{object_call, script_call_of};
 
 use ob_code_engine::CodeEngine;
+use ob_code_law::laws::orders_are_carried;
 use ob_code_layout::{Layout, encode};
 use ob_interface::NoMemory;
 use ob_object_record::Record;
@@ -66,6 +67,8 @@ pub fn recorded(
     ensures legal { IfOk result (λ r. IsLegalFor (parts_of layout.now).variables machine.engine.parts machine.opening (record_of r)) }
     ensures meant { IfOk result (λ r. IsMeantFor (parts_of layout.now).variables machine.engine.parts machine.opening (record_of r)) }
 {
+    // This does nothing: what calls come to by position is what they mean by name.
+    orders_are_carried();
     machine.keeps();
     let _ = machine.order();
     let budget = machine.engine().budget();

@@ -31,7 +31,7 @@ returns c = λ program parts opening block scripts items r callers h is.
     let fit = begun_fits m (IsLawfulFor parts) (IsFitting parts.exports) (HasReserve parts) (sizes_of m 1) block s sound in
     let legal = ∥∥₁_map (c.legal_order.ensures e 1 block acts s h.played.runs) (λ l.
     let t = by_position parts block words s.records.history fit s.records.order program is.activation is.is l in
-    let named = by_name program parts opening block is s.records.history s.records.order t.end fit t.legal in
+    let named = by_name c.orders_are_carried.ensures.by_name program parts opening block is s.records.history s.records.order t.last fit t.legal in
     (named.end, named.legal)) in
     let in_turn = c.one_process.ensures parts block scripts items r callers h in
     let by_history = subst (λ (events : List (Event ObjectCall Reply)). AreFirstCalls 0 calls events r.order) h.history in_turn in

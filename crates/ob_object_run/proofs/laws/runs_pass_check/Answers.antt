@@ -28,7 +28,7 @@ returns c = λ program parts opening n block scripts items r h is fault fails.
     let fit = begun_fits m (IsLawfulFor parts) (IsFitting parts.exports) (HasReserve parts) (sizes_of m n) block s sound in
     let legal = ∥∥₁_map (c.legal_order.ensures e n block acts s h.played.runs) (λ l.
     let t = by_position parts block words s.records.history fit s.records.order program opening is l in
-    (t.end, t.legal)) in
+    (t.last, t.legal)) in
     let by_history = subst (λ (events : List (Event ObjectCall Reply)). IsOrderFault program parts.budget opening events r.order fault) h.history fails in
     let by_order = subst (λ (order : List CallId). IsOrderFault program parts.budget opening s.records.history order fault) h.order by_history in
     only_memory program parts.budget opening s.records.history s.records.order sound.in_turn fault legal by_order

@@ -48,3 +48,9 @@ returns-clause-legal c =
     (legal_for (parts_of c.args.layout.now).variables q a.opening c.as_slice.result.now
     (record { processes = c.args.processes; budget = q.budget; history = a.state.records.history; order = a.state.records.order; schedule = a.state.records.schedule; state = state_of c.in-Some.state })
     fit read by_words)
+
+pub returns-clause-meant : goal.returns-clause-meant
+returns-clause-meant c =
+    meant_for c.orders_are_carried.ensures.by_name (parts_of c.args.layout.now).variables c.args.machine.engine.parts c.args.machine.opening
+    (record { processes = c.args.processes; budget = c.args.machine.engine.parts.budget; history = c.args.machine.state.records.history; order = c.args.machine.state.records.order; schedule = c.args.machine.state.records.schedule; state = state_of c.in-Some.state })
+    (returns-clause-begun c) (returns-clause-legal c)
