@@ -5,9 +5,8 @@ use Rattle.ob_code_law.specs.CodeMeaning.{code_meaning}
 use Rattle.ob_code_law.specs.Compiled.{HasReserve, IsFitting}
 use Rattle.ob_code_law.specs.Parts.{IsEffectOf, IsLawfulFor}
 use Rattle.ob_code_layout.specs.Layout.{parts_of}
-use Rattle.ob_object_record.specs.Record.{record_of}
+use Rattle.ob_object_record.specs.Record.{Record}
 use Rattle.ob_object_run.proofs.Chain.{legal_for, meant_for, never_none}
-use Rattle.ob_object_run.specs.Recorded.{DoFit}
 use Rattle.ob_store.specs.View.{state_of}
 use Rattle.wf_help.proofs.Effects.{begun_fits}
 use Rattle.wf_history.specs.declared.event.CallId.{CallId}
@@ -51,6 +50,7 @@ returns-clause-legal c =
 
 pub returns-clause-meant : goal.returns-clause-meant
 returns-clause-meant c =
-    meant_for c.orders_are_carried.ensures.by_name (parts_of c.args.layout.now).variables c.args.machine.engine.parts c.args.machine.opening
-    (record { processes = c.args.processes; budget = c.args.machine.engine.parts.budget; history = c.args.machine.state.records.history; order = c.args.machine.state.records.order; schedule = c.args.machine.state.records.schedule; state = state_of c.in-Some.state })
-    (returns-clause-begun c) (returns-clause-legal c)
+    let a = c.args.machine in
+    let shown = c.into_parts-history.result in
+    let r : Record = record { processes = c.args.processes; budget = c.budget-budget.result; history = shown.1; order = shown.2.items; schedule = shown.3.items; state = state_of c.in-Some.state } in
+    meant_for c.orders_are_carried.ensures.by_name (parts_of c.args.layout.now).variables a.engine.parts a.opening r (returns-clause-begun c) (returns-clause-legal c)
