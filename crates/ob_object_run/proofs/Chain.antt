@@ -1,5 +1,5 @@
 -- An order that is legal by the effect of an engine is legal by what the calls of its program come to, and by what they mean.
-use Rattle.std.proofs.Common.{◌≡◌, ℕ, List, ap, ◌∙◌, sym, subst}
+use Rattle.std.proofs.Common.{◌≡◌, ℕ, List, ap, sym, subst}
 use Rattle.std.specs.Prelude.{ℤ, Some, None}
 use Rattle.std.proofs.Math.Logic.{∥∥₁_elim, ∥∥₁_map}
 use Rattle.ob_interface.specs.Call.{ObjectCall, Reply}
@@ -7,7 +7,6 @@ use Rattle.ob_typing.specs.Program.{Program, Variable}
 use Rattle.ob_meaning.specs.Object as Named
 use Rattle.ob_positions.specs.Store.{Activation}
 use Rattle.ob_positions.specs.Object.{effect}
-use Rattle.ob_agreement.specs.Resolved.{IsResolved}
 use Rattle.ob_agreement.specs.Same.{SameState}
 use Rattle.ob_code_scheme.specs.Layout.{decoded}
 use Rattle.ob_code_law.specs.CodeMeaning.{EngineParts}
@@ -19,7 +18,7 @@ use Rattle.ob_code_law.proofs.CodeLaw.{lawful_decoded}
 use Rattle.ob_code_law.proofs.PartsLaw.{effect_of_each, parts_are_read}
 use Rattle.ob_object_order.specs.LegalOrder.{IsLegalOrder}
 use Rattle.ob_object_record.specs.Record.{Record}
-use Rattle.ob_object_run.specs.Recorded.{DoFit, IsLegalFor, IsMeantFor, IsMeantOrder, IsNamedObjectOf, IsObject, IsObjectOf}
+use Rattle.ob_object_run.specs.Recorded.{DoFit, IsLegalFor, IsMeantFor, IsNamedObjectOf, IsObject, IsObjectOf}
 use Rattle.wf_history.specs.declared.event.CallId.{CallId}
 use Rattle.wf_history.specs.History.{Event}
 use Rattle.wf_history.specs.Legal.{HasBegun, IsLegal, OneAtATime, more, none}

@@ -18,7 +18,7 @@ use Rattle.ob_code_law.specs.Named.{CallMeans}
 use Rattle.ob_object_run.specs.OwnCalls.{HasReplies}
 use Rattle.wf_history.specs.declared.event.CallId.{CallId}
 use Rattle.wf_history.specs.History.{Event, End, IsHistory}
-use Rattle.wf_history.specs.Legal.{HasBegun, IsLegal, OneAtATime, RepliesAgree, more, none}
+use Rattle.wf_history.specs.Legal.{HasBegun, IsLegal, OneAtATime, RepliesAgree, more}
 use Rattle.wf_history.proofs.Once.{one_call}
 use Rattle.wf_history.proofs.Same.{scalar_eq, scalar_decides}
 use Rattle.wf_theorems.specs.FirstCalls.{AreFirstCalls, first_ids}
