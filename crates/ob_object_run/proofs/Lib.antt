@@ -1,0 +1,5 @@
+mod Engines
+mod Chain
+mod Checks
+mod Sequential
+mod Submissions

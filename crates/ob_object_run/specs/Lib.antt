@@ -1,0 +1,4 @@
+pub mod Recorded
+pub mod OwnCalls
+pub mod KeepsBound
+pub mod Laws
