@@ -5,8 +5,8 @@ use Rattle.std.proofs.lemmas.Iterator.Consumers.{YieldsList-end}
 use Rattle.ob_answer.specs.ShownNames.{shown_character}
 use Rattle.ob_answer.proofs.shown_name.push_name.Goals as goal
 
-pub returns : goal.returns
-returns c =
+pub returns-clause-ok : goal.returns-clause-ok
+returns-clause-ok c =
     let end = YieldsList-end (YieldsList-from_chars c.args.name.now c.utf8.name cc) c.loop-character.yielded _ c.loop-character.yielded_by _ _ c.in-None.is c.next.ensures.steps in
     c.loop-character.invariant
     ∙ ap (λ cs. string_bytes c.args.text.now ++ flat_map shown_character cs) (sym (map-id c.loop-character.yielded) ∙ end.0)
