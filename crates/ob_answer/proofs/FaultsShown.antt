@@ -4,44 +4,46 @@ use Rattle.ob_scan.specs.declared.fault.ScanFault.TheVariants as Scan
 use Rattle.ob_answer.specs.Explains.{IsCallsExplained, IsModuleExplained, shown_calls_fault, shown_module_fault, wrong}
 use Rattle.ob_answer.specs.Printed.{IsRefused}
 use Rattle.ob_answer.specs.declared.answered.Answer.{Answer}
+use Rattle.ob_check_text.specs.declared.checked_text.TextFault.TheVariants as Texts
 use Rattle.ob_command.specs.CommandLine.{Text}
-use Rattle.ob_sequential.specs.ModuleFaults as Modules
-use Rattle.ob_sequential.specs.ModuleFaults.{HasNoOpening, IsModuleFault}
-use Rattle.ob_sequential.specs.SequentialRun.{HasNoRun, IsNumbered, IsSeqTextFault, TellsMemoryApart, is_want_of_memory}
-use Rattle.ob_sequential.specs.declared.checked_text.TextFault.TheVariants as Texts
-use Rattle.ob_sequential.specs.declared.opened.ModuleFault.{ModuleFault}
-use Rattle.ob_sequential.specs.declared.opened.ModuleFault.TheVariants as Opened
-use Rattle.ob_sequential.specs.declared.sequential.SeqTextFault.{SeqTextFault}
-use Rattle.ob_sequential.specs.declared.sequential.SeqTextFault.TheVariants as Runs
+use Rattle.ob_object_compile.specs.Compilation as Compiles
+use Rattle.ob_object_compile.specs.Compilation.{HasNoObject, IsCompileFault, default_budget}
+use Rattle.ob_object_compile.specs.declared.compiling.CompileFault.{CompileFault}
+use Rattle.ob_object_compile.specs.declared.compiling.CompileFault.TheVariants as Compile
+use Rattle.ob_object_sequence.specs.SequentialRun.{HasNoRun, IsNumbered, IsSeqTextFault, TellsMemoryApart, is_want_of_memory}
+use Rattle.ob_object_sequence.specs.declared.sequential.SeqTextFault.{SeqTextFault}
+use Rattle.ob_object_sequence.specs.declared.sequential.SeqTextFault.TheVariants as Runs
 use Rattle.ob_answer.proofs.Beginnings.{beginning, of_whole_or_long}
-use Rattle.ob_answer.proofs.Made.{long_opens_not, long_runs_not, seq_too_long, too_long_scan}
+use Rattle.ob_answer.proofs.Made.{budget_too_long, long_has_no_object, long_runs_not, too_long_scan}
 
 -- a text that is too long is told by a line, whatever it says
-long_module : (name : Text) (part whole : List ℕ) (e : ModuleFault) (a : Answer) → e ≡ Opened.Text (Texts.Scan Scan.TooLong) → 65536 < length whole
-    → IsRefused a 1 (shown_module_fault name part e) → IsModuleFault whole e × IsRefused a 1 (shown_module_fault name whole e)
+long_module : (name : Text) (part whole : List ℕ) (e : CompileFault) (a : Answer) → e ≡ Compile.Text (Texts.Scan Scan.TooLong) → 65536 < length whole
+    → IsRefused a 1 (shown_module_fault name part e) → IsCompileFault whole 1 default_budget e × IsRefused a 1 (shown_module_fault name whole e)
 long_module name part whole e a is longer told =
-    subst (λ (x : ModuleFault). IsModuleFault whole x × IsRefused a 1 (shown_module_fault name whole x)) (sym is)
-    (record { stands = longer; none = λ says. absurd says }, subst (λ (x : ModuleFault). IsRefused a 1 (shown_module_fault name part x)) is told)
+    subst (λ (x : CompileFault). IsCompileFault whole 1 default_budget x × IsRefused a 1 (shown_module_fault name whole x)) (sym is)
+    (too_long_scan whole longer, subst (λ (x : CompileFault). IsRefused a 1 (shown_module_fault name part x)) is told)
 
-pub module_wrong_made : {E : Type 0} (name : Text) (part : List ℕ) (e : ModuleFault) (result : Result Answer E)
-    → IfOk result (λ a. IsRefused a 1 (shown_module_fault name part e)) → IfOk result (λ _. Modules.is_want_of_memory e ≡ false)
-    → IsModuleFault part e → Modules.TellsMemoryApart e → (Modules.IsNumbered e → HasNoOpening part)
-    → (65536 < length part → e ≡ Opened.Text (Texts.Scan Scan.TooLong))
+pub module_wrong_made : {E : Type 0} (name : Text) (part : List ℕ) (e : CompileFault) (result : Result Answer E)
+    → IfOk result (λ a. IsRefused a 1 (shown_module_fault name part e)) → IfOk result (λ _. Compiles.is_want_of_memory e ≡ false)
+    → IsCompileFault part 1 default_budget e → Compiles.TellsMemoryApart e → (Compiles.IsNumbered e → HasNoObject part 1 default_budget)
+    → (65536 < length part → e ≡ Compile.Text (Texts.Scan Scan.TooLong))
     → IfOk result (λ a. (whole : List ℕ) → part ≡ beginning whole → IsModuleExplained name whole a)
 module_wrong_made name part e (Ok a) told numbered stands apart none too_long =
     λ whole is.
-    let both = of_whole_or_long (λ t. IsModuleFault t e × IsRefused a 1 (shown_module_fault name t e)) part whole is
+    let both = of_whole_or_long (λ t. IsCompileFault t 1 default_budget e × IsRefused a 1 (shown_module_fault name t e)) part whole is
     (λ long longer. long_module name part whole e a (too_long long) longer told) (stands, told) in
-    wrong e both.0 (numbered, apart) (of_whole_or_long HasNoOpening part whole is (λ long longer. long_opens_not whole longer) (none (numbered, apart))) both.1
+    let no_object = of_whole_or_long (λ t. HasNoObject t 1 default_budget) part whole is (λ long longer. long_has_no_object whole 1 default_budget longer)
+    (none (numbered, apart)) in
+    wrong e both.0 (numbered, apart) (λ object. no_object object.0 object.1) both.1
 module_wrong_made name part e (Err x) told numbered stands apart none too_long = tt
 
 -- so is a budget that is too large
 long_calls : (module_name : Text) (part whole : List ℕ) (script_name : Text) (script : List ℕ) (budget : ℕ) (e : SeqTextFault) (a : Answer)
-    → (1000000 < budget → e ≡ Runs.Budget) → (budget ≤ 1000000 → e ≡ Runs.Text (Texts.Scan Scan.TooLong)) → 65536 < length whole
+    → (1000000 < budget → e ≡ Runs.Compile Compile.Budget) → (budget ≤ 1000000 → e ≡ Runs.Compile (Compile.Text (Texts.Scan Scan.TooLong))) → 65536 < length whole
     → IsRefused a 1 (shown_calls_fault module_name part script_name script e)
     → IsSeqTextFault whole script budget e × IsRefused a 1 (shown_calls_fault module_name whole script_name script e)
 long_calls module_name part whole script_name script budget e a too_much too_long longer =
-    seq_too_long
+    budget_too_long Runs.Compile
     (λ x. IsRefused a 1 (shown_calls_fault module_name part script_name script x)
     → IsSeqTextFault whole script budget x × IsRefused a 1 (shown_calls_fault module_name whole script_name script x))
     budget e (λ much told. (much, told)) (λ told. (too_long_scan whole longer, told)) too_much too_long
@@ -49,7 +51,7 @@ long_calls module_name part whole script_name script budget e a too_much too_lon
 pub calls_wrong_made : {E : Type 0} (module_name : Text) (part : List ℕ) (script_name : Text) (script : List ℕ) (budget : ℕ) (e : SeqTextFault) (result : Result Answer E)
     → IfOk result (λ a. IsRefused a 1 (shown_calls_fault module_name part script_name script e)) → IfOk result (λ _. is_want_of_memory e ≡ false)
     → IsSeqTextFault part script budget e → TellsMemoryApart e → (IsNumbered e → HasNoRun part script budget)
-    → (1000000 < budget → e ≡ Runs.Budget) → (budget ≤ 1000000 → 65536 < length part → e ≡ Runs.Text (Texts.Scan Scan.TooLong))
+    → (1000000 < budget → e ≡ Runs.Compile Compile.Budget) → (budget ≤ 1000000 → 65536 < length part → e ≡ Runs.Compile (Compile.Text (Texts.Scan Scan.TooLong)))
     → IfOk result (λ a. (whole : List ℕ) → part ≡ beginning whole → IsCallsExplained module_name whole script_name script budget a)
 calls_wrong_made module_name part script_name script budget e (Ok a) told numbered stands apart none too_much too_long =
     λ whole is.

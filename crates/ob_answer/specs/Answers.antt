@@ -1,25 +1,24 @@
 -- What the program answers to a request, by what reads of files give.
-use Rattle.std.specs.Prelude.{◌≡◌, ℕ, List, [], ◌∷◌, ◌++◌, Option, Some, None, Result, codes, false}
+use Rattle.std.specs.Prelude.{◌≡◌, ℕ, List, [], ◌∷◌, ◌++◌, Some, None, Result, codes}
 use Rattle.ob_answer.specs.declared.answered.Answer.{Answer}
 use Rattle.ob_answer.specs.declared.files.FileFault.{FileFault}
-use Rattle.ob_fault_lines.specs.SequentialFaultLines.{check_fault_line, seq_fault_line}
-use Rattle.ob_sequential.specs.ModuleFaults as Modules
-use Rattle.ob_sequential.specs.ModuleFaults.{HasNoOpening, HasOpening, IsModuleFault}
-use Rattle.ob_sequential.specs.SequentialRun.{HasNoRun, IsSequentialRun, IsSeqTextFault, IsNumbered}
-use Rattle.ob_fault_lines.specs.RunFaultLines.{compile_line, run_fault_line}
+use Rattle.ob_fault_lines.specs.CompileFaultLines.{compile_line}
+use Rattle.ob_fault_lines.specs.RunFaultLines.{run_fault_line}
+use Rattle.ob_fault_lines.specs.SequentialFaultLines.{seq_fault_line}
 use Rattle.ob_fault_lines.specs.ServeFaultLines.{serve_fault_line}
 use Rattle.ob_fault_lines.specs.VerifyFaultLines.{verify_fault_line}
-use Rattle.ob_object.specs.Compilation as Compiles
-use Rattle.ob_object.specs.Compilation.{HasNoObject, IsCompileFault}
-use Rattle.ob_object.specs.Listed.{IsListing}
-use Rattle.ob_object.specs.Performance as Performs
-use Rattle.ob_object.specs.Performance.{HasNoPerformance, IsPerformFault}
-use Rattle.ob_object.specs.Printed.{HasPerformance, IsRecordPrinted}
-use Rattle.ob_serve_texts.specs.ServedTexts as Serves
-use Rattle.ob_serve_texts.specs.ServedTexts.{HasNoCalls, IsOfTexts, IsServedPrinted, IsUngatedFault}
-use Rattle.ob_verify.specs.Verified.{IsVerified, IsVerifiedWithin}
-use Rattle.ob_verify.specs.VerifyFaults as Verifies
-use Rattle.ob_verify.specs.VerifyFaults.{IsVerifyFault}
+use Rattle.ob_desk_texts.specs.ServedTexts as Serves
+use Rattle.ob_desk_texts.specs.ServedTexts.{HasNoCalls, IsOfTexts, IsServedPrinted, IsUngatedFault}
+use Rattle.ob_object_compile.specs.Compilation as Compiles
+use Rattle.ob_object_compile.specs.Compilation.{HasNoObject, IsCompileFault, default_budget}
+use Rattle.ob_object_compile.specs.Listed.{IsListing}
+use Rattle.ob_object_perform.specs.Performance as Performs
+use Rattle.ob_object_perform.specs.Performance.{HasNoPerformance, IsPerformFault}
+use Rattle.ob_object_perform.specs.Printed.{HasPerformance, IsRecordPrinted}
+use Rattle.ob_object_sequence.specs.SequentialRun.{HasNoRun, HasObject, IsNumbered, IsSequentialRun, IsSeqTextFault}
+use Rattle.ob_object_verify.specs.Verified.{IsVerified}
+use Rattle.ob_object_verify.specs.VerifyFaults as Verifies
+use Rattle.ob_object_verify.specs.VerifyFaults.{IsVerifyFault}
 use Rattle.ob_command.specs.CommandLine.{Text, Request, RunRequest, Check, Listing, Seq, Run, Serve, Draw, Verify, Explain, Help, Version, Unclear}
 use Rattle.ob_answer.specs.declared.product.Product.{Product}
 use Rattle.ob_answer.specs.declared.product.Product.TheVariants as Products
@@ -41,17 +40,19 @@ pub data IsTextAnswer {Fault : Type 0} (Says : Text → Type 0) (IsFault IsNumbe
   refused : (e : Fault) → IsFault e → IsNumbered e → RulesOut e → IsRefused answer 1 (line e ++ codes "\n")
       → IsTextAnswer Says IsFault IsNumbered RulesOut line answer
 
--- of a module whose opening ends, `ok` is said
+-- of a module that has an object, if of one process alone, `ok` is said
 abbrev pub SaysOk : List ℕ → Text → Type 0
-SaysOk bytes text = HasOpening bytes × (text ≡ ok_text)
+SaysOk bytes text = HasObject bytes 1 default_budget × (text ≡ ok_text)
 
--- to the bytes of one module: whether it is one whose opening ends
+-- to the bytes of one module: whether it has an object, if of one process alone
 abbrev pub IsCheckAnswer : List ℕ → Answer → Type 0
-IsCheckAnswer bytes = IsTextAnswer (SaysOk bytes) (IsModuleFault bytes) Modules.IsNumbered (λ _. HasNoOpening bytes) check_fault_line
+IsCheckAnswer bytes =
+    IsTextAnswer (SaysOk bytes) (IsCompileFault bytes 1 default_budget) Compiles.IsNumbered (λ _. HasNoObject bytes 1 default_budget) compile_line
 
 -- to the bytes of one module: the listing of its code, as of an object of one process
 abbrev pub IsListAnswer : List ℕ → Answer → Type 0
-IsListAnswer bytes = IsTextAnswer (IsListing bytes) (IsCompileFault bytes 1) Compiles.IsNumbered (λ _. HasNoObject bytes 1) compile_line
+IsListAnswer bytes =
+    IsTextAnswer (IsListing bytes) (IsCompileFault bytes 1 default_budget) Compiles.IsNumbered (λ _. HasNoObject bytes 1 default_budget) compile_line
 
 -- to the bytes of a module and of a script, and a budget: the lines of the sequential run
 abbrev pub IsSeqAnswer : (module_bytes script_bytes : List ℕ) (budget : ℕ) → Answer → Type 0
@@ -59,33 +60,35 @@ IsSeqAnswer module_bytes script_bytes budget =
     IsTextAnswer (IsSequentialRun module_bytes script_bytes budget) (IsSeqTextFault module_bytes script_bytes budget) IsNumbered
     (λ _. HasNoRun module_bytes script_bytes budget) seq_fault_line
 
--- what is said of a run of a module, so many processes, a script and a schedule: its record, or a picture of it
-abbrev pub SaysRun : Product → (module_bytes : List ℕ) (processes : ℕ) (script_bytes schedule_bytes : List ℕ) → Text → Type 0
-SaysRun Products.Record module_bytes processes script_bytes schedule_bytes text = IsRecordPrinted module_bytes processes script_bytes schedule_bytes text
-SaysRun Products.Picture module_bytes processes script_bytes schedule_bytes text = HasPerformance module_bytes processes script_bytes schedule_bytes
+-- what is said of a run of a module, so many processes, a budget, a script and a schedule: its record, or a picture of it
+abbrev pub SaysRun : Product → (module_bytes : List ℕ) (processes budget : ℕ) (script_bytes schedule_bytes : List ℕ) → Text → Type 0
+SaysRun Products.Record module_bytes processes budget script_bytes schedule_bytes text =
+    IsRecordPrinted module_bytes processes budget script_bytes schedule_bytes text
+SaysRun Products.Picture module_bytes processes budget script_bytes schedule_bytes text =
+    HasPerformance module_bytes processes budget script_bytes schedule_bytes
 
 -- to the bytes of a module, of a script and of a schedule
-abbrev pub IsRunAnswer : Product → (module_bytes : List ℕ) (processes : ℕ) (script_bytes schedule_bytes : List ℕ) → Answer → Type 0
-IsRunAnswer product module_bytes processes script_bytes schedule_bytes =
-    IsTextAnswer (SaysRun product module_bytes processes script_bytes schedule_bytes) (IsPerformFault module_bytes processes script_bytes schedule_bytes) Performs.IsNumbered
-    (λ _. HasNoPerformance module_bytes processes script_bytes schedule_bytes) run_fault_line
+abbrev pub IsRunAnswer : Product → (module_bytes : List ℕ) (processes budget : ℕ) (script_bytes schedule_bytes : List ℕ) → Answer → Type 0
+IsRunAnswer product module_bytes processes budget script_bytes schedule_bytes =
+    IsTextAnswer (SaysRun product module_bytes processes budget script_bytes schedule_bytes)
+    (IsPerformFault module_bytes processes budget script_bytes schedule_bytes) Performs.IsNumbered
+    (λ _. HasNoPerformance module_bytes processes budget script_bytes schedule_bytes) run_fault_line
 
 -- To the bytes of a module and of a script: the record of workers, one for each of so many processes, whom no gate stops. A fault of
 -- the workers rules nothing out.
-abbrev pub IsServeAnswer : (module_bytes : List ℕ) (processes : ℕ) (script_bytes : List ℕ) → Answer → Type 0
-IsServeAnswer module_bytes processes script_bytes =
-    IsTextAnswer (IsServedPrinted module_bytes processes script_bytes) (IsUngatedFault module_bytes processes script_bytes) Serves.IsNumbered
-    (λ e. IsOfTexts e → HasNoCalls module_bytes processes script_bytes) serve_fault_line
+abbrev pub IsServeAnswer : (module_bytes : List ℕ) (processes budget : ℕ) (script_bytes : List ℕ) → Answer → Type 0
+IsServeAnswer module_bytes processes budget script_bytes =
+    IsTextAnswer (IsServedPrinted module_bytes processes budget script_bytes) (IsUngatedFault module_bytes processes budget script_bytes) Serves.IsNumbered
+    (λ e. IsOfTexts e → HasNoCalls module_bytes processes budget script_bytes) serve_fault_line
 
--- To the bytes of a module and of a record: `ok` where the record's order is a legal one. A fault rules out that it is one whose calls
--- each end with as many turns as an opening has.
+-- to the bytes of a module and of a record: `ok` where the record's order is a legal one
 abbrev pub SaysVerified : (module_bytes record_bytes : List ℕ) → Text → Type 0
 SaysVerified module_bytes record_bytes text = IsVerified module_bytes record_bytes × (text ≡ ok_text)
 
 abbrev pub IsVerifyAnswer : (module_bytes record_bytes : List ℕ) → Answer → Type 0
 IsVerifyAnswer module_bytes record_bytes =
     IsTextAnswer (SaysVerified module_bytes record_bytes) (IsVerifyFault module_bytes record_bytes) Verifies.IsNumbered
-    (λ _. IsVerifiedWithin module_bytes record_bytes → ⊥) verify_fault_line
+    (λ _. IsVerified module_bytes record_bytes → ⊥) verify_fault_line
 
 -- the files that a run names
 abbrev pub files_of_run : RunRequest → List Text
@@ -93,7 +96,8 @@ files_of_run run = run.module_name ∷ run.script_name ∷ run.schedule_name ∷
 
 -- the answer that is made of the bytes of these files
 abbrev pub IsRunMade : Product → RunRequest → List (List ℕ) → Answer → Type 0
-IsRunMade product run (module_bytes ∷ script_bytes ∷ schedule_bytes ∷ []) answer = IsRunAnswer product module_bytes run.processes script_bytes schedule_bytes answer
+IsRunMade product run (module_bytes ∷ script_bytes ∷ schedule_bytes ∷ []) answer =
+    IsRunAnswer product module_bytes run.processes run.budget script_bytes schedule_bytes answer
 IsRunMade product run _ answer = ⊥
 
 -- the files that a request names, in the order of its words
@@ -102,7 +106,7 @@ files_of (Check module_name) = module_name ∷ []
 files_of (Listing module_name) = module_name ∷ []
 files_of (Seq module_name script_name budget) = module_name ∷ script_name ∷ []
 files_of (Run run) = files_of_run run
-files_of (Serve module_name script_name processes) = module_name ∷ script_name ∷ []
+files_of (Serve module_name script_name processes budget) = module_name ∷ script_name ∷ []
 files_of (Draw run) = files_of_run run
 files_of (Verify module_name record_name) = module_name ∷ record_name ∷ []
 files_of (Explain module_name None budget) = module_name ∷ []
@@ -115,7 +119,7 @@ IsMade (Check module_name) (module_bytes ∷ []) answer = IsCheckAnswer module_b
 IsMade (Listing module_name) (module_bytes ∷ []) answer = IsListAnswer module_bytes answer
 IsMade (Seq module_name script_name budget) (module_bytes ∷ script_bytes ∷ []) answer = IsSeqAnswer module_bytes script_bytes budget answer
 IsMade (Run run) bytes answer = IsRunMade Products.Record run bytes answer
-IsMade (Serve module_name script_name processes) (module_bytes ∷ script_bytes ∷ []) answer = IsServeAnswer module_bytes processes script_bytes answer
+IsMade (Serve module_name script_name processes budget) (module_bytes ∷ script_bytes ∷ []) answer = IsServeAnswer module_bytes processes budget script_bytes answer
 IsMade (Draw run) bytes answer = IsRunMade Products.Picture run bytes answer
 IsMade (Verify module_name record_name) (module_bytes ∷ record_bytes ∷ []) answer = IsVerifyAnswer module_bytes record_bytes answer
 IsMade (Explain module_name None budget) (module_bytes ∷ []) answer = IsModuleExplained module_name module_bytes answer

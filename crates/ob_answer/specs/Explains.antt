@@ -5,12 +5,13 @@ use Rattle.ob_answer.specs.Printed.{IsPrinted, IsRefused}
 use Rattle.ob_answer.specs.ShownNames.{shown}
 use Rattle.ob_command.specs.CommandLine.{Text}
 use Rattle.ob_explained.specs.Explained.{calls_explanation, module_explanation}
-use Rattle.ob_fault_lines.specs.SequentialFaultLines.{check_fault_line, seq_fault_line}
-use Rattle.ob_sequential.specs.ModuleFaults as Modules
-use Rattle.ob_sequential.specs.ModuleFaults.{HasOpening, IsModuleFault}
-use Rattle.ob_sequential.specs.SequentialRun.{IsNumbered, IsSeqTextFault, IsSequentialRun}
-use Rattle.ob_sequential.specs.declared.opened.ModuleFault.{ModuleFault}
-use Rattle.ob_sequential.specs.declared.sequential.SeqTextFault.{SeqTextFault}
+use Rattle.ob_fault_lines.specs.CompileFaultLines.{compile_line}
+use Rattle.ob_fault_lines.specs.SequentialFaultLines.{seq_fault_line}
+use Rattle.ob_object_compile.specs.Compilation as Compiles
+use Rattle.ob_object_compile.specs.Compilation.{IsCompileFault, default_budget}
+use Rattle.ob_object_compile.specs.declared.compiling.CompileFault.{CompileFault}
+use Rattle.ob_object_sequence.specs.SequentialRun.{HasObject, IsNumbered, IsSeqTextFault, IsSequentialRun}
+use Rattle.ob_object_sequence.specs.declared.sequential.SeqTextFault.{SeqTextFault}
 
 -- Where the files are right, `ok` is printed; else a fault of theirs is shown, which is not want of memory, and then they are not right.
 pub data IsExplained {Fault : Type 0} (IsRight : Type 0) (IsFault IsNumberedFault : Fault → Type 0) (shown_fault : Fault → Text) (answer : Answer) : Type 0 where
@@ -19,8 +20,8 @@ pub data IsExplained {Fault : Type 0} (IsRight : Type 0) (IsFault IsNumberedFaul
       → IsExplained IsRight IsFault IsNumberedFault shown_fault answer
 
 -- a fault of a module: the place in its file where it has one, and else the line by which `check` tells it
-abbrev pub shown_module_fault : (name : Text) (bytes : List ℕ) → ModuleFault → Text
-shown_module_fault name bytes e = unwrap_or (module_explanation (shown name) bytes e) (check_fault_line e ++ codes "\n")
+abbrev pub shown_module_fault : (name : Text) (bytes : List ℕ) → CompileFault → Text
+shown_module_fault name bytes e = unwrap_or (module_explanation (shown name) bytes e) (compile_line e ++ codes "\n")
 
 -- a fault of a module and a script: the place in the one's file or in the other's, and else the line by which `seq` tells it
 abbrev pub shown_calls_fault : (module_name : Text) (module_bytes : List ℕ) (script_name : Text) (script_bytes : List ℕ) → SeqTextFault → Text
@@ -29,7 +30,7 @@ shown_calls_fault module_name module_bytes script_name script_bytes e =
 
 -- to the name and the bytes of one module, which is right where `check` prints `ok`
 abbrev pub IsModuleExplained : (name : Text) (bytes : List ℕ) → Answer → Type 0
-IsModuleExplained name bytes = IsExplained (HasOpening bytes) (IsModuleFault bytes) Modules.IsNumbered (shown_module_fault name bytes)
+IsModuleExplained name bytes = IsExplained (HasObject bytes 1 default_budget) (IsCompileFault bytes 1 default_budget) Compiles.IsNumbered (shown_module_fault name bytes)
 
 -- the calls of a script have replies with a budget
 abbrev pub HasRun : (module_bytes script_bytes : List ℕ) (budget : ℕ) → Type 0

@@ -6,6 +6,7 @@ ghost use Rattle.ob_answer.specs.Printed.{IsUnreadable};
 ghost use Rattle.ob_answer.specs.Reads.{IsOutcome};
 ghost use Rattle.ob_command.specs.CommandLine.{Check, Draw, Explain, Listing, Run, Seq, Serve, Text, Verify, budget_number, is_option, number, request};
 ghost use Rattle.ob_command.specs.Commands.{request_of, run_request_of};
+ghost use Rattle.ob_command.specs.PlainForms.{run_with};
 
 use crate::answered::Answer;
 use crate::explaining::obey_explain;
@@ -48,11 +49,17 @@ pub fn answer<R: Threads + Wait + Sync + AllocGlobal, F: Files>(
     ensures seq_budget { (m s b : Text) (k : ℕ) → map (λ word. word.now) words.now ≡ codes "seq" ∷ m ∷ s ∷ codes "-b" ∷ b ∷ [] → is_option m ≡ false → is_option s ≡ false → budget_number b ≡ Some k
         → IfOk result (λ a. IsAnswer F.reads (Seq m s k) files.old a files.new) }
     ensures run { (m s q n : Text) (k : ℕ) → map (λ word. word.now) words.now ≡ codes "run" ∷ m ∷ s ∷ q ∷ codes "-n" ∷ n ∷ [] → is_option m ≡ false → is_option s ≡ false → is_option q ≡ false → number n ≡ Some k
-        → IfOk result (λ a. IsAnswer F.reads (Run (record { module_name = m; script_name = s; schedule_name = q; processes = k })) files.old a files.new) }
+        → IfOk result (λ a. IsAnswer F.reads (Run (run_with m s q k 100000)) files.old a files.new) }
+    ensures run_budget { (m s q n b : Text) (k t : ℕ) → map (λ word. word.now) words.now ≡ codes "run" ∷ m ∷ s ∷ q ∷ codes "-n" ∷ n ∷ codes "-b" ∷ b ∷ [] → is_option m ≡ false → is_option s ≡ false → is_option q ≡ false → number n ≡ Some k → budget_number b ≡ Some t
+        → IfOk result (λ a. IsAnswer F.reads (Run (run_with m s q k t)) files.old a files.new) }
     ensures serve { (m s n : Text) (k : ℕ) → map (λ word. word.now) words.now ≡ codes "serve" ∷ m ∷ s ∷ codes "-n" ∷ n ∷ [] → is_option m ≡ false → is_option s ≡ false → number n ≡ Some k
-        → IfOk result (λ a. IsAnswer F.reads (Serve m s k) files.old a files.new) }
+        → IfOk result (λ a. IsAnswer F.reads (Serve m s k 100000) files.old a files.new) }
+    ensures serve_budget { (m s n b : Text) (k t : ℕ) → map (λ word. word.now) words.now ≡ codes "serve" ∷ m ∷ s ∷ codes "-n" ∷ n ∷ codes "-b" ∷ b ∷ [] → is_option m ≡ false → is_option s ≡ false → number n ≡ Some k → budget_number b ≡ Some t
+        → IfOk result (λ a. IsAnswer F.reads (Serve m s k t) files.old a files.new) }
     ensures draw { (m s q n : Text) (k : ℕ) → map (λ word. word.now) words.now ≡ codes "draw" ∷ m ∷ s ∷ q ∷ codes "-n" ∷ n ∷ [] → is_option m ≡ false → is_option s ≡ false → is_option q ≡ false → number n ≡ Some k
-        → IfOk result (λ a. IsAnswer F.reads (Draw (record { module_name = m; script_name = s; schedule_name = q; processes = k })) files.old a files.new) }
+        → IfOk result (λ a. IsAnswer F.reads (Draw (run_with m s q k 100000)) files.old a files.new) }
+    ensures draw_budget { (m s q n b : Text) (k t : ℕ) → map (λ word. word.now) words.now ≡ codes "draw" ∷ m ∷ s ∷ q ∷ codes "-n" ∷ n ∷ codes "-b" ∷ b ∷ [] → is_option m ≡ false → is_option s ≡ false → is_option q ≡ false → number n ≡ Some k → budget_number b ≡ Some t
+        → IfOk result (λ a. IsAnswer F.reads (Draw (run_with m s q k t)) files.old a files.new) }
     ensures verify { (m r : Text) → map (λ word. word.now) words.now ≡ codes "verify" ∷ m ∷ r ∷ [] → is_option m ≡ false → is_option r ≡ false
         → IfOk result (λ a. IsAnswer F.reads (Verify m r) files.old a files.new) }
     ensures explain { (m : Text) → map (λ word. word.now) words.now ≡ codes "explain" ∷ m ∷ [] → is_option m ≡ false
@@ -105,7 +112,16 @@ fn obey<R: Threads + Wait + Sync, F: Files>(
             module_name,
             script_name,
             processes,
-        } => obey_serve(rt, alloc, module_name, script_name, processes, files),
+            budget,
+        } => obey_serve(
+            rt,
+            alloc,
+            module_name,
+            script_name,
+            processes,
+            budget,
+            files,
+        ),
         Command::Draw(run) => obey_run(alloc, run, Product::Picture, files),
         Command::Verify {
             module_name,
@@ -164,16 +180,17 @@ fn obey_seq<F: Files>(
     answer_seq(alloc, module.as_slice(), script.as_slice(), budget)
 }
 
-/// The answer to `serve`, of the names of its files and the number of its workers.
+/// The answer to `serve`, of the names of its files, the number of its workers and the budget of each call.
 fn obey_serve<R: Threads + Wait + Sync, F: Files>(
     rt: &R,
     alloc: Global,
     module_name: &str,
     script_name: &str,
     processes: usize,
+    budget: u32,
     files: &mut F,
 ) -> Result<Answer, NoMemory>
-    ensures { IfOk result (λ a. IsAnswer F.reads (Serve module_name.now script_name.now processes) files.old a files.new) }
+    ensures { IfOk result (λ a. IsAnswer F.reads (Serve module_name.now script_name.now processes budget) files.old a files.new) }
 {
     let module = match files.read_beginning(module_name, MODULE_BYTES) {
         Ok(bytes) => bytes,
@@ -185,7 +202,14 @@ fn obey_serve<R: Threads + Wait + Sync, F: Files>(
         Err(FileFault::Unreadable) => return Ok(unreadable(alloc, script_name)?),
         Err(FileFault::NoMemory) => return Err(NoMemory),
     };
-    answer_serve(rt, alloc, module.as_slice(), processes, script.as_slice())
+    answer_serve(
+        rt,
+        alloc,
+        module.as_slice(),
+        processes,
+        budget,
+        script.as_slice(),
+    )
 }
 
 /// The answer to `run` and to `draw`.
@@ -217,6 +241,7 @@ fn obey_run<F: Files>(
         product,
         module.as_slice(),
         run.processes,
+        run.budget,
         script.as_slice(),
         schedule.as_slice(),
     )

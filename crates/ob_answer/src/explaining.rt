@@ -6,8 +6,8 @@ ghost use Rattle.ob_answer.specs.Explains.{IsCallsExplained, IsModuleExplained, 
 ghost use Rattle.ob_answer.specs.Printed.{IsRefused};
 ghost use Rattle.ob_answer.specs.ShownNames.{shown};
 ghost use Rattle.ob_command.specs.CommandLine.{Explain};
-ghost use Rattle.ob_sequential.specs.ModuleFaults as Modules;
-ghost use Rattle.ob_sequential.specs.SequentialRun.{is_want_of_memory};
+ghost use Rattle.ob_object_compile.specs.Compilation as Compiles;
+ghost use Rattle.ob_object_sequence.specs.SequentialRun.{is_want_of_memory};
 
 use crate::answer::{MODULE_BYTES, unreadable};
 use crate::answered::Answer;
@@ -15,10 +15,12 @@ use crate::files::{FileFault, Files};
 use crate::making::refused;
 use crate::shown_name::push_name;
 use ob_explained::{calls_explanation, module_explanation};
-use ob_fault_lines::sequential_faults::{check_fault_line, seq_fault_line};
+use ob_fault_lines::compile_faults::compile_fault_line;
+use ob_fault_lines::sequential_faults::seq_fault_line;
 use ob_interface::NoMemory;
+use ob_object_compile::CompileFault;
+use ob_object_sequence::{SeqTextFault, check_text, seq_text};
 use ob_scan::scanner::LONGEST_TEXT;
-use ob_sequential::{ModuleFault, SeqTextFault, check_text, seq_text};
 use std::alloc::{AllocError, Global};
 
 /// The answer to `explain`, of the names of its files and the budget of each call. Of a module by itself no call is made.
@@ -97,18 +99,18 @@ fn module_wrong(
     alloc: Global,
     name: &str,
     module: &[u8],
-    fault: ModuleFault,
+    fault: CompileFault,
 ) -> Result<Answer, NoMemory>
     ensures fault { IfOk result (λ a. IsRefused a 1 (shown_module_fault name.now «module».now fault)) }
-    ensures memory { IfOk result (λ _. Modules.is_want_of_memory fault ≡ false) }
+    ensures memory { IfOk result (λ _. Compiles.is_want_of_memory fault ≡ false) }
 {
-    if let ModuleFault::NoMemory = fault {
+    if let CompileFault::NoMemory = fault {
         return Err(NoMemory);
     }
     let shown = shown_name(alloc, name)?;
     match module_explanation(alloc, &shown, module, fault)? {
         Some(text) => Ok(Answer::refused(alloc, 1, text)),
-        None => Ok(refused(alloc, check_fault_line(alloc, fault)?)?),
+        None => Ok(refused(alloc, compile_fault_line(alloc, fault)?)?),
     }
 }
 

@@ -3,32 +3,32 @@
 ghost use Rattle.std.specs.Prelude.{◌≡◌, ◌≢◌, ◌<◌, ◌≤◌, ◌++◌, ◌⊎◌, ℕ, List, suc, false, take, Err, IfErr, IfOk, codes, length, string_bytes};
 ghost use Rattle.ob_answer.specs.Answers.{IsCheckAnswer, IsListAnswer, IsRunAnswer, IsSeqAnswer, IsServeAnswer, IsVerifyAnswer, SaysRun};
 ghost use Rattle.ob_answer.specs.Printed.{IsRefused};
-ghost use Rattle.ob_fault_lines.specs.RunFaultLines.{compile_line, run_fault_line};
-ghost use Rattle.ob_fault_lines.specs.SequentialFaultLines.{check_fault_line, seq_fault_line};
+ghost use Rattle.ob_fault_lines.specs.CompileFaultLines.{compile_line};
+ghost use Rattle.ob_fault_lines.specs.RunFaultLines.{run_fault_line};
+ghost use Rattle.ob_fault_lines.specs.SequentialFaultLines.{seq_fault_line};
 ghost use Rattle.ob_fault_lines.specs.ServeFaultLines.{serve_fault_line};
 ghost use Rattle.ob_fault_lines.specs.VerifyFaultLines.{verify_fault_line};
-ghost use Rattle.ob_object.specs.Compilation as Compiles;
-ghost use Rattle.ob_object.specs.Performance as Performs;
-ghost use Rattle.ob_sequential.specs.ModuleFaults as Modules;
-ghost use Rattle.ob_sequential.specs.SequentialRun.{is_want_of_memory};
+ghost use Rattle.ob_meaning.specs.Object.{most_turns};
+ghost use Rattle.ob_object_compile.specs.Compilation as Compiles;
+ghost use Rattle.ob_object_perform.specs.Performance as Performs;
+ghost use Rattle.ob_object_sequence.specs.SequentialRun.{is_want_of_memory};
 
 use crate::answered::Answer;
 use crate::product::Product;
-use ob_fault_lines::run_faults::{compile_fault_line, run_fault_line};
-use ob_fault_lines::sequential_faults::{check_fault_line, seq_fault_line};
+use ob_check_text::TextFault;
+use ob_desk_texts::{ServeTextFault, serve_text};
+use ob_fault_lines::compile_faults::compile_fault_line;
+use ob_fault_lines::run_faults::run_fault_line;
+use ob_fault_lines::sequential_faults::seq_fault_line;
 use ob_fault_lines::serve_faults::serve_fault_line;
 use ob_fault_lines::verify_faults::verify_fault_line;
 use ob_interface::{MOST_PROCESSES, NoMemory};
-use ob_object::compiling::CompileFault;
-use ob_object::listing::list_text;
-use ob_object::performing::PerformFault;
-use ob_object::printing::{draw_text, run_text};
-use ob_opened::checked_text::TextFault;
+use ob_object_compile::{CompileFault, list_text};
+use ob_object_perform::{PerformFault, draw_text, run_text};
+use ob_object_sequence::{SeqTextFault, check_text, seq_text};
+use ob_object_verify::{VerifyFault, verify_text};
 use ob_scan::ScanFault;
 use ob_scan::scanner::LONGEST_TEXT;
-use ob_sequential::{ModuleFault, SeqTextFault, check_text, seq_text};
-use ob_serve_texts::{ServeTextFault, serve_text};
-use ob_verify::verifying::{VerifyFault, verify_text};
 use std::alloc::{AllocError, Global};
 use std::sync::Wait;
 use std::thread::Threads;
@@ -39,18 +39,7 @@ pub(crate) fn answer_check(alloc: Global, module: &[u8]) -> Result<Answer, NoMem
 {
     match check_text(alloc, module) {
         Ok(()) => Ok(Answer::printed(alloc, String::from_str(alloc, "ok\n")?)),
-        Err(fault) => check_refused(alloc, fault),
-    }
-}
-
-/// The answer to a fault of a module by itself.
-fn check_refused(alloc: Global, fault: ModuleFault) -> Result<Answer, NoMemory>
-    ensures fault { IfOk result (λ a. IsRefused a 1 (check_fault_line fault ++ codes "\n")) }
-    ensures memory { IfOk result (λ _. Modules.is_want_of_memory fault ≡ false) }
-{
-    match fault {
-        ModuleFault::NoMemory => Err(NoMemory),
-        fault => Ok(refused(alloc, check_fault_line(alloc, fault)?)?),
+        Err(fault) => compile_refused(alloc, fault),
     }
 }
 
@@ -60,12 +49,12 @@ pub(crate) fn answer_list(alloc: Global, module: &[u8]) -> Result<Answer, NoMemo
 {
     match list_text(alloc, module) {
         Ok(lines) => Ok(Answer::printed(alloc, lines)),
-        Err(fault) => list_refused(alloc, fault),
+        Err(fault) => compile_refused(alloc, fault),
     }
 }
 
-/// The answer to a fault of a module whose code is listed.
-fn list_refused(alloc: Global, fault: CompileFault) -> Result<Answer, NoMemory>
+/// The answer to a fault of a module by itself.
+fn compile_refused(alloc: Global, fault: CompileFault) -> Result<Answer, NoMemory>
     ensures fault { IfOk result (λ a. IsRefused a 1 (compile_line fault ++ codes "\n")) }
     ensures memory { IfOk result (λ _. Compiles.is_want_of_memory fault ≡ false) }
 {
@@ -109,18 +98,21 @@ fn seq_refused(alloc: Global, fault: SeqTextFault) -> Result<Answer, NoMemory>
     }
 }
 
-/// The answer to the beginning of a module's text, and to the texts of a script and of a schedule of so many processes.
+/// The answer to the beginning of a module's text, and to the texts of a script and of a schedule of so many processes, whose calls
+/// have the budget of turns each.
 pub(crate) fn answer_run(
     alloc: Global,
     product: Product,
     module: &[u8],
     processes: usize,
+    budget: u32,
     script: &[u8],
     schedule: &[u8],
 ) -> Result<Answer, NoMemory>
-    ensures { IfOk result (λ a. (whole : List ℕ) → «module».now ≡ take (suc LONGEST_TEXT) whole → IsRunAnswer product whole processes script.now schedule.now a) }
+    ensures { IfOk result (λ a. (whole : List ℕ) → «module».now ≡ take (suc LONGEST_TEXT) whole → IsRunAnswer product whole processes budget script.now schedule.now a) }
 {
-    match run_lines(alloc, product, module, processes, script, schedule) {
+    let turns = u64::from(budget);
+    match run_lines(alloc, product, module, processes, turns, script, schedule) {
         Ok(lines) => Ok(Answer::printed(alloc, lines)),
         Err(fault) => run_refused(alloc, fault),
     }
@@ -132,19 +124,22 @@ fn run_lines(
     product: Product,
     module: &[u8],
     processes: usize,
+    budget: u64,
     script: &[u8],
     schedule: &[u8],
 ) -> Result<String, PerformFault>
-    ensures said { IfOk result (λ lines. SaysRun product «module».now processes script.now schedule.now (string_bytes lines)) }
-    ensures fault { IfErr result (Performs.IsPerformFault «module».now processes script.now schedule.now) }
-    ensures none { IfErr result (λ e. Performs.IsNumbered e → Performs.HasNoPerformance «module».now processes script.now schedule.now) }
+    ensures said { IfOk result (λ lines. SaysRun product «module».now processes budget script.now schedule.now (string_bytes lines)) }
+    ensures fault { IfErr result (Performs.IsPerformFault «module».now processes budget script.now schedule.now) }
+    ensures none { IfErr result (λ e. Performs.IsNumbered e → Performs.HasNoPerformance «module».now processes budget script.now schedule.now) }
     ensures memory { IfErr result Performs.TellsMemoryApart }
     ensures processes { (processes ≡ 0) ⊎ (MOST_PROCESSES < processes) → result ≡ Err (PerformFault.Compile CompileFault.Processes) }
-    ensures too_long { 0 < processes → processes ≤ MOST_PROCESSES → LONGEST_TEXT < length «module».now → result ≡ Err (PerformFault.Compile (CompileFault.Text (TextFault.Scan ScanFault.TooLong))) }
+    ensures budget { 0 < processes → processes ≤ MOST_PROCESSES → most_turns < budget → result ≡ Err (PerformFault.Compile CompileFault.Budget) }
+    ensures too_long { 0 < processes → processes ≤ MOST_PROCESSES → budget ≤ most_turns → LONGEST_TEXT < length «module».now
+        → result ≡ Err (PerformFault.Compile (CompileFault.Text (TextFault.Scan ScanFault.TooLong))) }
 {
     match product {
-        Product::Record => run_text(alloc, module, processes, script, schedule),
-        Product::Picture => draw_text(alloc, module, processes, script, schedule),
+        Product::Record => run_text(alloc, module, processes, budget, script, schedule),
+        Product::Picture => draw_text(alloc, module, processes, budget, script, schedule),
     }
 }
 
@@ -159,17 +154,19 @@ fn run_refused(alloc: Global, fault: PerformFault) -> Result<Answer, NoMemory>
     }
 }
 
-/// The answer to the beginning of a module's text and to the text of a script, of a worker for each of so many processes.
+/// The answer to the beginning of a module's text and to the text of a script, of a worker for each of so many processes. Each call
+/// has the budget of turns.
 pub(crate) fn answer_serve<R: Threads + Wait + Sync>(
     rt: &R,
     alloc: Global,
     module: &[u8],
     processes: usize,
+    budget: u32,
     script: &[u8],
 ) -> Result<Answer, NoMemory>
-    ensures { IfOk result (λ a. (whole : List ℕ) → «module».now ≡ take (suc LONGEST_TEXT) whole → IsServeAnswer whole processes script.now a) }
+    ensures { IfOk result (λ a. (whole : List ℕ) → «module».now ≡ take (suc LONGEST_TEXT) whole → IsServeAnswer whole processes budget script.now a) }
 {
-    match serve_text(rt, alloc, module, processes, script) {
+    match serve_text(rt, alloc, module, processes, u64::from(budget), script) {
         Ok(lines) => Ok(Answer::printed(alloc, lines)),
         Err(fault) => serve_refused(alloc, fault),
     }

@@ -1,3 +1,4 @@
 pub mod CodeEngine
 pub mod Total
 pub mod Effects
+pub mod SameCode

@@ -6,12 +6,12 @@ ghost use Rattle.ob_code_law.specs.Parts.{HasProgram};
 ghost use Rattle.ob_meaning.specs.Object.{most_turns};
 
 use crate::entrance::{Entrance, are_same, copied, entrances, most_results, most_values};
-use crate::laws::checked_is_well_formed;
 use crate::turns::turn_of;
 use crate::words::{arguments_in, lay, split, trap_in, values_of};
 use ob_checked::checked::Checked;
 use ob_code_layout::Layout;
 use ob_code_machine::{Body, Code};
+use ob_code_well_formed::laws::checked_is_well_formed;
 use ob_interface::NoMemory;
 use ob_interface::call::{Call, Reply};
 use ob_interface::scalar::Scalar;

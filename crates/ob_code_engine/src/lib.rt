@@ -1,7 +1,7 @@
-//! The engine over compiled code of the whole language: calls on a checked module's object, each with a budget of turns, an
-//! instruction a step.
+//! The engine over compiled code: calls on a checked module's object, each with a budget of turns, an instruction a step.
 #![tactic(auto)]
 
+pub mod coded;
 pub mod engine;
 mod entrance;
 pub mod laws;

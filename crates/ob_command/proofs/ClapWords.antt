@@ -17,7 +17,8 @@ use Rattle.clap.proofs.FaultLemmas.{stopped_fault}
 use Rattle.clap.proofs.WalkLemmas.{walk_stopped}
 use Rattle.clap.proofs.OnLiterals.{clap_on_literals}
 use Rattle.ob_command.specs.ClapCommand.{explain_app, module_app, name_rule, obl0_app, run_app, seq_app, serve_app, top_shape}
-use Rattle.ob_command.specs.CommandLine.{Check, Draw, Explain, Help, Listing, Request, Run, RunRequest, Seq, Serve, Unclear, Verify, budget_number, clap_request, is_option, number, request, request_by, run_of, serve_of}
+use Rattle.ob_command.specs.CommandLine.{Check, Draw, Explain, Help, Listing, Request, Run, RunRequest, Seq, Serve, Unclear, Verify, budget_number, clap_request, is_option, number, request, request_by}
+use Rattle.ob_command.specs.PlainForms.{IsRunAsked, IsServeAsked, run_with}
 use Rattle.ob_command.proofs.Numbers.{PlainNumber, plain_budget, plain_number}
 
 -- ---- a word that is no option
@@ -183,10 +184,10 @@ explain_leaf command =
 
 abbrev pub run_leaf : Text → Shape
 run_leaf command = built_leaf (run_app command).top
-    (built_name 1 (codes "MODULE") ∷ built_name 2 (codes "SCRIPT") ∷ built_name 3 (codes "SCHEDULE") ∷ built_number ∷ built_help ∷ [])
+    (built_name 1 (codes "MODULE") ∷ built_name 2 (codes "SCRIPT") ∷ built_name 3 (codes "SCHEDULE") ∷ built_number ∷ built_budget ∷ built_help ∷ [])
 
 abbrev pub serve_leaf : Text → Shape
-serve_leaf command = built_leaf (serve_app command).top (built_name 1 (codes "MODULE") ∷ built_name 2 (codes "SCRIPT") ∷ built_number ∷ built_help ∷ [])
+serve_leaf command = built_leaf (serve_app command).top (built_name 1 (codes "MODULE") ∷ built_name 2 (codes "SCRIPT") ∷ built_number ∷ built_budget ∷ built_help ∷ [])
 
 abbrev pub built_top : Shape
 built_top = record top_shape { rules = built_help ∷ []; is_leaf = false; is_built = true }
@@ -356,59 +357,133 @@ number_row n = record { id = codes "N"; values = n ∷ []; count = None; source 
 abbrev run_rows : Text → Text → Text → Text → List Row
 run_rows m s d n = name_row (codes "MODULE") m ∷ name_row (codes "SCRIPT") s ∷ name_row (codes "SCHEDULE") d ∷ number_row n ∷ []
 
-abbrev run_words : Text → Text → Text → Text → List Text
-run_words m s d n = m ∷ s ∷ d ∷ codes "-n" ∷ n ∷ []
+abbrev run_budget_rows : Text → Text → Text → Text → Text → List Row
+run_budget_rows m s d n b = name_row (codes "MODULE") m ∷ name_row (codes "SCRIPT") s ∷ name_row (codes "SCHEDULE") d ∷ number_row n ∷ budget_row b ∷ []
+
+-- no value is refused
+no_refusal : (t : Bool) → t ≡ true → or_else (or_else (if t then [] else kind.ValueValidation ∷ []) []) [] ≡ []
+no_refusal t is = ap (λ (t : Bool). or_else (or_else (if t then [] else kind.ValueValidation ∷ []) []) []) is
+
+-- where the number of processes was met, behind the three names
+abbrev run_counted : Text → Text → Text → Text → Text → Walk
+run_counted command m s d n =
+    state (run_leaf command) (name_row (codes "MODULE") m ∷ name_row (codes "SCRIPT") s ∷ name_row (codes "SCHEDULE") d ∷ []) (Some (codes "N", n ∷ [])) 4
 
 -- after the three names the option, and its value
-number_given : (command m s d n : Text) → PlainNumber 65535 n
-    → Goes (run_leaf command) (record {
-      held = record { rows = name_row (codes "MODULE") m ∷ name_row (codes "SCRIPT") s ∷ []; pending = Some (codes "SCHEDULE", d ∷ []); skip = 0 };
-      waiting = idle;
-      position = 4;
-      is_trailing = false;
-      stopped = None;
-    }) (codes "-n" ∷ n ∷ []) (run_rows m s d n)
+number_given : (command m s d n : Text) → PlainNumber 65535 n → (words : List Text) (rows : List Row)
+    → Goes (run_leaf command) (run_counted command m s d n) words rows
+    → Goes (run_leaf command) (state (run_leaf command) (name_row (codes "MODULE") m ∷ name_row (codes "SCRIPT") s ∷ []) (Some (codes "SCHEDULE", d ∷ [])) 4)
+    (codes "-n" ∷ n ∷ words) rows
 unfolding clap_on_literals
-number_given command m s d n plain =
-    stepped (run_leaf command) _ (codes "-n") refl _ refl (n ∷ []) _
+number_given command m s d n plain words rows goes =
+    stepped (run_leaf command) _ (codes "-n") refl _ refl (n ∷ words) _
     (valued (run_leaf command) (name_row (codes "MODULE") m ∷ name_row (codes "SCRIPT") s ∷ name_row (codes "SCHEDULE") d ∷ []) (Some (codes "N", [])) 4 (codes "N")
-    n plain.no_option _ refl [] _ (record { no_fault = ap (λ (t : Bool). or_else (or_else (if t then [] else kind.ValueValidation ∷ []) []) []) plain.passes; leaves = refl }))
+    n plain.no_option _ refl words _ goes)
+
+-- the three names and the number, and what follows
+run_named : (command m s d n : Text) → is_option m ≡ false → is_option s ≡ false → is_option d ≡ false → PlainNumber 65535 n
+    → (words : List Text) (rows : List Row) → Goes (run_leaf command) (run_counted command m s d n) words rows
+    → Goes (run_leaf command) start (m ∷ s ∷ d ∷ codes "-n" ∷ n ∷ words) rows
+unfolding clap_on_literals
+run_named command m s d n no_m no_s no_d plain words rows goes =
+    named (run_leaf command) [] None 1 m no_m refl _ refl (s ∷ d ∷ codes "-n" ∷ n ∷ words) _
+    (named (run_leaf command) [] (Some (codes "MODULE", m ∷ [])) 2 s no_s refl _ refl (d ∷ codes "-n" ∷ n ∷ words) _
+    (named (run_leaf command) (name_row (codes "MODULE") m ∷ []) (Some (codes "SCRIPT", s ∷ [])) 3 d no_d refl _ refl (codes "-n" ∷ n ∷ words) _
+    (number_given command m s d n plain words rows goes)))
 
 run_given : (command m s d n : Text) → is_option m ≡ false → is_option s ≡ false → is_option d ≡ false → PlainNumber 65535 n
-    → Goes (run_leaf command) start (run_words m s d n) (run_rows m s d n)
+    → Goes (run_leaf command) start (m ∷ s ∷ d ∷ codes "-n" ∷ n ∷ []) (run_rows m s d n)
 unfolding clap_on_literals
 run_given command m s d n no_m no_s no_d plain =
-    named (run_leaf command) [] None 1 m no_m refl _ refl (s ∷ d ∷ codes "-n" ∷ n ∷ []) _
-    (named (run_leaf command) [] (Some (codes "MODULE", m ∷ [])) 2 s no_s refl _ refl (d ∷ codes "-n" ∷ n ∷ []) _
-    (named (run_leaf command) (name_row (codes "MODULE") m ∷ []) (Some (codes "SCRIPT", s ∷ [])) 3 d no_d refl _ refl (codes "-n" ∷ n ∷ []) _
-    (number_given command m s d n plain)))
+    run_named command m s d n no_m no_s no_d plain [] _ (record { no_fault = no_refusal _ plain.passes; leaves = refl })
+
+-- where the option of the budget stood behind them, and its value follows
+run_value : (command m s d n b : Text) → PlainNumber 4294967295 b
+    → Goes (run_leaf command) (waits (run_leaf command) (run_rows m s d n) (Some (codes "BUDGET", [])) 4 (codes "BUDGET")) (b ∷ []) (run_budget_rows m s d n b)
+unfolding clap_on_literals
+run_value command m s d n b plain =
+    valued (run_leaf command) (run_rows m s d n) (Some (codes "BUDGET", [])) 4 (codes "BUDGET")
+    b plain.no_option _ refl [] _ (record { no_fault = no_refusal _ plain.passes; leaves = refl })
+
+run_short_budget : (command m s d n b : Text) → PlainNumber 65535 n → PlainNumber 4294967295 b
+    → Goes (run_leaf command) (run_counted command m s d n) (codes "-b" ∷ b ∷ []) (run_budget_rows m s d n b)
+unfolding clap_on_literals
+run_short_budget command m s d n b plain_n plain_b =
+    stepped (run_leaf command) _ (codes "-b") (no_refusal _ plain_n.passes) _ refl (b ∷ []) _ (run_value command m s d n b plain_b)
+
+run_long_budget : (command m s d n b : Text) → PlainNumber 65535 n → PlainNumber 4294967295 b
+    → Goes (run_leaf command) (run_counted command m s d n) (codes "--budget" ∷ b ∷ []) (run_budget_rows m s d n b)
+unfolding clap_on_literals
+run_long_budget command m s d n b plain_n plain_b =
+    stepped (run_leaf command) _ (codes "--budget") (no_refusal _ plain_n.passes) _ refl (b ∷ []) _ (run_value command m s d n b plain_b)
 
 -- and of what workers run
 abbrev serve_rows : Text → Text → Text → List Row
 serve_rows m s n = name_row (codes "MODULE") m ∷ name_row (codes "SCRIPT") s ∷ number_row n ∷ []
 
+abbrev serve_budget_rows : Text → Text → Text → Text → List Row
+serve_budget_rows m s n b = name_row (codes "MODULE") m ∷ name_row (codes "SCRIPT") s ∷ number_row n ∷ budget_row b ∷ []
+
+abbrev serve_counted : Text → Text → Text → Text → Walk
+serve_counted command m s n =
+    state (serve_leaf command) (name_row (codes "MODULE") m ∷ name_row (codes "SCRIPT") s ∷ []) (Some (codes "N", n ∷ [])) 3
+
+serve_named : (command m s n : Text) → is_option m ≡ false → is_option s ≡ false → PlainNumber 65535 n
+    → (words : List Text) (rows : List Row) → Goes (serve_leaf command) (serve_counted command m s n) words rows
+    → Goes (serve_leaf command) start (m ∷ s ∷ codes "-n" ∷ n ∷ words) rows
+unfolding clap_on_literals
+serve_named command m s n no_m no_s plain words rows goes =
+    named (serve_leaf command) [] None 1 m no_m refl _ refl (s ∷ codes "-n" ∷ n ∷ words) _
+    (named (serve_leaf command) [] (Some (codes "MODULE", m ∷ [])) 2 s no_s refl _ refl (codes "-n" ∷ n ∷ words) _
+    (stepped (serve_leaf command) _ (codes "-n") refl _ refl (n ∷ words) _
+    (valued (serve_leaf command) (name_row (codes "MODULE") m ∷ name_row (codes "SCRIPT") s ∷ []) (Some (codes "N", [])) 3 (codes "N")
+    n plain.no_option _ refl words _ goes)))
+
 serve_given : (command m s n : Text) → is_option m ≡ false → is_option s ≡ false → PlainNumber 65535 n
     → Goes (serve_leaf command) start (m ∷ s ∷ codes "-n" ∷ n ∷ []) (serve_rows m s n)
 unfolding clap_on_literals
 serve_given command m s n no_m no_s plain =
-    named (serve_leaf command) [] None 1 m no_m refl _ refl (s ∷ codes "-n" ∷ n ∷ []) _
-    (named (serve_leaf command) [] (Some (codes "MODULE", m ∷ [])) 2 s no_s refl _ refl (codes "-n" ∷ n ∷ []) _
-    (stepped (serve_leaf command) _ (codes "-n") refl _ refl (n ∷ []) _
-    (valued (serve_leaf command) (name_row (codes "MODULE") m ∷ name_row (codes "SCRIPT") s ∷ []) (Some (codes "N", [])) 3 (codes "N")
-    n plain.no_option _ refl [] _ (record { no_fault = ap (λ (t : Bool). or_else (or_else (if t then [] else kind.ValueValidation ∷ []) []) []) plain.passes; leaves = refl }))))
+    serve_named command m s n no_m no_s plain [] _ (record { no_fault = no_refusal _ plain.passes; leaves = refl })
 
-serve_is : (m s n : Text) (k : ℕ) → number n ≡ Some k → serve_of m (serve_rows m s n) ≡ Some (Serve m s k)
-serve_is m s n k is =
+serve_value : (command m s n b : Text) → PlainNumber 4294967295 b
+    → Goes (serve_leaf command) (waits (serve_leaf command) (serve_rows m s n) (Some (codes "BUDGET", [])) 3 (codes "BUDGET")) (b ∷ []) (serve_budget_rows m s n b)
+unfolding clap_on_literals
+serve_value command m s n b plain =
+    valued (serve_leaf command) (serve_rows m s n) (Some (codes "BUDGET", [])) 3 (codes "BUDGET")
+    b plain.no_option _ refl [] _ (record { no_fault = no_refusal _ plain.passes; leaves = refl })
+
+serve_short_budget : (command m s n b : Text) → PlainNumber 65535 n → PlainNumber 4294967295 b
+    → Goes (serve_leaf command) (serve_counted command m s n) (codes "-b" ∷ b ∷ []) (serve_budget_rows m s n b)
+unfolding clap_on_literals
+serve_short_budget command m s n b plain_n plain_b =
+    stepped (serve_leaf command) _ (codes "-b") (no_refusal _ plain_n.passes) _ refl (b ∷ []) _ (serve_value command m s n b plain_b)
+
+serve_long_budget : (command m s n b : Text) → PlainNumber 65535 n → PlainNumber 4294967295 b
+    → Goes (serve_leaf command) (serve_counted command m s n) (codes "--budget" ∷ b ∷ []) (serve_budget_rows m s n b)
+unfolding clap_on_literals
+serve_long_budget command m s n b plain_n plain_b =
+    stepped (serve_leaf command) _ (codes "--budget") (no_refusal _ plain_n.passes) _ refl (b ∷ []) _ (serve_value command m s n b plain_b)
+
+number_is : (n : Text) (k : ℕ) → number n ≡ Some k → number (without_minus n) ≡ Some k
+number_is n k is =
     let plain = plain_number n k is in
-    ap (λ (o : Option ℕ). option_map (Serve m s) o) (ap number plain.as_is ∙ is)
+    ap number plain.as_is ∙ is
 
-abbrev the_run : Text → Text → Text → ℕ → RunRequest
-the_run m s d k = record { module_name = m; script_name = s; schedule_name = d; processes = k }
+budget_is : (b : Text) (k : ℕ) → budget_number b ≡ Some k → budget_number (without_minus b) ≡ Some k
+budget_is b k is =
+    let plain = plain_budget b k is in
+    ap budget_number plain.as_is ∙ is
 
-run_is : (m s d n : Text) (k : ℕ) → number n ≡ Some k → run_of m (run_rows m s d n) ≡ Some (the_run m s d k)
-run_is m s d n k is =
-    let plain = plain_number n k is in
-    ap (λ (o : Option ℕ). option_map (the_run m s d) o) (ap number plain.as_is ∙ is)
+-- the request of a number of processes and a budget
+both_are : (asks : ℕ → ℕ → Request) (o p : Option ℕ) (k t : ℕ) → o ≡ Some k → p ≡ Some t
+    → unwrap_or (option_and_then (λ processes. option_map (asks processes) p) o) Unclear ≡ asks k t
+both_are asks o p k t is_k is_t = ap₂ (λ (o p : Option ℕ). unwrap_or (option_and_then (λ processes. option_map (asks processes) p) o) Unclear) is_k is_t
+
+-- the same of a command on a run
+run_is : (asks : RunRequest → Request) (run : ℕ → ℕ → RunRequest) (o p : Option ℕ) (k t : ℕ) → o ≡ Some k → p ≡ Some t
+    → unwrap_or (option_map asks (option_and_then (λ processes. option_map (run processes) p) o)) Unclear ≡ asks (run k t)
+run_is asks run o p k t is_k is_t =
+    ap₂ (λ (o p : Option ℕ). unwrap_or (option_map asks (option_and_then (λ processes. option_map (run processes) p) o)) Unclear) is_k is_t
 
 pub check_asked : (m : Text) → is_option m ≡ false → request (codes "check" ∷ m ∷ []) ≡ Check m
 unfolding clap_on_literals
@@ -427,11 +502,6 @@ seq_asked m s no_m no_s =
 abbrev CallsAsked : Text → Text → (Text → Text → ℕ → Request) → Type 0
 CallsAsked command flag asks = (m s b : Text) (k : ℕ) → is_option m ≡ false → is_option s ≡ false → budget_number b ≡ Some k
     → request (command ∷ m ∷ s ∷ flag ∷ b ∷ []) ≡ asks m s k
-
-budget_is : (b : Text) (k : ℕ) → budget_number b ≡ Some k → budget_number (without_minus b) ≡ Some k
-budget_is b k is =
-    let plain = plain_budget b k is in
-    ap budget_number plain.as_is ∙ is
 
 pub seq_short_asked : CallsAsked (codes "seq") (codes "-b") Seq
 unfolding clap_on_literals
@@ -475,29 +545,79 @@ explain_long_asked m s b k no_m no_s is =
     (explained_with_long (codes "explain") m s b no_m no_s (plain_budget b k is))
     ∙ ap (λ (o : Option ℕ). unwrap_or (option_map (Explain m (Some s)) o) Unclear) (budget_is b k is)
 
--- the words of a run behind a command
+-- the words of a run behind a command, without a budget
 abbrev RunAsked : Text → (RunRequest → Request) → Type 0
 RunAsked command asks = (m s d n : Text) (k : ℕ) → is_option m ≡ false → is_option s ≡ false → is_option d ≡ false → number n ≡ Some k
-    → request (command ∷ m ∷ s ∷ d ∷ codes "-n" ∷ n ∷ []) ≡ asks (record { module_name = m; script_name = s; schedule_name = d; processes = k })
+    → request (command ∷ m ∷ s ∷ d ∷ codes "-n" ∷ n ∷ []) ≡ asks (run_with m s d k 100000)
 
 pub run_asked : RunAsked (codes "run") Run
 unfolding clap_on_literals
 run_asked m s d n k no_m no_s no_d is =
-    asked (codes "run") (run_leaf (codes "run")) refl refl refl (run_words m s d n) _ (run_given (codes "run") m s d n no_m no_s no_d (plain_number n k is))
-    ∙ ap (λ (o : Option RunRequest). unwrap_or (option_map Run o) Unclear) (run_is m s d n k is)
+    asked (codes "run") (run_leaf (codes "run")) refl refl refl (m ∷ s ∷ d ∷ codes "-n" ∷ n ∷ []) _
+    (run_given (codes "run") m s d n no_m no_s no_d (plain_number n k is))
+    ∙ run_is Run (run_with m s d) _ _ k 100000 (number_is n k is) refl
+
+pub run_short_asked : IsRunAsked (codes "run") (codes "-b") Run
+unfolding clap_on_literals
+run_short_asked m s d n b k t no_m no_s no_d is_k is_t =
+    asked (codes "run") (run_leaf (codes "run")) refl refl refl (m ∷ s ∷ d ∷ codes "-n" ∷ n ∷ codes "-b" ∷ b ∷ []) _
+    (run_named (codes "run") m s d n no_m no_s no_d (plain_number n k is_k) (codes "-b" ∷ b ∷ []) _
+    (run_short_budget (codes "run") m s d n b (plain_number n k is_k) (plain_budget b t is_t)))
+    ∙ run_is Run (run_with m s d) _ _ k t (number_is n k is_k) (budget_is b t is_t)
+
+pub run_long_asked : IsRunAsked (codes "run") (codes "--budget") Run
+unfolding clap_on_literals
+run_long_asked m s d n b k t no_m no_s no_d is_k is_t =
+    asked (codes "run") (run_leaf (codes "run")) refl refl refl (m ∷ s ∷ d ∷ codes "-n" ∷ n ∷ codes "--budget" ∷ b ∷ []) _
+    (run_named (codes "run") m s d n no_m no_s no_d (plain_number n k is_k) (codes "--budget" ∷ b ∷ []) _
+    (run_long_budget (codes "run") m s d n b (plain_number n k is_k) (plain_budget b t is_t)))
+    ∙ run_is Run (run_with m s d) _ _ k t (number_is n k is_k) (budget_is b t is_t)
 
 pub draw_asked : RunAsked (codes "draw") Draw
 unfolding clap_on_literals
 draw_asked m s d n k no_m no_s no_d is =
-    asked (codes "draw") (run_leaf (codes "draw")) refl refl refl (run_words m s d n) _ (run_given (codes "draw") m s d n no_m no_s no_d (plain_number n k is))
-    ∙ ap (λ (o : Option RunRequest). unwrap_or (option_map Draw o) Unclear) (run_is m s d n k is)
+    asked (codes "draw") (run_leaf (codes "draw")) refl refl refl (m ∷ s ∷ d ∷ codes "-n" ∷ n ∷ []) _
+    (run_given (codes "draw") m s d n no_m no_s no_d (plain_number n k is))
+    ∙ run_is Draw (run_with m s d) _ _ k 100000 (number_is n k is) refl
+
+pub draw_short_asked : IsRunAsked (codes "draw") (codes "-b") Draw
+unfolding clap_on_literals
+draw_short_asked m s d n b k t no_m no_s no_d is_k is_t =
+    asked (codes "draw") (run_leaf (codes "draw")) refl refl refl (m ∷ s ∷ d ∷ codes "-n" ∷ n ∷ codes "-b" ∷ b ∷ []) _
+    (run_named (codes "draw") m s d n no_m no_s no_d (plain_number n k is_k) (codes "-b" ∷ b ∷ []) _
+    (run_short_budget (codes "draw") m s d n b (plain_number n k is_k) (plain_budget b t is_t)))
+    ∙ run_is Draw (run_with m s d) _ _ k t (number_is n k is_k) (budget_is b t is_t)
+
+pub draw_long_asked : IsRunAsked (codes "draw") (codes "--budget") Draw
+unfolding clap_on_literals
+draw_long_asked m s d n b k t no_m no_s no_d is_k is_t =
+    asked (codes "draw") (run_leaf (codes "draw")) refl refl refl (m ∷ s ∷ d ∷ codes "-n" ∷ n ∷ codes "--budget" ∷ b ∷ []) _
+    (run_named (codes "draw") m s d n no_m no_s no_d (plain_number n k is_k) (codes "--budget" ∷ b ∷ []) _
+    (run_long_budget (codes "draw") m s d n b (plain_number n k is_k) (plain_budget b t is_t)))
+    ∙ run_is Draw (run_with m s d) _ _ k t (number_is n k is_k) (budget_is b t is_t)
 
 pub serve_asked : (m s n : Text) (k : ℕ) → is_option m ≡ false → is_option s ≡ false → number n ≡ Some k
-    → request (codes "serve" ∷ m ∷ s ∷ codes "-n" ∷ n ∷ []) ≡ Serve m s k
+    → request (codes "serve" ∷ m ∷ s ∷ codes "-n" ∷ n ∷ []) ≡ Serve m s k 100000
 unfolding clap_on_literals
 serve_asked m s n k no_m no_s is =
     asked (codes "serve") (serve_leaf (codes "serve")) refl refl refl (m ∷ s ∷ codes "-n" ∷ n ∷ []) _ (serve_given (codes "serve") m s n no_m no_s (plain_number n k is))
-    ∙ ap (λ (o : Option Request). unwrap_or o Unclear) (serve_is m s n k is)
+    ∙ both_are (Serve m s) _ _ k 100000 (number_is n k is) refl
+
+pub serve_short_asked : IsServeAsked (codes "-b")
+unfolding clap_on_literals
+serve_short_asked m s n b k t no_m no_s is_k is_t =
+    asked (codes "serve") (serve_leaf (codes "serve")) refl refl refl (m ∷ s ∷ codes "-n" ∷ n ∷ codes "-b" ∷ b ∷ []) _
+    (serve_named (codes "serve") m s n no_m no_s (plain_number n k is_k) (codes "-b" ∷ b ∷ []) _
+    (serve_short_budget (codes "serve") m s n b (plain_number n k is_k) (plain_budget b t is_t)))
+    ∙ both_are (Serve m s) _ _ k t (number_is n k is_k) (budget_is b t is_t)
+
+pub serve_long_asked : IsServeAsked (codes "--budget")
+unfolding clap_on_literals
+serve_long_asked m s n b k t no_m no_s is_k is_t =
+    asked (codes "serve") (serve_leaf (codes "serve")) refl refl refl (m ∷ s ∷ codes "-n" ∷ n ∷ codes "--budget" ∷ b ∷ []) _
+    (serve_named (codes "serve") m s n no_m no_s (plain_number n k is_k) (codes "--budget" ∷ b ∷ []) _
+    (serve_long_budget (codes "serve") m s n b (plain_number n k is_k) (plain_budget b t is_t)))
+    ∙ both_are (Serve m s) _ _ k t (number_is n k is_k) (budget_is b t is_t)
 
 pub help_asked : clap_request (codes "--help" ∷ []) ≡ Help
 unfolding clap_on_literals clap_request

@@ -22,6 +22,7 @@ use Rattle.clap.specs.Words.{first_of, first_value, one_of}
 use Rattle.clap.specs.declared.parser.matches.Found.{Found}
 use Rattle.clap.proofs.WalkLemmas.{first_value-rows}
 use Rattle.ob_command.specs.CommandLine.{Request, Check, Draw, Explain, Help, Listing, Run, RunRequest, Seq, Serve, Unclear, Verify, budget_number, budget_of, clap_request, command_of, default_budget, is_alone, processes_of, request, request_by, run_of, seq_of, serve_of}
+use Rattle.ob_command.specs.PlainForms.{run_with}
 use Rattle.ob_command.specs.Commands.{IsReading, IsStopOf, request_of}
 use Rattle.ob_command.specs.declared.command.Stop.{Stop}
 use Rattle.ob_command.specs.declared.command.Stop.TheVariants as stops
@@ -128,17 +129,18 @@ no_budget_given rows h = rw h refl
 pub no_script : (m : Text) (rows : List Row) → first_of (codes "SCRIPT") rows ≡ None → run_of m rows ≡ None
 no_script m rows h = rw h refl
 
-pub run_by : (m s : Text) (rows : List Row) (schedule_name : Option Text) (processes : Option ℕ) → first_of (codes "SCRIPT") rows ≡ Some s
-    → first_of (codes "SCHEDULE") rows ≡ schedule_name → processes_of rows ≡ processes
-    → run_of m rows ≡ option_and_then (λ d. option_map (λ k. record { module_name = m; script_name = s; schedule_name = d; processes = k }) processes) schedule_name
-run_by m s rows schedule_name processes h d k = rw (h, d, k) refl
+pub run_by : (m s : Text) (rows : List Row) (schedule_name : Option Text) (processes budget : Option ℕ) → first_of (codes "SCRIPT") rows ≡ Some s
+    → first_of (codes "SCHEDULE") rows ≡ schedule_name → processes_of rows ≡ processes → budget_of rows ≡ budget
+    → run_of m rows ≡ option_and_then (λ d. option_and_then (λ k. option_map (run_with m s d k) budget) processes) schedule_name
+run_by m s rows schedule_name processes budget h d k b =
+    rw (h, d) (ap₂ (λ p t. option_and_then (λ d. option_and_then (λ k. option_map (run_with m s d k) t) p) schedule_name) k b)
 
 pub no_serve_script : (m : Text) (rows : List Row) → first_of (codes "SCRIPT") rows ≡ None → serve_of m rows ≡ None
 no_serve_script m rows h = rw h refl
 
-pub serve_by : (m s : Text) (rows : List Row) (processes : Option ℕ) → first_of (codes "SCRIPT") rows ≡ Some s → processes_of rows ≡ processes
-    → serve_of m rows ≡ option_map (Serve m s) processes
-serve_by m s rows processes h k = rw (h, k) refl
+pub serve_by : (m s : Text) (rows : List Row) (processes budget : Option ℕ) → first_of (codes "SCRIPT") rows ≡ Some s → processes_of rows ≡ processes
+    → budget_of rows ≡ budget → serve_of m rows ≡ option_and_then (λ k. option_map (Serve m s k) budget) processes
+serve_by m s rows processes budget h k b = rw h (ap₂ (λ p t. option_and_then (λ k. option_map (Serve m s k) t) p) k b)
 
 -- ---- the command that was met
 

@@ -165,14 +165,15 @@ second_asks command id lets asks words none =
 run_asks : (command : Text) (asks : RunRequest → Request) → AsksBy (run_leaf command) (λ rows m. option_map asks (run_of m rows))
 run_asks command asks words none =
     let s = run_leaf command in
-    let p = passes s (fills_name 1 (codes "MODULE") any_text, (fills_name 2 (codes "SCRIPT") any_text, (fills_name 3 (codes "SCHEDULE") any_text, (fills_number, (fills_help, tt)))))
+    let p = passes s (fills_name 1 (codes "MODULE") any_text, (fills_name 2 (codes "SCRIPT") any_text, (fills_name 3 (codes "SCHEDULE") any_text, (fills_number, (fills_budget, (fills_help, tt))))))
     refl words none in
     let rows = rows_of_leaf s words in
     some_then (first_of (codes "MODULE") rows) (λ m. option_map asks (run_of m rows)) (given_first (codes "MODULE") rows p.filled (p.given.0 refl))
     (λ m. some_map (run_of m rows) asks
     (some_then (first_of (codes "SCRIPT") rows) _ (given_first (codes "SCRIPT") rows p.filled (p.given.1.0 refl))
     (λ script. some_then (first_of (codes "SCHEDULE") rows) _ (given_first (codes "SCHEDULE") rows p.filled (p.given.1.1.0 refl))
-    (λ schedule. some_map (processes_of rows) _ (given_number rows p.filled (p.given.1.1.1.0 refl))))))
+    (λ schedule. some_then (processes_of rows) _ (given_number rows p.filled (p.given.1.1.1.0 refl))
+    (λ processes. some_map (budget_of rows) _ (some_budget rows p.filled))))))
 
 seq_asks : (command : Text) → AsksBy (seq_leaf command) (λ rows m. seq_of m rows)
 seq_asks command words none =
@@ -194,11 +195,12 @@ explain_asks command words none =
 serve_asks : (command : Text) → AsksBy (serve_leaf command) (λ rows m. serve_of m rows)
 serve_asks command words none =
     let s = serve_leaf command in
-    let p = passes s (fills_name 1 (codes "MODULE") any_text, (fills_name 2 (codes "SCRIPT") any_text, (fills_number, (fills_help, tt)))) refl words none in
+    let p = passes s (fills_name 1 (codes "MODULE") any_text, (fills_name 2 (codes "SCRIPT") any_text, (fills_number, (fills_budget, (fills_help, tt))))) refl words none in
     let rows = rows_of_leaf s words in
     some_then (first_of (codes "MODULE") rows) (λ m. serve_of m rows) (given_first (codes "MODULE") rows p.filled (p.given.0 refl))
     (λ m. some_then (first_of (codes "SCRIPT") rows) _ (given_first (codes "SCRIPT") rows p.filled (p.given.1.0 refl))
-    (λ script. some_map (processes_of rows) _ (given_number rows p.filled (p.given.1.1.0 refl))))
+    (λ script. some_then (processes_of rows) _ (given_number rows p.filled (p.given.1.1.0 refl))
+    (λ processes. some_map (budget_of rows) _ (some_budget rows p.filled))))
 
 -- ---- all the words
 

@@ -31,13 +31,13 @@ seq_app command = with_rule (script_app command) budget_rule
 abbrev pub explain_app : Text → App
 explain_app command = with_rule (with_rule (module_app command) (new_rule (codes "SCRIPT"))) budget_rule
 
--- `run MODULE SCRIPT SCHEDULE -n N`, `draw MODULE SCRIPT SCHEDULE -n N`
+-- `run MODULE SCRIPT SCHEDULE -n N -b BUDGET`, `draw MODULE SCRIPT SCHEDULE -n N -b BUDGET`
 abbrev pub run_app : Text → App
-run_app command = with_rule (with_rule (script_app command) (name_rule (codes "SCHEDULE"))) number_rule
+run_app command = with_rule (with_rule (with_rule (script_app command) (name_rule (codes "SCHEDULE"))) number_rule) budget_rule
 
--- `serve MODULE SCRIPT -n N`
+-- `serve MODULE SCRIPT -n N -b BUDGET`
 abbrev pub serve_app : Text → App
-serve_app command = with_rule (script_app command) number_rule
+serve_app command = with_rule (with_rule (script_app command) number_rule) budget_rule
 
 -- `verify MODULE RECORD`
 abbrev pub record_app : Text → App

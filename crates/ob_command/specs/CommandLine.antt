@@ -10,12 +10,13 @@ use Rattle.ob_command.specs.ClapCommand.{obl0_app}
 abbrev pub Text : Type 0
 Text = List ℕ
 
--- What a run is made of: the names of its files, and how many processes there are.
+-- What a run is made of: the names of its files, how many processes there are, and how many turns each call has.
 pub record RunRequest : Type 0 where
   pub module_name : Text
   pub script_name : Text
   pub schedule_name : Text
   pub processes : ℕ
+  pub budget : ℕ
 
 -- What they ask for: the rules of a module checked; its code listed; the calls of a script made on it; a run's record;
 -- the record of workers' run; a run's picture; the order of a record checked; what is wrong with a module, or with a module and a script, shown to
@@ -25,7 +26,7 @@ pub data Request : Type 0 where
   Listing : (module_name : Text) → Request
   Seq : (module_name script_name : Text) (budget : ℕ) → Request
   Run : (run : RunRequest) → Request
-  Serve : (module_name script_name : Text) (processes : ℕ) → Request
+  Serve : (module_name script_name : Text) (processes budget : ℕ) → Request
   Draw : (run : RunRequest) → Request
   Verify : (module_name record_name : Text) → Request
   Explain : (module_name : Text) (script_name : Option Text) (budget : ℕ) → Request
@@ -61,17 +62,19 @@ budget_of rows =
 -- what a run is made of, of the same rows
 abbrev pub run_of : Text → List Row → Option RunRequest
 run_of module_name rows =
-    option_and_then (λ script_name. option_and_then (λ schedule_name. option_map (λ processes. record {
+    option_and_then (λ script_name. option_and_then (λ schedule_name. option_and_then (λ processes. option_map (λ budget. record {
       module_name = module_name;
       script_name = script_name;
       schedule_name = schedule_name;
       processes = processes;
-    }) (processes_of rows)) (first_of (codes "SCHEDULE") rows)) (first_of (codes "SCRIPT") rows)
+      budget = budget;
+    }) (budget_of rows)) (processes_of rows)) (first_of (codes "SCHEDULE") rows)) (first_of (codes "SCRIPT") rows)
 
 -- what workers run, of the same rows
 abbrev pub serve_of : Text → List Row → Option Request
 serve_of module_name rows =
-    option_and_then (λ script_name. option_map (Serve module_name script_name) (processes_of rows)) (first_of (codes "SCRIPT") rows)
+    option_and_then (λ script_name. option_and_then (λ processes. option_map (Serve module_name script_name processes) (budget_of rows))
+    (processes_of rows)) (first_of (codes "SCRIPT") rows)
 
 -- the calls to be made, of the same rows
 abbrev pub seq_of : Text → List Row → Option Request

@@ -16,6 +16,7 @@ run_request_of run = record {
   script_name = run.script_name.now;
   schedule_name = run.schedule_name.now;
   processes = run.processes;
+  budget = run.budget;
 }
 
 abbrev pub request_of : command.Command → Request
@@ -23,7 +24,7 @@ request_of (commands.Check module_name) = Check module_name.now
 request_of (commands.List module_name) = Listing module_name.now
 request_of (commands.Seq module_name script_name budget) = Seq module_name.now script_name.now budget
 request_of (commands.Run run) = Run (run_request_of run)
-request_of (commands.Serve module_name script_name processes) = Serve module_name.now script_name.now processes
+request_of (commands.Serve module_name script_name processes budget) = Serve module_name.now script_name.now processes budget
 request_of (commands.Draw run) = Draw (run_request_of run)
 request_of (commands.Verify module_name record_name) = Verify module_name.now record_name.now
 request_of (commands.Explain module_name script_name budget) = Explain module_name.now (option_map (λ name. name.now) script_name) budget

@@ -1,3 +1,4 @@
 pub mod CommandLine
 pub mod ClapCommand
 pub mod Commands
+pub mod PlainForms

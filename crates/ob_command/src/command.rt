@@ -29,15 +29,16 @@ pub enum Command<'a> {
         script_name: &'a str,
         budget: u32,
     },
-    /// `run MODULE SCRIPT SCHEDULE -n N`: the record of a run.
+    /// `run MODULE SCRIPT SCHEDULE -n N -b BUDGET`: the record of a run.
     Run(RunCommand<'a>),
-    /// `serve MODULE SCRIPT -n N`: the record of a run by workers, one for each process.
+    /// `serve MODULE SCRIPT -n N -b BUDGET`: the record of a run by workers, one for each process.
     Serve {
         module_name: &'a str,
         script_name: &'a str,
         processes: usize,
+        budget: u32,
     },
-    /// `draw MODULE SCRIPT SCHEDULE -n N`: the same run as a picture.
+    /// `draw MODULE SCRIPT SCHEDULE -n N -b BUDGET`: the same run as a picture.
     Draw(RunCommand<'a>),
     /// `verify MODULE RECORD`: whether the order of a record is a legal order of its calls.
     Verify {
@@ -52,13 +53,14 @@ pub enum Command<'a> {
     },
 }
 
-/// What a run is made of: the names of its files, and how many processes there are.
+/// What a run is made of: the names of its files, how many processes there are, and how many turns each call has.
 #[derive(Clone, Copy)]
 pub struct RunCommand<'a> {
     pub module_name: &'a str,
     pub script_name: &'a str,
     pub schedule_name: &'a str,
     pub processes: usize,
+    pub budget: u32,
 }
 
 /// Why there is no command to obey.
@@ -112,7 +114,6 @@ const HELP_BUDGET: &str =
 /// What stands below the help.
 const AFTER_HELP: &str = "\
 `help` and `--version` are understood alone.
-check, seq and explain take the whole language; the others take a part of it, and tell G3 of what is beyond.
 docs/FAULTS.md lists the faults, such as S3 or O2.";
 
 /// Words that ask for help.
@@ -191,11 +192,13 @@ fn run_of<'a>(module_name: &'a str, matches: &ArgMatches<'a>) -> Option<RunComma
     let script_name = matches.get_str("SCRIPT")?;
     let schedule_name = matches.get_str("SCHEDULE")?;
     let processes = matches.get_one::<u16>("N")?;
+    let budget = budget_of(matches)?;
     Some(RunCommand {
         module_name,
         script_name,
         schedule_name,
         processes: usize::from(processes),
+        budget,
     })
 }
 
@@ -205,10 +208,12 @@ fn serve_of<'a>(module_name: &'a str, matches: &ArgMatches<'a>) -> Option<Comman
 {
     let script_name = matches.get_str("SCRIPT")?;
     let workers = matches.get_one::<u16>("N")?;
+    let budget = budget_of(matches)?;
     Some(Command::Serve {
         module_name,
         script_name,
         processes: usize::from(workers),
+        budget,
     })
 }
 
@@ -277,7 +282,7 @@ fn program_line<'a>(alloc: Global) -> Result<clap::Command<'a>, AllocError>
     Ok(program)
 }
 
-/// The words behind a command on a module, a script and a schedule, for a number of processes.
+/// The words behind a command on a module, a script and a schedule, for a number of processes with a budget.
 fn run_line<'a>(
     alloc: Global,
     command: &'a str,
@@ -288,10 +293,11 @@ fn run_line<'a>(
 {
     script_line(alloc, command, about)?
         .arg(file_name(alloc, "SCHEDULE", HELP_SCHEDULE))?
-        .arg(process_count(alloc))
+        .arg(process_count(alloc))?
+        .arg(call_budget(alloc))
 }
 
-/// The words behind a command on a module and a script, for a number of processes.
+/// The words behind a command on a module and a script, for a number of processes with a budget.
 fn serve_line<'a>(
     alloc: Global,
     command: &'a str,
@@ -300,7 +306,9 @@ fn serve_line<'a>(
     ensures app { IfOk result (λ c. app_of c ≡ serve_app command.entry.now) }
     ensures local { IfOk result (λ c. (fields_of c).has_globals ≡ false) }
 {
-    script_line(alloc, command, about)?.arg(process_count(alloc))
+    script_line(alloc, command, about)?
+        .arg(process_count(alloc))?
+        .arg(call_budget(alloc))
 }
 
 /// The words behind a command on a module and a script.

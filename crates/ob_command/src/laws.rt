@@ -2,6 +2,7 @@
 
 ghost use Rattle.std.specs.Prelude.{◌≡◌, ℕ, Some, None, [], ◌∷◌, false, codes};
 ghost use Rattle.ob_command.specs.CommandLine.{Check, Draw, Explain, Help, Listing, Run, Seq, Serve, Text, Unclear, Verify, budget_number, is_option, number, request};
+ghost use Rattle.ob_command.specs.PlainForms.{IsRunAsked, IsServeAsked, run_with};
 
 /// `check` and a name that is no option.
 pub fn check_is_asked()
@@ -26,24 +27,40 @@ pub fn seq_with_budget_is_asked()
         → request (codes "seq" ∷ m ∷ s ∷ codes "--budget" ∷ b ∷ []) ≡ Seq m s k }
 {}
 
-/// `run` and three names that are no options, and `-n` with a number.
+/// `run` and three names that are no options, and `-n` with a number: each call has the budget that there is where nothing is said of it.
 pub fn run_is_asked()
     ensures { (m s d n : Text) (k : ℕ) → is_option m ≡ false → is_option s ≡ false → is_option d ≡ false → number n ≡ Some k
-        → request (codes "run" ∷ m ∷ s ∷ d ∷ codes "-n" ∷ n ∷ [])
-        ≡ Run (record { module_name = m; script_name = s; schedule_name = d; processes = k }) }
+        → request (codes "run" ∷ m ∷ s ∷ d ∷ codes "-n" ∷ n ∷ []) ≡ Run (run_with m s d k 100000) }
+{}
+
+/// The same, and `-b` or `--budget` with a number.
+pub fn run_with_budget_is_asked()
+    ensures short { IsRunAsked (codes "run") (codes "-b") Run }
+    ensures long { IsRunAsked (codes "run") (codes "--budget") Run }
 {}
 
 /// `serve` and two names that are no options, and `-n` with a number.
 pub fn serve_is_asked()
     ensures { (m s n : Text) (k : ℕ) → is_option m ≡ false → is_option s ≡ false → number n ≡ Some k
-        → request (codes "serve" ∷ m ∷ s ∷ codes "-n" ∷ n ∷ []) ≡ Serve m s k }
+        → request (codes "serve" ∷ m ∷ s ∷ codes "-n" ∷ n ∷ []) ≡ Serve m s k 100000 }
+{}
+
+/// The same, and `-b` or `--budget` with a number.
+pub fn serve_with_budget_is_asked()
+    ensures short { IsServeAsked (codes "-b") }
+    ensures long { IsServeAsked (codes "--budget") }
 {}
 
 /// `draw` and the words of a run.
 pub fn draw_is_asked()
     ensures { (m s d n : Text) (k : ℕ) → is_option m ≡ false → is_option s ≡ false → is_option d ≡ false → number n ≡ Some k
-        → request (codes "draw" ∷ m ∷ s ∷ d ∷ codes "-n" ∷ n ∷ [])
-        ≡ Draw (record { module_name = m; script_name = s; schedule_name = d; processes = k }) }
+        → request (codes "draw" ∷ m ∷ s ∷ d ∷ codes "-n" ∷ n ∷ []) ≡ Draw (run_with m s d k 100000) }
+{}
+
+/// The same, and `-b` or `--budget` with a number.
+pub fn draw_with_budget_is_asked()
+    ensures short { IsRunAsked (codes "draw") (codes "-b") Draw }
+    ensures long { IsRunAsked (codes "draw") (codes "--budget") Draw }
 {}
 
 /// `verify` and two names that are no options.

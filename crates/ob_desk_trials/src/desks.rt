@@ -1,11 +1,11 @@
 //! Desks at which turns are taken by hand.
 
+use ob_code_engine::CodeEngine;
 use ob_desk::{CloseFault, Desk};
 use ob_desk_floor::{Seat, TakeTurn};
-use ob_engine::CodeEngine;
-use ob_object::{compile, perform};
-use ob_serve::opened_desk;
-use ob_text::script::read_scripts;
+use ob_desk_serve::opened_desk;
+use ob_desk_texts::read_calls;
+use ob_object_perform::perform;
 use std::alloc::Global;
 use std::sync::Wait;
 use std::test::Fail;
@@ -19,13 +19,15 @@ END C.";
 /// Process 1 gets 1 where process 0 was there before it, and else 0.
 const CALLS: &[u8] = b"0 Inc\n1 Get\n";
 
+/// The turns of each call.
+const BUDGET: u64 = 100;
+
 type CodeDesk = Desk<CodeEngine>;
 
 /// A desk of two processes, and its seats.
 fn opened(alloc: Global, text: &[u8], calls: &[u8]) -> Result<(CodeDesk, Vec<Seat>), Fail> {
-    let object = compile(alloc, text, 2)?;
-    let scripts = read_scripts(alloc, object.checked(), 2, calls)?;
-    Ok(opened_desk(alloc, &object, scripts.calls())?)
+    let (object, calls) = read_calls(alloc, text, 2, BUDGET, calls)?;
+    Ok(opened_desk(alloc, &object, calls.as_slice())?)
 }
 
 /// So many turns of a process.
@@ -64,7 +66,7 @@ fn turns_by_hand_are_the_run_of_their_schedule(rt: HostRuntime) -> Result<(), Fa
     let alloc = rt.alloc();
     let (desk, seats) = used(&rt, alloc, 0, 1)?;
     let closed = desk.close(seats.as_slice())?;
-    let performed = perform(alloc, COUNTER, 2, CALLS, b"0*100 1*100")?;
+    let performed = perform(alloc, COUNTER, 2, BUDGET, CALLS, b"0*100 1*100")?;
     assert_eq!(rt; closed.history().len(), performed.history.len());
     assert!(rt; closed.order() == performed.order.as_slice());
     assert!(rt; closed.schedule() == performed.schedule.as_slice());

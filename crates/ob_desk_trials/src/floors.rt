@@ -1,16 +1,17 @@
 //! Desks that are closed over a floor.
 
 ghost use Rattle.std.specs.Prelude.{◌<◌, ◌≤◌, IfOk};
-ghost use Rattle.ob_object.specs.Performance.{IsSoundObject};
-ghost use Rattle.ob_object.specs.View.{object_in};
+ghost use Rattle.ob_object_compile.specs.Sound.{IsSoundObject};
+ghost use Rattle.ob_object_compile.specs.View.{object_in};
 
+use ob_code_engine::CodeEngine;
+use ob_code_layout::encode;
 use ob_desk::{CloseFault, Terms, settle};
 use ob_desk_floor::{Floor, Seat};
-use ob_engine::CodeEngine;
-use ob_layout::encode;
-use ob_object::{Object, compile};
-use ob_serve::opening::submissions;
-use ob_text::script::read_scripts;
+use ob_desk_serve::opening::submissions;
+use ob_object_compile::laws::compilations_are_sound;
+use ob_object_compile::{Object, compile};
+use ob_text_scripts::read_scripts;
 use std::alloc::Global;
 use std::test::Fail;
 
@@ -23,17 +24,21 @@ const BY_TWO: &[u8] = b"MODULE C; VAR x: INTEGER; PROCEDURE Inc*; BEGIN x := x +
 const FROM_ONE: &[u8] =
     b"MODULE C; VAR x: INTEGER; PROCEDURE Inc*; BEGIN x := x + 1 END Inc; BEGIN x := 1 END C.";
 
-fn object_of(alloc: Global, text: &[u8], n: usize) -> Result<Object, Fail>
+/// The turns of each call of the desk.
+const BUDGET: u64 = 100;
+
+fn object_of(alloc: Global, text: &[u8], n: usize, budget: u64) -> Result<Object, Fail>
     ensures sound { IfOk result (λ o. IsSoundObject (object_in o)) }
     ensures some { IfOk result (λ _. 0 < n) }
     ensures few { IfOk result (λ _. n ≤ 16) }
 {
-    Ok(compile(alloc, text, n)?)
+    compilations_are_sound();
+    Ok(compile(alloc, text, n, budget)?)
 }
 
 /// A floor of the module's object, without calls.
-fn floor_of(alloc: Global, text: &[u8], n: usize) -> Result<Floor<CodeEngine>, Fail> {
-    let object = object_of(alloc, text, n)?;
+fn floor_of(alloc: Global, text: &[u8], n: usize, budget: u64) -> Result<Floor<CodeEngine>, Fail> {
+    let object = object_of(alloc, text, n, budget)?;
     let engine = object.engine().copy(alloc)?;
     let opening = encode(alloc, object.opening())?;
     Ok(Floor::new(alloc, engine, n, opening.as_slice(), Vec::new(alloc))?)
@@ -41,7 +46,7 @@ fn floor_of(alloc: Global, text: &[u8], n: usize) -> Result<Floor<CodeEngine>, F
 
 /// What a desk of two processes of the counter keeps, with these calls.
 fn terms_of(alloc: Global, calls: &[u8]) -> Result<Terms<CodeEngine>, Fail> {
-    let object = object_of(alloc, COUNTER, 2)?;
+    let object = object_of(alloc, COUNTER, 2, BUDGET)?;
     let scripts = read_scripts(alloc, object.checked(), 2, calls)?;
     let calls = submissions(alloc, scripts.calls())?;
     let engine = object.engine().copy(alloc)?;
@@ -57,30 +62,49 @@ fn two_seats(alloc: Global) -> Result<Vec<Seat>, Fail> {
 }
 
 /// What closing tells of such a desk over a floor of the text.
-fn told(alloc: Global, calls: &[u8], text: &[u8], n: usize) -> Result<Option<CloseFault>, Fail> {
+fn told(
+    alloc: Global,
+    calls: &[u8],
+    text: &[u8],
+    n: usize,
+    budget: u64,
+) -> Result<Option<CloseFault>, Fail> {
     let seats = two_seats(alloc)?;
     let terms = terms_of(alloc, calls)?;
-    let floor = floor_of(alloc, text, n)?;
+    let floor = floor_of(alloc, text, n, budget)?;
     Ok(settle(&terms, floor, seats.as_slice()).err())
 }
 
 /// Whether closing tells that the floor is not the desk's.
-fn is_other_floor(alloc: Global, calls: &[u8], text: &[u8], n: usize) -> Result<bool, Fail> {
-    let fault = told(alloc, calls, text, n)?;
+fn is_other_floor(
+    alloc: Global,
+    calls: &[u8],
+    text: &[u8],
+    n: usize,
+    budget: u64,
+) -> Result<bool, Fail> {
+    let fault = told(alloc, calls, text, n, budget)?;
     Ok(matches!(fault, Some(CloseFault::OtherFloor)))
 }
 
 #[test]
 fn a_floor_of_the_desk(rt: HostRuntime) -> Result<(), Fail> {
-    assert!(rt; told(rt.alloc(), b"", COUNTER, 2)?.is_none());
+    assert!(rt; told(rt.alloc(), b"", COUNTER, 2, BUDGET)?.is_none());
     Ok(())
 }
 
 #[test]
 fn a_floor_that_is_not_the_desks(rt: HostRuntime) -> Result<(), Fail> {
-    assert!(rt; is_other_floor(rt.alloc(), b"", COUNTER, 1)?);
-    assert!(rt; is_other_floor(rt.alloc(), b"", BY_TWO, 2)?);
-    assert!(rt; is_other_floor(rt.alloc(), b"", FROM_ONE, 2)?);
-    assert!(rt; is_other_floor(rt.alloc(), b"0 Inc\n", COUNTER, 2)?);
+    assert!(rt; is_other_floor(rt.alloc(), b"", COUNTER, 1, BUDGET)?);
+    assert!(rt; is_other_floor(rt.alloc(), b"", BY_TWO, 2, BUDGET)?);
+    assert!(rt; is_other_floor(rt.alloc(), b"", FROM_ONE, 2, BUDGET)?);
+    assert!(rt; is_other_floor(rt.alloc(), b"0 Inc\n", COUNTER, 2, BUDGET)?);
+    Ok(())
+}
+
+/// The same code, but calls that have one turn more.
+#[test]
+fn a_floor_of_another_budget(rt: HostRuntime) -> Result<(), Fail> {
+    assert!(rt; is_other_floor(rt.alloc(), b"", COUNTER, 2, BUDGET + 1)?);
     Ok(())
 }

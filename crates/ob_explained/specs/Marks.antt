@@ -1,7 +1,7 @@
 -- At which word of a script a mark stands, by what stands between line feeds and between blanks.
 use Rattle.std.specs.Prelude.{◌≡◌, ◌≤◌, ◌-◌, ℕ, List, [], ◌∷◌, ◌++◌, Some, false, drop, length, slice_get, take}
-use Rattle.ob_calls.specs.declared.script.ScriptFault.{ScriptFault}
-use Rattle.ob_calls.specs.declared.script.ScriptFault.TheVariants as Script
+use Rattle.ob_text_scripts.specs.declared.script.ScriptFault.{ScriptFault}
+use Rattle.ob_text_scripts.specs.declared.script.ScriptFault.TheVariants as Script
 use Rattle.ob_text_words.specs.Words.{IsProcess, Word, is_blank, lines, words}
 
 -- A place in a line at which its word of a number begins, counted from 0: the words before it stand up to there, and it and the

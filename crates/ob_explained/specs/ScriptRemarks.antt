@@ -1,7 +1,7 @@
 -- What each fault of a script says to people.
 use Rattle.std.specs.Prelude.{ℕ, List, Option, None, codes}
-use Rattle.ob_calls.specs.declared.script.ScriptFault.{ScriptFault}
-use Rattle.ob_calls.specs.declared.script.ScriptFault.TheVariants as Script
+use Rattle.ob_text_scripts.specs.declared.script.ScriptFault.{ScriptFault}
+use Rattle.ob_text_scripts.specs.declared.script.ScriptFault.TheVariants as Script
 use Rattle.ob_explain.specs.Remarks.{Remark, at}
 use Rattle.ob_explained.specs.ScriptPlaces.{first_place, form_place, in_line, second_place}
 

@@ -6,10 +6,12 @@ ghost use Rattle.ob_explain.specs.Remarks.{remark_of};
 ghost use Rattle.ob_explained.specs.Explained.{calls_explanation, module_explanation, text_remark};
 
 use crate::script_remark::script_remark;
+use ob_check_text::TextFault;
 use ob_explain::explanation::explanation;
 use ob_explain::remark::{Remark, check_remark, parse_remark, scan_remark};
+use ob_object_compile::CompileFault;
+use ob_object_sequence::SeqTextFault;
 use ob_scan::ScanFault;
-use ob_sequential::{ModuleFault, SeqTextFault, TextFault};
 use std::alloc::{AllocError, Global};
 
 /// What is shown of a fault of a module, whose text has this name; `None` where the fault has no place in it.
@@ -17,12 +19,12 @@ pub fn module_explanation(
     alloc: Global,
     name: &str,
     text: &[u8],
-    fault: ModuleFault,
+    fault: CompileFault,
 ) -> Result<Option<String>, AllocError>
     ensures { IfOk result (λ shown. option_map string_bytes shown ≡ module_explanation name.now text.now fault) }
 {
     match fault {
-        ModuleFault::Text(fault) => shown(alloc, name, text, text_remark(fault)),
+        CompileFault::Text(fault) => shown(alloc, name, text, text_remark(fault)),
         _ => Ok(None),
     }
 }
@@ -39,11 +41,11 @@ pub fn calls_explanation(
     ensures { IfOk result (λ shown. option_map string_bytes shown ≡ calls_explanation module_name.now text.now script_name.now script.now fault) }
 {
     match fault {
-        SeqTextFault::Text(fault) => shown(alloc, module_name, text, text_remark(fault)),
+        SeqTextFault::Compile(fault) => module_explanation(alloc, module_name, text, fault),
         SeqTextFault::Script(fault) => {
             shown(alloc, script_name, script, script_remark(script, fault))
         }
-        _ => Ok(None),
+        SeqTextFault::NoMemory => Ok(None),
     }
 }
 

@@ -7,8 +7,8 @@ ghost use Rattle.ob_explained.specs.ScriptPlaces.{first_place, form_place, in_li
 ghost use Rattle.ob_explained.specs.ScriptRemarks.{script_remark};
 
 use crate::script_place::{first_place, form_place, script_line, second_place};
-use ob_calls::script::ScriptFault;
 use ob_explain::remark::Remark;
+use ob_text_scripts::ScriptFault;
 
 /// The remark on a fault of a script; `None` for want of memory.
 pub fn script_remark(script: &[u8], fault: ScriptFault) -> Option<Remark>

@@ -1,5 +1,6 @@
 pub mod ModuleFaultLines
 pub mod ScriptFaultLines
+pub mod CompileFaultLines
 pub mod SequentialFaultLines
 pub mod RunFaultLines
 pub mod ServeFaultLines

@@ -9,10 +9,10 @@ use Rattle.ob_typing.specs.declared.rule.Rule.{Rule}
 use Rattle.ob_typing.specs.declared.rule.Rule.TheVariants as Rules
 use Rattle.ob_scopes.specs.declared.fault.CheckFault.{CheckFault}
 use Rattle.ob_scopes.specs.declared.fault.CheckFault.TheVariants as Check
-use Rattle.ob_mean.specs.declared.opening.OpenFault.{OpenFault}
-use Rattle.ob_mean.specs.declared.opening.OpenFault.TheVariants as Open
-use Rattle.ob_opened.specs.declared.checked_text.TextFault.{TextFault}
-use Rattle.ob_opened.specs.declared.checked_text.TextFault.TheVariants as Texts
+use Rattle.ob_interpreter.specs.declared.opening.OpenFault.{OpenFault}
+use Rattle.ob_interpreter.specs.declared.opening.OpenFault.TheVariants as Open
+use Rattle.ob_check_text.specs.declared.checked_text.TextFault.{TextFault}
+use Rattle.ob_check_text.specs.declared.checked_text.TextFault.TheVariants as Texts
 
 abbrev pub Text : Type 0
 Text = List ℕ
@@ -54,15 +54,12 @@ abbrev pub rule_line : CheckFault → Text
 rule_line (Check.Broken fault) = at_place (rule_number fault.rule) fault.place
 rule_line Check.NoMemory = no_memory_line
 
--- a module that goes beyond what the compiler knows is told at the first construct beyond
 abbrev pub text_line : TextFault → Text
 text_line (Texts.Scan e) = scan_line e
 text_line (Texts.Parse e) = parse_line e
 text_line (Texts.Check e) = rule_line e
-text_line (Texts.Beyond place) = at_place (codes "G3") place
 text_line Texts.NoMemory = no_memory_line
 
 abbrev pub open_line : OpenFault → Text
 open_line (Open.Trap trap) = codes "O2 trap " ++ decimal trap
-open_line Open.NeedsMore = codes "O3"
 open_line Open.NoMemory = no_memory_line

@@ -1,12 +1,11 @@
--- The lines that tell each fault of an object, and of a run of it.
+-- The line that tells each fault of a run by a schedule.
 use Rattle.std.specs.Prelude.{ℕ, ◌++◌, codes, decimal}
-use Rattle.ob_object.specs.declared.compiling.CompileFault.{CompileFault}
-use Rattle.ob_object.specs.declared.compiling.CompileFault.TheVariants as Compile
-use Rattle.ob_object.specs.declared.performing.PerformFault.{PerformFault}
-use Rattle.ob_object.specs.declared.performing.PerformFault.TheVariants as Faults
+use Rattle.ob_object_perform.specs.declared.performing.PerformFault.{PerformFault}
+use Rattle.ob_object_perform.specs.declared.performing.PerformFault.TheVariants as Faults
 use Rattle.ob_schedule.specs.declared.schedule.ScheduleFault.{ScheduleFault}
 use Rattle.ob_schedule.specs.declared.schedule.ScheduleFault.TheVariants as Schedule
-use Rattle.ob_fault_lines.specs.ModuleFaultLines.{Text, no_memory_line, open_line, text_line}
+use Rattle.ob_fault_lines.specs.CompileFaultLines.{compile_line}
+use Rattle.ob_fault_lines.specs.ModuleFaultLines.{Text, no_memory_line}
 use Rattle.ob_fault_lines.specs.ScriptFaultLines.{script_line}
 
 -- at an item of the schedule
@@ -17,13 +16,6 @@ abbrev pub schedule_line : ScheduleFault → Text
 schedule_line (Schedule.Form item) = at_item (codes "Q1") item
 schedule_line (Schedule.Process item) = at_item (codes "Q2") item
 schedule_line Schedule.NoMemory = no_memory_line
-
-abbrev pub compile_line : CompileFault → Text
-compile_line Compile.Processes = codes "N1"
-compile_line (Compile.Text e) = text_line e
-compile_line Compile.TooLong = codes "G1"
-compile_line (Compile.Open e) = open_line e
-compile_line Compile.NoMemory = no_memory_line
 
 abbrev pub run_fault_line : PerformFault → Text
 run_fault_line (Faults.Compile e) = compile_line e

@@ -1,7 +1,7 @@
 -- The line that tells each fault of a script.
 use Rattle.std.specs.Prelude.{ℕ, ◌++◌, codes, decimal}
-use Rattle.ob_text.specs.declared.script.ScriptFault.{ScriptFault}
-use Rattle.ob_text.specs.declared.script.ScriptFault.TheVariants as Script
+use Rattle.ob_text_scripts.specs.declared.script.ScriptFault.{ScriptFault}
+use Rattle.ob_text_scripts.specs.declared.script.ScriptFault.TheVariants as Script
 use Rattle.ob_fault_lines.specs.ModuleFaultLines.{Text, no_memory_line}
 
 -- at a line of the script

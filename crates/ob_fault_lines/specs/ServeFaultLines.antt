@@ -2,12 +2,12 @@
 use Rattle.std.specs.Prelude.{ℕ, ◌++◌, codes, decimal}
 use Rattle.ob_desk.specs.declared.fault.CloseFault.{CloseFault}
 use Rattle.ob_desk.specs.declared.fault.CloseFault.TheVariants as Close
-use Rattle.ob_serve.specs.declared.fault.ServeFault.{ServeFault}
-use Rattle.ob_serve.specs.declared.fault.ServeFault.TheVariants as Serve
-use Rattle.ob_serve_texts.specs.declared.texts.ServeTextFault.{ServeTextFault}
-use Rattle.ob_serve_texts.specs.declared.texts.ServeTextFault.TheVariants as Faults
+use Rattle.ob_desk_serve.specs.declared.fault.ServeFault.{ServeFault}
+use Rattle.ob_desk_serve.specs.declared.fault.ServeFault.TheVariants as Serve
+use Rattle.ob_desk_texts.specs.declared.texts.ServeTextFault.{ServeTextFault}
+use Rattle.ob_desk_texts.specs.declared.texts.ServeTextFault.TheVariants as Faults
 use Rattle.ob_fault_lines.specs.ModuleFaultLines.{Text, no_memory_line}
-use Rattle.ob_fault_lines.specs.RunFaultLines.{compile_line}
+use Rattle.ob_fault_lines.specs.CompileFaultLines.{compile_line}
 use Rattle.ob_fault_lines.specs.ScriptFaultLines.{script_line}
 
 -- of a process

@@ -1,6 +1,7 @@
 //! The lines by which the program tells faults.
 #![tactic(auto)]
 
+pub mod compile_faults;
 pub mod module_faults;
 pub mod run_faults;
 pub mod script_faults;

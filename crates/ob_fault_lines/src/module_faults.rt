@@ -4,8 +4,8 @@ ghost use Rattle.std.specs.Prelude.{◌≡◌, ◌++◌, OnErr, OnOk, string_byt
 ghost use Rattle.ob_fault_lines.specs.ModuleFaultLines.{at_place, open_line, parse_line, rule_line, rule_number, scan_line, text_line};
 ghost use Rattle.ob_text_words.specs.Appending.{GoesOn};
 
-use ob_mean::opening::OpenFault;
-use ob_opened::checked_text::TextFault;
+use ob_check_text::TextFault;
+use ob_interpreter::opening::OpenFault;
 use ob_parser::parser::ParseFault;
 use ob_scan::ScanFault;
 use ob_scan::scanner::LONGEST_TEXT;
@@ -23,7 +23,6 @@ pub fn push_text_fault(line: &mut String, fault: TextFault) -> Result<(), AllocE
         TextFault::Scan(fault) => push_scan_fault(line, fault),
         TextFault::Parse(fault) => push_parse_fault(line, fault),
         TextFault::Check(fault) => push_broken_rule(line, fault),
-        TextFault::Beyond(place) => push_place(line, "G3", place),
         TextFault::NoMemory => line.push_str("NoMemory"),
     }
 }
@@ -38,12 +37,11 @@ pub fn push_open_fault(line: &mut String, fault: OpenFault) -> Result<(), AllocE
             line.push_str("O2 trap ")?;
             push_number(line, trap)
         }
-        OpenFault::NeedsMore => line.push_str("O3"),
         OpenFault::NoMemory => line.push_str("NoMemory"),
     }
 }
 
-pub(crate) fn push_scan_fault(line: &mut String, fault: ScanFault) -> Result<(), AllocError>
+fn push_scan_fault(line: &mut String, fault: ScanFault) -> Result<(), AllocError>
     ensures ok { OnOk result (string_bytes line.new ≡ string_bytes line.old ++ scan_line fault) }
     ensures left { OnErr result (GoesOn (string_bytes line.old) (string_bytes line.new)) }
 {
@@ -57,7 +55,7 @@ pub(crate) fn push_scan_fault(line: &mut String, fault: ScanFault) -> Result<(),
     }
 }
 
-pub(crate) fn push_parse_fault(line: &mut String, fault: ParseFault) -> Result<(), AllocError>
+fn push_parse_fault(line: &mut String, fault: ParseFault) -> Result<(), AllocError>
     ensures ok { OnOk result (string_bytes line.new ≡ string_bytes line.old ++ parse_line fault) }
     ensures left { OnErr result (GoesOn (string_bytes line.old) (string_bytes line.new)) }
 {
@@ -70,7 +68,7 @@ pub(crate) fn push_parse_fault(line: &mut String, fault: ParseFault) -> Result<(
 }
 
 /// Appends the line of a rule that is broken.
-pub(crate) fn push_broken_rule(line: &mut String, fault: CheckFault) -> Result<(), AllocError>
+fn push_broken_rule(line: &mut String, fault: CheckFault) -> Result<(), AllocError>
     ensures ok { OnOk result (string_bytes line.new ≡ string_bytes line.old ++ rule_line fault) }
     ensures left { OnErr result (GoesOn (string_bytes line.old) (string_bytes line.new)) }
 {
@@ -99,7 +97,7 @@ fn rule_number(rule: Rule) -> &'static str
 }
 
 /// Appends a fault at a byte offset of the module's text.
-pub(crate) fn push_place(line: &mut String, fault: &str, place: usize) -> Result<(), AllocError>
+fn push_place(line: &mut String, fault: &str, place: usize) -> Result<(), AllocError>
     ensures ok { OnOk result (string_bytes line.new ≡ string_bytes line.old ++ at_place fault.now place) }
     ensures left { OnErr result (GoesOn (string_bytes line.old) (string_bytes line.new)) }
 {

@@ -1,12 +1,11 @@
-//! The lines of the faults of an object, and of a run of it.
+//! The line of a fault of a run by a schedule.
 
 ghost use Rattle.std.specs.Prelude.{◌≡◌, ◌++◌, IfOk, OnOk, string_bytes};
-ghost use Rattle.ob_fault_lines.specs.RunFaultLines.{at_item, compile_line, run_fault_line, schedule_line};
+ghost use Rattle.ob_fault_lines.specs.RunFaultLines.{at_item, run_fault_line, schedule_line};
 
-use crate::module_faults::{push_open_fault, push_text_fault};
+use crate::compile_faults::push_compile_fault;
 use crate::script_faults::push_script_fault;
-use ob_object::compiling::CompileFault;
-use ob_object::performing::PerformFault;
+use ob_object_perform::PerformFault;
 use ob_schedule::ScheduleFault;
 use ob_text_words::numbers::push_number;
 use std::alloc::{AllocError, Global};
@@ -24,27 +23,6 @@ pub fn run_fault_line(alloc: Global, fault: PerformFault) -> Result<String, Allo
         PerformFault::NoMemory => line.push_str("NoMemory")?,
     }
     Ok(line)
-}
-
-/// The line of a fault of a module whose code is listed, without a line feed.
-pub fn compile_fault_line(alloc: Global, fault: CompileFault) -> Result<String, AllocError>
-    ensures { IfOk result (λ line. string_bytes line ≡ compile_line fault) }
-{
-    let mut line = String::new(alloc);
-    push_compile_fault(&mut line, fault)?;
-    Ok(line)
-}
-
-pub(crate) fn push_compile_fault(line: &mut String, fault: CompileFault) -> Result<(), AllocError>
-    ensures { OnOk result (string_bytes line.new ≡ string_bytes line.old ++ compile_line fault) }
-{
-    match fault {
-        CompileFault::Processes => line.push_str("N1"),
-        CompileFault::Text(fault) => push_text_fault(line, fault),
-        CompileFault::TooLong => line.push_str("G1"),
-        CompileFault::Open(fault) => push_open_fault(line, fault),
-        CompileFault::NoMemory => line.push_str("NoMemory"),
-    }
 }
 
 fn push_schedule_fault(line: &mut String, fault: ScheduleFault) -> Result<(), AllocError>

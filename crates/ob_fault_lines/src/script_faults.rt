@@ -4,7 +4,7 @@ ghost use Rattle.std.specs.Prelude.{◌≡◌, ◌++◌, OnErr, OnOk, string_byt
 ghost use Rattle.ob_fault_lines.specs.ScriptFaultLines.{at_line, script_line};
 ghost use Rattle.ob_text_words.specs.Appending.{GoesOn};
 
-use ob_text::script::ScriptFault;
+use ob_text_scripts::ScriptFault;
 use ob_text_words::numbers::push_number;
 use std::alloc::AllocError;
 

@@ -3,11 +3,11 @@
 ghost use Rattle.std.specs.Prelude.{◌≡◌, ◌++◌, IfOk, OnOk, string_bytes};
 ghost use Rattle.ob_fault_lines.specs.ServeFaultLines.{close_line, of_process, serve_fault_line, serve_line};
 
-use crate::run_faults::push_compile_fault;
+use crate::compile_faults::push_compile_fault;
 use crate::script_faults::push_script_fault;
 use ob_desk::CloseFault;
-use ob_serve::ServeFault;
-use ob_serve_texts::ServeTextFault;
+use ob_desk_serve::ServeFault;
+use ob_desk_texts::ServeTextFault;
 use ob_text_words::numbers::push_number;
 use std::alloc::{AllocError, Global};
 

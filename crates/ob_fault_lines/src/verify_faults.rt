@@ -1,14 +1,13 @@
 //! The line of a fault of a record.
 
 ghost use Rattle.std.specs.Prelude.{◌≡◌, ◌++◌, IfOk, OnOk, string_bytes};
-ghost use Rattle.ob_fault_lines.specs.VerifyFaultLines.{of_call, opened_line, order_line, verify_fault_line};
+ghost use Rattle.ob_fault_lines.specs.VerifyFaultLines.{of_call, order_line, verify_fault_line};
 
 use crate::module_faults::{push_open_fault, push_text_fault};
 use crate::script_faults::push_line_number;
-use ob_opened::opened::ModuleFault;
-use ob_order::OrderFault;
-use ob_record::push_id;
-use ob_verify::verifying::VerifyFault;
+use ob_object_order::OrderFault;
+use ob_object_verify::VerifyFault;
+use ob_text_record::push_id;
 use std::alloc::{AllocError, Global};
 use wf_history::CallId;
 
@@ -18,22 +17,13 @@ pub fn verify_fault_line(alloc: Global, fault: VerifyFault) -> Result<String, Al
 {
     let mut line = String::new(alloc);
     match fault {
-        VerifyFault::Module(fault) => push_opened_fault(&mut line, fault)?,
+        VerifyFault::Text(fault) => push_text_fault(&mut line, fault)?,
         VerifyFault::Form(number) => push_line_number(&mut line, "F1", number)?,
+        VerifyFault::Open(fault) => push_open_fault(&mut line, fault)?,
         VerifyFault::Order(fault) => push_order_fault(&mut line, fault)?,
         VerifyFault::NoMemory => line.push_str("NoMemory")?,
     }
     Ok(line)
-}
-
-fn push_opened_fault(line: &mut String, fault: ModuleFault) -> Result<(), AllocError>
-    ensures { OnOk result (string_bytes line.new ≡ string_bytes line.old ++ opened_line fault) }
-{
-    match fault {
-        ModuleFault::Text(fault) => push_text_fault(line, fault),
-        ModuleFault::Open(fault) => push_open_fault(line, fault),
-        ModuleFault::NoMemory => line.push_str("NoMemory"),
-    }
 }
 
 fn push_order_fault(line: &mut String, fault: OrderFault) -> Result<(), AllocError>
@@ -44,7 +34,6 @@ fn push_order_fault(line: &mut String, fault: OrderFault) -> Result<(), AllocErr
         OrderFault::Unknown(id) => push_call(line, "H2", id),
         OrderFault::TooEarly(id) => push_call(line, "H3", id),
         OrderFault::OtherReply(id) => push_call(line, "H4", id),
-        OrderFault::NeedsMore(id) => push_call(line, "H5", id),
         OrderFault::NoMemory => line.push_str("NoMemory"),
     }
 }

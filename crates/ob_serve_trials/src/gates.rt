@@ -2,9 +2,9 @@
 
 ghost use Rattle.std.specs.Prelude.{◌≤◌};
 
+use ob_desk_serve::ServeFault;
+use ob_desk_texts::{ServeTextFault, serve_text_with};
 use ob_desk_workers::Gate;
-use ob_serve::ServeFault;
-use ob_serve_texts::{ServeTextFault, serve_text_with};
 use std::alloc::Global;
 use std::sync::Wait;
 use std::sync::atomic::{AtomicU64, Ordering};
@@ -27,7 +27,7 @@ fn served<R: Threads + Wait + Sync, G: Gate + Sync>(
 ) -> Result<String, ServeTextFault>
     requires { 1 ≤ limit }
 {
-    serve_text_with(rt, alloc, COUNTER, 2, b"0 Inc\n1 Inc\n", gate, limit)
+    serve_text_with(rt, alloc, COUNTER, 2, 100, b"0 Inc\n1 Inc\n", gate, limit)
 }
 
 /// A gate that never passes.
@@ -163,7 +163,7 @@ fn one_worker_stands_still(rt: HostRuntime) -> Result<(), Fail> {
     };
     let text = served(&rt, rt.alloc(), &gate, 1)?;
     let told =
-        "obl0 record 1\nn 2\nB 0.1 Inc\nB 1.1 Inc\nA 0.1 1.1\nE 1.1 done\nE 0.1 done\nO 0.1 1.1\nS 0*3 1*";
+        "obl0 record 2\nn 2\nb 100\nB 0.1 Inc\nB 1.1 Inc\nA 0.1 1.1\nE 1.1 done\nE 0.1 done\nO 0.1 1.1\nS 0*3 1*";
     assert!(rt; text.starts_with(told), "the events and the order");
     assert!(rt; text.ends_with("\nV x 2\n"), "both are applied");
     Ok(())

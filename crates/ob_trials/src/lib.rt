@@ -1,5 +1,5 @@
-//! Tests of what no row of the program shows: printed texts, faults as people read them, and a call on its own. Nothing
-//! stands on this crate.
+//! Tests of what no row of the program shows: printed texts, faults as people read them, a call on its own, and
+//! the record of a run over compiled code. Nothing stands on this crate.
 #![tactic(auto)]
 
 #[cfg(test)]
@@ -10,3 +10,5 @@ mod explanations;
 mod nesting;
 #[cfg(test)]
 mod printing;
+#[cfg(test)]
+mod runs;

@@ -17,8 +17,8 @@ use std::sync::Wait;
 use std::thread::{JoinHandle, Threads};
 use std::{env, io, thread};
 
-/// The bytes of stack that all the work is done on. The deepest calls of `seq`, 64 activations of at most 100 constructs within one
-/// another, take about a third of this. The system gives memory only to the part that is used.
+/// The bytes of stack that all the work is done on. The deepest calls that are interpreted, as `seq` and `verify` do, 64 activations of
+/// at most 100 constructs within one another, take about a third of this. The system gives memory only to the part that is used.
 const STACK: usize = 8 * 1024 * 1024;
 
 /// The work is done on a stack of its own, so that it doesn't matter how much the system grants for the first one.

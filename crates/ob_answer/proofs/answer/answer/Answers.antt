@@ -1,5 +1,5 @@
 use Rattle.std.proofs.Common.{map}
-use Rattle.ob_command.proofs.ClapWords.{check_asked, draw_asked, explain_asked, explain_script_asked, explain_short_asked, list_asked, run_asked, seq_asked, seq_short_asked, serve_asked, verify_asked}
+use Rattle.ob_command.proofs.ClapWords.{check_asked, draw_asked, draw_short_asked, explain_asked, explain_script_asked, explain_short_asked, list_asked, run_asked, run_short_asked, seq_asked, seq_short_asked, serve_asked, serve_short_asked, verify_asked}
 use Rattle.ob_answer.proofs.PlainWords.{answered_as}
 use Rattle.ob_answer.proofs.answer.answer.Goals as goal
 
@@ -20,13 +20,25 @@ pub returns-clause-run : goal.returns-clause-run
 returns-clause-run g c m s q n k is no_m no_s no_q number =
     answered_as g.F.Files.reads (map (λ word. word.now) c.args.words.now) _ _ _ _ c.obey_words.result is (run_asked m s q n k no_m no_s no_q number) c.obey_words.ensures
 
+pub returns-clause-run_budget : goal.returns-clause-run_budget
+returns-clause-run_budget g c m s q n b k t is no_m no_s no_q number budget =
+    answered_as g.F.Files.reads (map (λ word. word.now) c.args.words.now) _ _ _ _ c.obey_words.result is (run_short_asked m s q n b k t no_m no_s no_q number budget) c.obey_words.ensures
+
 pub returns-clause-serve : goal.returns-clause-serve
 returns-clause-serve g c m s n k is no_m no_s number =
     answered_as g.F.Files.reads (map (λ word. word.now) c.args.words.now) _ _ _ _ c.obey_words.result is (serve_asked m s n k no_m no_s number) c.obey_words.ensures
 
+pub returns-clause-serve_budget : goal.returns-clause-serve_budget
+returns-clause-serve_budget g c m s n b k t is no_m no_s number budget =
+    answered_as g.F.Files.reads (map (λ word. word.now) c.args.words.now) _ _ _ _ c.obey_words.result is (serve_short_asked m s n b k t no_m no_s number budget) c.obey_words.ensures
+
 pub returns-clause-draw : goal.returns-clause-draw
 returns-clause-draw g c m s q n k is no_m no_s no_q number =
     answered_as g.F.Files.reads (map (λ word. word.now) c.args.words.now) _ _ _ _ c.obey_words.result is (draw_asked m s q n k no_m no_s no_q number) c.obey_words.ensures
+
+pub returns-clause-draw_budget : goal.returns-clause-draw_budget
+returns-clause-draw_budget g c m s q n b k t is no_m no_s no_q number budget =
+    answered_as g.F.Files.reads (map (λ word. word.now) c.args.words.now) _ _ _ _ c.obey_words.result is (draw_short_asked m s q n b k t no_m no_s no_q number budget) c.obey_words.ensures
 
 pub returns-clause-verify : goal.returns-clause-verify
 returns-clause-verify g c m r is no_m no_r = answered_as g.F.Files.reads (map (λ word. word.now) c.args.words.now) _ _ _ _ c.obey_words.result is (verify_asked m r no_m no_r) c.obey_words.ensures

@@ -13,7 +13,7 @@ returns g c = IfOk-weaker c.answer_serve.result _ _ (λ a h. inr (
     c.read.new.self,
     c.in-Ok-read.ensures,
     (
-      subst (λ (script : List ℕ). IsServeAnswer c.in-Ok.ensures.0 c.args.processes script a) c.as_slice-2.ensures.value
+      subst (λ (script : List ℕ). IsServeAnswer c.in-Ok.ensures.0 c.args.processes c.args.budget script a) c.as_slice-2.ensures.value
           (h c.in-Ok.ensures.0 (c.as_slice.ensures.value ∙ c.in-Ok.ensures.2)),
       refl,
     ),

@@ -1,6 +1,6 @@
 use Rattle.std.proofs.Common.{◌≡◌, ℕ, codes, rules, string_bytes, subst}
 use Rattle.ob_answer.specs.Explains.{IsCallsExplained, right}
-use Rattle.ob_sequential.specs.SequentialRun.{IsSequentialRun}
+use Rattle.ob_object_sequence.specs.SequentialRun.{IsSequentialRun}
 use Rattle.ob_answer.proofs.Beginnings.{of_whole}
 use Rattle.ob_answer.proofs.FaultsShown.{calls_wrong_made}
 use Rattle.ob_answer.proofs.Made.{no_budget}

@@ -1,13 +1,14 @@
 use Rattle.std.proofs.Common.{◌≡◌, codes, rules, string_bytes}
 use Rattle.ob_answer.specs.Explains.{right}
-use Rattle.ob_sequential.specs.ModuleFaults.{HasOpening}
+use Rattle.ob_object_compile.specs.Compilation.{default_budget}
+use Rattle.ob_object_sequence.specs.SequentialRun.{HasObject}
 use Rattle.ob_answer.proofs.Beginnings.{of_whole}
 use Rattle.ob_answer.proofs.FaultsShown.{module_wrong_made}
 use Rattle.ob_answer.proofs.explaining.explain_module.Goals as goal
 
 pub returns-in_ok-from_str-in-Ok : goal.returns-in_ok-from_str-in-Ok
 returns-in_ok-from_str-in-Ok c whole is =
-    let of = of_whole HasOpening c.args.module.now whole is (λ long. let bad = c.in-Ok.ensures.too_long long in cc) c.in-Ok.ensures.module in
+    let of = of_whole (λ t. HasObject t 1 default_budget) c.args.module.now whole is (λ long. let bad = c.in-Ok.ensures.too_long long in cc) c.in-Ok.ensures.object in
     let text : string_bytes c.in_ok-from_str-in-Ok.field-0 ≡ codes "ok\n" = search rules in
     right of (rw (← text) c.printed.ensures)
 

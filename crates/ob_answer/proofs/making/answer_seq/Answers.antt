@@ -1,6 +1,6 @@
-use Rattle.std.proofs.Common.{ℕ, ◌≡◌, ◌∙◌, ◌<◌, ◌≤◌, string_bytes, subst, sym}
+use Rattle.std.proofs.Common.{ℕ, string_bytes, subst}
 use Rattle.ob_answer.specs.Answers.{IsSeqAnswer, said}
-use Rattle.ob_sequential.specs.SequentialRun.{IsSequentialRun}
+use Rattle.ob_object_sequence.specs.SequentialRun.{IsSequentialRun}
 use Rattle.ob_answer.proofs.Beginnings.{of_whole}
 use Rattle.ob_answer.proofs.Made.{no_budget, seq_refused_made}
 use Rattle.ob_answer.proofs.making.answer_seq.Goals as goal

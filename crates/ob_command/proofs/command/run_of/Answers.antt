@@ -16,7 +16,7 @@ returns-in_err-schedule_name c =
     let s = first_row (found_of c.args.matches.now) (codes "SCRIPT") c.get_str.result _ c.get_str.ensures (ap (option_map (λ s. s.now)) c.in_ok-script_name.was) in
     let d = first_row (found_of c.args.matches.now) (codes "SCHEDULE") c.get_str-2.result _ c.get_str-2.ensures (ap (option_map (λ s. s.now)) c.in_err-schedule_name.was) in
     ap (option_map run_request_of) c.from_residual-in_err-schedule_name.ensures
-    ∙ sym (run_by c.args.module_name.now _ (rows_of (found_of c.args.matches.now)) _ _ s d refl)
+    ∙ sym (run_by c.args.module_name.now _ (rows_of (found_of c.args.matches.now)) _ _ _ s d refl refl)
 
 pub returns-in_err-processes : goal.returns-in_err-processes
 returns-in_err-processes c =
@@ -25,7 +25,17 @@ returns-in_err-processes c =
     let k = number_read (λ bs r. ParsesUnsigned 16 10 bs r × ExplainsUnsignedError 10 bs r × HasUnsignedDigitsIfOk bs r) (λ u x g. g.0)
     (found_of c.args.matches.now) (codes "N") c.get_one.result c.get_one.ensures.none c.get_one.ensures.value in
     ap (option_map run_request_of) c.from_residual-in_err-processes.ensures
-    ∙ sym (run_by c.args.module_name.now _ (rows_of (found_of c.args.matches.now)) _ _ s d (sym k ∙ c.in_err-processes.was))
+    ∙ sym (run_by c.args.module_name.now _ (rows_of (found_of c.args.matches.now)) _ _ _ s d (sym k ∙ c.in_err-processes.was) refl)
+
+pub returns-in_err-budget : goal.returns-in_err-budget
+returns-in_err-budget c =
+    let s = first_row (found_of c.args.matches.now) (codes "SCRIPT") c.get_str.result _ c.get_str.ensures (ap (option_map (λ s. s.now)) c.in_ok-script_name.was) in
+    let d = first_row (found_of c.args.matches.now) (codes "SCHEDULE") c.get_str-2.result _ c.get_str-2.ensures (ap (option_map (λ s. s.now)) c.in_ok-schedule_name.was) in
+    let k = number_read (λ bs r. ParsesUnsigned 16 10 bs r × ExplainsUnsignedError 10 bs r × HasUnsignedDigitsIfOk bs r) (λ u x g. g.0)
+    (found_of c.args.matches.now) (codes "N") c.get_one.result c.get_one.ensures.none c.get_one.ensures.value in
+    ap (option_map run_request_of) c.from_residual-in_err-budget.ensures
+    ∙ sym (run_by c.args.module_name.now _ (rows_of (found_of c.args.matches.now)) _ _ _ s d
+    (sym k ∙ c.in_ok-processes.was) (sym c.budget_of.ensures ∙ c.in_err-budget.was))
 
 pub returns : goal.returns
 returns c =
@@ -33,5 +43,5 @@ returns c =
     let d = first_row (found_of c.args.matches.now) (codes "SCHEDULE") c.get_str-2.result _ c.get_str-2.ensures (ap (option_map (λ s. s.now)) c.in_ok-schedule_name.was) in
     let k = number_read (λ bs r. ParsesUnsigned 16 10 bs r × ExplainsUnsignedError 10 bs r × HasUnsignedDigitsIfOk bs r) (λ u x g. g.0)
     (found_of c.args.matches.now) (codes "N") c.get_one.result c.get_one.ensures.none c.get_one.ensures.value in
-    sym (run_by c.args.module_name.now _ (rows_of (found_of c.args.matches.now)) _ _ s d
-    (sym k ∙ c.in_ok-processes.was ∙ ap (λ (n : ℕ). Some n) (sym c.from.ensures)))
+    sym (run_by c.args.module_name.now _ (rows_of (found_of c.args.matches.now)) _ _ _ s d
+    (sym k ∙ c.in_ok-processes.was ∙ ap (λ (n : ℕ). Some n) (sym c.from.ensures)) (sym c.budget_of.ensures ∙ c.in_ok-budget.was))

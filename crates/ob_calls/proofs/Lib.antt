@@ -1,6 +1,0 @@
-pub mod ExportSearch
-pub mod ValueReading
-pub mod ScriptReading
-pub mod OneScript
-pub mod Processes
-pub mod Printing

@@ -1,9 +1,0 @@
--- The lines so far, and a count of each process's calls.
-use Rattle.std.proofs.Common.{length, map, string_bytes}
-use Rattle.ob_interpreter.specs.View.{reply_of}
-use Rattle.ob_calls.proofs.Printing.{HasPrinted}
-use Rattle.ob_calls.proofs.reply_lines.print_replies.Given as goal
-
-abbrev pub invariant-loop-caller : goal.invariant-loop-caller
-invariant-loop-caller l =
-    HasPrinted l.processes l.callers (map reply_of l.replies) (length l.yielded) (string_bytes l.text) l.made.items

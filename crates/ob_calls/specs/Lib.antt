@@ -1,6 +1,0 @@
-pub mod Values
-pub mod ExportNames
-pub mod Script
-pub mod ScriptView
-pub mod ScriptLine
-pub mod ReplyLines

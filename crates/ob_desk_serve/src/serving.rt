@@ -1,0 +1,98 @@
+//! One worker for each process, and the record of what they did.
+
+ghost use Rattle.std.specs.Prelude.{◌≡◌, ◌<◌, ◌≤◌, All, IfErr, IfOk, OnOk, map};
+ghost use Rattle.ob_code_law.specs.Compiled.{IsFitting};
+ghost use Rattle.ob_desk.specs.Close.{AreSeats};
+ghost use Rattle.ob_desk_floor.specs.Agreeing.{Agrees};
+ghost use Rattle.ob_object_compile.specs.Sound.{IsSoundObject};
+ghost use Rattle.ob_object_compile.specs.View.{object_in};
+ghost use Rattle.ob_object_record.specs.Record.{record_of};
+ghost use Rattle.ob_object_run.specs.Recorded.{DoFit};
+ghost use Rattle.ob_desk_serve.specs.ServeFaults.{IsFinishFault, IsServeFault};
+ghost use Rattle.ob_desk_serve.specs.Served.{AreTurnsLet, HaveEnded, IsRecordOf, desk_of, kept_desk};
+ghost use Rattle.ob_text_words.specs.ScriptCalls.{object_call, script_call_of};
+
+use crate::answers::{by_process, first_lost};
+use crate::ending::handed_back;
+use crate::fault::ServeFault;
+use crate::opening::opened_desk;
+use crate::recording::record_of_machine;
+use ob_code_engine::CodeEngine;
+use ob_desk::Desk;
+use ob_desk_floor::{CallAnswer, Seat};
+use ob_desk_workers::{Gate, gather};
+use ob_interface::MOST_PROCESSES;
+use ob_object_compile::Object;
+use ob_object_record::Record;
+use ob_text_words::script_call::ScriptCall;
+use std::alloc::Global;
+use std::sync::Wait;
+use std::thread::Threads;
+
+/// The record of a run in which one worker thread for each process takes its turns on the object, as the gate lets it, until
+/// every call of the scripts has ended. A worker that the gate refuses `limit` times in a row gives up.
+pub fn serve<R: Threads + Wait + Sync, G: Gate + Sync>(
+    rt: &R,
+    alloc: Global,
+    object: &Object,
+    scripts: &[ScriptCall],
+    gate: &G,
+    limit: u64,
+) -> Result<Record, ServeFault>
+    requires sound { IsSoundObject (object_in object.now) }
+    requires some { 0 < (object_in object.now).processes }
+    requires few { (object_in object.now).processes ≤ MOST_PROCESSES }
+    requires callers { All (λ c. c.process < (object_in object.now).processes) scripts.now }
+    requires fits { All (λ c. IsFitting (object_in object.now).engine.exports (object_call (script_call_of c))) scripts.now }
+    requires limit { 1 ≤ limit }
+    ensures record { IfOk result (λ r. IsRecordOf (object_in object.now) (map script_call_of scripts.now) (record_of r)) }
+    ensures ended { IfOk result (λ r. HaveEnded (object_in object.now).processes (map script_call_of scripts.now) r.history) }
+
+    // Of calls that fit the module's exports, and of turns of the object's processes.
+    ensures begun { IfOk result (λ r. DoFit (object_in object.now).engine r.history) }
+    ensures turns { IfOk result (λ r. All (λ t. t.process < (object_in object.now).processes) r.schedule.items) }
+
+    // The gate let each process take each of these turns, before it had refused it one as often in a row as the limit says.
+    ensures passed { IfOk result (λ r. AreTurnsLet (G.passes gate.now) limit (object_in object.now).processes r.schedule.items) }
+
+    ensures fault { IfErr result (IsServeFault (G.refuses gate.now) limit (object_in object.now) (map script_call_of scripts.now)) }
+{
+    let (desk, seats) = opened_desk(alloc, object, scripts)?;
+    let gathered = gather(rt, alloc, &desk, gate, limit, seats)?;
+    let (seats, answers) = handed_back(gathered)?;
+    finish(alloc, desk, object, scripts, seats.as_slice(), answers)
+}
+
+/// Closes the desk, makes the record of its machine, and compares the answers that were sent with the record.
+fn finish(
+    alloc: Global,
+    desk: Desk<CodeEngine>,
+    object: &Object,
+    scripts: &[ScriptCall],
+    seats: &[Seat],
+    answers: Vec<CallAnswer>,
+) -> Result<Record, ServeFault>
+    requires sound { IsSoundObject (object_in object.now) }
+    requires some { 0 < (object_in object.now).processes }
+    requires desk { kept_desk desk ≡ desk_of (object_in object.now) (map script_call_of scripts.now) }
+    ensures record { IfOk result (λ r. IsRecordOf (object_in object.now) (map script_call_of scripts.now) (record_of r)) }
+    ensures ended { IfOk result (λ r. HaveEnded (object_in object.now).processes (map script_call_of scripts.now) r.history) }
+    ensures begun { IfOk result (λ r. DoFit (object_in object.now).engine r.history) }
+    ensures turns { IfOk result (λ r. All (λ t. t.process < (object_in object.now).processes) r.schedule.items) }
+    ensures seats { OnOk result (AreSeats (desk_of (object_in object.now) (map script_call_of scripts.now)) seats.now) }
+    ensures agree { IfOk result (λ r. All (Agrees r.history r.schedule.items) seats.now) }
+    ensures fault { IfErr result (IsFinishFault (object_in object.now) (map script_call_of scripts.now) seats.now answers.items) }
+{
+    let sent = by_process(alloc, object.processes(), answers)?;
+    let machine = desk.close(seats)?;
+    let record = record_of_machine(alloc, object, machine)?;
+    match first_lost(
+        object.processes(),
+        scripts,
+        sent.as_slice(),
+        record.history.events(),
+    ) {
+        Some(process) => Err(ServeFault::Lost(process)),
+        None => Ok(record),
+    }
+}

@@ -1,0 +1,2 @@
+mod TextFaults
+pub mod ReadCalls

@@ -1,8 +1,0 @@
-mod Laid
-mod Found
-mod Exports
-mod Made
-mod Effects
-mod Choices
-mod Instructions
-mod Formals

@@ -1,2 +1,0 @@
-mod Chains
-mod Few

@@ -1,5 +1,0 @@
-pub mod Decoded
-pub mod Limits
-mod Most
-mod Noted
-mod Shallow

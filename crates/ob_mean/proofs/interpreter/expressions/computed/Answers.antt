@@ -1,6 +1,0 @@
-use Rattle.std.proofs.Common.{arith}
-use Rattle.std.proofs.lemmas.Int.{ints, to_z-of_z}
-use Rattle.ob_mean.proofs.interpreter.expressions.computed.Goals as goal
-
-pub returns-in-Minus : goal.returns-in-Minus
-returns-in-Minus c = grind (arith, ints, to_z-of_z)

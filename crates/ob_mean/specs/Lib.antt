@@ -1,8 +1,0 @@
-pub mod Value
-pub mod Store
-pub mod Evaluation
-pub mod Statements
-pub mod Object
-pub mod Faults
-pub mod View
-pub mod Running

@@ -1,6 +1,0 @@
-pub mod Compilation
-pub mod CompilationParts
-pub mod Listed
-pub mod View
-pub mod Performance
-pub mod Printed

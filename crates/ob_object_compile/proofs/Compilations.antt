@@ -1,0 +1,68 @@
+-- A compilation, from what its parts are.
+use Rattle.std.proofs.Common.{◌≡◌, ℕ, ◌<◌, ◌≤◌, List, refl, subst, sym}
+use Rattle.ob_code_law.specs.CodeMeaning.{EngineParts}
+use Rattle.ob_code_law.specs.Compiled.{parts_of}
+use Rattle.ob_code_layout.specs.Layout.{LayoutParts, layout_of}
+use Rattle.ob_grammar.specs.Texts.{IsTextOf}
+use Rattle.ob_grammar.specs.Tree
+use Rattle.ob_interface.specs.Processes.{most_processes}
+use Rattle.ob_interpreter.specs.Sequences.{IsOpening}
+use Rattle.ob_meaning.specs.Object.{most_turns}
+use Rattle.ob_object_compile.specs.Compilation.{IsCompilation, IsShort, ObjectParts}
+use Rattle.ob_object_compile.proofs.Openings.{module_resolved, opening_named}
+use Rattle.ob_positions.specs.Store.{Activation}
+use Rattle.ob_typing.specs.ModuleText.{IsModule}
+use Rattle.ob_typing.specs.Program.{Program}
+
+module _ (text : List ℕ) (n budget : ℕ) (tree : Tree.Module) (program : Program) (layout : LayoutParts) (engine : EngineParts) (opening : Activation) where
+  abbrev the_parts : ObjectParts
+  the_parts = record { processes = n; tree = tree; program = program; layout = layout; engine = engine; opening = opening }
+
+  -- what is known of the parts
+  pub record ArePartsOf : Type 0 where
+    pub some : 0 < n
+    pub few : n ≤ most_processes
+    pub within : budget ≤ most_turns
+    pub tree_is : IsTextOf text tree
+    pub is_module : IsModule text program
+    pub layout_is : layout ≡ layout_of program
+    pub short : IsShort program
+    pub engine_is : engine ≡ parts_of program budget
+    pub begins : IsOpening program opening
+
+  -- an object has these parts
+  pub record HasParts (o : ObjectParts) : Type 0 where
+    pub processes : o.processes ≡ n
+    pub tree_is : o.tree ≡ tree
+    pub program_is : o.program ≡ program
+    pub layout_is : o.layout ≡ layout
+    pub engine_is : o.engine ≡ engine
+    pub opening_is : o.opening ≡ opening
+
+  of_parts : ArePartsOf → IsCompilation text n budget the_parts
+  of_parts h = record {
+    some = h.some;
+    few = h.few;
+    processes = refl;
+    within = h.within;
+    tree_is = h.tree_is;
+    is_module = h.is_module;
+    layout_is = h.layout_is;
+    short = h.short;
+    engine_is = h.engine_is;
+    opens = opening_named program (module_resolved text program h.is_module) opening h.begins;
+    begins = h.begins;
+  }
+
+  same_parts : (o : ObjectParts) → HasParts o → o ≡ the_parts
+  same_parts o h i = record {
+    processes = h.processes i;
+    tree = h.tree_is i;
+    program = h.program_is i;
+    layout = h.layout_is i;
+    engine = h.engine_is i;
+    opening = h.opening_is i;
+  }
+
+  pub compilation : (o : ObjectParts) → HasParts o → ArePartsOf → IsCompilation text n budget o
+  compilation o is h = subst (IsCompilation text n budget) (sym (same_parts o is)) (of_parts h)

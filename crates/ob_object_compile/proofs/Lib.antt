@@ -1,0 +1,4 @@
+pub mod Compilations
+pub mod CompileFaults
+pub mod Openings
+mod Names

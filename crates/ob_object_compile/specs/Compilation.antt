@@ -1,0 +1,108 @@
+-- What a module's text is compiled to, and why it can't be.
+use Rattle.std.specs.Prelude.{◌≡◌, ◌≢◌, ℕ, ◌<◌, ◌≤◌, ◌⊎◌, Bool, true, false, List, length}
+use Rattle.ob_agreement.specs.Same.{SameState}
+use Rattle.ob_check_text.specs.CheckedText.{IsNumberedText, IsTextFault}
+use Rattle.ob_code_law.specs.CodeMeaning.{EngineParts}
+use Rattle.ob_code_law.specs.Compiled.{parts_of}
+use Rattle.ob_code_layout.specs.Layout.{LayoutParts, layout_of}
+use Rattle.ob_code_scheme.specs.Scheme.{code_of}
+use Rattle.ob_grammar.specs.Texts.{IsTextOf}
+use Rattle.ob_grammar.specs.Tree
+use Rattle.ob_interface.specs.Processes.{most_processes}
+use Rattle.ob_interpreter.specs.Sequences as Positions
+use Rattle.ob_interpreter.specs.declared.opening.OpenFault.{OpenFault}
+use Rattle.ob_interpreter.specs.declared.opening.OpenFault.TheVariants as Open
+use Rattle.ob_meaning.specs.Object as Named
+use Rattle.ob_meaning.specs.Object.{most_turns}
+use Rattle.ob_object_compile.specs.declared.compiling.CompileFault.{CompileFault}
+use Rattle.ob_object_compile.specs.declared.compiling.CompileFault.TheVariants as Faults
+use Rattle.ob_positions.specs.Store.{Activation}
+use Rattle.ob_typing.specs.ModuleText.{IsModule}
+use Rattle.ob_typing.specs.Program.{Program}
+
+-- the most instructions of a code
+abbrev pub most_instructions : ℕ
+most_instructions = 65535
+
+-- the turns of a call where no budget is told
+abbrev pub default_budget : ℕ
+default_budget = 100000
+
+-- the code of a program is not too long
+abbrev pub IsShort : Program → Type 0
+IsShort program = length (code_of program).instructions ≤ most_instructions
+
+-- an object: how many processes share it, the tree and the program of its module, its layout, the engine over its code with the
+-- budget of each call, and the state in which it begins, with each variable at its position
+pub record ObjectParts : Type 0 where
+  pub processes : ℕ
+  pub tree : Tree.Module
+  pub program : Program
+  pub layout : LayoutParts
+  pub engine : EngineParts
+  pub opening : Activation
+
+-- the opening of a program leaves a state of the module, by the meaning of its body, and this has it by position
+pub record Opens (program : Program) (opening : Activation) : Type 0 where
+  pub state : Named.State
+  pub opens : Named.IsOpening program state
+  pub same : SameState program state opening
+
+-- the object of a text for n processes with a budget: 1 to 16 processes, a budget that there may be, a module whose code is not too
+-- long, the engine over that code, and the state that its opening leaves
+pub record IsCompilation (text : List ℕ) (n budget : ℕ) (o : ObjectParts) : Type 0 where
+  pub some : 0 < n
+  pub few : n ≤ most_processes
+  pub processes : o.processes ≡ n
+  pub within : budget ≤ most_turns
+  pub tree_is : IsTextOf text o.tree
+  pub is_module : IsModule text o.program
+  pub layout_is : o.layout ≡ layout_of o.program
+  pub short : IsShort o.program
+  pub engine_is : o.engine ≡ parts_of o.program budget
+  pub opens : Opens o.program o.opening
+  pub begins : Positions.IsOpening o.program o.opening
+
+abbrev pub HasNoObject : (text : List ℕ) (n budget : ℕ) → Type 0
+HasNoObject text n budget = (o : ObjectParts) → IsCompilation text n budget o → ⊥
+
+-- the text is of a module whose code is too long
+pub record HasLongCode (text : List ℕ) : Type 0 where
+  pub program : Program
+  pub is_module : IsModule text program
+  pub long : most_instructions < length (code_of program).instructions
+
+-- what each fault of an opening says of the meaning of a program
+abbrev pub OpeningFails : Program → OpenFault → Type 0
+OpeningFails program (Open.Trap k) = Named.OpeningTraps program k
+OpeningFails program Open.NoMemory = Unit {0}
+
+-- the text is of a module whose code is not too long, and whose opening fails
+pub record FailsToOpen (text : List ℕ) (fault : OpenFault) : Type 0 where
+  pub program : Program
+  pub is_module : IsModule text program
+  pub short : IsShort program
+  pub fails : OpeningFails program fault
+
+-- what each fault says
+abbrev pub IsCompileFault : (text : List ℕ) (n budget : ℕ) → CompileFault → Type 0
+IsCompileFault text n budget Faults.Processes = (n ≡ 0) ⊎ (most_processes < n)
+IsCompileFault text n budget Faults.Budget = most_turns < budget
+IsCompileFault text n budget (Faults.Text e) = IsTextFault text e
+IsCompileFault text n budget Faults.TooLong = HasLongCode text
+IsCompileFault text n budget (Faults.Open e) = FailsToOpen text e
+IsCompileFault text n budget Faults.NoMemory = Unit {0}
+
+-- want of memory is told by its own variant alone: a fault of the text has a number
+abbrev pub TellsMemoryApart : CompileFault → Type 0
+TellsMemoryApart (Faults.Text e) = IsNumberedText e
+TellsMemoryApart (Faults.Open e) = e ≢ Open.NoMemory
+TellsMemoryApart _ = Unit {0}
+
+abbrev pub is_want_of_memory : CompileFault → Bool
+is_want_of_memory Faults.NoMemory = true
+is_want_of_memory _ = false
+
+-- a fault with a number, so no want of memory
+abbrev pub IsNumbered : CompileFault → Type 0
+IsNumbered fault = (is_want_of_memory fault ≡ false) × TellsMemoryApart fault

@@ -1,0 +1,5 @@
+pub mod Compilation
+pub mod CompilationParts
+pub mod Listed
+pub mod Sound
+pub mod View

@@ -1,0 +1,14 @@
+//! Laws of objects. What a function here ensures is proved; it does nothing.
+
+ghost use Rattle.ob_object_compile.specs.Sound.{CompilationsAreSound};
+
+use ob_agreement::laws::well_typed_is_resolved;
+use ob_code_well_formed::laws::modules_are_well_formed;
+
+/// What a text is compiled to is sound.
+pub fn compilations_are_sound()
+    ensures { CompilationsAreSound }
+{
+    modules_are_well_formed();
+    well_typed_is_resolved();
+}

@@ -1,0 +1,11 @@
+//! From the text of a module to the object that processes share, and to the listing of its code. All commands but `verify` begin here.
+#![tactic(auto)]
+
+pub mod compiling;
+pub mod laws;
+pub mod listing;
+pub mod object;
+
+pub use compiling::{CompileFault, DEFAULT_BUDGET, MOST_BUDGET, compile};
+pub use listing::list_text;
+pub use object::Object;

@@ -1,0 +1,44 @@
+//! The listing of a module's code, from bytes to bytes.
+
+ghost use Rattle.std.specs.Prelude.{◌≡◌, ◌<◌, Err, IfOk, IfErr, map, length, string_bytes};
+ghost use Rattle.ob_object_compile.specs.Compilation.{IsCompileFault, IsNumbered, HasNoObject, TellsMemoryApart, default_budget};
+ghost use Rattle.ob_object_compile.specs.Listed.{IsListing};
+
+use crate::compiling::{CompileFault, DEFAULT_BUDGET, compile};
+use ob_check_text::TextFault;
+use ob_checked::program::Procedure;
+use ob_code_machine::list;
+use ob_interface::NoMemory;
+use ob_scan::ScanFault;
+use ob_scan::scanner::LONGEST_TEXT;
+use std::alloc::Global;
+
+/// The listing of the code of a text's module, which has to be an object's, if of one process alone.
+pub fn list_text(alloc: Global, text: &[u8]) -> Result<String, CompileFault>
+    ensures listing { IfOk result (λ lines. IsListing text.now (string_bytes lines)) }
+    ensures fault { IfErr result (IsCompileFault text.now 1 default_budget) }
+
+    // With a fault that has a number there is no listing, whatever else is wrong.
+    ensures none { IfErr result (λ e. IsNumbered e → HasNoObject text.now 1 default_budget) }
+
+    // Want of memory is told by its own variant alone.
+    ensures memory { IfErr result TellsMemoryApart }
+
+    // A text over the scanner's bound is refused, whatever it says.
+    ensures too_long { LONGEST_TEXT < length text.now → result ≡ Err (CompileFault.Text (TextFault.Scan ScanFault.TooLong)) }
+{
+    let object = compile(alloc, text, 1, DEFAULT_BUDGET)?;
+    let names = names_of(alloc, object.checked().program().procedures.as_slice())?;
+    Ok(list(alloc, object.engine().code(), names.as_slice())?)
+}
+
+/// The names of procedures, in their order.
+fn names_of(alloc: Global, procedures: &[Procedure]) -> Result<Vec<String>, NoMemory>
+    ensures { IfOk result (λ names. map string_bytes names.items ≡ map (λ p. string_bytes p.name) procedures.now) }
+{
+    let mut names = Vec::new(alloc);
+    for procedure in procedures {
+        names.push(String::from_str(alloc, procedure.name.as_str())?)?;
+    }
+    Ok(names)
+}

@@ -1,0 +1,8 @@
+pub mod Objects
+pub mod ScriptFits
+pub mod PerformFaults
+pub mod NoPerformance
+pub mod Runs
+pub mod Readings
+mod Alone
+mod Mapped

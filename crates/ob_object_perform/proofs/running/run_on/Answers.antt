@@ -1,0 +1,73 @@
+use Rattle.std.proofs.Common.{◌<◌, ℕ, All, map, subst, sym}
+use Rattle.std.specs.Prelude.{slice_index_or}
+use Rattle.std.proofs.lemmas.Result.{err_from_is_err_and}
+use Rattle.ob_code_law.specs.CodeMeaning.{EngineParts}
+use Rattle.ob_code_law.specs.Compiled.{IsFitting}
+use Rattle.ob_code_layout.specs.Layout.{parts_of}
+use Rattle.ob_object_compile.specs.View.{object_in}
+use Rattle.ob_object_perform.proofs.Mapped.{All_unmapped}
+use Rattle.ob_object_perform.proofs.Objects.{fits_engine, fits_program, object_for}
+use Rattle.ob_object_perform.proofs.Runs.{fault_in, meant_in, none_in, shows_in}
+use Rattle.ob_object_record.specs.Record.{record_of}
+use Rattle.ob_schedule.specs.Schedule.{process_of}
+use Rattle.ob_store.specs.View.{state_of}
+use Rattle.ob_text_words.specs.ScriptCalls.{object_call, script_call_of}
+use Rattle.ob_object_perform.proofs.running.run_on.Goals as goal
+
+pub record_run-requires-clause-object : goal.record_run-requires-clause-object
+record_run-requires-clause-object c =
+    let p = c.into_parts-processes in
+    object_for (object_in c.args.object) c.requires.sound c.openings_are_objects.ensures p.result.3.parts (state_of p.result.4) p.ensures.engine p.ensures.opening (parts_of p.result.2) p.ensures.layout
+
+pub record_run-requires-clause-callers : goal.record_run-requires-clause-callers
+record_run-requires-clause-callers c =
+    All_unmapped (λ x. x.process < c.into_parts-processes.result.0) c.into_calls.result.items c.args.calls c.into_calls.ensures
+    (subst (λ (k : ℕ). All (λ x. x.process < k) c.args.calls) (sym c.into_parts-processes.ensures.processes) c.requires.callers)
+
+pub record_run-requires-clause-fits : goal.record_run-requires-clause-fits
+record_run-requires-clause-fits c =
+    let p = c.into_parts-processes in
+    let o = object_in c.args.object in
+    All_unmapped (λ x. IsFitting p.result.3.parts.exports (object_call x)) c.into_calls.result.items c.args.calls c.into_calls.ensures
+    (λ k d below. subst (λ (e : EngineParts). IsFitting e.exports (object_call (slice_index_or c.args.calls k d))) (sym p.ensures.engine)
+    (fits_engine o c.requires.sound (object_call (slice_index_or c.args.calls k d)) (c.requires.fit k d below)))
+
+pub record_run-requires-clause-items : goal.record_run-requires-clause-items
+record_run-requires-clause-items c =
+    rw c.as_slice.ensures.value
+    (subst (λ (k : ℕ). All (λ item. process_of item < k) c.args.items.items) (sym c.into_parts-processes.ensures.processes) c.requires.turns)
+
+pub returns-in_err-record-clause-fault : goal.returns-in_err-record-clause-fault
+returns-in_err-record-clause-fault c =
+    let p = c.into_parts-processes in
+    let e = err_from_is_err_and c.from_residual.result c.from_residual.ensures.1 in
+    rw (e.1, e.2)
+    (fault_in (object_in c.args.object) c.args.calls c.args.items.items p.result.3.parts p.result.0 (state_of p.result.4) (map script_call_of c.into_calls.result.items) c.as_slice.result.now
+    p.ensures.engine p.ensures.processes p.ensures.opening c.into_calls.ensures c.as_slice.ensures.value c.in_err-record.field-0.0 c.in_err-record.ensures.fault)
+
+pub returns-in_err-record-clause-none : goal.returns-in_err-record-clause-none
+returns-in_err-record-clause-none c =
+    let p = c.into_parts-processes in
+    let e = err_from_is_err_and c.from_residual.result c.from_residual.ensures.1 in
+    let o = object_in c.args.object in
+    rw (e.1, e.2)
+    (none_in o c.requires.sound c.openings_are_objects.ensures c.too_long_items_are_no_run.ensures c.args.calls c.args.items.items c.in_err-record.field-0.0
+    (fault_in (object_in c.args.object) c.args.calls c.args.items.items p.result.3.parts p.result.0 (state_of p.result.4) (map script_call_of c.into_calls.result.items) c.as_slice.result.now
+    p.ensures.engine p.ensures.processes p.ensures.opening c.into_calls.ensures c.as_slice.ensures.value c.in_err-record.field-0.0 c.in_err-record.ensures.fault))
+
+pub returns-clause-shows : goal.returns-clause-shows
+returns-clause-shows c =
+    let p = c.into_parts-processes in
+    shows_in (object_in c.args.object) c.args.calls c.args.items.items p.result.3.parts p.result.0 (state_of p.result.4) (map script_call_of c.into_calls.result.items) c.as_slice.result.now
+    p.ensures.engine p.ensures.processes p.ensures.opening c.into_calls.ensures c.as_slice.ensures.value (record_of c.in_ok-record.record) c.in_ok-record.ensures.recorded
+
+pub returns-clause-meant : goal.returns-clause-meant
+returns-clause-meant c =
+    let p = c.into_parts-processes in
+    meant_in (object_in c.args.object) c.requires.sound c.openings_are_objects.ensures (parts_of p.result.2) p.result.3.parts (state_of p.result.4) p.ensures.layout p.ensures.engine p.ensures.opening
+    (record_of c.in_ok-record.record) c.in_ok-record.ensures.meant
+
+pub returns-clause-exports : goal.returns-clause-exports
+returns-clause-exports c = λ id call has.
+    let p = c.into_parts-processes in
+    fits_program (object_in c.args.object) c.requires.sound p.result.3.parts p.ensures.engine call (c.in_ok-record.ensures.begun id call has)

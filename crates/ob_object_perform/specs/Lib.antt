@@ -1,0 +1,3 @@
+pub mod Performance
+pub mod Printed
+pub mod Laws

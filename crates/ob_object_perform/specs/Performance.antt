@@ -1,0 +1,160 @@
+-- A run from the texts of a module, of scripts and of a schedule: what its record is, and why there is none.
+use Rattle.std.specs.Prelude.{◌≡◌, ◌≢◌, ℕ, ◌<◌, All, Bool, true, false, List}
+use Rattle.ob_agreement.specs.Same.{SameState}
+use Rattle.ob_checked.specs.Exports.{signatures}
+use Rattle.ob_code_law.specs.CodeMeaning.{code_meaning}
+use Rattle.ob_code_law.specs.Compiled.{Fits, HasReserve}
+use Rattle.ob_code_scheme.specs.Layout.{encoded}
+use Rattle.ob_meaning.specs.Object as Named
+use Rattle.ob_object_compile.specs.Compilation as Compilation
+use Rattle.ob_object_compile.specs.Compilation.{ObjectParts, IsCompilation, IsCompileFault}
+use Rattle.ob_object_compile.specs.Sound.{IsSoundObject}
+use Rattle.ob_object_compile.specs.declared.compiling.CompileFault.{CompileFault}
+use Rattle.ob_object_compile.specs.declared.compiling.CompileFault.TheVariants as Compile
+use Rattle.ob_object_perform.specs.declared.performing.PerformFault.{PerformFault}
+use Rattle.ob_object_perform.specs.declared.performing.PerformFault.TheVariants as Faults
+use Rattle.ob_object_record.specs.Record.{Record}
+use Rattle.ob_object_run.specs.Recorded.{IsMeantOrder, IsNoRun, IsRecorded}
+use Rattle.ob_schedule.specs.Schedule.{IsSchedule, IsScheduleFault, process_of}
+use Rattle.ob_schedule.specs.declared.item.Item.{Item}
+use Rattle.ob_schedule.specs.declared.schedule.ScheduleFault.{ScheduleFault}
+use Rattle.ob_schedule.specs.declared.schedule.ScheduleFault.TheVariants as Schedule
+use Rattle.ob_text_scripts.specs.Script.{IsScript, IsScriptFault}
+use Rattle.ob_text_scripts.specs.declared.script.ScriptFault.{ScriptFault}
+use Rattle.ob_text_scripts.specs.declared.script.ScriptFault.TheVariants as Script
+use Rattle.ob_text_words.specs.ScriptCalls.{ScriptCall, object_call}
+use Rattle.ob_typing.specs.ModuleText.{IsModule}
+use Rattle.ob_typing.specs.Program.{Program}
+use Rattle.wf_play.specs.Makers.{AreMakersOf}
+use Rattle.wf_play.specs.Played.{scripts_of}
+use Rattle.wf_play.specs.declared.playing.PlayFault.{PlayFault}
+use Rattle.wf_play.specs.declared.playing.PlayFault.TheVariants as Play
+use Rattle.wf_table.specs.Schedule.{steps_of}
+
+-- ---- objects, and their runs
+
+-- calls and items with which an object may run: each is of one of its processes, and the calls fit its program
+pub record IsReady (o : ObjectParts) (calls : List ScriptCall) (items : List Item) : Type 0 where
+  pub sound : IsSoundObject o
+  pub callers : All (λ c. c.process < o.processes) calls
+  pub fit : All (λ c. Fits o.program (object_call c)) calls
+  pub turns : All (λ item. process_of item < o.processes) items
+
+-- a record shows a run of these calls and items on an object
+abbrev pub Shows : ObjectParts → List ScriptCall → List Item → Record → Type 0
+Shows o calls items r = IsRecorded o.engine o.processes (encoded o.opening) (scripts_of calls) items r
+
+-- why there is no run of these calls and items on an object
+abbrev pub IsRunFault : ObjectParts → List ScriptCall → List Item → PlayFault → Type 0
+IsRunFault o calls items fault = IsNoRun o.engine o.processes (encoded o.opening) (scripts_of calls) items fault
+
+-- where an item is too long, no record shows a run
+abbrev pub ShowsNone : ObjectParts → List ScriptCall → List Item → PlayFault → Type 0
+ShowsNone o calls items (Play.TooLong number) = (r : Record) → Shows o calls items r → ⊥
+ShowsNone o calls items _ = Unit {0}
+
+-- for each event of a record that shows a run of these calls on an object, the process whose step showed it
+abbrev pub AreMakersIn : ObjectParts → List ScriptCall → Record → List ℕ → Type 0
+AreMakersIn o calls r makers =
+    AreMakersOf (code_meaning o.engine) (HasReserve o.engine) o.processes (encoded o.opening) (scripts_of calls) (steps_of r.schedule) makers
+
+-- the record's order is legal by what the calls mean by name with the object's budget, from the state by name with which it begins
+abbrev pub IsMeantIn : ObjectParts → Record → Type 0
+IsMeantIn o r = (opening : Named.State) → SameState o.program opening o.opening → ∥ IsMeantOrder o.program o.engine.budget opening r ∥₁
+
+-- ---- from texts
+
+-- Of the texts of a module, of scripts and of a schedule, for n processes and with a budget: the record shows a run of the module's
+-- object, and its order is a legal order of its history by what the calls mean by name with the budget, from the module's opening
+-- state to the record's state.
+pub record IsPerformance (text : List ℕ) (n budget : ℕ) (scripts schedule : List ℕ) (r : Record) : Type 0 where
+  pub object : ObjectParts
+  pub compiled : IsCompilation text n budget object
+  pub calls : List ScriptCall
+  pub calls_are : IsScript (signatures object.program) n scripts calls
+  pub items : List Item
+  pub items_are : IsSchedule n schedule items
+  pub shows : Shows object calls items r
+  pub legal : ∥ IsMeantOrder object.program budget compiled.opens.state r ∥₁
+
+-- the object of a module's text, the calls of scripts and the items of a schedule: each text has one program, one list of calls and
+-- one list of items
+pub record AreRead (text : List ℕ) (n budget : ℕ) (scripts schedule : List ℕ) (o : ObjectParts) (calls : List ScriptCall) (items : List Item) : Type 0 where
+  pub compiled : IsCompilation text n budget o
+  pub alone : (other : Program) → IsModule text other → other ≡ o.program
+  pub calls_are : IsScript (signatures o.program) n scripts calls
+  pub only_calls : (others : List ScriptCall) → IsScript (signatures o.program) n scripts others → others ≡ calls
+  pub items_are : IsSchedule n schedule items
+  pub only_items : (others : List Item) → IsSchedule n schedule others → others ≡ items
+
+-- the texts have no run
+abbrev pub HasNoPerformance : (text : List ℕ) (n budget : ℕ) (scripts schedule : List ℕ) → Type 0
+HasNoPerformance text n budget scripts schedule = (r : Record) → IsPerformance text n budget scripts schedule r → ⊥
+
+-- ---- faults
+
+-- the scripts are none for the text's object
+pub record IsScriptFaultOf (text : List ℕ) (n budget : ℕ) (scripts : List ℕ) (fault : ScriptFault) : Type 0 where
+  pub object : ObjectParts
+  pub compiled : IsCompilation text n budget object
+  pub fails : IsScriptFault (signatures object.program) n scripts fault
+
+-- the scripts are calls on the text's object, and the schedule is none
+pub record IsScheduleFaultOf (text : List ℕ) (n budget : ℕ) (scripts schedule : List ℕ) (fault : ScheduleFault) : Type 0 where
+  pub object : ObjectParts
+  pub compiled : IsCompilation text n budget object
+  pub calls : List ScriptCall
+  pub calls_are : IsScript (signatures object.program) n scripts calls
+  pub fails : IsScheduleFault n schedule fault
+
+-- the item of this number, from 1, is the first one that stands for more steps than an item may take
+pub record PassesLimit (text : List ℕ) (n budget : ℕ) (scripts schedule : List ℕ) (number : ℕ) : Type 0 where
+  pub object : ObjectParts
+  pub compiled : IsCompilation text n budget object
+  pub calls : List ScriptCall
+  pub calls_are : IsScript (signatures object.program) n scripts calls
+  pub items : List Item
+  pub items_are : IsSchedule n schedule items
+  pub long : IsRunFault object calls items (Play.TooLong number)
+
+-- what each fault says
+abbrev pub IsPerformFault : (text : List ℕ) (n budget : ℕ) (scripts schedule : List ℕ) → PerformFault → Type 0
+IsPerformFault text n budget scripts schedule (Faults.Compile e) = IsCompileFault text n budget e
+IsPerformFault text n budget scripts schedule (Faults.Script e) = IsScriptFaultOf text n budget scripts e
+IsPerformFault text n budget scripts schedule (Faults.Schedule e) = IsScheduleFaultOf text n budget scripts schedule e
+IsPerformFault text n budget scripts schedule (Faults.TooLong number) = PassesLimit text n budget scripts schedule number
+IsPerformFault text n budget scripts schedule Faults.NoMemory = Unit {0}
+
+-- want of memory is told in one place
+
+abbrev pub of_compile : CompileFault → PerformFault
+of_compile Compile.NoMemory = Faults.NoMemory
+of_compile e = Faults.Compile e
+
+abbrev pub of_script : ScriptFault → PerformFault
+of_script Script.NoMemory = Faults.NoMemory
+of_script e = Faults.Script e
+
+abbrev pub of_schedule : ScheduleFault → PerformFault
+of_schedule Schedule.NoMemory = Faults.NoMemory
+of_schedule e = Faults.Schedule e
+
+abbrev pub of_play : PlayFault → PerformFault
+of_play Play.Processes = Faults.Compile Compile.Processes
+of_play (Play.TooLong number) = Faults.TooLong number
+of_play Play.NoMemory = Faults.NoMemory
+
+-- want of memory is told by its own variant alone
+abbrev pub TellsMemoryApart : PerformFault → Type 0
+TellsMemoryApart (Faults.Compile e) = Compilation.TellsMemoryApart e × (e ≢ Compile.NoMemory)
+TellsMemoryApart (Faults.Script e) = e ≢ Script.NoMemory
+TellsMemoryApart (Faults.Schedule e) = e ≢ Schedule.NoMemory
+TellsMemoryApart _ = Unit {0}
+
+abbrev pub is_want_of_memory : PerformFault → Bool
+is_want_of_memory Faults.NoMemory = true
+is_want_of_memory _ = false
+
+-- a fault with a number, so no want of memory
+abbrev pub IsNumbered : PerformFault → Type 0
+IsNumbered fault = (is_want_of_memory fault ≡ false) × TellsMemoryApart fault

@@ -1,0 +1,114 @@
+//! Runs of calls and items on an object, and which process showed each of their events.
+
+ghost use Rattle.std.specs.Prelude.{◌≡◌, ◌<◌, ◌≤◌, All, IfErr, IfOk};
+ghost use Rattle.ob_checked.specs.CheckedModule.{program_in};
+ghost use Rattle.ob_code_law.specs.Carried.{BegunFit};
+ghost use Rattle.ob_code_law.specs.Compiled.{Fits};
+ghost use Rattle.ob_code_scheme.specs.Layout.{encoded};
+ghost use Rattle.ob_object_compile.specs.View.{object_in};
+ghost use Rattle.ob_object_perform.specs.Performance.{AreMakersIn, IsMeantIn, IsReady, IsRunFault, Shows, ShowsNone};
+ghost use Rattle.ob_object_record.specs.Record.{record_of};
+
+use ob_checked::checked::Checked;
+use ob_code_engine::CodeEngine;
+use ob_code_layout::encode;
+use ob_interface::{MOST_PROCESSES, NoMemory};
+use ob_object_compile::Object;
+use ob_object_record::Record;
+use ob_object_run::laws::openings_are_objects;
+use ob_object_run::record_run;
+use ob_schedule::Item;
+use ob_text_scripts::Scripts;
+use std::alloc::Global;
+use wf_play::laws::too_long_items_are_no_run;
+use wf_play::{PlayFault, makers};
+
+/// A run of calls and items on an object: its checked module, and the record.
+pub(crate) fn run_on(
+    alloc: Global,
+    object: Object,
+    calls: Scripts,
+    items: Vec<Item>,
+) -> Result<(Checked, Record), PlayFault>
+    requires { IsReady (object_in object) calls items.items }
+    ensures program { IfOk result (λ r. program_in r.0 ≡ (object_in object).program) }
+    ensures shows { IfOk result (λ r. Shows (object_in object) calls items.items (record_of r.1)) }
+    ensures meant { IfOk result (λ r. IsMeantIn (object_in object) (record_of r.1)) }
+    ensures exports { IfOk result (λ r. BegunFit (Fits (object_in object).program) r.1.history) }
+    ensures turns { IfOk result (λ r. All (λ t. t.process < (object_in object).processes) r.1.schedule.items) }
+    ensures fault { IfErr result (IsRunFault (object_in object) calls items.items) }
+    ensures none { IfErr result (ShowsNone (object_in object) calls items.items) }
+{
+    openings_are_objects();
+    too_long_items_are_no_run::<CodeEngine>();
+    let (processes, checked, layout, engine, opening) = object.into_parts();
+    let record = record_run(
+        alloc,
+        engine,
+        processes,
+        &layout,
+        &opening,
+        calls.into_calls(),
+        items.as_slice(),
+    )?;
+    Ok((checked, record))
+}
+
+/// What a run begins with.
+#[derive(Drop)]
+struct Beginning {
+    engine: CodeEngine,
+    opening: Vec<i64>,
+    calls: Scripts,
+}
+
+/// A run of calls and items on an object: its checked module, the record, and of each event the process whose step
+/// showed it. That is not in the record: the turns of its schedule are taken once more.
+pub(crate) fn run_with_makers(
+    alloc: Global,
+    object: Object,
+    calls: Scripts,
+    items: Vec<Item>,
+) -> Result<(Checked, Record, Vec<usize>), PlayFault>
+    requires ready { IsReady (object_in object) calls items.items }
+    requires some { 0 < (object_in object).processes }
+    requires few { (object_in object).processes ≤ MOST_PROCESSES }
+    ensures shows { IfOk result (λ r. Shows (object_in object) calls items.items (record_of r.1)) }
+    ensures meant { IfOk result (λ r. IsMeantIn (object_in object) (record_of r.1)) }
+    ensures makers { IfOk result (λ r. AreMakersIn (object_in object) calls (record_of r.1) r.2.items) }
+    ensures fault { IfErr result (IsRunFault (object_in object) calls items.items) }
+    ensures none { IfErr result (ShowsNone (object_in object) calls items.items) }
+{
+    let processes = object.processes();
+    let again = beginning_of(alloc, &object, &calls)?;
+    openings_are_objects();
+    let (checked, record) = run_on(alloc, object, calls, items)?;
+    let Beginning {
+        engine,
+        opening,
+        calls,
+    } = again;
+    let turns = record.schedule.as_slice();
+    let makers = makers(
+        alloc,
+        engine,
+        processes,
+        opening.as_slice(),
+        calls.into_calls(),
+        turns,
+    )?;
+    Ok((checked, record, makers))
+}
+
+/// Equal to what a run of these calls on the object begins with.
+fn beginning_of(alloc: Global, object: &Object, calls: &Scripts) -> Result<Beginning, NoMemory>
+    ensures engine { IfOk result (λ b. b.engine.parts ≡ (object_in object.now).engine) }
+    ensures opening { IfOk result (λ b. b.opening.items ≡ encoded (object_in object.now).opening) }
+    ensures calls { IfOk result (λ b. b.calls ≡ calls.now) }
+{
+    Ok(Beginning {
+        engine: object.engine().copy(alloc)?,
+        opening: encode(alloc, object.opening())?,
+        calls: calls.copy(alloc)?,
+    })
+}

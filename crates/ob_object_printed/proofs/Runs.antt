@@ -1,0 +1,63 @@
+-- The record of a run of an object fits the object's module, and its text is verified.
+use Rattle.std.proofs.Common.{◌≡◌, ℕ, ◌<◌, ◌^◌, List, length, subst, sym}
+use Rattle.std.specs.Prelude.{ℤ, take}
+use Rattle.std.proofs.Math.Logic.{∥∥₁_elim, ∥∥₁_map}
+use Rattle.ll_cell.specs.Cell.{block_of}
+use Rattle.ob_code_engine.specs.CodeEngine.{CompiledParts}
+use Rattle.ob_code_law.specs.CodeMeaning.{EngineParts, code_meaning}
+use Rattle.ob_code_law.specs.Compiled.{HasReserve, IsFitting}
+use Rattle.ob_code_law.specs.Named.{CallMeans, PositionsCarryLegal}
+use Rattle.ob_code_law.specs.Parts.{IsEffectOf, IsLawfulFor}
+use Rattle.ob_code_machine.specs.Body.{Run}
+use Rattle.ob_code_scheme.specs.Layout.{encoded}
+use Rattle.ob_object_compile.specs.Compilation.{IsCompilation, ObjectParts, Opens}
+use Rattle.ob_object_compile.specs.Sound.{IsSoundObject}
+use Rattle.ob_object_printed.proofs.Records.{writable}
+use Rattle.ob_object_record.specs.Record.{Record}
+use Rattle.ob_object_run.specs.Laws.{OpeningsAreObjects}
+use Rattle.ob_object_run.specs.Recorded.{IsMeantOrder}
+use Rattle.ob_object_verify.specs.Verified.{IsVerified}
+use Rattle.ob_text_read_back.specs.Writable.{IsWritable, LegalIsVerified}
+use Rattle.ob_text_record.specs.RecordText.{record_text}
+use Rattle.wf_history.specs.Legal.{IsLegal}
+use Rattle.wf_table.specs.Object.{State}
+use Rattle.wf_table.specs.Runs.{Act, IsRun}
+use Rattle.wf_table.specs.Sound.{IsSound}
+use Rattle.wf_table.specs.Start.{sizes_of}
+
+-- runs over compiled code
+abbrev Runs : EngineParts → ℕ → List ℤ → List Act → State Run → Type 0
+Runs parts n opening acts s = IsRun (code_meaning parts) (IsLawfulFor parts) (IsFitting parts.exports) (HasReserve parts) n opening acts s
+
+-- what each of them keeps
+abbrev pub KeepsSound : Type 0
+KeepsSound =
+    (e : CompiledParts) (n : ℕ) (opening : List ℤ) (acts : List Act) (s : State Run) → Runs e.parts n opening acts s →
+    IsSound (code_meaning e.parts) (IsLawfulFor e.parts) (IsFitting e.parts.exports) (HasReserve e.parts) (sizes_of (code_meaning e.parts) n) opening s
+
+abbrev pub HasLegalOrder : Type 0
+HasLegalOrder =
+    (e : CompiledParts) (n : ℕ) (opening : List ℤ) (acts : List Act) (s : State Run) → Runs e.parts n opening acts s →
+    ∥ IsLegal (IsEffectOf e.parts) opening s.records.history s.records.order (take (code_meaning e.parts).variables (block_of s.cell s.cell.root)) ∥₁
+
+module _ (every : KeepsSound) (ordered : HasLegalOrder) (openings : OpeningsAreObjects) (carry : PositionsCarryLegal)
+    (text : List ℕ) (n budget : ℕ) (o : ObjectParts) (compiled : IsCompilation text n budget o) (so : IsSoundObject o) (opens : Opens o.program o.opening)
+    (acts : List Act) (s : State Run) (runs : Runs o.engine o.processes (encoded o.opening) acts s)
+    (r : Record) (processes : r.processes ≡ o.processes) (budget_is : r.budget ≡ o.engine.budget) (history : r.history ≡ s.records.history) (order : r.order ≡ s.records.order) (schedule : r.schedule ≡ s.records.schedule)
+    (events : length r.history < 2 ^ 64) where
+  abbrev engine : CompiledParts
+  engine = record { parts = o.engine; compiled = ∣ (o.program, record { well = so.well; parts_are = so.engine_is }) ∣₁ }
+
+  pub writable_run : ∥ IsMeantOrder o.program o.engine.budget opens.state r ∥₁ → ∥ IsWritable o.program r ∥₁
+  writable_run meant =
+      ∥∥₁_elim (ordered engine o.processes (encoded o.opening) acts s runs) squash₁ (λ l.
+      ∥∥₁_map meant (λ m.
+      writable openings carry text n budget o compiled so opens s runs.few runs.some (every engine o.processes (encoded o.opening) acts s runs) r processes budget_is history order schedule events l m))
+
+-- the text of a writable record whose order is legal is verified
+module _ (verified : LegalIsVerified) (text : List ℕ) (n budget : ℕ) (o : ObjectParts) (compiled : IsCompilation text n budget o) (opens : Opens o.program o.opening)
+    (r : Record) (budget_is : r.budget ≡ o.engine.budget) where
+  pub verified_record : IsWritable o.program r → IsMeantOrder o.program o.engine.budget opens.state r → IsVerified text (record_text o.program r)
+  verified_record w m =
+      verified text o.program opens.state m.last r compiled.is_module opens.opens w
+      (subst (λ (b : ℕ). IsLegal (CallMeans o.program b) opens.state r.history r.order m.last) (sym budget_is) m.legal)

@@ -1,0 +1,39 @@
+//! Laws of the records of runs from texts. What a function here ensures is proved; it does nothing.
+
+ghost use Rattle.ob_object_printed.specs.Printed.{PerformedIsWritable, PrintedIsVerified, ServedIsVerified, ServedIsWritable};
+
+use ob_code_engine::CodeEngine;
+use ob_code_law::laws::orders_are_carried;
+use ob_object_compile::laws::compilations_are_sound;
+use ob_object_run::laws::openings_are_objects;
+use ob_text_read_back::laws::legal_is_verified;
+use wf_theorems::runs::every_run;
+use wf_theorems::standing::legal_order;
+
+/// The record of a run from texts is writable, and so is the record of workers: its text tells what it holds.
+pub fn performed_is_writable()
+    ensures performed { PerformedIsWritable }
+    ensures served { ServedIsWritable }
+{
+    every_run::<CodeEngine>();
+    legal_order::<CodeEngine>();
+    orders_are_carried();
+    openings_are_objects();
+    compilations_are_sound();
+}
+
+/// So what is printed of a run is verified by the text of the module: `verify_text` answers Ok or want of memory of it.
+pub fn printed_is_verified()
+    ensures { PrintedIsVerified }
+{
+    performed_is_writable();
+    legal_is_verified();
+}
+
+/// And so is what is printed of workers, whichever of them came when.
+pub fn served_is_verified()
+    ensures { ServedIsVerified }
+{
+    performed_is_writable();
+    legal_is_verified();
+}

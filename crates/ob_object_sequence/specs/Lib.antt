@@ -1,0 +1,3 @@
+pub mod ReplyLines
+pub mod SequentialRun
+pub mod SequentialParts

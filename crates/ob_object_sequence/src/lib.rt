@@ -1,0 +1,10 @@
+//! Calls made one at a time on the object of a module's text, from bytes to bytes, and whether a text has an object.
+#![tactic(auto)]
+
+pub mod calls;
+pub mod check;
+pub mod reply_lines;
+pub mod sequential;
+
+pub use check::check_text;
+pub use sequential::{SeqTextFault, seq_text};

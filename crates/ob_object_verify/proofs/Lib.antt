@@ -1,0 +1,9 @@
+pub mod Crossing
+pub mod FitExports
+pub mod Fitting
+pub mod OneLine
+pub mod Openings
+pub mod Records
+pub mod Simulated
+pub mod Texts
+pub mod WithoutApplied

@@ -1,0 +1,145 @@
+//! Records verified: whether a record's order is a legal order of its history.
+
+ghost use Rattle.std.specs.Prelude.{◌≡◌, ◌⊎◌, ◌<◌, Err, OnOk, IfErr, MatchResult, length};
+ghost use Rattle.ob_checked.specs.CheckedModule.{program_in};
+ghost use Rattle.ob_interpreter.specs.Sequences.{IsOpening, OpeningTraps};
+ghost use Rattle.ob_object_order.specs.LegalOrder.{CallEnds};
+ghost use Rattle.ob_object_verify.specs.Verified.{IsLegalRecord, IsVerified};
+ghost use Rattle.ob_object_verify.specs.VerifyFaults.{HasRecordFault, IsFaultOfRecord, IsNumbered, IsVerifyFault, TellsMemoryApart, too_long};
+ghost use Rattle.ob_object_verify.specs.declared.verifying.VerifyFault.{VerifyFault};
+ghost use Rattle.ob_object_verify.specs.declared.verifying.VerifyFault.TheVariants as Faults;
+
+use ob_check_text::checked_text::{TextFault, checked_text};
+use ob_checked::checked::Checked;
+use ob_code_well_formed::laws::modules_are_well_formed;
+use ob_interpreter::opening::{OpenFault, opening};
+use ob_object_order::{OrderFault, check_order};
+use ob_scan::scanner::LONGEST_TEXT;
+use ob_text_record_reading::{RecordFault, read_record};
+use std::alloc::Global;
+use thiserror::Error;
+
+/// Why a record isn't verified: the first fault, in the order of the variants.
+#[derive(Clone, Copy, Debug, Error)]
+pub enum VerifyFault {
+    /// The module's text is none.
+    #[error("{0}")]
+    Text(TextFault),
+    /// F1: the record's line is missing, or not of its form or place. Lines count from 1.
+    #[error("F1 line {0}")]
+    Form(usize),
+    /// O2: the module has no opening state.
+    #[error("{0}")]
+    Open(OpenFault),
+    /// H1 to H4: the record's order is no legal order of its history.
+    #[error("{0}")]
+    Order(OrderFault),
+    /// Want of memory.
+    #[error("NoMemory")]
+    NoMemory,
+}
+
+impl From<TextFault> for VerifyFault {
+    ghost use Rattle.std.specs.Prelude.{◌≡◌};
+    ghost use Rattle.ob_object_verify.specs.VerifyFaults.{of_text};
+
+    ghost from_gives = { λ e f. f ≡ of_text e };
+
+    fn from(fault: TextFault) -> VerifyFault {
+        match fault {
+            TextFault::NoMemory => VerifyFault::NoMemory,
+            other => VerifyFault::Text(other),
+        }
+    }
+}
+
+impl From<RecordFault> for VerifyFault {
+    ghost use Rattle.std.specs.Prelude.{◌≡◌};
+    ghost use Rattle.ob_object_verify.specs.VerifyFaults.{of_record};
+
+    ghost from_gives = { λ e f. f ≡ of_record e };
+
+    fn from(fault: RecordFault) -> VerifyFault {
+        match fault {
+            RecordFault::Form(line) => VerifyFault::Form(line),
+            RecordFault::NoMemory => VerifyFault::NoMemory,
+        }
+    }
+}
+
+impl From<OpenFault> for VerifyFault {
+    ghost use Rattle.std.specs.Prelude.{◌≡◌};
+    ghost use Rattle.ob_object_verify.specs.VerifyFaults.{of_open};
+
+    ghost from_gives = { λ e f. f ≡ of_open e };
+
+    fn from(fault: OpenFault) -> VerifyFault {
+        match fault {
+            OpenFault::NoMemory => VerifyFault::NoMemory,
+            other => VerifyFault::Open(other),
+        }
+    }
+}
+
+impl From<OrderFault> for VerifyFault {
+    ghost use Rattle.std.specs.Prelude.{◌≡◌};
+    ghost use Rattle.ob_object_verify.specs.VerifyFaults.{of_order};
+
+    ghost from_gives = { λ e f. f ≡ of_order e };
+
+    fn from(fault: OrderFault) -> VerifyFault {
+        match fault {
+            OrderFault::NoMemory => VerifyFault::NoMemory,
+            other => VerifyFault::Order(other),
+        }
+    }
+}
+
+/// Whether a text is a record of a module's object, and its order a legal order of its history: made one at a time from
+/// the module's opening, each with the record's budget of turns, the calls give the record's replies.
+pub fn verify_text(alloc: Global, module: &[u8], record: &[u8]) -> Result<(), VerifyFault>
+    ensures verified { OnOk result (IsVerified «module».now «record».now) }
+    ensures fault { IfErr result (IsVerifyFault «module».now «record».now) }
+
+    // With a fault that has a number there is no such order.
+    ensures none { IfErr result (λ e. IsNumbered e → IsVerified «module».now «record».now → ⊥) }
+
+    // A legal order is never refused but for want of memory.
+    ensures lawful { IsVerified «module».now «record».now → IfErr result (λ e. e ≡ Faults.NoMemory) }
+
+    // The fault of the record that stands there is answered, want of memory aside.
+    ensures exact { (fault : VerifyFault) → IsNumbered fault → IsFaultOfRecord «module».now «record».now fault
+        → MatchResult result (λ _. ⊥) (λ e. (e ≡ fault) ⊎ (e ≡ Faults.NoMemory)) }
+
+    // Want of memory is told by its own variant alone.
+    ensures memory { IfErr result TellsMemoryApart }
+
+    // A module's text over the scanner's bound is refused, whatever it says.
+    ensures too_long { LONGEST_TEXT < length «module».now → result ≡ Err too_long }
+{
+    modules_are_well_formed();
+    let checked = checked_text(alloc, module)?;
+    verify_record(alloc, &checked, record)
+}
+
+/// The same, of a checked module, where variables go by their positions.
+fn verify_record(alloc: Global, checked: &Checked, text: &[u8]) -> Result<(), VerifyFault>
+    ensures legal { OnOk result (IsLegalRecord IsOpening CallEnds (program_in checked.now) text.now) }
+    ensures fault { IfErr result (HasRecordFault IsOpening OpeningTraps CallEnds (program_in checked.now) text.now) }
+    ensures lawful { IsLegalRecord IsOpening CallEnds (program_in checked.now) text.now → IfErr result (λ e. e ≡ Faults.NoMemory) }
+    ensures exact { (fault : VerifyFault) → IsNumbered fault → HasRecordFault IsOpening OpeningTraps CallEnds (program_in checked.now) text.now fault
+        → MatchResult result (λ _. ⊥) (λ e. (e ≡ fault) ⊎ (e ≡ Faults.NoMemory)) }
+    ensures memory { IfErr result TellsMemoryApart }
+{
+    let read = read_record(alloc, checked, text)?;
+    let opened = opening(alloc, checked)?;
+    check_order(
+        alloc,
+        &read.history,
+        &read.order,
+        checked,
+        &opened,
+        read.budget,
+    )?;
+    Ok(())
+}

@@ -1,4 +1,0 @@
-pub mod Limits
-pub mod ModuleText
-pub mod CheckedText
-pub mod ModuleFaults

@@ -1,5 +1,0 @@
-mod Arranging
-mod Early
-pub mod Faults
-mod Placing
-mod Replay

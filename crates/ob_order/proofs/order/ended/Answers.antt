@@ -1,7 +1,0 @@
-use Rattle.std.proofs.Common.{ap}
-use Rattle.ob_interface.specs.View.{reply_of}
-use Rattle.ob_order.proofs.order.ended.Goals as goal
-use Rattle.wf_history.specs.View.{event_of}
-
-pub returns-in-End : goal.returns-in-End
-returns-in-End c = (reply_of c.in-End.field-1, ap event_of c.in-End.is)

@@ -1,3 +1,0 @@
-pub mod OfModule
-pub mod OrderFaults
-pub mod Places

@@ -1,4 +1,0 @@
-//! The printed records of runs from texts.
-#![tactic(auto)]
-
-pub mod laws;

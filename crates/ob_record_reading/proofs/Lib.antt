@@ -1,8 +1,0 @@
-pub mod Ids
-pub mod Seating
-pub mod OneValue
-pub mod OneEvent
-pub mod LineRuns
-pub mod Faults
-pub mod Places
-mod Fronts

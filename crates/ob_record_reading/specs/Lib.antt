@@ -1,4 +1,0 @@
-pub mod RecordLines
-pub mod Told
-pub mod Seats
-pub mod LineReading

@@ -1,5 +1,0 @@
-mod Chain
-mod Submissions
-mod Checks
-mod Sequential
-mod Limits

@@ -1,4 +1,0 @@
-pub mod Computes
-pub mod Recorded
-pub mod OwnCalls
-pub mod KeepsBound

@@ -1,4 +1,0 @@
-pub mod Scheme
-pub mod Literals
-pub mod Correct
-pub mod Openings

@@ -1,4 +1,0 @@
-pub mod CheckedText
-pub mod ModuleFaults
-pub mod SequentialRun
-pub mod SequentialParts

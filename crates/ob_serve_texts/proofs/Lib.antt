@@ -1,2 +1,0 @@
-mod TextFaults
-mod ReadCalls

@@ -1,4 +1,0 @@
-pub mod Values
-pub mod ExportNames
-pub mod Script
-pub mod ScriptLine

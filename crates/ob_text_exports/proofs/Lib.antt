@@ -1,0 +1,3 @@
+pub mod ExportSearch
+pub mod OneList
+pub mod ValueReading

@@ -1,0 +1,2 @@
+pub mod ExportNames
+pub mod Values

@@ -1,0 +1,13 @@
+pub mod Words
+pub mod Numbers
+pub mod PlainWords
+pub mod Names
+pub mod FieldNames
+pub mod DeclaredNames
+pub mod ExportNames
+pub mod Fronts
+pub mod EndedCalls
+pub mod ValueWords
+pub mod WordLines
+pub mod ReadValues
+pub mod ReadBack

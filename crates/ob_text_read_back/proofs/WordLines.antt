@@ -1,0 +1,231 @@
+-- The lines of a record's text, as words.
+use Rattle.std.proofs.Common.{◌≡◌, ℕ, ◌-◌, zero, suc, List, [], ◌∷◌, ◌++◌, All, codes, decimal, map, flat_map, slice_get, Some, refl, sym, ◌∙◌, ap, ap₂, subst, arith, append_assoc, append-nil}
+use Rattle.std.specs.List.{AllByRecursion}
+use Rattle.std.proofs.lemmas.Grind.{flat_map-append}
+use Rattle.std.proofs.lemmas.List.Elements.{All-head, All-tail}
+use Rattle.std.proofs.lemmas.Option.{same_Some}
+use Rattle.ob_agreement.proofs.ResolvedModules.{exports_are_seen}
+use Rattle.ob_agreement.specs.Exported.{Export, seen}
+use Rattle.ob_checked.specs.Exports.{signature_in, signatures}
+use Rattle.ob_code_scheme.specs.Correct.{IsInRange}
+use Rattle.ob_code_scheme.specs.Types.{IsStateOf}
+use Rattle.ob_grammar.specs.Texts.{HasText}
+use Rattle.ob_grammar.specs.Tree.{Module}
+use Rattle.ob_interface.specs.Call.{ObjectCall, Reply, Answers, Trapped}
+use Rattle.ob_interface.specs.Export.{Signature}
+use Rattle.ob_object_record.specs.Record.{Record}
+use Rattle.ob_positions.specs.Store.{Activation, Holds, Refers, value_held}
+use Rattle.ob_positions.specs.Value.{Value}
+use Rattle.ob_text_read_back.specs.Writable.{IsCounted, IsNamed, IsWritable, IsWritableEvent}
+use Rattle.ob_text_read_back.proofs.DeclaredNames.{AreWordedVariables, IsWordedExport, module_words}
+use Rattle.ob_text_read_back.proofs.EndedCalls.{ended_call}
+use Rattle.ob_text_read_back.proofs.Fronts.{history_front}
+use Rattle.ob_text_read_back.proofs.Numbers.{decimal_word, id_word, scalar_word}
+use Rattle.ob_text_read_back.proofs.PlainWords.{AllWords, AreWords, spaced, text_of, written}
+use Rattle.ob_text_read_back.proofs.PlainWords as Plain
+use Rattle.ob_text_read_back.proofs.ValueWords.{value_word}
+use Rattle.ob_text_read_back.proofs.Words.{IsWord, byte_word, word_more, words_joined}
+use Rattle.ob_text_record.specs.RecordText.{event_text, id_text, name_of, order_text, record_text, schedule_text}
+use Rattle.ob_text_record_reading.specs.RecordLines.{Line}
+use Rattle.ob_text_values.specs.Values.{value_text}
+use Rattle.ob_text_values.specs.Variables.{state_text, variable_line}
+use Rattle.ob_text_words.specs.ScalarTexts.{scalar_text}
+use Rattle.ob_text_words.specs.Words.{Word}
+use Rattle.ob_typing.specs.Declarations.{WellTyped}
+use Rattle.ob_typing.specs.Program.{Procedure, Program, Variable, exports}
+use Rattle.wf_history.specs.declared.event.CallId.{CallId}
+use Rattle.wf_history.specs.History.{Event, Begin, Applied, End, IsHistory, own_calls}
+use Rattle.wf_table.specs.declared.schedule.Turns.{Turns}
+
+abbrev pub title_line : Line
+title_line = codes "obl0" ∷ codes "record" ∷ codes "2" ∷ []
+
+abbrev pub count_line : ℕ → Line
+count_line n = codes "n" ∷ decimal n ∷ []
+
+abbrev pub budget_line : ℕ → Line
+budget_line b = codes "b" ∷ decimal b ∷ []
+
+abbrev pub event_line : List Signature → Event ObjectCall Reply → Line
+event_line exports (Begin id call) = codes "B" ∷ id_text id ∷ name_of (slice_get exports call.export) ∷ map scalar_text call.arguments
+event_line exports (Applied ids) = codes "A" ∷ map id_text ids
+event_line exports (End id (Answers values)) = codes "E" ∷ id_text id ∷ codes "done" ∷ map scalar_text values
+event_line exports (End id (Trapped k)) = codes "E" ∷ id_text id ∷ codes "trap" ∷ decimal k ∷ []
+
+abbrev pub turns_word : Turns → Word
+turns_word t = decimal t.process ++ codes "*" ++ decimal t.count
+
+abbrev pub order_line : List CallId → Line
+order_line order = codes "O" ∷ map id_text order
+
+abbrev pub schedule_line : List Turns → Line
+schedule_line schedule = codes "S" ∷ map turns_word schedule
+
+abbrev pub value_line : Variable → Value → Line
+value_line variable value = codes "V" ∷ variable.name ∷ value_text variable.type value ∷ []
+
+abbrev pub value_lines : List Variable → Activation → List Line
+value_lines [] state = []
+value_lines (variable ∷ variables) [] = []
+value_lines (variable ∷ variables) (h ∷ state) = value_line variable (value_held h) ∷ value_lines variables state
+
+abbrev pub lines_behind : Program → Record → List Line
+lines_behind program r =
+    map (event_line (signatures program)) r.history ++ order_line r.order ∷ schedule_line r.schedule ∷ value_lines program.variables r.state
+
+abbrev feed : List ℕ
+feed = 10 ∷ []
+
+spaced_map : {X : Type 0} (f : X → Word) (xs : List X) → flat_map (λ x. codes " " ++ f x) xs ≡ spaced (map f xs)
+spaced_map f [] = refl
+spaced_map f (x ∷ xs) = ap (λ (bs : List ℕ). (32 ∷ f x) ++ bs) (spaced_map f xs)
+
+event_written : (exports : List Signature) (e : Event ObjectCall Reply) → event_text exports e ≡ written (event_line exports e) ++ feed
+event_written exports (Begin id call) =
+    let name = name_of (slice_get exports call.export) in
+    let arguments = spaced (map scalar_text call.arguments) in
+    ap (λ (bs : List ℕ). 66 ∷ 32 ∷ (bs ++ feed))
+    (ap (λ (bs : List ℕ). ((id_text id ++ 32 ∷ []) ++ name) ++ bs) (spaced_map scalar_text call.arguments)
+    ∙ append_assoc (id_text id ++ 32 ∷ []) name arguments ∙ append_assoc (id_text id) (32 ∷ []) (name ++ arguments))
+event_written exports (Applied ids) = ap (λ (bs : List ℕ). 65 ∷ (bs ++ feed)) (spaced_map id_text ids)
+event_written exports (End id (Answers values)) = ap (λ (bs : List ℕ). 69 ∷ 32 ∷ ((id_text id ++ (codes " done" ++ bs)) ++ feed)) (spaced_map scalar_text values)
+event_written exports (End id (Trapped k)) = ap (λ (bs : List ℕ). 69 ∷ 32 ∷ ((id_text id ++ (codes " trap " ++ bs)) ++ feed)) (sym (append-nil (decimal k)))
+
+events_written : (exports : List Signature) (es : List (Event ObjectCall Reply)) → flat_map (event_text exports) es ≡ text_of (map (event_line exports) es)
+events_written exports [] = refl
+events_written exports (e ∷ es) = ap₂ (λ (a b : List ℕ). a ++ b) (event_written exports e) (events_written exports es)
+
+value_written : (variable : Variable) (value : Value) → variable_line variable value ≡ written (value_line variable value) ++ feed
+value_written variable value =
+    let text = value_text variable.type value in
+    ap (λ (bs : List ℕ). 86 ∷ 32 ∷ (bs ++ feed))
+    (append_assoc variable.name (32 ∷ []) text ∙ ap (λ (bs : List ℕ). variable.name ++ 32 ∷ bs) (sym (append-nil text)))
+
+state_written : (variables : List Variable) (state : Activation) → state_text variables state ≡ text_of (value_lines variables state)
+state_written [] state = refl
+state_written (variable ∷ variables) [] = refl
+state_written (variable ∷ variables) (h ∷ state) = ap₂ (λ (x y : List ℕ). x ++ y) (value_written variable (value_held h)) (state_written variables state)
+
+order_written : (order : List CallId) → order_text order ≡ written (order_line order) ++ feed
+order_written order = ap (λ (bs : List ℕ). 79 ∷ (bs ++ feed)) (spaced_map id_text order)
+
+schedule_written : (schedule : List Turns) → schedule_text schedule ≡ written (schedule_line schedule) ++ feed
+schedule_written schedule = ap (λ (bs : List ℕ). 83 ∷ (bs ++ feed)) (spaced_map turns_word schedule)
+
+-- the numbers of the head, and what stands behind it
+head_written : (P B Y : List ℕ) → (((P ++ (10 ∷ 98 ∷ 32 ∷ [])) ++ B) ++ feed) ++ Y ≡ (P ++ feed) ++ 98 ∷ 32 ∷ ((B ++ feed) ++ Y)
+head_written P B Y =
+    append_assoc ((P ++ (10 ∷ 98 ∷ 32 ∷ [])) ++ B) feed Y ∙ append_assoc (P ++ (10 ∷ 98 ∷ 32 ∷ [])) B (feed ++ Y)
+    ∙ append_assoc P (10 ∷ 98 ∷ 32 ∷ []) (B ++ (feed ++ Y)) ∙ ap (λ (bs : List ℕ). P ++ 10 ∷ 98 ∷ 32 ∷ bs) (sym (append_assoc B feed Y))
+    ∙ sym (append_assoc P feed (98 ∷ 32 ∷ ((B ++ feed) ++ Y)))
+
+-- a record's text is its lines of words
+pub record_written : (program : Program) (r : Record) →
+    record_text program r ≡ text_of (title_line ∷ count_line r.processes ∷ budget_line r.budget ∷ lines_behind program r)
+record_written program r =
+    let P = decimal r.processes in
+    let B = decimal r.budget in
+    let X = ((P ++ (10 ∷ 98 ∷ 32 ∷ [])) ++ B) ++ feed in
+    let E = flat_map (event_text (signatures program)) r.history in
+    let O = order_text r.order in
+    let S = schedule_text r.schedule in
+    let V = state_text program.variables r.state in
+    let last = order_line r.order ∷ schedule_line r.schedule ∷ value_lines program.variables r.state in
+    let tails : O ++ (S ++ V) ≡ text_of last =
+    ap₂ (λ (a b : List ℕ). a ++ b) (order_written r.order) (ap₂ (λ (a b : List ℕ). a ++ b) (schedule_written r.schedule) (state_written program.variables r.state)) in
+    let behind : E ++ (O ++ (S ++ V)) ≡ text_of (lines_behind program r) =
+    ap₂ (λ (a b : List ℕ). a ++ b) (events_written (signatures program) r.history) tails
+    ∙ sym (flat_map-append (λ (l : Line). written l ++ feed) (map (event_line (signatures program)) r.history) last) in
+    let apart : (((X ++ E) ++ O) ++ S) ++ V ≡ X ++ (E ++ (O ++ (S ++ V))) =
+    append_assoc ((X ++ E) ++ O) S V ∙ append_assoc (X ++ E) O (S ++ V) ∙ append_assoc X E (O ++ (S ++ V)) in
+    let numbers = ap₂ (λ (p b : List ℕ). (p ++ feed) ++ 98 ∷ 32 ∷ ((b ++ feed) ++ (E ++ (O ++ (S ++ V))))) (sym (append-nil P)) (sym (append-nil B)) in
+    ap (λ (bs : List ℕ). codes "obl0 record 2\nn " ++ bs)
+    (apart ∙ head_written P B (E ++ (O ++ (S ++ V))) ∙ numbers ∙ ap (λ (bs : List ℕ). ((P ++ []) ++ feed) ++ 98 ∷ 32 ∷ (((B ++ []) ++ feed) ++ bs)) behind)
+
+-- ---- all lines are lines of words
+
+data EachWord : List Word → Type 0 where
+  nothing : EachWord []
+  word : {w : Word} {ws : List Word} → IsWord w → EachWord ws → EachWord (w ∷ ws)
+
+line_of : (w : Word) (ws : List Word) → IsWord w → EachWord ws → AreWords (w ∷ ws)
+line_of w [] h nothing = Plain.one h
+line_of w (v ∷ ws) h (word k ks) = Plain.more h (line_of v ws k ks)
+
+each : {X : Type 0} (P : X → Type 0) (f : X → Word) (xs : List X) → ((x : X) → P x → IsWord (f x)) → All P xs → EachWord (map f xs)
+each P f [] h all = nothing
+each P f (x ∷ xs) h all = word (h x (All-head P x xs all)) (each P f xs h (All-tail P x xs all))
+
+-- the name of an export
+signature_named : (ps : List Procedure) → AllByRecursion IsWordedExport (map seen ps) → (k : ℕ) (s : Signature) → slice_get (map signature_in ps) k ≡ Some s → IsWord s.name
+signature_named [] h k s at = absurd (cc)
+signature_named (p ∷ ps) h zero s at = subst (λ (x : Signature). IsWord x.name) (same_Some (signature_in p) s at) h.0
+signature_named (p ∷ ps) h (suc k) s at = signature_named ps h.1 k s at
+
+variable_words : (vs : List Variable) (state : Activation) → AreWordedVariables vs → IsStateOf vs state → AllWords (value_lines vs state)
+variable_words [] [] w h = Plain.none
+variable_words [] (x ∷ state) w h = absurd h
+variable_words (v ∷ vs) [] w h = absurd h
+variable_words (v ∷ vs) (Holds x ∷ state) w h =
+    Plain.line (line_of _ _ (byte_word 86 refl refl) (word w.0.name (word (value_word v.type x w.0.type h.0) nothing))) (variable_words vs state w.1 h.1)
+variable_words (v ∷ vs) (Refers place ∷ state) w h = absurd h.0
+
+done_word : IsWord (codes "done")
+done_word = word_more 100 _ refl refl (word_more 111 _ refl refl (word_more 110 _ refl refl (byte_word 101 refl refl)))
+
+trap_word : IsWord (codes "trap")
+trap_word = word_more 116 _ refl refl (word_more 114 _ refl refl (word_more 97 _ refl refl (byte_word 112 refl refl)))
+
+turn_word : (t : Turns) → IsCounted t → IsWord (turns_word t)
+turn_word t k =
+    subst (λ (w : Word). IsWord w) (sym (append_assoc (decimal t.process) (42 ∷ []) (decimal t.count)))
+    (words_joined (decimal t.process) (42 ∷ decimal t.count) (decimal_word t.process k.process) (word_more 42 (decimal t.count) refl refl (decimal_word t.count k.count)))
+
+module _ (m : Module) (program : Program) (text : HasText m) (typed : WellTyped m program) (r : Record) (h : IsWritable program r) where
+  id_at : (id : CallId) → IsNamed r.processes id → IsWord (id_text id)
+  id_at id k = id_word r.processes id h.most k
+
+  export_word : (k : ℕ) (s : Signature) → slice_get (signatures program) k ≡ Some s → IsWord s.name
+  export_word k s at =
+      signature_named (exports program)
+      (subst (λ (es : List Export). AllByRecursion IsWordedExport es) (sym (exports_are_seen m program typed)) (module_words m program text typed).exports) k s at
+
+  -- the call that an End event ends
+  pub answered : (before behind : List (Event ObjectCall Reply)) (id : CallId) (reply : Reply) → r.history ≡ before ++ End id reply ∷ behind →
+      (call : ObjectCall) × (slice_get (own_calls id.process before) (id.number - 1) ≡ Some call)
+  answered before behind id reply is =
+      ended_call before id reply
+      (history_front (before ++ End id reply ∷ []) behind
+      (subst (λ (es : List (Event ObjectCall Reply)). IsHistory es) (is ∙ sym (append_assoc before (End id reply ∷ []) behind)) h.whole))
+
+  event_words : (before behind : List (Event ObjectCall Reply)) (e : Event ObjectCall Reply) → r.history ≡ before ++ e ∷ behind → IsWritableEvent program r.processes before e →
+      AreWords (event_line (signatures program) e)
+  event_words before behind (Begin id call) is (k, made) =
+      let name : IsWord (name_of (slice_get (signatures program) call.export)) =
+      subst (λ (w : Word). IsWord w) (sym (ap name_of made.fits.here)) (export_word call.export made.fits.signature made.fits.here) in
+      line_of _ _ (byte_word 66 refl refl) (word (id_at id k) (word name (each IsInRange scalar_text call.arguments scalar_word made.ranged)))
+  event_words before behind (Applied ids) is k = line_of _ _ (byte_word 65 refl refl) (each (IsNamed r.processes) id_text ids id_at k)
+  event_words before behind (End id (Answers values)) is (k, answers) =
+      let call = answered before behind id (Answers values) is in
+      line_of _ _ (byte_word 69 refl refl) (word (id_at id k) (word done_word (each IsInRange scalar_text values scalar_word (answers call.0 call.1).ranged)))
+  event_words before behind (End id (Trapped n)) is (k, answers) =
+      let call = answered before behind id (Trapped n) is in
+      line_of _ _ (byte_word 69 refl refl) (word (id_at id k) (word trap_word (word (decimal_word n (omega (arith, (answers call.0 call.1).trap.1))) nothing)))
+
+  events_words : (before behind : List (Event ObjectCall Reply)) (rest : List Line) → r.history ≡ before ++ behind → AllWords rest →
+      AllWords (map (event_line (signatures program)) behind ++ rest)
+  events_words before [] rest e k = k
+  events_words before (x ∷ behind) rest e k =
+      Plain.line (event_words before behind x e (h.events before behind x e)) (events_words (before ++ x ∷ []) behind rest (e ∙ sym (append_assoc before (x ∷ []) behind)) k)
+
+  pub all_words : AllWords (title_line ∷ count_line r.processes ∷ budget_line r.budget ∷ lines_behind program r)
+  all_words =
+      let schedule = line_of _ _ (byte_word 83 refl refl) (each IsCounted turns_word r.schedule turn_word h.schedule) in
+      let order = line_of _ _ (byte_word 79 refl refl) (each (IsNamed r.processes) id_text r.order id_at h.order) in
+      let count = line_of _ _ (byte_word 110 refl refl) (word (decimal_word r.processes (omega (arith, h.most))) nothing) in
+      let budget = line_of _ _ (byte_word 98 refl refl) (word (decimal_word r.budget (omega (arith, h.budget))) nothing) in
+      let product = word_more 111 _ refl refl (word_more 98 _ refl refl (word_more 108 _ refl refl (byte_word 48 refl refl))) in
+      let kind = word_more 114 _ refl refl (word_more 101 _ refl refl (word_more 99 _ refl refl (word_more 111 _ refl refl (word_more 114 _ refl refl (byte_word 100 refl refl))))) in
+      let title = line_of _ _ product (word kind (word (byte_word 50 refl refl) nothing)) in
+      let variables = variable_words program.variables r.state (module_words m program text typed).variables h.variables in
+      Plain.line title (Plain.line count (Plain.line budget (events_words [] r.history _ refl (Plain.line order (Plain.line schedule variables)))))

@@ -1,0 +1,7 @@
+pub mod Ids
+pub mod Seating
+pub mod OneEvent
+pub mod LineRuns
+pub mod Faults
+pub mod Places
+mod Fronts

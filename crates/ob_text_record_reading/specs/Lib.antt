@@ -1,0 +1,5 @@
+pub mod RecordLines
+pub mod Told
+pub mod Heads
+pub mod Seats
+pub mod LineReading

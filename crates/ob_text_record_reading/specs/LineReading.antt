@@ -1,0 +1,79 @@
+-- What is read of one line behind a record's head, and of all of them.
+use Rattle.std.specs.Prelude.{◌≡◌, ℕ, ◌+◌, List, [], ◌∷◌, ◌++◌, length, All}
+use Rattle.ob_interface.specs.Call.{ObjectCall, Reply}
+use Rattle.ob_interface.specs.Export.{Signature}
+use Rattle.ob_interface.specs.View.{call_of, reply_of}
+use Rattle.ob_text_record_reading.specs.declared.line.Line as Rust
+use Rattle.ob_text_record_reading.specs.declared.line.Line.TheVariants as Says
+use Rattle.ob_text_record_reading.specs.declared.reading.RecordFault.{RecordFault}
+use Rattle.ob_text_record_reading.specs.declared.reading.RecordFault.TheVariants as Faults
+use Rattle.ob_text_record_reading.specs.RecordLines.{AreIds, AreLines, IsApplied, IsNextEvent, IsOrder, IsTail, Line}
+use Rattle.ob_text_words.specs.Words.{Word}
+use Rattle.wf_history.specs.declared.event.CallId.{CallId}
+use Rattle.wf_history.specs.History.{Event, Begin, End}
+
+-- these words behind an O say this order
+abbrev pub IsOrderRead : ℕ → List Word → Rust.Line → Type 0
+IsOrderRead processes ws (Says.Order ids) = AreIds processes ws ids.items
+IsOrderRead processes ws (Says.Begin id call) = ⊥
+IsOrderRead processes ws (Says.End id reply) = ⊥
+IsOrderRead processes ws Says.Applied = ⊥
+
+-- these words behind an A say calls
+abbrev pub IsAppliedRead : ℕ → List Word → Rust.Line → Type 0
+IsAppliedRead processes ws Says.Applied = (ids : List CallId) × AreIds processes ws ids
+IsAppliedRead processes ws (Says.Begin id call) = ⊥
+IsAppliedRead processes ws (Says.End id reply) = ⊥
+IsAppliedRead processes ws (Says.Order ids) = ⊥
+
+module _ (processes : ℕ) (signatures : List Signature) where
+  module _ (before : List (Event ObjectCall Reply)) (line : Line) where
+    -- the line says this
+    abbrev pub HasSaid : Rust.Line → Type 0
+    HasSaid (Says.Begin id call) = IsNextEvent processes signatures before line (Begin id (call_of call))
+    HasSaid (Says.End id reply) = IsNextEvent processes signatures before line (End id (reply_of reply))
+    HasSaid Says.Applied = IsApplied processes line
+    HasSaid (Says.Order ids) = IsOrder processes line ids.items
+
+    -- the line is one of an event, and says this
+    abbrev pub IsEventRead : Rust.Line → Type 0
+    IsEventRead (Says.Begin id call) = IsNextEvent processes signatures before line (Begin id (call_of call))
+    IsEventRead (Says.End id reply) = IsNextEvent processes signatures before line (End id (reply_of reply))
+    IsEventRead Says.Applied = ⊥
+    IsEventRead (Says.Order ids) = ⊥
+
+    -- the line is none that may stand there
+    pub record SaysNothing : Type 0 where
+      pub event : (e : Event ObjectCall Reply) → IsNextEvent processes signatures before line e → ⊥
+      pub applied : IsApplied processes line → ⊥
+      pub order : (ids : List CallId) → IsOrder processes line ids → ⊥
+
+  -- some lines begin with these
+  pub record BeginsLines (ls : List Line) : Type 0 where
+    pub rest : List Line
+    pub all : List (Event ObjectCall Reply)
+    pub ids : List CallId
+    pub whole : AreLines processes signatures [] (ls ++ rest) all ids
+
+  -- there are so many lines in the head
+  module _ (head : ℕ) where
+    -- the first line behind the head that may not stand there, or is missing
+    pub data FailsBehind : List Line → ℕ → Type 0 where
+      misplaced : (before : List Line) (line : Line) (rest : List Line) → BeginsLines before → ¬ BeginsLines (before ++ line ∷ []) →
+          FailsBehind (before ++ line ∷ rest) (head + length before + 1)
+      missing : {ls : List Line} → BeginsLines ls → ((all : List (Event ObjectCall Reply)) (ids : List CallId) → ¬ AreLines processes signatures [] ls all ids) →
+          FailsBehind ls (head + length ls + 1)
+
+    abbrev pub FaultBehind : List Line → RecordFault → Type 0
+    FaultBehind ls (Faults.Form number) = FailsBehind ls number
+    FaultBehind ls Faults.NoMemory = Unit {0}
+
+-- the line of this number, from 0, has neither S nor V for its first byte, and those before it have
+pub record IsFirstOther (ls : List Line) (number : ℕ) : Type 0 where
+  pub before : List Line
+  pub line : Line
+  pub rest : List Line
+  pub parts : ls ≡ before ++ line ∷ rest
+  pub counted : number ≡ length before
+  pub tails : All IsTail before
+  pub other : ¬ IsTail line

@@ -1,0 +1,45 @@
+//! The names of calls, as words.
+
+ghost use Rattle.std.specs.Prelude.{List, map, IfOk, MatchOption};
+ghost use Rattle.ob_text_record_reading.specs.RecordLines.{AreIds, IsId};
+ghost use Rattle.wf_history.specs.declared.event.CallId.{CallId};
+
+use ob_text_words::numbers::{read_numeral, split_digits};
+use std::alloc::{AllocError, Global};
+use wf_history::CallId;
+
+/// The call that a word names, `p.k`, by a process below `processes`.
+pub(crate) fn read_id(processes: usize, word: &[u8]) -> Option<CallId>
+    ensures { MatchOption result ((id : CallId) → IsId processes word.now id → ⊥) (λ id. IsId processes word.now id) }
+{
+    let (digits, behind) = split_digits(word);
+    let Some((b'.', rest)) = behind.split_first() else {
+        return None;
+    };
+    let process = usize::try_from(read_numeral(digits)?).ok()?;
+    let number = read_numeral(rest)?;
+    if process >= processes {
+        return None;
+    }
+    Some(CallId { process, number })
+}
+
+/// The calls that words name.
+pub(crate) fn read_ids(
+    alloc: Global,
+    processes: usize,
+    words: &[&[u8]],
+) -> Result<Option<Vec<CallId>>, AllocError>
+    ensures { IfOk result (λ read. MatchOption read
+        ((ids : List CallId) → AreIds processes (map (λ w. w.now) words.now) ids → ⊥)
+        (λ ids. AreIds processes (map (λ w. w.now) words.now) ids.items)) }
+{
+    let mut ids = Vec::new(alloc);
+    for word in words {
+        let Some(id) = read_id(processes, word) else {
+            return Ok(None);
+        };
+        ids.push(id)?;
+    }
+    Ok(Some(ids))
+}

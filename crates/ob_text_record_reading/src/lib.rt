@@ -1,0 +1,12 @@
+//! Records read back: what a run's text tells.
+#![tactic(auto)]
+
+mod calls;
+mod head;
+mod id;
+mod line;
+mod number;
+pub mod reading;
+mod splitting;
+
+pub use reading::{ReadRecord, RecordFault, read_record};

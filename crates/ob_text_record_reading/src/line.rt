@@ -1,0 +1,204 @@
+//! What a line behind the head says.
+
+ghost use Rattle.std.specs.Prelude.{◌≡◌, ◌≤◌, ◌∷◌, [], ℕ, List, codes, map, option_map, slice_get, IfOk, MatchOption};
+ghost use Rattle.ob_interface.specs.Call as Object;
+ghost use Rattle.ob_interface.specs.View.{reply_of, signature_of};
+ghost use Rattle.ob_text_record_reading.specs.LineReading.{HasSaid, IsAppliedRead, IsEventRead, IsOrderRead, SaysNothing};
+ghost use Rattle.ob_text_record_reading.specs.RecordLines.{AreIds, IsNextEvent, IsReply};
+ghost use Rattle.ob_text_words.specs.Words.{IsNumeral};
+ghost use Rattle.ob_typing.specs.Arithmetic.{no_turn_left};
+ghost use Rattle.wf_history.specs.History as History;
+ghost use Rattle.wf_history.specs.declared.event.CallId as Names;
+
+use crate::calls::Calls;
+use crate::id::{read_id, read_ids};
+use crate::number::read_only_number;
+use ob_interface::call::{Call, Reply};
+use ob_interface::export::Export;
+use ob_text_exports::exports::export_named;
+use ob_text_exports::values::read_values;
+use std::alloc::{AllocError, Global};
+use wf_history::CallId;
+
+/// The greatest number of a trap.
+const LAST_TRAP: u64 = 5;
+
+/// What a line says.
+#[derive(Drop)]
+pub(crate) enum Line {
+    /// A call begins.
+    Begin(CallId, Call),
+    /// A call ends.
+    End(CallId, Reply),
+    /// Calls took effect.
+    Applied,
+    /// The order of all calls that took effect.
+    Order(Vec<CallId>),
+}
+
+/// What a line of these words says behind the events so far; `None` where it may not stand there.
+pub(crate) fn read_line(
+    alloc: Global,
+    exports: &[Export],
+    calls: &Calls,
+    words: &[&[u8]],
+) -> Result<Option<Line>, AllocError>
+    ensures { IfOk result (λ read. MatchOption read
+        (SaysNothing calls.now.processes (map signature_of exports.now) calls.now.events (map (λ w. w.now) words.now))
+        (HasSaid calls.now.processes (map signature_of exports.now) calls.now.events (map (λ w. w.now) words.now))) }
+{
+    let Some((first, rest)) = words.split_first() else {
+        return Ok(None);
+    };
+    match *first {
+        b"B" => read_begin(alloc, exports, calls, rest),
+        b"E" => read_end(alloc, exports, calls, rest),
+        b"A" => read_applied(alloc, calls.processes(), rest),
+        b"O" => read_order(alloc, calls.processes(), rest),
+        _ => Ok(None),
+    }
+}
+
+/// What stands behind an `A`.
+fn read_applied(
+    alloc: Global,
+    processes: usize,
+    words: &[&[u8]],
+) -> Result<Option<Line>, AllocError>
+    ensures { IfOk result (λ read. MatchOption read
+        ((ids : List Names.CallId) → AreIds processes (map (λ w. w.now) words.now) ids → ⊥)
+        (IsAppliedRead processes (map (λ w. w.now) words.now))) }
+{
+    let Some(_ids) = read_ids(alloc, processes, words)? else {
+        return Ok(None);
+    };
+    Ok(Some(Line::Applied))
+}
+
+/// The order behind an `O`.
+fn read_order(alloc: Global, processes: usize, words: &[&[u8]]) -> Result<Option<Line>, AllocError>
+    ensures { IfOk result (λ read. MatchOption read
+        ((ids : List Names.CallId) → AreIds processes (map (λ w. w.now) words.now) ids → ⊥)
+        (IsOrderRead processes (map (λ w. w.now) words.now))) }
+{
+    let Some(order) = read_ids(alloc, processes, words)? else {
+        return Ok(None);
+    };
+    Ok(Some(Line::Order(order)))
+}
+
+/// The call behind a `B`.
+fn read_begin(
+    alloc: Global,
+    exports: &[Export],
+    calls: &Calls,
+    words: &[&[u8]],
+) -> Result<Option<Line>, AllocError>
+    ensures { IfOk result (λ read. MatchOption read
+        ((e : History.Event Object.ObjectCall Object.Reply) → IsNextEvent calls.now.processes (map signature_of exports.now) calls.now.events (codes "B" ∷ map (λ w. w.now) words.now) e → ⊥)
+        (IsEventRead calls.now.processes (map signature_of exports.now) calls.now.events (codes "B" ∷ map (λ w. w.now) words.now))) }
+{
+    let Some((word, behind)) = words.split_first() else {
+        return Ok(None);
+    };
+    let Some((name, rest)) = behind.split_first() else {
+        return Ok(None);
+    };
+    let Some(id) = read_id(calls.processes(), word) else {
+        return Ok(None);
+    };
+    if !calls.may_begin(id) {
+        return Ok(None);
+    }
+    let Some((proc, export)) = export_named(exports, name) else {
+        return Ok(None);
+    };
+    let Some(args) = read_values(alloc, &export.formals, false, rest)? else {
+        return Ok(None);
+    };
+    Ok(Some(Line::Begin(id, Call { proc, args })))
+}
+
+/// The reply behind an `E`.
+fn read_end(
+    alloc: Global,
+    exports: &[Export],
+    calls: &Calls,
+    words: &[&[u8]],
+) -> Result<Option<Line>, AllocError>
+    ensures { IfOk result (λ read. MatchOption read
+        ((e : History.Event Object.ObjectCall Object.Reply) → IsNextEvent calls.now.processes (map signature_of exports.now) calls.now.events (codes "E" ∷ map (λ w. w.now) words.now) e → ⊥)
+        (IsEventRead calls.now.processes (map signature_of exports.now) calls.now.events (codes "E" ∷ map (λ w. w.now) words.now))) }
+{
+    let Some((word, rest)) = words.split_first() else {
+        return Ok(None);
+    };
+    let Some(id) = read_id(calls.processes(), word) else {
+        return Ok(None);
+    };
+    let Some(proc) = calls.export_to_end(id) else {
+        return Ok(None);
+    };
+    let Some(reply) = read_reply(alloc, exports, proc, rest)? else {
+        return Ok(None);
+    };
+    Ok(Some(Line::End(id, reply)))
+}
+
+/// The reply of an export's call: `done` and the values of its VAR parameters, or `trap` and a number.
+fn read_reply(
+    alloc: Global,
+    exports: &[Export],
+    proc: usize,
+    words: &[&[u8]],
+) -> Result<Option<Reply>, AllocError>
+    ensures { IfOk result (λ read. MatchOption read
+        ((reply : Object.Reply) → IsReply (map signature_of exports.now) proc (map (λ w. w.now) words.now) reply → ⊥)
+        (λ reply. IsReply (map signature_of exports.now) proc (map (λ w. w.now) words.now) (reply_of reply))) }
+{
+    let Some((kind, rest)) = words.split_first() else {
+        return Ok(None);
+    };
+    match *kind {
+        b"done" => read_done(alloc, exports, proc, rest),
+        b"trap" => Ok(read_trap(rest)),
+        _ => Ok(None),
+    }
+}
+
+/// What stands behind `done`: the values of the VAR parameters.
+fn read_done(
+    alloc: Global,
+    exports: &[Export],
+    proc: usize,
+    words: &[&[u8]],
+) -> Result<Option<Reply>, AllocError>
+    ensures { IfOk result (λ read. MatchOption read
+        ((reply : Object.Reply) → IsReply (map signature_of exports.now) proc (codes "done" ∷ map (λ w. w.now) words.now) reply → ⊥)
+        (λ reply. IsReply (map signature_of exports.now) proc (codes "done" ∷ map (λ w. w.now) words.now) (reply_of reply))) }
+{
+    let Some(export) = export_at(exports, proc) else {
+        return Ok(None);
+    };
+    let Some(values) = read_values(alloc, &export.formals, true, words)? else {
+        return Ok(None);
+    };
+    Ok(Some(Reply::Done(values)))
+}
+
+/// The export of a number.
+fn export_at(exports: &[Export], number: usize) -> Option<&Export>
+    ensures { option_map (λ e. signature_of e.now) result ≡ slice_get (map signature_of exports.now) number }
+{
+    exports.get(number)
+}
+
+/// A trap, whose number is all that is said.
+fn read_trap(words: &[&[u8]]) -> Option<Reply>
+    ensures { MatchOption result
+        ((word : List ℕ) (k : ℕ) → map (λ w. w.now) words.now ≡ word ∷ [] → IsNumeral word k → 1 ≤ k → k ≤ no_turn_left → ⊥)
+        (λ reply. (word : List ℕ) × (k : ℕ) × (map (λ w. w.now) words.now ≡ word ∷ []) × IsNumeral word k × (1 ≤ k) × (k ≤ no_turn_left) × (reply_of reply ≡ Object.Trapped k)) }
+{
+    let trap = read_only_number(words, 1, LAST_TRAP)?;
+    Some(Reply::Trap(trap as u8))
+}

@@ -1,0 +1,22 @@
+//! Numbers that are all that is said.
+
+ghost use Rattle.std.specs.Prelude.{◌≡◌, ◌≤◌, ◌∷◌, [], ℕ, List, map, MatchOption};
+ghost use Rattle.ob_text_words.specs.Words.{IsNumeral};
+
+use ob_text_words::numbers::read_numeral;
+
+/// The number from `least` to `most` that the only word says.
+pub(crate) fn read_only_number(words: &[&[u8]], least: u64, most: u64) -> Option<u64>
+    ensures { MatchOption result
+        ((word : List ℕ) (n : ℕ) → map (λ w. w.now) words.now ≡ word ∷ [] → IsNumeral word n → least ≤ n → n ≤ most → ⊥)
+        (λ n. (word : List ℕ) × (map (λ w. w.now) words.now ≡ word ∷ []) × IsNumeral word n × (least ≤ n) × (n ≤ most)) }
+{
+    let [word] = words else {
+        return None;
+    };
+    let number = read_numeral(word)?;
+    if number < least || number > most {
+        return None;
+    }
+    Some(number)
+}

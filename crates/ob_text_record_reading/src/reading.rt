@@ -1,0 +1,179 @@
+//! Records read back.
+
+ghost use Rattle.std.specs.Prelude.{◌≡◌, ◌≤◌, ◌∷◌, [], codes, map, IfOk, IfErr};
+ghost use Rattle.ob_checked.specs.CheckedModule.{program_in};
+ghost use Rattle.ob_checked.specs.Exports.{signatures};
+ghost use Rattle.ob_interface.specs.View.{signature_of};
+ghost use Rattle.ob_text_record_reading.specs.LineReading.{FaultBehind};
+ghost use Rattle.ob_text_record_reading.specs.RecordLines as Records;
+ghost use Rattle.ob_text_record_reading.specs.RecordLines.{AreLines, FaultStands, IsCount, IsRecord, IsRecordFault, IsRecordOf, IsTitle, Told};
+ghost use Rattle.ob_text_record_reading.specs.Told.{told_of};
+
+use crate::calls::Calls;
+use crate::head::{Version, read_budget, read_count, read_title};
+use crate::line::{Line, read_line};
+use crate::splitting::{first_other, lines_of};
+use ob_checked::checked::Checked;
+use ob_interface::NoMemory;
+use ob_interface::export::Export;
+use ob_interpreter::opening::MOST_TURNS;
+use std::alloc::{AllocError, AllocFailed, Global};
+use thiserror::Error;
+use wf_history::{CallId, History};
+
+/// What a record tells: how many processes there are, the budget of each call, the Begin and End events alone, and the
+/// order of the applied calls.
+#[derive(Drop)]
+pub struct ReadRecord {
+    pub processes: usize,
+    pub budget: u64,
+    pub history: History,
+    pub order: Vec<CallId>,
+}
+
+/// Why a text is no record. Lines count from 1.
+#[derive(Clone, Copy, Debug, Error)]
+pub enum RecordFault {
+    /// F1: the line is missing, or not of its form or place.
+    #[error("F1 line {0}")]
+    Form(usize),
+    /// Want of memory.
+    #[error("NoMemory")]
+    NoMemory,
+}
+
+impl From<AllocError> for RecordFault {
+    ghost use Rattle.std.specs.Prelude.{◌≡◌};
+    ghost use Rattle.ob_text_record_reading.specs.declared.reading.RecordFault.TheVariants.{NoMemory};
+
+    ghost from_gives = { λ _ e. e ≡ NoMemory };
+
+    fn from(_: AllocError) -> RecordFault {
+        RecordFault::NoMemory
+    }
+}
+
+impl From<NoMemory> for RecordFault {
+    ghost use Rattle.std.specs.Prelude.{◌≡◌};
+    ghost use Rattle.ob_text_record_reading.specs.declared.reading.RecordFault.TheVariants as Faults;
+
+    ghost from_gives = { λ _ e. e ≡ Faults.NoMemory };
+
+    fn from(_: NoMemory) -> RecordFault {
+        RecordFault::NoMemory
+    }
+}
+
+/// What the text of a record of a module's object tells.
+pub fn read_record(alloc: Global, checked: &Checked, text: &[u8]) -> Result<ReadRecord, RecordFault>
+    ensures record { IfOk result (λ r. IsRecord (signatures (program_in checked.now)) text.now (told_of «r»)) }
+    ensures alone { IfOk result (λ r. (other : Told) → IsRecord (signatures (program_in checked.now)) text.now other → other ≡ told_of «r») }
+    ensures fault { IfErr result (λ e. IsRecordFault (signatures (program_in checked.now)) text.now e) }
+{
+    let lines = lines_of(alloc, text)?;
+    read_lines(alloc, checked.exports(), &lines)
+}
+
+/// What lines tell.
+fn read_lines(
+    alloc: Global,
+    exports: &[Export],
+    lines: &[Vec<&[u8]>],
+) -> Result<ReadRecord, RecordFault>
+    ensures record { IfOk result (λ r. IsRecordOf (map signature_of exports.now) (map (λ l. map (λ w. w.now) l.items) lines.now) (told_of «r»)) }
+    ensures fault { IfErr result (λ e. FaultStands (map signature_of exports.now) (map (λ l. map (λ w. w.now) l.items) lines.now) e) }
+{
+    let Some((title, behind)) = lines.split_first() else {
+        return Err(RecordFault::Form(1));
+    };
+    let Some(version) = read_title(title) else {
+        return Err(RecordFault::Form(1));
+    };
+    let Some((count, rest)) = behind.split_first() else {
+        return Err(RecordFault::Form(2));
+    };
+    let Some(processes) = read_count(count) else {
+        return Err(RecordFault::Form(2));
+    };
+    match version {
+        Version::First => read_behind(alloc, exports, processes, MOST_TURNS, 2, rest),
+        Version::Second => read_budgeted(alloc, exports, processes, rest),
+    }
+}
+
+/// What the lines behind the first two of a record of version 2 tell.
+fn read_budgeted(
+    alloc: Global,
+    exports: &[Export],
+    processes: usize,
+    lines: &[Vec<&[u8]>],
+) -> Result<ReadRecord, RecordFault>
+    ensures record { (title second : Records.Line) → IsTitle (codes "2") title → IsCount second processes
+        → IfOk result (λ r. IsRecordOf (map signature_of exports.now) (title ∷ second ∷ map (λ l. map (λ w. w.now) l.items) lines.now) (told_of «r»)) }
+    ensures fault { (title second : Records.Line) → IsTitle (codes "2") title → IsCount second processes
+        → IfErr result (λ e. FaultStands (map signature_of exports.now) (title ∷ second ∷ map (λ l. map (λ w. w.now) l.items) lines.now) e) }
+{
+    let Some((line, rest)) = lines.split_first() else {
+        return Err(RecordFault::Form(3));
+    };
+    let Some(budget) = read_budget(line) else {
+        return Err(RecordFault::Form(3));
+    };
+    read_behind(alloc, exports, processes, budget, 3, rest)
+}
+
+/// What the lines behind the head, which has so many lines, tell.
+fn read_behind(
+    alloc: Global,
+    exports: &[Export],
+    processes: usize,
+    budget: u64,
+    head: usize,
+    lines: &[Vec<&[u8]>],
+) -> Result<ReadRecord, RecordFault>
+    requires { head ≤ 3 }
+    ensures told { IfOk result (λ r. (r.processes ≡ processes) × (r.budget ≡ budget)) }
+    ensures record { IfOk result (λ r. AreLines processes (map signature_of exports.now) [] (map (λ l. map (λ w. w.now) l.items) lines.now) r.history r.order.items) }
+    ensures fault { IfErr result (λ e. FaultBehind processes (map signature_of exports.now) head (map (λ l. map (λ w. w.now) l.items) lines.now) e) }
+{
+    let mut calls = Calls::new(alloc, processes)?;
+    let order = read_events(alloc, exports, &mut calls, head, lines)?;
+    Ok(ReadRecord {
+        processes,
+        budget,
+        history: calls.into_history(),
+        order,
+    })
+}
+
+/// The order that lines behind the head tell, with the events before it.
+fn read_events(
+    alloc: Global,
+    exports: &[Export],
+    calls: &mut Calls,
+    head: usize,
+    lines: &[Vec<&[u8]>],
+) -> Result<Vec<CallId>, RecordFault>
+    requires none { calls.old.events ≡ [] }
+    requires small { head ≤ 3 }
+    ensures record { IfOk result (λ ids. AreLines calls.old.processes (map signature_of exports.now) [] (map (λ l. map (λ w. w.now) l.items) lines.now) calls.new.events ids.items) }
+    ensures fault { IfErr result (λ e. FaultBehind calls.old.processes (map signature_of exports.now) head (map (λ l. map (λ w. w.now) l.items) lines.now) e) }
+{
+    for (index, line) in lines.iter().enumerate() {
+        let Some(said) = read_line(alloc, exports, calls, line)? else {
+            return Err(RecordFault::Form(head + index + 1));
+        };
+        match said {
+            Line::Begin(id, call) => calls.begin(id, call)?,
+            Line::End(id, reply) => calls.end(id, reply)?,
+            Line::Applied => {}
+            Line::Order(order) => {
+                return match first_other(&lines[index + 1..]) {
+                    Some(other) => Err(RecordFault::Form(head + index + other + 2)),
+                    None => Ok(order),
+                };
+            }
+        }
+    }
+    Err(RecordFault::Form(head + lines.len() + 1))
+}

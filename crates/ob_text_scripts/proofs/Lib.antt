@@ -1,0 +1,4 @@
+pub mod Copies
+pub mod OneScript
+pub mod ScriptFits
+pub mod ScriptReading

@@ -1,0 +1,15 @@
+-- What a fault says of one line of a script.
+use Rattle.std.specs.Prelude.{◌≡◌, ℕ, List}
+use Rattle.ob_interface.specs.Export.{Signature}
+use Rattle.ob_text_words.specs.Words.{Word}
+use Rattle.ob_text_scripts.specs.Script.{HasNoForm, HasNoExport, HasBadArguments, HasNoProcess}
+use Rattle.ob_text_scripts.specs.declared.script.ScriptFault.{ScriptFault}
+use Rattle.ob_text_scripts.specs.declared.script.ScriptFault.TheVariants as Faults
+
+-- a line of this number has the fault, and the fault tells the number; nothing is said where memory wanted
+abbrev pub HasFault : List Signature → ℕ → List Word → ℕ → ScriptFault → Type 0
+HasFault signatures processes line number (Faults.Form told) = (told ≡ number) × HasNoForm signatures processes line
+HasFault signatures processes line number (Faults.Procedure told) = (told ≡ number) × HasNoExport signatures processes line
+HasFault signatures processes line number (Faults.Arguments told) = (told ≡ number) × HasBadArguments signatures processes line
+HasFault signatures processes line number (Faults.Process told) = (told ≡ number) × HasNoProcess signatures processes line
+HasFault signatures processes line number Faults.NoMemory = Unit {0}

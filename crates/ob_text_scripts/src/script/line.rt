@@ -1,0 +1,84 @@
+//! What a line of a script says.
+
+ghost use Rattle.std.specs.Prelude.{◌≡◌, ◌↔◌, ℕ, ◌∷◌, map, IsTrue, IfOk, IfErr, OnErr, MatchOption, List};
+ghost use Rattle.ob_interface.specs.View.{signature_of};
+ghost use Rattle.ob_text_scripts.specs.Script.{IsSkipped, Makes};
+ghost use Rattle.ob_text_scripts.specs.ScriptLine.{HasFault};
+ghost use Rattle.ob_text_words.specs.ScriptCalls.{script_call_of};
+
+use crate::script::ScriptFault;
+use ob_interface::export::Export;
+use ob_text_exports::exports::export_named;
+use ob_text_exports::values::read_values;
+use ob_text_words::numbers::read_process;
+use ob_text_words::script_call::ScriptCall;
+use ob_text_words::words::is_name;
+use std::alloc::Global;
+
+/// The call that a line of these words makes; `None` for a line with nothing to say.
+pub(super) fn read_line(
+    alloc: Global,
+    exports: &[Export],
+    processes: usize,
+    number: usize,
+    words: &[&[u8]],
+) -> Result<Option<ScriptCall>, ScriptFault>
+    ensures call { IfOk result (λ made. MatchOption made
+        (IsSkipped (map (λ w. w.now) words.now))
+        (λ call. Makes (map signature_of exports.now) processes (map (λ w. w.now) words.now) (script_call_of call))) }
+    ensures fault { IfErr result (λ e. HasFault (map signature_of exports.now) processes (map (λ w. w.now) words.now) number e) }
+    ensures says { OnErr result (IsSkipped (map (λ w. w.now) words.now) → ⊥) }
+{
+    let Some((first, behind)) = words.split_first() else {
+        return Ok(None);
+    };
+    if begins_comment(first) {
+        return Ok(None);
+    }
+    let call = read_call(alloc, exports, processes, number, first, behind)?;
+    Ok(Some(call))
+}
+
+/// The call that a first word and the words behind it make.
+fn read_call(
+    alloc: Global,
+    exports: &[Export],
+    processes: usize,
+    number: usize,
+    first: &[u8],
+    behind: &[&[u8]],
+) -> Result<ScriptCall, ScriptFault>
+    ensures call { IfOk result (λ call. Makes (map signature_of exports.now) processes (first.now ∷ map (λ w. w.now) behind.now) (script_call_of call)) }
+    ensures fault { IfErr result (λ e. HasFault (map signature_of exports.now) processes (first.now ∷ map (λ w. w.now) behind.now) number e) }
+{
+    let Some(process) = read_process(first) else {
+        return Err(ScriptFault::Form(number));
+    };
+    let Some((name, rest)) = behind.split_first() else {
+        return Err(ScriptFault::Form(number));
+    };
+    if !is_name(name) {
+        return Err(ScriptFault::Form(number));
+    }
+    if process >= processes {
+        return Err(ScriptFault::Process(number));
+    }
+    let Some((proc, export)) = export_named(exports, name) else {
+        return Err(ScriptFault::Procedure(number));
+    };
+    let Some(args) = read_values(alloc, &export.formals, false, rest)? else {
+        return Err(ScriptFault::Arguments(number));
+    };
+    Ok(ScriptCall {
+        process,
+        proc,
+        args,
+    })
+}
+
+/// Whether a first word says that its line is a comment.
+fn begins_comment(word: &[u8]) -> bool
+    ensures { IsTrue result ↔ ((rest : List ℕ) × (word.now ≡ 35 ∷ rest)) }
+{
+    word.first() == Some(&b'#')
+}

@@ -1,4 +1,0 @@
-pub mod OneLine
-pub mod Records
-pub mod Texts
-pub mod WithoutApplied
