@@ -22,4 +22,18 @@ MODULE Ring;
       count := count - 1
     END
   END Take;
+
+  (* Takes all numbers, and tells how many they were, and their sum. *)
+  PROCEDURE TakeAll*(VAR taken, sum: INTEGER);
+    VAR done: BOOLEAN;
+      number: INTEGER;
+  BEGIN
+    REPEAT
+      Take(done, number);
+      IF done THEN
+        taken := taken + 1;
+        sum := sum + number
+      END
+    UNTIL ~done
+  END TakeAll;
 END Ring.
