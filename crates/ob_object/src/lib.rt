@@ -1,0 +1,8 @@
+//! The door of the shared object: from the text of a module to the object, and from the texts of a run to its record.
+#![tactic(auto)]
+
+pub use ob_object_compile::{CompileFault, Object, compile, list_text};
+pub use ob_object_perform::{PerformFault, draw_text, perform, run_text};
+pub use ob_object_record::Record;
+pub use ob_object_sequence::{SeqTextFault, check_text, seq_text};
+pub use ob_object_verify::{VerifyFault, verify_text};
