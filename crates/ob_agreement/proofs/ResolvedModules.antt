@@ -331,7 +331,7 @@ module _ (program : Program.Program) where
         let behind = others_stand n p (nested ++ others) stand in
         let inner = declares_good d more ps refl formal (left_stand (suc n) nested others behind) in
         let good : IsProcedure program p =
-        record { distinct = inner.1.0; body = good_body outer procedures (ps ++ map as_parameter vs) inside inner.0.0 body } in
+        record { distinct = inner.1.0; export = simple; body = good_body outer procedures (ps ++ map as_parameter vs) inside inner.0.0 body } in
         let rest = procedures_good k more own here (right_stand (suc n) nested others behind) in (
           rest.0,
           (

@@ -1,12 +1,22 @@
 -- Calls from outside by position and by name come to the same.
 use Rattle.std.proofs.Common.{◌≡◌, refl, ap, sym, subst, ◌∙◌, arith, ℕ, zero, suc, ◌<◌, ◌-◌, Bool, true, false, not, List, [], ◌∷◌, ◌++◌, map, length, bytes_eq, if◌then◌else◌, Some}
-use Rattle.std.specs.Prelude.{slice_get}
+use Rattle.std.proofs.lemmas.Option.{slice_get-map}
+use Rattle.std.specs.Prelude.{slice_get, Option, None, option_map, ◌&&◌, ◌||◌}
 use Rattle.std.specs.List.{filter}
 use Rattle.std.proofs.lemmas.Bool.{false_from_ne_true}
 use Rattle.std.proofs.lemmas.Slice.Eq.{bytes_eq-Decides}
 use Rattle.ob_interface.specs.declared.scalar.Scalar.{Scalar}
-use Rattle.ob_typing.specs.Program.{Name, DataType, Simple, Array, Record, Parameter, Procedure, Program}
+use Rattle.ob_interface.specs.declared.scalar.Scalar.TheVariants.{Int, Bool as Truth}
+use Rattle.ob_interface.specs.declared.scalar.ScalarType.{ScalarType}
+use Rattle.ob_interface.specs.declared.scalar.ScalarType.TheVariants.{Integer}
+use Rattle.ob_interface.specs.declared.export.Formal.{Formal}
+use Rattle.ob_interface.specs.Export.{Signature, ArgumentsFit, CallFits}
+use Rattle.ob_interface.specs.Export as Exports
+use Rattle.ob_typing.specs.Program.{Name, DataType, Simple, Array, Record, Parameter, Procedure, Program, exports}
 use Rattle.ob_typing.specs.Arithmetic.{type_of}
+use Rattle.ob_typing.specs.Declarations.{all_simple}
+use Rattle.ob_typing.specs.Scopes.{is_simple}
+use Rattle.ob_checked.specs.Exports.{scalar_type_of, formal_of, signature_in, signatures}
 use Rattle.ob_meaning.specs.Value as Named
 use Rattle.ob_meaning.specs.Store as Names
 use Rattle.ob_meaning.specs.Statements as Meanings
@@ -19,7 +29,7 @@ use Rattle.ob_positions.specs.Store.{Held, Holds, Refers, Activation, activation
 use Rattle.ob_positions.specs.Statements.{Outcome, Done, Trap, calls}
 use Rattle.ob_positions.specs.Object.{results_begun, outside_handed, values_of_results, effect_of, effect_of_procedure, effect}
 use Rattle.ob_agreement.specs.Resolved.{as_parameter, scope_of, module_scope, IsAt, NoneCalled, AreDistinct, IsProcedure, IsResolved}
-use Rattle.ob_agreement.specs.Same.{SameValue, Scopes, SameHeld, SameHanded, SameActivation, SameStore, SameOutcome, SameState, SameEffect, AreValuesOf, FitsExport}
+use Rattle.ob_agreement.specs.Same.{SameValue, Scopes, SameHeld, SameHanded, SameActivation, SameStore, SameOutcome, SameState, SameEffect}
 use Rattle.ob_agreement.proofs.Known.{same_name}
 use Rattle.ob_agreement.proofs.SameStores.{activation_same}
 use Rattle.ob_agreement.proofs.SameStatements.{initial_same, entered, activation_moved, statements_same, calls_same}
@@ -88,6 +98,41 @@ begun_from : (scopes : Scopes) (k : ℕ) (qs : List Parameter) → AreDistinct (
 begun_from scopes k [] h = tt
 begun_from scopes k (q ∷ qs) h = ((refl, h.0), ((refl, initial_same q.type), begun_from scopes k qs h.1))
 
+-- the types of arguments that fit
+
+abbrev first_type : List ScalarType → ScalarType
+first_type [] = Integer
+first_type (t ∷ types) = t
+
+abbrev other_types : List ScalarType → List ScalarType
+other_types [] = []
+other_types (t ∷ types) = types
+
+one_type : (a : Scalar) → type_of a ≡ Exports.type_of a
+one_type (Int z) = refl
+one_type (Truth b) = refl
+
+simple_type : (type : DataType) (a : Scalar) → is_simple type ≡ true → Exports.type_of a ≡ scalar_type_of type → type ≡ Simple (type_of a)
+simple_type (Simple t) a simple is = ap Simple (sym (one_type a ∙ is))
+simple_type (Array place n element) a simple is = absurd cc
+simple_type (Record place fields) a simple is = absurd cc
+
+both_first : (a b : Bool) → (a && b) ≡ true → a ≡ true
+both_first true b h = refl
+both_first false b h = h
+
+both_second : (a b : Bool) → (a && b) ≡ true → b ≡ true
+both_second true b h = h
+both_second false b h = absurd cc
+
+with_export : (e s : Bool) → e ≡ true → (not e || s) ≡ true → s ≡ true
+with_export true s is h = h
+with_export false s is h = absurd cc
+
+-- the formals of the value parameters
+abbrev value_formals : List Parameter → List Formal
+value_formals ps = filter (λ f. not f.is_var) (map formal_of ps)
+
 -- what a call hands over
 
 module _ (scope all : List Parameter) where
@@ -97,11 +142,11 @@ module _ (scope all : List Parameter) where
   value_handed : (p : Parameter) (a : Scalar) → p.type ≡ Simple (type_of a) → SameValue p.type (Named.Single a) (Single a)
   value_handed p a h = subst (λ t. SameValue t (Named.Single a) (Single a)) (sym h) (refl, refl)
 
-  handed_if : (p : Parameter) (ps : List Parameter) (arguments : List Scalar) (n : ℕ) (b : Bool) → p.is_var ≡ b →
-      ((others : List Scalar) (k : ℕ) → AllAt all k (results_scope ps) → AreValuesOf (filter (λ q. not q.is_var) ps) others →
+  handed_if : (p : Parameter) (ps : List Parameter) (arguments : List Scalar) (n : ℕ) (b : Bool) → p.is_var ≡ b → is_simple p.type ≡ true →
+      ((others : List Scalar) (k : ℕ) → AllAt all k (results_scope ps) → ArgumentsFit (map formal_of ps) others →
       SameHanded before ps (Objects.outside_handed ps others) (outside_handed k ps others)) →
       AllAt all n (map as_own (if b then p ∷ filter (λ q. q.is_var) ps else filter (λ q. q.is_var) ps)) →
-      AreValuesOf (if not b then p ∷ filter (λ q. not q.is_var) ps else filter (λ q. not q.is_var) ps) arguments →
+      map Exports.type_of arguments ≡ map (λ f. f.scalar_type) (if not b then formal_of p ∷ value_formals ps else value_formals ps) →
       SameHanded before (p ∷ ps)
       (if b
       then Names.Refers (record { activation = 1; name = p.name; selectors = [] }) ∷ Objects.outside_handed ps arguments
@@ -109,18 +154,20 @@ module _ (scope all : List Parameter) where
       (if b
       then Refers (record { activation = 1; position = n; path = [] }) ∷ outside_handed (suc n) ps arguments
       else Holds (Single (Objects.first_argument arguments)) ∷ outside_handed n ps (Objects.other_arguments arguments))
-  handed_if p ps arguments n true is others at fit = (
+  handed_if p ps arguments n true is simple others at fit = (
     (is, (record { activation = refl; variable = as_own p; there = at.0; own = refl; path = refl }, omega arith)),
     others arguments (suc n) at.1 fit,
   )
-  handed_if p ps [] n false is others at fit = absurd fit
-  handed_if p ps (a ∷ arguments) n false is others at fit = ((is, value_handed p a fit.0), others arguments n at fit.1)
+  handed_if p ps [] n false is simple others at fit = absurd (cc)
+  handed_if p ps (a ∷ arguments) n false is simple others at fit =
+      ((is, value_handed p a (simple_type p.type a simple (ap first_type fit))), others arguments n at (ap other_types fit))
 
-  handed_outside : (ps : List Parameter) (arguments : List Scalar) (n : ℕ) → AllAt all n (results_scope ps) → AreValuesOf (filter (λ p. not p.is_var) ps) arguments →
+  handed_outside : (ps : List Parameter) (arguments : List Scalar) (n : ℕ) → AllAt all n (results_scope ps) → all_simple ps ≡ true → ArgumentsFit (map formal_of ps) arguments →
       SameHanded before ps (Objects.outside_handed ps arguments) (outside_handed n ps arguments)
-  handed_outside [] arguments n at fit = tt
-  handed_outside (p ∷ ps) arguments n at fit =
-      handed_if p ps arguments n p.is_var refl (λ others k at' fit'. handed_outside ps others k at' fit') at fit
+  handed_outside [] arguments n at simple fit = tt
+  handed_outside (p ∷ ps) arguments n at simple fit =
+      handed_if p ps arguments n p.is_var refl (both_first (is_simple p.type) (all_simple ps) simple)
+      (λ others k at' fit'. handed_outside ps others k at' (both_second (is_simple p.type) (all_simple ps) simple) fit') at fit
 
 -- the values of results
 
@@ -156,16 +203,31 @@ module _ (scopes : Scopes) (k : ℕ) where
 
 -- an export is one of the procedures
 
-export_if : (b : Bool) (q : Procedure) (fs ps : List Procedure) (n : ℕ) (p : Procedure) → slice_get (if b then q ∷ fs else fs) n ≡ Some p →
-    ((k : ℕ) → slice_get fs k ≡ Some p → (m : ℕ) × (slice_get ps m ≡ Some p)) → (m : ℕ) × (slice_get (q ∷ ps) m ≡ Some p)
-export_if true q fs ps zero p e again = (0, e)
-export_if true q fs ps (suc n) p e again = let r = again n e in (suc r.0, r.1)
-export_if false q fs ps n p e again = let r = again n e in (suc r.0, r.1)
+-- an exported procedure stands somewhere among these
+record Within (ps : List Procedure) (p : Procedure) : Type 0 where
+  number : ℕ
+  there : slice_get ps number ≡ Some p
+  is_exported : p.is_exported ≡ true
 
-export_within : (ps : List Procedure) (n : ℕ) (p : Procedure) → slice_get (filter (λ q. q.is_exported) ps) n ≡ Some p → (m : ℕ) × (slice_get ps m ≡ Some p)
+export_if : (b : Bool) (q : Procedure) (fs ps : List Procedure) (n : ℕ) (p : Procedure) → q.is_exported ≡ b → slice_get (if b then q ∷ fs else fs) n ≡ Some p →
+    ((k : ℕ) → slice_get fs k ≡ Some p → Within ps p) → Within (q ∷ ps) p
+export_if true q fs ps zero p is e again =
+    let same : q ≡ p = cc (e) in
+    record { number = 0; there = e; is_exported = subst (λ (r : Procedure). r.is_exported ≡ true) same is }
+export_if true q fs ps (suc n) p is e again =
+    let r = again n e in record { number = suc r.number; there = r.there; is_exported = r.is_exported }
+export_if false q fs ps n p is e again =
+    let r = again n e in record { number = suc r.number; there = r.there; is_exported = r.is_exported }
+
+export_within : (ps : List Procedure) (n : ℕ) (p : Procedure) → slice_get (filter (λ q. q.is_exported) ps) n ≡ Some p → Within ps p
 export_within [] n p e = absurd cc
 export_within (q ∷ ps) n p e =
-    export_if q.is_exported q (filter (λ r. r.is_exported) ps) ps n p e (λ k h. export_within ps k p h)
+    export_if q.is_exported q (filter (λ r. r.is_exported) ps) ps n p refl e (λ k h. export_within ps k p h)
+
+-- the export of a signature
+of_signature : (o : Option Procedure) (s : Signature) → option_map signature_in o ≡ Some s → (p : Procedure) × ((o ≡ Some p) × (signature_in p ≡ s))
+of_signature None s h = absurd (cc (h))
+of_signature (Some p) s h = (p, (refl, cc (h)))
 
 -- one call
 
@@ -192,16 +254,16 @@ module _ (program : Program) (good : IsResolved program) where
   effect_same p state activation (Meanings.Done t ms) (Trap m) same h = absurd h
   effect_same p state activation (Meanings.Trap n) (Done u ss) same h = absurd h
 
-  procedure_same : (p : Procedure) → IsProcedure program p → (arguments : List Scalar) → AreValuesOf (filter (λ q. not q.is_var) p.parameters) arguments →
+  procedure_same : (p : Procedure) → IsProcedure program p → (arguments : List Scalar) → all_simple p.parameters ≡ true → ArgumentsFit (map formal_of p.parameters) arguments →
       (turns : ℕ) (state : State) (activation : Activation) → SameState program state activation →
       SameEffect program (Objects.effect_of_procedure program (Some p) arguments turns state) (effect_of_procedure program (Some p) arguments turns activation)
-  procedure_same p is arguments fit turns state activation same =
+  procedure_same p is arguments simple fit turns state activation same =
       let scopes : Scopes = outside p in
       let all : Scopes = scopes ++ scope_of p ∷ [] in
       let results = distinct_results p.parameters (distinct_before p.parameters (map as_parameter p.variables) is.distinct) in
       let two : SameStore scopes (state ∷ Objects.results_begun p.parameters ∷ []) (activation ∷ results_begun p.parameters ∷ []) =
       (state_moved (module_scope program ∷ []) scopes state activation same, (begun_from scopes 1 (filter (λ q. q.is_var) p.parameters) results, tt)) in
-      let handed = handed_outside (module_scope program) (results_scope p.parameters) p.parameters arguments 0 (all_at (results_scope p.parameters) results) fit in
+      let handed = handed_outside (module_scope program) (results_scope p.parameters) p.parameters arguments 0 (all_at (results_scope p.parameters) results) simple fit in
       let some : 0 < length all = omega arith in
       effect_same p state activation _ _ same
       (statements_same program good (Meanings.calls program (most_activations - 1)) (calls program (most_activations - 1)) scopes (scope_of p) refl
@@ -210,9 +272,14 @@ module _ (program : Program) (good : IsResolved program) where
       (entered scopes (state ∷ Objects.results_begun p.parameters ∷ []) (activation ∷ results_begun p.parameters ∷ []) p
       (Objects.outside_handed p.parameters arguments) (outside_handed 0 p.parameters arguments) is.distinct two handed))
 
-  pub call_same : (call : ObjectCall) → FitsExport program call → (turns : ℕ) (state : State) (activation : Activation) → SameState program state activation →
+  pub call_same : (call : ObjectCall) → CallFits (signatures program) call → (turns : ℕ) (state : State) (activation : Activation) → SameState program state activation →
       SameEffect program (Objects.effect program call turns state) (effect program call turns activation)
   call_same call fits turns state activation same =
-      let within = export_within program.procedures call.export fits.procedure fits.export in
-      subst (λ o. SameEffect program (Objects.effect_of_procedure program o call.arguments turns state) (effect_of_procedure program o call.arguments turns activation)) (sym fits.export)
-      (procedure_same fits.procedure (good.procedures within.0 fits.procedure within.1) call.arguments fits.arguments turns state activation same)
+      let (p, (at, is)) = of_signature (slice_get (exports program) call.export) fits.signature (sym (slice_get-map signature_in (exports program) call.export) ∙ fits.here) in
+      let within = export_within program.procedures call.export p at in
+      let good = good.procedures within.number p within.there in
+      let simple = with_export p.is_exported (all_simple p.parameters) within.is_exported good.export in
+      let fit : ArgumentsFit (map formal_of p.parameters) call.arguments =
+      subst (λ (s : Signature). ArgumentsFit s.formals call.arguments) (sym is) fits.fit in
+      subst (λ o. SameEffect program (Objects.effect_of_procedure program o call.arguments turns state) (effect_of_procedure program o call.arguments turns activation)) (sym at)
+      (procedure_same p good call.arguments simple fit turns state activation same)

@@ -1,10 +1,11 @@
 -- What the checked program of a well typed module keeps: each variable stands at its position with its type, each
 -- expression has its type, and each call fits its procedure.
-use Rattle.std.specs.Prelude.{◌≡◌, ℕ, zero, suc, true, false, bytes_eq, List, [], ◌∷◌, ◌++◌, map, slice_get, Some}
+use Rattle.std.specs.Prelude.{◌≡◌, ℕ, zero, suc, true, false, not, ◌||◌, bytes_eq, List, [], ◌∷◌, ◌++◌, map, slice_get, Some}
 use Rattle.ob_interface.specs.declared.scalar.ScalarType.{ScalarType}
 use Rattle.ob_interface.specs.declared.scalar.ScalarType.TheVariants.{Integer, Boolean}
 use Rattle.ob_typing.specs.Program.{Name, DataType, Simple, Array, Record, Fields, no_field, field, Owner, OfModule, Own, Expression, Literal, ValueOf, Negated, Complement, Computed, Compared, Operations, no_operation, operation, Designator, Designated, Selectors, no_selector, field_of, element_of, Actual, ByValue, ByPlace, Statement, Assign, Call, If, While, Repeat, Statements, no_statement, statement, Branches, no_branch, otherwise, branch, Parameter, Variable, Procedure, Program}
 use Rattle.ob_typing.specs.Arithmetic.{type_of, takes}
+use Rattle.ob_typing.specs.Declarations.{all_simple}
 
 -- a variable as a scope declares it
 abbrev pub as_parameter : Variable → Parameter
@@ -113,9 +114,10 @@ module _ (outer own : List Parameter) where
       AreGoodBranches (branch condition statements rest) =
           IsOf condition Boolean × (AreGood statements × AreGoodBranches rest)
 
--- a procedure's names are distinct, and its statements are good in its scope
+-- a procedure's names are distinct, its statements are good in its scope, and of an export each parameter is a scalar
 pub record IsProcedure (program : Program) (p : Procedure) : Type 0 where
   pub distinct : AreDistinct (scope_of p)
+  pub export : (not p.is_exported || all_simple p.parameters) ≡ true
   pub body : AreGood (module_scope program) (scope_of p) program.procedures p.body
 
 pub record IsResolved (program : Program) : Type 0 where

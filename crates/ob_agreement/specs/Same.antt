@@ -1,15 +1,14 @@
 -- When a value, a place or a store by position is one by name: the names stand at their positions, and the values are
 -- of their types.
-use Rattle.std.specs.Prelude.{◌≡◌, ℕ, zero, suc, ◌<◌, true, false, not, List, [], ◌∷◌, filter, length, slice_get, Option, Some, None}
+use Rattle.std.specs.Prelude.{◌≡◌, ℕ, zero, suc, ◌<◌, true, false, List, [], ◌∷◌, length, slice_get, Option, Some, None}
 use Rattle.ob_interface.specs.declared.scalar.Scalar.{Scalar}
 use Rattle.ob_interface.specs.declared.scalar.ScalarType.{ScalarType}
-use Rattle.ob_typing.specs.Program.{DataType, Simple, Array, Record, Fields, no_field, field, Parameter, Procedure, Program, exports}
+use Rattle.ob_typing.specs.Program.{DataType, Simple, Array, Record, Fields, no_field, field, Parameter, Program}
 use Rattle.ob_typing.specs.Arithmetic.{Evaluated, Gives, Traps, type_of}
 use Rattle.ob_meaning.specs.Value as Named
 use Rattle.ob_meaning.specs.Store as Names
 use Rattle.ob_meaning.specs.Statements as Meanings
 use Rattle.ob_meaning.specs.Object as Objects
-use Rattle.ob_interface.specs.Call.{ObjectCall}
 use Rattle.ob_meaning.specs.Object.{State}
 use Rattle.ob_positions.specs.Value.{Value, Values, Single, Parts, no_part, part}
 use Rattle.ob_positions.specs.Store.{Place, Held, Holds, Refers, Activation, Store}
@@ -132,15 +131,3 @@ SameState program = SameActivation (module_scope program ∷ []) 0 (module_scope
 pub record SameEffect (program : Program) (named : Objects.Effect) (effect : Effect) : Type 0 where
   pub state : SameState program named.state effect.state
   pub reply : named.reply ≡ effect.reply
-
--- a value of its type for each of these parameters, in their order
-abbrev pub AreValuesOf : List Parameter → List Scalar → Type 0
-AreValuesOf [] [] = Unit {0}
-AreValuesOf (p ∷ parameters) (a ∷ arguments) = (p.type ≡ Simple (type_of a)) × AreValuesOf parameters arguments
-AreValuesOf parameters arguments = ⊥
-
--- a call that fits an export: it has a value for each value parameter
-pub record FitsExport (program : Program) (call : ObjectCall) : Type 0 where
-  pub procedure : Procedure
-  pub export : slice_get (exports program) call.export ≡ Some procedure
-  pub arguments : AreValuesOf (filter (λ p. not p.is_var) procedure.parameters) call.arguments

@@ -6,6 +6,8 @@ ghost use Rattle.ob_typing.specs.Declarations.{WellTyped};
 ghost use Rattle.ob_typing.specs.Program.{Procedure, Program, exports};
 ghost use Rattle.ob_meaning.specs.Object as Objects;
 ghost use Rattle.ob_interface.specs.Call.{ObjectCall};
+ghost use Rattle.ob_interface.specs.Export.{CallFits};
+ghost use Rattle.ob_checked.specs.Exports.{signatures};
 ghost use Rattle.ob_meaning.specs.Object.{State};
 ghost use Rattle.ob_meaning.specs.Statements as Meanings;
 ghost use Rattle.ob_meaning.specs.Store as Names;
@@ -14,7 +16,7 @@ ghost use Rattle.ob_positions.specs.Statements as Positions;
 ghost use Rattle.ob_positions.specs.Store.{Activation, Store, Held};
 ghost use Rattle.ob_agreement.specs.Exported.{exports_of, seen};
 ghost use Rattle.ob_agreement.specs.Resolved.{IsResolved, module_scope};
-ghost use Rattle.ob_agreement.specs.Same.{Scopes, scope_at, SameStore, SameHanded, SameOutcome, SameState, SameEffect, FitsExport};
+ghost use Rattle.ob_agreement.specs.Same.{Scopes, scope_at, SameStore, SameHanded, SameOutcome, SameState, SameEffect};
 
 /// A call in the text comes to the same by position as by name, and what variables have afterwards are values of
 /// their types.
@@ -38,7 +40,7 @@ pub fn exports_are_those_of_the_text()
     ensures { (m : Module) (program : Program) → WellTyped m program → map seen (exports program) ≡ exports_of m }
 {}
 
-/// A call from outside that fits an export comes to the same by position as by name: one state and one reply.
+/// A call from outside that fits the exports comes to the same by position as by name: one state and one reply.
 pub fn calls_from_outside_agree()
-    ensures { (program : Program) → IsResolved program → (call : ObjectCall) → FitsExport program call → (budget : ℕ) (state : State) (activation : Activation) → SameState program state activation → SameEffect program (Objects.effect program call budget state) (ObjectsByPosition.effect program call budget activation) }
+    ensures { (program : Program) → IsResolved program → (call : ObjectCall) → CallFits (signatures program) call → (budget : ℕ) (state : State) (activation : Activation) → SameState program state activation → SameEffect program (Objects.effect program call budget state) (ObjectsByPosition.effect program call budget activation) }
 {}

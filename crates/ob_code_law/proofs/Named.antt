@@ -1,83 +1,23 @@
 -- A call that fits comes to the same by position as by name, so it carries legal orders.
-use Rattle.std.proofs.Common.{◌≡◌, ℕ, Bool, true, false, List, [], ◌∷◌, map, refl, sym, ap, ◌∙◌, subst, All}
-use Rattle.std.specs.Prelude.{filter, not}
-use Rattle.std.proofs.lemmas.List.Elements.{All-head, All-tail}
-use Rattle.ob_interface.specs.declared.scalar.Scalar.{Scalar}
-use Rattle.ob_interface.specs.declared.scalar.Scalar.TheVariants.{Int, Bool as Truth}
-use Rattle.ob_interface.specs.declared.scalar.ScalarType.{ScalarType}
-use Rattle.ob_interface.specs.declared.scalar.ScalarType.TheVariants.{Integer}
-use Rattle.ob_interface.specs.declared.export.Formal.{Formal}
-use Rattle.ob_interface.specs.Call.{ObjectCall, Reply}
-use Rattle.ob_interface.specs.Export.{type_of, value_types, ArgumentsFit}
-use Rattle.ob_typing.specs.Program.{Name, DataType, Simple, Array, Record, Parameter, Program}
-use Rattle.ob_typing.specs.Arithmetic as Arithmetic
+use Rattle.std.proofs.Common.{ℕ, ap, sym, ◌∙◌, subst}
+use Rattle.ob_interface.specs.Call.{Reply}
+use Rattle.ob_typing.specs.Program.{Program}
 use Rattle.ob_meaning.specs.Object as Named
 use Rattle.ob_positions.specs.Store.{Activation}
-use Rattle.ob_positions.specs.Object.{Effect}
+use Rattle.ob_positions.specs.Object.{Effect, effect}
 use Rattle.ob_agreement.specs.Resolved.{IsResolved}
-use Rattle.ob_agreement.specs.Same.{SameState, AreValuesOf, FitsExport}
+use Rattle.ob_agreement.specs.Same.{SameState}
 use Rattle.ob_agreement.proofs.SameCalls.{call_same}
-use Rattle.ob_code_scheme.specs.WellFormed.{IsSimple, IsWellFormed}
-use Rattle.ob_code_scheme.specs.Correct.{scalar_type_of, formals_of}
-use Rattle.ob_code_scheme.proofs.Fine.{fine_procedure}
 use Rattle.ob_code_law.specs.Compiled.{Fits, CallEnds}
 use Rattle.ob_code_law.specs.Carried.{Simulates}
 use Rattle.ob_code_law.specs.Named.{CallMeans, PositionsCarryLegal}
-use Rattle.ob_code_law.proofs.ExportLaw.{found}
+use Rattle.ob_code_law.proofs.CodeLaw.{fitting_signed}
 use Rattle.ob_code_law.proofs.Carried.{carries}
 
-abbrev one : Name → Bool → DataType → Parameter
-one name is_var type = record { name = name; is_var = is_var; type = type }
-
-abbrev IsSimpleParameter : Parameter → Type 0
-IsSimpleParameter q = IsSimple q.type
-
-abbrev first_type : List ScalarType → ScalarType
-first_type [] = Integer
-first_type (t ∷ types) = t
-
-abbrev other_types : List ScalarType → List ScalarType
-other_types [] = []
-other_types (t ∷ types) = types
-
-same_type : (a : Scalar) → Arithmetic.type_of a ≡ type_of a
-same_type (Int z) = refl
-same_type (Truth b) = refl
-
-simple_type : (type : DataType) (a : Scalar) → IsSimple type → type_of a ≡ scalar_type_of type → type ≡ Simple (Arithmetic.type_of a)
-simple_type (Simple t) a simple is = ap Simple (sym (same_type a ∙ is))
-simple_type (Array place n element) a simple is = absurd simple
-simple_type (Record place fields) a simple is = absurd simple
-
-values_one : (name : Name) (is_var : Bool) (type : DataType) (ps : List Parameter) (arguments : List Scalar) → IsSimple type →
-    map type_of arguments ≡ value_types (formals_of (one name is_var type ∷ ps)) →
-    ((args : List Scalar) → map type_of args ≡ value_types (formals_of ps) → AreValuesOf (filter (λ (p : Parameter). not p.is_var) ps) args) →
-    AreValuesOf (filter (λ (p : Parameter). not p.is_var) (one name is_var type ∷ ps)) arguments
-values_one name true type ps arguments simple is further = further arguments is
-values_one name false type ps [] simple is further = absurd (cc)
-values_one name false type ps (a ∷ arguments) simple is further =
-    (simple_type type a simple (ap first_type is), further arguments (ap other_types is))
-
-values : (ps : List Parameter) (arguments : List Scalar) → All IsSimpleParameter ps → map type_of arguments ≡ value_types (formals_of ps) → AreValuesOf (filter (λ (p : Parameter). not p.is_var) ps) arguments
-values [] [] simple is = tt
-values [] (a ∷ arguments) simple is = absurd (cc)
-values (p ∷ ps) arguments simple is =
-    values_one p.name p.is_var p.type ps arguments (All-head IsSimpleParameter p ps simple) is (λ args h. values ps args (All-tail IsSimpleParameter p ps simple) h)
-
-module _ (program : Program) (budget : ℕ) (well : IsWellFormed program) (good : IsResolved program) where
-  fits_export : (call : ObjectCall) → Fits program call → FitsExport program call
-  fits_export call fits =
-      let f = found 0 program.procedures call.export fits.entrance fits.there in
-      let simple = (fine_procedure program f.index f.procedure well f.there).results f.is_exported in
-      record {
-        procedure = f.procedure;
-        export = f.exported;
-        arguments = values f.procedure.parameters call.arguments simple (subst (λ (fs : List Formal). ArgumentsFit fs call.arguments) f.parameters fits.typed);
-      }
-
-  names_simulate : Simulates (Fits program) (λ (activation : Activation) (state : Named.State). SameState program state activation) (CallEnds program budget) (CallMeans program budget)
+module _ (program : Program) (budget : ℕ) (good : IsResolved program) where
+  pub names_simulate : Simulates (Fits program) (λ (activation : Activation) (state : Named.State). SameState program state activation) (CallEnds program budget) (CallMeans program budget)
   names_simulate call here after there reply fit is does =
-      let same = call_same program good call (fits_export call fit) budget there here is in
+      let same = call_same program good call ((fitting_signed program call).signed fit) budget there here is in
       let named = Named.effect program call budget there in
       record {
         next = named.state;
@@ -85,7 +25,18 @@ module _ (program : Program) (budget : ℕ) (well : IsWellFormed program) (good 
         is = subst (λ (e : Effect). SameState program named.state e.state) does same.state;
       }
 
+  -- and the other way round
+  pub positions_simulate : Simulates (Fits program) (λ (state : Named.State) (activation : Activation). SameState program state activation) (CallMeans program budget) (CallEnds program budget)
+  positions_simulate call here after there reply fit is does =
+      let same = call_same program good call ((fitting_signed program call).signed fit) budget here there is in
+      let found = effect program call budget there in
+      record {
+        next = found.state;
+        ends = ap (λ (r : Reply). record { state = found.state; reply = r }) (sym same.reply ∙ ap (λ (e : Named.Effect). e.reply) does);
+        is = subst (λ (e : Named.Effect). SameState program e.state found.state) does same.state;
+      }
+
 pub positions_carry : PositionsCarryLegal
-positions_carry program budget well good =
+positions_carry program budget good =
     carries (Fits program) (λ (activation : Activation) (state : Named.State). SameState program state activation) (CallEnds program budget) (CallMeans program budget)
-    (names_simulate program budget well good)
+    (names_simulate program budget good)

@@ -1,9 +1,9 @@
 -- The program whose code an engine runs, and what a call means to the engine: what it comes to in that program, with the budget.
-use Rattle.std.specs.Prelude.{◌≡◌, ℕ, suc, ◌*◌, ℤ, List, [], ◌∷◌, length, map, slice_get, Some, if◌then◌else◌}
+use Rattle.std.specs.Prelude.{◌≡◌, ℕ, suc, ◌*◌, ℤ, List, [], ◌∷◌, length, slice_get, Some, if◌then◌else◌}
 use Rattle.std.specs.List.{All}
 use Rattle.ob_interface.specs.Call.{ObjectCall, Reply}
-use Rattle.ob_interface.specs.Export.{Signature, ArgumentsFit}
-use Rattle.ob_typing.specs.Program.{Procedure, Program, exports}
+use Rattle.ob_interface.specs.Export.{ArgumentsFit}
+use Rattle.ob_typing.specs.Program.{Procedure, Program}
 use Rattle.ob_positions.specs.Store.{Activation}
 use Rattle.ob_positions.specs.Object.{effect}
 use Rattle.ob_code_machine.specs.Body.{Run}
@@ -48,10 +48,6 @@ pub record IsFitting (exports : List Entrance) (call : ObjectCall) : Type 0 wher
 -- a call that fits the program
 abbrev pub Fits : Program → ObjectCall → Type 0
 Fits program = IsFitting (entrances_from 0 program.procedures)
-
--- the exports of a program, as a caller knows them
-abbrev pub signatures : Program → List Signature
-signatures program = map (λ p. record { name = p.name; formals = formals_of p.parameters }) (exports program)
 
 -- a run with a stack of the engine's words
 abbrev pub HasReserve : EngineParts → Run → Type 0

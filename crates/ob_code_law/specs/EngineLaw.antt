@@ -12,7 +12,8 @@ use Rattle.ob_code_scheme.specs.Layout.{encoded, decoded, IsEncoding}
 use Rattle.ob_code_scheme.specs.Correct.{IsInRange}
 use Rattle.wf_table.specs.Law.{IsLawful}
 use Rattle.wf_bound.specs.Ends.{EndsWithin, AllEndWithin}
-use Rattle.ob_code_law.specs.Compiled.{parts_of, engine_of, Fits, signatures, HasReserve, IsLawfulBlock, IsEffect, body_limit}
+use Rattle.ob_checked.specs.Exports.{signatures}
+use Rattle.ob_code_law.specs.Compiled.{parts_of, engine_of, Fits, HasReserve, IsLawfulBlock, IsEffect, body_limit}
 
 -- the engine is lawful: its steps lead to the effect of each call
 abbrev pub CodeIsLawful : Type 0

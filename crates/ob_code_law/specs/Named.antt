@@ -6,7 +6,6 @@ use Rattle.ob_meaning.specs.Object as Named
 use Rattle.ob_positions.specs.Store.{Activation}
 use Rattle.ob_agreement.specs.Resolved.{IsResolved}
 use Rattle.ob_agreement.specs.Same.{SameState}
-use Rattle.ob_code_scheme.specs.WellFormed.{IsWellFormed}
 use Rattle.ob_code_law.specs.Compiled.{Fits, CallEnds}
 use Rattle.ob_code_law.specs.Carried.{CarriesLegal}
 
@@ -18,5 +17,5 @@ CallMeans program budget call before after reply =
 -- an order that is legal by what calls come to by position is legal by what they mean by name
 abbrev pub PositionsCarryLegal : Type 0
 PositionsCarryLegal =
-    (program : Program) (budget : ℕ) → IsWellFormed program → IsResolved program →
+    (program : Program) (budget : ℕ) → IsResolved program →
     CarriesLegal (Fits program) (λ (activation : Activation) (state : Named.State). SameState program state activation) (CallEnds program budget) (CallMeans program budget)

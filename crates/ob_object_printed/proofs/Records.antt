@@ -116,7 +116,7 @@ module _ (openings : OpeningsAreObjects) (carry : PositionsCarryLegal) (text : L
         (subst (λ (ids : List CallId). IsLegal (CallEnds program o.engine.budget) o.opening s.records.history ids by.last) (sym order) by.legal)
 
     named : LegalTo (Fits program) (λ (activation : Activation) (state : Named.State). SameState program state activation) (CallEnds program o.engine.budget) (CallMeans program o.engine.budget) opens.state r.history r.order by.last
-    named = carry program o.engine.budget so.well so.resolved r.history r.order o.opening by.last opens.state begun opens.same legal
+    named = carry program o.engine.budget so.resolved r.history r.order o.opening by.last opens.state begun opens.same legal
 
     -- the order leads to the record's state
     last_is : by.last ≡ r.state

@@ -73,7 +73,7 @@ ByName program budget opening history order last =
 pub by_name : PositionsCarryLegal → (program : Program) (parts : EngineParts) (opening : Named.State) (block : List ℤ) (is : IsNamedObjectOf program parts opening block) (history : List (Event ObjectCall Reply)) (order : List CallId) (last : Activation) →
     DoFit parts history → IsLegalOrder program parts.budget is.activation history order last → ByName program parts.budget opening history order last
 by_name carry program parts opening block is history order last fit l =
-    carry program parts.budget is.is.compiled.well is.resolved history order is.activation last opening
+    carry program parts.budget is.resolved history order is.activation last opening
     (subst (λ (q : EngineParts). BegunFit (IsFitting q.exports) history) is.is.compiled.parts_are fit) is.same l
 
 -- of a record whose state is read from the words

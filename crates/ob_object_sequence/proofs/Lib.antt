@@ -1,5 +1,4 @@
 pub mod Faults
-pub mod Fitting
 pub mod Named
 pub mod Printing
 pub mod Runs

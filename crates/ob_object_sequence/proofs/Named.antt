@@ -2,10 +2,12 @@
 use Rattle.std.proofs.Common.{◌≡◌, ℕ, List, [], ◌∷◌, map, refl, sym, ap, ◌∙◌, subst, All}
 use Rattle.std.proofs.lemmas.List.Elements.{All-head, All-tail}
 use Rattle.ob_agreement.specs.Resolved.{module_scope, IsResolved}
-use Rattle.ob_agreement.specs.Same.{SameOutcome, SameState, FitsExport}
+use Rattle.ob_agreement.specs.Same.{SameOutcome, SameState}
 use Rattle.ob_agreement.proofs.SameCalls.{call_same}
 use Rattle.ob_agreement.proofs.SameStatements.{opening_same}
+use Rattle.ob_checked.specs.Exports.{signatures}
 use Rattle.ob_interface.specs.Call.{ObjectCall, Reply}
+use Rattle.ob_interface.specs.Export.{CallFits}
 use Rattle.ob_interpreter.specs.Sequences as Positions
 use Rattle.ob_meaning.specs.Object as Named
 use Rattle.ob_meaning.specs.Object.{State, most_turns}
@@ -35,18 +37,18 @@ module _ (program : Program) (good : IsResolved program) where
 
   -- ---- calls one at a time
 
-  replies_same : {A : Type 0} (asked : A → ObjectCall) (budget : ℕ) (calls : List A) → All (λ c. FitsExport program (asked c)) calls → (state : State) (activation : Activation) →
+  replies_same : {A : Type 0} (asked : A → ObjectCall) (budget : ℕ) (calls : List A) → All (λ c. CallFits (signatures program) (asked c)) calls → (state : State) (activation : Activation) →
       SameState program state activation → Named.replies_to program budget state (map asked calls) ≡ Positions.replies_to program budget activation (map asked calls)
   replies_same asked budget [] fit state activation h = refl
   replies_same {A} asked budget (c ∷ calls) fit state activation h =
-      let fits = All-head (λ (x : A). FitsExport program (asked x)) c calls fit in
+      let fits = All-head (λ (x : A). CallFits (signatures program) (asked x)) c calls fit in
       let one = call_same program good (asked c) fits budget state activation h in
       let by_name = Named.effect program (asked c) budget state in
       let found = Objects.effect program (asked c) budget activation in
       ap (λ r. r ∷ Named.replies_to program budget by_name.state (map asked calls)) one.reply
-      ∙ ap (λ rs. found.reply ∷ rs) (replies_same asked budget calls (All-tail (λ (x : A). FitsExport program (asked x)) c calls fit) by_name.state found.state one.state)
+      ∙ ap (λ rs. found.reply ∷ rs) (replies_same asked budget calls (All-tail (λ (x : A). CallFits (signatures program) (asked x)) c calls fit) by_name.state found.state one.state)
 
-  pub replies_named : {A : Type 0} (asked : A → ObjectCall) (budget : ℕ) (calls : List A) (replies : List Reply) → All (λ c. FitsExport program (asked c)) calls →
+  pub replies_named : {A : Type 0} (asked : A → ObjectCall) (budget : ℕ) (calls : List A) (replies : List Reply) → All (λ c. CallFits (signatures program) (asked c)) calls →
       Positions.AreReplies program budget (map asked calls) replies → Named.AreReplies program budget (map asked calls) replies
   replies_named asked budget calls replies fit r =
       let o = opening_named program good r.state r.opens in

@@ -2,8 +2,9 @@
 
 ghost use Rattle.std.specs.Prelude.{◌≡◌, ◌<◌, ◌≤◌, ℕ, Err, All, IfOk, IfErr, map, length, string_bytes};
 ghost use Rattle.ob_agreement.specs.Resolved.{IsResolved};
-ghost use Rattle.ob_agreement.specs.Same.{FitsExport};
 ghost use Rattle.ob_checked.specs.CheckedModule.{program_in};
+ghost use Rattle.ob_checked.specs.Exports.{signatures};
+ghost use Rattle.ob_interface.specs.Export.{CallFits};
 ghost use Rattle.ob_interpreter.specs.Sequences.{OpeningTraps};
 ghost use Rattle.ob_meaning.specs.Object.{most_turns};
 ghost use Rattle.ob_object_sequence.specs.SequentialRun.{HasNoRun, IsNumbered, IsSequentialRun, IsSeqTextFault, PrintsReplies, TellsMemoryApart};
@@ -101,8 +102,6 @@ pub fn seq_text(
     let object = compile(alloc, module, MOST_PROCESSES, budget)?;
     let checked = object.checked();
     let scripts = read_scripts(alloc, checked, MOST_PROCESSES, script)?;
-    // This does nothing: the parameters of exports are simple.
-    checked.keeps_limits();
     Ok(replies_text(alloc, checked, scripts.calls(), budget)?)
 }
 
@@ -116,7 +115,7 @@ fn replies_text(
     requires processes { All (λ c. c.process < MOST_PROCESSES) calls.now }
     requires program { IsResolved (program_in checked.now) }
     requires opens { (k : ℕ) → OpeningTraps (program_in checked.now) k → ⊥ }
-    requires fit { All (λ c. FitsExport (program_in checked.now) (object_call (script_call_of c))) calls.now }
+    requires fit { All (λ c. CallFits (signatures (program_in checked.now)) (object_call (script_call_of c))) calls.now }
     ensures { IfOk result (λ text. PrintsReplies (program_in checked.now) budget (map script_call_of calls.now) (string_bytes text)) }
 {
     let callers = callers(alloc, calls)?;

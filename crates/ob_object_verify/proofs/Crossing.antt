@@ -1,18 +1,14 @@
 -- Records by position and by name: their orders are legal, or have a fault, both ways.
-use Rattle.std.proofs.Common.{◌∙◌, ℕ, List, sym, ap, subst}
-use Rattle.ob_agreement.proofs.SameCalls.{call_same}
+use Rattle.std.proofs.Common.{ℕ, List}
 use Rattle.ob_agreement.specs.Resolved.{IsResolved}
 use Rattle.ob_agreement.specs.Same.{SameState}
-use Rattle.ob_code_law.specs.Carried.{Simulates}
+use Rattle.ob_code_law.proofs.Named.{names_simulate, positions_simulate}
 use Rattle.ob_code_law.specs.Compiled.{Fits}
 use Rattle.ob_code_law.specs.Named.{CallMeans}
-use Rattle.ob_code_scheme.specs.WellFormed.{IsWellFormed}
-use Rattle.ob_interface.specs.Call.{Reply}
 use Rattle.ob_interpreter.specs.Sequences as Positions
 use Rattle.ob_interpreter.specs.declared.opening.OpenFault.TheVariants as Open
 use Rattle.ob_meaning.specs.Object as Named
 use Rattle.ob_object_order.specs.LegalOrder.{CallEnds}
-use Rattle.ob_object_verify.proofs.FitExports.{fits_export}
 use Rattle.ob_object_verify.proofs.Fitting.{calls_fit}
 use Rattle.ob_object_verify.proofs.Openings.{opening_named, opening_placed, trap_named, trap_placed}
 use Rattle.ob_object_verify.proofs.Simulated.{fault_there, legal_there}
@@ -20,11 +16,10 @@ use Rattle.ob_object_verify.specs.Verified.{IsLegalRecord}
 use Rattle.ob_object_verify.specs.VerifyFaults.{HasRecordFault}
 use Rattle.ob_object_verify.specs.declared.verifying.VerifyFault.{VerifyFault}
 use Rattle.ob_object_verify.specs.declared.verifying.VerifyFault.TheVariants as Faults
-use Rattle.ob_positions.specs.Object.{Effect, effect}
 use Rattle.ob_positions.specs.Store.{Activation}
 use Rattle.ob_typing.specs.Program.{Program}
 
-module _ (program : Program) (well : IsWellFormed program) (good : IsResolved program) where
+module _ (program : Program) (good : IsResolved program) where
   -- a state by position is one by name, and the other way round
   abbrev IsNamed : Activation → Named.State → Type 0
   IsNamed activation state = SameState program state activation
@@ -32,40 +27,19 @@ module _ (program : Program) (well : IsWellFormed program) (good : IsResolved pr
   abbrev IsPlaced : Named.State → Activation → Type 0
   IsPlaced state activation = SameState program state activation
 
-  module _ (budget : ℕ) where
-    names_simulate : Simulates (Fits program) IsNamed (CallEnds program budget) (CallMeans program budget)
-    names_simulate call here after there reply fit is does =
-        let same = call_same program good call (fits_export program well call fit) budget there here is in
-        let named = Named.effect program call budget there in
-        record {
-          next = named.state;
-          ends = ap (λ (r : Reply). record { state = named.state; reply = r }) (same.reply ∙ ap (λ (e : Effect). e.reply) does);
-          is = subst (λ (e : Effect). SameState program named.state e.state) does same.state;
-        }
-
-    positions_simulate : Simulates (Fits program) IsPlaced (CallMeans program budget) (CallEnds program budget)
-    positions_simulate call here after there reply fit is does =
-        let same = call_same program good call (fits_export program well call fit) budget here there is in
-        let found = effect program call budget there in
-        record {
-          next = found.state;
-          ends = ap (λ (r : Reply). record { state = found.state; reply = r }) (sym same.reply ∙ ap (λ (e : Named.Effect). e.reply) does);
-          is = subst (λ (e : Named.Effect). SameState program e.state found.state) does same.state;
-        }
-
   module _ (text : List ℕ) where
     pub legal_named : IsLegalRecord Positions.IsOpening CallEnds program text → IsLegalRecord Named.IsOpening CallMeans program text
     legal_named r =
         let o = opening_named program good r.opening r.opens in
         let fit = calls_fit program text r.tells r.is_record in
-        let l = legal_there (Fits program) IsNamed (CallEnds program r.tells.budget) (CallMeans program r.tells.budget) (names_simulate r.tells.budget) r.tells.events r.tells.order fit r.opening o.0 o.2 r.last r.legal in
+        let l = legal_there (Fits program) IsNamed (CallEnds program r.tells.budget) (CallMeans program r.tells.budget) (names_simulate program r.tells.budget good) r.tells.events r.tells.order fit r.opening o.0 o.2 r.last r.legal in
         record { tells = r.tells; is_record = r.is_record; opening = o.0; opens = o.1; last = l.end; legal = l.legal }
 
     pub legal_placed : IsLegalRecord Named.IsOpening CallMeans program text → IsLegalRecord Positions.IsOpening CallEnds program text
     legal_placed r =
         let o = opening_placed program good r.opening r.opens in
         let fit = calls_fit program text r.tells r.is_record in
-        let l = legal_there (Fits program) IsPlaced (CallMeans program r.tells.budget) (CallEnds program r.tells.budget) (positions_simulate r.tells.budget) r.tells.events r.tells.order fit r.opening o.0 o.2 r.last r.legal in
+        let l = legal_there (Fits program) IsPlaced (CallMeans program r.tells.budget) (CallEnds program r.tells.budget) (positions_simulate program r.tells.budget good) r.tells.events r.tells.order fit r.opening o.0 o.2 r.last r.legal in
         record { tells = r.tells; is_record = r.is_record; opening = o.0; opens = o.1; last = l.end; legal = l.legal }
 
     pub fault_named : (e : VerifyFault) → HasRecordFault Positions.IsOpening Positions.OpeningTraps CallEnds program text e → HasRecordFault Named.IsOpening Named.OpeningTraps CallMeans program text e
@@ -81,7 +55,7 @@ module _ (program : Program) (well : IsWellFormed program) (good : IsResolved pr
           is_record = h.is_record;
           opening = o.0;
           opens = o.1;
-          fails = fault_there (Fits program) IsNamed (CallEnds program h.tells.budget) (CallMeans program h.tells.budget) (names_simulate h.tells.budget) h.tells.events h.tells.order fit h.opening o.0 o.2 e h.fails;
+          fails = fault_there (Fits program) IsNamed (CallEnds program h.tells.budget) (CallMeans program h.tells.budget) (names_simulate program h.tells.budget good) h.tells.events h.tells.order fit h.opening o.0 o.2 e h.fails;
         }
     fault_named Faults.NoMemory h = tt
 
@@ -98,6 +72,6 @@ module _ (program : Program) (well : IsWellFormed program) (good : IsResolved pr
           is_record = h.is_record;
           opening = o.0;
           opens = o.1;
-          fails = fault_there (Fits program) IsPlaced (CallMeans program h.tells.budget) (CallEnds program h.tells.budget) (positions_simulate h.tells.budget) h.tells.events h.tells.order fit h.opening o.0 o.2 e h.fails;
+          fails = fault_there (Fits program) IsPlaced (CallMeans program h.tells.budget) (CallEnds program h.tells.budget) (positions_simulate program h.tells.budget good) h.tells.events h.tells.order fit h.opening o.0 o.2 e h.fails;
         }
     fault_placed Faults.NoMemory h = tt

@@ -7,7 +7,6 @@ use Rattle.std.specs.List.{Contains}
 use Rattle.ob_checked.specs.Exports.{signatures}
 use Rattle.ob_code_law.proofs.CodeLaw.{fitting_signed}
 use Rattle.ob_code_law.specs.Carried.{BegunFit}
-use Rattle.ob_code_law.specs.Compiled as Compiled
 use Rattle.ob_code_law.specs.Compiled.{Fits}
 use Rattle.ob_code_scheme.specs.Correct.{IsInRange}
 use Rattle.ob_code_scheme.specs.Types as Types
@@ -66,7 +65,7 @@ module _ (program : Program) where
       AreValues (value_types signature.formals) rest arguments → Fits program (record { export = n; arguments = arguments })
   call_fits name rest n signature arguments found fit =
       let call : ObjectCall = record { export = n; arguments = arguments } in
-      let here : slice_get (Compiled.signatures program) n ≡ Some signature = export_there (signatures program) name n signature found in
+      let here : slice_get (signatures program) n ≡ Some signature = export_there (signatures program) name n signature found in
       (fitting_signed program call).fits (record { signature = signature; here = here; fit = values_fit fit }) (values_ranged fit)
 
   -- an event of a line that begins a call, begins one that fits

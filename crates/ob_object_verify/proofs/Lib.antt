@@ -1,5 +1,4 @@
 pub mod Crossing
-pub mod FitExports
 pub mod Fitting
 pub mod OneLine
 pub mod Openings

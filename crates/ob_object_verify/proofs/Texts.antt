@@ -63,25 +63,25 @@ module _ (module_text record_text : List ℕ) where
         record {
           program = program;
           is_module = is_module;
-          is_legal = legal_named program (formed module_text program is_module) (module_resolved module_text program is_module) record_text r;
+          is_legal = legal_named program (module_resolved module_text program is_module) record_text r;
         }
 
     pub record_in : IsVerified module_text record_text → IsLegalRecord Positions.IsOpening CallEnds program record_text
     record_in r =
         subst (λ (p : Program). IsLegalRecord Positions.IsOpening CallEnds p record_text) (alone r.program r.is_module)
-        (legal_placed r.program (formed module_text r.program r.is_module) (module_resolved module_text r.program r.is_module) record_text r.is_legal)
+        (legal_placed r.program (module_resolved module_text r.program r.is_module) record_text r.is_legal)
 
     pub fault_in : (fault : VerifyFault) → IsFaultOfRecord module_text record_text fault → HasRecordFault Positions.IsOpening Positions.OpeningTraps CallEnds program record_text fault
     fault_in fault f =
         subst (λ (p : Program). HasRecordFault Positions.IsOpening Positions.OpeningTraps CallEnds p record_text fault) (alone f.program f.is_module)
-        (fault_placed f.program (formed module_text f.program f.is_module) (module_resolved module_text f.program f.is_module) record_text fault f.fails)
+        (fault_placed f.program (module_resolved module_text f.program f.is_module) record_text fault f.fails)
 
     fault_of : (fault : VerifyFault) → HasRecordFault Positions.IsOpening Positions.OpeningTraps CallEnds program record_text fault → IsFaultOfRecord module_text record_text fault
     fault_of fault f =
         record {
           program = program;
           is_module = is_module;
-          fails = fault_named program (formed module_text program is_module) (module_resolved module_text program is_module) record_text fault f;
+          fails = fault_named program (module_resolved module_text program is_module) record_text fault f;
         }
 
     pub told_of : (fault : VerifyFault) → HasRecordFault Positions.IsOpening Positions.OpeningTraps CallEnds program record_text fault → IsVerifyFault module_text record_text fault

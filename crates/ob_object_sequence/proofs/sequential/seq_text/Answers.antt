@@ -1,7 +1,6 @@
 use Rattle.std.proofs.Common.{◌∙◌, ◌<◌, sym, subst, All}
 use Rattle.std.proofs.lemmas.Result.{err_from_is_err_and}
 use Rattle.ob_agreement.specs.Resolved.{IsResolved}
-use Rattle.ob_agreement.specs.Same.{FitsExport}
 use Rattle.ob_checked.specs.CheckedModule.{program_in}
 use Rattle.ob_checked.specs.Exports.{signatures}
 use Rattle.ob_interface.specs.Export.{CallFits}
@@ -9,7 +8,6 @@ use Rattle.ob_interpreter.specs.Sequences.{OpeningTraps}
 use Rattle.ob_object_compile.proofs.Openings.{module_resolved}
 use Rattle.ob_object_compile.specs.View.{object_in}
 use Rattle.ob_object_sequence.proofs.Faults.{no_run_compile, no_run_script}
-use Rattle.ob_object_sequence.proofs.Fitting.{fits_export}
 use Rattle.ob_object_sequence.proofs.Named.{opens_not}
 use Rattle.ob_object_sequence.proofs.Runs.{each}
 use Rattle.ob_text_words.specs.ScriptCalls.{ScriptCall, object_call, script_call_of}
@@ -45,5 +43,4 @@ pub replies_text-requires-clause-fit : goal.replies_text-requires-clause-fit
 replies_text-requires-clause-fit c =
     let program = program_in c.checked-checked.result.now in
     let fit = subst (All (λ (x : ScriptCall). CallFits (signatures program) (object_call x))) (sym c.calls.ensures) c.in_ok-scripts.ensures.fit in
-    each (λ (x : ScriptCall). FitsExport program (object_call x)) script_call_of c.calls.result.now
-    (λ k d below. fits_export program _ c.keeps_limits.ensures (fit k d below))
+    each (λ (x : ScriptCall). CallFits (signatures program) (object_call x)) script_call_of c.calls.result.now fit
