@@ -1,5 +1,5 @@
 -- The engine over the parts of some program: so it is where the program itself is not at hand.
-use Rattle.std.specs.Prelude.{◌≡◌, ℕ, ℤ, List, Some}
+use Rattle.std.specs.Prelude.{◌≡◌, ℤ, List, Some}
 use Rattle.ob_interface.specs.Call.{ObjectCall, Reply}
 use Rattle.ob_typing.specs.Program.{Program}
 use Rattle.ob_positions.specs.Store.{Activation}

@@ -6,3 +6,5 @@ pub mod Framed
 pub mod Counted
 pub mod Decoded
 pub mod Stacks
+pub mod Scalars
+pub mod PartWords

@@ -4,3 +4,4 @@ pub mod Frames
 pub mod View
 pub mod Reading
 pub mod Layout
+pub mod Places

@@ -6,6 +6,7 @@ ghost use Rattle.ob_code_scheme.specs.Temporaries.{stack_words};
 ghost use Rattle.ob_code_scheme.specs.WellFormed.{IsWellFormed};
 ghost use Rattle.ob_code_steps.specs.Memory.{DecodesEncoded, EncodesDecoded, PlacesApart};
 ghost use Rattle.ob_code_layout.specs.Layout.{layout_of};
+ghost use Rattle.ob_code_layout.specs.Places.{WordsHoldScalars};
 
 /// A state is read back from its words.
 pub fn states_are_read_back()
@@ -17,7 +18,12 @@ pub fn words_are_of_one_state()
     ensures { EncodesDecoded }
 {}
 
-/// Places of the module that don't overlap have no word in common.
+/// The words of a state have at the word of a scalar's place its value, TRUE as 1 and FALSE as 0.
+pub fn words_hold_scalars()
+    ensures { WordsHoldScalars }
+{}
+
+/// Places of the module of which neither is a part of the other have no word in common: each has as many as its type, from its own on.
 pub fn places_are_apart()
     ensures { PlacesApart }
 {}

@@ -55,7 +55,9 @@ fn stack_words(frame: usize, temporaries: usize) -> usize
 }
 
 impl Layout {
-    ghost use Rattle.std.specs.Prelude.{◌≡◌, IfOk, option_map, drop};
+    ghost use Rattle.std.specs.Prelude.{◌≡◌, ◌↔◌, IfOk, IfSome, IsSome, option_map, drop};
+    ghost use Rattle.ob_code_steps.specs.Memory.{part_word};
+    ghost use Rattle.ob_code_layout.specs.Places.{HasPlace};
     ghost use Rattle.ob_code_scheme.specs.Layout as Layouts;
     ghost use Rattle.ob_code_scheme.specs.Types as Sizes;
     ghost use Rattle.ob_checked.specs.Types as Given;
@@ -117,12 +119,27 @@ impl Layout {
     }
 
     /// The word of the block where the variable at a position begins; behind the last one, all words.
-    pub fn word_of(&self, position: usize) -> usize
+    fn variable_word(&self, position: usize) -> usize
         ensures { result ≡ Layouts.word_of (parts_of self.now).variables position }
     {
         match self.block.space(position) {
             Some(space) => space.word,
             None => self.block.words(),
+        }
+    }
+
+    /// The word of the block where a part of a variable begins: the part behind these positions, fields' and indices, one within
+    /// the other; none where there is no such variable or no such part.
+    pub fn word_of(&self, position: usize, path: &[usize]) -> Option<usize>
+        ensures word { IfSome result (λ w. w ≡ part_word (parts_of self.now).variables position path.now) }
+        ensures there { IsSome result ↔ HasPlace (parts_of self.now).variables position path.now }
+    {
+        match self.variables.get(position) {
+            None => None,
+            Some(variable) => match self.shapes.part_word(variable.data_type, path) {
+                None => None,
+                Some(word) => Some(self.variable_word(position) + word),
+            },
         }
     }
 
@@ -138,7 +155,7 @@ impl Layout {
         Space {
             is_var: false,
             data_type,
-            word: self.word_of(position),
+            word: self.variable_word(position),
         }
     }
 

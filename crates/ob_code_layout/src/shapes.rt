@@ -40,10 +40,11 @@ pub struct Shapes {
 }
 
 impl Shapes {
-    ghost use Rattle.std.specs.Prelude.{◌≡◌, ◌≤◌, ◌*◌, ◌++◌, [], ◌∷◌, true, length, slice_get, option_copied, OnOk, IfOk};
+    ghost use Rattle.std.specs.Prelude.{◌≡◌, ◌≤◌, ◌*◌, ◌++◌, [], ◌∷◌, true, length, slice_get, option_copied, OnOk, IfOk, IfSome, IsSome, IsTrue, ◌↔◌};
     ghost use Rattle.ob_code_scheme.specs.Types as Sizes;
     ghost use Rattle.ob_checked.specs.Types as Given;
     ghost use Rattle.ob_code_layout.specs.Counted.{counted};
+    ghost use Rattle.ob_code_layout.specs.Places.{HasPart};
     ghost use Rattle.ob_code_layout.specs.Shapes.{type_in, types_of, shape_by, IsShape, AreShapes, IsRecord, IsArray};
     ghost use Rattle.ob_checked.specs.View.{table_of};
     ghost use Rattle.ob_code_layout.specs.View.{shapes_of};
@@ -120,6 +121,39 @@ impl Shapes {
                     None => shape.words,
                 },
             },
+        }
+    }
+
+    /// Whether a type has a part at a position: an element or a field.
+    fn has_part(&self, data_type: DataType, position: usize) -> bool
+        ensures { IsTrue result ↔ Sizes.HasPart (type_in (shapes_of self.now) data_type) position }
+    {
+        let DataType::Structured(number) = data_type else {
+            return false;
+        };
+        match self.all.get(number) {
+            None => false,
+            Some(shape) => match &shape.parts {
+                Parts::Elements { length, .. } => position < *length,
+                Parts::Fields(fields) => position < fields.len(),
+            },
+        }
+    }
+
+    /// The words of a type before the part behind positions, one within the other; none where there is no such part.
+    pub fn part_word(&self, data_type: DataType, path: &[usize]) -> Option<usize>
+        ensures word { IfSome result (λ w. w ≡ Sizes.inner (type_in (shapes_of self.now) data_type) path.now) }
+        ensures there { IsSome result ↔ HasPart (type_in (shapes_of self.now) data_type) path.now }
+    {
+        let Some((first, rest)) = path.split_first() else {
+            return Some(0);
+        };
+        if !self.has_part(data_type, *first) {
+            return None;
+        }
+        match self.part_word(self.part_type(data_type, *first), rest) {
+            None => None,
+            Some(within) => Some(self.part_offset(data_type, *first) + within),
         }
     }
 

@@ -3,7 +3,6 @@ use Rattle.std.proofs.Common.{◌≡◌, List, ℕ, Result, Ok, Err, IfErr, ◌�
 use Rattle.ob_check_text.specs.CheckedText.{IsNumberedText, IsTextFault, TellsTextMemoryApart}
 use Rattle.ob_check_text.specs.declared.checked_text.TextFault.{TextFault}
 use Rattle.ob_check_text.specs.declared.checked_text.TextFault.TheVariants as Text
-use Rattle.ob_code_scheme.specs.WellFormed.{IsWellFormed}
 use Rattle.ob_interpreter.specs.Sequences as Positions
 use Rattle.ob_object_order.specs.LegalOrder.{CallEnds}
 use Rattle.ob_object_verify.proofs.Crossing.{fault_named, fault_placed, legal_named, legal_placed}
@@ -57,7 +56,7 @@ module _ (module_text record_text : List ℕ) where
     pub memory_only : (fault : VerifyFault) → IsFaultOfRecord module_text record_text fault → (of_text e ≡ fault) ⊎ (of_text e ≡ Faults.NoMemory)
     memory_only fault f = inr (memory_alone f.program f.is_module)
 
-  module _ (formed : (text : List ℕ) (program : Program) → IsModule text program → IsWellFormed program) (program : Program) (is_module : IsModule module_text program) (alone : (other : Program) → IsModule module_text other → other ≡ program) where
+  module _ (program : Program) (is_module : IsModule module_text program) (alone : (other : Program) → IsModule module_text other → other ≡ program) where
     pub verified_by : IsLegalRecord Positions.IsOpening CallEnds program record_text → IsVerified module_text record_text
     verified_by r =
         record {

@@ -11,7 +11,6 @@ ghost use Rattle.ob_object_verify.specs.declared.verifying.VerifyFault.TheVarian
 
 use ob_check_text::checked_text::{TextFault, checked_text};
 use ob_checked::checked::Checked;
-use ob_code_well_formed::laws::modules_are_well_formed;
 use ob_interpreter::opening::{OpenFault, opening};
 use ob_object_order::{OrderFault, check_order};
 use ob_scan::scanner::LONGEST_TEXT;
@@ -117,7 +116,6 @@ pub fn verify_text(alloc: Global, module: &[u8], record: &[u8]) -> Result<(), Ve
     // A module's text over the scanner's bound is refused, whatever it says.
     ensures too_long { LONGEST_TEXT < length «module».now → result ≡ Err too_long }
 {
-    modules_are_well_formed();
     let checked = checked_text(alloc, module)?;
     verify_record(alloc, &checked, record)
 }

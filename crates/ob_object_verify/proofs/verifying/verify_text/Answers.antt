@@ -20,27 +20,27 @@ returns-in_err-checked-clause-exact c =
 pub returns-clause-verified : goal.returns-clause-verified
 returns-clause-verified c =
     on_ok_weaker c.verify_record.result
-    (verified_by c.args.module.now c.args.record.now c.modules_are_well_formed.ensures _ c.in_ok-checked.ensures.program c.in_ok-checked.ensures.alone)
+    (verified_by c.args.module.now c.args.record.now _ c.in_ok-checked.ensures.program c.in_ok-checked.ensures.alone)
     c.verify_record.ensures.legal
 
 pub returns-clause-fault : goal.returns-clause-fault
 returns-clause-fault c =
     IfErr-weaker c.verify_record.result _ _
-    (told_of c.args.module.now c.args.record.now c.modules_are_well_formed.ensures _ c.in_ok-checked.ensures.program c.in_ok-checked.ensures.alone)
+    (told_of c.args.module.now c.args.record.now _ c.in_ok-checked.ensures.program c.in_ok-checked.ensures.alone)
     c.verify_record.ensures.fault
 
 pub returns-clause-none : goal.returns-clause-none
 returns-clause-none c =
     none_by c.verify_record.result
     (λ r. c.verify_record.ensures.lawful
-    (record_in c.args.module.now c.args.record.now c.modules_are_well_formed.ensures _ c.in_ok-checked.ensures.program c.in_ok-checked.ensures.alone r))
+    (record_in c.args.module.now c.args.record.now _ c.in_ok-checked.ensures.program c.in_ok-checked.ensures.alone r))
 
 pub returns-clause-lawful : goal.returns-clause-lawful
 returns-clause-lawful c =
     λ r. c.verify_record.ensures.lawful
-    (record_in c.args.module.now c.args.record.now c.modules_are_well_formed.ensures _ c.in_ok-checked.ensures.program c.in_ok-checked.ensures.alone r)
+    (record_in c.args.module.now c.args.record.now _ c.in_ok-checked.ensures.program c.in_ok-checked.ensures.alone r)
 
 pub returns-clause-exact : goal.returns-clause-exact
 returns-clause-exact c =
     λ fault numbered f. c.verify_record.ensures.exact fault numbered
-    (fault_in c.args.module.now c.args.record.now c.modules_are_well_formed.ensures _ c.in_ok-checked.ensures.program c.in_ok-checked.ensures.alone fault f)
+    (fault_in c.args.module.now c.args.record.now _ c.in_ok-checked.ensures.program c.in_ok-checked.ensures.alone fault f)

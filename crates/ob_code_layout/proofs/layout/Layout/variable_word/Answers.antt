@@ -5,7 +5,7 @@ use Rattle.ob_code_scheme.specs.Types.{word_in}
 use Rattle.ob_code_layout.specs.Shapes.{types_of}
 use Rattle.ob_code_layout.specs.View.{shapes_of}
 use Rattle.ob_code_layout.proofs.Counted.{word_past}
-use Rattle.ob_code_layout.proofs.layout.Layout.word_of.Goals as goal
+use Rattle.ob_code_layout.proofs.layout.Layout.variable_word.Goals as goal
 
 pub returns-in-None : goal.returns-in-None
 returns-in-None c =
