@@ -1,5 +1,5 @@
 -- Positions of a scope one behind the other.
-use Rattle.std.proofs.Common.{◌≡◌, ℕ, zero, suc, ◌+◌, ◌<◌, ◌≤◌, subst, List, [], ◌∷◌, ◌++◌, map, length, drop, get_or, Some, refl, ap, sym, ◌∙◌, arith, ◌⊎◌, inl, inr, ⊎_elim}
+use Rattle.std.proofs.Common.{◌≡◌, ℕ, zero, suc, ◌+◌, ◌<◌, ◌≤◌, ◌^◌, subst, List, [], ◌∷◌, ◌++◌, map, length, drop, get_or, Some, refl, ap, sym, ◌∙◌, arith, ◌⊎◌, inl, inr, ⊎_elim}
 use Rattle.std.specs.Prelude.{slice_get}
 use Rattle.std.proofs.lemmas.List.{drop_more}
 use Rattle.ob_typing.specs.Program as Program
@@ -37,10 +37,11 @@ module _ (ts : List Program.DataType) where
   placed (x ∷ xs) s t (suc i) at =
       ⊎_elim (λ h. inl (h.0, ap (λ n. width (space_by ts x) + n) h.1)) (λ h. inr (h.0, ap (λ n. width (space_by ts x) + n) h.1)) (placed xs s t i at)
 
-  pub frame_more : (f g : Frame) (s : Spaces.Space) → IsFrame ts f → g.spaces.items ≡ f.spaces.items ++ s ∷ [] → s.word ≡ f.words → g.words ≡ f.words + width (space_by ts s) → IsFrame ts g
-  frame_more f g s h items word words =
+  pub frame_more : (f g : Frame) (s : Spaces.Space) → IsFrame ts f → g.spaces.items ≡ f.spaces.items ++ s ∷ [] → s.word ≡ f.words → g.words ≡ f.words + width (space_by ts s) → extent (scope_by ts f) + width (space_by ts s) < 2 ^ 63 → IsFrame ts g
+  frame_more f g s h items word words room =
       record {
         words = words ∙ ap (λ n. n + width (space_by ts s)) h.words ∙ sym (extent_more f.spaces.items s) ∙ sym (ap (λ xs. extent (map (space_by ts) xs)) items);
+        small = let before = h.words in omega (arith, room, words, before);
         each = λ i t at. each_more i t (ap (λ xs. slice_get xs i) (sym items) ∙ at) ∙ sym (ap (λ xs. word_in (map (space_by ts) xs) i) items);
       }
     where

@@ -1,5 +1,5 @@
 -- The scopes that frames stand for, where the numbers of types stand for these.
-use Rattle.std.specs.Prelude.{◌≡◌, ℕ, Bool, false, List, ◌++◌, map, Some, slice_get, string_bytes, if◌then◌else◌}
+use Rattle.std.specs.Prelude.{◌≡◌, ℕ, ◌<◌, ◌^◌, Bool, false, List, ◌++◌, map, Some, slice_get, string_bytes, if◌then◌else◌}
 use Rattle.ob_typing.specs.Program as Program
 use Rattle.ob_code_scheme.specs.Types.{Space, Holding, Referring, Scope, extent, word_in, variables_scope, parameters_scope}
 use Rattle.ob_checked.specs.Types.{type_by}
@@ -52,6 +52,7 @@ module _ (ts : List Program.DataType) where
   -- each position has the words of those before it
   pub record IsFrame (f : Frame) : Type 0 where
     pub words : f.words ≡ extent (scope_by f)
+    pub small : f.words < 2 ^ 63
     pub each : (i : ℕ) (s : Spaces.Space) → slice_get f.spaces.items i ≡ Some s → s.word ≡ word_in (scope_by f) i
 
   abbrev pub AreFrames : List Frame → Type 0

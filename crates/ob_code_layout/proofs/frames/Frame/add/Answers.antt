@@ -15,4 +15,4 @@ returns-clause-frame c =
       | then-is_var w ↦ w.words-is ∙ sym (ap (λ b. width (space_of ts b c.args.data_type)) w.if-is_var.true)
       | else-is_var w ↦ w.words-is ∙ w.words-words.ensures ∙ sym (ap (λ b. width (space_of ts b c.args.data_type)) w.if-is_var.false)
     ] in
-    frame_more ts c.args.self.now _ _ c.requires.frame c.in_ok-push.ensures.items refl (ap (λ n. c.args.self.now.words + n) words)
+    frame_more ts c.args.self.now _ _ c.requires.frame c.in_ok-push.ensures.items refl (ap (λ n. c.args.self.now.words + n) words) c.requires.small
