@@ -1,11 +1,13 @@
-//! Tests of what no row of the program shows: printed texts, faults as people read them, a call on its own, and
-//! the record of a run over compiled code. Nothing stands on this crate.
+//! Tests of what no row of the program shows: printed texts, faults as people read them, a call on its own,
+//! the words of variables and their parts, and the record of a run over compiled code. Nothing stands on this crate.
 #![tactic(auto)]
 
 #[cfg(test)]
 mod calls;
 #[cfg(test)]
 mod explanations;
+#[cfg(test)]
+mod layouts;
 #[cfg(test)]
 mod nesting;
 #[cfg(test)]
