@@ -2,6 +2,8 @@
 use Rattle.std.specs.Prelude.{◌≡◌, ◌≢◌, ℕ, ◌<◌, ◌≤◌, ◌⊎◌, Bool, true, false, List, length}
 use Rattle.ob_agreement.specs.Same.{SameState}
 use Rattle.ob_check_text.specs.CheckedText.{IsNumberedText, IsTextFault}
+use Rattle.ob_check_text.specs.declared.checked_text.TextFault.TheVariants as Text
+use Rattle.ob_scan.specs.declared.fault.ScanFault.TheVariants as Scan
 use Rattle.ob_code_law.specs.CodeMeaning.{EngineParts}
 use Rattle.ob_code_law.specs.Compiled.{parts_of}
 use Rattle.ob_code_layout.specs.Layout.{LayoutParts, layout_of}
@@ -92,6 +94,10 @@ IsCompileFault text n budget (Faults.Text e) = IsTextFault text e
 IsCompileFault text n budget Faults.TooLong = HasLongCode text
 IsCompileFault text n budget (Faults.Open e) = FailsToOpen text e
 IsCompileFault text n budget Faults.NoMemory = Unit {0}
+
+-- a text over the scanner's bound
+abbrev pub too_long : CompileFault
+too_long = Faults.Text (Text.Scan Scan.TooLong)
 
 -- want of memory is told by its own variant alone: a fault of the text has a number
 abbrev pub TellsMemoryApart : CompileFault → Type 0

@@ -1,15 +1,13 @@
 //! The listing of a module's code, from bytes to bytes.
 
 ghost use Rattle.std.specs.Prelude.{◌≡◌, ◌<◌, Err, IfOk, IfErr, map, length, string_bytes};
-ghost use Rattle.ob_object_compile.specs.Compilation.{IsCompileFault, IsNumbered, HasNoObject, TellsMemoryApart, default_budget};
+ghost use Rattle.ob_object_compile.specs.Compilation.{IsCompileFault, IsNumbered, HasNoObject, TellsMemoryApart, default_budget, too_long};
 ghost use Rattle.ob_object_compile.specs.Listed.{IsListing};
 
 use crate::compiling::{CompileFault, DEFAULT_BUDGET, compile};
-use ob_check_text::TextFault;
 use ob_checked::program::Procedure;
 use ob_code_machine::list;
 use ob_interface::NoMemory;
-use ob_scan::ScanFault;
 use ob_scan::scanner::LONGEST_TEXT;
 use std::alloc::Global;
 
@@ -25,7 +23,7 @@ pub fn list_text(alloc: Global, text: &[u8]) -> Result<String, CompileFault>
     ensures memory { IfErr result TellsMemoryApart }
 
     // A text over the scanner's bound is refused, whatever it says.
-    ensures too_long { LONGEST_TEXT < length text.now → result ≡ Err (CompileFault.Text (TextFault.Scan ScanFault.TooLong)) }
+    ensures too_long { LONGEST_TEXT < length text.now → result ≡ Err too_long }
 {
     let object = compile(alloc, text, 1, DEFAULT_BUDGET)?;
     let names = names_of(alloc, object.checked().program().procedures.as_slice())?;

@@ -50,6 +50,10 @@ IsSeqTextFault text script budget (Faults.Compile e) = IsCompileFault text most_
 IsSeqTextFault text script budget (Faults.Script e) = IsScriptFaultOf text script budget e
 IsSeqTextFault text script budget Faults.NoMemory = Unit {0}
 
+-- a text over the scanner's bound
+abbrev pub too_long : SeqTextFault
+too_long = Faults.Compile Compilation.too_long
+
 -- want of memory is told by its own variant alone
 abbrev pub TellsMemoryApart : SeqTextFault → Type 0
 TellsMemoryApart (Faults.Compile e) = Compilation.IsNumbered e

@@ -1,12 +1,10 @@
 //! Whether a text has an object.
 
 ghost use Rattle.std.specs.Prelude.{◌≡◌, ◌<◌, Err, IfErr, OnOk, length};
-ghost use Rattle.ob_object_compile.specs.Compilation.{IsCompileFault, IsNumbered, HasNoObject, TellsMemoryApart, default_budget};
+ghost use Rattle.ob_object_compile.specs.Compilation.{IsCompileFault, IsNumbered, HasNoObject, TellsMemoryApart, default_budget, too_long};
 ghost use Rattle.ob_object_sequence.specs.SequentialRun.{HasObject};
 
-use ob_check_text::TextFault;
 use ob_object_compile::{CompileFault, DEFAULT_BUDGET, compile};
-use ob_scan::ScanFault;
 use ob_scan::scanner::LONGEST_TEXT;
 use std::alloc::Global;
 
@@ -22,7 +20,7 @@ pub fn check_text(alloc: Global, text: &[u8]) -> Result<(), CompileFault>
     ensures memory { IfErr result TellsMemoryApart }
 
     // A text over the scanner's bound is refused, whatever it says.
-    ensures too_long { LONGEST_TEXT < length text.now → result ≡ Err (CompileFault.Text (TextFault.Scan ScanFault.TooLong)) }
+    ensures too_long { LONGEST_TEXT < length text.now → result ≡ Err too_long }
 {
     compile(alloc, text, 1, DEFAULT_BUDGET)?;
     Ok(())

@@ -7,17 +7,15 @@ ghost use Rattle.ob_checked.specs.Exports.{signatures};
 ghost use Rattle.ob_interface.specs.Export.{CallFits};
 ghost use Rattle.ob_interpreter.specs.Sequences.{OpeningTraps};
 ghost use Rattle.ob_meaning.specs.Object.{most_turns};
-ghost use Rattle.ob_object_sequence.specs.SequentialRun.{HasNoRun, IsNumbered, IsSequentialRun, IsSeqTextFault, PrintsReplies, TellsMemoryApart};
+ghost use Rattle.ob_object_sequence.specs.SequentialRun.{HasNoRun, IsNumbered, IsSequentialRun, IsSeqTextFault, PrintsReplies, TellsMemoryApart, too_long};
 ghost use Rattle.ob_text_words.specs.ScriptCalls.{object_call, script_call_of};
 
 use crate::calls::{callers, object_calls, object_replies};
 use crate::reply_lines::print_replies;
-use ob_check_text::TextFault;
 use ob_checked::checked::Checked;
 use ob_interface::{MOST_PROCESSES, NoMemory};
 use ob_interpreter::sequence::{SeqFault, sequence};
 use ob_object_compile::{CompileFault, compile};
-use ob_scan::ScanFault;
 use ob_scan::scanner::LONGEST_TEXT;
 use ob_text_scripts::{ScriptFault, read_scripts};
 use ob_text_words::script_call::ScriptCall;
@@ -97,7 +95,7 @@ pub fn seq_text(
     ensures too_much { most_turns < budget → result ≡ Err (SeqTextFault.Compile CompileFault.Budget) }
 
     // Behind that, a text over the scanner's bound is refused, whatever it says.
-    ensures too_long { budget ≤ most_turns → LONGEST_TEXT < length «module».now → result ≡ Err (SeqTextFault.Compile (CompileFault.Text (TextFault.Scan ScanFault.TooLong))) }
+    ensures too_long { budget ≤ most_turns → LONGEST_TEXT < length «module».now → result ≡ Err too_long }
 {
     let object = compile(alloc, module, MOST_PROCESSES, budget)?;
     let checked = object.checked();

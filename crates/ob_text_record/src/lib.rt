@@ -1,4 +1,4 @@
-//! Records of runs of the whole language: what a run of the object showed, as text.
+//! Records of runs: what a run of the object showed, as text.
 #![tactic(auto)]
 
 mod events;

@@ -61,6 +61,10 @@ module _ (signatures : List Signature) (processes : ℕ) where
         ((arguments : List Scalar) → AreValues (value_types signature.formals) rest arguments → ⊥) →
         HasBadArguments (first ∷ name ∷ rest)
 
+  -- the text says these calls and no others
+  abbrev pub IsOnlyScript : List ℕ → List ScriptCall → Type 0
+  IsOnlyScript text calls = (others : List ScriptCall) → IsScript text others → others ≡ calls
+
   -- the line of this number, from 1, has this fault, and the lines before it are fine
   pub record FailsAtLine (text : List ℕ) (number : ℕ) (IsFault : List Word → Type 0) : Type 0 where
     pub line : List Word

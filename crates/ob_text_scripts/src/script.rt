@@ -5,8 +5,7 @@ ghost use Rattle.ob_checked.specs.CheckedModule.{program_in};
 ghost use Rattle.ob_checked.specs.Exports.{signatures};
 ghost use Rattle.ob_interface.specs.Export.{CallFits};
 ghost use Rattle.ob_interface.specs.View.{signature_of};
-ghost use Rattle.ob_text_scripts.specs.Script.{IsScript, IsScriptFault};
-ghost use Rattle.ob_text_words.specs.ScriptCalls;
+ghost use Rattle.ob_text_scripts.specs.Script.{IsOnlyScript, IsScript, IsScriptFault};
 ghost use Rattle.ob_text_words.specs.ScriptCalls.{object_call, script_call_of};
 
 mod line;
@@ -127,7 +126,7 @@ pub fn read_scripts(
     text: &[u8],
 ) -> Result<Scripts, ScriptFault>
     ensures script { IfOk result (λ calls. IsScript (signatures (program_in checked.now)) processes text.now calls) }
-    ensures alone { IfOk result (λ calls. (others : List ScriptCalls.ScriptCall) → IsScript (signatures (program_in checked.now)) processes text.now others → others ≡ calls) }
+    ensures alone { IfOk result (IsOnlyScript (signatures (program_in checked.now)) processes text.now) }
     ensures fault { IfErr result (λ e. IsScriptFault (signatures (program_in checked.now)) processes text.now e) }
 
     // Each call is by one of the processes, and fits the exports.

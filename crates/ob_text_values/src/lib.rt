@@ -1,4 +1,4 @@
-//! What the texts of runs of the whole language show of its program: the values of its variables.
+//! What the texts of runs show of a program: the values of its variables.
 #![tactic(auto)]
 
 pub mod laws;
