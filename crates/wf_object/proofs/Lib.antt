@@ -1,4 +1,5 @@
 mod Opening
+mod Packs
 mod Scripts
 mod OneStep
 mod Spends

@@ -1,3 +1,4 @@
+pub mod Packed
 pub mod Faults
 pub mod View
 pub mod Kept

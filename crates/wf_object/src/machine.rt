@@ -2,9 +2,10 @@
 
 ghost use Rattle.std.specs.Prelude.{◌≡◌, ◌+◌, ◌*◌, ◌<◌, ◌≤◌, ◌⊎◌, ◌↔◌, [], ◌++◌, ◌∷◌, List, Contains, take, replicate, IfOk, OnOk, OnErr, length};
 ghost use Rattle.ll_cell.specs.Cell.{block_of};
+ghost use Rattle.ll_cell.specs.Form.{kept_words};
+ghost use Rattle.wf_object.specs.Packed.{packed};
 ghost use Rattle.ob_interface.specs.View.{call_of};
 ghost use Rattle.wf_object.specs.declared.fault.NewFault.TheVariants as Faults;
-ghost use Rattle.wf_table.specs.Ranges.{IsSized, IsShaped};
 ghost use Rattle.wf_object.specs.View.{answer_in};
 
 use crate::engine::Engine;
@@ -249,11 +250,25 @@ impl<E: Engine> Machine<E> {
         bound_of(self.sizes)
     }
 
-    /// A copy of the variable words of the root.
+    /// The variable words of the root.
+    pub fn variables(&self) -> &[i64]
+        ensures { result.now ≡ take self.now.sizes.variables (block_of self.now.state.cell self.now.state.cell.root) }
+    {
+        self.shared.root_words(self.sizes.variables)
+    }
+
+    /// A copy of the words that `variables` lends.
     pub fn state_words(&self) -> Result<Vec<i64>, NoMemory>
         ensures { IfOk result (λ v. v.items ≡ take self.now.sizes.variables (block_of self.now.state.cell self.now.state.cell.root)) }
     {
-        root_words(self.alloc, self.sizes, &self.shared)
+        Ok(self.variables().to_vec(self.alloc)?)
+    }
+
+    /// How many words of all blocks are kept as words; their toggles are kept as bits.
+    pub fn table_words(&self) -> usize
+        ensures { result ≡ kept_words (packed self.now.sizes) * (self.now.sizes.processes + 1) }
+    {
+        self.shared.table_words()
     }
 
     /// The engine, the history, the order and the schedule.
@@ -276,18 +291,4 @@ impl<E: Engine> Machine<E> {
         let (history, order, schedule) = records.into_parts();
         (engine, history, order, schedule)
     }
-}
-
-/// The first words of the root.
-fn root_words(alloc: Global, z: Sizes, shared: &Shared) -> Result<Vec<i64>, NoMemory>
-    requires sized { IsSized z }
-    requires shaped { IsShaped z shared.now.cell }
-    ensures { IfOk result (λ v. v.items ≡ take z.variables (block_of shared.now.cell shared.now.cell.root)) }
-{
-    let root = shared.root();
-    let mut words = Vec::with_capacity(alloc, z.variables)?;
-    for i in 0..z.variables {
-        words.push(shared.read_word(root, i))?;
-    }
-    Ok(words)
 }
