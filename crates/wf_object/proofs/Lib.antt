@@ -2,5 +2,6 @@ mod Opening
 mod Packs
 mod Scripts
 mod OneStep
+mod QuietSteps
 mod Spends
 mod Keeps

@@ -3,3 +3,4 @@ pub mod Faults
 pub mod View
 pub mod Kept
 pub mod Halted
+pub mod Quiet

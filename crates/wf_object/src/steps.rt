@@ -139,6 +139,7 @@ pub fn check<R>(shared: &Shared, q: &mut Process<R>, p: usize, passed: Label)
 }
 
 /// One step of the body on the variables of p's own block.
+#[inline]
 fn step_body<E: Engine>(
     engine: &E,
     z: Sizes,
@@ -160,6 +161,7 @@ fn step_body<E: Engine>(
     engine.step(run, block)
 }
 
+#[inline]
 pub fn body<E: Engine>(engine: &E, z: Sizes, shared: &mut Shared, q: &mut Process<E::Run>, p: usize)
     requires sized { IsSized z }
     requires shaped { IsShaped z shared.old.cell }
@@ -407,6 +409,7 @@ fn or_past(words: usize, label: Label, past: Label) -> Label
 }
 
 /// One step of the process on the cell.
+#[inline(always)]
 pub fn act<E: Engine>(engine: &E, z: Sizes, shared: &mut Shared, q: &mut Process<E::Run>, p: usize)
     requires sized { IsSized z }
     requires shaped { IsShaped z shared.old.cell }
