@@ -62,6 +62,7 @@ fn clear(stack: &mut Stack, count: usize) -> Answer
 }
 
 /// Replaces the word on top by what an instruction makes of it.
+#[inline(always)]
 fn of_one(stack: &mut Stack, instr: Instr) -> Answer
     ensures { LeavesStack result stack.old stack.new (Effects.of_one (Words.made_of_one instr) stack.old.words) }
 {
@@ -79,6 +80,7 @@ fn of_one(stack: &mut Stack, instr: Instr) -> Answer
 }
 
 /// Replaces the two words on top by what an instruction makes of them.
+#[inline(always)]
 fn of_two(stack: &mut Stack, instr: Instr) -> Answer
     ensures { LeavesStack result stack.old stack.new (Effects.of_two (Words.made_of_two instr) stack.old.words) }
 {

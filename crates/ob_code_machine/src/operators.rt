@@ -93,6 +93,7 @@ fn rest(x: i64, y: i64) -> Made
 }
 
 /// What an instruction makes of x, the word on top.
+#[inline(always)]
 pub fn made_of_one(instr: Instr, x: i64) -> Made
     ensures { made_in result ≡ Words.made_of_one instr x }
 {
@@ -105,6 +106,7 @@ pub fn made_of_one(instr: Instr, x: i64) -> Made
 }
 
 /// What an instruction makes of x and y, the two words on top, y above x.
+#[inline(always)]
 pub fn made_of_two(instr: Instr, x: i64, y: i64) -> Made
     ensures { made_in result ≡ Words.made_of_two instr x y }
 {

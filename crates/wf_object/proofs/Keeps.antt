@@ -4,12 +4,11 @@ use Rattle.std.specs.Prelude.{ℤ, Some, slice_get}
 use Rattle.std.proofs.lemmas.List.{get_or-replicate}
 use Rattle.std.proofs.lemmas.Option.{slice_get_within}
 use Rattle.ll_cell.specs.declared.form.Form.{Form}
-use Rattle.ll_cell.specs.Form.{whole}
 use Rattle.ob_interface.specs.Call.{ObjectCall}
 use Rattle.wf_table.specs.declared.process.Sizes.{Sizes}
 use Rattle.wf_table.specs.Meaning.{Meaning}
 use Rattle.wf_table.specs.Law.{Effects, IsLawful}
-use Rattle.wf_table.specs.Table.{Process, block_words}
+use Rattle.wf_table.specs.Table.{Process}
 use Rattle.wf_table.specs.Object.{State, stepped}
 use Rattle.wf_table.specs.Each.{Each}
 use Rattle.wf_table.specs.Ranges.{IsSized}
@@ -29,11 +28,12 @@ use Rattle.wf_help.proofs.Runs.{start_helped, step_helped, submitted}
 use Rattle.wf_standing.proofs.Runs.{start_standing, step_standing, submit_standing}
 use Rattle.wf_standing.proofs.Legal.{step_answered}
 use Rattle.wf_object.specs.Kept.{IsKept}
+use Rattle.wf_object.specs.Packed.{packed}
 use Rattle.wf_object.proofs.Spends.{later, spends_stay, among_stay}
 
 module _ {Run : Type 0} (m : Meaning Run) (lawful : List ℤ → Type 0) (fits : ObjectCall → Type 0) (ready : Run → Type 0) (Effect : Effects) (law : IsLawful m lawful fits ready Effect) (z : Sizes) (opening : List ℤ) where
-  pub start_kept : (ps : List (Process Run)) (form : Form) → form ≡ whole (block_words z) → lawful opening → IsSized z → z.variables ≡ m.variables → z.replies ≡ m.replies → z.arguments ≡ m.arguments → length ps ≡ z.processes → Each (λ _ q. IsIdle ready z q) ps → IsKept m lawful fits ready z opening (record { cell = cell_at_start z opening; processes = ps; records = records_at_start z.processes }) (replicate z.processes unspent) form
-  start_kept ps form undivided opens sized variables replies arguments count idle =
+  pub start_kept : (ps : List (Process Run)) (form : Form) → form ≡ packed z → lawful opening → IsSized z → z.variables ≡ m.variables → z.replies ≡ m.replies → z.arguments ≡ m.arguments → length ps ≡ z.processes → Each (λ _ q. IsIdle ready z q) ps → IsKept m lawful fits ready z opening (record { cell = cell_at_start z opening; processes = ps; records = records_at_start z.processes }) (replicate z.processes unspent) form
+  start_kept ps form packs opens sized variables replies arguments count idle =
       let long : length opening ≡ z.variables = omega (arith, law.length_lawful opening opens, variables) in
       let s : State Run = record { cell = cell_at_start z opening; processes = ps; records = records_at_start z.processes } in
       let sound = start_sound m lawful fits ready z opening ps opens sized long variables replies arguments count idle in
@@ -46,7 +46,7 @@ module _ {Run : Type 0} (m : Meaning Run) (lawful : List ℤ → Type 0) (fits :
         answered = λ words last made i id reply at ended. absurd (omega (arith, at.0));
         spends = subst (λ (n : ℕ). EachCounts (StaysWithin z) unspent (replicate n unspent) ps) count (start_counts m z spent_after unspent (StaysWithin z) s (λ k q at. idle_stays m z q (idle k q at).label));
         among = λ k q at. omega (arith, ap (λ (x : Spent). x.inside) (get_or-replicate z.processes k unspent unspent (omega (arith, slice_get_within ps k q at, count))));
-        undivided = undivided;
+        packs = packs;
       }
 
   module _ (s : State Run) (p : ℕ) (q : Process Run) (at : slice_get s.processes p ≡ Some q) (spent : List Spent) (form : Form) (h : IsKept m lawful fits ready z opening s spent form) where
@@ -63,7 +63,7 @@ module _ {Run : Type 0} (m : Meaning Run) (lawful : List ℤ → Type 0) (fits :
           answered = step_answered m lawful fits ready Effect law z opening s p (Some q) at h.sound sound h.committed committed h.standing h.helped.root helped.root h.answered;
           spends = spends_stay m z s p q at spent h.sound.sized h.sound.in_range h.spends;
           among = among_stay m z s p q at spent h.spends.count h.among;
-          undivided = h.undivided;
+          packs = h.packs;
         }
 
     pub submit_kept : (call : ObjectCall) → fits call → IsKept m lawful fits ready z opening (record s { processes = set s.processes p (record q { calls = q.calls ++ call ∷ [] }) }) spent form
@@ -75,5 +75,5 @@ module _ {Run : Type 0} (m : Meaning Run) (lawful : List ℤ → Type 0) (fits :
       answered = h.answered;
       spends = submit_counts m z spent_after unspent (StaysWithin z) s spent p call (Some q) (λ k o calls stays. record { outside = stays.outside; bodies = stays.bodies }) at h.spends;
       among = each_after _ _ s.processes p _ h.among (h.among _ _ at) (λ k o apart old. old);
-      undivided = h.undivided;
+      packs = h.packs;
     }

@@ -1,11 +1,9 @@
 -- What a machine keeps from step to step.
 use Rattle.std.specs.Prelude.{◌≡◌, ◌≤◌, ℤ, List, length}
 use Rattle.ll_cell.specs.declared.form.Form.{Form}
-use Rattle.ll_cell.specs.Form.{whole}
 use Rattle.ob_interface.specs.Call.{ObjectCall}
 use Rattle.wf_table.specs.declared.process.Sizes.{Sizes}
 use Rattle.wf_table.specs.Meaning.{Meaning}
-use Rattle.wf_table.specs.Table.{block_words}
 use Rattle.wf_table.specs.Object.{State}
 use Rattle.wf_table.specs.Schedule.{steps_of}
 use Rattle.wf_table.specs.Each.{Each}
@@ -18,6 +16,7 @@ use Rattle.wf_commits.specs.Commits.{IsCommitted}
 use Rattle.wf_help.specs.Helps.{IsHelped}
 use Rattle.wf_standing.specs.Stands.{IsStanding}
 use Rattle.wf_standing.specs.Answers.{AreAnswered}
+use Rattle.wf_object.specs.Packed.{packed}
 
 pub record IsKept {Run : Type 0} (m : Meaning Run) (lawful : List ℤ → Type 0) (fits : ObjectCall → Type 0) (ready : Run → Type 0) (z : Sizes) (opening : List ℤ) (s : State Run) (spent : List Spent) (form : Form) : Type 0 where
   pub sound : IsSound m lawful fits ready z opening s
@@ -28,5 +27,5 @@ pub record IsKept {Run : Type 0} (m : Meaning Run) (lawful : List ℤ → Type 0
   pub spends : EachCounts (StaysWithin z) unspent spent s.processes
   -- steps in bodies are among all steps
   pub among : Each (λ p _. (spent_of spent p).inside ≤ length (steps_of s.records.schedule)) s.processes
-  -- blocks have no bits
-  pub undivided : form ≡ whole (block_words z)
+  -- toggles are kept as bits
+  pub packs : form ≡ packed z

@@ -1,4 +1,6 @@
+pub mod Packed
 pub mod Faults
 pub mod View
 pub mod Kept
 pub mod Halted
+pub mod Quiet

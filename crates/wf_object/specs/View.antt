@@ -3,6 +3,8 @@ use Rattle.std.specs.Prelude.{ℤ, List}
 use Rattle.ob_interface.specs.View.{reply_of}
 use Rattle.wf_object.specs.declared.records.StepOut.{StepOut}
 use Rattle.wf_object.specs.declared.records.StepOut.TheVariants.{On, Began, Answered, Halted}
+use Rattle.wf_object.specs.declared.records.Seen.{Seen}
+use Rattle.wf_object.specs.declared.records.Seen.TheVariants as Seen
 use Rattle.wf_table.specs.declared.process.Sizes.{Sizes}
 use Rattle.wf_table.specs.Object.{State, Answer, GoesOn, Begins, Replies, Halts}
 use Rattle.wf_bound.specs.declared.spent.Spent.{Spent}
@@ -20,3 +22,10 @@ answer_in On = GoesOn
 answer_in (Began id) = Begins id
 answer_in (Answered id reply) = Replies id (reply_of reply)
 answer_in Halted = Halts
+
+-- an answer, without its id and its reply
+abbrev pub seen_in : Answer → Seen
+seen_in GoesOn = Seen.On
+seen_in (Begins id) = Seen.Began
+seen_in (Replies id reply) = Seen.Answered
+seen_in Halts = Seen.Halted

@@ -1,17 +1,19 @@
 //! The step machine.
 
-ghost use Rattle.std.specs.Prelude.{◌≡◌, ◌+◌, ◌*◌, ◌<◌, ◌≤◌, ◌⊎◌, ◌↔◌, [], ◌++◌, ◌∷◌, List, Contains, take, replicate, IfOk, OnOk, OnErr, length};
+ghost use Rattle.std.specs.Prelude.{true, ◌≡◌, ◌+◌, ◌*◌, ◌<◌, ◌≤◌, ◌⊎◌, ◌↔◌, [], ◌++◌, ◌∷◌, List, Contains, take, replicate, IfOk, OnOk, OnErr, length};
 ghost use Rattle.ll_cell.specs.Cell.{block_of};
+ghost use Rattle.ll_cell.specs.Form.{kept_words};
+ghost use Rattle.wf_object.specs.Packed.{packed};
 ghost use Rattle.ob_interface.specs.View.{call_of};
 ghost use Rattle.wf_object.specs.declared.fault.NewFault.TheVariants as Faults;
-ghost use Rattle.wf_table.specs.Ranges.{IsSized, IsShaped};
-ghost use Rattle.wf_object.specs.View.{answer_in};
+ghost use Rattle.wf_object.specs.View.{answer_in, seen_in};
+ghost use Rattle.wf_object.specs.Quiet.{is_quiet};
 
 use crate::engine::Engine;
 use crate::fault::NewFault;
 use crate::process::Process;
-use crate::records::{Records, StepOut};
-use crate::seen::note_step;
+use crate::records::{Records, Seen, StepOut};
+use crate::seen::{is_quiet, note_step};
 use crate::spent::{bound_of, count_step};
 use crate::start::{idle, opened};
 use crate::steps::act;
@@ -160,6 +162,64 @@ impl<E: Engine> Machine<E> {
         Ok(out)
     }
 
+    /// One step of the process, as `step` takes it, for those who need no reply.
+    pub fn advance(&mut self, p: usize) -> Result<Seen, NoMemory>
+        requires { p < self.old.sizes.processes }
+        ensures stepped { OnOk result (self.new ≡ record self.old { state = step_of (E.meaning self.old.engine) self.old.sizes self.old.state p; spent = spent_by_step self.old.state self.old.spent p }) }
+        ensures seen { IfOk result (λ seen. seen ≡ seen_in (answer_of (E.meaning self.old.engine) self.old.sizes self.old.state p)) }
+        ensures turn { OnOk result (steps_of self.new.state.records.schedule ≡ steps_of self.old.state.records.schedule ++ p ∷ []) }
+        ensures err { OnErr result (self.new ≡ self.old) }
+    {
+        let process = &self.processes[p];
+        if is_quiet(process.label) {
+            self.step_quietly(p)?;
+            return Ok(Seen::On);
+        }
+        self.show(p)
+    }
+
+    /// A step that may show something.
+    #[inline(never)]
+    fn show(&mut self, p: usize) -> Result<Seen, NoMemory>
+        requires { p < self.old.sizes.processes }
+        ensures stepped { OnOk result (self.new ≡ record self.old { state = step_of (E.meaning self.old.engine) self.old.sizes self.old.state p; spent = spent_by_step self.old.state self.old.spent p }) }
+        ensures seen { IfOk result (λ seen. seen ≡ seen_in (answer_of (E.meaning self.old.engine) self.old.sizes self.old.state p)) }
+        ensures turn { OnOk result (steps_of self.new.state.records.schedule ≡ steps_of self.old.state.records.schedule ++ p ∷ []) }
+        ensures err { OnErr result (self.new ≡ self.old) }
+    {
+        match self.step(p)? {
+            StepOut::On => Ok(Seen::On),
+            StepOut::Began(_) => Ok(Seen::Began),
+            StepOut::Answered(_, _) => Ok(Seen::Answered),
+            StepOut::Halted => Ok(Seen::Halted),
+        }
+    }
+
+    /// A step at a label that shows nothing: no room for an event is made.
+    #[inline(always)]
+    fn step_quietly(&mut self, p: usize) -> Result<(), NoMemory>
+        requires process { p < self.old.sizes.processes }
+        requires quiet { is_quiet (label_of self.old.state p) ≡ true }
+        ensures stepped { OnOk result (self.new ≡ record self.old { state = step_of (E.meaning self.old.engine) self.old.sizes self.old.state p; spent = spent_by_step self.old.state self.old.spent p }) }
+        ensures turn { OnOk result (steps_of self.new.state.records.schedule ≡ steps_of self.old.state.records.schedule ++ p ∷ []) }
+        ensures err { OnErr result (self.new ≡ self.old) }
+    {
+        let process = &self.processes[p];
+        let label = process.label;
+        self.records.few_turns();
+        self.records.note_quiet(p, label)?;
+        let spent = &mut self.spent[p];
+        count_step(spent, label, false);
+        act(
+            &self.engine,
+            self.sizes,
+            &mut self.shared,
+            &mut self.processes[p],
+            p,
+        );
+        Ok(())
+    }
+
     /// Nothing happens: what the machine keeps, for those who hold one.
     pub fn keeps(&self)
         ensures sound { IsSound (E.meaning self.now.engine) (E.lawful self.now.engine) (E.fits self.now.engine) (E.ready self.now.engine) self.now.sizes self.now.opening self.now.state }
@@ -249,11 +309,25 @@ impl<E: Engine> Machine<E> {
         bound_of(self.sizes)
     }
 
-    /// A copy of the variable words of the root.
+    /// The variable words of the root.
+    pub fn variables(&self) -> &[i64]
+        ensures { result.now ≡ take self.now.sizes.variables (block_of self.now.state.cell self.now.state.cell.root) }
+    {
+        self.shared.root_words(self.sizes.variables)
+    }
+
+    /// A copy of the words that `variables` lends.
     pub fn state_words(&self) -> Result<Vec<i64>, NoMemory>
         ensures { IfOk result (λ v. v.items ≡ take self.now.sizes.variables (block_of self.now.state.cell self.now.state.cell.root)) }
     {
-        root_words(self.alloc, self.sizes, &self.shared)
+        Ok(self.variables().to_vec(self.alloc)?)
+    }
+
+    /// How many words of all blocks are kept as words; their toggles are kept as bits.
+    pub fn table_words(&self) -> usize
+        ensures { result ≡ kept_words (packed self.now.sizes) * (self.now.sizes.processes + 1) }
+    {
+        self.shared.table_words()
     }
 
     /// The engine, the history, the order and the schedule.
@@ -276,18 +350,4 @@ impl<E: Engine> Machine<E> {
         let (history, order, schedule) = records.into_parts();
         (engine, history, order, schedule)
     }
-}
-
-/// The first words of the root.
-fn root_words(alloc: Global, z: Sizes, shared: &Shared) -> Result<Vec<i64>, NoMemory>
-    requires sized { IsSized z }
-    requires shaped { IsShaped z shared.now.cell }
-    ensures { IfOk result (λ v. v.items ≡ take z.variables (block_of shared.now.cell shared.now.cell.root)) }
-{
-    let root = shared.root();
-    let mut words = Vec::with_capacity(alloc, z.variables)?;
-    for i in 0..z.variables {
-        words.push(shared.read_word(root, i))?;
-    }
-    Ok(words)
 }

@@ -27,6 +27,19 @@ pub enum StepOut {
     Halted,
 }
 
+/// What a step shows, without what it answers.
+#[derive(Clone, Copy, PartialEq, Eq)]
+pub enum Seen {
+    /// The process goes on.
+    On,
+    /// The process began its next call.
+    Began,
+    /// The process's call ended.
+    Answered,
+    /// The process has no call left: nothing changed but the schedule.
+    Halted,
+}
+
 /// What was seen, in which order calls were applied, and who stepped; and of the history's lengths
 /// those at each process's last FLIP, and for each block that behind the event that last made it the root.
 #[derive(Drop)]
@@ -65,6 +78,7 @@ impl Records {
     }
 
     /// One more step of process p, at the label, which shows nothing. Nothing changes where memory runs out.
+    #[inline(always)]
     pub fn note_quiet(&mut self, p: usize, label: Label) -> Result<(), NoMemory>
         requires { p < length self.old.flip_marks }
         ensures ok { OnOk result (self.new ≡ noted self.old p label 0 None) }

@@ -9,6 +9,7 @@ ghost use Rattle.wf_table.specs.Ranges.{IsSized, IsShaped, IsInRange};
 ghost use Rattle.wf_table.specs.Scripts.{CallsFit};
 ghost use Rattle.wf_table.specs.Object.{event_at, ended, began, applied, applied_ids, begun_of, history_after, noted, answer_by};
 ghost use Rattle.wf_object.specs.View.{answer_in};
+ghost use Rattle.wf_object.specs.Quiet.{is_quiet};
 ghost use Rattle.wf_history.specs.History.{IsHistory};
 
 use crate::copies::{copy_call, copy_reply};
@@ -21,6 +22,14 @@ use ob_interface::NoMemory;
 use std::alloc::Global;
 use wf_history::CallId;
 use wf_table::{Label, Sizes};
+
+/// Whether a step at the label shows nothing.
+#[inline(always)]
+pub fn is_quiet(label: Label) -> bool
+    ensures { result ≡ is_quiet label }
+{
+    !matches!(label, Label::Next | Label::Commit | Label::Give)
+}
 
 /// Notes what a step of the process shows, and answers it. Nothing changes where memory runs out.
 pub fn note_step<E: Engine>(

@@ -9,6 +9,7 @@ use wf_bound::Spent;
 use wf_table::{Label, Sizes};
 
 /// A step at the label counts; at NEXT it begins a call or is halted.
+#[inline(always)]
 pub fn count_step(spent: &mut Spent, label: Label, begins: bool)
     requires bodies { spent.old.bodies + 1 < 2 ^ 128 }
     requires inside { spent.old.inside + 1 < 2 ^ 128 }

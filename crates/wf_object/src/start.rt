@@ -2,8 +2,7 @@
 
 ghost use Rattle.std.specs.Prelude.{◌≡◌, ◌+◌, ◌<◌, ◌≤◌, ◌^◌, IfOk, IfErr, length};
 ghost use Rattle.ll_cell.specs.Cell.{own_of, block_of, refill_own};
-ghost use Rattle.ll_cell.specs.Form.{whole};
-ghost use Rattle.wf_table.specs.Table.{block_words};
+ghost use Rattle.wf_object.specs.Packed.{packed};
 ghost use Rattle.wf_object.specs.declared.fault.NewFault.TheVariants as Faults;
 ghost use Rattle.wf_table.specs.Ranges.{IsSized};
 ghost use Rattle.wf_table.specs.Start.{cell_at_start, IsIdle};
@@ -12,7 +11,6 @@ ghost use Rattle.wf_table.specs.Each.{Each};
 use crate::engine::Engine;
 use crate::fault::NewFault;
 use crate::process::Process;
-use crate::steps::block_length;
 use ll_cell::Shared;
 use ob_interface::NoMemory;
 use std::alloc::Global;
@@ -23,10 +21,16 @@ pub fn opened(alloc: Global, z: Sizes, block: &[i64]) -> Result<Shared, NewFault
     requires sized { IsSized z }
     requires words { length block.now ≡ z.variables }
     ensures cell { IfOk result (λ shared. shared.cell ≡ cell_at_start z block.now) }
-    ensures form { IfOk result (λ shared. shared.form ≡ whole (block_words z)) }
+    ensures form { IfOk result (λ shared. shared.form ≡ packed z) }
     ensures memory { IfErr result (λ fault. fault ≡ Faults.NoMemory) }
 {
-    let mut shared = Shared::new(alloc, z.processes, block_length(z), z.arguments + 1)?;
+    let mut shared = Shared::packed(
+        alloc,
+        z.processes,
+        z.variables,
+        z.replies + 2,
+        z.arguments + 1,
+    )?;
     fill(&mut shared, block);
     let _ = shared.load_linked(0);
     let _ = shared.store_conditional(0);

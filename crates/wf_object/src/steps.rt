@@ -5,6 +5,8 @@ ghost use Rattle.ll_cell.specs.Cell.{refill_own};
 ghost use Rattle.wf_table.specs.Table.{next, mine, fetch, save, enter, undo, keep, commit, kept_word, row, or_past, part, cell_after, post, flip, try, links, load, store, check, seen, read, take_reply, give, body_step, toggle_in, own_block, block_words, inverted};
 ghost use Rattle.wf_table.specs.Scripts.{CallsFit};
 ghost use Rattle.wf_table.specs.Ranges.{IsSized, IsShaped, IsInRange};
+ghost use Rattle.wf_table.specs.Toggles.{StoresBit};
+ghost use Rattle.wf_object.specs.Packed.{packed};
 ghost use Rattle.wf_table.specs.declared.process.Label.TheVariants.{Post, Load, Store, Fetch, Save, Undo, Keep, Take};
 
 use crate::engine::Engine;
@@ -25,7 +27,7 @@ pub fn part_of(z: Sizes, q: usize) -> usize
 pub fn post<R>(z: Sizes, shared: &mut Shared, q: &mut Process<R>, p: usize)
     requires sized { IsSized z }
     requires shaped { IsShaped z shared.old.cell }
-    requires no_bits { shared.old.form.parts ≡ 0 }
+    requires packed { shared.old.form ≡ packed z }
     requires process { p < z.processes }
     requires in_range { IsInRange z q.old }
     requires label { q.old.label ≡ Post }
@@ -44,7 +46,7 @@ pub fn post<R>(z: Sizes, shared: &mut Shared, q: &mut Process<R>, p: usize)
 pub fn flip<R>(z: Sizes, shared: &mut Shared, q: &mut Process<R>, p: usize)
     requires sized { IsSized z }
     requires shaped { IsShaped z shared.old.cell }
-    requires no_bits { shared.old.form.parts ≡ 0 }
+    requires packed { shared.old.form ≡ packed z }
     requires process { p < z.processes }
     ensures cell { shared.new.cell ≡ cell_after shared.old.cell p (flip z shared.old.cell p q.old).change }
     ensures form { shared.new.form ≡ shared.old.form }
@@ -98,10 +100,11 @@ pub fn load<R>(z: Sizes, shared: &Shared, q: &mut Process<R>)
 pub fn store<R>(z: Sizes, shared: &mut Shared, q: &mut Process<R>, p: usize)
     requires sized { IsSized z }
     requires shaped { IsShaped z shared.old.cell }
-    requires no_bits { shared.old.form.parts ≡ 0 }
+    requires packed { shared.old.form ≡ packed z }
     requires process { p < z.processes }
     requires in_range { IsInRange z q.old }
     requires label { q.old.label ≡ Store }
+    requires stores_bit { StoresBit z q.old }
     ensures cell { shared.new.cell ≡ cell_after shared.old.cell p (store z q.old).change }
     ensures form { shared.new.form ≡ shared.old.form }
     ensures process { q.new ≡ (store z q.old).process }
@@ -136,6 +139,7 @@ pub fn check<R>(shared: &Shared, q: &mut Process<R>, p: usize, passed: Label)
 }
 
 /// One step of the body on the variables of p's own block.
+#[inline]
 fn step_body<E: Engine>(
     engine: &E,
     z: Sizes,
@@ -144,7 +148,7 @@ fn step_body<E: Engine>(
     p: usize,
 ) -> EngineTurn
     requires shaped { IsShaped z shared.old.cell }
-    requires head { shared.old.form.head ≡ block_words z }
+    requires packed { shared.old.form ≡ packed z }
     requires process { p < z.processes }
     requires variables { z.variables ≡ (E.meaning engine.now).variables }
     requires ready { E.ready engine.now run.old }
@@ -157,10 +161,11 @@ fn step_body<E: Engine>(
     engine.step(run, block)
 }
 
+#[inline]
 pub fn body<E: Engine>(engine: &E, z: Sizes, shared: &mut Shared, q: &mut Process<E::Run>, p: usize)
     requires sized { IsSized z }
     requires shaped { IsShaped z shared.old.cell }
-    requires head { shared.old.form.head ≡ block_words z }
+    requires packed { shared.old.form ≡ packed z }
     requires process { p < z.processes }
     requires variables { z.variables ≡ (E.meaning engine.now).variables }
     requires ready { E.ready engine.now q.old.run }
@@ -287,7 +292,7 @@ pub fn enter<E: Engine>(engine: &E, q: &mut Process<E::Run>)
 pub fn undo<R>(z: Sizes, shared: &mut Shared, q: &mut Process<R>, p: usize)
     requires sized { IsSized z }
     requires shaped { IsShaped z shared.old.cell }
-    requires no_bits { shared.old.form.parts ≡ 0 }
+    requires packed { shared.old.form ≡ packed z }
     requires process { p < z.processes }
     requires in_range { IsInRange z q.old }
     requires label { q.old.label ≡ Undo }
@@ -331,7 +336,7 @@ fn word_kept<E: Engine>(engine: &E, z: Sizes, shared: &Shared, q: &Process<E::Ru
 pub fn keep<E: Engine>(engine: &E, z: Sizes, shared: &mut Shared, q: &mut Process<E::Run>, p: usize)
     requires sized { IsSized z }
     requires shaped { IsShaped z shared.old.cell }
-    requires no_bits { shared.old.form.parts ≡ 0 }
+    requires packed { shared.old.form ≡ packed z }
     requires process { p < z.processes }
     requires in_range { IsInRange z q.old }
     requires label { q.old.label ≡ Keep }
@@ -404,11 +409,11 @@ fn or_past(words: usize, label: Label, past: Label) -> Label
 }
 
 /// One step of the process on the cell.
+#[inline(always)]
 pub fn act<E: Engine>(engine: &E, z: Sizes, shared: &mut Shared, q: &mut Process<E::Run>, p: usize)
     requires sized { IsSized z }
     requires shaped { IsShaped z shared.old.cell }
-    requires no_bits { shared.old.form.parts ≡ 0 }
-    requires head { shared.old.form.head ≡ block_words z }
+    requires packed { shared.old.form ≡ packed z }
     requires process { p < z.processes }
     requires in_range { IsInRange z q.old }
     requires variables { z.variables ≡ (E.meaning engine.now).variables }
@@ -416,6 +421,7 @@ pub fn act<E: Engine>(engine: &E, z: Sizes, shared: &mut Shared, q: &mut Process
     requires arguments { z.arguments ≡ (E.meaning engine.now).arguments }
     requires fits { CallsFit (E.fits engine.now) q.old }
     requires ready { E.ready engine.now q.old.run }
+    requires stores_bit { StoresBit z q.old }
     ensures cell { shared.new.cell ≡ cell_after shared.old.cell p (row q.old.label (E.meaning engine.now) z shared.old.cell p q.old).change }
     ensures form { shared.new.form ≡ shared.old.form }
     ensures process { q.new ≡ (row q.old.label (E.meaning engine.now) z shared.old.cell p q.old).process }

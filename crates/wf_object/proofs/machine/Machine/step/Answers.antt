@@ -92,6 +92,12 @@ act-requires-clause-ready g c =
     let within : c.args.p < s.sizes.processes = rw (← c.self.view_is) at c.requires in
     c.self.invariant.sound.runs_ready _ _ (stands s.processes.items s.sizes.processes c.args.p c.index_mut.result.now c.self.invariant.sound.count within c.index_mut.ensures.value)
 
+pub act-requires-clause-stores_bit : goal.act-requires-clause-stores_bit
+act-requires-clause-stores_bit g c =
+    let s = c.self.inside in
+    let within : c.args.p < s.sizes.processes = rw (← c.self.view_is) at c.requires in
+    c.self.invariant.sound.stores_bit _ _ (stands s.processes.items s.sizes.processes c.args.p c.index_mut.result.now c.self.invariant.sound.count within c.index_mut.ensures.value)
+
 pub invariant_of-self-2 : goal.invariant_of-self-2
 invariant_of-self-2 g c =
     let s = c.self.inside in
