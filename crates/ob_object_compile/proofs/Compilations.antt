@@ -8,13 +8,13 @@ use Rattle.ob_grammar.specs.Tree
 use Rattle.ob_interface.specs.Processes.{most_processes}
 use Rattle.ob_interpreter.specs.Sequences.{IsOpening}
 use Rattle.ob_meaning.specs.Object.{most_turns}
-use Rattle.ob_object_compile.specs.Compilation.{IsCompilation, IsShort, ObjectParts}
+use Rattle.ob_object_compile.specs.Compilation.{IsObjectOf, ObjectParts}
 use Rattle.ob_object_compile.proofs.Openings.{module_resolved, opening_named}
 use Rattle.ob_positions.specs.Store.{Activation}
 use Rattle.ob_typing.specs.ModuleText.{IsModule}
 use Rattle.ob_typing.specs.Program.{Program}
 
-module _ (text : List ℕ) (n budget : ℕ) (tree : Tree.Module) (program : Program) (layout : LayoutParts) (engine : EngineParts) (opening : Activation) where
+module _ (Allowed : Program → Type 0) (text : List ℕ) (n budget : ℕ) (tree : Tree.Module) (program : Program) (layout : LayoutParts) (engine : EngineParts) (opening : Activation) where
   abbrev the_parts : ObjectParts
   the_parts = record { processes = n; tree = tree; program = program; layout = layout; engine = engine; opening = opening }
 
@@ -26,7 +26,7 @@ module _ (text : List ℕ) (n budget : ℕ) (tree : Tree.Module) (program : Prog
     pub tree_is : IsTextOf text tree
     pub is_module : IsModule text program
     pub layout_is : layout ≡ layout_of program
-    pub short : IsShort program
+    pub allowed : Allowed program
     pub engine_is : engine ≡ parts_of program budget
     pub begins : IsOpening program opening
 
@@ -39,7 +39,7 @@ module _ (text : List ℕ) (n budget : ℕ) (tree : Tree.Module) (program : Prog
     pub engine_is : o.engine ≡ engine
     pub opening_is : o.opening ≡ opening
 
-  of_parts : ArePartsOf → IsCompilation text n budget the_parts
+  of_parts : ArePartsOf → IsObjectOf Allowed text n budget the_parts
   of_parts h = record {
     some = h.some;
     few = h.few;
@@ -48,7 +48,7 @@ module _ (text : List ℕ) (n budget : ℕ) (tree : Tree.Module) (program : Prog
     tree_is = h.tree_is;
     is_module = h.is_module;
     layout_is = h.layout_is;
-    short = h.short;
+    allowed = h.allowed;
     engine_is = h.engine_is;
     opens = opening_named program (module_resolved text program h.is_module) opening h.begins;
     begins = h.begins;
@@ -64,5 +64,5 @@ module _ (text : List ℕ) (n budget : ℕ) (tree : Tree.Module) (program : Prog
     opening = h.opening_is i;
   }
 
-  pub compilation : (o : ObjectParts) → HasParts o → ArePartsOf → IsCompilation text n budget o
-  compilation o is h = subst (IsCompilation text n budget) (sym (same_parts o is)) (of_parts h)
+  pub compilation : (o : ObjectParts) → HasParts o → ArePartsOf → IsObjectOf Allowed text n budget o
+  compilation o is h = subst (IsObjectOf Allowed text n budget) (sym (same_parts o is)) (of_parts h)

@@ -50,23 +50,10 @@ pub record Opens (program : Program) (opening : Activation) : Type 0 where
   pub opens : Named.IsOpening program state
   pub same : SameState program state opening
 
--- the object of a text for n processes with a budget: 1 to 16 processes, a budget that there may be, a module whose code is not too
--- long, the engine over that code, and the state that its opening leaves
-pub record IsCompilation (text : List ℕ) (n budget : ℕ) (o : ObjectParts) : Type 0 where
-  pub some : 0 < n
-  pub few : n ≤ most_processes
-  pub processes : o.processes ≡ n
-  pub within : budget ≤ most_turns
-  pub tree_is : IsTextOf text o.tree
-  pub is_module : IsModule text o.program
-  pub layout_is : o.layout ≡ layout_of o.program
-  pub short : IsShort o.program
-  pub engine_is : o.engine ≡ parts_of o.program budget
-  pub opens : Opens o.program o.opening
-  pub begins : Positions.IsOpening o.program o.opening
-
-abbrev pub HasNoObject : (text : List ℕ) (n budget : ℕ) → Type 0
-HasNoObject text n budget = (o : ObjectParts) → IsCompilation text n budget o → ⊥
+-- what each fault of an opening says of the meaning of a program
+abbrev pub OpeningFails : Program → OpenFault → Type 0
+OpeningFails program (Open.Trap k) = Named.OpeningTraps program k
+OpeningFails program Open.NoMemory = Unit {0}
 
 -- the text is of a module whose code is too long
 pub record HasLongCode (text : List ℕ) : Type 0 where
@@ -74,26 +61,70 @@ pub record HasLongCode (text : List ℕ) : Type 0 where
   pub is_module : IsModule text program
   pub long : most_instructions < length (code_of program).instructions
 
--- what each fault of an opening says of the meaning of a program
-abbrev pub OpeningFails : Program → OpenFault → Type 0
-OpeningFails program (Open.Trap k) = Named.OpeningTraps program k
-OpeningFails program Open.NoMemory = Unit {0}
+-- ---- where an object is asked for of certain programs alone
 
--- the text is of a module whose code is not too long, and whose opening fails
-pub record FailsToOpen (text : List ℕ) (fault : OpenFault) : Type 0 where
-  pub program : Program
-  pub is_module : IsModule text program
-  pub short : IsShort program
-  pub fails : OpeningFails program fault
+module _ (Allowed : Program → Type 0) where
+  -- the object of a text for n processes with a budget: 1 to 16 processes, a budget that there may be, a module that is allowed, the
+  -- engine over the code of the scheme, and the state that its opening leaves
+  pub record IsObjectOf (text : List ℕ) (n budget : ℕ) (o : ObjectParts) : Type 0 where
+    pub some : 0 < n
+    pub few : n ≤ most_processes
+    pub processes : o.processes ≡ n
+    pub within : budget ≤ most_turns
+    pub tree_is : IsTextOf text o.tree
+    pub is_module : IsModule text o.program
+    pub layout_is : o.layout ≡ layout_of o.program
+    pub allowed : Allowed o.program
+    pub engine_is : o.engine ≡ parts_of o.program budget
+    pub opens : Opens o.program o.opening
+    pub begins : Positions.IsOpening o.program o.opening
 
--- what each fault says
+  abbrev pub HasNone : (text : List ℕ) (n budget : ℕ) → Type 0
+  HasNone text n budget = (o : ObjectParts) → IsObjectOf text n budget o → ⊥
+
+  -- the text is of a module that is allowed, and whose opening fails
+  pub record OpensNot (text : List ℕ) (fault : OpenFault) : Type 0 where
+    pub program : Program
+    pub is_module : IsModule text program
+    pub allowed : Allowed program
+    pub fails : OpeningFails program fault
+
+  -- what each fault says
+  abbrev pub IsObjectFault : (text : List ℕ) (n budget : ℕ) → CompileFault → Type 0
+  IsObjectFault text n budget Faults.Processes = (n ≡ 0) ⊎ (most_processes < n)
+  IsObjectFault text n budget Faults.Budget = most_turns < budget
+  IsObjectFault text n budget (Faults.Text e) = IsTextFault text e
+  IsObjectFault text n budget Faults.TooLong = HasLongCode text
+  IsObjectFault text n budget (Faults.Open e) = OpensNot text e
+  IsObjectFault text n budget Faults.NoMemory = Unit {0}
+
+-- ---- over code, which must not be too long
+
+abbrev pub IsCompilation : (text : List ℕ) (n budget : ℕ) → ObjectParts → Type 0
+IsCompilation = IsObjectOf IsShort
+
+abbrev pub HasNoObject : (text : List ℕ) (n budget : ℕ) → Type 0
+HasNoObject = HasNone IsShort
+
 abbrev pub IsCompileFault : (text : List ℕ) (n budget : ℕ) → CompileFault → Type 0
-IsCompileFault text n budget Faults.Processes = (n ≡ 0) ⊎ (most_processes < n)
-IsCompileFault text n budget Faults.Budget = most_turns < budget
-IsCompileFault text n budget (Faults.Text e) = IsTextFault text e
-IsCompileFault text n budget Faults.TooLong = HasLongCode text
-IsCompileFault text n budget (Faults.Open e) = FailsToOpen text e
-IsCompileFault text n budget Faults.NoMemory = Unit {0}
+IsCompileFault = IsObjectFault IsShort
+
+-- ---- over the tree, without code
+
+-- the code of the scheme may have any length: it is not made
+abbrev pub IsAny : Program → Type 0
+IsAny program = Unit {0}
+
+abbrev pub IsTreeCompilation : (text : List ℕ) (n budget : ℕ) → ObjectParts → Type 0
+IsTreeCompilation = IsObjectOf IsAny
+
+abbrev pub HasNoTreeObject : (text : List ℕ) (n budget : ℕ) → Type 0
+HasNoTreeObject = HasNone IsAny
+
+-- it has no fault of code
+abbrev pub IsTreeFault : (text : List ℕ) (n budget : ℕ) → CompileFault → Type 0
+IsTreeFault text n budget Faults.TooLong = ⊥
+IsTreeFault text n budget fault = IsObjectFault IsAny text n budget fault
 
 -- a text over the scanner's bound
 abbrev pub too_long : CompileFault

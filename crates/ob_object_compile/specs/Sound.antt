@@ -5,7 +5,7 @@ use Rattle.ob_code_law.specs.Compiled.{parts_of}
 use Rattle.ob_code_layout.specs.Layout.{layout_of}
 use Rattle.ob_code_scheme.specs.WellFormed.{IsWellFormed}
 use Rattle.ob_interpreter.specs.Sequences.{IsOpening}
-use Rattle.ob_object_compile.specs.Compilation.{IsCompilation, ObjectParts}
+use Rattle.ob_object_compile.specs.Compilation.{IsCompilation, IsTreeCompilation, ObjectParts}
 
 -- the layout and the engine are those of its program, which is well formed and whose names stand for its declarations; and it begins
 -- with the state that the program's opening leaves
@@ -19,3 +19,6 @@ pub record IsSoundObject (o : ObjectParts) : Type 0 where
 -- what a text is compiled to is sound
 abbrev pub CompilationsAreSound : Type 0
 CompilationsAreSound = (text : List ℕ) (n budget : ℕ) (o : ObjectParts) → IsCompilation text n budget o → IsSoundObject o
+
+abbrev pub TreesAreSound : Type 0
+TreesAreSound = (text : List ℕ) (n budget : ℕ) (o : ObjectParts) → IsTreeCompilation text n budget o → IsSoundObject o

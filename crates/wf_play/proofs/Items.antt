@@ -9,7 +9,7 @@ use Rattle.wf_play.specs.ItemSteps.{AreItemSteps, IsBeyond, IsFirstBeyond, Stand
 use Rattle.wf_table.specs.declared.process.Sizes.{Sizes}
 use Rattle.wf_table.specs.Meaning.{Meaning}
 use Rattle.wf_table.specs.Object.{State, step_of}
-use Rattle.wf_table.specs.Runs.{run, turns}
+use Rattle.wf_table.specs.Runs.{Act, act_of, run, turns}
 
 at_place : {X : Type 0} (xs : List X) (i : ℕ) (x : X) → slice_get xs i ≡ Some x → xs ≡ take i xs ++ x ∷ drop (suc i) xs
 at_place [] i x h = absurd (cc)
@@ -17,6 +17,10 @@ at_place {X} (a ∷ xs) zero x h = ap (λ (b : X). b ∷ xs) (same_Some a x h)
 at_place {X} (a ∷ xs) (suc i) x h = ap (λ (ys : List X). a ∷ ys) (at_place xs i x h)
 
 module _ {Run : Type 0} (m : Meaning Run) (z : Sizes) where
+  pub run-append : (acts others : List Act) (s : State Run) → run m z (acts ++ others) s ≡ run m z others (run m z acts s)
+  run-append [] others s = refl
+  run-append (act ∷ acts) others s = run-append acts others (act_of m z s act)
+
   pub one_number : (item : Item) (k other : ℕ) (s : State Run) → StandsFor m z item k s → StandsFor m z item other s → k ≡ other
   one_number item k other s h h' = elim (cases_order k other) [
     | inl same ↦ same

@@ -1,5 +1,5 @@
-mod Alike
-mod Starts
+pub mod Alike
+pub mod Starts
 mod Items
 mod Ends
 mod Plays

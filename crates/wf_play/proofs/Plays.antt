@@ -14,12 +14,12 @@ use Rattle.wf_play.specs.ItemSteps.{AreItemSteps, HasPlayed, IsBeyond, IsFirstBe
 use Rattle.wf_play.specs.Played.{IsPlayed, IsItemFault, IsPlayFault, IsSameObject, most_steps, scripts_of}
 use Rattle.wf_play.specs.declared.playing.PlayFault.{PlayFault}
 use Rattle.wf_play.specs.declared.playing.PlayFault.TheVariants as Faults
-use Rattle.wf_play.proofs.Items.{items-push, items_run}
+use Rattle.wf_play.proofs.Items.{items-push, items_run, run-append}
 use Rattle.wf_play.proofs.Starts.{is_too_long}
 use Rattle.wf_table.specs.declared.process.Sizes.{Sizes}
 use Rattle.wf_table.specs.Meaning.{Meaning}
 use Rattle.wf_table.specs.Object.{State, submit_by, submit_of}
-use Rattle.wf_table.specs.Runs.{Act, ActsFit, act_of, run, submissions, turns}
+use Rattle.wf_table.specs.Runs.{ActsFit, run, submissions, turns}
 use Rattle.wf_table.specs.Schedule.{steps_of}
 use Rattle.wf_table.specs.Start.{IsStart, sizes_of}
 use Rattle.wf_table.specs.Table.{Process}
@@ -29,10 +29,6 @@ module _ {Run : Type 0} (m : Meaning Run) (z : Sizes) where
   pub submissions-push : (cs : List ScriptCall) (c : ScriptCall) (s : State Run) → run m z (submissions (scripts_of (map script_call_of (cs ++ c ∷ [])))) s ≡ submit_of (run m z (submissions (scripts_of (map script_call_of cs))) s) c.process (object_call (script_call_of c))
   submissions-push [] c s = refl
   submissions-push (d ∷ cs) c s = submissions-push cs c (submit_of s d.process (object_call (script_call_of d)))
-
-  run-append : (acts more : List Act) (s : State Run) → run m z (acts ++ more) s ≡ run m z more (run m z acts s)
-  run-append [] more s = refl
-  run-append (act ∷ acts) more s = run-append acts more (act_of m z s act)
 
   submitted_by : (s : State Run) (p : ℕ) (call : ObjectCall) (o : Option (Process Run)) → (submit_by s p call o).records ≡ s.records
   submitted_by s p call None = refl

@@ -1,3 +1,4 @@
 pub mod ItemSteps
 pub mod Played
 pub mod Makers
+pub mod LockStep

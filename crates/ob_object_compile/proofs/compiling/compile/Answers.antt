@@ -3,13 +3,14 @@ use Rattle.std.proofs.lemmas.Result.{err_from_is_err_and}
 use Rattle.ob_checked.specs.CheckedModule.{program_in}
 use Rattle.ob_object_compile.proofs.Compilations.{compilation}
 use Rattle.ob_object_compile.proofs.CompileFaults.{engine_none, opening_fault, opening_memory, opening_none, text_memory, text_none}
+use Rattle.ob_object_compile.specs.Compilation.{IsShort}
 use Rattle.ob_object_compile.specs.View.{object_in}
 use Rattle.ob_object_compile.proofs.compiling.compile.Goals as goal
 
 pub returns-in_err-checked-clause-none : goal.returns-in_err-checked-clause-none
 returns-in_err-checked-clause-none c =
     let p = err_from_is_err_and c.from_residual.result c.from_residual.ensures.1 in
-    rw (p.1, p.2) (text_none c.args.text.now c.args.n c.args.budget c.in_err-checked.field-0.0 c.in_err-checked.ensures.none)
+    rw (p.1, p.2) (text_none IsShort c.args.text.now c.args.n c.args.budget c.in_err-checked.field-0.0 c.in_err-checked.ensures.none)
 
 pub returns-in_err-checked-clause-memory : goal.returns-in_err-checked-clause-memory
 returns-in_err-checked-clause-memory c =
@@ -24,12 +25,12 @@ returns-in_err-layout-clause-none c =
 pub returns-in_err-opening-clause-fault : goal.returns-in_err-opening-clause-fault
 returns-in_err-opening-clause-fault c =
     let p = err_from_is_err_and c.from_residual-in_err-opening.result c.from_residual-in_err-opening.ensures.1 in
-    rw (p.1, p.2) (opening_fault c.args.text.now c.args.n c.args.budget (program_in c.in_ok-checked.checked) c.in_ok-checked.ensures.program c.in_ok-layout.ensures.short c.in_err-opening.field-0.0 c.in_err-opening.ensures.fault)
+    rw (p.1, p.2) (opening_fault IsShort c.args.text.now c.args.n c.args.budget (program_in c.in_ok-checked.checked) c.in_ok-checked.ensures.program c.in_ok-layout.ensures.short c.in_err-opening.field-0.0 c.in_err-opening.ensures.fault)
 
 pub returns-in_err-opening-clause-none : goal.returns-in_err-opening-clause-none
 returns-in_err-opening-clause-none c =
     let p = err_from_is_err_and c.from_residual-in_err-opening.result c.from_residual-in_err-opening.ensures.1 in
-    rw (p.1, p.2) (opening_none c.args.text.now c.args.n c.args.budget (program_in c.in_ok-checked.checked) c.in_ok-checked.ensures.alone c.in_err-opening.field-0.0 c.in_err-opening.ensures.fault)
+    rw (p.1, p.2) (opening_none IsShort c.args.text.now c.args.n c.args.budget (program_in c.in_ok-checked.checked) c.in_ok-checked.ensures.alone c.in_err-opening.field-0.0 c.in_err-opening.ensures.fault)
 
 pub returns-in_err-opening-clause-memory : goal.returns-in_err-opening-clause-memory
 returns-in_err-opening-clause-memory c =
@@ -38,7 +39,7 @@ returns-in_err-opening-clause-memory c =
 
 pub returns-clause-object : goal.returns-clause-object
 returns-clause-object c =
-    compilation c.args.text.now c.args.n c.args.budget _ _ _ _ _ (object_in c.of.result)
+    compilation IsShort c.args.text.now c.args.n c.args.budget _ _ _ _ _ (object_in c.of.result)
     (record {
       processes = c.of.ensures.processes;
       tree_is = c.of.ensures.tree;
@@ -54,7 +55,7 @@ returns-clause-object c =
       tree_is = c.in_ok-checked.ensures.tree;
       is_module = c.in_ok-checked.ensures.program;
       layout_is = c.in_ok-layout.ensures.layout;
-      short = c.in_ok-layout.ensures.short;
+      allowed = c.in_ok-layout.ensures.short;
       engine_is = c.in_ok-layout.ensures.engine;
       begins = c.in_ok-opening.ensures.state;
     })

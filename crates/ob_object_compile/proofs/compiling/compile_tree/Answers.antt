@@ -1,0 +1,62 @@
+use Rattle.std.proofs.Common.{arith, refl, sym, ◌∙◌}
+use Rattle.std.proofs.lemmas.Result.{err_from_is_err_and}
+use Rattle.ob_checked.specs.CheckedModule.{program_in}
+use Rattle.ob_object_compile.proofs.Compilations.{compilation}
+use Rattle.ob_object_compile.proofs.CompileFaults.{opening_memory, opening_none, text_memory, text_none, tree_opening_fault}
+use Rattle.ob_object_compile.specs.Compilation.{IsAny}
+use Rattle.ob_object_compile.specs.View.{tree_object_in}
+use Rattle.ob_object_compile.proofs.compiling.compile_tree.Goals as goal
+
+pub returns-in_err-checked-clause-none : goal.returns-in_err-checked-clause-none
+returns-in_err-checked-clause-none c =
+    let p = err_from_is_err_and c.from_residual.result c.from_residual.ensures.1 in
+    rw (p.1, p.2) (text_none IsAny c.args.text.now c.args.n c.args.budget c.in_err-checked.field-0.0 c.in_err-checked.ensures.none)
+
+pub returns-in_err-checked-clause-memory : goal.returns-in_err-checked-clause-memory
+returns-in_err-checked-clause-memory c =
+    let p = err_from_is_err_and c.from_residual.result c.from_residual.ensures.1 in
+    rw (p.1, p.2) (text_memory c.in_err-checked.field-0.0 c.in_err-checked.ensures.memory)
+
+pub returns-in_err-opening-clause-fault : goal.returns-in_err-opening-clause-fault
+returns-in_err-opening-clause-fault c =
+    let p = err_from_is_err_and c.from_residual-in_err-opening.result c.from_residual-in_err-opening.ensures.1 in
+    rw (p.1, p.2) (tree_opening_fault c.args.text.now c.args.n c.args.budget (program_in c.in_ok-checked.checked) c.in_ok-checked.ensures.program c.in_err-opening.field-0.0 c.in_err-opening.ensures.fault)
+
+pub returns-in_err-opening-clause-none : goal.returns-in_err-opening-clause-none
+returns-in_err-opening-clause-none c =
+    let p = err_from_is_err_and c.from_residual-in_err-opening.result c.from_residual-in_err-opening.ensures.1 in
+    rw (p.1, p.2) (opening_none IsAny c.args.text.now c.args.n c.args.budget (program_in c.in_ok-checked.checked) c.in_ok-checked.ensures.alone c.in_err-opening.field-0.0 c.in_err-opening.ensures.fault)
+
+pub returns-in_err-opening-clause-memory : goal.returns-in_err-opening-clause-memory
+returns-in_err-opening-clause-memory c =
+    let p = err_from_is_err_and c.from_residual-in_err-opening.result c.from_residual-in_err-opening.ensures.1 in
+    rw (p.1, p.2) (opening_memory (program_in c.in_ok-checked.checked) c.in_err-opening.field-0.0 c.in_err-opening.ensures.fault)
+
+pub returns-clause-object : goal.returns-clause-object
+returns-clause-object c =
+    compilation IsAny c.args.text.now c.args.n c.args.budget _ _ _ _ _ (tree_object_in c.made_of.result)
+    (record {
+      processes = c.made_of.ensures.processes;
+      tree_is = c.made_of.ensures.tree;
+      program_is = c.made_of.ensures.program;
+      layout_is = c.made_of.ensures.layout;
+      engine_is = c.made_of.ensures.engine;
+      opening_is = c.made_of.ensures.opening;
+    })
+    (record {
+      some = omega arith;
+      few = omega arith;
+      within = omega arith;
+      tree_is = c.in_ok-checked.ensures.tree;
+      is_module = c.in_ok-checked.ensures.program;
+      layout_is = c.in_ok-layout.ensures;
+      allowed = tt;
+      engine_is = refl;
+      begins = c.in_ok-opening.ensures.state;
+    })
+
+pub returns-clause-alone : goal.returns-clause-alone
+returns-clause-alone c = λ other m. c.in_ok-checked.ensures.alone other m ∙ sym c.made_of.ensures.program
+
+pub returns-clause-one_tree : goal.returns-clause-one_tree
+returns-clause-one_tree c = λ other is. c.in_ok-checked.ensures.one_tree other is ∙ sym c.made_of.ensures.tree
