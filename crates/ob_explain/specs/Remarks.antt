@@ -1,5 +1,5 @@
 -- What each fault of a module says to people.
-use Rattle.std.specs.Prelude.{ℕ, List, Option, Some, None, codes}
+use Rattle.std.specs.Prelude.{◌≡◌, ℕ, List, Option, Some, None, codes, string_bytes}
 use Rattle.ob_scan.specs.declared.fault.ScanFault.{ScanFault}
 use Rattle.ob_scan.specs.declared.fault.ScanFault.TheVariants as Scan
 use Rattle.ob_scan.specs.Limits.{longest_text}
@@ -9,6 +9,9 @@ use Rattle.ob_scopes.specs.declared.fault.CheckFault.{CheckFault}
 use Rattle.ob_scopes.specs.declared.fault.CheckFault.TheVariants as Check
 use Rattle.ob_typing.specs.declared.rule.Rule.{Rule}
 use Rattle.ob_typing.specs.declared.rule.Rule.TheVariants as Rules
+use Rattle.ob_explain_expected.specs.Expected.{AreExpected}
+use Rattle.ob_explain_expected.specs.Groups.{expected_sentence}
+use Rattle.ob_scan.specs.declared.token.Kind.{Kind}
 use Rattle.ob_explain.specs.declared.remark.Remark as Told
 
 -- a sentence on the byte at an offset
@@ -17,7 +20,7 @@ pub record Remark : Type 0 where
   pub sentence : List ℕ
 
 abbrev pub remark_of : Told.Remark → Remark
-remark_of r = record { place = r.place; sentence = r.sentence.now }
+remark_of r = record { place = r.place; sentence = string_bytes r.sentence }
 
 abbrev pub at : ℕ → List ℕ → Option Remark
 at place sentence = Some (record { place = place; sentence = sentence })
@@ -31,11 +34,14 @@ scan_remark (Scan.NameTooLong place) = at place (codes "a name has at most 64 ch
 scan_remark Scan.TooLong = at longest_text (codes "a module has at most 65536 bytes")
 scan_remark Scan.NoMemory = None
 
-abbrev pub parse_remark : ParseFault → Option Remark
-parse_remark (Parse.Unexpected place) = at place (codes "the module can't go on like this; look here, and at what stands just before it")
-parse_remark (Parse.TooDeep place) = at place (codes "this stands within 100 other constructs, and no more nest")
-parse_remark (Parse.NameDiffers place) = at place (codes "behind END stands the name of the module or of the procedure that ends")
-parse_remark Parse.NoMemory = None
+-- of a token that can't stand there, or the end, what could: the kinds of token with which the text before it goes on
+abbrev pub IsParseRemark : List ℕ → ParseFault → Option Remark → Type 0
+IsParseRemark text (Parse.Unexpected place) remark =
+    (kinds : List Kind) × AreExpected text place kinds × (remark ≡ at place (expected_sentence kinds))
+IsParseRemark text (Parse.TooDeep place) remark = remark ≡ at place (codes "this stands within 100 other constructs, and no more nest")
+IsParseRemark text (Parse.NameDiffers place) remark =
+    remark ≡ at place (codes "behind END stands the name of the module or of the procedure that ends")
+IsParseRemark text Parse.NoMemory remark = remark ≡ None
 
 -- what a rule asks
 abbrev pub rule_sentence : Rule → List ℕ

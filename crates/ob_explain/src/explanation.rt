@@ -16,16 +16,16 @@ pub fn explanation(
     alloc: Global,
     name: &str,
     text: &[u8],
-    remark: Remark,
+    remark: &Remark,
 ) -> Result<String, AllocError>
-    ensures { IfOk result (λ shown. string_bytes shown ≡ explanation name.now text.now (remark_of remark)) }
+    ensures { IfOk result (λ shown. string_bytes shown ≡ explanation name.now text.now (remark_of remark.now)) }
 {
     let mut shown = String::from_str(alloc, name)?;
     push_place(&mut shown, place_in(text, remark.place))?;
     let (before, behind) = line_around(text, remark.place);
     push_marked(&mut shown, before, behind)?;
     push_named(&mut shown, behind)?;
-    shown.push_str(remark.sentence)?;
+    shown.push_str(remark.sentence.as_str())?;
     shown.push_str("\n")?;
     Ok(shown)
 }

@@ -1,69 +1,83 @@
 //! What is wrong at a place of a module, in a sentence.
 
-ghost use Rattle.std.specs.Prelude.{◌≡◌, Some, option_map};
-ghost use Rattle.ob_explain.specs.Remarks.{check_remark, parse_remark, remark_of, rule_sentence, scan_remark};
+ghost use Rattle.std.specs.Prelude.{◌≡◌, Some, IfOk, option_map, string_bytes};
+ghost use Rattle.ob_explain.specs.Remarks.{IsParseRemark, check_remark, remark_of, rule_sentence, scan_remark};
 
+use ob_explain_expected::expected::expected_kinds;
+use ob_explain_expected::phrases::expected_sentence;
 use ob_parser::parser::ParseFault;
 use ob_scan::ScanFault;
 use ob_scan::scanner::LONGEST_TEXT;
 use ob_scopes::fault::CheckFault;
 use ob_typing::rule::Rule;
+use std::alloc::{AllocError, Global};
 
 /// What is wrong, and the offset of the byte where.
-#[derive(Clone, Copy)]
+#[derive(Drop)]
 pub struct Remark {
     pub place: usize,
-    pub sentence: &'static str,
+    pub sentence: String,
 }
 
 /// The remark on a fault of the text's bytes; `None` for want of memory.
-pub fn scan_remark(fault: ScanFault) -> Option<Remark>
-    ensures { option_map remark_of result ≡ scan_remark fault }
+pub fn scan_remark(alloc: Global, fault: ScanFault) -> Result<Option<Remark>, AllocError>
+    ensures { IfOk result (λ remark. option_map remark_of remark ≡ scan_remark fault) }
 {
     match fault {
         ScanFault::StrayByte(place) => told(
+            alloc,
             place,
             "no token begins with this byte; a module has ASCII letters, digits, blanks and the symbols of the language",
         ),
-        ScanFault::NumberTooLarge(place) => told(place, "a number is at most 2147483647"),
+        ScanFault::NumberTooLarge(place) => told(alloc, place, "a number is at most 2147483647"),
         ScanFault::OpenComment(place) => told(
+            alloc,
             place,
             "this comment has no end; comments nest, and each (* has its own *)",
         ),
-        ScanFault::NameTooLong(place) => told(place, "a name has at most 64 characters"),
-        ScanFault::TooLong => told(LONGEST_TEXT, "a module has at most 65536 bytes"),
-        ScanFault::NoMemory => None,
+        ScanFault::NameTooLong(place) => told(alloc, place, "a name has at most 64 characters"),
+        ScanFault::TooLong => told(alloc, LONGEST_TEXT, "a module has at most 65536 bytes"),
+        ScanFault::NoMemory => Ok(None),
     }
 }
 
 /// The remark on a fault of the text's grammar; `None` for want of memory.
-pub fn parse_remark(fault: ParseFault) -> Option<Remark>
-    ensures { option_map remark_of result ≡ parse_remark fault }
+pub fn parse_remark(
+    alloc: Global,
+    text: &[u8],
+    fault: ParseFault,
+) -> Result<Option<Remark>, AllocError>
+    ensures { IfOk result (λ remark. IsParseRemark text.now fault (option_map remark_of remark)) }
 {
     match fault {
-        ParseFault::Unexpected(place) => told(
-            place,
-            "the module can't go on like this; look here, and at what stands just before it",
-        ),
+        ParseFault::Unexpected(place) => {
+            let kinds = expected_kinds(alloc, text, place)?;
+            Ok(Some(Remark {
+                place,
+                sentence: expected_sentence(alloc, kinds)?,
+            }))
+        }
         ParseFault::TooDeep(place) => told(
+            alloc,
             place,
             "this stands within 100 other constructs, and no more nest",
         ),
         ParseFault::NameDiffers(place) => told(
+            alloc,
             place,
             "behind END stands the name of the module or of the procedure that ends",
         ),
-        ParseFault::NoMemory => None,
+        ParseFault::NoMemory => Ok(None),
     }
 }
 
 /// The remark on a rule that is broken; `None` for want of memory.
-pub fn check_remark(fault: CheckFault) -> Option<Remark>
-    ensures { option_map remark_of result ≡ check_remark fault }
+pub fn check_remark(alloc: Global, fault: CheckFault) -> Result<Option<Remark>, AllocError>
+    ensures { IfOk result (λ remark. option_map remark_of remark ≡ check_remark fault) }
 {
     match fault {
-        CheckFault::Broken(broken) => told(broken.place, sentence_of(broken.rule)),
-        CheckFault::NoMemory => None,
+        CheckFault::Broken(broken) => told(alloc, broken.place, sentence_of(broken.rule)),
+        CheckFault::NoMemory => Ok(None),
     }
 }
 
@@ -99,8 +113,11 @@ fn sentence_of(rule: Rule) -> &'static str
     }
 }
 
-fn told(place: usize, sentence: &'static str) -> Option<Remark>
-    ensures { option_map remark_of result ≡ Some (record { place = place; sentence = sentence.now }) }
+fn told(alloc: Global, place: usize, sentence: &'static str) -> Result<Option<Remark>, AllocError>
+    ensures { IfOk result (λ remark. option_map remark_of remark ≡ Some (record { place = place; sentence = sentence.now })) }
 {
-    Some(Remark { place, sentence })
+    Ok(Some(Remark {
+        place,
+        sentence: String::from_str(alloc, sentence)?,
+    }))
 }

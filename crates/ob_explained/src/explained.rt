@@ -3,7 +3,7 @@
 ghost use Rattle.std.specs.Prelude.{◌≡◌, IfOk, option_map, string_bytes};
 ghost use Rattle.ob_explain.specs.Explanations.{explanation};
 ghost use Rattle.ob_explain.specs.Remarks.{remark_of};
-ghost use Rattle.ob_explained.specs.Explained.{calls_explanation, module_explanation, text_remark};
+ghost use Rattle.ob_explained.specs.Explained.{IsCallsExplanation, IsModuleExplanation, IsTextRemark};
 
 use crate::script_remark::script_remark;
 use ob_check_text::TextFault;
@@ -21,10 +21,10 @@ pub fn module_explanation(
     text: &[u8],
     fault: CompileFault,
 ) -> Result<Option<String>, AllocError>
-    ensures { IfOk result (λ shown. option_map string_bytes shown ≡ module_explanation name.now text.now fault) }
+    ensures { IfOk result (λ shown. IsModuleExplanation name.now text.now fault (option_map string_bytes shown)) }
 {
     match fault {
-        CompileFault::Text(fault) => shown(alloc, name, text, text_remark(fault)),
+        CompileFault::Text(fault) => shown(alloc, name, text, text_remark(alloc, text, fault)?),
         _ => Ok(None),
     }
 }
@@ -38,27 +38,31 @@ pub fn calls_explanation(
     script: &[u8],
     fault: SeqTextFault,
 ) -> Result<Option<String>, AllocError>
-    ensures { IfOk result (λ shown. option_map string_bytes shown ≡ calls_explanation module_name.now text.now script_name.now script.now fault) }
+    ensures { IfOk result (λ shown. IsCallsExplanation module_name.now text.now script_name.now script.now fault (option_map string_bytes shown)) }
 {
     match fault {
         SeqTextFault::Compile(fault) => module_explanation(alloc, module_name, text, fault),
         SeqTextFault::Script(fault) => {
-            shown(alloc, script_name, script, script_remark(script, fault))
+            shown(alloc, script_name, script, script_remark(alloc, script, fault)?)
         }
         SeqTextFault::NoMemory => Ok(None),
     }
 }
 
 /// The remark on a fault of a module's text; `None` where the text is too long, and for want of memory.
-fn text_remark(fault: TextFault) -> Option<Remark>
-    ensures { option_map remark_of result ≡ text_remark fault }
+fn text_remark(
+    alloc: Global,
+    text: &[u8],
+    fault: TextFault,
+) -> Result<Option<Remark>, AllocError>
+    ensures { IfOk result (λ remark. IsTextRemark text.now fault (option_map remark_of remark)) }
 {
     match fault {
-        TextFault::Scan(ScanFault::TooLong) => None,
-        TextFault::Scan(fault) => scan_remark(fault),
-        TextFault::Parse(fault) => parse_remark(fault),
-        TextFault::Check(fault) => check_remark(fault),
-        TextFault::NoMemory => None,
+        TextFault::Scan(ScanFault::TooLong) => Ok(None),
+        TextFault::Scan(fault) => scan_remark(alloc, fault),
+        TextFault::Parse(fault) => parse_remark(alloc, text, fault),
+        TextFault::Check(fault) => check_remark(alloc, fault),
+        TextFault::NoMemory => Ok(None),
     }
 }
 
@@ -72,7 +76,7 @@ fn shown(
     ensures { IfOk result (λ shown. option_map string_bytes shown ≡ option_map (explanation name.now text.now) (option_map remark_of remark)) }
 {
     match remark {
-        Some(remark) => Ok(Some(explanation(alloc, name, text, remark)?)),
+        Some(remark) => Ok(Some(explanation(alloc, name, text, &remark)?)),
         None => Ok(None),
     }
 }

@@ -1,6 +1,6 @@
 //! What is wrong in a line of a script, in a sentence.
 
-ghost use Rattle.std.specs.Prelude.{◌≡◌, Some, IfSome, option_map};
+ghost use Rattle.std.specs.Prelude.{◌≡◌, Some, IfOk, IfSome, option_map};
 ghost use Rattle.ob_explain.specs.Remarks.{remark_of};
 ghost use Rattle.ob_explained.specs.Marks.{IsMark, MarksForm, MarksWord};
 ghost use Rattle.ob_explained.specs.ScriptPlaces.{first_place, form_place, in_line, second_place};
@@ -9,32 +9,33 @@ ghost use Rattle.ob_explained.specs.ScriptRemarks.{script_remark};
 use crate::script_place::{first_place, form_place, script_line, second_place};
 use ob_explain::remark::Remark;
 use ob_text_scripts::ScriptFault;
+use std::alloc::{AllocError, Global};
 
 /// The remark on a fault of a script; `None` for want of memory.
-pub fn script_remark(script: &[u8], fault: ScriptFault) -> Option<Remark>
-    ensures remark { option_map remark_of result ≡ script_remark script.now fault }
+pub fn script_remark(
+    alloc: Global,
+    script: &[u8],
+    fault: ScriptFault,
+) -> Result<Option<Remark>, AllocError>
+    ensures remark { IfOk result (λ remark. option_map remark_of remark ≡ script_remark script.now fault) }
 
     // It stands at a word of the line, by what stands between blanks there.
-    ensures marked { IfSome result (λ remark. IsMark script.now fault remark.place) }
+    ensures marked { IfOk result (λ remark. IfSome remark (λ r. IsMark script.now fault r.place)) }
 {
     match fault {
-        ScriptFault::Form(line) => told(
-            place_of_form(script, line),
+        ScriptFault::Form(line) => told(alloc, place_of_form(script, line),
             "a line is a call: a process of one to nine digits, the name of a procedure, and its values, with blanks between them",
         ),
-        ScriptFault::Procedure(line) => told(
-            place_of_name(script, line),
+        ScriptFault::Procedure(line) => told(alloc, place_of_name(script, line),
             "a call names a procedure that the module exports, which has a * behind its name there",
         ),
-        ScriptFault::Arguments(line) => told(
-            place_of_name(script, line),
+        ScriptFault::Arguments(line) => told(alloc, place_of_name(script, line),
             "a call has a value for each parameter but those with VAR: a number from -2147483648 to 2147483647, or TRUE or FALSE",
         ),
-        ScriptFault::Process(line) => told(
-            place_of_process(script, line),
+        ScriptFault::Process(line) => told(alloc, place_of_process(script, line),
             "the processes of a script are 0 to 15",
         ),
-        ScriptFault::NoMemory => None,
+        ScriptFault::NoMemory => Ok(None),
     }
 }
 
@@ -65,9 +66,16 @@ fn place_of_process(script: &[u8], line: usize) -> usize
     begin + first_place(text)
 }
 
-fn told(place: usize, sentence: &'static str) -> Option<Remark>
-    ensures remark { option_map remark_of result ≡ Some (record { place = place; sentence = sentence.now }) }
-    ensures placed { IfSome result (λ remark. remark.place ≡ place) }
+fn told(
+    alloc: Global,
+    place: usize,
+    sentence: &'static str,
+) -> Result<Option<Remark>, AllocError>
+    ensures remark { IfOk result (λ remark. option_map remark_of remark ≡ Some (record { place = place; sentence = sentence.now })) }
+    ensures placed { IfOk result (λ remark. IfSome remark (λ r. r.place ≡ place)) }
 {
-    Some(Remark { place, sentence })
+    Ok(Some(Remark {
+        place,
+        sentence: String::from_str(alloc, sentence)?,
+    }))
 }
