@@ -266,11 +266,11 @@ fn serve_of<'a>(module_name: &'a str, matches: &ArgMatches<'a>) -> Option<Comman
 fn bound_of<'a>(module_name: &'a str, matches: &ArgMatches<'a>) -> Option<Command<'a>>
     ensures { option_map request_of result ≡ bound_of module_name.entry.now (rows_of (found_of matches.now)) }
 {
-    let processes = matches.get_one::<u16>("N")?;
+    let count = matches.get_one::<u16>("N")?;
     let budget = budget_of(matches)?;
     Some(Command::Bound {
         module_name,
-        processes: usize::from(processes),
+        processes: usize::from(count),
         budget,
     })
 }
