@@ -6,7 +6,7 @@ use Rattle.ob_scan.specs.declared.fault.ScanFault.TheVariants as Scan
 use Rattle.ob_typing.specs.ModuleText.{IsModule}
 use Rattle.ob_typing.specs.Program.{Program}
 use Rattle.ob_check_text.specs.declared.checked_text.TextFault.TheVariants as Texts
-use Rattle.ob_answer.specs.Answers.{IsCheckAnswer, IsListAnswer, IsRunAnswer, IsSeqAnswer, IsServeAnswer, IsVerifyAnswer, refused}
+use Rattle.ob_answer.specs.Answers.{IsBoundAnswer, IsCheckAnswer, IsListAnswer, IsRunAnswer, IsSeqAnswer, IsServeAnswer, IsVerifyAnswer, refused}
 use Rattle.ob_answer.specs.Printed.{IsRefused}
 use Rattle.ob_answer.specs.declared.answered.Answer.{Answer}
 use Rattle.ob_answer.specs.declared.product.Product.{Product}
@@ -140,6 +140,22 @@ fault_too_long compiling IsFault whole n budget e is_fault longer processes too_
                 (is_fault (Compile.Text (Texts.Scan Scan.TooLong)) (too_long_scan whole longer)) (too_much some few) (too_long some few)
           ]
     ]
+
+pub bound_refused_made : {E : Type 0} (part : List ℕ) (n budget : ℕ) (e : CompileFault) (result : Result Answer E)
+    → IfOk result (λ a. IsRefused a 1 (compile_line e ++ codes "\n")) → IfOk result (λ _. Compiles.is_want_of_memory e ≡ false)
+    → IsCompileFault part n budget e → Compiles.TellsMemoryApart e → (Compiles.IsNumbered e → HasNoObject part n budget)
+    → ((n ≡ 0) ⊎ (16 < n) → e ≡ Compile.Processes) → (0 < n → n ≤ 16 → 1000000 < budget → e ≡ Compile.Budget)
+    → (0 < n → n ≤ 16 → budget ≤ 1000000 → 65536 < length part → e ≡ Compile.Text (Texts.Scan Scan.TooLong))
+    → IfOk result (λ a. (whole : List ℕ) → part ≡ beginning whole → IsBoundAnswer whole n budget a)
+bound_refused_made part n budget e (Ok a) told numbered stands apart none processes too_much too_long =
+    λ whole is.
+    refused e
+    (of_whole_or_long (λ t. IsCompileFault t n budget e) part whole is
+    (λ long longer. fault_too_long (λ x. x) (IsCompileFault whole n budget) whole n budget e (λ x h. h) longer
+    processes too_much (λ some few within. too_long some few within long)) stands)
+    (numbered, apart)
+    (of_whole_or_long (λ t. HasNoObject t n budget) part whole is (λ long longer. long_has_no_object whole n budget longer) (none (numbered, apart))) told
+bound_refused_made part n budget e (Err x) told numbered stands apart none processes too_much too_long = tt
 
 pub run_refused_made : {E : Type 0} (product : Product) (part : List ℕ) (n budget : ℕ) (script schedule : List ℕ) (e : PerformFault) (result : Result Answer E)
     → IfOk result (λ a. IsRefused a 1 (run_fault_line e ++ codes "\n")) → IfOk result (λ _. Performs.is_want_of_memory e ≡ false)

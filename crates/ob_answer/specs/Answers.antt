@@ -1,5 +1,6 @@
 -- What the program answers to a request, by what reads of files give.
-use Rattle.std.specs.Prelude.{◌≡◌, ℕ, List, [], ◌∷◌, ◌++◌, Some, None, Result, codes}
+use Rattle.std.specs.Prelude.{◌≡◌, ℕ, Bool, List, [], ◌∷◌, ◌++◌, Some, None, Result, codes, count_by, if◌then◌else◌, nat_lt}
+use Rattle.std.specs.Str.{bytes_eq}
 use Rattle.ob_answer.specs.declared.answered.Answer.{Answer}
 use Rattle.ob_answer.specs.declared.files.FileFault.{FileFault}
 use Rattle.ob_fault_lines.specs.CompileFaultLines.{compile_line}
@@ -9,6 +10,7 @@ use Rattle.ob_fault_lines.specs.ServeFaultLines.{serve_fault_line}
 use Rattle.ob_fault_lines.specs.VerifyFaultLines.{verify_fault_line}
 use Rattle.ob_desk_texts.specs.ServedTexts as Serves
 use Rattle.ob_desk_texts.specs.ServedTexts.{HasNoCalls, IsOfTexts, IsServedPrinted, IsUngatedFault}
+use Rattle.ob_object_bound.specs.Numbers.{IsBoundText}
 use Rattle.ob_object_compile.specs.Compilation as Compiles
 use Rattle.ob_object_compile.specs.Compilation.{HasNoObject, IsCompileFault, default_budget}
 use Rattle.ob_object_compile.specs.Listed.{IsListing}
@@ -19,7 +21,7 @@ use Rattle.ob_object_sequence.specs.SequentialRun.{HasNoRun, HasObject, IsNumber
 use Rattle.ob_object_verify.specs.Verified.{IsVerified}
 use Rattle.ob_object_verify.specs.VerifyFaults as Verifies
 use Rattle.ob_object_verify.specs.VerifyFaults.{IsVerifyFault}
-use Rattle.ob_command.specs.CommandLine.{Text, Request, RunRequest, Check, Listing, Seq, Run, Serve, Draw, Verify, Explain, Help, Version, Unclear}
+use Rattle.ob_command.specs.CommandLine.{Text, Request, RunRequest, Check, Listing, Seq, Run, Serve, Draw, Verify, Explain, Bound, Help, Version, Unclear}
 use Rattle.ob_answer.specs.declared.product.Product.{Product}
 use Rattle.ob_answer.specs.declared.product.Product.TheVariants as Products
 use Rattle.ob_answer.specs.Explains.{IsCallsExplained, IsModuleExplained}
@@ -29,6 +31,10 @@ use Rattle.ob_answer.specs.Reads.{IsOutcome}
 -- the program's name and version, and the kit that it is proved with
 abbrev pub version_text : Text
 version_text = codes "obl0 0.1.0\nrattle-kit-13f logic dac8208d650f15bf\n"
+
+-- the mistake of words that name standard input for two files
+abbrev pub input_twice_text : Text
+input_twice_text = codes "error: `-`, which is standard input, stands for one file alone\n"
 
 abbrev pub ok_text : Text
 ok_text = codes "ok\n"
@@ -53,6 +59,12 @@ IsCheckAnswer bytes =
 abbrev pub IsListAnswer : List ℕ → Answer → Type 0
 IsListAnswer bytes =
     IsTextAnswer (IsListing bytes) (IsCompileFault bytes 1 default_budget) Compiles.IsNumbered (λ _. HasNoObject bytes 1 default_budget) compile_line
+
+-- to the bytes of one module, a number of processes and a budget: the numbers of its object
+abbrev pub IsBoundAnswer : (bytes : List ℕ) (processes budget : ℕ) → Answer → Type 0
+IsBoundAnswer bytes processes budget =
+    IsTextAnswer (IsBoundText bytes processes budget) (IsCompileFault bytes processes budget) Compiles.IsNumbered
+    (λ _. HasNoObject bytes processes budget) compile_line
 
 -- to the bytes of a module and of a script, and a budget: the lines of the sequential run
 abbrev pub IsSeqAnswer : (module_bytes script_bytes : List ℕ) (budget : ℕ) → Answer → Type 0
@@ -111,6 +123,7 @@ files_of (Draw run) = files_of_run run
 files_of (Verify module_name record_name) = module_name ∷ record_name ∷ []
 files_of (Explain module_name None budget) = module_name ∷ []
 files_of (Explain module_name (Some script_name) budget) = module_name ∷ script_name ∷ []
+files_of (Bound module_name processes budget) = module_name ∷ []
 files_of _ = []
 
 -- the answer that is made of the bytes of these files
@@ -125,11 +138,26 @@ IsMade (Verify module_name record_name) (module_bytes ∷ record_bytes ∷ []) a
 IsMade (Explain module_name None budget) (module_bytes ∷ []) answer = IsModuleExplained module_name module_bytes answer
 IsMade (Explain module_name (Some script_name) budget) (module_bytes ∷ script_bytes ∷ []) answer =
     IsCallsExplained module_name module_bytes script_name script_bytes budget answer
+IsMade (Bound module_name processes budget) (module_bytes ∷ []) answer = IsBoundAnswer module_bytes processes budget answer
 IsMade Help [] answer = (text : Text) × IsPrinted answer text
 IsMade Version [] answer = IsPrinted answer version_text
 IsMade Unclear [] answer = (text : Text) × IsRefused answer 2 text
 IsMade _ _ answer = ⊥
 
--- the answer to a request
-abbrev pub IsAnswer : {F : Type 0} → (F → Text → Result (List ℕ) FileFault → F → Type 0) → Request → F → Answer → F → Type 0
-IsAnswer Reads request = IsOutcome Reads (files_of request) (IsMade request)
+-- the name of standard input
+abbrev pub input_name : Text
+input_name = codes "-"
+
+-- standard input can be read but once
+abbrev pub reads_input_twice : List Text → Bool
+reads_input_twice names = nat_lt 1 (count_by (λ name. bytes_eq name input_name) names)
+
+module _ {F : Type 0} (Reads : F → Text → Result (List ℕ) FileFault → F → Type 0) where
+  -- the outcome of the files that a request names
+  abbrev pub IsObeyed : Request → F → Answer → F → Type 0
+  IsObeyed request = IsOutcome Reads (files_of request) (IsMade request)
+
+  -- the answer to a request: where it names standard input for two files, its words are a mistake, and nothing is read
+  abbrev pub IsAnswer : Request → F → Answer → F → Type 0
+  IsAnswer request before answer after =
+      if reads_input_twice (files_of request) then IsRefused answer 2 input_twice_text × (after ≡ before) else IsObeyed request before answer after

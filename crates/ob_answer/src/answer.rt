@@ -1,10 +1,10 @@
 //! From the words of the command line to what the program prints and its exit status.
 
 ghost use Rattle.std.specs.Prelude.{◌≡◌, ◌∷◌, [], ℕ, None, Some, false, IfOk, map, codes};
-ghost use Rattle.ob_answer.specs.Answers.{IsAnswer, IsRunMade, files_of_run};
+ghost use Rattle.ob_answer.specs.Answers.{IsAnswer, IsObeyed, IsRunMade, files_of, files_of_run, reads_input_twice};
 ghost use Rattle.ob_answer.specs.Printed.{IsUnreadable};
 ghost use Rattle.ob_answer.specs.Reads.{IsOutcome};
-ghost use Rattle.ob_command.specs.CommandLine.{Check, Draw, Explain, Listing, Run, Seq, Serve, Text, Verify, budget_number, is_option, number, request};
+ghost use Rattle.ob_command.specs.CommandLine.{Bound, Check, Draw, Explain, Listing, Run, Seq, Serve, Text, Verify, budget_number, is_option, number, request};
 ghost use Rattle.ob_command.specs.Commands.{request_of, run_request_of};
 ghost use Rattle.ob_command.specs.PlainForms.{run_with};
 
@@ -12,7 +12,7 @@ use crate::answered::Answer;
 use crate::explaining::obey_explain;
 use crate::files::{FileFault, Files};
 use crate::making::{
-    answer_check, answer_list, answer_run, answer_seq, answer_serve, answer_verify,
+    answer_bound, answer_check, answer_list, answer_run, answer_seq, answer_serve, answer_verify,
 };
 use crate::product::Product;
 use crate::shown_name::push_name;
@@ -25,6 +25,12 @@ use std::thread::Threads;
 
 /// The program's name and version, and the kit that it is proved with.
 const VERSION: &str = "obl0 0.1.0\nrattle-kit-13f logic dac8208d650f15bf\n";
+
+/// The name of standard input.
+pub const INPUT_NAME: &str = "-";
+
+/// The mistake of words that name standard input for two files.
+const INPUT_TWICE: &str = "error: `-`, which is standard input, stands for one file alone\n";
 
 /// How many bytes of a module are read: with one more than it may have it is known to be too long.
 pub(crate) const MODULE_BYTES: usize = LONGEST_TEXT + 1;
@@ -68,6 +74,10 @@ pub fn answer<R: Threads + Wait + Sync + AllocGlobal, F: Files>(
         → IfOk result (λ a. IsAnswer F.reads (Explain m (Some s) 100000) files.old a files.new) }
     ensures explain_budget { (m s b : Text) (k : ℕ) → map (λ word. word.now) words.now ≡ codes "explain" ∷ m ∷ s ∷ codes "-b" ∷ b ∷ [] → is_option m ≡ false → is_option s ≡ false → budget_number b ≡ Some k
         → IfOk result (λ a. IsAnswer F.reads (Explain m (Some s) k) files.old a files.new) }
+    ensures bound { (m n : Text) (k : ℕ) → map (λ word. word.now) words.now ≡ codes "bound" ∷ m ∷ codes "-n" ∷ n ∷ [] → is_option m ≡ false → number n ≡ Some k
+        → IfOk result (λ a. IsAnswer F.reads (Bound m k 100000) files.old a files.new) }
+    ensures bound_budget { (m n b : Text) (k t : ℕ) → map (λ word. word.now) words.now ≡ codes "bound" ∷ m ∷ codes "-n" ∷ n ∷ codes "-b" ∷ b ∷ [] → is_option m ≡ false → number n ≡ Some k → budget_number b ≡ Some t
+        → IfOk result (λ a. IsAnswer F.reads (Bound m k t) files.old a files.new) }
 {
     obey_words(rt, words, files)
 }
@@ -82,12 +92,70 @@ fn obey_words<R: Threads + Wait + Sync + AllocGlobal, F: Files>(
 {
     let alloc = rt.alloc();
     match read_command(alloc, words) {
-        Ok(command) => obey(rt, alloc, command, files),
+        Ok(command) => obey_once(rt, alloc, command, files),
         Err(Stop::Help(text)) => Ok(Answer::printed(alloc, text)),
         Err(Stop::Version) => Ok(Answer::printed(alloc, String::from_str(alloc, VERSION)?)),
         Err(Stop::Unclear(text)) => Ok(Answer::refused(alloc, 2, text)),
         Err(Stop::NoMemory) => Err(NoMemory),
     }
+}
+
+/// The answer to a command, which may read standard input but once.
+fn obey_once<R: Threads + Wait + Sync, F: Files>(
+    rt: &R,
+    alloc: Global,
+    command: Command<'_>,
+    files: &mut F,
+) -> Result<Answer, NoMemory>
+    ensures { IfOk result (λ a. IsAnswer F.reads (request_of command.entry) files.old a files.new) }
+{
+    if reads_input_twice(command) {
+        return Ok(Answer::refused(
+            alloc,
+            2,
+            String::from_str(alloc, INPUT_TWICE)?,
+        ));
+    }
+    obey(rt, alloc, command, files)
+}
+
+/// Whether a command names standard input for two files.
+fn reads_input_twice(command: Command<'_>) -> bool
+    ensures { result ≡ reads_input_twice (files_of (request_of command.entry)) }
+{
+    match command {
+        Command::Check { .. } | Command::List { .. } | Command::Bound { .. } => false,
+        Command::Seq {
+            module_name,
+            script_name,
+            ..
+        }
+        | Command::Serve {
+            module_name,
+            script_name,
+            ..
+        } => are_two_inputs(&[module_name, script_name]),
+        Command::Run(run) | Command::Draw(run) => are_two_inputs(&[run.module_name, run.script_name, run.schedule_name]),
+        Command::Verify {
+            module_name,
+            record_name,
+        } => are_two_inputs(&[module_name, record_name]),
+        Command::Explain {
+            module_name,
+            script_name,
+            ..
+        } => match script_name {
+            Some(script_name) => are_two_inputs(&[module_name, script_name]),
+            None => false,
+        },
+    }
+}
+
+/// Whether more than one of these names is that of standard input.
+fn are_two_inputs(names: &[&str]) -> bool
+    ensures { result ≡ reads_input_twice (map (λ name. name.now) names.now) }
+{
+    names.iter().filter(|name| **name == INPUT_NAME).count() > 1
 }
 
 /// The answer to a command.
@@ -97,7 +165,7 @@ fn obey<R: Threads + Wait + Sync, F: Files>(
     command: Command<'_>,
     files: &mut F,
 ) -> Result<Answer, NoMemory>
-    ensures { IfOk result (λ a. IsAnswer F.reads (request_of command.entry) files.old a files.new) }
+    ensures { IfOk result (λ a. IsObeyed F.reads (request_of command.entry) files.old a files.new) }
 {
     match command {
         Command::Check { module_name } => obey_check(alloc, module_name, files),
@@ -132,12 +200,17 @@ fn obey<R: Threads + Wait + Sync, F: Files>(
             script_name,
             budget,
         } => obey_explain(alloc, module_name, script_name, budget, files),
+        Command::Bound {
+            module_name,
+            processes,
+            budget,
+        } => obey_bound(alloc, module_name, processes, budget, files),
     }
 }
 
 /// The answer to `check`, of the name of its file.
 fn obey_check<F: Files>(alloc: Global, module_name: &str, files: &mut F) -> Result<Answer, NoMemory>
-    ensures { IfOk result (λ a. IsAnswer F.reads (Check module_name.now) files.old a files.new) }
+    ensures { IfOk result (λ a. IsObeyed F.reads (Check module_name.now) files.old a files.new) }
 {
     match files.read_beginning(module_name, MODULE_BYTES) {
         Ok(module) => answer_check(alloc, module.as_slice()),
@@ -148,10 +221,27 @@ fn obey_check<F: Files>(alloc: Global, module_name: &str, files: &mut F) -> Resu
 
 /// The answer to `list`, of the name of its file.
 fn obey_list<F: Files>(alloc: Global, module_name: &str, files: &mut F) -> Result<Answer, NoMemory>
-    ensures { IfOk result (λ a. IsAnswer F.reads (Listing module_name.now) files.old a files.new) }
+    ensures { IfOk result (λ a. IsObeyed F.reads (Listing module_name.now) files.old a files.new) }
 {
     match files.read_beginning(module_name, MODULE_BYTES) {
         Ok(module) => answer_list(alloc, module.as_slice()),
+        Err(FileFault::Unreadable) => Ok(unreadable(alloc, module_name)?),
+        Err(FileFault::NoMemory) => Err(NoMemory),
+    }
+}
+
+/// The answer to `bound`, of the name of its file, the number of processes and the budget of each call.
+fn obey_bound<F: Files>(
+    alloc: Global,
+    module_name: &str,
+    processes: usize,
+    budget: u32,
+    files: &mut F,
+) -> Result<Answer, NoMemory>
+    ensures { IfOk result (λ a. IsObeyed F.reads (Bound module_name.now processes budget) files.old a files.new) }
+{
+    match files.read_beginning(module_name, MODULE_BYTES) {
+        Ok(module) => answer_bound(alloc, module.as_slice(), processes, budget),
         Err(FileFault::Unreadable) => Ok(unreadable(alloc, module_name)?),
         Err(FileFault::NoMemory) => Err(NoMemory),
     }
@@ -165,7 +255,7 @@ fn obey_seq<F: Files>(
     budget: u32,
     files: &mut F,
 ) -> Result<Answer, NoMemory>
-    ensures { IfOk result (λ a. IsAnswer F.reads (Seq module_name.now script_name.now budget) files.old a files.new) }
+    ensures { IfOk result (λ a. IsObeyed F.reads (Seq module_name.now script_name.now budget) files.old a files.new) }
 {
     let module = match files.read_beginning(module_name, MODULE_BYTES) {
         Ok(bytes) => bytes,
@@ -190,7 +280,7 @@ fn obey_serve<R: Threads + Wait + Sync, F: Files>(
     budget: u32,
     files: &mut F,
 ) -> Result<Answer, NoMemory>
-    ensures { IfOk result (λ a. IsAnswer F.reads (Serve module_name.now script_name.now processes budget) files.old a files.new) }
+    ensures { IfOk result (λ a. IsObeyed F.reads (Serve module_name.now script_name.now processes budget) files.old a files.new) }
 {
     let module = match files.read_beginning(module_name, MODULE_BYTES) {
         Ok(bytes) => bytes,
@@ -254,7 +344,7 @@ fn obey_verify<F: Files>(
     record_name: &str,
     files: &mut F,
 ) -> Result<Answer, NoMemory>
-    ensures { IfOk result (λ a. IsAnswer F.reads (Verify module_name.now record_name.now) files.old a files.new) }
+    ensures { IfOk result (λ a. IsObeyed F.reads (Verify module_name.now record_name.now) files.old a files.new) }
 {
     let module = match files.read_beginning(module_name, MODULE_BYTES) {
         Ok(bytes) => bytes,

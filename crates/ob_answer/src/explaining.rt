@@ -1,7 +1,7 @@
 //! The answers of `explain`. Of a module's text they have the beginning: a module of more bytes is too long.
 
 ghost use Rattle.std.specs.Prelude.{◌≡◌, ℕ, List, None, Some, suc, false, take, IfOk, option_map, string_bytes};
-ghost use Rattle.ob_answer.specs.Answers.{IsAnswer};
+ghost use Rattle.ob_answer.specs.Answers.{IsObeyed};
 ghost use Rattle.ob_answer.specs.Explains.{IsCallsExplained, IsModuleExplained, shown_calls_fault, shown_module_fault};
 ghost use Rattle.ob_answer.specs.Printed.{IsRefused};
 ghost use Rattle.ob_answer.specs.ShownNames.{shown};
@@ -31,7 +31,7 @@ pub(crate) fn obey_explain<F: Files>(
     budget: u32,
     files: &mut F,
 ) -> Result<Answer, NoMemory>
-    ensures { IfOk result (λ a. IsAnswer F.reads (Explain module_name.now (option_map (λ name. name.now) script_name.entry) budget) files.old a files.new) }
+    ensures { IfOk result (λ a. IsObeyed F.reads (Explain module_name.now (option_map (λ name. name.now) script_name.entry) budget) files.old a files.new) }
 {
     match script_name {
         None => obey_explain_module(alloc, module_name, files),
@@ -45,7 +45,7 @@ fn obey_explain_module<F: Files>(
     module_name: &str,
     files: &mut F,
 ) -> Result<Answer, NoMemory>
-    ensures { IfOk result (λ a. (budget : ℕ) → IsAnswer F.reads (Explain module_name.now None budget) files.old a files.new) }
+    ensures { IfOk result (λ a. (budget : ℕ) → IsObeyed F.reads (Explain module_name.now None budget) files.old a files.new) }
 {
     match files.read_beginning(module_name, MODULE_BYTES) {
         Ok(module) => explain_module(alloc, module_name, module.as_slice()),
@@ -62,7 +62,7 @@ fn obey_explain_calls<F: Files>(
     budget: u32,
     files: &mut F,
 ) -> Result<Answer, NoMemory>
-    ensures { IfOk result (λ a. IsAnswer F.reads (Explain module_name.now (Some script_name.now) budget) files.old a files.new) }
+    ensures { IfOk result (λ a. IsObeyed F.reads (Explain module_name.now (Some script_name.now) budget) files.old a files.new) }
 {
     let module = match files.read_beginning(module_name, MODULE_BYTES) {
         Ok(bytes) => bytes,

@@ -1,7 +1,7 @@
 //! Answers made of the bytes of files. Of a module's text they have the beginning: a module of more bytes is too long.
 
 ghost use Rattle.std.specs.Prelude.{◌≡◌, ◌≢◌, ◌<◌, ◌≤◌, ◌++◌, ◌⊎◌, ℕ, List, suc, false, take, Err, IfErr, IfOk, codes, length, string_bytes};
-ghost use Rattle.ob_answer.specs.Answers.{IsCheckAnswer, IsListAnswer, IsRunAnswer, IsSeqAnswer, IsServeAnswer, IsVerifyAnswer, SaysRun};
+ghost use Rattle.ob_answer.specs.Answers.{IsBoundAnswer, IsCheckAnswer, IsListAnswer, IsRunAnswer, IsSeqAnswer, IsServeAnswer, IsVerifyAnswer, SaysRun};
 ghost use Rattle.ob_answer.specs.Printed.{IsRefused};
 ghost use Rattle.ob_fault_lines.specs.CompileFaultLines.{compile_line};
 ghost use Rattle.ob_fault_lines.specs.RunFaultLines.{run_fault_line};
@@ -23,6 +23,7 @@ use ob_fault_lines::sequential_faults::seq_fault_line;
 use ob_fault_lines::serve_faults::serve_fault_line;
 use ob_fault_lines::verify_faults::verify_fault_line;
 use ob_interface::{MOST_PROCESSES, NoMemory};
+use ob_object_bound::bound_text;
 use ob_object_compile::{CompileFault, list_text};
 use ob_object_perform::{PerformFault, draw_text, run_text};
 use ob_object_sequence::{SeqTextFault, check_text, seq_text};
@@ -48,6 +49,22 @@ pub(crate) fn answer_list(alloc: Global, module: &[u8]) -> Result<Answer, NoMemo
     ensures { IfOk result (λ a. (whole : List ℕ) → «module».now ≡ take (suc LONGEST_TEXT) whole → IsListAnswer whole a) }
 {
     match list_text(alloc, module) {
+        Ok(lines) => Ok(Answer::printed(alloc, lines)),
+        Err(fault) => compile_refused(alloc, fault),
+    }
+}
+
+/// The answer of `bound` to the beginning of a module's text, of an object of so many processes whose calls have the budget of turns
+/// each.
+pub(crate) fn answer_bound(
+    alloc: Global,
+    module: &[u8],
+    processes: usize,
+    budget: u32,
+) -> Result<Answer, NoMemory>
+    ensures { IfOk result (λ a. (whole : List ℕ) → «module».now ≡ take (suc LONGEST_TEXT) whole → IsBoundAnswer whole processes budget a) }
+{
+    match bound_text(alloc, module, processes, u64::from(budget)) {
         Ok(lines) => Ok(Answer::printed(alloc, lines)),
         Err(fault) => compile_refused(alloc, fault),
     }

@@ -1,7 +1,9 @@
 -- What clap makes of the plain forms of the commands, whose words are no options.
 use Rattle.std.proofs.Common.{◌≡◌, ◌∙◌, ℕ, refl, sym, ap, ap₂, List, [], ◌∷◌, fold, find, codes, true, false, Bool, if◌then◌else◌, ◌==◌, Option, Some, None, is_some, option_map, option_and_then, pos, unwrap_or}
+use Rattle.std.specs.List.{All}
 use Rattle.std.specs.Option.{option_map_or}
 use Rattle.std.specs.Str.{bytes_eq}
+use Rattle.std.proofs.lemmas.List.Elements.{All-from_recursion}
 use Rattle.std.proofs.lemmas.Slice.Eq.{bytes_eq-Decides}
 use Rattle.clap.specs.Lexer.{long_of, long_of_rest, short_of, short_of_rest, strip_byte, without_minus}
 use Rattle.clap.specs.Walk.{Held, Walk, Step, walk_from, nothing_held, Row, Rule, Text, Names, answers_to, walked, idle, option, value, plain_word, finished, settled, reading_by, word_met, to_positional, arg_by_index, after_step}
@@ -16,22 +18,36 @@ use Rattle.clap.specs.declared.parser.matches.ValueSource.TheVariants.{CommandLi
 use Rattle.clap.proofs.FaultLemmas.{stopped_fault}
 use Rattle.clap.proofs.WalkLemmas.{walk_stopped}
 use Rattle.clap.proofs.OnLiterals.{clap_on_literals}
-use Rattle.ob_command.specs.ClapCommand.{explain_app, module_app, name_rule, obl0_app, run_app, seq_app, serve_app, top_shape}
-use Rattle.ob_command.specs.CommandLine.{Check, Draw, Explain, Help, Listing, Request, Run, RunRequest, Seq, Serve, Unclear, Verify, budget_number, clap_request, is_option, number, request, request_by}
-use Rattle.ob_command.specs.PlainForms.{IsRunAsked, IsServeAsked, run_with}
+use Rattle.ob_command.specs.ClapCommand.{bound_app, explain_app, module_app, name_rule, obl0_app, run_app, seq_app, serve_app, top_shape}
+use Rattle.ob_command.specs.CommandLine.{Bound, Check, Draw, Explain, Help, Listing, Request, Run, RunRequest, Seq, Serve, Unclear, Verify, Version, asks_version, budget_number, clap_request, command_names, is_option, number, request, request_by}
+use Rattle.ob_command.specs.PlainForms.{IsBoundAsked, IsHelpAsked, IsRunAsked, IsServeAsked, IsVersionAsked, run_with}
 use Rattle.ob_command.proofs.Numbers.{PlainNumber, plain_budget, plain_number}
 
 -- ---- a word that is no option
 
-no_dashes : (word : Text) → is_option word ≡ false → bytes_eq word (codes "--") ≡ false
-no_dashes word h = go (bytes_eq word (codes "--")) refl
+-- it is no such option
+not_this : (this word : Text) → is_option this ≡ true → is_option word ≡ false → bytes_eq word this ≡ false
+not_this this word is_one h = go (bytes_eq word this) refl
   where
-    go : (t : Bool) → bytes_eq word (codes "--") ≡ t → bytes_eq word (codes "--") ≡ false
+    go : (t : Bool) → bytes_eq word this ≡ t → bytes_eq word this ≡ false
     go false t = t
     go true t =
-        let is : word ≡ codes "--" = (bytes_eq-Decides word (codes "--")).0 t in
-        let bad : true ≡ false = rw is at h in
+        let is : word ≡ this = (bytes_eq-Decides word this).0 t in
+        let bad : true ≡ false = sym is_one ∙ (ap is_option (sym is) ∙ h) in
         cc
+
+no_dashes : (word : Text) → is_option word ≡ false → bytes_eq word (codes "--") ≡ false
+no_dashes word h = not_this (codes "--") word refl h
+
+-- behind a name it asks for no version
+no_version : (name word : Text) → is_option word ≡ false → asks_version (name ∷ word ∷ []) ≡ false
+no_version name word h =
+    let long = not_this (codes "--version") word refl h in
+    let short = not_this (codes "-V") word refl h in
+    rw (long, short) refl
+
+by_clap : (name word : Text) → is_option word ≡ false → (if asks_version (name ∷ word ∷ []) then Version else clap_request (name ∷ word ∷ [])) ≡ clap_request (name ∷ word ∷ [])
+by_clap name word h = ap (λ (t : Bool). if t then Version else clap_request (name ∷ word ∷ [])) (no_version name word h)
 
 no_long : (word : Text) → is_option word ≡ false → long_of word ≡ None
 no_long [] h = refl
@@ -189,6 +205,9 @@ run_leaf command = built_leaf (run_app command).top
 abbrev pub serve_leaf : Text → Shape
 serve_leaf command = built_leaf (serve_app command).top (built_name 1 (codes "MODULE") ∷ built_name 2 (codes "SCRIPT") ∷ built_number ∷ built_budget ∷ built_help ∷ [])
 
+abbrev pub bound_leaf : Text → Shape
+bound_leaf command = built_leaf (bound_app command).top (built_name 1 (codes "MODULE") ∷ built_number ∷ built_budget ∷ built_help ∷ [])
+
 abbrev pub built_top : Shape
 built_top = record top_shape { rules = built_help ∷ []; is_leaf = false; is_built = true }
 
@@ -196,11 +215,12 @@ abbrev pub built_app : App
 built_app = record {
   top = built_top;
   subs = module_leaf (codes "check") ∷ module_leaf (codes "list") ∷ seq_leaf (codes "seq")
-      ∷ run_leaf (codes "run") ∷ serve_leaf (codes "serve") ∷ run_leaf (codes "draw") ∷ second_leaf (codes "verify") (codes "RECORD") ∷ explain_leaf (codes "explain") ∷ [];
+      ∷ run_leaf (codes "run") ∷ serve_leaf (codes "serve") ∷ run_leaf (codes "draw") ∷ second_leaf (codes "verify") (codes "RECORD") ∷ explain_leaf (codes "explain")
+      ∷ bound_leaf (codes "bound") ∷ [];
 }
 
 abbrev pub names : Names
-names = (codes "check", []) ∷ (codes "list", []) ∷ (codes "seq", []) ∷ (codes "run", []) ∷ (codes "serve", []) ∷ (codes "draw", []) ∷ (codes "verify", []) ∷ (codes "explain", []) ∷ []
+names = (codes "check", []) ∷ (codes "list", []) ∷ (codes "seq", []) ∷ (codes "run", []) ∷ (codes "serve", []) ∷ (codes "draw", []) ∷ (codes "verify", []) ∷ (codes "explain", []) ∷ (codes "bound", []) ∷ []
 
 abbrev top_rules : List Rule
 top_rules = built_help ∷ []
@@ -464,6 +484,47 @@ unfolding clap_on_literals
 serve_long_budget command m s n b plain_n plain_b =
     stepped (serve_leaf command) _ (codes "--budget") (no_refusal _ plain_n.passes) _ refl (b ∷ []) _ (serve_value command m s n b plain_b)
 
+-- and of a bound
+abbrev bound_rows : Text → Text → List Row
+bound_rows m n = name_row (codes "MODULE") m ∷ number_row n ∷ []
+
+abbrev bound_budget_rows : Text → Text → Text → List Row
+bound_budget_rows m n b = name_row (codes "MODULE") m ∷ number_row n ∷ budget_row b ∷ []
+
+abbrev bound_counted : Text → Text → Text → Walk
+bound_counted command m n = state (bound_leaf command) (name_row (codes "MODULE") m ∷ []) (Some (codes "N", n ∷ [])) 2
+
+bound_named : (command m n : Text) → is_option m ≡ false → PlainNumber 65535 n → (words : List Text) (rows : List Row)
+    → Goes (bound_leaf command) (bound_counted command m n) words rows → Goes (bound_leaf command) start (m ∷ codes "-n" ∷ n ∷ words) rows
+unfolding clap_on_literals
+bound_named command m n no_m plain words rows goes =
+    named (bound_leaf command) [] None 1 m no_m refl _ refl (codes "-n" ∷ n ∷ words) _
+    (stepped (bound_leaf command) _ (codes "-n") refl _ refl (n ∷ words) _
+    (valued (bound_leaf command) (name_row (codes "MODULE") m ∷ []) (Some (codes "N", [])) 2 (codes "N") n plain.no_option _ refl words _ goes))
+
+bound_given : (command m n : Text) → is_option m ≡ false → PlainNumber 65535 n → Goes (bound_leaf command) start (m ∷ codes "-n" ∷ n ∷ []) (bound_rows m n)
+unfolding clap_on_literals
+bound_given command m n no_m plain = bound_named command m n no_m plain [] _ (record { no_fault = no_refusal _ plain.passes; leaves = refl })
+
+bound_value : (command m n b : Text) → PlainNumber 4294967295 b
+    → Goes (bound_leaf command) (waits (bound_leaf command) (bound_rows m n) (Some (codes "BUDGET", [])) 2 (codes "BUDGET")) (b ∷ []) (bound_budget_rows m n b)
+unfolding clap_on_literals
+bound_value command m n b plain =
+    valued (bound_leaf command) (bound_rows m n) (Some (codes "BUDGET", [])) 2 (codes "BUDGET")
+    b plain.no_option _ refl [] _ (record { no_fault = no_refusal _ plain.passes; leaves = refl })
+
+bound_short_budget : (command m n b : Text) → PlainNumber 65535 n → PlainNumber 4294967295 b
+    → Goes (bound_leaf command) (bound_counted command m n) (codes "-b" ∷ b ∷ []) (bound_budget_rows m n b)
+unfolding clap_on_literals
+bound_short_budget command m n b plain_n plain_b =
+    stepped (bound_leaf command) _ (codes "-b") (no_refusal _ plain_n.passes) _ refl (b ∷ []) _ (bound_value command m n b plain_b)
+
+bound_long_budget : (command m n b : Text) → PlainNumber 65535 n → PlainNumber 4294967295 b
+    → Goes (bound_leaf command) (bound_counted command m n) (codes "--budget" ∷ b ∷ []) (bound_budget_rows m n b)
+unfolding clap_on_literals
+bound_long_budget command m n b plain_n plain_b =
+    stepped (bound_leaf command) _ (codes "--budget") (no_refusal _ plain_n.passes) _ refl (b ∷ []) _ (bound_value command m n b plain_b)
+
 number_is : (n : Text) (k : ℕ) → number n ≡ Some k → number (without_minus n) ≡ Some k
 number_is n k is =
     let plain = plain_number n k is in
@@ -487,11 +548,11 @@ run_is asks run o p k t is_k is_t =
 
 pub check_asked : (m : Text) → is_option m ≡ false → request (codes "check" ∷ m ∷ []) ≡ Check m
 unfolding clap_on_literals
-check_asked m no_m = asked (codes "check") (module_leaf (codes "check")) refl refl refl (m ∷ []) _ (one_name (codes "check") m no_m)
+check_asked m no_m = by_clap (codes "check") m no_m ∙ asked (codes "check") (module_leaf (codes "check")) refl refl refl (m ∷ []) _ (one_name (codes "check") m no_m)
 
 pub list_asked : (m : Text) → is_option m ≡ false → request (codes "list" ∷ m ∷ []) ≡ Listing m
 unfolding clap_on_literals
-list_asked m no_m = asked (codes "list") (module_leaf (codes "list")) refl refl refl (m ∷ []) _ (one_name (codes "list") m no_m)
+list_asked m no_m = by_clap (codes "list") m no_m ∙ asked (codes "list") (module_leaf (codes "list")) refl refl refl (m ∷ []) _ (one_name (codes "list") m no_m)
 
 pub seq_asked : (m s : Text) → is_option m ≡ false → is_option s ≡ false → request (codes "seq" ∷ m ∷ s ∷ []) ≡ Seq m s 100000
 unfolding clap_on_literals
@@ -524,7 +585,7 @@ verify_asked m r no_m no_r =
 
 pub explain_asked : (m : Text) → is_option m ≡ false → request (codes "explain" ∷ m ∷ []) ≡ Explain m None 100000
 unfolding clap_on_literals
-explain_asked m no_m = asked (codes "explain") (explain_leaf (codes "explain")) refl refl refl (m ∷ []) _ (without_script (codes "explain") m no_m)
+explain_asked m no_m = by_clap (codes "explain") m no_m ∙ asked (codes "explain") (explain_leaf (codes "explain")) refl refl refl (m ∷ []) _ (without_script (codes "explain") m no_m)
 
 pub explain_script_asked : (m s : Text) → is_option m ≡ false → is_option s ≡ false → request (codes "explain" ∷ m ∷ s ∷ []) ≡ Explain m (Some s) 100000
 unfolding clap_on_literals
@@ -619,6 +680,28 @@ serve_long_asked m s n b k t no_m no_s is_k is_t =
     (serve_long_budget (codes "serve") m s n b (plain_number n k is_k) (plain_budget b t is_t)))
     ∙ both_are (Serve m s) _ _ k t (number_is n k is_k) (budget_is b t is_t)
 
+pub bound_asked : (m n : Text) (k : ℕ) → is_option m ≡ false → number n ≡ Some k → request (codes "bound" ∷ m ∷ codes "-n" ∷ n ∷ []) ≡ Bound m k 100000
+unfolding clap_on_literals
+bound_asked m n k no_m is =
+    asked (codes "bound") (bound_leaf (codes "bound")) refl refl refl (m ∷ codes "-n" ∷ n ∷ []) _ (bound_given (codes "bound") m n no_m (plain_number n k is))
+    ∙ both_are (Bound m) _ _ k 100000 (number_is n k is) refl
+
+pub bound_short_asked : IsBoundAsked (codes "-b")
+unfolding clap_on_literals
+bound_short_asked m n b k t no_m is_k is_t =
+    asked (codes "bound") (bound_leaf (codes "bound")) refl refl refl (m ∷ codes "-n" ∷ n ∷ codes "-b" ∷ b ∷ []) _
+    (bound_named (codes "bound") m n no_m (plain_number n k is_k) (codes "-b" ∷ b ∷ []) _
+    (bound_short_budget (codes "bound") m n b (plain_number n k is_k) (plain_budget b t is_t)))
+    ∙ both_are (Bound m) _ _ k t (number_is n k is_k) (budget_is b t is_t)
+
+pub bound_long_asked : IsBoundAsked (codes "--budget")
+unfolding clap_on_literals
+bound_long_asked m n b k t no_m is_k is_t =
+    asked (codes "bound") (bound_leaf (codes "bound")) refl refl refl (m ∷ codes "-n" ∷ n ∷ codes "--budget" ∷ b ∷ []) _
+    (bound_named (codes "bound") m n no_m (plain_number n k is_k) (codes "--budget" ∷ b ∷ []) _
+    (bound_long_budget (codes "bound") m n b (plain_number n k is_k) (plain_budget b t is_t)))
+    ∙ both_are (Bound m) _ _ k t (number_is n k is_k) (budget_is b t is_t)
+
 pub help_asked : clap_request (codes "--help" ∷ []) ≡ Help
 unfolding clap_on_literals clap_request
 help_asked = refl
@@ -630,3 +713,12 @@ short_help_asked = refl
 pub nothing_asked : clap_request [] ≡ Unclear
 unfolding clap_on_literals clap_request
 nothing_asked = refl
+
+-- ---- of each command
+
+pub each_help_asked : All IsHelpAsked command_names
+unfolding clap_on_literals clap_request
+each_help_asked = All-from_recursion IsHelpAsked command_names (record { before = refl; long = refl; short = refl }, (record { before = refl; long = refl; short = refl }, (record { before = refl; long = refl; short = refl }, (record { before = refl; long = refl; short = refl }, (record { before = refl; long = refl; short = refl }, (record { before = refl; long = refl; short = refl }, (record { before = refl; long = refl; short = refl }, (record { before = refl; long = refl; short = refl }, (record { before = refl; long = refl; short = refl }, tt)))))))))
+
+pub each_version_asked : All IsVersionAsked command_names
+each_version_asked = All-from_recursion IsVersionAsked command_names (record { long = refl; short = refl }, (record { long = refl; short = refl }, (record { long = refl; short = refl }, (record { long = refl; short = refl }, (record { long = refl; short = refl }, (record { long = refl; short = refl }, (record { long = refl; short = refl }, (record { long = refl; short = refl }, (record { long = refl; short = refl }, tt)))))))))

@@ -1,5 +1,5 @@
 -- From what clap answers to a request.
-use Rattle.std.proofs.Common.{◌≡◌, ◌≢◌, ◌∙◌, ◌⊎◌, ℕ, refl, sym, ap, ap₂, subst, List, [], ◌∷◌, true, false, Option, Some, None, Err, Result, IsSome, Box, box_value, option_map, option_and_then, is_some, codes, inl, inr}
+use Rattle.std.proofs.Common.{◌≡◌, ◌≢◌, ◌∙◌, ◌⊎◌, ℕ, refl, sym, ap, ap₂, subst, List, [], ◌∷◌, true, false, Option, Some, None, Err, IsSome, Box, box_value, option_map, option_and_then, is_some, codes, inl, inr}
 use Rattle.clap.specs.Words.{App, Row, Text, rows_of, subcommand_rows_of, IsAmong, HasKind, HasMatchesOf, Kinds, fault_of, is_simple, is_simple_and_free, kind_of, subcommand_of}
 use Rattle.clap.specs.declared.error.Error.{Error}
 use Rattle.clap.specs.declared.error.kind.ErrorKind.{ErrorKind}
@@ -11,7 +11,6 @@ use Rattle.clap.specs.Matches.{subcommand_name_of}
 use Rattle.clap.specs.Simple.{subcommand_rows}
 use Rattle.std.specs.Prelude.{unwrap_or}
 use Rattle.ob_command.specs.declared.command.Command as command
-use Rattle.ob_command.proofs.ClapWords.{help_asked}
 use Rattle.ob_command.proofs.Required.{has_command}
 use Rattle.clap.specs.Simple.{built}
 use Rattle.clap.specs.Walk.{nothing_held}
@@ -21,7 +20,7 @@ use Rattle.std.specs.Borrow.{Bor}
 use Rattle.clap.specs.Words.{first_of, first_value, one_of}
 use Rattle.clap.specs.declared.parser.matches.Found.{Found}
 use Rattle.clap.proofs.WalkLemmas.{first_value-rows}
-use Rattle.ob_command.specs.CommandLine.{Request, Check, Draw, Explain, Help, Listing, Run, RunRequest, Seq, Serve, Unclear, Verify, budget_number, budget_of, clap_request, command_of, default_budget, is_alone, processes_of, request, request_by, run_of, seq_of, serve_of}
+use Rattle.ob_command.specs.CommandLine.{Request, Bound, Check, Draw, Explain, Help, Listing, Run, RunRequest, Seq, Serve, Unclear, Verify, bound_of, budget_number, budget_of, clap_request, command_of, default_budget, processes_of, request_by, run_of, seq_of, serve_of}
 use Rattle.ob_command.specs.PlainForms.{run_with}
 use Rattle.ob_command.specs.Commands.{IsReading, IsStopOf, request_of}
 use Rattle.ob_command.specs.declared.command.Stop.{Stop}
@@ -119,6 +118,13 @@ pub an_explain : (name m : Text) (rows : List Row) (script : Option Text) (b : O
     → first_of (codes "SCRIPT") rows ≡ script → budget_of rows ≡ b → command_of name rows ≡ option_map (Explain m script) b
 an_explain name m rows script b is h s e = rw (is, h, s) (ap (option_map (Explain m script)) e)
 
+pub a_bound : (name m : Text) (rows : List Row) → name ≡ codes "bound" → first_of (codes "MODULE") rows ≡ Some m → command_of name rows ≡ bound_of m rows
+a_bound name m rows is h = rw (is, h) refl
+
+pub bound_by : (m : Text) (rows : List Row) (processes budget : Option ℕ) → processes_of rows ≡ processes → budget_of rows ≡ budget
+    → bound_of m rows ≡ option_and_then (λ k. option_map (Bound m k) budget) processes
+bound_by m rows processes budget k b = ap₂ (λ p t. option_and_then (λ k. option_map (Bound m k) t) p) k b
+
 -- the budget where something stands behind `-b`, and where nothing does
 pub budget_given : (rows : List Row) (t : Text) → first_of (codes "BUDGET") rows ≡ Some t → budget_of rows ≡ option_and_then budget_number (one_of (codes "BUDGET") rows)
 budget_given rows t h = rw h refl
@@ -169,9 +175,3 @@ module _ (a : App) (is : a ≡ obl0_app) (words : List Text) (m : ArgMatches)
   pub asked_is : (r : Request) → command_of name rows ≡ Some r → clap_request words ≡ r
   unfolding clap_request
   asked_is r h = ap₂ request_by (no_fault a is words m kinds matches) met ∙ ap (λ o. unwrap_or o Unclear) h
-
-pub help_read : (words : List Text) (result : Result command.Command Stop) → true ≡ is_alone (codes "help") words
-    → IsReading (clap_request (codes "--help" ∷ [])) result → IsReading (request words) result
-help_read words result alone h =
-    let asks : request words ≡ Help = rw (← alone) refl in
-    subst (λ (r : Request). IsReading r result) (help_asked ∙ sym asks) h

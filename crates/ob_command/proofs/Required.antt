@@ -15,8 +15,8 @@ use Rattle.clap.specs.Takes.{is_given}
 use Rattle.clap.specs.declared.error.kind.ErrorKind.{ErrorKind}
 use Rattle.clap.specs.declared.error.kind.ErrorKind.TheVariants as kind
 use Rattle.ob_command.specs.ClapCommand.{obl0_app}
-use Rattle.ob_command.specs.CommandLine.{Request, Check, Draw, Listing, Run, RunRequest, Verify, budget_of, command_of, explain_of, processes_of, run_of, seq_of, serve_of}
-use Rattle.ob_command.proofs.ClapWords.{built_app, built_budget, built_help, built_name, built_number, built_one, built_top, module_leaf, names, explain_leaf, optional_name, run_leaf, second_leaf, seq_leaf, serve_leaf}
+use Rattle.ob_command.specs.CommandLine.{Request, Check, Draw, Listing, Run, RunRequest, Verify, bound_of, budget_of, command_of, explain_of, processes_of, run_of, seq_of, serve_of}
+use Rattle.ob_command.proofs.ClapWords.{bound_leaf, built_app, built_budget, built_help, built_name, built_number, built_one, built_top, module_leaf, names, explain_leaf, optional_name, run_leaf, second_leaf, seq_leaf, serve_leaf}
 use Rattle.ob_command.proofs.Given.{EachFills, Filled, Fills, given_first, given_number, level_filled, neither, some_budget, suits, with_filled, without_filled}
 use Rattle.ob_command.proofs.Numbers.{budget_accepted, number_accepted}
 
@@ -202,6 +202,15 @@ serve_asks command words none =
     (λ script. some_then (processes_of rows) _ (given_number rows p.filled (p.given.1.1.0 refl))
     (λ processes. some_map (budget_of rows) _ (some_budget rows p.filled))))
 
+bound_asks : (command : Text) → AsksBy (bound_leaf command) (λ rows m. bound_of m rows)
+bound_asks command words none =
+    let s = bound_leaf command in
+    let p = passes s (fills_name 1 (codes "MODULE") any_text, (fills_number, (fills_budget, (fills_help, tt)))) refl words none in
+    let rows = rows_of_leaf s words in
+    some_then (first_of (codes "MODULE") rows) (λ m. bound_of m rows) (given_first (codes "MODULE") rows p.filled (p.given.0 refl))
+    (λ m. some_then (processes_of rows) _ (given_number rows p.filled (p.given.1.0 refl))
+    (λ processes. some_map (budget_of rows) _ (some_budget rows p.filled)))
+
 -- ---- all the words
 
 same_met : (a b : Text × List Row) → Some a ≡ Some b → a ≡ b
@@ -236,7 +245,7 @@ each_asks = (
     module_asks (codes "list") Listing,
     (
       seq_asks (codes "seq"),
-      (run_asks (codes "run") Run, (serve_asks (codes "serve"), (run_asks (codes "draw") Draw, (second_asks (codes "verify") (codes "RECORD") any_text Verify, (explain_asks (codes "explain"), tt))))),
+      (run_asks (codes "run") Run, (serve_asks (codes "serve"), (run_asks (codes "draw") Draw, (second_asks (codes "verify") (codes "RECORD") any_text Verify, (explain_asks (codes "explain"), (bound_asks (codes "bound"), tt)))))),
     ),
   ),
 )

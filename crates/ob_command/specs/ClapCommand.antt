@@ -39,6 +39,10 @@ run_app command = with_rule (with_rule (with_rule (script_app command) (name_rul
 abbrev pub serve_app : Text → App
 serve_app command = with_rule (with_rule (script_app command) number_rule) budget_rule
 
+-- `bound MODULE -n N -b BUDGET`
+abbrev pub bound_app : Text → App
+bound_app command = with_rule (with_rule (module_app command) number_rule) budget_rule
+
 -- `verify MODULE RECORD`
 abbrev pub record_app : Text → App
 record_app command = with_rule (module_app command) (name_rule (codes "RECORD"))
@@ -62,4 +66,4 @@ with_command app command = with_subcommand app command.top
 abbrev pub obl0_app : App
 obl0_app = fold with_command top_app (module_app (codes "check") ∷ module_app (codes "list") ∷ seq_app (codes "seq")
     ∷ run_app (codes "run") ∷ serve_app (codes "serve") ∷ run_app (codes "draw") ∷ record_app (codes "verify")
-    ∷ explain_app (codes "explain") ∷ [])
+    ∷ explain_app (codes "explain") ∷ bound_app (codes "bound") ∷ [])

@@ -1,5 +1,6 @@
 -- What the words of the command line ask for, by what clap makes of them.
-use Rattle.std.specs.Prelude.{ℕ, ◌==◌, Bool, false, List, [], ◌∷◌, Option, Some, None, is_some, option_and_then, option_map, unwrap_or, codes, if◌then◌else◌}
+use Rattle.std.specs.Prelude.{ℕ, ◌==◌, ◌&&◌, ◌||◌, Bool, false, List, [], ◌∷◌, Option, Some, None, is_some, option_and_then, option_map, unwrap_or, codes, if◌then◌else◌}
+use Rattle.std.specs.List.{list_any}
 use Rattle.std.specs.Str.{bytes_eq}
 use Rattle.std.specs.Str.Parse.{digits_value, without_leading_plus}
 use Rattle.clap.specs.ValueTests.{is_unsigned_in}
@@ -20,7 +21,7 @@ pub record RunRequest : Type 0 where
 
 -- What they ask for: the rules of a module checked; its code listed; the calls of a script made on it; a run's record;
 -- the record of workers' run; a run's picture; the order of a record checked; what is wrong with a module, or with a module and a script, shown to
--- people; help; the version; or nothing that there is. A command has the names of its files, and a budget is how many turns each call has.
+-- people; how many own steps a call takes at most; help; the version; or nothing that there is. A command has the names of its files, and a budget is how many turns each call has.
 pub data Request : Type 0 where
   Check : (module_name : Text) → Request
   Listing : (module_name : Text) → Request
@@ -30,6 +31,7 @@ pub data Request : Type 0 where
   Draw : (run : RunRequest) → Request
   Verify : (module_name record_name : Text) → Request
   Explain : (module_name : Text) (script_name : Option Text) (budget : ℕ) → Request
+  Bound : (module_name : Text) (processes budget : ℕ) → Request
   Help : Request
   Version : Request
   Unclear : Request
@@ -85,6 +87,10 @@ seq_of module_name rows =
 abbrev pub explain_of : Text → List Row → Option Request
 explain_of module_name rows = option_map (Explain module_name (first_of (codes "SCRIPT") rows)) (budget_of rows)
 
+-- what is to be told of own steps, of the same rows
+abbrev pub bound_of : Text → List Row → Option Request
+bound_of module_name rows = option_and_then (λ processes. option_map (Bound module_name processes) (budget_of rows)) (processes_of rows)
+
 -- the command of a name, of the same rows
 abbrev pub command_of : Text → List Row → Option Request
 command_of name rows = option_and_then (λ module_name.
@@ -96,6 +102,7 @@ command_of name rows = option_and_then (λ module_name.
     else if bytes_eq name (codes "draw") then option_map Draw (run_of module_name rows)
     else if bytes_eq name (codes "verify") then option_map (Verify module_name) (first_of (codes "RECORD") rows)
     else if bytes_eq name (codes "explain") then explain_of module_name rows
+    else if bytes_eq name (codes "bound") then bound_of module_name rows
     else None) (first_of (codes "MODULE") rows)
 
 -- Where clap finds no fault, the command that it met. Else its first fault decides: it is a call for help, or a mistake.
@@ -107,19 +114,35 @@ request_by (k ∷ others) met = Unclear
 unfoldable pub clap_request : List Text → Request
 clap_request words = request_by (fault_of obl0_app words) (subcommand_of obl0_app words)
 
--- this word alone
-abbrev pub is_alone : Text → List Text → Bool
-is_alone word [] = false
-is_alone word (other ∷ []) = bytes_eq other word
-is_alone word _ = false
+-- the names of the commands
+abbrev pub command_names : List Text
+command_names = codes "check" ∷ codes "list" ∷ codes "seq" ∷ codes "run" ∷ codes "serve" ∷ codes "draw" ∷ codes "verify" ∷ codes "explain" ∷ codes "bound" ∷ []
 
--- `help`, and `--version` or `-V`, ask where they stand alone
+abbrev pub is_command : Text → Bool
+is_command name = list_any (bytes_eq name) command_names
+
+abbrev pub is_version_option : Text → Bool
+is_version_option word = bytes_eq word (codes "--version") || bytes_eq word (codes "-V")
+
+-- `version`, `--version` and `-V` ask for the version where they stand alone, and the last two behind the name of a command too
+abbrev pub asks_version : List Text → Bool
+asks_version (word ∷ []) = bytes_eq word (codes "version") || is_version_option word
+asks_version (name ∷ word ∷ []) = is_version_option word && is_command name
+asks_version _ = false
+
+-- the words that ask for the help of a command
+abbrev pub help_words : Text → Option (List Text)
+help_words name = if is_command name then Some (name ∷ codes "--help" ∷ []) else None
+
+-- What clap reads: `help` alone is its option, and before the name of a command it is that option behind the name. Before another word
+-- it is passed over: that word is no command.
+abbrev pub clap_words : List Text → List Text
+clap_words (word ∷ []) = if bytes_eq word (codes "help") then codes "--help" ∷ [] else word ∷ []
+clap_words (word ∷ name ∷ []) = if bytes_eq word (codes "help") then unwrap_or (help_words name) (name ∷ []) else word ∷ name ∷ []
+clap_words words = words
+
 abbrev pub request : List Text → Request
-request words =
-    if is_alone (codes "help") words then Help
-    else if is_alone (codes "--version") words then Version
-    else if is_alone (codes "-V") words then Version
-    else clap_request words
+request words = if asks_version words then Version else clap_request (clap_words words)
 
 -- a `-` with something behind it
 abbrev pub is_option : Text → Bool

@@ -3,8 +3,8 @@
 ghost use Rattle.std.specs.Prelude.{◌≡◌, false, true, IfOk, IsOkAnd, map, option_map};
 ghost use Rattle.clap.specs.Words.{app_of, found_of, kind_of, rows_of, rule_of};
 ghost use Rattle.clap.specs.declared.builder.command.Command.TheViews.{out-Command as fields_of};
-ghost use Rattle.ob_command.specs.ClapCommand.{budget_rule, explain_app, module_app, name_rule, number_rule, obl0_app, record_app, run_app, script_app, seq_app, serve_app, top_app, with_command};
-ghost use Rattle.ob_command.specs.CommandLine.{budget_of, clap_request, command_of, is_alone, request, run_of, serve_of};
+ghost use Rattle.ob_command.specs.ClapCommand.{bound_app, budget_rule, explain_app, module_app, name_rule, number_rule, obl0_app, record_app, run_app, script_app, seq_app, serve_app, top_app, with_command};
+ghost use Rattle.ob_command.specs.CommandLine.{asks_version, bound_of, budget_of, clap_request, clap_words, command_of, help_words, is_version_option, request, run_of, serve_of};
 ghost use Rattle.ob_command.specs.Commands.{IsReading, IsStopOf, request_of, run_request_of};
 ghost use Rattle.ob_command.specs.declared.command.Stop.TheVariants.{NoMemory};
 
@@ -49,6 +49,12 @@ pub enum Command<'a> {
     Explain {
         module_name: &'a str,
         script_name: Option<&'a str>,
+        budget: u32,
+    },
+    /// `bound MODULE -n N -b BUDGET`: how many own steps a call takes at most.
+    Bound {
+        module_name: &'a str,
+        processes: usize,
         budget: u32,
     },
 }
@@ -101,6 +107,9 @@ const ABOUT_VERIFY: &str = "Tells whether the order of a record is a legal order
 
 const ABOUT_EXPLAIN: &str = "Shows what is wrong with a module, or with a module and a script";
 
+const ABOUT_BOUND: &str =
+    "Prints how many own steps a call takes at most, and the numbers behind it";
+
 const HELP_SCRIPT: &str = "The file of the calls, one a line: PROCESS PROCEDURE ARGUMENTS";
 
 const HELP_SCHEDULE: &str =
@@ -113,7 +122,9 @@ const HELP_BUDGET: &str =
 
 /// What stands below the help.
 const AFTER_HELP: &str = "\
-`help` and `--version` are understood alone.
+`help COMMAND` prints the help of a command, as `COMMAND --help` does.
+`version`, `--version` and `-V` print the version.
+`-` in the place of a file's name is standard input.
 docs/FAULTS.md lists the faults, such as S3 or O2.";
 
 /// Words that ask for help.
@@ -123,22 +134,55 @@ const ASKING_HELP: &[&str] = &["--help"];
 pub fn read_command<'a>(alloc: Global, words: &'a [&'a str]) -> Result<Command<'a>, Stop>
     ensures { IsReading (request (map (λ word. word.now) words.entry.now)) result }
 {
-    if is_alone(words, "help") {
-        read_words(alloc, ASKING_HELP)
-    } else if is_alone(words, "--version") || is_alone(words, "-V") {
-        Err(Stop::Version)
-    } else {
-        read_words(alloc, words)
+    if asks_version(words) {
+        return Err(Stop::Version);
+    }
+    read_words(alloc, clap_words(words))
+}
+
+/// Whether words ask for the version.
+fn asks_version(words: &[&str]) -> bool
+    ensures { result ≡ asks_version (map (λ word. word.now) words.now) }
+{
+    match words {
+        [word] => *word == "version" || is_version_option(word),
+        [name, word] => is_version_option(word) && help_words(name).is_some(),
+        _ => false,
     }
 }
 
-/// Whether there is this word alone.
-fn is_alone(words: &[&str], word: &str) -> bool
-    ensures { result ≡ is_alone word.now (map (λ w. w.now) words.now) }
+fn is_version_option(word: &str) -> bool
+    ensures { result ≡ is_version_option word.now }
+{
+    word == "--version" || word == "-V"
+}
+
+/// The words that `clap` reads: `help` as its option, and behind the name of a command.
+fn clap_words<'a>(words: &'a [&'a str]) -> &'a [&'a str]
+    ensures { map (λ word. word.now) result.now ≡ clap_words (map (λ word. word.now) words.entry.now) }
 {
     match words {
-        [other] => *other == word,
-        _ => false,
+        [help] if *help == "help" => ASKING_HELP,
+        [help, name] if *help == "help" => help_words(name).unwrap_or(&words[1..]),
+        _ => words,
+    }
+}
+
+/// The words that ask for the help of a command, where there is one of this name.
+fn help_words(name: &str) -> Option<&'static [&'static str]>
+    ensures { option_map (λ words. map (λ word. word.now) words.now) result ≡ help_words name.now }
+{
+    match name {
+        "check" => Some(&["check", "--help"]),
+        "list" => Some(&["list", "--help"]),
+        "seq" => Some(&["seq", "--help"]),
+        "run" => Some(&["run", "--help"]),
+        "serve" => Some(&["serve", "--help"]),
+        "draw" => Some(&["draw", "--help"]),
+        "verify" => Some(&["verify", "--help"]),
+        "explain" => Some(&["explain", "--help"]),
+        "bound" => Some(&["bound", "--help"]),
+        _ => None,
     }
 }
 
@@ -181,6 +225,7 @@ fn command_of<'a>(name: &str, matches: &ArgMatches<'a>) -> Option<Command<'a>>
             script_name: matches.get_str("SCRIPT"),
             budget: budget_of(matches)?,
         }),
+        "bound" => bound_of(module_name, matches),
         _ => None,
     }
 }
@@ -217,6 +262,19 @@ fn serve_of<'a>(module_name: &'a str, matches: &ArgMatches<'a>) -> Option<Comman
     })
 }
 
+/// What is to be told of own steps, of the matches of the words behind `bound`.
+fn bound_of<'a>(module_name: &'a str, matches: &ArgMatches<'a>) -> Option<Command<'a>>
+    ensures { option_map request_of result ≡ bound_of module_name.entry.now (rows_of (found_of matches.now)) }
+{
+    let count = matches.get_one::<u16>("N")?;
+    let budget = budget_of(matches)?;
+    Some(Command::Bound {
+        module_name,
+        processes: usize::from(count),
+        budget,
+    })
+}
+
 /// How many turns each call has, of the matches of the words behind a command that makes calls.
 fn budget_of(matches: &ArgMatches<'_>) -> Option<u32>
     ensures { result ≡ budget_of (rows_of (found_of matches.now)) }
@@ -234,7 +292,25 @@ fn stop_of(alloc: Global, error: &clap::Error) -> Result<Stop, AllocError>
     match error.kind() {
         ErrorKind::OutOfMemory => Ok(Stop::NoMemory),
         ErrorKind::DisplayHelp => Ok(Stop::Help(error.to_string(alloc)?)),
-        _ => Ok(Stop::Unclear(error.to_string(alloc)?)),
+        _ => {
+            let mistake = error.to_string(alloc)?;
+            Ok(Stop::Unclear(without_tip(alloc, mistake.as_str())?))
+        }
+    }
+}
+
+/// What is wrong with words, without the tip to pass an option that there is not as the name of a file.
+fn without_tip(alloc: Global, mistake: &str) -> Result<String, AllocError> {
+    match mistake.split_once("\n\n  tip: to pass ") {
+        None => String::from_str(alloc, mistake),
+        Some((before, tip)) => {
+            let mut kept = String::from_str(alloc, before)?;
+            if let Some((_, behind)) = tip.split_once("\n\n") {
+                kept.push_str("\n\n")?;
+                kept.push_str(behind)?;
+            }
+            Ok(kept)
+        }
     }
 }
 
@@ -253,7 +329,8 @@ fn command_line<'a>(alloc: Global) -> Result<clap::Command<'a>, AllocError>
     let program = with_command(program, serve_line(alloc, "serve", ABOUT_SERVE))?;
     let program = with_command(program, run_line(alloc, "draw", ABOUT_DRAW))?;
     let program = with_command(program, record_line(alloc, "verify", ABOUT_VERIFY))?;
-    with_command(program, explain_line(alloc, "explain", ABOUT_EXPLAIN))
+    let program = with_command(program, explain_line(alloc, "explain", ABOUT_EXPLAIN))?;
+    with_command(program, bound_line(alloc, "bound", ABOUT_BOUND))
 }
 
 /// The command line with one command more, where that could be made.
@@ -346,6 +423,20 @@ fn explain_line<'a>(
 {
     module_line(alloc, command, about)?
         .arg(Arg::new(alloc, "SCRIPT").help(HELP_SCRIPT))?
+        .arg(call_budget(alloc))
+}
+
+/// The words behind a command on a module, for a number of processes with a budget.
+fn bound_line<'a>(
+    alloc: Global,
+    command: &'a str,
+    about: &'a str,
+) -> Result<clap::Command<'a>, AllocError>
+    ensures app { IfOk result (λ c. app_of c ≡ bound_app command.entry.now) }
+    ensures local { IfOk result (λ c. (fields_of c).has_globals ≡ false) }
+{
+    module_line(alloc, command, about)?
+        .arg(process_count(alloc))?
         .arg(call_budget(alloc))
 }
 

@@ -1,8 +1,8 @@
 //! What plain words ask for. What a function here ensures is proved; it does nothing.
 
-ghost use Rattle.std.specs.Prelude.{◌≡◌, ℕ, Some, None, [], ◌∷◌, false, codes};
-ghost use Rattle.ob_command.specs.CommandLine.{Check, Draw, Explain, Help, Listing, Run, Seq, Serve, Text, Unclear, Verify, budget_number, is_option, number, request};
-ghost use Rattle.ob_command.specs.PlainForms.{IsRunAsked, IsServeAsked, run_with};
+ghost use Rattle.std.specs.Prelude.{◌≡◌, ℕ, Some, None, [], ◌∷◌, false, All, codes};
+ghost use Rattle.ob_command.specs.CommandLine.{Bound, Check, Draw, Explain, Help, Listing, Run, Seq, Serve, Text, Unclear, Verify, Version, budget_number, command_names, is_option, number, request};
+ghost use Rattle.ob_command.specs.PlainForms.{IsBoundAsked, IsHelpAsked, IsRunAsked, IsServeAsked, IsVersionAsked, run_with};
 
 /// `check` and a name that is no option.
 pub fn check_is_asked()
@@ -84,6 +84,30 @@ pub fn explain_with_budget_is_asked()
         → request (codes "explain" ∷ m ∷ s ∷ codes "-b" ∷ b ∷ []) ≡ Explain m (Some s) k }
     ensures long { (m s b : Text) (k : ℕ) → is_option m ≡ false → is_option s ≡ false → budget_number b ≡ Some k
         → request (codes "explain" ∷ m ∷ s ∷ codes "--budget" ∷ b ∷ []) ≡ Explain m (Some s) k }
+{}
+
+/// `bound` and a name that is no option, and `-n` with a number.
+pub fn bound_is_asked()
+    ensures { (m n : Text) (k : ℕ) → is_option m ≡ false → number n ≡ Some k → request (codes "bound" ∷ m ∷ codes "-n" ∷ n ∷ []) ≡ Bound m k 100000 }
+{}
+
+/// The same, and `-b` or `--budget` with a number.
+pub fn bound_with_budget_is_asked()
+    ensures short { IsBoundAsked (codes "-b") }
+    ensures long { IsBoundAsked (codes "--budget") }
+{}
+
+/// The words that ask for the help of a command.
+pub fn help_of_each_is_asked()
+    ensures { All IsHelpAsked command_names }
+{}
+
+/// The words that ask for the version, alone and behind the name of a command.
+pub fn version_is_asked()
+    ensures word { request (codes "version" ∷ []) ≡ Version }
+    ensures long { request (codes "--version" ∷ []) ≡ Version }
+    ensures short { request (codes "-V" ∷ []) ≡ Version }
+    ensures behind { All IsVersionAsked command_names }
 {}
 
 /// The words that ask for help.

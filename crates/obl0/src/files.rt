@@ -4,22 +4,23 @@ ghost use Rattle.std.specs.Prelude.{◌≡◌, ◌≤◌, length, IfOk};
 ghost use Rattle.std.specs.IoError.{error_kind};
 ghost use Rattle.obl0.specs.Refusals.{file_fault};
 
+use ob_answer::answer::INPUT_NAME;
 use ob_answer::files::{FileFault, Files};
 use std::io::Read;
 use std::rt::Files as HostRead;
 use std::{fs, io};
 
-/// The files of the host, by paths from the current directory on. Nothing is claimed of their bytes.
+/// The files of the host, by paths from the current directory on, and standard input by its name. Nothing is claimed of their bytes.
 #[derive(Clone, Copy)]
 pub struct HostFiles<'a, R> {
     pub rt: &'a R,
 }
 
-impl<R: HostRead + AllocGlobal> Files for HostFiles<'_, R> {
+impl<R: HostRead + Input + AllocGlobal> Files for HostFiles<'_, R> {
     ghost reads = { λ _ _ _ _. Unit {0} };
 
     fn read(&mut self, name: &str) -> Result<Vec<u8>, FileFault> {
-        fs::read(self.rt, name).map_err(fault_of)
+        whole(self.rt, name).map_err(fault_of)
     }
 
     /// No byte behind the beginning is read, so a file without end is fine.
@@ -31,13 +32,32 @@ impl<R: HostRead + AllocGlobal> Files for HostFiles<'_, R> {
     }
 }
 
-/// The first `most` bytes of a file, or all where it has fewer.
-fn beginning<R: HostRead + AllocGlobal>(rt: &R, name: &str, most: usize) -> io::Result<Vec<u8>>
+/// All bytes of a file, or of standard input.
+fn whole<R: HostRead + Input + AllocGlobal>(rt: &R, name: &str) -> io::Result<Vec<u8>> {
+    if name != INPUT_NAME {
+        return fs::read(rt, name);
+    }
+    let mut bytes = Vec::new(rt.alloc());
+    rt.reader().read_to_end(&mut bytes)?;
+    Ok(bytes)
+}
+
+/// The first `most` bytes of a file, or of standard input; all where there are fewer.
+fn beginning<R: HostRead + Input + AllocGlobal>(
+    rt: &R,
+    name: &str,
+    most: usize,
+) -> io::Result<Vec<u8>>
     ensures { IfOk result (λ bytes. length bytes.items ≤ most) }
 {
     let mut bytes = Vec::new(rt.alloc());
-    let file = fs::open(rt, name)?;
-    file.take(most as u64).read_to_end(&mut bytes)?;
+    if name == INPUT_NAME {
+        rt.reader().take(most as u64).read_to_end(&mut bytes)?;
+    } else {
+        fs::open(rt, name)?
+            .take(most as u64)
+            .read_to_end(&mut bytes)?;
+    }
     bytes.truncate(most);
     Ok(bytes)
 }

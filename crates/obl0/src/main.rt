@@ -40,7 +40,7 @@ fn joined<R: Eprint + Threads>(rt: &R, worker: io::Result<JoinHandle<u8>>) -> u8
 }
 
 /// Answers the words of the command line, and gives the exit status.
-fn end<R: Env + Files + AllocGlobal + Print + Eprint + Threads + Wait + Sync>(rt: &R) -> u8 {
+fn end<R: Env + Files + Input + AllocGlobal + Print + Eprint + Threads + Wait + Sync>(rt: &R) -> u8 {
     match answered(rt) {
         Ok(status) => status,
         Err(refusal) => told(rt, refusal),
@@ -56,7 +56,7 @@ fn told<R: Eprint>(rt: &R, refusal: Refusal) -> u8
 }
 
 /// Answers the words of the command line, and gives the exit status, where the host refuses nothing.
-fn answered<R: Env + Files + AllocGlobal + Print + Eprint + Threads + Wait + Sync>(
+fn answered<R: Env + Files + Input + AllocGlobal + Print + Eprint + Threads + Wait + Sync>(
     rt: &R,
 ) -> Result<u8, Refusal> {
     let alloc = rt.alloc();
@@ -67,7 +67,7 @@ fn answered<R: Env + Files + AllocGlobal + Print + Eprint + Threads + Wait + Syn
 }
 
 /// Answers words, and gives the exit status.
-fn obeyed<R: Files + AllocGlobal + Print + Eprint + Threads + Wait + Sync>(
+fn obeyed<R: Files + Input + AllocGlobal + Print + Eprint + Threads + Wait + Sync>(
     rt: &R,
     words: &[&str],
 ) -> Result<u8, Refusal>

@@ -1,5 +1,5 @@
 use Rattle.std.proofs.Common.{map}
-use Rattle.ob_command.proofs.ClapWords.{check_asked, draw_asked, draw_short_asked, explain_asked, explain_script_asked, explain_short_asked, list_asked, run_asked, run_short_asked, seq_asked, seq_short_asked, serve_asked, serve_short_asked, verify_asked}
+use Rattle.ob_command.proofs.ClapWords.{bound_asked, bound_short_asked, check_asked, draw_asked, draw_short_asked, explain_asked, explain_script_asked, explain_short_asked, list_asked, run_asked, run_short_asked, seq_asked, seq_short_asked, serve_asked, serve_short_asked, verify_asked}
 use Rattle.ob_answer.proofs.PlainWords.{answered_as}
 use Rattle.ob_answer.proofs.answer.answer.Goals as goal
 
@@ -52,3 +52,11 @@ returns-clause-explain_calls g c m s is no_m no_s = answered_as g.F.Files.reads 
 pub returns-clause-explain_budget : goal.returns-clause-explain_budget
 returns-clause-explain_budget g c m s b k is no_m no_s number =
     answered_as g.F.Files.reads (map (λ word. word.now) c.args.words.now) _ _ _ _ c.obey_words.result is (explain_short_asked m s b k no_m no_s number) c.obey_words.ensures
+
+pub returns-clause-bound : goal.returns-clause-bound
+returns-clause-bound g c m n k is no_m number =
+    answered_as g.F.Files.reads (map (λ word. word.now) c.args.words.now) _ _ _ _ c.obey_words.result is (bound_asked m n k no_m number) c.obey_words.ensures
+
+pub returns-clause-bound_budget : goal.returns-clause-bound_budget
+returns-clause-bound_budget g c m n b k t is no_m number budget =
+    answered_as g.F.Files.reads (map (λ word. word.now) c.args.words.now) _ _ _ _ c.obey_words.result is (bound_short_asked m n b k t no_m number budget) c.obey_words.ensures

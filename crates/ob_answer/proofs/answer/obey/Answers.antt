@@ -23,3 +23,6 @@ returns-in-Verify g c = rw c.in-Verify.is c.obey_verify.ensures
 
 pub returns-in-Explain : goal.returns-in-Explain
 returns-in-Explain g c = rw c.in-Explain.is c.obey_explain.ensures
+
+pub returns-in-Bound : goal.returns-in-Bound
+returns-in-Bound g c = rw c.in-Bound.is c.obey_bound.ensures

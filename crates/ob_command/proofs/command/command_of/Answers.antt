@@ -1,7 +1,7 @@
 use Rattle.std.proofs.Common.{◌∙◌, ap, codes, option_map, refl, sym}
 use Rattle.clap.specs.Words.{found_of, rows_of}
 use Rattle.ob_command.specs.Commands.{request_of, run_request_of}
-use Rattle.ob_command.proofs.Readings.{a_check, a_draw, a_list, a_run, a_seq, a_serve, a_verify, an_explain, first_row, no_module, no_seq_script, seq_by}
+use Rattle.ob_command.proofs.Readings.{a_bound, a_check, a_draw, a_list, a_run, a_seq, a_serve, a_verify, an_explain, first_row, no_module, no_seq_script, seq_by}
 use Rattle.ob_command.proofs.command.command_of.Goals as goal
 
 pub returns-in_err-module_name : goal.returns-in_err-module_name
@@ -103,3 +103,25 @@ returns-in_ok-budget_of-in-explain c =
     let s = first_row (found_of c.args.matches.now) (codes "SCRIPT") c.get_str-in-explain.result _ c.get_str-in-explain.ensures refl in
     sym (an_explain c.args.name.now _ (rows_of (found_of c.args.matches.now)) _ _ c.in-explain.is m s
     (sym c.budget_of-in-explain.ensures ∙ c.in_ok-budget_of-in-explain.was))
+
+pub returns-in-bound : goal.returns-in-bound
+returns-in-bound c =
+    let m = first_row (found_of c.args.matches.now) (codes "MODULE") c.get_str.result _ c.get_str.ensures
+    (ap (option_map (λ s. s.now)) c.in_ok-module_name.was) in
+    c.bound_of.ensures ∙ sym (a_bound c.args.name.now _ (rows_of (found_of c.args.matches.now)) c.in-bound.is m)
+
+pub returns-in_err-run_of-in-run : goal.returns-in_err-run_of-in-run
+returns-in_err-run_of-in-run c =
+    let m = first_row (found_of c.args.matches.now) (codes "MODULE") c.get_str.result _ c.get_str.ensures
+    (ap (option_map (λ s. s.now)) c.in_ok-module_name.was) in
+    ap (option_map request_of) c.from_residual-in_err-run_of-in-run.ensures
+    ∙ sym (a_run c.args.name.now _ (rows_of (found_of c.args.matches.now)) _ c.in-run.is m
+    (sym c.run_of.ensures ∙ ap (option_map run_request_of) c.in_err-run_of-in-run.was))
+
+pub returns-in_err-run_of-in-draw : goal.returns-in_err-run_of-in-draw
+returns-in_err-run_of-in-draw c =
+    let m = first_row (found_of c.args.matches.now) (codes "MODULE") c.get_str.result _ c.get_str.ensures
+    (ap (option_map (λ s. s.now)) c.in_ok-module_name.was) in
+    ap (option_map request_of) c.from_residual-in_err-run_of-in-draw.ensures
+    ∙ sym (a_draw c.args.name.now _ (rows_of (found_of c.args.matches.now)) _ c.in-draw.is m
+    (sym c.run_of-in-draw.ensures ∙ ap (option_map run_request_of) c.in_err-run_of-in-draw.was))

@@ -1,6 +1,9 @@
 use Rattle.ob_command.proofs.ClapWords.{help_asked, short_help_asked}
 use Rattle.ob_command.proofs.laws.help_is_asked.Goals as goal
 
+pub returns-clause-alone : goal.returns-clause-alone
+returns-clause-alone c = help_asked
+
 pub returns-clause-long : goal.returns-clause-long
 returns-clause-long c = help_asked
 

@@ -1,0 +1,5 @@
+use Rattle.ob_command.proofs.ClapWords.{each_help_asked}
+use Rattle.ob_command.proofs.laws.help_of_each_is_asked.Goals as goal
+
+pub returns : goal.returns
+returns c = each_help_asked

@@ -1,0 +1,5 @@
+use Rattle.ob_command.proofs.ClapWords.{each_version_asked}
+use Rattle.ob_command.proofs.laws.version_is_asked.Goals as goal
+
+pub returns-clause-behind : goal.returns-clause-behind
+returns-clause-behind c = each_version_asked

@@ -1,0 +1,8 @@
+use Rattle.std.proofs.Common.{refl}
+use Rattle.wf_bound.specs.Bound.{bound}
+use Rattle.wf_bound.proofs.Sums.{bound_few}
+use Rattle.ob_object_bound.proofs.numbers.steps_outside.Goals as goal
+
+pub returns-clause-bound : goal.returns-clause-bound
+unfolding bound
+returns-clause-bound c = refl
