@@ -1,0 +1,5 @@
+pub mod Same
+pub mod Moments
+pub mod Charts
+pub mod View
+pub mod Faults

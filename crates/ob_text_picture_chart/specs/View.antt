@@ -1,0 +1,35 @@
+-- What the program's values of this crate stand for, without pointers.
+use Rattle.std.specs.Prelude.{map}
+use Rattle.ob_interface.specs.View.{call_of, reply_of}
+use Rattle.ob_text_picture_chart.specs.Charts as Charts
+use Rattle.ob_text_picture_chart.specs.Moments as Moments
+use Rattle.ob_text_picture_chart.specs.declared.charts.Chart.{Chart}
+use Rattle.ob_text_picture_chart.specs.declared.charts.Happening.{Happening}
+use Rattle.ob_text_picture_chart.specs.declared.charts.Happening.TheVariants as Happenings
+use Rattle.ob_text_picture_chart.specs.declared.charts.Sight.{Sight}
+use Rattle.ob_text_picture_chart.specs.declared.moments.Moment.{Moment}
+use Rattle.ob_text_picture_chart.specs.declared.moments.Moment.TheVariants as Rust
+
+abbrev pub moment_of : Moment → Moments.Moment
+moment_of (Rust.Begins id call) = Moments.Begins id (call_of call.now)
+moment_of (Rust.Takes ids maker) = Moments.Takes ids.now maker
+moment_of (Rust.Ends id reply) = Moments.Ends id (reply_of reply.now)
+
+abbrev pub happening_of : Happening → Charts.Happening
+happening_of (Happenings.Begun call) = Charts.Begun (call_of call.now)
+happening_of (Happenings.Taken number maker) = Charts.Taken number maker
+happening_of (Happenings.Ended reply) = Charts.Ended (reply_of reply.now)
+
+abbrev pub sight_of : Sight → Charts.Sight
+sight_of s = record { column = s.column; id = s.id; happening = happening_of s.happening }
+
+abbrev pub chart_in : Chart → Charts.Chart
+chart_in c =
+    record {
+      processes = c.processes;
+      total = c.total;
+      range = c.range;
+      sights = map sight_of c.sights.items;
+      columns = c.columns;
+      order = c.order.items;
+    }
