@@ -95,7 +95,7 @@ invariant_of-self-2 g c =
     let sp = c.index_mut-spent.result.now in
     let count : c.args.p < length s.spent.items = omega (arith, within, c.self.invariant.spends.count, c.self.invariant.sound.count) in
     let is : sp ≡ spent_of s.spent.items c.args.p = sym (get_or_from_slice_get s.spent.items c.args.p sp unspent (slice_get_read s.spent.items (length s.spent.items) c.args.p sp refl count c.index_mut-spent.ensures.value)) in
-    let spends : c.count_step.new.spent ≡ later m s.sizes state c.args.p x at s.spent.items = 
+    let spends : c.count_step.new.spent ≡ later m s.sizes state c.args.p x at s.spent.items =
     c.count_step.ensures ∙ ap (λ (k : Spent). spent_after c.process.inside.label false k) is
     ∙ ap (λ (k : Process _). spent_after k.label false (spent_of s.spent.items c.args.p)) c.process.view_is
     ∙ ap (λ (k : Process _). spent_after k.label false (spent_of s.spent.items c.args.p)) same
@@ -123,7 +123,7 @@ returns-clause-stepped g c =
     let sp = c.index_mut-spent.result.now in
     let count : c.args.p < length s.spent.items = omega (arith, within, c.self.invariant.spends.count, c.self.invariant.sound.count) in
     let is : sp ≡ spent_of s.spent.items c.args.p = sym (get_or_from_slice_get s.spent.items c.args.p sp unspent (slice_get_read s.spent.items (length s.spent.items) c.args.p sp refl count c.index_mut-spent.ensures.value)) in
-    let spends : c.count_step.new.spent ≡ later m s.sizes state c.args.p x at s.spent.items = 
+    let spends : c.count_step.new.spent ≡ later m s.sizes state c.args.p x at s.spent.items =
     c.count_step.ensures ∙ ap (λ (k : Spent). spent_after c.process.inside.label false k) is
     ∙ ap (λ (k : Process _). spent_after k.label false (spent_of s.spent.items c.args.p)) c.process.view_is
     ∙ ap (λ (k : Process _). spent_after k.label false (spent_of s.spent.items c.args.p)) same
