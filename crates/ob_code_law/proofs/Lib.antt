@@ -6,4 +6,4 @@ pub mod CodeLaw
 mod Carried
 pub mod OneEnd
 pub mod PartsLaw
-mod Named
+pub mod Named
