@@ -1,5 +1,5 @@
 -- A work list of a fixed size.
-use Rattle.std.specs.Prelude.{ℕ, ◌+◌, ◌≤◌, List, ◌++◌, length, refl}
+use Rattle.std.specs.Prelude.{ℕ, ◌+◌, ◌≤◌, List, [], ◌∷◌, ◌++◌, length, refl}
 use Rattle.std.specs.Coded.{Coded, coded_ℕ, coded_list, coded×, code_by}
 use Rattle.ob_tree_work.specs.Work.{Task}
 use Rattle.ob_tree_tasks.specs.Codes.{coded_task}
@@ -19,6 +19,11 @@ with_tasks w tasks = record w { tasks = tasks }
 -- with these in front
 abbrev pub before : List Task → WorkTasks → WorkTasks
 before tasks w = with_tasks w (tasks ++ w.tasks)
+
+-- those behind the one in front
+abbrev pub behind : List Task → List Task
+behind [] = []
+behind (t ∷ tasks) = tasks
 
 -- there is room for so many more
 abbrev pub HasRoomFor : ℕ → WorkTasks → Type 0

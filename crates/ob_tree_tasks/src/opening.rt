@@ -9,7 +9,9 @@ ghost use Rattle.ob_tree_tasks.specs.WorkTasks.{HasRoom};
 use crate::expressions::{
     open_address, open_handing, open_operators, open_selecting, open_value,
 };
-use crate::statements::{open_all, open_choosing, open_doing};
+use crate::statements::{
+    open_all, open_choosing, open_doing, open_repeat, open_while,
+};
 use crate::task::Task;
 use crate::work_list::WorkList;
 use ob_code_layout::Layout;
@@ -32,6 +34,16 @@ pub fn open<'a>(work: &mut WorkList<'a>, layout: &'a Layout, task: Task<'a>) -> 
         } => open_selecting(work, own, layout, data_type, selectors),
         Task::Handing { own, actuals } => open_handing(work, own, actuals),
         Task::Doing { own, statement } => open_doing(work, own, statement),
+        Task::While {
+            own,
+            condition,
+            body,
+        } => open_while(work, own, condition, body),
+        Task::Repeat {
+            own,
+            body,
+            condition,
+        } => open_repeat(work, own, body, condition),
         Task::All { own, statements } => open_all(work, own, statements),
         Task::Choosing {
             own,

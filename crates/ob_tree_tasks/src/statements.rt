@@ -59,7 +59,7 @@ pub fn open_doing<'a>(work: &mut WorkList<'a>, own: Scopes<'a>, statement: &'a S
 }
 
 /// WHILE: its condition first.
-fn open_while<'a>(
+pub fn open_while<'a>(
     work: &mut WorkList<'a>,
     own: Scopes<'a>,
     condition: &'a Expression,
@@ -80,7 +80,7 @@ fn open_while<'a>(
 }
 
 /// REPEAT: a turn, its statements, and then its condition.
-fn open_repeat<'a>(
+pub fn open_repeat<'a>(
     work: &mut WorkList<'a>,
     own: Scopes<'a>,
     body: &'a [Statement],

@@ -44,6 +44,18 @@ pub enum Task<'a> {
         own: Scopes<'a>,
         statement: &'a Statement,
     },
+    /// Silent: WHILE, from its condition on.
+    While {
+        own: Scopes<'a>,
+        condition: &'a Expression,
+        body: &'a [Statement],
+    },
+    /// Silent: REPEAT, from its turn on.
+    Repeat {
+        own: Scopes<'a>,
+        body: &'a [Statement],
+        condition: &'a Expression,
+    },
     /// Silent: statements one after the other.
     All {
         own: Scopes<'a>,

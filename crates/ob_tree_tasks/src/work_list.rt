@@ -2,7 +2,7 @@
 
 ghost use Rattle.std.specs.Prelude.{◌≡◌, ◌<◌, ◌∷◌, [], length, IfOk, MatchOption};
 ghost use Rattle.ob_tree_tasks.specs.Tasks.{task_of};
-ghost use Rattle.ob_tree_tasks.specs.WorkTasks.{with_tasks};
+ghost use Rattle.ob_tree_tasks.specs.WorkTasks.{behind, with_tasks};
 
 use crate::task::Task;
 use std::alloc::{AllocError, Global};
@@ -66,5 +66,23 @@ impl<'a> WorkList<'a> {
         }
         self.count -= 1;
         Some(self.tasks[self.count])
+    }
+
+    /// The task in front.
+    pub fn first(&self) -> Option<Task<'a>>
+        ensures { MatchOption result (self.now.tasks ≡ []) (λ t. self.now.tasks ≡ task_of t ∷ behind self.now.tasks) }
+    {
+        if self.count == 0 {
+            return None;
+        }
+        Some(self.tasks[self.count - 1])
+    }
+
+    /// Drops the task in front.
+    pub fn remove_first(&mut self)
+        requires { 0 < length self.old.tasks }
+        ensures { self.new ≡ with_tasks self.old (behind self.old.tasks) }
+    {
+        self.count -= 1;
     }
 }
