@@ -4,15 +4,15 @@
 pub mod argument;
 pub mod body;
 pub mod code;
-mod effect;
-mod entering;
+pub mod effect;
+pub mod entering;
 pub mod fault;
 pub mod instr;
 pub mod laws;
 pub mod listing;
 mod operators;
 mod saved;
-mod stack;
+pub mod stack;
 pub mod turn;
 
 pub use argument::Argument;

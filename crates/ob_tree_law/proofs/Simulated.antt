@@ -20,7 +20,7 @@ use Rattle.ob_code_law.specs.CodeMeaning.{Entrance, entrance_at, arguments_in, f
 use Rattle.ob_code_law.specs.Compiled.{entrances_from, parts_of, engine_of}
 use Rattle.ob_tree_work.specs.Work.{Task, TreeBody, TreeState, Answer, opened, settled, procedure_tasks, tree_enter, step}
 use Rattle.ob_tree_work.specs.Work as Work
-use Rattle.ob_tree_work.proofs.Likeness.{Reads, tree_at, Alike}
+use Rattle.ob_tree_work.specs.Places.{Reads, tree_at, Alike}
 use Rattle.ob_tree_work.proofs.Opening.{opened_kept}
 use Rattle.ob_tree_work.proofs.Alike.{step_alike, start_stands}
 use Rattle.ob_tree_work.proofs.Standing.{is_placed}

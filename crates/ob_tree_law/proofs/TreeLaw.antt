@@ -2,26 +2,34 @@
 use Rattle.std.proofs.Common.{◌≡◌, ℕ, ◌+◌, Bool, true, false, ℤ, pos, List, [], ◌∷◌, length, map, Option, Some, None, refl, sym, ap, ◌∙◌, subst, arith}
 use Rattle.std.specs.Prelude.{slice_get, slice_index_or, nat_le, if◌then◌else◌}
 use Rattle.std.specs.List.{range_with_len}
+use Rattle.std.proofs.lemmas.Option.{slice_get_past}
 use Rattle.ob_interface.specs.declared.scalar.Scalar.{Scalar}
 use Rattle.ob_typing.specs.Program.{Procedure, Program}
 use Rattle.ob_code_scheme.specs.Types.{Scope, variables_scope}
 use Rattle.ob_code_scheme.specs.Temporaries.{stack_words}
 use Rattle.ob_code_scheme.specs.Layout.{variable_words}
+use Rattle.ob_code_scheme.specs.Scheme.{entry_of, code_of}
 use Rattle.ob_interface.specs.Call.{ObjectCall, Answers, Trapped as TrapReply}
 use Rattle.ob_code_machine.specs.declared.argument.Argument.{Argument}
+use Rattle.ob_code_machine.specs.Machine.{Configuration, Outcome, Unfinished, turn}
+use Rattle.ob_code_machine.specs.Machine as Machine
 use Rattle.ob_code_machine.specs.Body.{Run, result_count as results_of}
 use Rattle.wf_table.specs.declared.engine_turn.EngineTurn.TheVariants.{Returned, Trapped, Stuck}
 use Rattle.wf_table.specs.Meaning.{Turned, Meaning, is_over, body, kept}
 use Rattle.wf_table.specs.Law.{Effects, IsLawful, HasReturned, HasTrapped, Reaches, ReachesTrap}
 use Rattle.ob_code_law.specs.CodeMeaning.{Entrance, entrance_at, arguments_in, first_word, other_words}
 use Rattle.ob_code_law.specs.Compiled.{entrances_from, engine_of}
-use Rattle.ob_tree_work.specs.Work.{Task, TreeState, Answer, tree_enter, procedure_tasks, work_nodes, opened, step}
+use Rattle.ob_tree_work.specs.Work.{Task, TreeBody, TreeState, Answer, tree_enter, procedure_tasks, work_nodes, opened, settled, step}
 use Rattle.ob_tree_work.specs.Work as Work
+use Rattle.ob_tree_work.specs.Places.{Reads, tree_at, Alike}
 use Rattle.ob_tree_work.specs.Reserve.{activation_most, AnswerKeepsWithin}
+use Rattle.ob_tree_work.proofs.Alike.{step_alike, start_stands}
+use Rattle.ob_tree_work.proofs.Opening.{opened_kept}
+use Rattle.ob_tree_work.proofs.Standing.{is_placed}
 use Rattle.ob_tree_work.proofs.Ready.{IsReady, opened_ready}
 use Rattle.ob_tree_work.proofs.Within.{opened_by_low, start_low, step_keeps}
 use Rattle.ob_tree_law.specs.TreeLaw.{Shows}
-use Rattle.ob_tree_law.specs.TreeEngine.{TreeRun, over_run, going_run, tree_entered, tree_started, tree_shown, tree_step, tree_engine, IsOpened, IsTreeReady}
+use Rattle.ob_tree_law.specs.TreeEngine.{TreeRun, over_run, going_run, tree_entered, tree_started, tree_shown, tree_step, tree_engine, IsOpened, StandsInCode, IsTreeReady}
 use Rattle.ob_tree_law.proofs.Block.{tree_step_long}
 use Rattle.ob_tree_law.proofs.Simulated.{body_shows}
 
@@ -44,7 +52,7 @@ module _ (program : Program) (budget : ℕ) where
   -- ---- runs stay ready
 
   over_ready : Ready (over_run program)
-  over_ready = record { reserve = refl; room = refl; within = record { low = tt; depth = omega arith }; opened = tt }
+  over_ready = record { reserve = refl; room = refl; within = record { low = tt; depth = omega arith }; opened = tt; stands = record { pc = length (code_of program).instructions; saved = []; frames = refl; stands = slice_get_past (code_of program).instructions _ (omega arith) } }
 
   start_opened : (p : Option Procedure) → IsOpened program (procedure_tasks p [])
   start_opened None = tt
@@ -62,6 +70,7 @@ module _ (program : Program) (budget : ℕ) where
         room = refl;
         within = record { low = start_low program 0 number (slice_get program.procedures number) refl; depth = omega arith };
         opened = start_opened (slice_get program.procedures number);
+        stands = record { pc = entry_of program.procedures number; saved = []; frames = refl; stands = start_stands program (code_of program).instructions 0 (is_placed program) number };
       }
   room_ready number arguments false = over_ready
 
@@ -73,27 +82,73 @@ module _ (program : Program) (budget : ℕ) where
   started_ready None words = over_ready
   started_ready (Some x) words = entered_ready x.procedure (slice_get program.procedures x.procedure) (arguments_in x.parameters words)
 
-  shown_ready : (run : TreeRun) (block : List ℤ) (a : Answer) → Ready run → AnswerKeepsWithin most a → Ready (tree_shown program run block a).run
-  shown_ready run block (Work.On t) ready keeps =
+  -- work that goes on stands in the code
+  abbrev pub AnswerStands : Answer → Type 0
+  AnswerStands (Work.On t) = StandsInCode program t.body
+  AnswerStands (Work.Finished left stack) = Unit {0}
+  AnswerStands (Work.Failed k) = Unit {0}
+  AnswerStands Work.Lost = Unit {0}
+
+  alike_stands : (a : Answer) (o : Outcome) → Alike (Reads (code_of program).instructions globals (entry_of program.procedures)) a o → AnswerStands a
+  alike_stands (Work.On t) (Unfinished c) h =
+      subst (λ (s : TreeState). StandsInCode program s.body) (sym h.1) (record { pc = c.body.pc; saved = c.body.saved; frames = refl; stands = h.2 })
+  alike_stands (Work.Finished left stack) (Machine.Returned left' stack') h = tt
+  alike_stands (Work.Failed k) (Machine.Trapped k') h = tt
+  alike_stands Work.Lost Machine.Stuck h = tt
+  alike_stands _ _ h = absurd h
+
+  pub step_stands : (reserve : ℕ) (block : List ℤ) (body : TreeBody) → StandsInCode program body → AnswerStands (step program reserve (record { block = block; body = body }))
+  step_stands reserve block body s =
+      let c : Configuration = record { block = block; body = record { pc = s.pc; stack = body.stack; fp = body.fp; saved = s.saved; turns = body.turns } } in
+      let here : tree_at body.work c ≡ record { block = block; body = body } =
+      ap (λ (saved : List ℕ). record { block = block; body = record { work = body.work; stack = body.stack; fp = body.fp; saved = saved; turns = body.turns } }) (sym s.frames) in
+      subst (λ (t : TreeState). AnswerStands (step program reserve t)) here
+      (alike_stands (step program reserve (tree_at body.work c)) (turn (code_of program).instructions reserve c)
+      (step_alike program (code_of program).instructions reserve (is_placed program) body.work c s.stands))
+
+  opened_stands : (body : TreeBody) → StandsInCode program body → StandsInCode program (settled globals body)
+  opened_stands body s = record {
+    pc = s.pc;
+    saved = s.saved;
+    frames = s.frames;
+    stands = opened_kept (code_of program).instructions globals (entry_of program.procedures) s.saved s.pc body.work s.stands;
+  }
+
+  shown_ready : (run : TreeRun) (block : List ℤ) (a : Answer) → Ready run → AnswerKeepsWithin most a → AnswerStands a → Ready (tree_shown program run block a).run
+  shown_ready run block (Work.On t) ready keeps stands =
       record {
         reserve = ready.reserve;
         room = ready.room;
         within = record { low = opened_by_low globals most (work_nodes t.body.work) (length t.body.saved) t.body.work keeps.low; depth = keeps.depth };
         opened = now_opened (opened globals t.body.work) (opened_ready globals t.body.work);
+        stands = opened_stands t.body stands;
       }
-  shown_ready run block (Work.Finished left stack) ready keeps = record { reserve = ready.reserve; room = ready.room; within = record { low = ready.within.low; depth = ready.within.depth }; opened = ready.opened }
-  shown_ready run block (Work.Failed k) ready keeps = record { reserve = ready.reserve; room = ready.room; within = ready.within; opened = ready.opened }
-  shown_ready run block Work.Lost ready keeps = ready
+  shown_ready run block (Work.Finished left stack) ready keeps stands =
+      record {
+        reserve = ready.reserve;
+        room = ready.room;
+        within = record { low = ready.within.low; depth = ready.within.depth };
+        opened = ready.opened;
+        stands = record { pc = ready.stands.pc; saved = ready.stands.saved; frames = ready.stands.frames; stands = ready.stands.stands };
+      }
+  shown_ready run block (Work.Failed k) ready keeps stands =
+      record { reserve = ready.reserve; room = ready.room; within = ready.within; opened = ready.opened; stands = ready.stands }
+  shown_ready run block Work.Lost ready keeps stands = ready
 
   either_keeps : (b : Bool) (a : Answer) → AnswerKeepsWithin most a → AnswerKeepsWithin most (if b then Work.Lost else a)
   either_keeps true a h = tt
   either_keeps false a h = h
+
+  either_stands : (b : Bool) (a : Answer) → AnswerStands a → AnswerStands (if b then Work.Lost else a)
+  either_stands true a h = tt
+  either_stands false a h = h
 
   step_ready : (run : TreeRun) (block : List ℤ) → Ready run → Ready (tree_step program run block).run
   step_ready run block ready =
       let a = step program run.reserve (record { block = block; body = run.body }) in
       shown_ready run block (if run.is_over then Work.Lost else a) ready
       (either_keeps run.is_over a (step_keeps program run.reserve (record { block = block; body = run.body }) ready.within))
+      (either_stands run.is_over a (step_stands run.reserve block run.body ready.stands))
 
   -- ---- Stuck changes nothing
 

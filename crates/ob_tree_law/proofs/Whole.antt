@@ -1,10 +1,14 @@
 -- The engine over the tree of each well-formed program is correct, and lawful with every budget as the engine over its code is.
+use Rattle.std.proofs.Common.{refl}
+use Rattle.std.proofs.Math.Logic.{∥∥₁_map}
 use Rattle.ob_code_correct.proofs.Law.{code_correct}
 use Rattle.ob_code_law.specs.Compiled.{parts_of, Fits, HasReserve, IsLawfulBlock, IsEffect}
+use Rattle.ob_code_law.specs.Parts.{HasProgram, IsLawfulFor, IsEffectOf}
 use Rattle.ob_code_law.proofs.CodeLaw as Code
+use Rattle.ob_code_law.proofs.PartsLaw.{parts_lawful}
 use Rattle.ob_tree_work.specs.LikeCode.{TreeIsCorrect}
 use Rattle.ob_tree_work.proofs.Theorem.{tree_is_correct}
-use Rattle.ob_tree_law.specs.TreeLaw.{TreeIsLawful, TreeBodiesEnd, TreeScriptsEnd}
+use Rattle.ob_tree_law.specs.TreeLaw.{TreeIsLawful, TreePartsAreLawful, TreeBodiesEnd, TreeScriptsEnd}
 use Rattle.ob_tree_law.proofs.TreeLaw.{tree_lawful, tree_ends}
 
 pub tree_correct : TreeIsCorrect
@@ -13,6 +17,12 @@ tree_correct = tree_is_correct code_correct
 pub tree_is_lawful : TreeIsLawful
 tree_is_lawful program budget well =
     tree_lawful program budget (IsLawfulBlock program) (Fits program) (HasReserve (parts_of program budget)) (IsEffect program budget) (Code.code_lawful program budget well)
+
+pub tree_parts_lawful : TreePartsAreLawful
+tree_parts_lawful program budget well =
+    let parts = parts_of program budget in
+    let there : ∥ HasProgram parts ∥₁ = ∥∥₁_map well (λ w. (program, record { well = w; parts_are = refl })) in
+    tree_lawful program budget (IsLawfulFor parts) (Fits program) (HasReserve parts) (IsEffectOf parts) (parts_lawful parts there)
 
 pub tree_bodies_end : TreeBodiesEnd
 tree_bodies_end program budget well call block lawful fits n few =

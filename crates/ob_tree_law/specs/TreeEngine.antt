@@ -6,15 +6,23 @@ use Rattle.ob_code_machine.specs.Body.{result_count}
 use Rattle.ob_code_scheme.specs.Types.{variables_scope}
 use Rattle.ob_code_scheme.specs.Temporaries.{stack_words}
 use Rattle.ob_code_scheme.specs.Layout.{variable_words}
+use Rattle.ob_code_scheme.specs.Scheme.{entry_of, code_of}
+use Rattle.ob_code_machine.specs.declared.saved.Saved.{Saved}
 use Rattle.wf_table.specs.declared.engine_turn.EngineTurn.TheVariants.{On, Returned, Trapped, Stuck}
 use Rattle.wf_table.specs.Meaning.{Turned, Meaning}
 use Rattle.ob_code_law.specs.CodeMeaning.{Entrance, entrance_at, arguments_in, first_word, other_words}
 use Rattle.ob_code_law.specs.Compiled.{engine_of, entrances_from}
 use Rattle.ob_tree_work.specs.Work.{Task, TreeBody, TreeState, Answer, settled, tree_enter, parts, step}
 use Rattle.ob_tree_work.specs.Work as Work
+use Rattle.ob_tree_work.specs.Places.{Reads, frames_of}
 use Rattle.ob_tree_work.specs.Reserve.{activation_most, work_reserve, KeepsWithin}
 
 -- ---- runs
+
+-- the tasks that a work list needs room for: a task gives way to at most three more than itself, of which all are counted but for a
+-- moment
+abbrev pub work_room : Program → ℕ
+work_room program = work_reserve program + 3
 
 -- the words that its stack has room for, the tasks that its work list has room for, whether it is over, and what it holds
 pub record TreeRun : Type 0 where
@@ -30,10 +38,10 @@ tree_empty = record { work = []; stack = []; fp = 0; saved = []; turns = 0 }
 -- with the room that a program needs
 module _ (program : Program) where
   abbrev pub over_run : TreeRun
-  over_run = record { reserve = stack_words program.procedures; room = work_reserve program; is_over = true; body = tree_empty }
+  over_run = record { reserve = stack_words program.procedures; room = work_room program; is_over = true; body = tree_empty }
 
   abbrev pub going_run : TreeBody → TreeRun
-  going_run body = record { reserve = stack_words program.procedures; room = work_reserve program; is_over = false; body = body }
+  going_run body = record { reserve = stack_words program.procedures; room = work_room program; is_over = false; body = body }
 
   -- what comes of a step: work is opened behind it; a trap leaves all but that the body is over, and where nothing can be done nothing
   -- changes
@@ -82,9 +90,17 @@ module _ (program : Program) where
   IsOpened [] = Unit {0}
   IsOpened (t ∷ rest) = parts (variables_scope program.variables) t ≡ None
 
-  -- a run with the program's room, of which its work list needs no more, and with opened work
+  -- the work stands at some place of the code, and the calls that are saved go back to others
+  pub record StandsInCode (body : TreeBody) : Type 0 where
+    pub pc : ℕ
+    pub saved : List Saved
+    pub frames : body.saved ≡ frames_of saved
+    pub stands : Reads (code_of program).instructions (variables_scope program.variables) (entry_of program.procedures) body.work pc saved
+
+  -- a run with the program's room, of which its work list needs no more, and with opened work that stands in the code
   pub record IsTreeReady (run : TreeRun) : Type 0 where
     pub reserve : run.reserve ≡ stack_words program.procedures
-    pub room : run.room ≡ work_reserve program
+    pub room : run.room ≡ work_room program
     pub within : KeepsWithin (activation_most program.procedures) run.body
     pub opened : IsOpened run.body.work
+    pub stands : StandsInCode run.body

@@ -7,7 +7,8 @@ use Rattle.ob_code_scheme.specs.WellFormed.{IsWellFormed}
 use Rattle.wf_table.specs.Meaning.{Turned, body}
 use Rattle.wf_table.specs.Law.{IsLawful}
 use Rattle.wf_bound.specs.Ends.{EndsWithin, AllEndWithin}
-use Rattle.ob_code_law.specs.Compiled.{engine_of, Fits, IsLawfulBlock, IsEffect, body_limit}
+use Rattle.ob_code_law.specs.Compiled.{parts_of, engine_of, Fits, IsLawfulBlock, IsEffect, body_limit}
+use Rattle.ob_code_law.specs.Parts.{IsLawfulFor, IsEffectOf}
 use Rattle.ob_tree_law.specs.TreeEngine.{TreeRun, tree_engine, IsTreeReady}
 
 -- the same answer, block and words of results
@@ -27,6 +28,13 @@ abbrev pub TreeIsLawful : Type 0
 TreeIsLawful =
     (program : Program) (budget : ℕ) → IsWellFormed program →
     IsLawful (tree_engine program budget) (IsLawfulBlock program) (Fits program) (IsTreeReady program) (IsEffect program budget)
+
+-- so it is where it is only told that the program is well formed: its blocks and its effect are those of the engine over the parts of its
+-- code
+abbrev pub TreePartsAreLawful : Type 0
+TreePartsAreLawful =
+    (program : Program) (budget : ℕ) → ∥ IsWellFormed program ∥₁ →
+    IsLawful (tree_engine program budget) (IsLawfulFor (parts_of program budget)) (Fits program) (IsTreeReady program) (IsEffectOf (parts_of program budget))
 
 -- a body is over after the steps that are paid for
 abbrev pub TreeBodiesEnd : Type 0

@@ -15,7 +15,7 @@ use Rattle.ob_code_machine.specs.Machine.{Configuration, Outcome, Unfinished, Re
 use Rattle.ob_code_scheme.specs.Scheme.{over_size, size, statement_size, statements_size, branches_size, over_code, entry_of, HasAt}
 use Rattle.ob_tree_work.proofs.Opened.{open_procedure}
 use Rattle.ob_tree_work.specs.Work.{Task, Value, Doing, All, Choosing, Instruction, AndThen, OrElse, Alternative, Over, Looping, Again, Until, Taking, Calling, Leaving, over_tasks, parts, opened, TreeState, Answer, On, Finished, Failed, Lost, made_on, taking, procedure_tasks, tree_start, beginning_with, leaving_to, does, does_first, step, carried_on, steps}
-use Rattle.ob_tree_work.proofs.Likeness.{GoesBack, Reads, frames_of, tree_at, Alike, IsPlaced}
+use Rattle.ob_tree_work.specs.Places.{GoesBack, Reads, frames_of, tree_at, Alike, IsPlaced}
 use Rattle.ob_tree_work.proofs.Opening.{opened_kept}
 use Rattle.ob_tree_work.proofs.Ready.{IsReady, opened_ready}
 

@@ -1,5 +1,4 @@
-mod Opened
-pub mod Likeness
+pub mod Opened
 pub mod Opening
 pub mod Ready
 pub mod Settled
@@ -8,3 +7,4 @@ pub mod Standing
 pub mod Within
 pub mod Theorem
 mod Height
+pub mod Small

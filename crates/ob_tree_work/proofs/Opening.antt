@@ -13,7 +13,7 @@ use Rattle.ob_code_machine.specs.declared.saved.Saved.{Saved}
 use Rattle.ob_code_scheme.specs.Scheme.{variable_size, own_size, size, operations_size, designator_size, selectors_size, actuals_size, statement_size, statements_size, branches_size, relation_instruction, own_code, variable_code, operations_at, statements_at, HasAt}
 use Rattle.ob_tree_work.proofs.Opened.{open_value, open_negated, open_complement, open_computed, open_compared, open_plus, open_minus, open_times, open_div, open_mod, open_and, open_or, open_designator, open_element, open_actual, open_assign, open_call, open_while, open_repeat, open_statement, open_branch}
 use Rattle.ob_tree_work.specs.Work.{Task, Value, Operators, Address, Selecting, Handing, Doing, All, Choosing, own_tasks, variable_tasks, value_parts, operators_parts, address_parts, selecting_parts, handing_parts, doing_parts, all_parts, choosing_parts, parts, given_way, opened_by, opened}
-use Rattle.ob_tree_work.proofs.Likeness.{IsPlain, Reads}
+use Rattle.ob_tree_work.specs.Places.{IsPlain, Reads}
 
 -- comparisons don't jump
 relation_plain : (r : Relation) → IsPlain (relation_instruction r)

@@ -7,7 +7,7 @@ use Rattle.ob_code_scheme.specs.Types.{Scope, variables_scope}
 use Rattle.ob_code_scheme.specs.Scheme.{procedure_size, entry_of, procedure_at, procedures_at, code_of}
 use Rattle.ob_code_placing.proofs.Lengths.{procedure_long}
 use Rattle.ob_code_placing.proofs.Entries.{procedure_stands}
-use Rattle.ob_tree_work.proofs.Likeness.{IsPlaced}
+use Rattle.ob_tree_work.specs.Places.{IsPlaced}
 
 -- behind the last procedure the code ends
 entry_past : (globals : Scope) (entry : ℕ → ℕ) (a : ℕ) (ps : List Procedure) (i : ℕ) → slice_get ps i ≡ None →

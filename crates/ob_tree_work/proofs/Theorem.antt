@@ -18,7 +18,7 @@ use Rattle.ob_code_placing.proofs.Entries.{entry_is}
 use Rattle.ob_tree_work.specs.Work.{Task, TreeState, Answer, On, Finished, Failed, Lost, tree_start}
 use Rattle.ob_tree_work.specs.Reserve.{activation_most, KeepsWithin, AnswerKeepsWithin}
 use Rattle.ob_tree_work.specs.LikeCode.{Going, Stopped, shown_by_tree, shown_by_code, TreeIsLikeCode, WorkKeepsWithin, after_steps, IsOver, end_with, end_of, meant, TreeBehaves, TreeIsCorrect}
-use Rattle.ob_tree_work.proofs.Likeness.{Alike}
+use Rattle.ob_tree_work.specs.Places.{Alike}
 use Rattle.ob_tree_work.proofs.Alike.{call_alike}
 use Rattle.ob_tree_work.proofs.Standing.{is_placed}
 use Rattle.ob_tree_work.proofs.Within.{start_low, steps_keep, within_reserve}

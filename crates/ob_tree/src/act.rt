@@ -1,0 +1,217 @@
+//! What the task in front does.
+
+ghost use Rattle.std.specs.Prelude.{◌≡◌, ◌∷◌, ℤ, List};
+ghost use Rattle.ob_typing.specs.Program as Program;
+ghost use Rattle.ob_checked.specs.View.{branches_in, expression_of, otherwise_of, statements_in};
+ghost use Rattle.ob_tree.specs.Acting.{Comes, HasFirst, rest_of, state_in};
+ghost use Rattle.ob_tree_tasks.specs.Scoped.{own_in};
+ghost use Rattle.ob_tree_work.specs.Work as Work;
+
+use crate::run::TreeRun;
+use ob_checked::program::{Branch, Expression, Statement};
+use ob_code_machine::Instr;
+use ob_code_machine::effect::{Answer, effect};
+use ob_tree_tasks::statements::follows;
+use ob_tree_tasks::{Scopes, Task};
+use wf_object::EngineTurn;
+
+impl<'a> TreeRun<'a> {
+    /// An instruction that does not jump.
+    pub(crate) fn compute(&mut self, instr: Instr, block: &mut [i64]) -> EngineTurn
+        requires { HasFirst self.old }
+        ensures { (program : Program.Program) → Comes result self.new block.new self.old block.old (Work.does program self.old.reserve (Work.Instruction instr) (rest_of self.old) (state_in self.old block.old)) }
+    {
+        match effect(instr, self.fp, block, &mut self.stack) {
+            Answer::Done => {
+                self.work.remove_first();
+                EngineTurn::On
+            }
+            Answer::Trap(number) => {
+                self.is_over = true;
+                EngineTurn::Trapped(number)
+            }
+            Answer::Stuck => EngineTurn::Stuck,
+        }
+    }
+
+    /// Takes a turn.
+    pub(crate) fn take_turn(&mut self) -> EngineTurn
+        requires { HasFirst self.old }
+        ensures { (program : Program.Program) (block : List ℤ) → Comes result self.new block self.old block (Work.does program self.old.reserve Work.Taking (rest_of self.old) (state_in self.old block)) }
+    {
+        if self.turns == 0 {
+            self.is_over = true;
+            return EngineTurn::Trapped(5);
+        }
+        self.turns -= 1;
+        self.work.remove_first();
+        EngineTurn::On
+    }
+
+    /// `&` and OR: where the word on top decides, it is the value; else the right side is.
+    pub(crate) fn decide(
+        &mut self,
+        decides: i64,
+        own: Scopes<'a>,
+        right: &'a Expression,
+    ) -> EngineTurn
+        requires { HasFirst self.old }
+        ensures { (block : List ℤ) → Comes result self.new block self.old block (Work.decided decides (rest_of self.old) (Work.Value (own_in own.entry) (expression_of right.now) ∷ rest_of self.old) (state_in self.old block)) }
+    {
+        let Some(word) = self.stack.top() else {
+            return EngineTurn::Stuck;
+        };
+        self.work.remove_first();
+        if word != decides {
+            let below = self.stack.height() - 1;
+            self.stack.truncate(below);
+            self.work.push(Task::Value {
+                own,
+                expression: right,
+            });
+        }
+        EngineTurn::On
+    }
+
+    /// An alternative, on the value of its condition.
+    pub(crate) fn choose(
+        &mut self,
+        own: Scopes<'a>,
+        body: &'a [Statement],
+        branches: &'a [Branch],
+        otherwise: &'a Option<Vec<Statement>>,
+    ) -> EngineTurn
+        requires { HasFirst self.old }
+        ensures { (program : Program.Program) (block : List ℤ) → Comes result self.new block self.old block (Work.does program self.old.reserve (Work.Alternative (own_in own.entry) (statements_in body.now) (branches_in branches.now (otherwise_of otherwise.now))) (rest_of self.old) (state_in self.old block)) }
+    {
+        let Some(word) = self.stack.top() else {
+            return EngineTurn::Stuck;
+        };
+        let below = self.stack.height() - 1;
+        self.stack.truncate(below);
+        self.work.remove_first();
+        if word == 0 {
+            self.work.push(Task::Choosing {
+                own,
+                branches,
+                otherwise,
+            });
+            return EngineTurn::On;
+        }
+        if follows(branches, otherwise) {
+            self.work.push(Task::Over);
+        }
+        self.work.push(Task::All {
+            own,
+            statements: body,
+        });
+        EngineTurn::On
+    }
+
+    /// WHILE, on the value of its condition.
+    pub(crate) fn go_round(
+        &mut self,
+        own: Scopes<'a>,
+        condition: &'a Expression,
+        body: &'a [Statement],
+    ) -> EngineTurn
+        requires { HasFirst self.old }
+        ensures { (program : Program.Program) (block : List ℤ) → Comes result self.new block self.old block (Work.does program self.old.reserve (Work.Looping (own_in own.entry) (expression_of condition.now) (statements_in body.now)) (rest_of self.old) (state_in self.old block)) }
+    {
+        let Some(word) = self.stack.top() else {
+            return EngineTurn::Stuck;
+        };
+        let below = self.stack.height() - 1;
+        self.stack.truncate(below);
+        self.work.remove_first();
+        if word != 0 {
+            self.work.push(Task::Again {
+                own,
+                condition,
+                body,
+            });
+            self.work.push(Task::All {
+                own,
+                statements: body,
+            });
+            self.work.push(Task::Taking);
+        }
+        EngineTurn::On
+    }
+
+    /// The end of the statements of WHILE.
+    pub(crate) fn go_back(
+        &mut self,
+        own: Scopes<'a>,
+        condition: &'a Expression,
+        body: &'a [Statement],
+    ) -> EngineTurn
+        requires { HasFirst self.old }
+        ensures { (program : Program.Program) (block : List ℤ) → Comes result self.new block self.old block (Work.does program self.old.reserve (Work.Again (own_in own.entry) (expression_of condition.now) (statements_in body.now)) (rest_of self.old) (state_in self.old block)) }
+    {
+        self.work.remove_first();
+        self.work.push(Task::While {
+            own,
+            condition,
+            body,
+        });
+        EngineTurn::On
+    }
+
+    /// REPEAT, on the value of its condition.
+    pub(crate) fn repeat(
+        &mut self,
+        own: Scopes<'a>,
+        body: &'a [Statement],
+        condition: &'a Expression,
+    ) -> EngineTurn
+        requires { HasFirst self.old }
+        ensures { (program : Program.Program) (block : List ℤ) → Comes result self.new block self.old block (Work.does program self.old.reserve (Work.Until (own_in own.entry) (statements_in body.now) (expression_of condition.now)) (rest_of self.old) (state_in self.old block)) }
+    {
+        let Some(word) = self.stack.top() else {
+            return EngineTurn::Stuck;
+        };
+        let below = self.stack.height() - 1;
+        self.stack.truncate(below);
+        self.work.remove_first();
+        if word == 0 {
+            self.work.push(Task::Repeat {
+                own,
+                body,
+                condition,
+            });
+        }
+        EngineTurn::On
+    }
+
+    /// The end of an alternative.
+    pub(crate) fn pass_over(&mut self) -> EngineTurn
+        requires { HasFirst self.old }
+        ensures { (program : Program.Program) (block : List ℤ) → Comes result self.new block self.old block (Work.does program self.old.reserve Work.Over (rest_of self.old) (state_in self.old block)) }
+    {
+        self.work.remove_first();
+        EngineTurn::On
+    }
+
+    /// The end of a procedure.
+    pub(crate) fn leave(&mut self) -> EngineTurn
+        requires { HasFirst self.old }
+        ensures { (program : Program.Program) (block : List ℤ) → Comes result self.new block self.old block (Work.does program self.old.reserve Work.Leaving (rest_of self.old) (state_in self.old block)) }
+    {
+        if self.stack.height() < self.fp {
+            return EngineTurn::Stuck;
+        }
+        self.stack.truncate(self.fp);
+        match self.frames.pop() {
+            Some(height) => {
+                self.fp = height;
+                self.work.remove_first();
+                EngineTurn::On
+            }
+            None => {
+                self.is_over = true;
+                EngineTurn::Returned
+            }
+        }
+    }
+}

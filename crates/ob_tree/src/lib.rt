@@ -1,0 +1,7 @@
+//! The engine that runs the tree of a checked module without code.
+#![tactic(auto)]
+
+pub mod act;
+pub mod frames;
+pub mod run;
+pub mod settle;
