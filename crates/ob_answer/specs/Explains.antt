@@ -1,10 +1,10 @@
 -- What `explain` answers: a fault as people read it.
-use Rattle.std.specs.Prelude.{ℕ, List, ◌++◌, codes, unwrap_or}
+use Rattle.std.specs.Prelude.{ℕ, List, Option, ◌++◌, codes, unwrap_or}
 use Rattle.ob_answer.specs.declared.answered.Answer.{Answer}
 use Rattle.ob_answer.specs.Printed.{IsPrinted, IsRefused}
 use Rattle.ob_answer.specs.ShownNames.{shown}
 use Rattle.ob_command.specs.CommandLine.{Text}
-use Rattle.ob_explained.specs.Explained.{calls_explanation, module_explanation}
+use Rattle.ob_explained.specs.Explained.{IsCallsExplanation, IsModuleExplanation}
 use Rattle.ob_fault_lines.specs.CompileFaultLines.{compile_line}
 use Rattle.ob_fault_lines.specs.SequentialFaultLines.{seq_fault_line}
 use Rattle.ob_object_compile.specs.Compilation as Compiles
@@ -14,23 +14,25 @@ use Rattle.ob_object_sequence.specs.SequentialRun.{HasObject, IsNumbered, IsSeqT
 use Rattle.ob_object_sequence.specs.declared.sequential.SeqTextFault.{SeqTextFault}
 
 -- Where the files are right, `ok` is printed; else a fault of theirs is shown, which is not want of memory, and then they are not right.
-pub data IsExplained {Fault : Type 0} (IsRight : Type 0) (IsFault IsNumberedFault : Fault → Type 0) (shown_fault : Fault → Text) (answer : Answer) : Type 0 where
-  right : IsRight → IsPrinted answer (codes "ok\n") → IsExplained IsRight IsFault IsNumberedFault shown_fault answer
-  wrong : (e : Fault) → IsFault e → IsNumberedFault e → (IsRight → ⊥) → IsRefused answer 1 (shown_fault e)
-      → IsExplained IsRight IsFault IsNumberedFault shown_fault answer
+pub data IsExplained {Fault : Type 0} (IsRight : Type 0) (IsFault IsNumberedFault : Fault → Type 0) (IsShown : Fault → Answer → Type 0) (answer : Answer) : Type 0 where
+  right : IsRight → IsPrinted answer (codes "ok\n") → IsExplained IsRight IsFault IsNumberedFault IsShown answer
+  wrong : (e : Fault) → IsFault e → IsNumberedFault e → (IsRight → ⊥) → IsShown e answer
+      → IsExplained IsRight IsFault IsNumberedFault IsShown answer
 
 -- a fault of a module: the place in its file where it has one, and else the line by which `check` tells it
-abbrev pub shown_module_fault : (name : Text) (bytes : List ℕ) → CompileFault → Text
-shown_module_fault name bytes e = unwrap_or (module_explanation (shown name) bytes e) (compile_line e ++ codes "\n")
+abbrev pub IsModuleFaultShown : (name : Text) (bytes : List ℕ) → CompileFault → Answer → Type 0
+IsModuleFaultShown name bytes e answer =
+    (told : Option Text) × IsModuleExplanation (shown name) bytes e told × IsRefused answer 1 (unwrap_or told (compile_line e ++ codes "\n"))
 
 -- a fault of a module and a script: the place in the one's file or in the other's, and else the line by which `seq` tells it
-abbrev pub shown_calls_fault : (module_name : Text) (module_bytes : List ℕ) (script_name : Text) (script_bytes : List ℕ) → SeqTextFault → Text
-shown_calls_fault module_name module_bytes script_name script_bytes e =
-    unwrap_or (calls_explanation (shown module_name) module_bytes (shown script_name) script_bytes e) (seq_fault_line e ++ codes "\n")
+abbrev pub IsCallsFaultShown : (module_name : Text) (module_bytes : List ℕ) (script_name : Text) (script_bytes : List ℕ) → SeqTextFault → Answer → Type 0
+IsCallsFaultShown module_name module_bytes script_name script_bytes e answer =
+    (told : Option Text) × IsCallsExplanation (shown module_name) module_bytes (shown script_name) script_bytes e told
+    × IsRefused answer 1 (unwrap_or told (seq_fault_line e ++ codes "\n"))
 
 -- to the name and the bytes of one module, which is right where `check` prints `ok`
 abbrev pub IsModuleExplained : (name : Text) (bytes : List ℕ) → Answer → Type 0
-IsModuleExplained name bytes = IsExplained (HasObject bytes 1 default_budget) (IsCompileFault bytes 1 default_budget) Compiles.IsNumbered (shown_module_fault name bytes)
+IsModuleExplained name bytes = IsExplained (HasObject bytes 1 default_budget) (IsCompileFault bytes 1 default_budget) Compiles.IsNumbered (IsModuleFaultShown name bytes)
 
 -- the calls of a script have replies with a budget
 abbrev pub HasRun : (module_bytes script_bytes : List ℕ) (budget : ℕ) → Type 0
@@ -40,4 +42,4 @@ HasRun module_bytes script_bytes budget = (output : List ℕ) × IsSequentialRun
 abbrev pub IsCallsExplained : (module_name : Text) (module_bytes : List ℕ) (script_name : Text) (script_bytes : List ℕ) (budget : ℕ) → Answer → Type 0
 IsCallsExplained module_name module_bytes script_name script_bytes budget =
     IsExplained (HasRun module_bytes script_bytes budget) (IsSeqTextFault module_bytes script_bytes budget) IsNumbered
-    (shown_calls_fault module_name module_bytes script_name script_bytes)
+    (IsCallsFaultShown module_name module_bytes script_name script_bytes)

@@ -2,8 +2,7 @@
 
 ghost use Rattle.std.specs.Prelude.{◌≡◌, ℕ, List, None, Some, suc, false, take, IfOk, option_map, string_bytes};
 ghost use Rattle.ob_answer.specs.Answers.{IsObeyed};
-ghost use Rattle.ob_answer.specs.Explains.{IsCallsExplained, IsModuleExplained, shown_calls_fault, shown_module_fault};
-ghost use Rattle.ob_answer.specs.Printed.{IsRefused};
+ghost use Rattle.ob_answer.specs.Explains.{IsCallsExplained, IsCallsFaultShown, IsModuleExplained, IsModuleFaultShown};
 ghost use Rattle.ob_answer.specs.ShownNames.{shown};
 ghost use Rattle.ob_command.specs.CommandLine.{Explain};
 ghost use Rattle.ob_object_compile.specs.Compilation as Compiles;
@@ -101,7 +100,7 @@ fn module_wrong(
     module: &[u8],
     fault: CompileFault,
 ) -> Result<Answer, NoMemory>
-    ensures fault { IfOk result (λ a. IsRefused a 1 (shown_module_fault name.now «module».now fault)) }
+    ensures fault { IfOk result (λ a. IsModuleFaultShown name.now «module».now fault a) }
     ensures memory { IfOk result (λ _. Compiles.is_want_of_memory fault ≡ false) }
 {
     if let CompileFault::NoMemory = fault {
@@ -141,7 +140,7 @@ fn calls_wrong(
     script: &[u8],
     fault: SeqTextFault,
 ) -> Result<Answer, NoMemory>
-    ensures fault { IfOk result (λ a. IsRefused a 1 (shown_calls_fault module_name.now «module».now script_name.now script.now fault)) }
+    ensures fault { IfOk result (λ a. IsCallsFaultShown module_name.now «module».now script_name.now script.now fault a) }
     ensures memory { IfOk result (λ _. is_want_of_memory fault ≡ false) }
 {
     if let SeqTextFault::NoMemory = fault {

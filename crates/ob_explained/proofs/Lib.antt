@@ -1,3 +1,4 @@
 pub mod Feeds
 pub mod Lines
 pub mod WordPlaces
+pub mod Long

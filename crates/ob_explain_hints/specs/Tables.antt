@@ -1,0 +1,80 @@
+-- The table of known slips: what is written there, and the hint.
+use Rattle.std.specs.Prelude.{ℕ, List, [], ◌∷◌, codes}
+use Rattle.ob_scan.specs.declared.token.Kind.{Kind}
+use Rattle.ob_scan.specs.declared.token.Kind.TheVariants.{Module, Begin, End, Const, «Type», Var, Procedure, Array, Of, Record, If, Then, Elsif, Else, While, Do, Repeat, Until, Div, Mod, Or}
+use Rattle.ob_explain_hints.specs.declared.tables.Slip.{Slip}
+use Rattle.ob_explain_hints.specs.declared.tables.Slip.TheVariants as Slips
+
+-- what is written where a slip is one of a sign or a word; a byte order mark is three bytes
+abbrev pub slip_mark : Slip → List ℕ
+slip_mark Slips.Underscore = codes "_"
+slip_mark Slips.Quotes = codes "\""
+slip_mark Slips.Apostrophe = codes "'"
+slip_mark Slips.Brace = codes "{"
+slip_mark Slips.ExclamationMark = codes "!"
+slip_mark Slips.TwoSlashes = codes "//"
+slip_mark Slips.Slash = codes "/"
+slip_mark Slips.Bar = codes "|"
+slip_mark Slips.Percent = codes "%"
+slip_mark Slips.ByteOrderMark = 239 ∷ 187 ∷ 191 ∷ []
+slip_mark Slips.SmallestNumber = codes "2147483648"
+slip_mark Slips.LessGreater = []
+slip_mark Slips.TwoEquals = []
+slip_mark Slips.Assign = codes ":="
+slip_mark Slips.Equal = codes "="
+slip_mark Slips.For = codes "FOR"
+slip_mark Slips.Case = codes "CASE"
+slip_mark Slips.Return = codes "RETURN"
+slip_mark Slips.Import = codes "IMPORT"
+slip_mark Slips.Exit = codes "EXIT"
+slip_mark Slips.Loop = codes "LOOP"
+slip_mark Slips.Pointer = codes "POINTER"
+slip_mark Slips.Nil = codes "NIL"
+slip_mark Slips.NoEndName = []
+slip_mark Slips.SmallKeyword = []
+
+-- the hint on a slip
+abbrev pub slip_hint : Slip → List ℕ
+slip_hint Slips.Underscore = codes "a name has letters and digits, and no underscores"
+slip_hint Slips.Quotes = codes "there are no strings; a value is a number, TRUE or FALSE"
+slip_hint Slips.Apostrophe = codes "there are no characters; a value is a number, TRUE or FALSE"
+slip_hint Slips.Brace = codes "there are no sets and no blocks in braces; a comment is written (* .. *)"
+slip_hint Slips.ExclamationMark = codes "not equal is written #, and not is written ~"
+slip_hint Slips.TwoSlashes = codes "a comment is written (* .. *)"
+slip_hint Slips.Slash = codes "a quotient is written with DIV"
+slip_hint Slips.Bar = codes "there is no CASE, and or is written OR"
+slip_hint Slips.Percent = codes "a remainder is written with MOD"
+slip_hint Slips.ByteOrderMark = codes "a byte order mark stands there, which no editor shows; save the file without it"
+slip_hint Slips.SmallestNumber = codes "the smallest INTEGER is written -2147483647 - 1"
+slip_hint Slips.LessGreater = codes "not equal is written #"
+slip_hint Slips.TwoEquals = codes "equal is written with one ="
+slip_hint Slips.Assign = codes ":= assigns; = compares, and stands in declarations of constants and types"
+slip_hint Slips.Equal = codes "= compares, and stands in declarations of constants and types; := assigns"
+slip_hint Slips.For = codes "there is no FOR; count in a WHILE or a REPEAT"
+slip_hint Slips.Case = codes "there is no CASE; write IF with ELSIF"
+slip_hint Slips.Return = codes "there is no RETURN; a procedure gives values by its VAR parameters"
+slip_hint Slips.Import = codes "there is no IMPORT; a module stands alone"
+slip_hint Slips.Exit = codes "there is no EXIT; a loop ends by its condition"
+slip_hint Slips.Loop = codes "there is no LOOP; use WHILE or REPEAT"
+slip_hint Slips.Pointer = codes "there are no pointers"
+slip_hint Slips.Nil = codes "there are no pointers"
+slip_hint Slips.NoEndName = codes "behind the END of a procedure or of the module stands its name"
+slip_hint Slips.SmallKeyword = codes "keywords are written in capitals"
+
+-- signs that begin no token
+abbrev pub stray : List Slip
+stray =
+    Slips.Underscore ∷ Slips.Quotes ∷ Slips.Apostrophe ∷ Slips.Brace ∷ Slips.ExclamationMark ∷ Slips.TwoSlashes ∷ Slips.Slash ∷ Slips.Bar
+    ∷ Slips.Percent ∷ Slips.ByteOrderMark ∷ []
+
+-- signs that stand in place of others
+abbrev pub signs : List Slip
+signs = Slips.Assign ∷ Slips.Equal ∷ []
+
+-- words of other languages
+abbrev pub foreign : List Slip
+foreign = Slips.For ∷ Slips.Case ∷ Slips.Return ∷ Slips.Import ∷ Slips.Exit ∷ Slips.Loop ∷ Slips.Pointer ∷ Slips.Nil ∷ []
+
+abbrev pub keywords : List Kind
+keywords =
+    Module ∷ Begin ∷ End ∷ Const ∷ «Type» ∷ Var ∷ Procedure ∷ Array ∷ Of ∷ Record ∷ If ∷ Then ∷ Elsif ∷ Else ∷ While ∷ Do ∷ Repeat ∷ Until ∷ Div ∷ Mod ∷ Or ∷ []

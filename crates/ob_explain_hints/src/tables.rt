@@ -1,0 +1,157 @@
+//! The table of known slips: what is written there, and the hint.
+
+ghost use Rattle.std.specs.Prelude.{◌≡◌};
+ghost use Rattle.ob_explain_hints.specs.Tables.{slip_hint, slip_mark};
+
+use ob_scan::Kind;
+
+/// A known slip.
+#[derive(Clone, Copy)]
+pub enum Slip {
+    Underscore,
+    Quotes,
+    Apostrophe,
+    Brace,
+    ExclamationMark,
+    TwoSlashes,
+    Slash,
+    Bar,
+    Percent,
+    ByteOrderMark,
+    SmallestNumber,
+    LessGreater,
+    TwoEquals,
+    Assign,
+    Equal,
+    For,
+    Case,
+    Return,
+    Import,
+    Exit,
+    Loop,
+    Pointer,
+    Nil,
+    NoEndName,
+    SmallKeyword,
+}
+
+/// Signs that begin no token.
+pub const STRAY: [Slip; 10] = [
+    Slip::Underscore,
+    Slip::Quotes,
+    Slip::Apostrophe,
+    Slip::Brace,
+    Slip::ExclamationMark,
+    Slip::TwoSlashes,
+    Slip::Slash,
+    Slip::Bar,
+    Slip::Percent,
+    Slip::ByteOrderMark,
+];
+
+/// Signs that stand in place of others.
+pub const SIGNS: [Slip; 2] = [Slip::Assign, Slip::Equal];
+
+/// Words of other languages.
+pub const WORDS: [Slip; 8] = [
+    Slip::For,
+    Slip::Case,
+    Slip::Return,
+    Slip::Import,
+    Slip::Exit,
+    Slip::Loop,
+    Slip::Pointer,
+    Slip::Nil,
+];
+
+/// Keywords.
+pub const KEYWORDS: [Kind; 21] = [
+    Kind::Module,
+    Kind::Begin,
+    Kind::End,
+    Kind::Const,
+    Kind::Type,
+    Kind::Var,
+    Kind::Procedure,
+    Kind::Array,
+    Kind::Of,
+    Kind::Record,
+    Kind::If,
+    Kind::Then,
+    Kind::Elsif,
+    Kind::Else,
+    Kind::While,
+    Kind::Do,
+    Kind::Repeat,
+    Kind::Until,
+    Kind::Div,
+    Kind::Mod,
+    Kind::Or,
+];
+
+/// What is written where a slip is one of a sign or a word.
+pub fn slip_mark(slip: Slip) -> &'static [u8]
+    ensures { result.now ≡ slip_mark slip }
+{
+    match slip {
+        Slip::Underscore => b"_",
+        Slip::Quotes => b"\"",
+        Slip::Apostrophe => b"'",
+        Slip::Brace => b"{",
+        Slip::ExclamationMark => b"!",
+        Slip::TwoSlashes => b"//",
+        Slip::Slash => b"/",
+        Slip::Bar => b"|",
+        Slip::Percent => b"%",
+        Slip::ByteOrderMark => b"\xef\xbb\xbf",
+        Slip::SmallestNumber => b"2147483648",
+        Slip::LessGreater => b"",
+        Slip::TwoEquals => b"",
+        Slip::Assign => b":=",
+        Slip::Equal => b"=",
+        Slip::For => b"FOR",
+        Slip::Case => b"CASE",
+        Slip::Return => b"RETURN",
+        Slip::Import => b"IMPORT",
+        Slip::Exit => b"EXIT",
+        Slip::Loop => b"LOOP",
+        Slip::Pointer => b"POINTER",
+        Slip::Nil => b"NIL",
+        Slip::NoEndName => b"",
+        Slip::SmallKeyword => b"",
+    }
+}
+
+/// The hint on a slip.
+pub fn slip_hint(slip: Slip) -> &'static str
+    ensures { result.now ≡ slip_hint slip }
+{
+    match slip {
+        Slip::Underscore => "a name has letters and digits, and no underscores",
+        Slip::Quotes => "there are no strings; a value is a number, TRUE or FALSE",
+        Slip::Apostrophe => "there are no characters; a value is a number, TRUE or FALSE",
+        Slip::Brace => "there are no sets and no blocks in braces; a comment is written (* .. *)",
+        Slip::ExclamationMark => "not equal is written #, and not is written ~",
+        Slip::TwoSlashes => "a comment is written (* .. *)",
+        Slip::Slash => "a quotient is written with DIV",
+        Slip::Bar => "there is no CASE, and or is written OR",
+        Slip::Percent => "a remainder is written with MOD",
+        Slip::ByteOrderMark =>
+            "a byte order mark stands there, which no editor shows; save the file without it",
+        Slip::SmallestNumber => "the smallest INTEGER is written -2147483647 - 1",
+        Slip::LessGreater => "not equal is written #",
+        Slip::TwoEquals => "equal is written with one =",
+        Slip::Assign => ":= assigns; = compares, and stands in declarations of constants and types",
+        Slip::Equal => "= compares, and stands in declarations of constants and types; := assigns",
+        Slip::For => "there is no FOR; count in a WHILE or a REPEAT",
+        Slip::Case => "there is no CASE; write IF with ELSIF",
+        Slip::Return => "there is no RETURN; a procedure gives values by its VAR parameters",
+        Slip::Import => "there is no IMPORT; a module stands alone",
+        Slip::Exit => "there is no EXIT; a loop ends by its condition",
+        Slip::Loop => "there is no LOOP; use WHILE or REPEAT",
+        Slip::Pointer => "there are no pointers",
+        Slip::Nil => "there are no pointers",
+        Slip::NoEndName => "behind the END of a procedure or of the module stands its name",
+        Slip::SmallKeyword => "keywords are written in capitals",
+    }
+}
