@@ -1,0 +1,5 @@
+pub mod Block
+pub mod Simulated
+pub mod TreeLaw
+pub mod Whole
+mod Rows

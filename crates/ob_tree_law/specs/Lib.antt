@@ -1,0 +1,2 @@
+pub mod TreeEngine
+pub mod TreeLaw

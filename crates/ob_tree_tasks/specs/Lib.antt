@@ -1,0 +1,5 @@
+pub mod Codes
+pub mod WorkTasks
+pub mod Scoped
+pub mod Tasks
+pub mod Opening

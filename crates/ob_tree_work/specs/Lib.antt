@@ -1,0 +1,4 @@
+pub mod Work
+pub mod Reserve
+pub mod LikeCode
+pub mod Height
