@@ -7,7 +7,7 @@ use Rattle.ob_code_law.specs.Compiled.{Fits, HasReserve}
 use Rattle.ob_code_scheme.specs.Layout.{encoded}
 use Rattle.ob_meaning.specs.Object as Named
 use Rattle.ob_object_compile.specs.Compilation as Compilation
-use Rattle.ob_object_compile.specs.Compilation.{ObjectParts, IsCompilation, IsCompileFault}
+use Rattle.ob_object_compile.specs.Compilation.{IsAny, IsCompileFault, IsObjectOf, IsShort, IsTreeFault, ObjectParts}
 use Rattle.ob_object_compile.specs.Sound.{IsSoundObject}
 use Rattle.ob_object_compile.specs.declared.compiling.CompileFault.{CompileFault}
 use Rattle.ob_object_compile.specs.declared.compiling.CompileFault.TheVariants as Compile
@@ -62,68 +62,97 @@ AreMakersIn o calls r makers =
 abbrev pub IsMeantIn : ObjectParts → Record → Type 0
 IsMeantIn o r = (opening : Named.State) → SameState o.program opening o.opening → ∥ IsMeantOrder o.program o.engine.budget opening r ∥₁
 
--- ---- from texts
+-- ---- from texts, where an object is asked for of certain programs alone
 
--- Of the texts of a module, of scripts and of a schedule, for n processes and with a budget: the record shows a run of the module's
--- object, and its order is a legal order of its history by what the calls mean by name with the budget, from the module's opening
--- state to the record's state.
-pub record IsPerformance (text : List ℕ) (n budget : ℕ) (scripts schedule : List ℕ) (r : Record) : Type 0 where
-  pub object : ObjectParts
-  pub compiled : IsCompilation text n budget object
-  pub calls : List ScriptCall
-  pub calls_are : IsScript (signatures object.program) n scripts calls
-  pub items : List Item
-  pub items_are : IsSchedule n schedule items
-  pub shows : Shows object calls items r
-  pub legal : ∥ IsMeantOrder object.program budget compiled.opens.state r ∥₁
+module _ (Allowed : Program → Type 0) where
+  -- Of the texts of a module, of scripts and of a schedule, for n processes and with a budget: the record shows a run of the module's
+  -- object, and its order is a legal order of its history by what the calls mean by name with the budget, from the module's opening
+  -- state to the record's state.
+  pub record IsRunOf (text : List ℕ) (n budget : ℕ) (scripts schedule : List ℕ) (r : Record) : Type 0 where
+    pub object : ObjectParts
+    pub compiled : IsObjectOf Allowed text n budget object
+    pub calls : List ScriptCall
+    pub calls_are : IsScript (signatures object.program) n scripts calls
+    pub items : List Item
+    pub items_are : IsSchedule n schedule items
+    pub shows : Shows object calls items r
+    pub legal : ∥ IsMeantOrder object.program budget compiled.opens.state r ∥₁
 
--- the object of a module's text, the calls of scripts and the items of a schedule: each text has one program, one list of calls and
--- one list of items
-pub record AreRead (text : List ℕ) (n budget : ℕ) (scripts schedule : List ℕ) (o : ObjectParts) (calls : List ScriptCall) (items : List Item) : Type 0 where
-  pub compiled : IsCompilation text n budget o
-  pub alone : (other : Program) → IsModule text other → other ≡ o.program
-  pub calls_are : IsScript (signatures o.program) n scripts calls
-  pub only_calls : (others : List ScriptCall) → IsScript (signatures o.program) n scripts others → others ≡ calls
-  pub items_are : IsSchedule n schedule items
-  pub only_items : (others : List Item) → IsSchedule n schedule others → others ≡ items
+  -- the object of a module's text, the calls of scripts and the items of a schedule: each text has one program, one list of calls and
+  -- one list of items
+  pub record AreReadOf (text : List ℕ) (n budget : ℕ) (scripts schedule : List ℕ) (o : ObjectParts) (calls : List ScriptCall) (items : List Item) : Type 0 where
+    pub compiled : IsObjectOf Allowed text n budget o
+    pub alone : (other : Program) → IsModule text other → other ≡ o.program
+    pub calls_are : IsScript (signatures o.program) n scripts calls
+    pub only_calls : (others : List ScriptCall) → IsScript (signatures o.program) n scripts others → others ≡ calls
+    pub items_are : IsSchedule n schedule items
+    pub only_items : (others : List Item) → IsSchedule n schedule others → others ≡ items
 
--- the texts have no run
+  -- the texts have no run
+  abbrev pub HasNoRun : (text : List ℕ) (n budget : ℕ) (scripts schedule : List ℕ) → Type 0
+  HasNoRun text n budget scripts schedule = (r : Record) → IsRunOf text n budget scripts schedule r → ⊥
+
+  -- the scripts are none for the text's object
+  pub record IsScriptFaultFor (text : List ℕ) (n budget : ℕ) (scripts : List ℕ) (fault : ScriptFault) : Type 0 where
+    pub object : ObjectParts
+    pub compiled : IsObjectOf Allowed text n budget object
+    pub fails : IsScriptFault (signatures object.program) n scripts fault
+
+  -- the scripts are calls on the text's object, and the schedule is none
+  pub record IsScheduleFaultFor (text : List ℕ) (n budget : ℕ) (scripts schedule : List ℕ) (fault : ScheduleFault) : Type 0 where
+    pub object : ObjectParts
+    pub compiled : IsObjectOf Allowed text n budget object
+    pub calls : List ScriptCall
+    pub calls_are : IsScript (signatures object.program) n scripts calls
+    pub fails : IsScheduleFault n schedule fault
+
+  -- the item of this number, from 1, is the first one that stands for more steps than an item may take
+  pub record PassesLimit (text : List ℕ) (n budget : ℕ) (scripts schedule : List ℕ) (number : ℕ) : Type 0 where
+    pub object : ObjectParts
+    pub compiled : IsObjectOf Allowed text n budget object
+    pub calls : List ScriptCall
+    pub calls_are : IsScript (signatures object.program) n scripts calls
+    pub items : List Item
+    pub items_are : IsSchedule n schedule items
+    pub long : IsRunFault object calls items (Play.TooLong number)
+
+  -- what each fault says behind that of the object
+  abbrev pub IsFaultOf : (CompileFault → Type 0) → (text : List ℕ) (n budget : ℕ) (scripts schedule : List ℕ) → PerformFault → Type 0
+  IsFaultOf IsOfObject text n budget scripts schedule (Faults.Compile e) = IsOfObject e
+  IsFaultOf IsOfObject text n budget scripts schedule (Faults.Script e) = IsScriptFaultFor text n budget scripts e
+  IsFaultOf IsOfObject text n budget scripts schedule (Faults.Schedule e) = IsScheduleFaultFor text n budget scripts schedule e
+  IsFaultOf IsOfObject text n budget scripts schedule (Faults.TooLong number) = PassesLimit text n budget scripts schedule number
+  IsFaultOf IsOfObject text n budget scripts schedule Faults.NoMemory = Unit {0}
+
+-- ---- of an object over code
+
+abbrev pub IsPerformance : (text : List ℕ) (n budget : ℕ) (scripts schedule : List ℕ) → Record → Type 0
+IsPerformance = IsRunOf IsShort
+
+abbrev pub AreRead : (text : List ℕ) (n budget : ℕ) (scripts schedule : List ℕ) → ObjectParts → List ScriptCall → List Item → Type 0
+AreRead = AreReadOf IsShort
+
 abbrev pub HasNoPerformance : (text : List ℕ) (n budget : ℕ) (scripts schedule : List ℕ) → Type 0
-HasNoPerformance text n budget scripts schedule = (r : Record) → IsPerformance text n budget scripts schedule r → ⊥
+HasNoPerformance = HasNoRun IsShort
+
+abbrev pub IsScriptFaultOf : (text : List ℕ) (n budget : ℕ) (scripts : List ℕ) → ScriptFault → Type 0
+IsScriptFaultOf = IsScriptFaultFor IsShort
+
+abbrev pub IsPerformFault : (text : List ℕ) (n budget : ℕ) (scripts schedule : List ℕ) → PerformFault → Type 0
+IsPerformFault text n budget scripts schedule = IsFaultOf IsShort (IsCompileFault text n budget) text n budget scripts schedule
+
+-- ---- of an object over the module's tree: the run is one over the code of the scheme, of whatever length
+
+abbrev pub IsTreePerformance : (text : List ℕ) (n budget : ℕ) (scripts schedule : List ℕ) → Record → Type 0
+IsTreePerformance = IsRunOf IsAny
+
+abbrev pub HasNoTreePerformance : (text : List ℕ) (n budget : ℕ) (scripts schedule : List ℕ) → Type 0
+HasNoTreePerformance = HasNoRun IsAny
+
+abbrev pub IsTreePerformFault : (text : List ℕ) (n budget : ℕ) (scripts schedule : List ℕ) → PerformFault → Type 0
+IsTreePerformFault text n budget scripts schedule = IsFaultOf IsAny (IsTreeFault text n budget) text n budget scripts schedule
 
 -- ---- faults
-
--- the scripts are none for the text's object
-pub record IsScriptFaultOf (text : List ℕ) (n budget : ℕ) (scripts : List ℕ) (fault : ScriptFault) : Type 0 where
-  pub object : ObjectParts
-  pub compiled : IsCompilation text n budget object
-  pub fails : IsScriptFault (signatures object.program) n scripts fault
-
--- the scripts are calls on the text's object, and the schedule is none
-pub record IsScheduleFaultOf (text : List ℕ) (n budget : ℕ) (scripts schedule : List ℕ) (fault : ScheduleFault) : Type 0 where
-  pub object : ObjectParts
-  pub compiled : IsCompilation text n budget object
-  pub calls : List ScriptCall
-  pub calls_are : IsScript (signatures object.program) n scripts calls
-  pub fails : IsScheduleFault n schedule fault
-
--- the item of this number, from 1, is the first one that stands for more steps than an item may take
-pub record PassesLimit (text : List ℕ) (n budget : ℕ) (scripts schedule : List ℕ) (number : ℕ) : Type 0 where
-  pub object : ObjectParts
-  pub compiled : IsCompilation text n budget object
-  pub calls : List ScriptCall
-  pub calls_are : IsScript (signatures object.program) n scripts calls
-  pub items : List Item
-  pub items_are : IsSchedule n schedule items
-  pub long : IsRunFault object calls items (Play.TooLong number)
-
--- what each fault says
-abbrev pub IsPerformFault : (text : List ℕ) (n budget : ℕ) (scripts schedule : List ℕ) → PerformFault → Type 0
-IsPerformFault text n budget scripts schedule (Faults.Compile e) = IsCompileFault text n budget e
-IsPerformFault text n budget scripts schedule (Faults.Script e) = IsScriptFaultOf text n budget scripts e
-IsPerformFault text n budget scripts schedule (Faults.Schedule e) = IsScheduleFaultOf text n budget scripts schedule e
-IsPerformFault text n budget scripts schedule (Faults.TooLong number) = PassesLimit text n budget scripts schedule number
-IsPerformFault text n budget scripts schedule Faults.NoMemory = Unit {0}
 
 -- want of memory is told in one place
 

@@ -45,7 +45,7 @@ returns-clause-ready c =
     }
 
 pub returns-clause-sound : goal.returns-clause-sound
-returns-clause-sound c = c.compilations_are_sound.ensures c.args.text.now c.args.n c.args.budget (object_in c.in_ok-object.object) c.in_ok-object.ensures.object
+returns-clause-sound c = c.compilations_are_sound.ensures.coded c.args.text.now c.args.n c.args.budget (object_in c.in_ok-object.object) c.in_ok-object.ensures.object
 
 pub returns-clause-callers : goal.returns-clause-callers
 returns-clause-callers c =

@@ -25,7 +25,7 @@ returns-clause-answers c = λ text budget scripts schedule r p.
     let o = p.object in
     let calls = scripts_of p.calls in
     let opening = p.compiled.opens.state in
-    let sound = c.compilations_are_sound.ensures text 1 budget o p.compiled in
+    let sound = c.compilations_are_sound.ensures.coded text 1 budget o p.compiled in
     let shown = subst (λ (k : ℕ). IsRecorded o.engine k (encoded o.opening) calls p.items r) p.compiled.processes p.shows in
     subst (λ (cs : List ObjectCall). HasReplies 0 r.history (replies_to o.program budget opening cs)) (calls_in p.calls)
     (subst (λ (k : ℕ). HasReplies 0 r.history (replies_to o.program k opening (map (λ x. x.1) calls))) (ap (λ (e : EngineParts). e.budget) p.compiled.engine_is)

@@ -2,6 +2,7 @@ use Rattle.std.proofs.Common.{◌≡◌, ◌<◌, ℕ, List, All, subst, sym}
 use Rattle.std.proofs.lemmas.Result.{err_from_is_err_and}
 use Rattle.ob_checked.specs.Exports.{signatures}
 use Rattle.ob_interface.specs.Export.{CallFits}
+use Rattle.ob_object_compile.specs.Compilation.{IsCompileFault, IsShort}
 use Rattle.ob_object_compile.specs.View.{object_in}
 use Rattle.ob_object_perform.proofs.NoPerformance.{no_schedule, no_script}
 use Rattle.ob_object_perform.proofs.Objects.{schedule_below}
@@ -17,14 +18,14 @@ pub returns-in_err-calls-clause-fault : goal.returns-in_err-calls-clause-fault
 returns-in_err-calls-clause-fault c =
     let p = err_from_is_err_and c.from_residual-in_err-calls.result c.from_residual-in_err-calls.ensures.1 in
     rw (p.1, p.2)
-    (script_fault c.args.text.now c.args.n c.args.budget c.args.scripts.now c.args.schedule.now (object_in c.in_ok-object.object) c.in_ok-object.ensures.object c.in_err-calls.field-0.0
+    (script_fault IsShort (IsCompileFault c.args.text.now c.args.n c.args.budget) c.args.text.now c.args.n c.args.budget c.args.scripts.now c.args.schedule.now (object_in c.in_ok-object.object) c.in_ok-object.ensures.object c.in_err-calls.field-0.0
     (subst (λ (q : Program). IsScriptFault (signatures q) c.args.n c.args.scripts.now c.in_err-calls.field-0.0) c.checked.ensures.program c.in_err-calls.ensures.fault))
 
 pub returns-in_err-calls-clause-none : goal.returns-in_err-calls-clause-none
 returns-in_err-calls-clause-none c =
     let p = err_from_is_err_and c.from_residual-in_err-calls.result c.from_residual-in_err-calls.ensures.1 in
     rw (p.1, p.2)
-    (no_script c.args.text.now c.args.n c.args.budget c.args.scripts.now c.args.schedule.now (object_in c.in_ok-object.object) c.in_ok-object.ensures.object c.in_ok-object.ensures.alone c.in_err-calls.field-0.0
+    (no_script IsShort c.args.text.now c.args.n c.args.budget c.args.scripts.now c.args.schedule.now (object_in c.in_ok-object.object) c.in_ok-object.ensures.object c.in_ok-object.ensures.alone c.in_err-calls.field-0.0
     (subst (λ (q : Program). IsScriptFault (signatures q) c.args.n c.args.scripts.now c.in_err-calls.field-0.0) c.checked.ensures.program c.in_err-calls.ensures.fault))
 
 pub returns-in_err-calls-clause-memory : goal.returns-in_err-calls-clause-memory
@@ -36,14 +37,14 @@ pub returns-in_err-items-clause-fault : goal.returns-in_err-items-clause-fault
 returns-in_err-items-clause-fault c =
     let p = err_from_is_err_and c.from_residual-in_err-items.result c.from_residual-in_err-items.ensures.1 in
     rw (p.1, p.2)
-    (schedule_fault c.args.text.now c.args.n c.args.budget c.args.scripts.now c.args.schedule.now (object_in c.in_ok-object.object) c.in_ok-object.ensures.object c.in_ok-calls.calls
+    (schedule_fault IsShort (IsCompileFault c.args.text.now c.args.n c.args.budget) c.args.text.now c.args.n c.args.budget c.args.scripts.now c.args.schedule.now (object_in c.in_ok-object.object) c.in_ok-object.ensures.object c.in_ok-calls.calls
     (subst (λ (q : Program). IsScript (signatures q) c.args.n c.args.scripts.now c.in_ok-calls.calls) c.checked.ensures.program c.in_ok-calls.ensures.script)
     c.in_err-items.field-0.0 c.in_err-items.ensures.fault)
 
 pub returns-in_err-items-clause-none : goal.returns-in_err-items-clause-none
 returns-in_err-items-clause-none c =
     let p = err_from_is_err_and c.from_residual-in_err-items.result c.from_residual-in_err-items.ensures.1 in
-    rw (p.1, p.2) (no_schedule c.args.text.now c.args.n c.args.budget c.args.scripts.now c.args.schedule.now c.in_err-items.field-0.0 c.in_err-items.ensures.fault)
+    rw (p.1, p.2) (no_schedule IsShort c.args.text.now c.args.n c.args.budget c.args.scripts.now c.args.schedule.now c.in_err-items.field-0.0 c.in_err-items.ensures.fault)
 
 pub returns-in_err-items-clause-memory : goal.returns-in_err-items-clause-memory
 returns-in_err-items-clause-memory c =
@@ -71,7 +72,7 @@ returns-clause-ready c =
     let script = subst (λ (q : Program). IsScript (signatures q) n c.args.scripts.now calls) c.checked.ensures.program c.in_ok-calls.ensures.script in
     let fit = subst (λ (q : Program). All (λ x. CallFits (signatures q) (object_call x)) calls) c.checked.ensures.program c.in_ok-calls.ensures.fit in
     record {
-      sound = c.compilations_are_sound.ensures c.args.text.now n c.args.budget o made;
+      sound = c.compilations_are_sound.ensures.coded c.args.text.now n c.args.budget o made;
       callers = subst (λ (k : ℕ). All (λ x. x.process < k) calls) (sym made.processes) c.in_ok-calls.ensures.processes;
       fit = calls_fit o.program (λ call. c.calls_fit.ensures o.program call) n c.args.scripts.now calls script fit;
       turns = subst (λ (k : ℕ). All (λ item. process_of item < k) c.in_ok-items.items.items) (sym made.processes)

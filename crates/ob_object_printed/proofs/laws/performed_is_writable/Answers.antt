@@ -10,7 +10,7 @@ pub returns-clause-performed : goal.returns-clause-performed
 returns-clause-performed c = λ text n budget scripts schedule r p events.
     let o = p.object in
     let shows = p.shows in
-    let so = c.compilations_are_sound.ensures text n budget o p.compiled in
+    let so = c.compilations_are_sound.ensures.coded text n budget o p.compiled in
     let same : o.engine.budget ≡ budget = ap (λ (q : EngineParts). q.budget) p.compiled.engine_is in
     let legal = subst (λ (b : ℕ). ∥ IsMeantOrder o.program b p.compiled.opens.state r ∥₁) (sym same) p.legal in
     writable_run c.every_run.ensures c.legal_order.ensures c.openings_are_objects.ensures c.orders_are_carried.ensures.by_name text n budget o p.compiled so p.compiled.opens
@@ -18,6 +18,6 @@ returns-clause-performed c = λ text n budget scripts schedule r p events.
 
 pub returns-clause-served : goal.returns-clause-served
 returns-clause-served c = λ text n budget scripts o calls r read shows events.
-    let so = c.compilations_are_sound.ensures text n budget o read.compiled in
+    let so = c.compilations_are_sound.ensures.coded text n budget o read.compiled in
     writable_run c.every_run.ensures c.legal_order.ensures c.openings_are_objects.ensures c.orders_are_carried.ensures.by_name text n budget o read.compiled so shows.meant.opens
     (performed (scripts_of calls) shows.state.records.schedule) shows.state shows.runs r shows.processes shows.budget shows.history shows.order shows.schedule events shows.meant.meant
