@@ -9,15 +9,13 @@ use Rattle.wf_object.specs.Halted.{is_halted}
 use Rattle.wf_object.specs.View.{Object}
 use Rattle.wf_play.specs.Played.{IsSameObject}
 use Rattle.wf_play.specs.ItemSteps.{EndsWithAnswer, IsAtEnd, IsBeyond, IsItemPlayed, IsItemRun, IsReply, after_steps}
-use Rattle.ob_interface.specs.declared.call.Reply.{Reply}
-use Rattle.wf_history.specs.declared.event.CallId.{CallId}
-use Rattle.wf_object.specs.View.{answer_in}
-use Rattle.wf_object.specs.declared.records.StepOut.{StepOut}
-use Rattle.wf_object.specs.declared.records.StepOut.TheVariants as Outs
+use Rattle.wf_object.specs.View.{seen_in}
+use Rattle.wf_object.specs.declared.records.Seen.{Seen}
+use Rattle.wf_object.specs.declared.records.Seen.TheVariants as Shows
 use Rattle.wf_table.specs.declared.process.Label.{Label}
 use Rattle.wf_table.specs.declared.process.Sizes.{Sizes}
 use Rattle.wf_table.specs.Meaning.{Meaning}
-use Rattle.wf_table.specs.Object.{Answer, State, answer_of, label_of, step_of}
+use Rattle.wf_table.specs.Object.{Answer, GoesOn, Begins, Replies, Halts, State, answer_of, label_of, step_of}
 use Rattle.wf_table.specs.Schedule.{steps_of}
 
 module _ {Run : Type 0} (m : Meaning Run) (z : Sizes) where
@@ -80,19 +78,26 @@ pub one_turn_more : (before now later : List ℕ) (k p : ℕ) → now ≡ before
 one_turn_more before now later k p so_far turn =
     turn ∙ ap (λ (ps : List ℕ). ps ++ p ∷ []) so_far ∙ append_assoc before (replicate k p) (p ∷ []) ∙ ap (λ (ps : List ℕ). before ++ ps) (replicate-append-replicate k 1 p)
 
--- what is no answer is no reply
-pub no_reply : (out : StepOut) (answer : Answer) → answer_in out ≡ answer → ((id : CallId) (reply : Reply) → out ≡ Outs.Answered id reply → ⊥) → IsReply answer → ⊥
-no_reply Outs.On answer e other reply = subst IsReply (sym e) reply
-no_reply (Outs.Began id) answer e other reply = subst IsReply (sym e) reply
-no_reply (Outs.Answered id r) answer e other reply = other id r refl
-no_reply Outs.Halted answer e other reply = subst IsReply (sym e) reply
+-- a step that does not show an answer makes no reply
+pub no_reply : (seen : Seen) (answer : Answer) → seen ≡ seen_in answer → (seen ≡ Shows.Answered → ⊥) → IsReply answer → ⊥
+no_reply seen GoesOn e other reply = reply
+no_reply seen (Begins id) e other reply = reply
+no_reply seen (Replies id r) e other reply = other e
+no_reply seen Halts e other reply = reply
 
-pub is_reply : (id : CallId) (r : Reply) (out : StepOut) (answer : Answer) → answer_in out ≡ answer → out ≡ Outs.Answered id r → IsReply answer
-is_reply id r out answer e is = subst IsReply e (subst (λ (o : StepOut). IsReply (answer_in o)) (sym is) tt)
+-- and one that shows it makes one
+pub is_reply : (seen : Seen) (answer : Answer) → seen ≡ seen_in answer → seen ≡ Shows.Answered → IsReply answer
+is_reply seen GoesOn e is = absurd (cc)
+is_reply seen (Begins id) e is = absurd (cc)
+is_reply seen (Replies id r) e is = tt
+is_reply seen Halts e is = absurd (cc)
 
 -- a step of an object is one of the same object as it was before
 pub same_step : {E Run : Type 0} (meaning : E → Meaning Run) (a b : Object E Run) (s : State Run) (p : ℕ) → IsSameObject b a → s ≡ step_of (meaning b.engine) b.sizes b.state p → s ≡ step_of (meaning a.engine) a.sizes b.state p
 same_step {E} meaning a b s p same e = e ∙ ap (λ (x : E). step_of (meaning x) b.sizes b.state p) same.engine ∙ ap (λ (z : Sizes). step_of (meaning a.engine) z b.state p) same.sizes
 
-pub same_answer : {E Run : Type 0} (meaning : E → Meaning Run) (a b : Object E Run) (answer : Answer) (p : ℕ) → IsSameObject b a → answer ≡ answer_of (meaning b.engine) b.sizes b.state p → answer ≡ answer_of (meaning a.engine) a.sizes b.state p
-same_answer {E} meaning a b answer p same e = e ∙ ap (λ (x : E). answer_of (meaning x) b.sizes b.state p) same.engine ∙ ap (λ (z : Sizes). answer_of (meaning a.engine) z b.state p) same.sizes
+pub same_seen : {E Run : Type 0} (meaning : E → Meaning Run) (a b : Object E Run) (seen : Seen) (p : ℕ) → IsSameObject b a → seen ≡ seen_in (answer_of (meaning b.engine) b.sizes b.state p) → seen ≡ seen_in (answer_of (meaning a.engine) a.sizes b.state p)
+same_seen {E} meaning a b seen p same e =
+    e
+    ∙ ap (λ (x : E). seen_in (answer_of (meaning x) b.sizes b.state p)) same.engine
+    ∙ ap (λ (z : Sizes). seen_in (answer_of (meaning a.engine) z b.state p)) same.sizes

@@ -10,7 +10,7 @@ ghost use Rattle.wf_table.specs.Object.{label_of};
 
 use ob_interface::NoMemory;
 use ob_schedule::Item;
-use wf_object::{Engine, Label, Machine, StepOut};
+use wf_object::{Engine, Label, Machine, Seen};
 
 /// Plays an item; false where it stands for more steps than the limit.
 pub fn play_item<E: Engine>(
@@ -44,7 +44,7 @@ fn step_times<E: Engine>(
         return Ok(false);
     }
     for _step in 0..count {
-        machine.step(p)?;
+        machine.advance(p)?;
     }
     Ok(true)
 }
@@ -64,7 +64,7 @@ fn step_until<E: Engine>(
         if is_there(machine, p, label) {
             return Ok(true);
         }
-        machine.step(p)?;
+        machine.advance(p)?;
     }
     Ok(is_there(machine, p, label))
 }
@@ -91,7 +91,7 @@ fn step_to_answer<E: Engine>(
         if machine.is_halted(p) {
             return Ok(true);
         }
-        if let StepOut::Answered(_, _) = machine.step(p)? {
+        if machine.advance(p)? == Seen::Answered {
             return Ok(true);
         }
     }

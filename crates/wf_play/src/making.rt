@@ -85,7 +85,7 @@ fn take_turn<E: Engine>(
     ensures makers { OnOk result (makers.new.items ≡ makers.old.items ++ maker_at (E.meaning machine.old.engine) machine.old.sizes machine.old.state p) }
 {
     let seen = machine.history().len();
-    let _ = machine.step(p)?;
+    machine.advance(p)?;
     if seen < machine.history().len() {
         makers.push(p)?;
     }

@@ -85,3 +85,24 @@ fn a_call_without_an_end_stays_open(rt: HostRuntime) -> Result<(), Fail> {
     assert_eq!(rt; machine.order(), [first].as_slice());
     Ok(())
 }
+
+/// With one variable, one result and one argument, each of three blocks keeps one word and two parts of two words. Its
+/// toggles are no words.
+#[test]
+fn toggles_take_no_words(rt: HostRuntime) -> Result<(), Fail> {
+    let machine = adder(rt.alloc())?;
+    assert_eq!(rt; machine.table_words(), 15);
+    Ok(())
+}
+
+#[test]
+fn the_words_of_a_stopped_run(rt: HostRuntime) -> Result<(), Fail> {
+    let mut machine = adder(rt.alloc())?;
+    take_steps(&mut machine, 0, 100)?;
+    take_steps(&mut machine, 1, 400)?;
+    assert!(rt; machine.is_halted(0) && machine.is_halted(1));
+    let words = machine.state_words()?;
+    assert_eq!(rt; words.as_slice(), [4].as_slice());
+    assert_eq!(rt; machine.variables(), words.as_slice());
+    Ok(())
+}

@@ -14,7 +14,7 @@ loop-step-preserved g c =
     record {
       object = search rules;
       leads = search rules;
-      turns = one_turn_more (steps_of a.state.records.schedule) (steps_of b.state.records.schedule) (steps_of c.step.new.self.state.records.schedule) k c.args.p h.turns c.in_ok-step.ensures.turn;
+      turns = one_turn_more (steps_of a.state.records.schedule) (steps_of b.state.records.schedule) (steps_of c.advance.new.self.state.records.schedule) k c.args.p h.turns c.in_ok-advance.ensures.turn;
       goes_on = goes_on m a.sizes (Items.Until c.args.p c.args.label) k a.state c.is_there.result c.if-is_there.false h.goes_on (there m a.sizes c.args.p k c.args.label a.state b.state c.is_there.result h.leads c.is_there.ensures);
     }
 
