@@ -1,1 +1,2 @@
 mod Pushed
+mod Dropped

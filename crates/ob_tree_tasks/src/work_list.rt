@@ -83,6 +83,6 @@ impl<'a> WorkList<'a> {
         requires { 0 < length self.old.tasks }
         ensures { self.new ≡ with_tasks self.old (behind self.old.tasks) }
     {
-        self.count -= 1;
+        let _first = self.pop();
     }
 }
