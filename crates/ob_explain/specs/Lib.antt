@@ -1,4 +1,4 @@
 pub mod Places
-pub mod Remarks
 pub mod Shown
+pub mod Remarks
 pub mod Explanations

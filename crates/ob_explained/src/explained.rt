@@ -59,9 +59,9 @@ fn text_remark(
 {
     match fault {
         TextFault::Scan(ScanFault::TooLong) => Ok(None),
-        TextFault::Scan(fault) => scan_remark(alloc, fault),
+        TextFault::Scan(fault) => scan_remark(alloc, text, fault),
         TextFault::Parse(fault) => parse_remark(alloc, text, fault),
-        TextFault::Check(fault) => check_remark(alloc, fault),
+        TextFault::Check(fault) => check_remark(alloc, text, fault),
         TextFault::NoMemory => Ok(None),
     }
 }

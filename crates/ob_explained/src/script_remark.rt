@@ -1,6 +1,6 @@
 //! What is wrong in a line of a script, in a sentence.
 
-ghost use Rattle.std.specs.Prelude.{◌≡◌, Some, IfOk, IfSome, option_map};
+ghost use Rattle.std.specs.Prelude.{◌≡◌, None, Some, IfOk, IfSome, option_map};
 ghost use Rattle.ob_explain.specs.Remarks.{remark_of};
 ghost use Rattle.ob_explained.specs.Marks.{IsMark, MarksForm, MarksWord};
 ghost use Rattle.ob_explained.specs.ScriptPlaces.{first_place, form_place, in_line, second_place};
@@ -71,11 +71,12 @@ fn told(
     place: usize,
     sentence: &'static str,
 ) -> Result<Option<Remark>, AllocError>
-    ensures remark { IfOk result (λ remark. option_map remark_of remark ≡ Some (record { place = place; sentence = sentence.now })) }
+    ensures remark { IfOk result (λ remark. option_map remark_of remark ≡ Some (record { place = place; sentence = sentence.now; hint = None })) }
     ensures placed { IfOk result (λ remark. IfSome remark (λ r. r.place ≡ place)) }
 {
     Ok(Some(Remark {
         place,
         sentence: String::from_str(alloc, sentence)?,
+        hint: None,
     }))
 }
