@@ -15,6 +15,7 @@ use Rattle.ob_typing.specs.declared.rule.Rule.TheVariants as Rules
 use Rattle.ob_explain_expected.specs.Expected.{AreExpected}
 use Rattle.ob_explain_expected.specs.Groups.{expected_sentence}
 use Rattle.ob_scan.specs.declared.token.Kind.{Kind}
+use Rattle.ob_explain.specs.Rules.{rule_sentence}
 use Rattle.ob_explain.specs.Shown.{word_at}
 use Rattle.ob_explain.specs.declared.remark.Remark as Told
 
@@ -57,19 +58,6 @@ IsParseRemark text (Parse.NameDiffers place) remark =
     remark ≡ at place (codes "behind END stands the name of the module or of the procedure that ends")
 IsParseRemark text Parse.NoMemory remark = remark ≡ None
 
--- what a rule asks
-abbrev pub rule_sentence : Rule → List ℕ
-rule_sentence Rules.UnknownName = codes "a name is declared before it is used, and a field is one of the record's"
-rule_sentence Rules.DeclaredTwice = codes "a name is declared once in a scope, and a field stands once in a record"
-rule_sentence Rules.WrongKind = codes "another kind of thing is needed here, or a variable that has such a part"
-rule_sentence Rules.TypesDiffer = codes "this is of another type than the one that is needed here"
-rule_sentence Rules.BadConstant = codes "a constant has no variables in it, and every operation in it has a result"
-rule_sentence Rules.BadLength = codes "an array has 1 to 4096 elements"
-rule_sentence Rules.BadActuals = codes "a call has an actual for each parameter, and for one with VAR a variable"
-rule_sentence Rules.WrongLevel = codes "a procedure sees its own variables and those of the module, and none of a procedure around it"
-rule_sentence Rules.PassesLimit = codes "this passes a limit of types, variables, parameters or exports"
-rule_sentence Rules.BadExport = codes "exports are procedures of the module itself, with parameters of INTEGER and BOOLEAN"
-
 abbrev pub slip_by : Rule → Option Slip → Option Slip
 slip_by Rules.UnknownName slip = slip
 slip_by _ slip = None
@@ -79,5 +67,5 @@ abbrev pub rule_slip : List ℕ → BrokenRule → Option Slip
 rule_slip text broken = slip_by broken.rule (word_slip (word_at (drop broken.place text)))
 
 abbrev pub check_remark : List ℕ → CheckFault → Option Remark
-check_remark text (Check.Broken b) = hinting b.place (rule_sentence b.rule) (rule_slip text b)
+check_remark text (Check.Broken b) = hinting b.place (rule_sentence b.rule (take b.place text) (drop b.place text)) (rule_slip text b)
 check_remark text Check.NoMemory = None

@@ -1,8 +1,9 @@
 //! What is wrong at a place of a module, in a sentence.
 
 ghost use Rattle.std.specs.Prelude.{◌≡◌, Some, IfOk, drop, option_map, string_bytes, take};
-ghost use Rattle.ob_explain.specs.Remarks.{IsParseRemark, check_remark, remark_of, rule_sentence, rule_slip, scan_remark, unexpected_slip};
+ghost use Rattle.ob_explain.specs.Remarks.{IsParseRemark, check_remark, remark_of, rule_slip, scan_remark, unexpected_slip};
 
+use crate::rules::rule_sentence;
 use crate::shown::word_at;
 use ob_explain_expected::expected::expected_kinds;
 use ob_explain_expected::phrases::expected_sentence;
@@ -116,12 +117,11 @@ pub fn check_remark(
     ensures { IfOk result (λ remark. option_map remark_of remark ≡ check_remark text.now fault) }
 {
     match fault {
-        CheckFault::Broken(broken) => told(
-            alloc,
-            broken.place,
-            sentence_of(broken.rule),
-            rule_slip(text, broken),
-        ),
+        CheckFault::Broken(broken) => {
+            let (before, behind) = halves(text, broken.place);
+            let sentence = rule_sentence(broken.rule, before, behind);
+            told(alloc, broken.place, sentence, rule_slip(text, broken))
+        }
         CheckFault::NoMemory => Ok(None),
     }
 }
@@ -133,38 +133,6 @@ fn rule_slip(text: &[u8], broken: BrokenRule) -> Option<Slip>
     match broken.rule {
         Rule::UnknownName => word_slip(word_at(halves(text, broken.place).1)),
         _ => None,
-    }
-}
-
-/// What a rule asks.
-fn sentence_of(rule: Rule) -> &'static str
-    ensures { result.now ≡ rule_sentence rule }
-{
-    match rule {
-        Rule::UnknownName => {
-            "a name is declared before it is used, and a field is one of the record's"
-        }
-        Rule::DeclaredTwice => {
-            "a name is declared once in a scope, and a field stands once in a record"
-        }
-        Rule::WrongKind => {
-            "another kind of thing is needed here, or a variable that has such a part"
-        }
-        Rule::TypesDiffer => "this is of another type than the one that is needed here",
-        Rule::BadConstant => {
-            "a constant has no variables in it, and every operation in it has a result"
-        }
-        Rule::BadLength => "an array has 1 to 4096 elements",
-        Rule::BadActuals => {
-            "a call has an actual for each parameter, and for one with VAR a variable"
-        }
-        Rule::WrongLevel => {
-            "a procedure sees its own variables and those of the module, and none of a procedure around it"
-        }
-        Rule::PassesLimit => { "this passes a limit of types, variables, parameters or exports" }
-        Rule::BadExport => {
-            "exports are procedures of the module itself, with parameters of INTEGER and BOOLEAN"
-        }
     }
 }
 
