@@ -128,15 +128,20 @@ def tabled(row, text, answer, place):
 
 def explained(name, text, place, sentence):
     """What `explain` shows of a fault at a place of a text with this name: the place by line and column, the line, a mark below the
-    column, and the name or keyword there with the sentence."""
+    column, and the name or keyword there with the sentence. Of a line of over 160 bytes it is what stands near the place. Behind ` / `
+    stands a hint, in a line of its own."""
     begin = text.rfind(b"\n", 0, place) + 1
     line = text[begin:].split(b"\n")[0]
-    seen = bytes(it if it == 9 or 32 <= it <= 126 else 32 if it == 13 else 63 for it in line)
-    below = bytes(9 if it == 9 else 32 for it in text[begin:place])
+    left, right = line[: place - begin], line[place - begin :]
+    cut_left, cut_right = (len(line) > 160 and len(it) > 80 for it in (left, right))
+    left, right = left[len(left) - 79 :] if cut_left else left, right[:79] if cut_right else right
+    seen = bytes(it if it == 9 or 32 <= it <= 126 else 32 if it == 13 else 63 for it in left + right)
+    seen = "…".encode() * cut_left + seen + "…".encode() * cut_right
+    below = b" " * cut_left + bytes(9 if it == 9 else 32 for it in left)
     word = WORD.match(line[place - begin :])
     named = b"`" + word[0] + b"`: " if word else b""
     at = f"{name}:{text.count(10, 0, place) + 1}:{place - begin + 1}"
-    return b"".join(it + b"\n" for it in (at.encode(), seen, below + b"^", named + sentence.encode()))
+    return b"".join(it + b"\n" for it in (at.encode(), seen, below + b"^", named + sentence.replace(" / hint: ", "\nhint: ").encode()))
 
 
 def answered(row, answer):

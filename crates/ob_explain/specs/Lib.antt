@@ -1,4 +1,5 @@
 pub mod Places
-pub mod Remarks
 pub mod Shown
+pub mod Rules
+pub mod Remarks
 pub mod Explanations

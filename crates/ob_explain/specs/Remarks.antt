@@ -1,5 +1,5 @@
 -- What each fault of a module says to people.
-use Rattle.std.specs.Prelude.{◌≡◌, ℕ, List, Option, Some, None, codes, string_bytes}
+use Rattle.std.specs.Prelude.{◌≡◌, ℕ, List, Option, Some, None, codes, drop, string_bytes, take}
 use Rattle.ob_scan.specs.declared.fault.ScanFault.{ScanFault}
 use Rattle.ob_scan.specs.declared.fault.ScanFault.TheVariants as Scan
 use Rattle.ob_scan.specs.Limits.{longest_text}
@@ -7,55 +7,65 @@ use Rattle.ob_parser.specs.declared.parser.ParseFault.{ParseFault}
 use Rattle.ob_parser.specs.declared.parser.ParseFault.TheVariants as Parse
 use Rattle.ob_scopes.specs.declared.fault.CheckFault.{CheckFault}
 use Rattle.ob_scopes.specs.declared.fault.CheckFault.TheVariants as Check
+use Rattle.ob_explain_hints.specs.Slips.{number_slip, parse_slip, stray_slip, word_slip}
+use Rattle.ob_explain_hints.specs.declared.tables.Slip.{Slip}
+use Rattle.ob_typing.specs.declared.rule.BrokenRule.{BrokenRule}
 use Rattle.ob_typing.specs.declared.rule.Rule.{Rule}
 use Rattle.ob_typing.specs.declared.rule.Rule.TheVariants as Rules
 use Rattle.ob_explain_expected.specs.Expected.{AreExpected}
 use Rattle.ob_explain_expected.specs.Groups.{expected_sentence}
 use Rattle.ob_scan.specs.declared.token.Kind.{Kind}
+use Rattle.ob_explain.specs.Rules.{rule_sentence}
+use Rattle.ob_explain.specs.Shown.{word_at}
 use Rattle.ob_explain.specs.declared.remark.Remark as Told
 
--- a sentence on the byte at an offset
+-- a sentence on the byte at an offset, and a known slip that it may come of
 pub record Remark : Type 0 where
   pub place : ℕ
   pub sentence : List ℕ
+  pub hint : Option Slip
 
 abbrev pub remark_of : Told.Remark → Remark
-remark_of r = record { place = r.place; sentence = string_bytes r.sentence }
+remark_of r = record { place = r.place; sentence = string_bytes r.sentence; hint = r.hint }
 
 abbrev pub at : ℕ → List ℕ → Option Remark
-at place sentence = Some (record { place = place; sentence = sentence })
+at place sentence = Some (record { place = place; sentence = sentence; hint = None })
 
-abbrev pub scan_remark : ScanFault → Option Remark
-scan_remark (Scan.StrayByte place) =
-    at place (codes "no token begins with this byte; a module has ASCII letters, digits, blanks and the symbols of the language")
-scan_remark (Scan.NumberTooLarge place) = at place (codes "a number is at most 2147483647")
-scan_remark (Scan.OpenComment place) = at place (codes "this comment has no end; comments nest, and each (* has its own *)")
-scan_remark (Scan.NameTooLong place) = at place (codes "a name has at most 64 characters")
-scan_remark Scan.TooLong = at longest_text (codes "a module has at most 65536 bytes")
-scan_remark Scan.NoMemory = None
+abbrev pub hinting : ℕ → List ℕ → Option Slip → Option Remark
+hinting place sentence hint = Some (record { place = place; sentence = sentence; hint = hint })
+
+abbrev pub scan_remark : List ℕ → ScanFault → Option Remark
+scan_remark text (Scan.StrayByte place) =
+    hinting place (codes "no token begins with this byte; a module has ASCII letters, digits, blanks and the symbols of the language")
+    (stray_slip (drop place text))
+scan_remark text (Scan.NumberTooLarge place) =
+    hinting place (codes "a number is at most 2147483647") (number_slip (take place text) (drop place text))
+scan_remark text (Scan.OpenComment place) = at place (codes "this comment has no end; comments nest, and each (* has its own *)")
+scan_remark text (Scan.NameTooLong place) = at place (codes "a name has at most 64 characters")
+scan_remark text Scan.TooLong = at longest_text (codes "a module has at most 65536 bytes")
+scan_remark text Scan.NoMemory = None
+
+-- the slip of a token that can't stand there
+abbrev pub unexpected_slip : List ℕ → ℕ → Option Slip
+unexpected_slip text place = parse_slip (take place text) (word_at (drop place text)) (drop place text)
 
 -- of a token that can't stand there, or the end, what could: the kinds of token with which the text before it goes on
 abbrev pub IsParseRemark : List ℕ → ParseFault → Option Remark → Type 0
 IsParseRemark text (Parse.Unexpected place) remark =
-    (kinds : List Kind) × AreExpected text place kinds × (remark ≡ at place (expected_sentence kinds))
+    (kinds : List Kind) × AreExpected text place kinds × (remark ≡ hinting place (expected_sentence kinds) (unexpected_slip text place))
 IsParseRemark text (Parse.TooDeep place) remark = remark ≡ at place (codes "this stands within 100 other constructs, and no more nest")
 IsParseRemark text (Parse.NameDiffers place) remark =
     remark ≡ at place (codes "behind END stands the name of the module or of the procedure that ends")
 IsParseRemark text Parse.NoMemory remark = remark ≡ None
 
--- what a rule asks
-abbrev pub rule_sentence : Rule → List ℕ
-rule_sentence Rules.UnknownName = codes "a name is declared before it is used, and a field is one of the record's"
-rule_sentence Rules.DeclaredTwice = codes "a name is declared once in a scope, and a field stands once in a record"
-rule_sentence Rules.WrongKind = codes "another kind of thing is needed here, or a variable that has such a part"
-rule_sentence Rules.TypesDiffer = codes "this is of another type than the one that is needed here"
-rule_sentence Rules.BadConstant = codes "a constant has no variables in it, and every operation in it has a result"
-rule_sentence Rules.BadLength = codes "an array has 1 to 4096 elements"
-rule_sentence Rules.BadActuals = codes "a call has an actual for each parameter, and for one with VAR a variable"
-rule_sentence Rules.WrongLevel = codes "a procedure sees its own variables and those of the module, and none of a procedure around it"
-rule_sentence Rules.PassesLimit = codes "this passes a limit of types, variables, parameters or exports"
-rule_sentence Rules.BadExport = codes "exports are procedures of the module itself, with parameters of INTEGER and BOOLEAN"
+abbrev pub slip_by : Rule → Option Slip → Option Slip
+slip_by Rules.UnknownName slip = slip
+slip_by _ slip = None
 
-abbrev pub check_remark : CheckFault → Option Remark
-check_remark (Check.Broken b) = at b.place (rule_sentence b.rule)
-check_remark Check.NoMemory = None
+-- the slip of a broken rule: a name that is not there may be a word of another language
+abbrev pub rule_slip : List ℕ → BrokenRule → Option Slip
+rule_slip text broken = slip_by broken.rule (word_slip (word_at (drop broken.place text)))
+
+abbrev pub check_remark : List ℕ → CheckFault → Option Remark
+check_remark text (Check.Broken b) = hinting b.place (rule_sentence b.rule (take b.place text) (drop b.place text)) (rule_slip text b)
+check_remark text Check.NoMemory = None

@@ -1,17 +1,18 @@
 //! The lines that show people what is wrong with a module.
 
 ghost use Rattle.std.specs.Prelude.{◌≡◌, ◌++◌, IfOk, OnOk, string_bytes};
-ghost use Rattle.ob_explain.specs.Explanations.{explanation, marked_line, place_line};
+ghost use Rattle.ob_explain.specs.Explanations.{explanation, hint_line, mark_below, marked_line, place_line, shown_line, told_line};
 ghost use Rattle.ob_explain.specs.Remarks.{remark_of};
 
 use crate::place::{Place, line_around, place_in};
 use crate::remark::Remark;
-use crate::shown::{push_blanks, push_line, push_named};
+use crate::shown::{parts, push_blanks, push_cut, push_cut_blank, push_line, push_named};
+use ob_explain_hints::tables::{Slip, slip_hint};
 use ob_text_words::numbers::push_number;
 use std::alloc::{AllocError, Global};
 
-/// What is wrong with a text of this name: `NAME:LINE:COLUMN`, the line, a mark below the column, and a sentence, each with a line
-/// feed behind it.
+/// What is wrong with a text of this name: `NAME:LINE:COLUMN`, the line, a mark below the column, a sentence, and a hint where there
+/// is one, each with a line feed behind it.
 pub fn explanation(
     alloc: Global,
     name: &str,
@@ -24,9 +25,8 @@ pub fn explanation(
     push_place(&mut shown, place_in(text, remark.place))?;
     let (before, behind) = line_around(text, remark.place);
     push_marked(&mut shown, before, behind)?;
-    push_named(&mut shown, behind)?;
-    shown.push_str(remark.sentence.as_str())?;
-    shown.push_str("\n")?;
+    push_told(&mut shown, behind, remark.sentence.as_str())?;
+    push_hint(&mut shown, remark.hint)?;
     Ok(shown)
 }
 
@@ -45,9 +45,56 @@ fn push_place(shown: &mut String, place: Place) -> Result<(), AllocError>
 fn push_marked(shown: &mut String, before: &[u8], behind: &[u8]) -> Result<(), AllocError>
     ensures { OnOk result (string_bytes shown.new ≡ string_bytes shown.old ++ marked_line before.now behind.now) }
 {
-    push_line(shown, before)?;
-    push_line(shown, behind)?;
+    push_shown(shown, before, behind)?;
     shown.push_str("\n")?;
-    push_blanks(shown, before)?;
-    shown.push_str("^\n")
+    push_below(shown, before, behind)?;
+    shown.push_str("\n")
+}
+
+/// Appends what is shown of a line.
+#[tactic(auto, unfolding(crate::specs::Explanations::shown_line))]
+fn push_shown(shown: &mut String, before: &[u8], behind: &[u8]) -> Result<(), AllocError>
+    ensures { OnOk result (string_bytes shown.new ≡ string_bytes shown.old ++ shown_line before.now behind.now) }
+{
+    let (left, right) = parts(before, behind);
+    push_cut(shown, before, left)?;
+    push_line(shown, left)?;
+    push_line(shown, right)?;
+    push_cut(shown, behind, right)
+}
+
+/// Appends the mark below a line.
+#[tactic(auto, unfolding(crate::specs::Explanations::mark_below))]
+fn push_below(shown: &mut String, before: &[u8], behind: &[u8]) -> Result<(), AllocError>
+    ensures { OnOk result (string_bytes shown.new ≡ string_bytes shown.old ++ mark_below before.now behind.now) }
+{
+    let (left, _) = parts(before, behind);
+    push_cut_blank(shown, before, left)?;
+    push_blanks(shown, left)?;
+    shown.push_str("^")
+}
+
+/// Appends a sentence, behind the name or keyword that stands at the place.
+#[tactic(auto, unfolding(crate::specs::Explanations::told_line))]
+fn push_told(shown: &mut String, behind: &[u8], sentence: &str) -> Result<(), AllocError>
+    ensures { OnOk result (string_bytes shown.new ≡ string_bytes shown.old ++ told_line behind.now sentence.now) }
+{
+    push_named(shown, behind)?;
+    shown.push_str(sentence)?;
+    shown.push_str("\n")
+}
+
+/// Appends the hint on a slip.
+#[tactic(auto, unfolding(crate::specs::Explanations::hint_line))]
+fn push_hint(shown: &mut String, hint: Option<Slip>) -> Result<(), AllocError>
+    ensures { OnOk result (string_bytes shown.new ≡ string_bytes shown.old ++ hint_line hint) }
+{
+    match hint {
+        Some(slip) => {
+            shown.push_str("hint: ")?;
+            shown.push_str(slip_hint(slip))?;
+            shown.push_str("\n")
+        }
+        None => Ok(()),
+    }
 }

@@ -5,4 +5,5 @@
 pub mod explanation;
 pub mod place;
 pub mod remark;
+mod rules;
 mod shown;

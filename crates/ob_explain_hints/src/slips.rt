@@ -96,13 +96,15 @@ fn is_same_but_for_case(word: &[u8], other: &[u8]) -> bool
     word.eq_ignore_ascii_case(other) && !is_same(word, other)
 }
 
-fn is_same(word: &[u8], other: &[u8]) -> bool
+/// Whether two words are the same.
+pub fn is_same(word: &[u8], other: &[u8]) -> bool
     ensures { result ≡ bytes_eq word.now other.now }
 {
     word == other
 }
 
-fn ends_with(bytes: &[u8], byte: u8) -> bool
+/// Whether the last of some bytes is this one.
+pub fn ends_with(bytes: &[u8], byte: u8) -> bool
     ensures { result ≡ ends_with bytes.now byte }
 {
     match bytes.last() {
@@ -111,7 +113,8 @@ fn ends_with(bytes: &[u8], byte: u8) -> bool
     }
 }
 
-fn begins_with(bytes: &[u8], byte: u8) -> bool
+/// Whether the first of some bytes is this one.
+pub fn begins_with(bytes: &[u8], byte: u8) -> bool
     ensures { result ≡ begins_with bytes.now byte }
 {
     match bytes.first() {

@@ -15,9 +15,9 @@ use Rattle.ob_text_scripts.specs.declared.script.ScriptFault.{ScriptFault}
 -- the remark on a fault of a module's text; none where it is too long, which is a matter of no place, or memory wants
 abbrev pub IsTextRemark : List ℕ → TextFault → Option Remark → Type 0
 IsTextRemark text (Texts.Scan Scan.TooLong) remark = remark ≡ None
-IsTextRemark text (Texts.Scan e) remark = remark ≡ scan_remark e
+IsTextRemark text (Texts.Scan e) remark = remark ≡ scan_remark text e
 IsTextRemark text (Texts.Parse e) remark = IsParseRemark text e remark
-IsTextRemark text (Texts.Check e) remark = remark ≡ check_remark e
+IsTextRemark text (Texts.Check e) remark = remark ≡ check_remark text e
 IsTextRemark text Texts.NoMemory remark = remark ≡ None
 
 -- in the text of this name

@@ -43,25 +43,26 @@ pub fn calls_explanation(
     match fault {
         SeqTextFault::Compile(fault) => module_explanation(alloc, module_name, text, fault),
         SeqTextFault::Script(fault) => {
-            shown(alloc, script_name, script, script_remark(alloc, script, fault)?)
+            shown(
+                alloc,
+                script_name,
+                script,
+                script_remark(alloc, script, fault)?,
+            )
         }
         SeqTextFault::NoMemory => Ok(None),
     }
 }
 
 /// The remark on a fault of a module's text; `None` where the text is too long, and for want of memory.
-fn text_remark(
-    alloc: Global,
-    text: &[u8],
-    fault: TextFault,
-) -> Result<Option<Remark>, AllocError>
+fn text_remark(alloc: Global, text: &[u8], fault: TextFault) -> Result<Option<Remark>, AllocError>
     ensures { IfOk result (λ remark. IsTextRemark text.now fault (option_map remark_of remark)) }
 {
     match fault {
         TextFault::Scan(ScanFault::TooLong) => Ok(None),
-        TextFault::Scan(fault) => scan_remark(alloc, fault),
+        TextFault::Scan(fault) => scan_remark(alloc, text, fault),
         TextFault::Parse(fault) => parse_remark(alloc, text, fault),
-        TextFault::Check(fault) => check_remark(alloc, fault),
+        TextFault::Check(fault) => check_remark(alloc, text, fault),
         TextFault::NoMemory => Ok(None),
     }
 }

@@ -1,6 +1,6 @@
 //! What is wrong in a line of a script, in a sentence.
 
-ghost use Rattle.std.specs.Prelude.{◌≡◌, Some, IfOk, IfSome, option_map};
+ghost use Rattle.std.specs.Prelude.{◌≡◌, None, Some, IfOk, IfSome, option_map};
 ghost use Rattle.ob_explain.specs.Remarks.{remark_of};
 ghost use Rattle.ob_explained.specs.Marks.{IsMark, MarksForm, MarksWord};
 ghost use Rattle.ob_explained.specs.ScriptPlaces.{first_place, form_place, in_line, second_place};
@@ -23,16 +23,24 @@ pub fn script_remark(
     ensures marked { IfOk result (λ remark. IfSome remark (λ r. IsMark script.now fault r.place)) }
 {
     match fault {
-        ScriptFault::Form(line) => told(alloc, place_of_form(script, line),
+        ScriptFault::Form(line) => told(
+            alloc,
+            place_of_form(script, line),
             "a line is a call: a process of one to nine digits, the name of a procedure, and its values, with blanks between them",
         ),
-        ScriptFault::Procedure(line) => told(alloc, place_of_name(script, line),
+        ScriptFault::Procedure(line) => told(
+            alloc,
+            place_of_name(script, line),
             "a call names a procedure that the module exports, which has a * behind its name there",
         ),
-        ScriptFault::Arguments(line) => told(alloc, place_of_name(script, line),
+        ScriptFault::Arguments(line) => told(
+            alloc,
+            place_of_name(script, line),
             "a call has a value for each parameter but those with VAR: a number from -2147483648 to 2147483647, or TRUE or FALSE",
         ),
-        ScriptFault::Process(line) => told(alloc, place_of_process(script, line),
+        ScriptFault::Process(line) => told(
+            alloc,
+            place_of_process(script, line),
             "the processes of a script are 0 to 15",
         ),
         ScriptFault::NoMemory => Ok(None),
@@ -66,16 +74,13 @@ fn place_of_process(script: &[u8], line: usize) -> usize
     begin + first_place(text)
 }
 
-fn told(
-    alloc: Global,
-    place: usize,
-    sentence: &'static str,
-) -> Result<Option<Remark>, AllocError>
-    ensures remark { IfOk result (λ remark. option_map remark_of remark ≡ Some (record { place = place; sentence = sentence.now })) }
+fn told(alloc: Global, place: usize, sentence: &'static str) -> Result<Option<Remark>, AllocError>
+    ensures remark { IfOk result (λ remark. option_map remark_of remark ≡ Some (record { place = place; sentence = sentence.now; hint = None })) }
     ensures placed { IfOk result (λ remark. IfSome remark (λ r. r.place ≡ place)) }
 {
     Ok(Some(Remark {
         place,
         sentence: String::from_str(alloc, sentence)?,
+        hint: None,
     }))
 }
