@@ -1,8 +1,14 @@
 //! Pictures of runs.
 #![tactic(auto)]
 
-pub mod picture;
+mod bands;
+mod bars;
+pub mod drawing;
+mod labels;
+mod legend;
+mod marks;
+mod order;
 mod places;
 mod svg;
 
-pub use picture::draw;
+pub use drawing::{draw, picture};

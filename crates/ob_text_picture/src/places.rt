@@ -1,6 +1,9 @@
 //! Where things stand in a picture, in pixels.
 
-ghost use Rattle.std.specs.Prelude.{◌≡◌, ◌+◌, ◌*◌};
+ghost use Rattle.std.specs.Prelude.{◌≡◌, ◌+◌, ◌-◌, ◌*◌, ◌<◌, ◌≤◌, ◌^◌};
+ghost use Rattle.ob_text_picture.specs.Places.{band_height, bands, cell, column_width, columns_in, first, height, in_line, is_in, most, room, top_of, width, x_of, y_of};
+
+use ob_interface::MOST_PROCESSES;
 
 /// A place, from the left and from the top.
 #[derive(Clone, Copy)]
@@ -9,39 +12,162 @@ pub struct Point {
     pub y: u128,
 }
 
-/// Room for the names of the processes.
-const LEFT: u128 = 110;
-
-/// The width of an event.
-const COLUMN: u128 = 68;
-
-/// Room above the first process.
-const TOP: u128 = 70;
-
-/// From the line of one process to that of the next.
-const ROW: u128 = 72;
-
-/// The line of a process.
-pub fn row(process: usize) -> u128
-    ensures { result ≡ 70 + 72 * process }
-{
-    TOP + ROW * process as u128
+/// The sizes by which things are placed: the columns of a run stand in bands, one below the other.
+#[derive(Clone, Copy)]
+pub struct Frame {
+    pub processes: usize,
+    pub columns: usize,
 }
 
-/// The middle of an event, by its number in the history.
-pub fn column(event: usize) -> u128
-    ensures { result ≡ 110 + 68 * event }
+/// A product that fits.
+fn times(count: usize, size: usize) -> u128
+    requires { size ≤ 2 ^ 10 }
+    ensures value { result ≡ count * size }
+    ensures small { result < 2 ^ 75 }
 {
-    LEFT + COLUMN * event as u128
+    count as u128 * size as u128
 }
 
-/// Where an event of a process stands.
-pub fn place(event: usize, process: usize) -> Point
-    ensures x { result.x ≡ 110 + 68 * event }
-    ensures y { result.y ≡ 70 + 72 * process }
-{
-    Point {
-        x: column(event),
-        y: row(process),
+#[tactic(auto, unfolding(crate::specs::Places::column_width, crate::specs::Places::room, crate::specs::Places::bands, crate::specs::Places::most, crate::specs::Places::first, crate::specs::Places::columns_in, crate::specs::Places::is_in, crate::specs::Places::x_of, crate::specs::Places::band_height, crate::specs::Places::top_of, crate::specs::Places::y_of, crate::specs::Places::width, crate::specs::Places::in_line, crate::specs::Places::cell, crate::specs::Places::height))]
+impl Frame {
+    /// The fewer processes there are, the nearer to each other are the begin and the end of a call.
+    fn column_width(self) -> usize
+        ensures value { result ≡ column_width self }
+        ensures least { 24 ≤ result }
+        ensures largest { result ≤ 64 }
+    {
+        (120 / self.processes.max(1)).min(64).max(24)
+    }
+
+    /// For how many columns there is room in a band.
+    fn room(self) -> usize
+        ensures value { result ≡ room self }
+        ensures some { 1 ≤ result }
+        ensures few { result ≤ 60 }
+    {
+        1360 / self.column_width()
+    }
+
+    pub(crate) fn bands(self) -> usize
+        ensures value { result ≡ bands self }
+        ensures some { 1 ≤ result }
+    {
+        self.columns.saturating_sub(1) / self.room() + 1
+    }
+
+    /// How many columns a band has.
+    fn most(self) -> usize
+        ensures value { result ≡ most self }
+        ensures few { result ≤ 60 }
+    {
+        (self.columns.saturating_sub(1) / self.bands() + 1).min(self.room())
+    }
+
+    /// The first column of a band.
+    pub(crate) fn first(self, band: usize) -> u128
+        ensures value { result ≡ first self band }
+        ensures small { result < 2 ^ 75 }
+    {
+        times(band, self.most())
+    }
+
+    /// How many columns there are in a band.
+    pub(crate) fn columns_in(self, band: usize) -> usize
+        ensures value { result ≡ columns_in self band }
+        ensures few { result ≤ 60 }
+    {
+        let behind = (self.columns as u128).saturating_sub(self.first(band));
+        behind.min(self.most() as u128) as usize
+    }
+
+    /// Whether a column stands in a band.
+    pub(crate) fn is_in(self, band: usize, column: usize) -> bool
+        ensures { result ≡ is_in self band column }
+    {
+        let first = self.first(band);
+        first <= column as u128 && (column as u128) < first + self.columns_in(band) as u128
+    }
+
+    /// From the left: a column, in its band.
+    pub(crate) fn x(self, band: usize, column: u128) -> u128
+        ensures value { result ≡ x_of self band column }
+        ensures least { 130 ≤ result }
+        ensures largest { result < 2 ^ 76 }
+    {
+        let before = column
+            .saturating_sub(self.first(band))
+            .min(self.columns_in(band) as u128);
+        130 + times(before as usize, self.column_width())
+    }
+
+    fn band_height(self) -> usize
+        requires { self.processes ≤ MOST_PROCESSES }
+        ensures value { result ≡ band_height self }
+        ensures small { result ≤ 1000 }
+    {
+        48 + 56 * self.processes
+    }
+
+    /// From the top: where a band begins.
+    pub(crate) fn top(self, band: usize) -> u128
+        requires { self.processes ≤ MOST_PROCESSES }
+        ensures value { result ≡ top_of self band }
+        ensures least { 136 ≤ result }
+        ensures largest { result < 2 ^ 76 }
+    {
+        136 + times(band, self.band_height())
+    }
+
+    /// Where the lines of a band's columns end.
+    pub(crate) fn bottom(self, band: usize) -> u128
+        requires { self.processes ≤ MOST_PROCESSES }
+        ensures { result ≡ top_of self band + band_height self - 14 }
+    {
+        self.top(band) + self.band_height() as u128 - 14
+    }
+
+    /// From the top: a process, in a band.
+    pub(crate) fn y(self, band: usize, process: usize) -> u128
+        requires { self.processes ≤ MOST_PROCESSES }
+        ensures value { result ≡ y_of self band process }
+        ensures least { 184 ≤ result }
+        ensures largest { result < 2 ^ 77 }
+    {
+        self.top(band) + 48 + 56 * process as u128
+    }
+
+    pub(crate) fn width(self) -> u128
+        ensures value { result ≡ width self }
+        ensures least { 780 ≤ result }
+    {
+        (260 + times(self.columns.min(self.most()), self.column_width())).max(780)
+    }
+
+    /// How many calls of the order stand in a line.
+    fn in_line(self) -> u128
+        ensures value { result ≡ in_line self }
+        ensures some { 1 ≤ result }
+    {
+        (self.width() - 80) / 90
+    }
+
+    /// Where a call of the order stands.
+    pub(crate) fn cell(self, place: usize) -> Point
+        requires { self.processes ≤ MOST_PROCESSES }
+        ensures value { result ≡ cell self place }
+        ensures largest { result.y < 2 ^ 78 }
+    {
+        let in_line = self.in_line();
+        Point {
+            x: 70 + 90 * (place as u128 % in_line),
+            y: self.top(self.bands()) + 20 + 18 * (place as u128 / in_line),
+        }
+    }
+
+    pub(crate) fn height(self, calls: usize) -> u128
+        requires { self.processes ≤ MOST_PROCESSES }
+        ensures { result ≡ height self calls }
+    {
+        self.cell(calls.saturating_sub(1)).y + 16
     }
 }

@@ -1,0 +1,269 @@
+-- The shapes of a picture, by what is seen of a run.
+use Rattle.std.specs.Prelude.{ℕ, zero, suc, ◌+◌, ◌-◌, ◌/◌, ◌%◌, ◌==◌, ◌&&◌, ◌||◌, not, List, [], ◌∷◌, ◌++◌, Bool, true, false, cond, Option, Some, None, codes, decimal, length, nat_le, nat_lt, unwrap_or}
+use Rattle.std.specs.List.{flat_map}
+use Rattle.ob_interface.specs.Call.{ObjectCall, Reply, Answers, Trapped}
+use Rattle.ob_interface.specs.Export.{Signature}
+use Rattle.ob_text_picture.specs.Labels.{call_words, id_words, reply_words, short, short_call}
+use Rattle.ob_text_picture.specs.Places.{at, band_height, bands, cell, columns_in, first, height, is_in, most, top_of, width, x_of, y_of}
+use Rattle.ob_text_picture.specs.Svg.{Shape, Line, Box, Circle, Words, Group, EndGroup, svg_text}
+use Rattle.ob_text_picture.specs.declared.places.Frame.{Frame}
+use Rattle.ob_text_picture.specs.declared.places.Point.{Point}
+use Rattle.ob_text_picture_chart.specs.Charts.{Chart, Happening, Begun, Taken, Ended, Sight}
+use Rattle.ob_text_picture_chart.specs.Same.{is_same}
+use Rattle.ob_text_picture_chart.specs.declared.charts.CallRange.{CallRange}
+use Rattle.ob_text_picture_chart.specs.declared.charts.Placed.{Placed}
+use Rattle.wf_history.specs.declared.event.CallId.{CallId}
+
+-- the shapes of 0, of 1 and so on, so many
+abbrev pub each : (ℕ → List Shape) → ℕ → List Shape
+each f zero = []
+each f (suc n) = each f n ++ f n
+
+-- ---- the ground, the time and the processes
+
+-- which calls are shown, of how many
+abbrev pub calls_words : (total : ℕ) → CallRange → List ℕ
+calls_words total range =
+    cond (total == 0) (codes "none") (decimal range.from ++ codes " to " ++ decimal range.to ++ codes " of " ++ decimal total)
+
+-- how many processes there are, and which calls are shown
+unfoldable pub heading_words : Chart → List ℕ
+heading_words c = codes "processes: " ++ decimal c.processes ++ codes ", calls: " ++ calls_words c.total c.range
+
+-- a column has a number where that is the first one or can be divided by five
+abbrev pub has_tick : (number : ℕ) → Bool
+has_tick number = (number == 1) || (number % 5 == 0)
+
+-- the number of a column, counted in the band, and a line for it
+unfoldable pub tick : Frame → (band : ℕ) → ℕ → List Shape
+tick f band index =
+    let x = x_of f band (first f band + index) in let number = first f band + index + 1 in
+    cond (has_tick number)
+    (Line (codes "tick") (at x (top_of f band + 20)) (at x (top_of f band + band_height f - 14)) ∷ Words (codes "faint middle") (at x (top_of f band + 14)) (decimal number) ∷ []) []
+
+unfoldable pub ticks : Frame → (band : ℕ) → List Shape
+ticks f band = Words (codes "faint") (at 12 (top_of f band + 14)) (codes "time") ∷ each (tick f band) (columns_in f band)
+
+-- the line of a process, with its name at both ends
+abbrev pub name : ℕ → List ℕ
+name process = codes "process " ++ decimal process
+
+unfoldable pub row : Frame → (band : ℕ) → ℕ → List Shape
+row f band process =
+    let y = y_of f band process in let right = x_of f band f.columns in
+    Words (codes "bold") (at 12 (y + 4)) (name process) ∷ Line (codes "row") (at 100 y) (at right y) ∷ Words (codes "bold") (at (right + 20) (y + 4)) (name process) ∷ []
+
+-- ---- calls
+
+-- a call: its begin and its end, by their columns, where a call that doesn't end goes on to the end of the picture; its reply; and the
+-- column in which its process begins its next call, or the end of the picture
+pub record Bar : Type 0 where
+  pub id : CallId
+  pub call : ObjectCall
+  pub begin : ℕ
+  pub end : ℕ
+  pub reply : Option Reply
+  pub next : ℕ
+
+-- where a call ends: the column, and the reply
+abbrev pub end_here : CallId → Sight → Happening → Option (ℕ × Reply) → Option (ℕ × Reply)
+end_here id s (Begun call) behind = behind
+end_here id s (Taken number maker) behind = behind
+end_here id s (Ended reply) behind = cond (is_same s.id id) (Some (s.column, reply)) behind
+
+abbrev pub end_of : CallId → List Sight → Option (ℕ × Reply)
+end_of id [] = None
+end_of id (s ∷ behind) = end_here id s s.happening (end_of id behind)
+
+-- where a process begins a call
+abbrev pub begin_here : (process : ℕ) → Sight → Happening → Option ℕ → Option ℕ
+begin_here process s (Begun call) behind = cond (s.id.process == process) (Some s.column) behind
+begin_here process s (Taken number maker) behind = behind
+begin_here process s (Ended reply) behind = behind
+
+abbrev pub begin_of : (process : ℕ) → List Sight → Option ℕ
+begin_of process [] = None
+begin_of process (s ∷ behind) = begin_here process s s.happening (begin_of process behind)
+
+abbrev pub end_column : (columns : ℕ) → Option (ℕ × Reply) → ℕ
+end_column columns None = columns
+end_column columns (Some end) = end.0
+
+abbrev pub end_reply : Option (ℕ × Reply) → Option Reply
+end_reply None = None
+end_reply (Some end) = Some end.1
+
+-- the call that begins, by what is seen behind that
+abbrev pub bar_of : (columns : ℕ) → Sight → ObjectCall → List Sight → Bar
+bar_of columns s call behind =
+    record {
+      id = s.id;
+      call = call;
+      begin = s.column;
+      end = end_column columns (end_of s.id behind);
+      reply = end_reply (end_of s.id behind);
+      next = unwrap_or (begin_of s.id.process behind) columns;
+    }
+
+abbrev pub bar_class : Option Reply → List ℕ
+bar_class None = codes "open"
+bar_class (Some (Answers values)) = codes "done"
+bar_class (Some (Trapped k)) = codes "trap"
+
+abbrev pub reply_class : Reply → List ℕ
+reply_class (Answers values) = codes "reply"
+reply_class (Trapped k) = codes "trapped"
+
+-- what a browser shows of a call: it, and its reply
+abbrev pub reply_behind : Option Reply → List ℕ
+reply_behind None = codes ""
+reply_behind (Some reply) = codes ": " ++ reply_words reply
+
+abbrev pub title : List Signature → Bar → List ℕ
+title exports b = call_words exports b.id b.call ++ reply_behind b.reply
+
+-- a call is seen in a band: it begins in it or before, and ends in it or behind
+unfoldable pub is_seen : Frame → (band : ℕ) → Bar → Bool
+is_seen f band b = nat_lt b.begin (first f band + columns_in f band) && nat_le (first f band) b.end
+
+-- where its bar begins in a band, or goes on
+unfoldable pub left : Frame → (band : ℕ) → Bar → ℕ
+left f band b = cond (nat_le (first f band) b.begin) (x_of f band b.begin) 104
+
+-- for how many letters there is room up to the next call
+unfoldable pub letters : Frame → (band : ℕ) → Bar → ℕ
+letters f band b = (x_of f band b.next - left f band b) / 7 - 1
+
+-- the cross at the end of a bar
+unfoldable pub cross : (x y : ℕ) → List Shape
+cross x y = Line (codes "cross") (at (x - 8) (y - 8)) (at (x + 8) (y + 8)) ∷ Line (codes "cross") (at (x - 8) (y + 8)) (at (x + 8) (y - 8)) ∷ []
+
+-- the band has the last column
+abbrev pub is_last : Frame → (band : ℕ) → Bool
+is_last f band = nat_le f.columns (first f band + columns_in f band)
+
+-- the call, above its bar; the reply, below it
+abbrev pub label : List Signature → Frame → (band : ℕ) → Bar → Shape
+label exports f band b = Words (codes "label") (at (left f band b) (y_of f band b.id.process - 15)) (short_call (letters f band b) exports b.id b.call)
+
+abbrev pub answer : Frame → (band : ℕ) → Bar → Reply → Shape
+answer f band b reply = Words (reply_class reply) (at (left f band b) (y_of f band b.id.process + 22)) (short (letters f band b) (reply_words reply))
+
+-- below a bar stands the reply, in the band of the end; a bar without one has a cross at the end of the picture
+abbrev pub ending_of : Frame → (band : ℕ) → Bar → Option Reply → List Shape
+ending_of f band b None = cond (is_last f band) (cross (x_of f band b.end) (y_of f band b.id.process)) []
+ending_of f band b (Some reply) =
+    cond (is_in f band b.end) (answer f band b reply ∷ []) []
+
+unfoldable pub ending : Frame → (band : ℕ) → Bar → List Shape
+ending f band b = ending_of f band b b.reply
+
+-- the bar of a call in a band, with the call above it
+unfoldable pub bar : List Signature → Frame → (band : ℕ) → Bar → List Shape
+bar exports f band b =
+    let x = left f band b in let y = y_of f band b.id.process in
+    cond (is_seen f band b)
+    (Group (title exports b) ∷ Box (bar_class b.reply) (at x (y - 10)) (at (x_of f band b.end - x) 20)
+    ∷ label exports f band b ∷ ending f band b ++ EndGroup ∷ []) []
+
+abbrev pub bar_at : List Signature → Frame → (band : ℕ) → Sight → Happening → List Sight → List Shape
+bar_at exports f band s (Begun call) behind = bar exports f band (bar_of f.columns s call behind)
+bar_at exports f band s (Taken number maker) behind = []
+bar_at exports f band s (Ended reply) behind = []
+
+abbrev pub bars : List Signature → Frame → (band : ℕ) → List Sight → List Shape
+bars exports f band [] = []
+bars exports f band (s ∷ behind) = bar_at exports f band s s.happening behind ++ bars exports f band behind
+
+-- ---- where calls take effect
+
+-- another process makes it
+abbrev pub is_helped : CallId → (maker : Option ℕ) → Bool
+is_helped id None = false
+is_helped id (Some maker) = not (maker == id.process)
+
+-- a line from the process whose step it is to the call, where that is of another process
+abbrev pub help_of : Frame → (band : ℕ) → Sight → Happening → List Shape
+help_of f band s (Begun call) = []
+help_of f band s (Taken number None) = []
+help_of f band s (Taken number (Some maker)) =
+    let x = x_of f band s.column in
+    cond (is_in f band s.column && not (maker == s.id.process))
+    (Line (codes "help") (at x (y_of f band maker)) (at x (y_of f band s.id.process)) ∷ Circle (codes "step") (at x (y_of f band maker)) 3 ∷ []) []
+help_of f band s (Ended reply) = []
+
+unfoldable pub help : Frame → (band : ℕ) → Sight → List Shape
+help f band s = help_of f band s s.happening
+
+-- the number of the call in the order, in a circle, which is dark where another process makes it
+abbrev pub mark_of : Frame → (band : ℕ) → Sight → Happening → List Shape
+mark_of f band s (Begun call) = []
+mark_of f band s (Taken number maker) =
+    let x = x_of f band s.column in let y = y_of f band s.id.process in
+    cond (is_in f band s.column)
+    (Circle (cond (is_helped s.id maker) (codes "helped") (codes "own")) (at x y) 9
+    ∷ Words (cond (is_helped s.id maker) (codes "number light") (codes "number")) (at x (y + 3)) (decimal number) ∷ []) []
+mark_of f band s (Ended reply) = []
+
+unfoldable pub mark : Frame → (band : ℕ) → Sight → List Shape
+mark f band s = mark_of f band s s.happening
+
+-- ---- the picture
+
+-- a band: the time, the processes, and then what is seen, the bars above the lines and the marks above the bars
+unfoldable pub band_shapes : List Signature → Frame → List Sight → (band : ℕ) → List Shape
+band_shapes exports f sights band =
+    ticks f band ++ each (row f band) f.processes ++ flat_map (help f band) sights ++ bars exports f band sights ++ flat_map (mark f band) sights
+
+-- the order: of each call its number and its id
+unfoldable pub cell_words : Placed → List ℕ
+cell_words p = decimal p.number ++ codes ": " ++ id_words p.id
+
+abbrev pub cells : Frame → (place : ℕ) → List Placed → List Shape
+cells f place [] = []
+cells f place (p ∷ ps) = Words (codes "cell") (cell f place) (cell_words p) ∷ cells f (place + 1) ps
+
+unfoldable pub order_shapes : Frame → List Placed → List Shape
+order_shapes f order = Words (codes "bold") (at 12 (cell f 0).y) (codes "order") ∷ cells f 0 order
+
+-- what a bar is, and what the bars are
+unfoldable pub bar_key : (class : List ℕ) (y : ℕ) (words : List ℕ) → List Shape
+bar_key class y words = Box class (at 12 y) (at 34 20) ∷ Words (codes "key") (at 64 (y + 14)) words ∷ []
+
+unfoldable pub bar_keys : List Shape
+bar_keys =
+    bar_key (codes "done") 36 (codes "a call, from its begin to its end") ++ bar_key (codes "trap") 64 (codes "a call that trapped")
+    ++ bar_key (codes "open") 92 (codes "a call that does not end here") ++ cross 46 102
+
+-- what a mark is, and what the marks are
+unfoldable pub mark_key : (circle numeral : List ℕ) (y number : ℕ) (words : List ℕ) → List Shape
+mark_key circle numeral y number words =
+    Circle circle (at 340 y) 9 ∷ Words numeral (at 340 (y + 3)) (decimal number) ∷ Words (codes "key") (at 358 (y + 4)) words ∷ []
+
+unfoldable pub helped_keys : List Shape
+helped_keys =
+    Line (codes "help") (at 340 74) (at 340 106) ∷ Circle (codes "step") (at 340 106) 3
+    ∷ Words (codes "key") (at 358 94) (codes "the one at the other end of the line")
+    ∷ mark_key (codes "helped") (codes "number light") 74 2 (codes "took effect by a step of another process,")
+
+unfoldable pub mark_keys : List Shape
+mark_keys = mark_key (codes "own") (codes "number") 46 1 (codes "took effect, as number 1 of the order") ++ helped_keys
+
+-- the ground, which is as large as the picture, and what stands above the bands
+unfoldable pub head_shapes : Chart → (size : Point) → List Shape
+head_shapes c size = Box (codes "ground") (at 0 0) size ∷ Words (codes "head") (at 12 22) (heading_words c) ∷ bar_keys ++ mark_keys
+
+abbrev pub frame_of : Chart → Frame
+frame_of c = record { processes = c.processes; columns = c.columns }
+
+abbrev pub size_of : Chart → Point
+size_of c = at (width (frame_of c)) (height (frame_of c) (length c.order))
+
+-- all shapes of a picture, one above the other
+abbrev pub shapes : List Signature → Chart → List Shape
+shapes exports c =
+    head_shapes c (size_of c) ++ each (band_shapes exports (frame_of c) c.sights) (bands (frame_of c)) ++ order_shapes (frame_of c) c.order
+
+-- the text of a picture
+abbrev pub picture_text : List Signature → Chart → List ℕ
+picture_text exports c = svg_text (size_of c) (shapes exports c)

@@ -1,0 +1,303 @@
+//! The bars of calls.
+
+ghost use Rattle.std.specs.Prelude.{◌≡◌, ◌++◌, ◌≤◌, OnOk, ◌+◌, ◌<◌, ◌^◌, map, option_map, string_bytes};
+ghost use Rattle.ob_interface.specs.View.{call_of, reply_of, signature_of};
+ghost use Rattle.ob_text_picture.specs.Shapes as Shapes;
+ghost use Rattle.ob_text_picture.specs.Shapes.{bar_class, bar_of, begin_of, cross, end_of, ending, is_last, is_seen, left, letters, reply_behind, reply_class};
+ghost use Rattle.ob_text_picture.specs.Svg.{EndGroup, Group, shape_text, shapes_text};
+ghost use Rattle.ob_text_picture.specs.View.{bar_in};
+ghost use Rattle.ob_text_picture_chart.specs.View.{sight_of};
+
+use crate::labels::{push_call, push_reply, push_short_call, push_short_reply};
+use crate::places::{Frame, Point};
+use crate::svg::{close_words, open_words, push_box, push_line};
+use ob_interface::MOST_PROCESSES;
+use ob_interface::call::{Call, Reply};
+use ob_interface::export::Export;
+use ob_text_picture_chart::{Happening, Sight};
+use std::alloc::{AllocError, Global};
+use wf_history::CallId;
+
+/// The width of a letter.
+const LETTER: u128 = 7;
+
+/// A call from its begin on.
+#[derive(Clone, Copy)]
+pub(crate) struct Bar<'a> {
+    pub id: CallId,
+    pub call: &'a Call,
+    pub begin: usize,
+    /// The column of its end, or of the end of the picture.
+    pub end: usize,
+    pub reply: Option<&'a Reply>,
+    /// The column in which its process begins its next call, or that of the end of the picture.
+    pub next: usize,
+}
+
+/// The bar of a call that begins, by what is seen behind that.
+pub(crate) fn bar_of<'a>(
+    sight: &Sight,
+    call: &'a Call,
+    behind: &[Sight<'a>],
+    columns: usize,
+) -> Bar<'a>
+    ensures { bar_in result ≡ bar_of columns (sight_of sight.now) (call_of call.now) (map sight_of behind.now) }
+{
+    let end = end_of(behind, sight.id);
+    Bar {
+        id: sight.id,
+        call,
+        begin: sight.column,
+        end: end.map_or(columns, |end| end.0),
+        reply: end.map(|end| end.1),
+        next: begin_of(behind, sight.id.process).unwrap_or(columns),
+    }
+}
+
+/// The column in which a call ends, with its reply.
+fn end_of<'a>(sights: &[Sight<'a>], id: CallId) -> Option<(usize, &'a Reply)>
+    ensures { option_map (λ end. (end.0, reply_of end.1.now)) result ≡ end_of id (map sight_of sights.now) }
+{
+    for sight in sights {
+        if let Happening::Ended(reply) = sight.happening
+            && sight.id == id
+        {
+            return Some((sight.column, reply));
+        }
+    }
+    None
+}
+
+/// The column in which a process begins a call.
+fn begin_of(sights: &[Sight], process: usize) -> Option<usize>
+    ensures { result ≡ begin_of process (map sight_of sights.now) }
+{
+    for sight in sights {
+        if let Happening::Begun(_) = sight.happening
+            && sight.id.process == process
+        {
+            return Some(sight.column);
+        }
+    }
+    None
+}
+
+/// The bar of a call in a band, with the call above it.
+#[tactic(auto, unfolding(crate::specs::Shapes::bar))]
+pub(crate) fn push_bar(
+    alloc: Global,
+    text: &mut String,
+    exports: &[Export],
+    frame: Frame,
+    band: usize,
+    bar: &Bar,
+) -> Result<(), AllocError>
+    requires { frame.processes ≤ MOST_PROCESSES }
+    ensures { OnOk result (string_bytes text.new ≡ string_bytes text.old ++ shapes_text (Shapes.bar (map signature_of exports.now) frame band (bar_in bar.now))) }
+{
+    if !is_seen(frame, band, bar) {
+        return Ok(());
+    }
+    let x = left(frame, band, bar);
+    let y = frame.y(band, bar.id.process);
+    let corner = Point { x, y: y - 10 };
+    let size = Point {
+        x: frame.x(band, bar.end as u128).saturating_sub(x),
+        y: 20,
+    };
+    push_title(text, exports, bar)?;
+    push_box(text, bar_class(bar.reply), corner, size)?;
+    push_label(alloc, text, exports, frame, band, bar)?;
+    push_ending(alloc, text, frame, band, bar)?;
+    end_group(text)
+}
+
+/// Whether a call is seen in a band.
+#[tactic(auto, unfolding(crate::specs::Shapes::is_seen))]
+fn is_seen(frame: Frame, band: usize, bar: &Bar) -> bool
+    ensures { result ≡ is_seen frame band (bar_in bar.now) }
+{
+    let first = frame.first(band);
+    (bar.begin as u128) < first + frame.columns_in(band) as u128 && first <= bar.end as u128
+}
+
+/// Where a bar begins in a band, or goes on.
+#[tactic(auto, unfolding(crate::specs::Shapes::left))]
+fn left(frame: Frame, band: usize, bar: &Bar) -> u128
+    ensures { result ≡ left frame band (bar_in bar.now) }
+{
+    if frame.first(band) <= bar.begin as u128 {
+        frame.x(band, bar.begin as u128)
+    } else {
+        104
+    }
+}
+
+/// For how many letters there is room up to the next call.
+#[tactic(auto, unfolding(crate::specs::Shapes::letters))]
+fn letters(frame: Frame, band: usize, bar: &Bar) -> u128
+    ensures { result ≡ letters frame band (bar_in bar.now) }
+{
+    let room = frame
+        .x(band, bar.next as u128)
+        .saturating_sub(left(frame, band, bar));
+    (room / LETTER).saturating_sub(1)
+}
+
+/// What a browser shows of a call: it, and its reply.
+#[tactic(auto, unfolding(crate::specs::Svg::shape_text))]
+fn push_title(text: &mut String, exports: &[Export], bar: &Bar) -> Result<(), AllocError>
+    ensures { OnOk result (string_bytes text.new ≡ string_bytes text.old ++ shape_text (Group (Shapes.title (map signature_of exports.now) (bar_in bar.now)))) }
+{
+    text.push_str("<g><title>")?;
+    push_call(text, exports, bar.id, bar.call)?;
+    push_reply_behind(text, bar.reply)?;
+    text.push_str("</title>\n")
+}
+
+fn push_reply_behind(text: &mut String, reply: Option<&Reply>) -> Result<(), AllocError>
+    ensures { OnOk result (string_bytes text.new ≡ string_bytes text.old ++ reply_behind (option_map (λ r. reply_of r.now) reply.entry)) }
+{
+    match reply {
+        Some(reply) => {
+            text.push_str(": ")?;
+            push_reply(text, reply)
+        }
+        None => Ok(()),
+    }
+}
+
+#[tactic(auto, unfolding(crate::specs::Svg::shape_text))]
+fn end_group(text: &mut String) -> Result<(), AllocError>
+    ensures { OnOk result (string_bytes text.new ≡ string_bytes text.old ++ shape_text EndGroup) }
+{
+    text.push_str("</g>\n")
+}
+
+fn bar_class(reply: Option<&Reply>) -> &'static str
+    ensures { result.now ≡ bar_class (option_map (λ r. reply_of r.now) reply.entry) }
+{
+    match reply {
+        Some(Reply::Done(_)) => "done",
+        Some(Reply::Trap(_)) => "trap",
+        None => "open",
+    }
+}
+
+fn reply_class(reply: &Reply) -> &'static str
+    ensures { result.now ≡ reply_class (reply_of reply.now) }
+{
+    match reply {
+        Reply::Done(_) => "reply",
+        Reply::Trap(_) => "trapped",
+    }
+}
+
+/// The call, above its bar.
+#[tactic(auto, unfolding(crate::specs::Svg::shape_text))]
+fn push_label(
+    alloc: Global,
+    text: &mut String,
+    exports: &[Export],
+    frame: Frame,
+    band: usize,
+    bar: &Bar,
+) -> Result<(), AllocError>
+    requires { frame.processes ≤ MOST_PROCESSES }
+    ensures { OnOk result (string_bytes text.new ≡ string_bytes text.old ++ shape_text (Shapes.label (map signature_of exports.now) frame band (bar_in bar.now))) }
+{
+    let at = Point {
+        x: left(frame, band, bar),
+        y: frame.y(band, bar.id.process) - 15,
+    };
+    open_words(text, "label", at)?;
+    push_short_call(
+        alloc,
+        text,
+        exports,
+        bar.id,
+        bar.call,
+        letters(frame, band, bar),
+    )?;
+    close_words(text)
+}
+
+/// What stands at the end of a bar: the reply below it, in the band of the end, or a cross at the end of the picture.
+#[tactic(auto, unfolding(crate::specs::Shapes::ending))]
+fn push_ending(
+    alloc: Global,
+    text: &mut String,
+    frame: Frame,
+    band: usize,
+    bar: &Bar,
+) -> Result<(), AllocError>
+    requires { frame.processes ≤ MOST_PROCESSES }
+    ensures { OnOk result (string_bytes text.new ≡ string_bytes text.old ++ shapes_text (ending frame band (bar_in bar.now))) }
+{
+    match bar.reply {
+        Some(reply) if frame.is_in(band, bar.end) => {
+            push_answer(alloc, text, frame, band, bar, reply)
+        }
+        None if is_last(frame, band) => {
+            let x = frame.x(band, bar.end as u128);
+            push_cross(text, x, frame.y(band, bar.id.process))
+        }
+        _ => Ok(()),
+    }
+}
+
+/// Whether a band has the last column.
+fn is_last(frame: Frame, band: usize) -> bool
+    ensures { result ≡ is_last frame band }
+{
+    frame.columns as u128 <= frame.first(band) + frame.columns_in(band) as u128
+}
+
+/// The reply, below its bar.
+#[tactic(auto, unfolding(crate::specs::Svg::shape_text))]
+fn push_answer(
+    alloc: Global,
+    text: &mut String,
+    frame: Frame,
+    band: usize,
+    bar: &Bar,
+    reply: &Reply,
+) -> Result<(), AllocError>
+    requires { frame.processes ≤ MOST_PROCESSES }
+    ensures { OnOk result (string_bytes text.new ≡ string_bytes text.old ++ shape_text (Shapes.answer frame band (bar_in bar.now) (reply_of reply.now))) }
+{
+    let at = Point {
+        x: left(frame, band, bar),
+        y: frame.y(band, bar.id.process) + 22,
+    };
+    open_words(text, reply_class(reply), at)?;
+    push_short_reply(alloc, text, reply, letters(frame, band, bar))?;
+    close_words(text)
+}
+
+/// The cross at the end of a bar.
+#[tactic(auto, unfolding(crate::specs::Shapes::cross))]
+pub(crate) fn push_cross(text: &mut String, x: u128, y: u128) -> Result<(), AllocError>
+    requires left { 8 ≤ x }
+    requires right { x + 8 < 2 ^ 128 }
+    requires top { 8 ≤ y }
+    requires bottom { y + 8 < 2 ^ 128 }
+    ensures { OnOk result (string_bytes text.new ≡ string_bytes text.old ++ shapes_text (cross x y)) }
+{
+    let (left, right, top, bottom) = (x - 8, x + 8, y - 8, y + 8);
+    push_line(
+        text,
+        "cross",
+        Point { x: left, y: top },
+        Point {
+            x: right,
+            y: bottom,
+        },
+    )?;
+    push_line(
+        text,
+        "cross",
+        Point { x: left, y: bottom },
+        Point { x: right, y: top },
+    )
+}

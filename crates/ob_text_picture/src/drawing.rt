@@ -1,0 +1,128 @@
+//! A run as a picture that a browser shows.
+
+ghost use Rattle.std.specs.Prelude.{◌≡◌, ◌++◌, ◌≤◌, IfErr, IfOk, OnOk, codes, length, map, string_bytes};
+ghost use Rattle.ob_interface.specs.View.{signature_of};
+ghost use Rattle.ob_text_picture.specs.Shapes.{band_shapes, calls_words, each, head_shapes, heading_words, picture_text};
+ghost use Rattle.ob_text_picture.specs.Places.{at, bands};
+ghost use Rattle.ob_text_picture.specs.Svg.{Words, shape_text, shapes_text};
+ghost use Rattle.ob_text_picture_chart.specs.Charts.{begun, chart_of, range_of};
+ghost use Rattle.ob_text_picture_chart.specs.Faults.{IsRangeFault, MayBeShown};
+ghost use Rattle.ob_text_picture_chart.specs.View.{chart_in, moment_of, sight_of};
+
+use crate::bands::push_band;
+use crate::legend::{push_bar_keys, push_mark_keys};
+use crate::order::push_order;
+use crate::places::{Frame, Point};
+use crate::svg::{close_words, open_picture, open_words, push_box};
+use ob_interface::MOST_PROCESSES;
+use ob_interface::export::Export;
+use ob_text_picture_chart::{CallRange, Chart, Moment, PictureFault, Sight, chart_of};
+use ob_text_words::numbers::push_number;
+use std::alloc::{AllocError, Global};
+use wf_history::CallId;
+
+/// The picture of the calls of a range, or of all, in SVG.
+pub fn draw(
+    alloc: Global,
+    exports: &[Export],
+    processes: usize,
+    moments: &[Moment],
+    order: &[CallId],
+    calls: Option<CallRange>,
+) -> Result<String, PictureFault>
+    requires { processes ≤ MOST_PROCESSES }
+    ensures picture { IfOk result (λ text. string_bytes text ≡ picture_text (map signature_of exports.now)
+        (chart_of processes (map moment_of moments.now) order.now (range_of (length (begun (map moment_of moments.now))) calls))) }
+    ensures fault { IfErr result (IsRangeFault (length (begun (map moment_of moments.now))) calls) }
+    ensures shown { OnOk result (MayBeShown (length (begun (map moment_of moments.now))) calls) }
+{
+    let chart = chart_of(alloc, processes, moments, order, calls)?;
+    Ok(picture(alloc, exports, &chart)?)
+}
+
+/// The picture of a chart, in SVG.
+pub fn picture(alloc: Global, exports: &[Export], chart: &Chart) -> Result<String, AllocError>
+    requires { chart.now.processes ≤ MOST_PROCESSES }
+    ensures { IfOk result (λ text. string_bytes text ≡ picture_text (map signature_of exports.now) (chart_in chart.now)) }
+{
+    let frame = Frame {
+        processes: chart.processes,
+        columns: chart.columns,
+    };
+    let size = Point {
+        x: frame.width(),
+        y: frame.height(chart.order.as_slice().len()),
+    };
+    let mut text = String::new(alloc);
+    open_picture(&mut text, size)?;
+    push_head(&mut text, chart, size)?;
+    push_bands(alloc, &mut text, exports, frame, &chart.sights)?;
+    push_order(&mut text, frame, &chart.order)?;
+    text.push_str("</svg>\n")?;
+    Ok(text)
+}
+
+/// The ground, and what stands above the bands.
+#[tactic(auto, unfolding(crate::specs::Shapes::head_shapes))]
+fn push_head(text: &mut String, chart: &Chart, size: Point) -> Result<(), AllocError>
+    ensures { OnOk result (string_bytes text.new ≡ string_bytes text.old ++ shapes_text (head_shapes (chart_in chart.now) size)) }
+{
+    push_box(text, "ground", Point { x: 0, y: 0 }, size)?;
+    push_heading(text, chart)?;
+    push_bar_keys(text)?;
+    push_mark_keys(text)
+}
+
+/// How many processes there are, and which calls are shown.
+#[tactic(auto, unfolding(crate::specs::Svg::shape_text))]
+fn push_heading(text: &mut String, chart: &Chart) -> Result<(), AllocError>
+    ensures { OnOk result (string_bytes text.new ≡ string_bytes text.old ++ shape_text (Words (codes "head") (at 12 22) (heading_words (chart_in chart.now)))) }
+{
+    open_words(text, "head", Point { x: 12, y: 22 })?;
+    push_heading_words(text, chart)?;
+    close_words(text)
+}
+
+#[tactic(auto, unfolding(crate::specs::Shapes::heading_words))]
+fn push_heading_words(text: &mut String, chart: &Chart) -> Result<(), AllocError>
+    ensures { OnOk result (string_bytes text.new ≡ string_bytes text.old ++ heading_words (chart_in chart.now)) }
+{
+    text.push_str("processes: ")?;
+    push_number(text, chart.processes)?;
+    text.push_str(", calls: ")?;
+    push_calls(text, chart.total, chart.range)?;
+    Ok(())
+}
+
+/// Which calls are shown, of how many.
+fn push_calls(text: &mut String, total: usize, range: CallRange) -> Result<(), AllocError>
+    ensures { OnOk result (string_bytes text.new ≡ string_bytes text.old ++ calls_words total range) }
+{
+    if total == 0 {
+        return text.push_str("none");
+    }
+    push_number(text, range.from)?;
+    text.push_str(" to ")?;
+    push_number(text, range.to)?;
+    text.push_str(" of ")?;
+    push_number(text, total)
+}
+
+/// The bands, one below the other.
+#[tactic(auto, using(crate::proofs::Each::each_more))]
+fn push_bands(
+    alloc: Global,
+    text: &mut String,
+    exports: &[Export],
+    frame: Frame,
+    sights: &[Sight],
+) -> Result<(), AllocError>
+    requires { frame.processes ≤ MOST_PROCESSES }
+    ensures { OnOk result (string_bytes text.new
+        ≡ string_bytes text.old ++ shapes_text (each (band_shapes (map signature_of exports.now) frame (map sight_of sights.now)) (bands frame))) }
+{
+    for band in 0..frame.bands() {
+        push_band(alloc, text, exports, frame, sights, band)?;
+    }
+    Ok(())
+}

@@ -1,0 +1,80 @@
+//! What the shapes of a picture stand for.
+
+ghost use Rattle.std.specs.Prelude.{◌≡◌, ◌+◌, ◌++◌, ◌<◌, OnOk, string_bytes};
+ghost use Rattle.ob_text_picture.specs.Places as Places;
+ghost use Rattle.ob_text_picture.specs.Shapes.{bar_key, bar_keys, helped_keys, mark_key, mark_keys};
+ghost use Rattle.ob_text_picture.specs.Svg.{shapes_text};
+
+use crate::bars::push_cross;
+use crate::places::Point;
+use crate::svg::{push_box, push_circle, push_line, push_numeral, push_words};
+use std::alloc::AllocError;
+
+fn at(x: u128, y: u128) -> Point
+    ensures { result ≡ Places.at x y }
+{
+    Point { x, y }
+}
+
+/// What the bars are.
+#[tactic(auto, unfolding(crate::specs::Shapes::bar_keys))]
+pub(crate) fn push_bar_keys(text: &mut String) -> Result<(), AllocError>
+    ensures { OnOk result (string_bytes text.new ≡ string_bytes text.old ++ shapes_text bar_keys) }
+{
+    push_bar_key(text, "done", 36, "a call, from its begin to its end")?;
+    push_bar_key(text, "trap", 64, "a call that trapped")?;
+    push_bar_key(text, "open", 92, "a call that does not end here")?;
+    push_cross(text, 46, 102)
+}
+
+#[tactic(auto, unfolding(crate::specs::Shapes::bar_key))]
+fn push_bar_key(text: &mut String, class: &str, y: u128, words: &str) -> Result<(), AllocError>
+    requires { y < 200 }
+    ensures { OnOk result (string_bytes text.new ≡ string_bytes text.old ++ shapes_text (bar_key class.now y words.now)) }
+{
+    push_box(text, class, at(12, y), at(34, 20))?;
+    push_words(text, "key", at(64, y + 14), words)
+}
+
+/// What the marks are.
+#[tactic(auto, unfolding(crate::specs::Shapes::mark_keys))]
+pub(crate) fn push_mark_keys(text: &mut String) -> Result<(), AllocError>
+    ensures { OnOk result (string_bytes text.new ≡ string_bytes text.old ++ shapes_text mark_keys) }
+{
+    let own = "took effect, as number 1 of the order";
+    push_mark_key(text, "own", "number", 46, 1, own)?;
+    push_helped_keys(text)
+}
+
+#[tactic(auto, unfolding(crate::specs::Shapes::helped_keys))]
+fn push_helped_keys(text: &mut String) -> Result<(), AllocError>
+    ensures { OnOk result (string_bytes text.new ≡ string_bytes text.old ++ shapes_text helped_keys) }
+{
+    let helped = "took effect by a step of another process,";
+    let behind = "the one at the other end of the line";
+    let from = Point { x: 340, y: 74 };
+    let to = Point { x: 340, y: 106 };
+    push_line(text, "help", from, to)?;
+    push_circle(text, "step", to, 3)?;
+    push_words(text, "key", Point { x: 358, y: 94 }, behind)?;
+    push_mark_key(text, "helped", "number light", 74, 2, helped)?;
+    Ok(())
+}
+
+/// A mark, by the classes of its circle and of its numeral.
+#[tactic(auto, unfolding(crate::specs::Shapes::mark_key))]
+fn push_mark_key(
+    text: &mut String,
+    circle: &str,
+    numeral: &str,
+    y: u128,
+    number: u128,
+    words: &str,
+) -> Result<(), AllocError>
+    requires { y < 200 }
+    ensures { OnOk result (string_bytes text.new ≡ string_bytes text.old ++ shapes_text (mark_key circle.now numeral.now y number words.now)) }
+{
+    push_circle(text, circle, at(340, y), 9)?;
+    push_numeral(text, numeral, at(340, y + 3), number)?;
+    push_words(text, "key", at(358, y + 4), words)
+}
