@@ -1,5 +1,5 @@
 -- What the program answers to a request, by what reads of files give.
-use Rattle.std.specs.Prelude.{◌≡◌, ℕ, Bool, List, [], ◌∷◌, ◌++◌, Some, None, Result, codes, count_by, if◌then◌else◌, nat_lt}
+use Rattle.std.specs.Prelude.{◌≡◌, ℕ, Bool, List, [], ◌∷◌, ◌++◌, Some, None, Result, codes, count_by, MatchBool, nat_lt}
 use Rattle.std.specs.Str.{bytes_eq}
 use Rattle.ob_answer.specs.declared.answered.Answer.{Answer}
 use Rattle.ob_answer.specs.declared.files.FileFault.{FileFault}
@@ -160,4 +160,4 @@ module _ {F : Type 0} (Reads : F → Text → Result (List ℕ) FileFault → F 
   -- the answer to a request: where it names standard input for two files, its words are a mistake, and nothing is read
   abbrev pub IsAnswer : Request → F → Answer → F → Type 0
   IsAnswer request before answer after =
-      if reads_input_twice (files_of request) then IsRefused answer 2 input_twice_text × (after ≡ before) else IsObeyed request before answer after
+      MatchBool (reads_input_twice (files_of request)) (IsRefused answer 2 input_twice_text × (after ≡ before)) (IsObeyed request before answer after)

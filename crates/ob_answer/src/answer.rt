@@ -1,7 +1,8 @@
 //! From the words of the command line to what the program prints and its exit status.
 
-ghost use Rattle.std.specs.Prelude.{◌≡◌, ◌∷◌, [], ℕ, None, Some, false, IfOk, map, codes};
-ghost use Rattle.ob_answer.specs.Answers.{IsAnswer, IsObeyed, IsRunMade, files_of, files_of_run, reads_input_twice};
+ghost use Rattle.std.specs.Prelude.{◌≡◌, ◌∷◌, [], ℕ, None, Some, false, IfOk, map, codes, count_by, nat_lt};
+ghost use Rattle.std.specs.Str.{bytes_eq};
+ghost use Rattle.ob_answer.specs.Answers.{IsAnswer, IsObeyed, IsRunMade, files_of, files_of_run, input_name, reads_input_twice};
 ghost use Rattle.ob_answer.specs.Printed.{IsUnreadable};
 ghost use Rattle.ob_answer.specs.Reads.{IsOutcome};
 ghost use Rattle.ob_command.specs.CommandLine.{Bound, Check, Draw, Explain, Listing, Run, Seq, Serve, Text, Verify, budget_number, is_option, number, request};
@@ -124,18 +125,21 @@ fn reads_input_twice(command: Command<'_>) -> bool
     ensures { result ≡ reads_input_twice (files_of (request_of command.entry)) }
 {
     match command {
-        Command::Check { .. } | Command::List { .. } | Command::Bound { .. } => false,
+        Command::Check { .. } => false,
+        Command::List { .. } => false,
+        Command::Bound { .. } => false,
         Command::Seq {
             module_name,
             script_name,
             ..
-        }
-        | Command::Serve {
+        } => are_two_inputs(&[module_name, script_name]),
+        Command::Serve {
             module_name,
             script_name,
             ..
         } => are_two_inputs(&[module_name, script_name]),
-        Command::Run(run) | Command::Draw(run) => are_two_inputs(&[run.module_name, run.script_name, run.schedule_name]),
+        Command::Run(run) => are_inputs_of_run(run),
+        Command::Draw(run) => are_inputs_of_run(run),
         Command::Verify {
             module_name,
             record_name,
@@ -151,9 +155,16 @@ fn reads_input_twice(command: Command<'_>) -> bool
     }
 }
 
+/// Whether a run names standard input for two files.
+fn are_inputs_of_run(run: RunCommand<'_>) -> bool
+    ensures { result ≡ reads_input_twice (files_of_run (run_request_of run.entry)) }
+{
+    are_two_inputs(&[run.module_name, run.script_name, run.schedule_name])
+}
+
 /// Whether more than one of these names is that of standard input.
 fn are_two_inputs(names: &[&str]) -> bool
-    ensures { result ≡ reads_input_twice (map (λ name. name.now) names.now) }
+    ensures { result ≡ nat_lt 1 (count_by (λ name. bytes_eq name.now input_name) names.now) }
 {
     names.iter().filter(|name| **name == INPUT_NAME).count() > 1
 }

@@ -1,6 +1,6 @@
 //! The numbers of an object.
 
-ghost use Rattle.std.specs.Prelude.{◌≡◌, ◌*◌, ◌<◌, ◌≤◌, suc};
+ghost use Rattle.std.specs.Prelude.{◌≡◌, ◌*◌, ◌^◌, ◌<◌, ◌≤◌, suc};
 ghost use Rattle.ob_meaning.specs.Object.{most_turns};
 ghost use Rattle.ob_object_bound.specs.Numbers.{numbers_of, sizes_in};
 ghost use Rattle.ob_object_compile.specs.Compilation.{most_instructions};

@@ -6,3 +6,7 @@ use Rattle.ob_object_bound.proofs.numbers.steps_outside.Goals as goal
 pub returns-clause-bound : goal.returns-clause-bound
 unfolding bound
 returns-clause-bound c = refl
+
+pub returns-clause-few : goal.returns-clause-few
+unfolding bound
+returns-clause-few c = bound_few c.args.sizes c.requires
