@@ -1,1 +1,2 @@
 mod InLockStep
+mod OneText
