@@ -32,8 +32,10 @@ enum Label {
 }
 
 #[derive(Clone, Copy)]
+#[allow(dead_code)]
 enum Scalar {
     Int(i32),
+    Bool(bool),
 }
 
 /// Up to eight values in place.
@@ -163,6 +165,13 @@ fn values(word: i64) -> Values {
     let mut items = [Scalar::Int(0); 8];
     items[0] = Scalar::Int(word as i32);
     Values { len: 1, items }
+}
+
+fn word_of(scalar: Scalar) -> i64 {
+    match scalar {
+        Scalar::Int(value) => i64::from(value),
+        Scalar::Bool(value) => i64::from(value),
+    }
 }
 
 fn turned(toggle: i64) -> i64 {
@@ -311,8 +320,7 @@ impl Machine {
         match q.label {
             Label::Next => {
                 if q.begun < q.calls.len() {
-                    let Scalar::Int(first) = q.calls[q.begun].args.items[0];
-                    q.list[0] = i64::from(first);
+                    q.list[0] = word_of(q.calls[q.begun].args.items[0]);
                     q.begun += 1;
                     q.i = 0;
                     q.label = Label::Post;

@@ -72,8 +72,7 @@ pub fn recorded(
     machine.keeps();
     let _ = machine.order();
     let budget = machine.engine().budget();
-    let words = machine.state_words()?;
-    let Some(state) = layout.decode(alloc, words.as_slice())? else {
+    let Some(state) = layout.decode(alloc, machine.variables())? else {
         unreachable!()
     };
     let (_, history, order, schedule) = machine.into_parts();

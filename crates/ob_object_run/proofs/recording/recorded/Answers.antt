@@ -18,8 +18,8 @@ unreachable-requires c =
     let a = c.args.machine in
     let q = a.engine.parts in
     let fit = begun_fits (code_meaning q) (IsLawfulFor q) (IsFitting q.exports) (HasReserve q) a.sizes a.opening a.state c.keeps.ensures.sound in
-    let words = c.as_slice.ensures.value ∙ c.in_ok-words.ensures in
-    never_none q a.opening c.as_slice.result.now a.state.records.history fit c.order.result.now (parts_of c.args.layout.now).variables c.requires
+    let words = c.variables.ensures in
+    never_none q a.opening c.variables.result.now a.state.records.history fit c.order.result.now (parts_of c.args.layout.now).variables c.requires
     (subst (λ (ws : List ℤ). ∥ IsLegal (IsEffectOf q) a.opening a.state.records.history c.order.result.now ws ∥₁) (sym words) c.order.ensures.legal)
     (sym c.in_ok-state.ensures ∙ ap (option_map state_of) c.in_default.is)
 
@@ -39,12 +39,12 @@ returns-clause-legal c =
     let a = c.args.machine in
     let q = a.engine.parts in
     let fit = begun_fits (code_meaning q) (IsLawfulFor q) (IsFitting q.exports) (HasReserve q) a.sizes a.opening a.state c.keeps.ensures.sound in
-    let words = c.as_slice.ensures.value ∙ c.in_ok-words.ensures in
+    let words = c.variables.ensures in
     let by_order = subst (λ (order : List CallId). ∥ IsLegal (IsEffectOf q) a.opening a.state.records.history order (take a.sizes.variables (block_of a.state.cell a.state.cell.root)) ∥₁) c.order.ensures.calls c.order.ensures.legal in
     let by_words = subst (λ (ws : List ℤ). ∥ IsLegal (IsEffectOf q) a.opening a.state.records.history a.state.records.order ws ∥₁) (sym words) by_order in
     let read = sym c.in_ok-state.ensures ∙ ap (option_map state_of) c.in-Some.is in
     rw (c.into_parts-history.ensures.history, c.into_parts-history.ensures.order)
-    (legal_for (parts_of c.args.layout.now).variables q a.opening c.as_slice.result.now
+    (legal_for (parts_of c.args.layout.now).variables q a.opening c.variables.result.now
     (record { processes = c.args.processes; budget = q.budget; history = a.state.records.history; order = a.state.records.order; schedule = a.state.records.schedule; state = state_of c.in-Some.state })
     fit read by_words)
 
