@@ -8,15 +8,14 @@ ghost use Rattle.ob_grammar.specs.Texts.{IsTextOf};
 ghost use Rattle.ob_grammar.specs.Tree as Tree;
 ghost use Rattle.ob_interpreter.specs.Sequences.{IsOpening};
 ghost use Rattle.ob_meaning.specs.Object.{most_turns};
-ghost use Rattle.ob_object_compile.specs.Compilation.{IsCompilation, IsCompileFault, IsNumbered, IsShort, IsTreeCompilation, IsTreeFault, HasNoObject, HasNoTreeObject, TellsMemoryApart, default_budget, too_long};
+ghost use Rattle.ob_object_compile.specs.Compilation.{IsCompilation, IsCompileFault, IsNumbered, IsShort, HasNoObject, TellsMemoryApart, default_budget, too_long};
 ghost use Rattle.ob_object_compile.specs.CompilationParts.{IsEngineFault, IsOpeningFault};
-ghost use Rattle.ob_object_compile.specs.View.{object_in, tree_object_in};
+ghost use Rattle.ob_object_compile.specs.View.{object_in};
 ghost use Rattle.ob_store.specs.View.{state_of};
 ghost use Rattle.ob_typing.specs.ModuleText.{IsModule};
 ghost use Rattle.ob_typing.specs.Program.{Program};
 
 use crate::object::Object;
-use crate::tree_object::TreeObject;
 use ob_check_text::checked_text::{TextFault, checked_text};
 use ob_checked::checked::Checked;
 use ob_code_engine::CodeEngine;
@@ -154,38 +153,6 @@ pub fn compile(alloc: Global, text: &[u8], n: usize, budget: u64) -> Result<Obje
     Ok(Object::of(n, checked, layout, engine, opening))
 }
 
-/// The object of a module's text over the module's tree, as `compile` gives it over code. No code is made, so it may have any
-/// length, and there is no G1.
-pub fn compile_tree(
-    alloc: Global,
-    text: &[u8],
-    n: usize,
-    budget: u64,
-) -> Result<TreeObject, CompileFault>
-    ensures object { IfOk result (λ o. IsTreeCompilation text.now n budget (tree_object_in o)) }
-    ensures alone { IfOk result (λ o. (other : Program) → IsModule text.now other → other ≡ (tree_object_in o).program) }
-    ensures one_tree { IfOk result (λ o. (other : Tree.Module) → IsTextOf text.now other → other ≡ (tree_object_in o).tree) }
-    ensures processes { (result ≡ Err CompileFault.Processes) ↔ ((n ≡ 0) ⊎ (MOST_PROCESSES < n)) }
-    ensures budget { 0 < n → n ≤ MOST_PROCESSES → ((result ≡ Err CompileFault.Budget) ↔ (most_turns < budget)) }
-    ensures fault { IfErr result (IsTreeFault text.now n budget) }
-
-    // With a fault that has a number there is no such object of this text.
-    ensures none { IfErr result (λ e. IsNumbered e → HasNoTreeObject text.now n budget) }
-    ensures memory { IfErr result TellsMemoryApart }
-    ensures too_long { 0 < n → n ≤ MOST_PROCESSES → budget ≤ most_turns → LONGEST_TEXT < length text.now → result ≡ Err too_long }
-{
-    if n == 0 || n > MOST_PROCESSES {
-        return Err(CompileFault::Processes);
-    }
-    if budget > MOST_BUDGET {
-        return Err(CompileFault::Budget);
-    }
-    let checked = checked_text(alloc, text)?;
-    let layout = Layout::of(alloc, &checked)?;
-    let opening = opening_of(alloc, &checked)?;
-    Ok(TreeObject::made_of(n, checked, layout, budget, opening))
-}
-
 /// The layout of a checked module, and the engine over its code.
 fn engine_of(
     alloc: Global,
@@ -205,7 +172,7 @@ fn engine_of(
 }
 
 /// The opening state of a checked module.
-fn opening_of(alloc: Global, checked: &Checked) -> Result<State, CompileFault>
+pub(crate) fn opening_of(alloc: Global, checked: &Checked) -> Result<State, CompileFault>
     ensures state { IfOk result (λ s. IsOpening (program_in checked.now) (state_of s)) }
     ensures fault { IfErr result (IsOpeningFault (program_in checked.now)) }
 {

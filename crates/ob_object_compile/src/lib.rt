@@ -5,9 +5,11 @@ pub mod compiling;
 pub mod laws;
 pub mod listing;
 pub mod object;
+pub mod tree_compiling;
 pub mod tree_object;
 
-pub use compiling::{CompileFault, DEFAULT_BUDGET, MOST_BUDGET, compile, compile_tree};
+pub use compiling::{CompileFault, DEFAULT_BUDGET, MOST_BUDGET, compile};
 pub use listing::list_text;
 pub use object::Object;
+pub use tree_compiling::compile_tree;
 pub use tree_object::TreeObject;

@@ -5,7 +5,7 @@ use Rattle.ob_object_compile.proofs.Compilations.{compilation}
 use Rattle.ob_object_compile.proofs.CompileFaults.{opening_memory, opening_none, text_memory, text_none, tree_opening_fault}
 use Rattle.ob_object_compile.specs.Compilation.{IsAny}
 use Rattle.ob_object_compile.specs.View.{tree_object_in}
-use Rattle.ob_object_compile.proofs.compiling.compile_tree.Goals as goal
+use Rattle.ob_object_compile.proofs.tree_compiling.compile_tree.Goals as goal
 
 pub returns-in_err-checked-clause-none : goal.returns-in_err-checked-clause-none
 returns-in_err-checked-clause-none c =
