@@ -3,8 +3,10 @@ use Rattle.std.proofs.Common.{◌≡◌, ◌⊎◌, ◌<◌, ℕ, List, ap, subs
 use Rattle.ob_code_law.specs.CodeMeaning.{EngineParts}
 use Rattle.ob_interface.specs.Processes.{most_processes}
 use Rattle.ob_object_compile.specs.Compilation.{ObjectParts}
-use Rattle.ob_object_perform.specs.Performance.{AreRead, IsMeantIn, IsPerformance, IsPerformFault, IsRunFault, Shows, of_play}
+use Rattle.ob_object_perform.specs.Performance.{AreMakersIn, AreRead, IsMeantIn, IsPerformance, IsPerformFault, IsRunFault, Shows, of_play}
+use Rattle.ob_object_perform.specs.Pictured.{IsWithMakers}
 use Rattle.ob_object_record.specs.Record.{Record}
+use Rattle.ob_typing.specs.Program.{Program}
 use Rattle.ob_object_run.specs.Recorded.{IsMeantOrder}
 use Rattle.ob_schedule.specs.declared.item.Item.{Item}
 use Rattle.ob_text_words.specs.ScriptCalls.{ScriptCall}
@@ -26,6 +28,11 @@ module _ (text : List ℕ) (n budget : ℕ) (scripts schedule : List ℕ) (o : O
         shows = shown;
         legal = subst (λ (k : ℕ). ∥ IsMeantOrder o.program k opens.state r ∥₁) (ap (λ (e : EngineParts). e.budget) read.compiled.engine_is) (meant opens.state opens.same);
       }
+
+  pub with_makers : (program : Program) (r : Record) (makers : List ℕ) → Shows o calls items r → IsMeantIn o r → program ≡ o.program → AreMakersIn o calls r makers →
+      IsWithMakers text n budget scripts schedule program r makers
+  unfolding performs
+  with_makers program r makers shown meant same made = record { performs = performs r shown meant; program_is = same; made = made }
 
   pub run_fault : (e : PlayFault) → IsRunFault o calls items e → IsPerformFault text n budget scripts schedule (of_play e)
   run_fault Play.Processes h = subst (λ (k : ℕ). (k ≡ 0) ⊎ (most_processes < k)) read.compiled.processes h
