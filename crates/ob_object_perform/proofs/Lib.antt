@@ -6,3 +6,4 @@ pub mod Runs
 pub mod Readings
 mod Alone
 mod Mapped
+pub mod Pictures

@@ -5,10 +5,12 @@
 //! that a checker of orders accepts each record.
 #![tactic(auto)]
 
+pub mod drawing;
 pub mod laws;
 pub mod performing;
 pub mod printing;
 pub mod running;
 
+pub use drawing::{DrawFault, draw_text};
 pub use performing::{PerformFault, perform, performed};
-pub use printing::{draw_text, run_text};
+pub use printing::run_text;

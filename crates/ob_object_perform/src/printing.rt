@@ -1,18 +1,16 @@
-//! Runs as texts: their records, and pictures of them.
+//! Runs as texts: their records.
 
-ghost use Rattle.std.specs.Prelude.{◌≡◌, ◌<◌, ◌≤◌, ◌⊎◌, Err, IfErr, IfOk, OnOk, length, string_bytes};
+ghost use Rattle.std.specs.Prelude.{◌≡◌, ◌<◌, ◌≤◌, ◌⊎◌, Err, IfErr, IfOk, length, string_bytes};
 ghost use Rattle.ob_meaning.specs.Object.{most_turns};
 ghost use Rattle.ob_object_perform.specs.Performance.{HasNoPerformance, IsNumbered, IsPerformFault, TellsMemoryApart};
-ghost use Rattle.ob_object_perform.specs.Printed.{HasPerformance, IsRecordPrinted};
+ghost use Rattle.ob_object_perform.specs.Printed.{IsRecordPrinted};
 
-use crate::performing::{PerformFault, performed, read_texts};
-use crate::running::run_with_makers;
+use crate::performing::{PerformFault, performed};
 use ob_check_text::TextFault;
 use ob_interface::MOST_PROCESSES;
 use ob_object_compile::CompileFault;
 use ob_scan::ScanFault;
 use ob_scan::scanner::LONGEST_TEXT;
-use ob_text_picture::draw;
 use ob_text_record::write_record;
 use std::alloc::Global;
 
@@ -43,34 +41,4 @@ pub fn run_text(
 {
     let (checked, record) = performed(alloc, text, n, budget, scripts, schedule)?;
     Ok(write_record(alloc, &checked, &record)?)
-}
-
-/// The picture of a run, which `ob_text_picture` draws of its record: an SVG.
-pub fn draw_text(
-    alloc: Global,
-    text: &[u8],
-    n: usize,
-    budget: u64,
-    scripts: &[u8],
-    schedule: &[u8],
-) -> Result<String, PerformFault>
-    ensures run { OnOk result (HasPerformance text.now n budget scripts.now schedule.now) }
-    ensures fault { IfErr result (IsPerformFault text.now n budget scripts.now schedule.now) }
-
-    // With a fault that has a number the texts have no run.
-    ensures none { IfErr result (λ e. IsNumbered e → HasNoPerformance text.now n budget scripts.now schedule.now) }
-
-    // Want of memory is told by its own variant alone.
-    ensures memory { IfErr result TellsMemoryApart }
-
-    // The number of processes is looked at first, and behind it the budget.
-    ensures processes { (n ≡ 0) ⊎ (MOST_PROCESSES < n) → result ≡ Err (PerformFault.Compile CompileFault.Processes) }
-    ensures budget { 0 < n → n ≤ MOST_PROCESSES → most_turns < budget → result ≡ Err (PerformFault.Compile CompileFault.Budget) }
-
-    // A text over the scanner's bound is refused, whatever it says.
-    ensures too_long { 0 < n → n ≤ MOST_PROCESSES → budget ≤ most_turns → LONGEST_TEXT < length text.now → result ≡ Err (PerformFault.Compile (CompileFault.Text (TextFault.Scan ScanFault.TooLong))) }
-{
-    let (object, calls, items) = read_texts(alloc, text, n, budget, scripts, schedule)?;
-    let (checked, record, makers) = run_with_makers(alloc, object, calls, items)?;
-    Ok(draw(alloc, &checked, &record, makers.as_slice())?)
 }

@@ -73,6 +73,7 @@ pub(crate) fn run_with_makers(
     requires ready { IsReady (object_in object) calls items.items }
     requires some { 0 < (object_in object).processes }
     requires few { (object_in object).processes ≤ MOST_PROCESSES }
+    ensures program { IfOk result (λ r. program_in r.0 ≡ (object_in object).program) }
     ensures shows { IfOk result (λ r. Shows (object_in object) calls items.items (record_of r.1)) }
     ensures meant { IfOk result (λ r. IsMeantIn (object_in object) (record_of r.1)) }
     ensures makers { IfOk result (λ r. AreMakersIn (object_in object) calls (record_of r.1) r.2.items) }
