@@ -1,0 +1,129 @@
+//! Records as pictures.
+
+ghost use Rattle.std.specs.Prelude.{◌≡◌, ◌<◌, ◌≤◌, Err, IfErr, IfOk, length, string_bytes};
+ghost use Rattle.ob_checked.specs.CheckedModule.{program_in};
+ghost use Rattle.ob_checked.specs.Exports.{signatures};
+ghost use Rattle.ob_interface.specs.Processes.{most_processes};
+ghost use Rattle.ob_object_draw.specs.RecordPictures.{IsDrawRecordFault, IsRecordPicture, TellsMemoryApart};
+ghost use Rattle.ob_text_record_reading.specs.RecordLines.{IsRecord, IsRecordFault};
+ghost use Rattle.ob_text_record_reading.specs.Told.{told_of};
+
+use ob_check_text::checked_text::{TextFault, checked_text};
+use ob_checked::checked::Checked;
+use ob_scan::ScanFault;
+use ob_scan::scanner::LONGEST_TEXT;
+use ob_text_picture::draw;
+use ob_text_picture_chart::{CallRange, PictureFault, placed_moments};
+use ob_text_record_reading::{ReadRecord, RecordFault, read_record};
+use std::alloc::{AllocError, Global};
+use thiserror::Error;
+
+/// Why there is no picture of a record: the first fault, in the order of the variants.
+#[derive(Clone, Copy, Debug, Error)]
+pub enum DrawRecordFault {
+    /// The module's text is none.
+    #[error("{0}")]
+    Text(TextFault),
+    /// F1: the record's line is missing, or not of its form or place. Lines count from 1.
+    #[error("F1 line {0}")]
+    Form(usize),
+    /// D1 or D2: the record has no calls of the range, or more than a picture.
+    #[error("{0}")]
+    Calls(PictureFault),
+    /// Want of memory.
+    #[error("NoMemory")]
+    NoMemory,
+}
+
+impl From<TextFault> for DrawRecordFault {
+    ghost use Rattle.std.specs.Prelude.{◌≡◌};
+    ghost use Rattle.ob_object_draw.specs.RecordPictures.{of_text};
+
+    ghost from_gives = { λ e f. f ≡ of_text e };
+
+    fn from(fault: TextFault) -> DrawRecordFault {
+        match fault {
+            TextFault::NoMemory => DrawRecordFault::NoMemory,
+            other => DrawRecordFault::Text(other),
+        }
+    }
+}
+
+impl From<RecordFault> for DrawRecordFault {
+    ghost use Rattle.std.specs.Prelude.{◌≡◌};
+    ghost use Rattle.ob_object_draw.specs.RecordPictures.{of_record};
+
+    ghost from_gives = { λ e f. f ≡ of_record e };
+
+    fn from(fault: RecordFault) -> DrawRecordFault {
+        match fault {
+            RecordFault::Form(line) => DrawRecordFault::Form(line),
+            RecordFault::NoMemory => DrawRecordFault::NoMemory,
+        }
+    }
+}
+
+impl From<PictureFault> for DrawRecordFault {
+    ghost use Rattle.std.specs.Prelude.{◌≡◌};
+    ghost use Rattle.ob_object_draw.specs.RecordPictures.{of_picture};
+
+    ghost from_gives = { λ e f. f ≡ of_picture e };
+
+    fn from(fault: PictureFault) -> DrawRecordFault {
+        match fault {
+            PictureFault::NoMemory => DrawRecordFault::NoMemory,
+            other => DrawRecordFault::Calls(other),
+        }
+    }
+}
+
+impl From<AllocError> for DrawRecordFault {
+    ghost use Rattle.std.specs.Prelude.{◌≡◌};
+    ghost use Rattle.ob_object_draw.specs.declared.drawing.DrawRecordFault.TheVariants as Faults;
+
+    ghost from_gives = { λ _ f. f ≡ Faults.NoMemory };
+
+    fn from(_: AllocError) -> DrawRecordFault {
+        DrawRecordFault::NoMemory
+    }
+}
+
+/// The picture of the calls of a range of a record of a module's object, or of all: an SVG. When calls took effect is told by
+/// the record's order alone, and by whose step isn't told.
+pub fn draw_record_text(
+    alloc: Global,
+    module: &[u8],
+    record: &[u8],
+    calls: Option<CallRange>,
+) -> Result<String, DrawRecordFault>
+    ensures picture { IfOk result (λ lines. IsRecordPicture «module».now «record».now calls (string_bytes lines)) }
+    ensures fault { IfErr result (IsDrawRecordFault «module».now «record».now calls) }
+
+    // Want of memory is told by its own variant alone.
+    ensures memory { IfErr result TellsMemoryApart }
+
+    // A module's text over the scanner's bound is refused, whatever it says.
+    ensures too_long { LONGEST_TEXT < length «module».now → result ≡ Err (DrawRecordFault.Text (TextFault.Scan ScanFault.TooLong)) }
+{
+    let checked = checked_text(alloc, module)?;
+    let read = read_few(alloc, &checked, record)?;
+    let moments = placed_moments(alloc, read.history.events(), &read.order)?;
+    Ok(draw(
+        alloc,
+        checked.exports(),
+        read.processes,
+        &moments,
+        &read.order,
+        calls,
+    )?)
+}
+
+/// What a record tells, whose processes are no more than an object has.
+fn read_few(alloc: Global, checked: &Checked, text: &[u8]) -> Result<ReadRecord, RecordFault>
+    ensures record { IfOk result (λ r. IsRecord (signatures (program_in checked.now)) text.now (told_of «r»)) }
+    ensures few { IfOk result (λ r. r.processes ≤ most_processes) }
+    ensures fault { IfErr result (λ e. IsRecordFault (signatures (program_in checked.now)) text.now e) }
+{
+    let read = read_record(alloc, checked, text)?;
+    Ok(read)
+}
