@@ -111,11 +111,7 @@ fn obey_once<R: Threads + Wait + Sync, F: Files>(
     ensures { IfOk result (λ a. IsAnswer F.reads (request_of command.entry) files.old a files.new) }
 {
     if reads_input_twice(command) {
-        return Ok(Answer::refused(
-            alloc,
-            2,
-            String::from_str(alloc, INPUT_TWICE)?,
-        ));
+        return Ok(Answer::refused(alloc, 2, String::from_str(alloc, INPUT_TWICE)?));
     }
     obey(rt, alloc, command, files)
 }

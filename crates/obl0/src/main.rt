@@ -40,7 +40,9 @@ fn joined<R: Eprint + Threads>(rt: &R, worker: io::Result<JoinHandle<u8>>) -> u8
 }
 
 /// Answers the words of the command line, and gives the exit status.
-fn end<R: Env + Files + Input + AllocGlobal + Print + Eprint + Threads + Wait + Sync>(rt: &R) -> u8 {
+fn end<R: Env + Files + Input + AllocGlobal + Print + Eprint + Threads + Wait + Sync>(
+    rt: &R,
+) -> u8 {
     match answered(rt) {
         Ok(status) => status,
         Err(refusal) => told(rt, refusal),
