@@ -1,17 +1,17 @@
 -- Answers made of the beginning of a module's text.
-use Rattle.std.proofs.Common.{◌≡◌, ◌≢◌, ◌<◌, ◌≤◌, ◌++◌, ◌⊎◌, ℕ, List, Result, Ok, Err, IfOk, length, codes, false, inl, inr, subst, sym, arith}
+use Rattle.std.proofs.Common.{◌≡◌, ◌≢◌, ◌<◌, ◌≤◌, ◌++◌, ◌⊎◌, ℕ, List, Result, Ok, Err, None, IfOk, length, codes, false, inl, inr, refl, subst, sym, arith}
 use Rattle.std.proofs.lemmas.Bool.{cases_lt}
 use Rattle.ob_scan.specs.ScanFaults.{IsScanFault}
 use Rattle.ob_scan.specs.declared.fault.ScanFault.TheVariants as Scan
 use Rattle.ob_typing.specs.ModuleText.{IsModule}
 use Rattle.ob_typing.specs.Program.{Program}
 use Rattle.ob_check_text.specs.declared.checked_text.TextFault.TheVariants as Texts
-use Rattle.ob_answer.specs.Answers.{IsBoundAnswer, IsCheckAnswer, IsListAnswer, IsRunAnswer, IsSeqAnswer, IsServeAnswer, IsVerifyAnswer, refused}
+use Rattle.ob_answer.specs.Answers.{IsBoundAnswer, IsCheckAnswer, IsListAnswer, IsNumberedDraw, IsPictureAnswer, IsRecordAnswer, IsSeqAnswer, IsServeAnswer, IsVerifyAnswer, refused}
 use Rattle.ob_answer.specs.Printed.{IsRefused}
 use Rattle.ob_answer.specs.declared.answered.Answer.{Answer}
-use Rattle.ob_answer.specs.declared.product.Product.{Product}
 use Rattle.ob_fault_lines.specs.CompileFaultLines.{compile_line}
 use Rattle.ob_fault_lines.specs.SequentialFaultLines.{seq_fault_line}
+use Rattle.ob_fault_lines.specs.DrawFaultLines.{draw_fault_line}
 use Rattle.ob_fault_lines.specs.RunFaultLines.{run_fault_line}
 use Rattle.ob_fault_lines.specs.ServeFaultLines.{serve_fault_line}
 use Rattle.ob_fault_lines.specs.VerifyFaultLines.{verify_fault_line}
@@ -25,6 +25,10 @@ use Rattle.ob_object_compile.specs.declared.compiling.CompileFault.{CompileFault
 use Rattle.ob_object_compile.specs.declared.compiling.CompileFault.TheVariants as Compile
 use Rattle.ob_object_perform.specs.Performance as Performs
 use Rattle.ob_object_perform.specs.Performance.{HasNoPerformance, IsPerformFault}
+use Rattle.ob_object_perform.specs.Pictured as Pictured
+use Rattle.ob_object_perform.specs.Pictured.{IsDrawFault, SaysNoRun}
+use Rattle.ob_object_perform.specs.declared.drawing.DrawFault.{DrawFault}
+use Rattle.ob_object_perform.specs.declared.drawing.DrawFault.TheVariants as Draw
 use Rattle.ob_object_perform.specs.declared.performing.PerformFault.{PerformFault}
 use Rattle.ob_object_perform.specs.declared.performing.PerformFault.TheVariants as Perform
 use Rattle.ob_object_sequence.specs.SequentialRun.{HasNoRun, IsNumbered, IsSeqTextFault, TellsMemoryApart, is_want_of_memory}
@@ -157,13 +161,13 @@ bound_refused_made part n budget e (Ok a) told numbered stands apart none proces
     (of_whole_or_long (λ t. HasNoObject t n budget) part whole is (λ long longer. long_has_no_object whole n budget longer) (none (numbered, apart))) told
 bound_refused_made part n budget e (Err x) told numbered stands apart none processes too_much too_long = tt
 
-pub run_refused_made : {E : Type 0} (product : Product) (part : List ℕ) (n budget : ℕ) (script schedule : List ℕ) (e : PerformFault) (result : Result Answer E)
+pub run_refused_made : {E : Type 0} (part : List ℕ) (n budget : ℕ) (script schedule : List ℕ) (e : PerformFault) (result : Result Answer E)
     → IfOk result (λ a. IsRefused a 1 (run_fault_line e ++ codes "\n")) → IfOk result (λ _. Performs.is_want_of_memory e ≡ false)
     → IsPerformFault part n budget script schedule e → Performs.TellsMemoryApart e → (Performs.IsNumbered e → HasNoPerformance part n budget script schedule)
     → ((n ≡ 0) ⊎ (16 < n) → e ≡ Perform.Compile Compile.Processes) → (0 < n → n ≤ 16 → 1000000 < budget → e ≡ Perform.Compile Compile.Budget)
     → (0 < n → n ≤ 16 → budget ≤ 1000000 → 65536 < length part → e ≡ Perform.Compile (Compile.Text (Texts.Scan Scan.TooLong)))
-    → IfOk result (λ a. (whole : List ℕ) → part ≡ beginning whole → IsRunAnswer product whole n budget script schedule a)
-run_refused_made product part n budget script schedule e (Ok a) told numbered stands apart none processes too_much too_long =
+    → IfOk result (λ a. (whole : List ℕ) → part ≡ beginning whole → IsRecordAnswer whole n budget script schedule a)
+run_refused_made part n budget script schedule e (Ok a) told numbered stands apart none processes too_much too_long =
     λ whole is.
     refused e
     (of_whole_or_long (λ t. IsPerformFault t n budget script schedule e) part whole is
@@ -172,7 +176,36 @@ run_refused_made product part n budget script schedule e (Ok a) told numbered st
     (numbered, apart)
     (of_whole_or_long (λ t. HasNoPerformance t n budget script schedule) part whole is
     (λ long longer r performs. no_module whole longer performs.object.program performs.compiled.is_module) (none (numbered, apart))) told
-run_refused_made product part n budget script schedule e (Err x) told numbered stands apart none processes too_much too_long = tt
+run_refused_made part n budget script schedule e (Err x) told numbered stands apart none processes too_much too_long = tt
+
+numbered_draw : (e : DrawFault) → e ≢ Draw.Run Perform.NoMemory → Pictured.TellsMemoryApart e → IsNumberedDraw e
+numbered_draw (Draw.Run (Perform.Compile e)) known apart = (refl, apart)
+numbered_draw (Draw.Run (Perform.Script e)) known apart = (refl, apart)
+numbered_draw (Draw.Run (Perform.Schedule e)) known apart = (refl, apart)
+numbered_draw (Draw.Run (Perform.TooLong item)) known apart = (refl, apart)
+numbered_draw (Draw.Run Perform.NoMemory) known apart = absurd (known refl)
+numbered_draw (Draw.Calls e) known apart = apart
+
+-- a text that is too long has no run
+long_says_no_run : (text : List ℕ) (n budget : ℕ) (script schedule : List ℕ) (e : DrawFault) → 65536 < length text → SaysNoRun text n budget script schedule e
+long_says_no_run text n budget script schedule (Draw.Run e) longer = λ numbered r performs. no_module text longer performs.object.program performs.compiled.is_module
+long_says_no_run text n budget script schedule (Draw.Calls e) longer = tt
+
+pub draw_refused_made : {E : Type 0} (part : List ℕ) (n budget : ℕ) (script schedule : List ℕ) (e : DrawFault) (result : Result Answer E)
+    → IfOk result (λ a. IsRefused a 1 (draw_fault_line e ++ codes "\n")) → IfOk result (λ _. e ≢ Draw.Run Perform.NoMemory)
+    → IsDrawFault part n budget script schedule None e → Pictured.TellsMemoryApart e → SaysNoRun part n budget script schedule e
+    → ((n ≡ 0) ⊎ (16 < n) → e ≡ Draw.Run (Perform.Compile Compile.Processes)) → (0 < n → n ≤ 16 → 1000000 < budget → e ≡ Draw.Run (Perform.Compile Compile.Budget))
+    → (0 < n → n ≤ 16 → budget ≤ 1000000 → 65536 < length part → e ≡ Draw.Run (Perform.Compile (Compile.Text (Texts.Scan Scan.TooLong))))
+    → IfOk result (λ a. (whole : List ℕ) → part ≡ beginning whole → IsPictureAnswer whole n budget script schedule a)
+draw_refused_made part n budget script schedule e (Ok a) told known stands apart none processes too_much too_long =
+    λ whole is.
+    refused e
+    (of_whole_or_long (λ t. IsDrawFault t n budget script schedule None e) part whole is
+    (λ long longer. fault_too_long (λ x. Draw.Run (Perform.Compile x)) (IsDrawFault whole n budget script schedule None) whole n budget e (λ x h. h) longer
+    processes too_much (λ some few within. too_long some few within long)) stands)
+    (numbered_draw e known apart)
+    (of_whole_or_long (λ t. SaysNoRun t n budget script schedule e) part whole is (λ long longer. long_says_no_run whole n budget script schedule e longer) none) told
+draw_refused_made part n budget script schedule e (Err x) told known stands apart none processes too_much too_long = tt
 
 pub serve_refused_made : {E : Type 0} (part : List ℕ) (n budget : ℕ) (script : List ℕ) (e : ServeTextFault) (result : Result Answer E)
     → IfOk result (λ a. IsRefused a 1 (serve_fault_line e ++ codes "\n")) → IfOk result (λ _. e ≢ Serve.NoMemory)

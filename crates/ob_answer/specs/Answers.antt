@@ -1,9 +1,10 @@
 -- What the program answers to a request, by what reads of files give.
-use Rattle.std.specs.Prelude.{◌≡◌, ℕ, Bool, List, [], ◌∷◌, ◌++◌, Some, None, Result, codes, count_by, MatchBool, nat_lt}
+use Rattle.std.specs.Prelude.{◌≡◌, ◌≢◌, ℕ, Bool, List, [], ◌∷◌, ◌++◌, Some, None, Result, codes, count_by, MatchBool, nat_lt}
 use Rattle.std.specs.Str.{bytes_eq}
 use Rattle.ob_answer.specs.declared.answered.Answer.{Answer}
 use Rattle.ob_answer.specs.declared.files.FileFault.{FileFault}
 use Rattle.ob_fault_lines.specs.CompileFaultLines.{compile_line}
+use Rattle.ob_fault_lines.specs.DrawFaultLines.{draw_fault_line}
 use Rattle.ob_fault_lines.specs.RunFaultLines.{run_fault_line}
 use Rattle.ob_fault_lines.specs.SequentialFaultLines.{seq_fault_line}
 use Rattle.ob_fault_lines.specs.ServeFaultLines.{serve_fault_line}
@@ -16,7 +17,11 @@ use Rattle.ob_object_compile.specs.Compilation.{HasNoObject, IsCompileFault, def
 use Rattle.ob_object_compile.specs.Listed.{IsListing}
 use Rattle.ob_object_perform.specs.Performance as Performs
 use Rattle.ob_object_perform.specs.Performance.{HasNoPerformance, IsPerformFault}
-use Rattle.ob_object_perform.specs.Printed.{HasPerformance, IsRecordPrinted}
+use Rattle.ob_object_perform.specs.Pictured.{IsDrawFault, IsPicturePrinted, SaysNoRun}
+use Rattle.ob_object_perform.specs.Printed.{IsRecordPrinted}
+use Rattle.ob_object_perform.specs.declared.drawing.DrawFault.{DrawFault}
+use Rattle.ob_object_perform.specs.declared.drawing.DrawFault.TheVariants as Draws
+use Rattle.ob_text_picture_chart.specs.declared.fault.PictureFault.TheVariants as Pictures
 use Rattle.ob_object_sequence.specs.SequentialRun.{HasNoRun, HasObject, IsNumbered, IsSequentialRun, IsSeqTextFault}
 use Rattle.ob_object_verify.specs.Verified.{IsVerified}
 use Rattle.ob_object_verify.specs.VerifyFaults as Verifies
@@ -72,19 +77,29 @@ IsSeqAnswer module_bytes script_bytes budget =
     IsTextAnswer (IsSequentialRun module_bytes script_bytes budget) (IsSeqTextFault module_bytes script_bytes budget) IsNumbered
     (λ _. HasNoRun module_bytes script_bytes budget) seq_fault_line
 
--- what is said of a run of a module, so many processes, a budget, a script and a schedule: its record, or a picture of it
-abbrev pub SaysRun : Product → (module_bytes : List ℕ) (processes budget : ℕ) (script_bytes schedule_bytes : List ℕ) → Text → Type 0
-SaysRun Products.Record module_bytes processes budget script_bytes schedule_bytes text =
-    IsRecordPrinted module_bytes processes budget script_bytes schedule_bytes text
-SaysRun Products.Picture module_bytes processes budget script_bytes schedule_bytes text =
-    HasPerformance module_bytes processes budget script_bytes schedule_bytes
-
--- to the bytes of a module, of a script and of a schedule
-abbrev pub IsRunAnswer : Product → (module_bytes : List ℕ) (processes budget : ℕ) (script_bytes schedule_bytes : List ℕ) → Answer → Type 0
-IsRunAnswer product module_bytes processes budget script_bytes schedule_bytes =
-    IsTextAnswer (SaysRun product module_bytes processes budget script_bytes schedule_bytes)
+-- to the bytes of a module, of a script and of a schedule, so many processes and a budget: the record of the run
+abbrev pub IsRecordAnswer : (module_bytes : List ℕ) (processes budget : ℕ) (script_bytes schedule_bytes : List ℕ) → Answer → Type 0
+IsRecordAnswer module_bytes processes budget script_bytes schedule_bytes =
+    IsTextAnswer (IsRecordPrinted module_bytes processes budget script_bytes schedule_bytes)
     (IsPerformFault module_bytes processes budget script_bytes schedule_bytes) Performs.IsNumbered
     (λ _. HasNoPerformance module_bytes processes budget script_bytes schedule_bytes) run_fault_line
+
+-- a fault of a picture with a number, so no want of memory
+abbrev pub IsNumberedDraw : DrawFault → Type 0
+IsNumberedDraw (Draws.Run e) = Performs.IsNumbered e
+IsNumberedDraw (Draws.Calls e) = e ≢ Pictures.NoMemory
+
+-- to these the picture of all calls of the run
+abbrev pub IsPictureAnswer : (module_bytes : List ℕ) (processes budget : ℕ) (script_bytes schedule_bytes : List ℕ) → Answer → Type 0
+IsPictureAnswer module_bytes processes budget script_bytes schedule_bytes =
+    IsTextAnswer (IsPicturePrinted module_bytes processes budget script_bytes schedule_bytes None)
+    (IsDrawFault module_bytes processes budget script_bytes schedule_bytes None) IsNumberedDraw
+    (SaysNoRun module_bytes processes budget script_bytes schedule_bytes) draw_fault_line
+
+-- what is printed of a run: its record, or a picture of it
+abbrev pub IsRunAnswer : Product → (module_bytes : List ℕ) (processes budget : ℕ) (script_bytes schedule_bytes : List ℕ) → Answer → Type 0
+IsRunAnswer Products.Record = IsRecordAnswer
+IsRunAnswer Products.Picture = IsPictureAnswer
 
 -- To the bytes of a module and of a script: the record of workers, one for each of so many processes, whom no gate stops. A fault of
 -- the workers rules nothing out.

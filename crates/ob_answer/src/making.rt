@@ -1,9 +1,10 @@
 //! Answers made of the bytes of files. Of a module's text they have the beginning: a module of more bytes is too long.
 
 ghost use Rattle.std.specs.Prelude.{◌≡◌, ◌≢◌, ◌<◌, ◌≤◌, ◌++◌, ◌⊎◌, ℕ, List, suc, false, take, Err, IfErr, IfOk, codes, length, string_bytes};
-ghost use Rattle.ob_answer.specs.Answers.{IsBoundAnswer, IsCheckAnswer, IsListAnswer, IsRunAnswer, IsSeqAnswer, IsServeAnswer, IsVerifyAnswer, SaysRun};
+ghost use Rattle.ob_answer.specs.Answers.{IsBoundAnswer, IsCheckAnswer, IsListAnswer, IsPictureAnswer, IsRecordAnswer, IsRunAnswer, IsSeqAnswer, IsServeAnswer, IsVerifyAnswer};
 ghost use Rattle.ob_answer.specs.Printed.{IsRefused};
 ghost use Rattle.ob_fault_lines.specs.CompileFaultLines.{compile_line};
+ghost use Rattle.ob_fault_lines.specs.DrawFaultLines.{draw_fault_line};
 ghost use Rattle.ob_fault_lines.specs.RunFaultLines.{run_fault_line};
 ghost use Rattle.ob_fault_lines.specs.SequentialFaultLines.{seq_fault_line};
 ghost use Rattle.ob_fault_lines.specs.ServeFaultLines.{serve_fault_line};
@@ -18,6 +19,7 @@ use crate::product::Product;
 use ob_check_text::TextFault;
 use ob_desk_texts::{ServeTextFault, serve_text};
 use ob_fault_lines::compile_faults::compile_fault_line;
+use ob_fault_lines::draw_faults::draw_fault_line;
 use ob_fault_lines::run_faults::run_fault_line;
 use ob_fault_lines::sequential_faults::seq_fault_line;
 use ob_fault_lines::serve_faults::serve_fault_line;
@@ -25,7 +27,7 @@ use ob_fault_lines::verify_faults::verify_fault_line;
 use ob_interface::{MOST_PROCESSES, NoMemory};
 use ob_object_bound::bound_text;
 use ob_object_compile::{CompileFault, list_text};
-use ob_object_perform::{PerformFault, draw_text, run_text};
+use ob_object_perform::{DrawFault, PerformFault, draw_text, run_text};
 use ob_object_sequence::{SeqTextFault, check_text, seq_text};
 use ob_object_verify::{VerifyFault, verify_text};
 use ob_scan::ScanFault;
@@ -128,35 +130,26 @@ pub(crate) fn answer_run(
 ) -> Result<Answer, NoMemory>
     ensures { IfOk result (λ a. (whole : List ℕ) → «module».now ≡ take (suc LONGEST_TEXT) whole → IsRunAnswer product whole processes budget script.now schedule.now a) }
 {
-    let turns = u64::from(budget);
-    match run_lines(alloc, product, module, processes, turns, script, schedule) {
-        Ok(lines) => Ok(Answer::printed(alloc, lines)),
-        Err(fault) => run_refused(alloc, fault),
+    match product {
+        Product::Record => answer_record(alloc, module, processes, budget, script, schedule),
+        Product::Picture => answer_picture(alloc, module, processes, budget, script, schedule),
     }
 }
 
-/// What is printed of a run.
-fn run_lines(
+/// The answer of `run`.
+fn answer_record(
     alloc: Global,
-    product: Product,
     module: &[u8],
     processes: usize,
-    budget: u64,
+    budget: u32,
     script: &[u8],
     schedule: &[u8],
-) -> Result<String, PerformFault>
-    ensures said { IfOk result (λ lines. SaysRun product «module».now processes budget script.now schedule.now (string_bytes lines)) }
-    ensures fault { IfErr result (Performs.IsPerformFault «module».now processes budget script.now schedule.now) }
-    ensures none { IfErr result (λ e. Performs.IsNumbered e → Performs.HasNoPerformance «module».now processes budget script.now schedule.now) }
-    ensures memory { IfErr result Performs.TellsMemoryApart }
-    ensures processes { (processes ≡ 0) ⊎ (MOST_PROCESSES < processes) → result ≡ Err (PerformFault.Compile CompileFault.Processes) }
-    ensures budget { 0 < processes → processes ≤ MOST_PROCESSES → most_turns < budget → result ≡ Err (PerformFault.Compile CompileFault.Budget) }
-    ensures too_long { 0 < processes → processes ≤ MOST_PROCESSES → budget ≤ most_turns → LONGEST_TEXT < length «module».now
-        → result ≡ Err (PerformFault.Compile (CompileFault.Text (TextFault.Scan ScanFault.TooLong))) }
+) -> Result<Answer, NoMemory>
+    ensures { IfOk result (λ a. (whole : List ℕ) → «module».now ≡ take (suc LONGEST_TEXT) whole → IsRecordAnswer whole processes budget script.now schedule.now a) }
 {
-    match product {
-        Product::Record => run_text(alloc, module, processes, budget, script, schedule),
-        Product::Picture => draw_text(alloc, module, processes, budget, script, schedule),
+    match run_text(alloc, module, processes, u64::from(budget), script, schedule) {
+        Ok(lines) => Ok(Answer::printed(alloc, lines)),
+        Err(fault) => run_refused(alloc, fault),
     }
 }
 
@@ -168,6 +161,35 @@ fn run_refused(alloc: Global, fault: PerformFault) -> Result<Answer, NoMemory>
     match fault {
         PerformFault::NoMemory => Err(NoMemory),
         fault => Ok(refused(alloc, run_fault_line(alloc, fault)?)?),
+    }
+}
+
+/// The answer of `draw`.
+fn answer_picture(
+    alloc: Global,
+    module: &[u8],
+    processes: usize,
+    budget: u32,
+    script: &[u8],
+    schedule: &[u8],
+) -> Result<Answer, NoMemory>
+    ensures { IfOk result (λ a. (whole : List ℕ) → «module».now ≡ take (suc LONGEST_TEXT) whole → IsPictureAnswer whole processes budget script.now schedule.now a) }
+{
+    let turns = u64::from(budget);
+    match draw_text(alloc, module, processes, turns, script, schedule, None) {
+        Ok(picture) => Ok(Answer::printed(alloc, picture)),
+        Err(fault) => draw_refused(alloc, fault),
+    }
+}
+
+/// The answer to a fault of a picture.
+fn draw_refused(alloc: Global, fault: DrawFault) -> Result<Answer, NoMemory>
+    ensures fault { IfOk result (λ a. IsRefused a 1 (draw_fault_line fault ++ codes "\n")) }
+    ensures memory { IfOk result (λ _. fault ≢ DrawFault.Run PerformFault.NoMemory) }
+{
+    match fault {
+        DrawFault::Run(PerformFault::NoMemory) => Err(NoMemory),
+        fault => Ok(refused(alloc, draw_fault_line(alloc, fault)?)?),
     }
 }
 

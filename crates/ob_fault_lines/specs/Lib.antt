@@ -3,5 +3,6 @@ pub mod ScriptFaultLines
 pub mod CompileFaultLines
 pub mod SequentialFaultLines
 pub mod RunFaultLines
+pub mod DrawFaultLines
 pub mod ServeFaultLines
 pub mod VerifyFaultLines

@@ -2,6 +2,7 @@
 #![tactic(auto)]
 
 pub mod compile_faults;
+pub mod draw_faults;
 pub mod module_faults;
 pub mod run_faults;
 pub mod script_faults;

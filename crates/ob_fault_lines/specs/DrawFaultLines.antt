@@ -1,0 +1,18 @@
+-- The line that tells each fault of a picture.
+use Rattle.std.specs.Prelude.{ℕ, ◌++◌, codes, decimal}
+use Rattle.ob_object_perform.specs.declared.drawing.DrawFault.{DrawFault}
+use Rattle.ob_object_perform.specs.declared.drawing.DrawFault.TheVariants as Faults
+use Rattle.ob_text_picture_chart.specs.declared.fault.PictureFault.{PictureFault}
+use Rattle.ob_text_picture_chart.specs.declared.fault.PictureFault.TheVariants as Pictures
+use Rattle.ob_fault_lines.specs.ModuleFaultLines.{Text, no_memory_line}
+use Rattle.ob_fault_lines.specs.RunFaultLines.{run_fault_line}
+
+-- D1 tells how many calls begin in the run, D2 how many a picture would show
+abbrev pub picture_line : PictureFault → Text
+picture_line (Pictures.NoCalls count) = codes "D1 of " ++ decimal count ++ codes " calls"
+picture_line (Pictures.TooMany count) = codes "D2 " ++ decimal count ++ codes " calls"
+picture_line Pictures.NoMemory = no_memory_line
+
+abbrev pub draw_fault_line : DrawFault → Text
+draw_fault_line (Faults.Run e) = run_fault_line e
+draw_fault_line (Faults.Calls e) = picture_line e

@@ -1,0 +1,41 @@
+//! The line of a fault of a picture.
+
+ghost use Rattle.std.specs.Prelude.{◌≡◌, ◌++◌, IfOk, OnOk, codes, decimal, string_bytes};
+ghost use Rattle.ob_fault_lines.specs.DrawFaultLines.{draw_fault_line, picture_line};
+
+use crate::run_faults::run_fault_line;
+use ob_object_perform::DrawFault;
+use ob_text_picture_chart::PictureFault;
+use ob_text_words::numbers::push_number;
+use std::alloc::{AllocError, Global};
+
+/// The line of a fault of a picture, without a line feed.
+pub fn draw_fault_line(alloc: Global, fault: DrawFault) -> Result<String, AllocError>
+    ensures { IfOk result (λ line. string_bytes line ≡ draw_fault_line fault) }
+{
+    match fault {
+        DrawFault::Run(fault) => run_fault_line(alloc, fault),
+        DrawFault::Calls(fault) => picture_fault_line(alloc, fault),
+    }
+}
+
+fn picture_fault_line(alloc: Global, fault: PictureFault) -> Result<String, AllocError>
+    ensures { IfOk result (λ line. string_bytes line ≡ picture_line fault) }
+{
+    let mut line = String::new(alloc);
+    match fault {
+        PictureFault::NoCalls(count) => push_calls(&mut line, "D1 of ", count)?,
+        PictureFault::TooMany(count) => push_calls(&mut line, "D2 ", count)?,
+        PictureFault::NoMemory => line.push_str("NoMemory")?,
+    }
+    Ok(line)
+}
+
+/// Appends a fault of so many calls.
+fn push_calls(line: &mut String, fault: &str, count: usize) -> Result<(), AllocError>
+    ensures { OnOk result (string_bytes line.new ≡ string_bytes line.old ++ fault.now ++ decimal count ++ codes " calls") }
+{
+    line.push_str(fault)?;
+    push_number(line, count)?;
+    line.push_str(" calls")
+}
