@@ -62,7 +62,7 @@ object_of text script budget run =
       tree_is = run.is_module.text_of;
       is_module = run.is_module;
       layout_is = refl;
-      short = run.short;
+      allowed = run.short;
       engine_is = refl;
       opens = record { state = run.prints.replied.state; opens = run.prints.replied.opens; same = opened.1.1 };
       begins = opened.1.0;
