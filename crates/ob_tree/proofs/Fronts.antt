@@ -1,6 +1,6 @@
 -- What a run that is ready has in front: operands of 16 bits, and room for its parts.
-use Rattle.std.proofs.Common.{◌≡◌, ℕ, suc, ◌+◌, ◌*◌, ◌≤◌, List, [], ◌∷◌, ◌++◌, length, Some, arith}
-use Rattle.std.specs.Prelude.{max, slice_get}
+use Rattle.std.proofs.Common.{◌≡◌, ℕ, suc, ◌+◌, ◌*◌, ◌≤◌, List, [], ◌∷◌, ◌++◌, Some, arith}
+use Rattle.std.specs.Prelude.{slice_get}
 use Rattle.std.proofs.Math.Logic.{∥∥₁_elim}
 use Rattle.std.proofs.Math.Bridge.{le_prop}
 use Rattle.std.proofs.Math.Nat.{le-max_left, le-max_right, mul-le-mul_right}
@@ -11,7 +11,7 @@ use Rattle.ob_code_machine.specs.declared.saved.Saved.{Saved}
 use Rattle.ob_code_scheme.specs.Types.{words, part_type, part_offset, Space, Holding, Referring, Scope, word_in, space_at, scope_of, variables_scope}
 use Rattle.ob_code_scheme.specs.Scheme.{size, entry_of, own_code, variable_code, code_of, HasAt, selectors_at}
 use Rattle.ob_code_scheme.specs.WellFormed.{IsWellFormed}
-use Rattle.ob_tree_work.specs.Work.{Task, Address, Selecting, opened_by}
+use Rattle.ob_tree_work.specs.Work.{Task, Address, Selecting}
 use Rattle.ob_tree_work.specs.Operands.{largest_operand}
 use Rattle.ob_tree_work.specs.Places.{Reads}
 use Rattle.ob_tree_work.specs.Reserve.{activation_most, IsLow}

@@ -1,5 +1,5 @@
 -- One task after the other is opened.
-use Rattle.std.proofs.Common.{◌≡◌, ℕ, zero, suc, ◌+◌, ◌<◌, ◌≤◌, Bool, true, false, List, ◌∷◌, ◌++◌, length, Option, Some, None, refl, ap, sym, ◌∙◌, subst, arith}
+use Rattle.std.proofs.Common.{◌≡◌, ℕ, suc, ◌+◌, ◌<◌, ◌≤◌, Bool, true, false, List, ◌∷◌, ◌++◌, length, Option, Some, None, refl, ap, sym, ◌∙◌, subst, arith}
 use Rattle.ob_code_scheme.specs.Types.{Scope}
 use Rattle.ob_tree_work.specs.Work.{Task, parts, given_way, opened_by, opened, work_nodes}
 use Rattle.ob_tree_work.proofs.Ready.{gives_way, opened_left, opened_on}

@@ -1,12 +1,12 @@
 -- A step is what the task in front does, and the work behind it opened.
-use Rattle.std.proofs.Common.{◌≡◌, ◌≢◌, ℕ, ◌+◌, ◌<◌, ◌≤◌, Bool, true, false, ℤ, List, [], ◌∷◌, length, refl, ap, sym, ◌∙◌, subst, arith}
+use Rattle.std.proofs.Common.{◌≡◌, ◌≢◌, ℕ, Bool, false, ℤ, List, [], ◌∷◌, length, ap, sym, ◌∙◌, subst, arith}
 use Rattle.std.specs.Prelude.{if◌then◌else◌}
 use Rattle.ob_typing.specs.Program.{Program}
 use Rattle.ob_code_scheme.specs.Types.{Scope, variables_scope}
 use Rattle.ob_code_scheme.specs.Scheme.{entry_of, code_of}
 use Rattle.ob_code_scheme.specs.WellFormed.{IsWellFormed}
 use Rattle.wf_table.specs.declared.engine_turn.EngineTurn.{EngineTurn}
-use Rattle.wf_table.specs.declared.engine_turn.EngineTurn.TheVariants.{On, Returned, Trapped, Stuck}
+use Rattle.wf_table.specs.declared.engine_turn.EngineTurn.TheVariants.{On}
 use Rattle.wf_table.specs.Meaning.{Turned}
 use Rattle.ob_tree_work.specs.Work.{Task, TreeState, Answer, settled, opened, opened_by, does, does_first, step}
 use Rattle.ob_tree_work.specs.Work as Work
@@ -14,10 +14,10 @@ use Rattle.ob_tree_work.specs.Reserve.{activation_most, AnswerKeepsWithin}
 use Rattle.ob_tree_work.proofs.Opening.{opened_by_kept}
 use Rattle.ob_tree_work.proofs.Ready.{IsReady, opened_left}
 use Rattle.ob_tree_work.proofs.Within.{opened_by_low, step_keeps, within_reserve}
-use Rattle.ob_tree_law.specs.TreeEngine.{TreeRun, tree_shown, tree_step, IsOpened, IsTreeReady, StandsInCode}
+use Rattle.ob_tree_law.specs.TreeEngine.{TreeRun, tree_shown, tree_step, IsOpened, IsTreeReady}
 use Rattle.ob_tree_law.proofs.TreeLaw.{AnswerStands, step_stands}
 use Rattle.ob_tree_tasks.specs.WorkTasks.{behind}
-use Rattle.ob_tree.specs.Acting.{state_in, rest_of, acted, Comes, HasFirst, CanBeOpened}
+use Rattle.ob_tree.specs.Acting.{state_in, rest_of, Comes, HasFirst, CanBeOpened}
 use Rattle.ob_tree.proofs.Fronts.{first_fits}
 
 module _ (program : Program) where

@@ -1,4 +1,4 @@
-use Rattle.std.proofs.Common.{◌≡◌, List, drop, sym, ap, ◌∙◌, arith}
+use Rattle.std.proofs.Common.{List, drop, sym, ap, ◌∙◌, arith}
 use Rattle.std.specs.Prelude.{slice_get}
 use Rattle.ob_checked.specs.View.{table_of}
 use Rattle.ob_checked.specs.declared.program.Procedure.{Procedure}

@@ -1,6 +1,5 @@
-use Rattle.std.proofs.Common.{◌≡◌, ℕ, false, ℤ, List, ◌∷◌, ap, sym, ◌∙◌, subst}
+use Rattle.std.proofs.Common.{◌≡◌, false, ◌∷◌, ap, sym, ◌∙◌, subst}
 use Rattle.ob_checked.specs.View.{program_of}
-use Rattle.ob_code_layout.specs.Layout.{block_in}
 use Rattle.ob_code_scheme.specs.Types.{Scope, variables_scope}
 use Rattle.wf_table.specs.Meaning.{Turned}
 use Rattle.ob_tree_work.specs.Work.{opened, settled}
