@@ -3,10 +3,10 @@
 
 pub mod coded;
 pub mod engine;
-pub mod entrance;
+mod entrance;
 pub mod laws;
 mod turns;
-pub mod words;
+mod words;
 
 pub use engine::CodeEngine;
 pub use entrance::Entrance;

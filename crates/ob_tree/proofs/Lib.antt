@@ -1,0 +1,4 @@
+mod Settling
+mod Numbered
+mod Fronts
+mod Stepped

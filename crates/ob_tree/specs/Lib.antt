@@ -1,2 +1,4 @@
 pub mod Runs
 pub mod Acting
+pub mod Procedures
+pub mod Stepping

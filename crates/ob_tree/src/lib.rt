@@ -3,5 +3,8 @@
 
 pub mod act;
 pub mod frames;
+pub mod procedures;
 pub mod run;
 pub mod settle;
+pub mod start;
+pub mod step;

@@ -6,12 +6,8 @@ ghost use Rattle.ob_tree_tasks.specs.Opening.{GivesWay, IsSmallTask};
 ghost use Rattle.ob_tree_tasks.specs.Tasks.{task_of};
 ghost use Rattle.ob_tree_tasks.specs.WorkTasks.{HasRoom};
 
-use crate::expressions::{
-    open_address, open_handing, open_operators, open_selecting, open_value,
-};
-use crate::statements::{
-    open_all, open_choosing, open_doing, open_repeat, open_while,
-};
+use crate::expressions::{open_address, open_handing, open_operators, open_selecting, open_value};
+use crate::statements::{open_all, open_choosing, open_doing, open_repeat, open_while};
 use crate::task::Task;
 use crate::work_list::WorkList;
 use ob_code_layout::Layout;

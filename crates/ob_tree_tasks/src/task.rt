@@ -1,9 +1,7 @@
 //! The tasks of the engine over a program's tree.
 
 use crate::scopes::Scopes;
-use ob_checked::program::{
-    Actual, Branch, Designator, Expression, Operation, Selector, Statement,
-};
+use ob_checked::program::{Actual, Branch, Designator, Expression, Operation, Selector, Statement};
 use ob_checked::types::DataType;
 use ob_code_layout::Layout;
 use ob_code_machine::Instr;
@@ -109,7 +107,10 @@ pub enum Task<'a> {
     /// A turn is taken.
     Taking,
     /// A call of a procedure, by its number, on the words handed over.
-    Calling { procedure: usize, parameters: usize },
+    Calling {
+        procedure: usize,
+        parameters: usize,
+    },
     /// The end of a procedure.
     Leaving,
 }

@@ -195,7 +195,7 @@ module _ (code : List Instr) (globals : Scope) (entry : ℕ → ℕ) (saved : Li
   given_kept go pc t rest h None k r = r
   given_kept go pc t rest h (Some tasks) k r = h (tasks ++ rest) k
 
-  opened_by_kept : (n : ℕ) (pc : ℕ) (work : List Task) → Stands work pc → Stands (opened_by globals n work) pc
+  pub opened_by_kept : (n : ℕ) (pc : ℕ) (work : List Task) → Stands work pc → Stands (opened_by globals n work) pc
   opened_by_kept zero pc work r = r
   opened_by_kept (suc n) pc [] r = r
   opened_by_kept (suc n) pc (t ∷ rest) r =

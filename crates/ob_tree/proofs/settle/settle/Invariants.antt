@@ -5,12 +5,12 @@ use Rattle.ob_tree.specs.Acting.{CanBeOpened}
 use Rattle.ob_tree.proofs.settle.settle.Given as goal
 
 -- the same is opened
-abbrev pub invariant-loop-work : goal.invariant-loop-work
-invariant-loop-work l = record {
+abbrev pub invariant-loop-task : goal.invariant-loop-task
+invariant-loop-task l = record {
   same : opened (block_in l.layout) l.work.tasks ≡ opened (block_in l.layout) l.initial.work.tasks;
   room : l.work.room ≡ l.initial.work.room;
   fits : CanBeOpened (block_in l.layout) l.work;
 }
 
-abbrev pub decreases-loop-work : goal.decreases-loop-work
-decreases-loop-work l = work_nodes l.work.tasks
+abbrev pub decreases-loop-task : goal.decreases-loop-task
+decreases-loop-task l = work_nodes l.work.tasks

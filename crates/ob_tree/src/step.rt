@@ -1,0 +1,131 @@
+//! One step of a body on a program's tree.
+
+ghost use Rattle.std.specs.Prelude.{◌≡◌, ◌∷◌, ℤ, List, map};
+ghost use Rattle.ob_checked.specs.View.{program_of};
+ghost use Rattle.ob_code_layout.specs.Layout.{block_in, parts_of};
+ghost use Rattle.ob_code_scheme.specs.Types.{frame_scope, variables_scope};
+ghost use Rattle.ob_tree.specs.Acting.{Comes, HasFirst, rest_of, state_in};
+ghost use Rattle.ob_tree.specs.Procedures.{AreSmallFrames};
+ghost use Rattle.ob_tree.specs.Stepping.{CanStep};
+ghost use Rattle.ob_tree_law.specs.TreeEngine.{tree_step};
+ghost use Rattle.ob_tree_tasks.specs.Tasks.{task_of};
+ghost use Rattle.ob_tree_work.specs.Work as Work;
+
+use crate::frames::Frames;
+use crate::procedures::push_procedure;
+use crate::run::TreeRun;
+use crate::settle::settle;
+use ob_checked::program::Program;
+use ob_code_layout::Layout;
+use ob_tree_tasks::Task;
+use wf_object::EngineTurn;
+
+impl<'a> TreeRun<'a> {
+    /// A call of a procedure: it begins below the words handed over.
+    fn call(
+        &mut self,
+        program: &'a Program,
+        layout: &'a Layout,
+        number: usize,
+        parameters: usize,
+    ) -> EngineTurn
+        requires first { HasFirst self.old }
+        requires frames { (parts_of layout.now).frames ≡ map frame_scope (program_of program.now).procedures }
+        requires small { AreSmallFrames (program_of program.now).procedures }
+        ensures { (block : List ℤ) → Comes result self.new block self.old block (Work.does (program_of program.now) self.old.reserve (Work.Calling number parameters) (rest_of self.old) (state_in self.old block)) }
+    {
+        if self.frames.len() >= Frames::LIMIT {
+            self.is_over = true;
+            return EngineTurn::Trapped(4);
+        }
+        if self.turns == 0 {
+            self.is_over = true;
+            return EngineTurn::Trapped(5);
+        }
+        let height = self.stack.height();
+        if height < parameters {
+            return EngineTurn::Stuck;
+        }
+        self.turns -= 1;
+        self.frames.push(self.fp);
+        self.fp = height - parameters;
+        self.work.remove_first();
+        push_procedure(&mut self.work, layout, program, number);
+        EngineTurn::On
+    }
+
+    /// What the task in front does. A silent one does nothing.
+    fn act(
+        &mut self,
+        program: &'a Program,
+        layout: &'a Layout,
+        task: Task<'a>,
+        block: &mut [i64],
+    ) -> EngineTurn
+        requires first { HasFirst self.old }
+        requires frames { (parts_of layout.now).frames ≡ map frame_scope (program_of program.now).procedures }
+        requires small { AreSmallFrames (program_of program.now).procedures }
+        ensures { Comes result self.new block.new self.old block.old (Work.does (program_of program.now) self.old.reserve (task_of task.entry) (rest_of self.old) (state_in self.old block.old)) }
+    {
+        match task {
+            Task::Instruction(instr) => self.compute(instr, block),
+            Task::AndThen { own, right } => self.decide(0, own, right),
+            Task::OrElse { own, right } => self.decide(1, own, right),
+            Task::Alternative {
+                own,
+                body,
+                branches,
+                otherwise,
+            } => self.choose(own, body, branches, otherwise),
+            Task::Over => self.pass_over(),
+            Task::Looping {
+                own,
+                condition,
+                body,
+            } => self.go_round(own, condition, body),
+            Task::Again {
+                own,
+                condition,
+                body,
+            } => self.go_back(own, condition, body),
+            Task::Until {
+                own,
+                body,
+                condition,
+            } => self.repeat(own, body, condition),
+            Task::Taking => self.take_turn(),
+            Task::Calling {
+                procedure,
+                parameters,
+            } => self.call(program, layout, procedure, parameters),
+            Task::Leaving => self.leave(),
+            _ => EngineTurn::Stuck,
+        }
+    }
+
+    /// One step on a block: what one instruction of the code does. A body that is over is stuck.
+    pub fn step(
+        &mut self,
+        program: &'a Program,
+        layout: &'a Layout,
+        block: &mut [i64],
+    ) -> EngineTurn
+        requires globals { block_in layout.now ≡ variables_scope (program_of program.now).variables }
+        requires frames { (parts_of layout.now).frames ≡ map frame_scope (program_of program.now).procedures }
+        requires small { AreSmallFrames (program_of program.now).procedures }
+        requires ready { CanStep (program_of program.now) self.old }
+        ensures { record { turn = result; run = self.new; block = block.new } ≡ tree_step (program_of program.now) self.old block.old }
+    {
+        if self.is_over {
+            return EngineTurn::Stuck;
+        }
+        let Some(task) = self.work.first() else {
+            return EngineTurn::Stuck;
+        };
+        let turn = self.act(program, layout, task, block);
+        if let EngineTurn::On = turn {
+            settle(&mut self.work, layout);
+        }
+        turn
+    }
+}
