@@ -3,10 +3,10 @@
 
 pub mod coded;
 pub mod engine;
-mod entrance;
+pub mod entrance;
 pub mod laws;
 mod turns;
-mod words;
+pub mod words;
 
 pub use engine::CodeEngine;
 pub use entrance::Entrance;

@@ -2,7 +2,8 @@
 #![tactic(auto)]
 
 pub use ob_object_compile::{CompileFault, Object, compile, list_text};
-pub use ob_object_perform::{PerformFault, draw_text, perform, run_text};
+pub use ob_object_draw::{DrawRecordFault, draw_record_text};
+pub use ob_object_perform::{DrawFault, PerformFault, draw_text, perform, run_text};
 pub use ob_object_record::Record;
 pub use ob_object_sequence::{SeqTextFault, check_text, seq_text};
 pub use ob_object_verify::{VerifyFault, verify_text};

@@ -1,2 +1,0 @@
-mod InLockStep
-mod OneText
