@@ -147,7 +147,14 @@ fn answer_record(
 ) -> Result<Answer, NoMemory>
     ensures { IfOk result (λ a. (whole : List ℕ) → «module».now ≡ take (suc LONGEST_TEXT) whole → IsRecordAnswer whole processes budget script.now schedule.now a) }
 {
-    match run_text(alloc, module, processes, u64::from(budget), script, schedule) {
+    match run_text(
+        alloc,
+        module,
+        processes,
+        u64::from(budget),
+        script,
+        schedule,
+    ) {
         Ok(lines) => Ok(Answer::printed(alloc, lines)),
         Err(fault) => run_refused(alloc, fault),
     }

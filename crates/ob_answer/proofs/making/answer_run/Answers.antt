@@ -1,0 +1,7 @@
+use Rattle.ob_answer.proofs.making.answer_run.Goals as goal
+
+pub returns-in-Record : goal.returns-in-Record
+returns-in-Record c = rw c.in-Record.is c.answer_record.ensures
+
+pub returns-in-Picture : goal.returns-in-Picture
+returns-in-Picture c = rw c.in-Picture.is c.answer_picture.ensures
