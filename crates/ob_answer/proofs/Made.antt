@@ -6,12 +6,12 @@ use Rattle.ob_scan.specs.declared.fault.ScanFault.TheVariants as Scan
 use Rattle.ob_typing.specs.ModuleText.{IsModule}
 use Rattle.ob_typing.specs.Program.{Program}
 use Rattle.ob_check_text.specs.declared.checked_text.TextFault.TheVariants as Texts
-use Rattle.ob_answer.specs.Answers.{IsBoundAnswer, IsCheckAnswer, IsListAnswer, IsNumberedDraw, IsPictureAnswer, IsRecordAnswer, IsSeqAnswer, IsServeAnswer, IsVerifyAnswer, refused}
+use Rattle.ob_answer.specs.Answers.{IsBoundAnswer, IsCheckAnswer, IsListAnswer, IsNumberedDraw, IsPictureAnswer, IsRecordAnswer, IsRecordPictureAnswer, IsSeqAnswer, IsServeAnswer, IsVerifyAnswer, refused}
 use Rattle.ob_answer.specs.Printed.{IsRefused}
 use Rattle.ob_answer.specs.declared.answered.Answer.{Answer}
 use Rattle.ob_fault_lines.specs.CompileFaultLines.{compile_line}
 use Rattle.ob_fault_lines.specs.SequentialFaultLines.{seq_fault_line}
-use Rattle.ob_fault_lines.specs.DrawFaultLines.{draw_fault_line}
+use Rattle.ob_fault_lines.specs.DrawFaultLines.{draw_fault_line, draw_record_fault_line}
 use Rattle.ob_fault_lines.specs.RunFaultLines.{run_fault_line}
 use Rattle.ob_fault_lines.specs.ServeFaultLines.{serve_fault_line}
 use Rattle.ob_fault_lines.specs.VerifyFaultLines.{verify_fault_line}
@@ -23,6 +23,10 @@ use Rattle.ob_object_compile.specs.Compilation as Compiles
 use Rattle.ob_object_compile.specs.Compilation.{HasNoObject, IsCompileFault, default_budget}
 use Rattle.ob_object_compile.specs.declared.compiling.CompileFault.{CompileFault}
 use Rattle.ob_object_compile.specs.declared.compiling.CompileFault.TheVariants as Compile
+use Rattle.ob_object_draw.specs.RecordPictures as RecordPictures
+use Rattle.ob_object_draw.specs.RecordPictures.{IsDrawRecordFault}
+use Rattle.ob_object_draw.specs.declared.drawing.DrawRecordFault.{DrawRecordFault}
+use Rattle.ob_object_draw.specs.declared.drawing.DrawRecordFault.TheVariants as DrawRecord
 use Rattle.ob_object_perform.specs.Performance as Performs
 use Rattle.ob_object_perform.specs.Performance.{HasNoPerformance, IsPerformFault}
 use Rattle.ob_object_perform.specs.Pictured as Pictured
@@ -206,6 +210,19 @@ draw_refused_made part n budget script schedule e (Ok a) told known stands apart
     (numbered_draw e known apart)
     (of_whole_or_long (λ t. SaysNoRun t n budget script schedule e) part whole is (λ long longer. long_says_no_run whole n budget script schedule e longer) none) told
 draw_refused_made part n budget script schedule e (Err x) told known stands apart none processes too_much too_long = tt
+
+pub draw_record_refused_made : {E : Type 0} (part text : List ℕ) (e : DrawRecordFault) (result : Result Answer E)
+    → IfOk result (λ a. IsRefused a 1 (draw_record_fault_line e ++ codes "\n")) → IfOk result (λ _. e ≢ DrawRecord.NoMemory)
+    → IsDrawRecordFault part text None e → RecordPictures.TellsMemoryApart e
+    → (65536 < length part → e ≡ DrawRecord.Text (Texts.Scan Scan.TooLong))
+    → IfOk result (λ a. (whole : List ℕ) → part ≡ beginning whole → IsRecordPictureAnswer whole text a)
+draw_record_refused_made part text e (Ok a) told known stands apart too_long =
+    λ whole is.
+    refused e
+    (of_whole_or_long (λ t. IsDrawRecordFault t text None e) part whole is
+    (λ long longer. subst (λ (x : DrawRecordFault). IsDrawRecordFault whole text None x) (sym (too_long long)) (too_long_scan whole longer)) stands)
+    (known, apart) tt told
+draw_record_refused_made part text e (Err x) told known stands apart too_long = tt
 
 pub serve_refused_made : {E : Type 0} (part : List ℕ) (n budget : ℕ) (script : List ℕ) (e : ServeTextFault) (result : Result Answer E)
     → IfOk result (λ a. IsRefused a 1 (serve_fault_line e ++ codes "\n")) → IfOk result (λ _. e ≢ Serve.NoMemory)

@@ -4,7 +4,7 @@ use Rattle.std.specs.Str.{bytes_eq}
 use Rattle.ob_answer.specs.declared.answered.Answer.{Answer}
 use Rattle.ob_answer.specs.declared.files.FileFault.{FileFault}
 use Rattle.ob_fault_lines.specs.CompileFaultLines.{compile_line}
-use Rattle.ob_fault_lines.specs.DrawFaultLines.{draw_fault_line}
+use Rattle.ob_fault_lines.specs.DrawFaultLines.{draw_fault_line, draw_record_fault_line}
 use Rattle.ob_fault_lines.specs.RunFaultLines.{run_fault_line}
 use Rattle.ob_fault_lines.specs.SequentialFaultLines.{seq_fault_line}
 use Rattle.ob_fault_lines.specs.ServeFaultLines.{serve_fault_line}
@@ -15,6 +15,10 @@ use Rattle.ob_object_bound.specs.Numbers.{IsBoundText}
 use Rattle.ob_object_compile.specs.Compilation as Compiles
 use Rattle.ob_object_compile.specs.Compilation.{HasNoObject, IsCompileFault, default_budget}
 use Rattle.ob_object_compile.specs.Listed.{IsListing}
+use Rattle.ob_object_draw.specs.RecordPictures as RecordPictures
+use Rattle.ob_object_draw.specs.RecordPictures.{IsDrawRecordFault, IsRecordPicture}
+use Rattle.ob_object_draw.specs.declared.drawing.DrawRecordFault.{DrawRecordFault}
+use Rattle.ob_object_draw.specs.declared.drawing.DrawRecordFault.TheVariants as DrawsRecord
 use Rattle.ob_object_perform.specs.Performance as Performs
 use Rattle.ob_object_perform.specs.Performance.{HasNoPerformance, IsPerformFault}
 use Rattle.ob_object_perform.specs.Pictured.{IsDrawFault, IsPicturePrinted, SaysNoRun}
@@ -26,7 +30,7 @@ use Rattle.ob_object_sequence.specs.SequentialRun.{HasNoRun, HasObject, IsNumber
 use Rattle.ob_object_verify.specs.Verified.{IsVerified}
 use Rattle.ob_object_verify.specs.VerifyFaults as Verifies
 use Rattle.ob_object_verify.specs.VerifyFaults.{IsVerifyFault}
-use Rattle.ob_command.specs.CommandLine.{Text, Request, RunRequest, Check, Listing, Seq, Run, Serve, Draw, Verify, Explain, Bound, Help, Version, Unclear}
+use Rattle.ob_command.specs.CommandLine.{Text, Request, RunRequest, Check, Listing, Seq, Run, Serve, Draw, DrawRecord, Verify, Explain, Bound, Help, Version, Unclear}
 use Rattle.ob_answer.specs.declared.product.Product.{Product}
 use Rattle.ob_answer.specs.declared.product.Product.TheVariants as Products
 use Rattle.ob_answer.specs.Explains.{IsCallsExplained, IsModuleExplained}
@@ -96,6 +100,16 @@ IsPictureAnswer module_bytes processes budget script_bytes schedule_bytes =
     (IsDrawFault module_bytes processes budget script_bytes schedule_bytes None) IsNumberedDraw
     (SaysNoRun module_bytes processes budget script_bytes schedule_bytes) draw_fault_line
 
+-- a fault of a record's picture with a number, so no want of memory
+abbrev pub IsNumberedDrawRecord : DrawRecordFault → Type 0
+IsNumberedDrawRecord fault = (fault ≢ DrawsRecord.NoMemory) × RecordPictures.TellsMemoryApart fault
+
+-- to the bytes of a module and of a record: the picture of all calls of the record
+abbrev pub IsRecordPictureAnswer : (module_bytes record_bytes : List ℕ) → Answer → Type 0
+IsRecordPictureAnswer module_bytes record_bytes =
+    IsTextAnswer (IsRecordPicture module_bytes record_bytes None) (IsDrawRecordFault module_bytes record_bytes None) IsNumberedDrawRecord
+    (λ _. Unit {0}) draw_record_fault_line
+
 -- what is printed of a run: its record, or a picture of it
 abbrev pub IsRunAnswer : Product → (module_bytes : List ℕ) (processes budget : ℕ) (script_bytes schedule_bytes : List ℕ) → Answer → Type 0
 IsRunAnswer Products.Record = IsRecordAnswer
@@ -135,6 +149,7 @@ files_of (Seq module_name script_name budget) = module_name ∷ script_name ∷ 
 files_of (Run run) = files_of_run run
 files_of (Serve module_name script_name processes budget) = module_name ∷ script_name ∷ []
 files_of (Draw run) = files_of_run run
+files_of (DrawRecord module_name record_name) = module_name ∷ record_name ∷ []
 files_of (Verify module_name record_name) = module_name ∷ record_name ∷ []
 files_of (Explain module_name None budget) = module_name ∷ []
 files_of (Explain module_name (Some script_name) budget) = module_name ∷ script_name ∷ []
@@ -149,6 +164,7 @@ IsMade (Seq module_name script_name budget) (module_bytes ∷ script_bytes ∷ [
 IsMade (Run run) bytes answer = IsRunMade Products.Record run bytes answer
 IsMade (Serve module_name script_name processes budget) (module_bytes ∷ script_bytes ∷ []) answer = IsServeAnswer module_bytes processes budget script_bytes answer
 IsMade (Draw run) bytes answer = IsRunMade Products.Picture run bytes answer
+IsMade (DrawRecord module_name record_name) (module_bytes ∷ record_bytes ∷ []) answer = IsRecordPictureAnswer module_bytes record_bytes answer
 IsMade (Verify module_name record_name) (module_bytes ∷ record_bytes ∷ []) answer = IsVerifyAnswer module_bytes record_bytes answer
 IsMade (Explain module_name None budget) (module_bytes ∷ []) answer = IsModuleExplained module_name module_bytes answer
 IsMade (Explain module_name (Some script_name) budget) (module_bytes ∷ script_bytes ∷ []) answer =

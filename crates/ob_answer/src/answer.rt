@@ -5,7 +5,7 @@ ghost use Rattle.std.specs.Str.{bytes_eq};
 ghost use Rattle.ob_answer.specs.Answers.{IsAnswer, IsObeyed, IsRunMade, files_of, files_of_run, input_name, reads_input_twice};
 ghost use Rattle.ob_answer.specs.Printed.{IsUnreadable};
 ghost use Rattle.ob_answer.specs.Reads.{IsOutcome};
-ghost use Rattle.ob_command.specs.CommandLine.{Bound, Check, Draw, Explain, Listing, Run, Seq, Serve, Text, Verify, budget_number, is_option, number, request};
+ghost use Rattle.ob_command.specs.CommandLine.{Bound, Check, Draw, DrawRecord, Explain, Listing, Run, Seq, Serve, Text, Verify, budget_number, is_option, number, request};
 ghost use Rattle.ob_command.specs.Commands.{request_of, run_request_of};
 ghost use Rattle.ob_command.specs.PlainForms.{run_with};
 
@@ -13,7 +13,8 @@ use crate::answered::Answer;
 use crate::explaining::obey_explain;
 use crate::files::{FileFault, Files};
 use crate::making::{
-    answer_bound, answer_check, answer_list, answer_run, answer_seq, answer_serve, answer_verify,
+    answer_bound, answer_check, answer_draw_record, answer_list, answer_run, answer_seq,
+    answer_serve, answer_verify,
 };
 use crate::product::Product;
 use crate::shown_name::push_name;
@@ -67,6 +68,8 @@ pub fn answer<R: Threads + Wait + Sync + AllocGlobal, F: Files>(
         → IfOk result (λ a. IsAnswer F.reads (Draw (run_with m s q k 100000)) files.old a files.new) }
     ensures draw_budget { (m s q n b : Text) (k t : ℕ) → map (λ word. word.now) words.now ≡ codes "draw" ∷ m ∷ s ∷ q ∷ codes "-n" ∷ n ∷ codes "-b" ∷ b ∷ [] → is_option m ≡ false → is_option s ≡ false → is_option q ≡ false → number n ≡ Some k → budget_number b ≡ Some t
         → IfOk result (λ a. IsAnswer F.reads (Draw (run_with m s q k t)) files.old a files.new) }
+    ensures draw_record { (m r : Text) → map (λ word. word.now) words.now ≡ codes "draw" ∷ m ∷ r ∷ [] → is_option m ≡ false → is_option r ≡ false
+        → IfOk result (λ a. IsAnswer F.reads (DrawRecord m r) files.old a files.new) }
     ensures verify { (m r : Text) → map (λ word. word.now) words.now ≡ codes "verify" ∷ m ∷ r ∷ [] → is_option m ≡ false → is_option r ≡ false
         → IfOk result (λ a. IsAnswer F.reads (Verify m r) files.old a files.new) }
     ensures explain { (m : Text) → map (λ word. word.now) words.now ≡ codes "explain" ∷ m ∷ [] → is_option m ≡ false
@@ -136,6 +139,10 @@ fn reads_input_twice(command: Command<'_>) -> bool
         } => are_two_inputs(&[module_name, script_name]),
         Command::Run(run) => are_inputs_of_run(run),
         Command::Draw(run) => are_inputs_of_run(run),
+        Command::DrawRecord {
+            module_name,
+            record_name,
+        } => are_two_inputs(&[module_name, record_name]),
         Command::Verify {
             module_name,
             record_name,
@@ -198,6 +205,10 @@ fn obey<R: Threads + Wait + Sync, F: Files>(
             files,
         ),
         Command::Draw(run) => obey_run(alloc, run, Product::Picture, files),
+        Command::DrawRecord {
+            module_name,
+            record_name,
+        } => obey_draw_record(alloc, module_name, record_name, files),
         Command::Verify {
             module_name,
             record_name,
@@ -342,6 +353,28 @@ fn obey_run<F: Files>(
         script.as_slice(),
         schedule.as_slice(),
     )
+}
+
+/// The answer to `draw` on a record, of the names of its files.
+fn obey_draw_record<F: Files>(
+    alloc: Global,
+    module_name: &str,
+    record_name: &str,
+    files: &mut F,
+) -> Result<Answer, NoMemory>
+    ensures { IfOk result (λ a. IsObeyed F.reads (DrawRecord module_name.now record_name.now) files.old a files.new) }
+{
+    let module = match files.read_beginning(module_name, MODULE_BYTES) {
+        Ok(bytes) => bytes,
+        Err(FileFault::Unreadable) => return Ok(unreadable(alloc, module_name)?),
+        Err(FileFault::NoMemory) => return Err(NoMemory),
+    };
+    let record = match files.read(record_name) {
+        Ok(bytes) => bytes,
+        Err(FileFault::Unreadable) => return Ok(unreadable(alloc, record_name)?),
+        Err(FileFault::NoMemory) => return Err(NoMemory),
+    };
+    answer_draw_record(alloc, module.as_slice(), record.as_slice())
 }
 
 /// The answer to `verify`, of the names of its files.

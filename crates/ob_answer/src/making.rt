@@ -1,10 +1,10 @@
 //! Answers made of the bytes of files. Of a module's text they have the beginning: a module of more bytes is too long.
 
 ghost use Rattle.std.specs.Prelude.{◌≡◌, ◌≢◌, ◌<◌, ◌≤◌, ◌++◌, ◌⊎◌, ℕ, List, suc, false, take, Err, IfErr, IfOk, codes, length, string_bytes};
-ghost use Rattle.ob_answer.specs.Answers.{IsBoundAnswer, IsCheckAnswer, IsListAnswer, IsPictureAnswer, IsRecordAnswer, IsRunAnswer, IsSeqAnswer, IsServeAnswer, IsVerifyAnswer};
+ghost use Rattle.ob_answer.specs.Answers.{IsBoundAnswer, IsCheckAnswer, IsListAnswer, IsPictureAnswer, IsRecordAnswer, IsRecordPictureAnswer, IsRunAnswer, IsSeqAnswer, IsServeAnswer, IsVerifyAnswer};
 ghost use Rattle.ob_answer.specs.Printed.{IsRefused};
 ghost use Rattle.ob_fault_lines.specs.CompileFaultLines.{compile_line};
-ghost use Rattle.ob_fault_lines.specs.DrawFaultLines.{draw_fault_line};
+ghost use Rattle.ob_fault_lines.specs.DrawFaultLines.{draw_fault_line, draw_record_fault_line};
 ghost use Rattle.ob_fault_lines.specs.RunFaultLines.{run_fault_line};
 ghost use Rattle.ob_fault_lines.specs.SequentialFaultLines.{seq_fault_line};
 ghost use Rattle.ob_fault_lines.specs.ServeFaultLines.{serve_fault_line};
@@ -19,7 +19,7 @@ use crate::product::Product;
 use ob_check_text::TextFault;
 use ob_desk_texts::{ServeTextFault, serve_text};
 use ob_fault_lines::compile_faults::compile_fault_line;
-use ob_fault_lines::draw_faults::draw_fault_line;
+use ob_fault_lines::draw_faults::{draw_fault_line, draw_record_fault_line};
 use ob_fault_lines::run_faults::run_fault_line;
 use ob_fault_lines::sequential_faults::seq_fault_line;
 use ob_fault_lines::serve_faults::serve_fault_line;
@@ -27,6 +27,7 @@ use ob_fault_lines::verify_faults::verify_fault_line;
 use ob_interface::{MOST_PROCESSES, NoMemory};
 use ob_object_bound::bound_text;
 use ob_object_compile::{CompileFault, list_text};
+use ob_object_draw::{DrawRecordFault, draw_record_text};
 use ob_object_perform::{DrawFault, PerformFault, draw_text, run_text};
 use ob_object_sequence::{SeqTextFault, check_text, seq_text};
 use ob_object_verify::{VerifyFault, verify_text};
@@ -197,6 +198,31 @@ fn draw_refused(alloc: Global, fault: DrawFault) -> Result<Answer, NoMemory>
     match fault {
         DrawFault::Run(PerformFault::NoMemory) => Err(NoMemory),
         fault => Ok(refused(alloc, draw_fault_line(alloc, fault)?)?),
+    }
+}
+
+/// The answer of `draw` to the beginning of a module's text and to the text of a record.
+pub(crate) fn answer_draw_record(
+    alloc: Global,
+    module: &[u8],
+    record: &[u8],
+) -> Result<Answer, NoMemory>
+    ensures { IfOk result (λ a. (whole : List ℕ) → «module».now ≡ take (suc LONGEST_TEXT) whole → IsRecordPictureAnswer whole «record».now a) }
+{
+    match draw_record_text(alloc, module, record, None) {
+        Ok(picture) => Ok(Answer::printed(alloc, picture)),
+        Err(fault) => draw_record_refused(alloc, fault),
+    }
+}
+
+/// The answer to a fault of a record's picture.
+fn draw_record_refused(alloc: Global, fault: DrawRecordFault) -> Result<Answer, NoMemory>
+    ensures fault { IfOk result (λ a. IsRefused a 1 (draw_record_fault_line fault ++ codes "\n")) }
+    ensures memory { IfOk result (λ _. fault ≢ DrawRecordFault.NoMemory) }
+{
+    match fault {
+        DrawRecordFault::NoMemory => Err(NoMemory),
+        fault => Ok(refused(alloc, draw_record_fault_line(alloc, fault)?)?),
     }
 }
 

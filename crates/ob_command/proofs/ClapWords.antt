@@ -18,8 +18,8 @@ use Rattle.clap.specs.declared.parser.matches.ValueSource.TheVariants.{CommandLi
 use Rattle.clap.proofs.FaultLemmas.{stopped_fault}
 use Rattle.clap.proofs.WalkLemmas.{walk_stopped}
 use Rattle.clap.proofs.OnLiterals.{clap_on_literals}
-use Rattle.ob_command.specs.ClapCommand.{bound_app, explain_app, module_app, name_rule, obl0_app, run_app, seq_app, serve_app, top_shape}
-use Rattle.ob_command.specs.CommandLine.{Bound, Check, Draw, Explain, Help, Listing, Request, Run, RunRequest, Seq, Serve, Unclear, Verify, Version, asks_version, budget_number, clap_request, command_names, is_option, number, request, request_by}
+use Rattle.ob_command.specs.ClapCommand.{bound_app, draw_app, explain_app, module_app, name_rule, obl0_app, run_app, seq_app, serve_app, top_shape}
+use Rattle.ob_command.specs.CommandLine.{Bound, Check, Draw, DrawRecord, Explain, Help, Listing, Request, Run, RunRequest, Seq, Serve, Unclear, Verify, Version, asks_version, budget_number, clap_request, command_names, is_option, number, request, request_by}
 use Rattle.ob_command.specs.PlainForms.{IsBoundAsked, IsHelpAsked, IsRunAsked, IsServeAsked, IsVersionAsked, run_with}
 use Rattle.ob_command.proofs.Numbers.{PlainNumber, plain_budget, plain_number}
 
@@ -168,6 +168,10 @@ optional_name place id = record (built_name place id) { required = false }
 abbrev pub built_number : Rule
 built_number = built_one (codes "N") None (Some 110) (parser.Signed (pos 0) (pos 65535))
 
+-- one that may be missing
+abbrev pub optional_number : Rule
+optional_number = record built_number { required = false }
+
 abbrev pub built_budget : Rule
 built_budget = record (built_one (codes "BUDGET") None (Some 98) (parser.Signed (pos 0) (pos 4294967295))) {
   long = Some (codes "budget");
@@ -202,6 +206,10 @@ abbrev pub run_leaf : Text → Shape
 run_leaf command = built_leaf (run_app command).top
     (built_name 1 (codes "MODULE") ∷ built_name 2 (codes "SCRIPT") ∷ built_name 3 (codes "SCHEDULE") ∷ built_number ∷ built_budget ∷ built_help ∷ [])
 
+abbrev pub draw_leaf : Shape
+draw_leaf = built_leaf (draw_app (codes "draw")).top
+    (built_name 1 (codes "MODULE") ∷ built_name 2 (codes "SCRIPT") ∷ optional_name 3 (codes "SCHEDULE") ∷ optional_number ∷ built_budget ∷ built_help ∷ [])
+
 abbrev pub serve_leaf : Text → Shape
 serve_leaf command = built_leaf (serve_app command).top (built_name 1 (codes "MODULE") ∷ built_name 2 (codes "SCRIPT") ∷ built_number ∷ built_budget ∷ built_help ∷ [])
 
@@ -215,7 +223,7 @@ abbrev pub built_app : App
 built_app = record {
   top = built_top;
   subs = module_leaf (codes "check") ∷ module_leaf (codes "list") ∷ seq_leaf (codes "seq")
-      ∷ run_leaf (codes "run") ∷ serve_leaf (codes "serve") ∷ run_leaf (codes "draw") ∷ second_leaf (codes "verify") (codes "RECORD") ∷ explain_leaf (codes "explain")
+      ∷ run_leaf (codes "run") ∷ serve_leaf (codes "serve") ∷ draw_leaf ∷ second_leaf (codes "verify") (codes "RECORD") ∷ explain_leaf (codes "explain")
       ∷ bound_leaf (codes "bound") ∷ [];
 }
 
@@ -437,6 +445,80 @@ unfolding clap_on_literals
 run_long_budget command m s d n b plain_n plain_b =
     stepped (run_leaf command) _ (codes "--budget") (no_refusal _ plain_n.passes) _ refl (b ∷ []) _ (run_value command m s d n b plain_b)
 
+-- the rows of a run that is drawn
+abbrev drawn_row : Text → Row
+drawn_row d = record { id = codes "SCHEDULE"; values = d ∷ []; count = None; source = Some CommandLine; reading = reading_by (optional_name 3 (codes "SCHEDULE")) }
+
+abbrev optional_number_row : Text → Row
+optional_number_row n = record { id = codes "N"; values = n ∷ []; count = None; source = Some CommandLine; reading = reading_by optional_number }
+
+abbrev drawn_rows : Text → Text → Text → Text → List Row
+drawn_rows m s d n = name_row (codes "MODULE") m ∷ name_row (codes "SCRIPT") s ∷ drawn_row d ∷ optional_number_row n ∷ []
+
+abbrev drawn_budget_rows : Text → Text → Text → Text → Text → List Row
+drawn_budget_rows m s d n b = name_row (codes "MODULE") m ∷ name_row (codes "SCRIPT") s ∷ drawn_row d ∷ optional_number_row n ∷ budget_row b ∷ []
+
+-- where the number of processes was met, behind the three names
+abbrev drawn_counted : Text → Text → Text → Text → Walk
+drawn_counted m s d n =
+    state draw_leaf (name_row (codes "MODULE") m ∷ name_row (codes "SCRIPT") s ∷ drawn_row d ∷ []) (Some (codes "N", n ∷ [])) 4
+
+-- after the three names the option, and its value
+drawn_number_given : (m s d n : Text) → PlainNumber 65535 n → (words : List Text) (rows : List Row)
+    → Goes draw_leaf (drawn_counted m s d n) words rows
+    → Goes draw_leaf (state draw_leaf (name_row (codes "MODULE") m ∷ name_row (codes "SCRIPT") s ∷ []) (Some (codes "SCHEDULE", d ∷ [])) 4)
+    (codes "-n" ∷ n ∷ words) rows
+unfolding clap_on_literals
+drawn_number_given m s d n plain words rows goes =
+    stepped draw_leaf _ (codes "-n") refl _ refl (n ∷ words) _
+    (valued draw_leaf (name_row (codes "MODULE") m ∷ name_row (codes "SCRIPT") s ∷ drawn_row d ∷ []) (Some (codes "N", [])) 4 (codes "N")
+    n plain.no_option _ refl words _ goes)
+
+-- the three names and the number, and what follows
+drawn_named : (m s d n : Text) → is_option m ≡ false → is_option s ≡ false → is_option d ≡ false → PlainNumber 65535 n
+    → (words : List Text) (rows : List Row) → Goes draw_leaf (drawn_counted m s d n) words rows
+    → Goes draw_leaf start (m ∷ s ∷ d ∷ codes "-n" ∷ n ∷ words) rows
+unfolding clap_on_literals
+drawn_named m s d n no_m no_s no_d plain words rows goes =
+    named draw_leaf [] None 1 m no_m refl _ refl (s ∷ d ∷ codes "-n" ∷ n ∷ words) _
+    (named draw_leaf [] (Some (codes "MODULE", m ∷ [])) 2 s no_s refl _ refl (d ∷ codes "-n" ∷ n ∷ words) _
+    (named draw_leaf (name_row (codes "MODULE") m ∷ []) (Some (codes "SCRIPT", s ∷ [])) 3 d no_d refl _ refl (codes "-n" ∷ n ∷ words) _
+    (drawn_number_given m s d n plain words rows goes)))
+
+drawn_given : (m s d n : Text) → is_option m ≡ false → is_option s ≡ false → is_option d ≡ false → PlainNumber 65535 n
+    → Goes draw_leaf start (m ∷ s ∷ d ∷ codes "-n" ∷ n ∷ []) (drawn_rows m s d n)
+unfolding clap_on_literals
+drawn_given m s d n no_m no_s no_d plain =
+    drawn_named m s d n no_m no_s no_d plain [] _ (record { no_fault = no_refusal _ plain.passes; leaves = refl })
+
+-- where the option of the budget stood behind them, and its value follows
+drawn_value : (m s d n b : Text) → PlainNumber 4294967295 b
+    → Goes draw_leaf (waits draw_leaf (drawn_rows m s d n) (Some (codes "BUDGET", [])) 4 (codes "BUDGET")) (b ∷ []) (drawn_budget_rows m s d n b)
+unfolding clap_on_literals
+drawn_value m s d n b plain =
+    valued draw_leaf (drawn_rows m s d n) (Some (codes "BUDGET", [])) 4 (codes "BUDGET")
+    b plain.no_option _ refl [] _ (record { no_fault = no_refusal _ plain.passes; leaves = refl })
+
+drawn_short_budget : (m s d n b : Text) → PlainNumber 65535 n → PlainNumber 4294967295 b
+    → Goes draw_leaf (drawn_counted m s d n) (codes "-b" ∷ b ∷ []) (drawn_budget_rows m s d n b)
+unfolding clap_on_literals
+drawn_short_budget m s d n b plain_n plain_b =
+    stepped draw_leaf _ (codes "-b") (no_refusal _ plain_n.passes) _ refl (b ∷ []) _ (drawn_value m s d n b plain_b)
+
+drawn_long_budget : (m s d n b : Text) → PlainNumber 65535 n → PlainNumber 4294967295 b
+    → Goes draw_leaf (drawn_counted m s d n) (codes "--budget" ∷ b ∷ []) (drawn_budget_rows m s d n b)
+unfolding clap_on_literals
+drawn_long_budget m s d n b plain_n plain_b =
+    stepped draw_leaf _ (codes "--budget") (no_refusal _ plain_n.passes) _ refl (b ∷ []) _ (drawn_value m s d n b plain_b)
+
+-- a record to be drawn
+record_drawn : (m r : Text) → is_option m ≡ false → is_option r ≡ false
+    → Goes draw_leaf start (m ∷ r ∷ []) (name_row (codes "MODULE") m ∷ name_row (codes "SCRIPT") r ∷ [])
+unfolding clap_on_literals
+record_drawn m r no_m no_r =
+    named draw_leaf [] None 1 m no_m refl _ refl (r ∷ []) _
+    (named draw_leaf [] (Some (codes "MODULE", m ∷ [])) 2 r no_r refl _ refl [] _ (record { no_fault = refl; leaves = refl }))
+
 -- and of what workers run
 abbrev serve_rows : Text → Text → Text → List Row
 serve_rows m s n = name_row (codes "MODULE") m ∷ name_row (codes "SCRIPT") s ∷ number_row n ∷ []
@@ -637,25 +719,29 @@ run_long_asked m s d n b k t no_m no_s no_d is_k is_t =
 pub draw_asked : RunAsked (codes "draw") Draw
 unfolding clap_on_literals
 draw_asked m s d n k no_m no_s no_d is =
-    asked (codes "draw") (run_leaf (codes "draw")) refl refl refl (m ∷ s ∷ d ∷ codes "-n" ∷ n ∷ []) _
-    (run_given (codes "draw") m s d n no_m no_s no_d (plain_number n k is))
+    asked (codes "draw") draw_leaf refl refl refl (m ∷ s ∷ d ∷ codes "-n" ∷ n ∷ []) _
+    (drawn_given m s d n no_m no_s no_d (plain_number n k is))
     ∙ run_is Draw (run_with m s d) _ _ k 100000 (number_is n k is) refl
 
 pub draw_short_asked : IsRunAsked (codes "draw") (codes "-b") Draw
 unfolding clap_on_literals
 draw_short_asked m s d n b k t no_m no_s no_d is_k is_t =
-    asked (codes "draw") (run_leaf (codes "draw")) refl refl refl (m ∷ s ∷ d ∷ codes "-n" ∷ n ∷ codes "-b" ∷ b ∷ []) _
-    (run_named (codes "draw") m s d n no_m no_s no_d (plain_number n k is_k) (codes "-b" ∷ b ∷ []) _
-    (run_short_budget (codes "draw") m s d n b (plain_number n k is_k) (plain_budget b t is_t)))
+    asked (codes "draw") draw_leaf refl refl refl (m ∷ s ∷ d ∷ codes "-n" ∷ n ∷ codes "-b" ∷ b ∷ []) _
+    (drawn_named m s d n no_m no_s no_d (plain_number n k is_k) (codes "-b" ∷ b ∷ []) _
+    (drawn_short_budget m s d n b (plain_number n k is_k) (plain_budget b t is_t)))
     ∙ run_is Draw (run_with m s d) _ _ k t (number_is n k is_k) (budget_is b t is_t)
 
 pub draw_long_asked : IsRunAsked (codes "draw") (codes "--budget") Draw
 unfolding clap_on_literals
 draw_long_asked m s d n b k t no_m no_s no_d is_k is_t =
-    asked (codes "draw") (run_leaf (codes "draw")) refl refl refl (m ∷ s ∷ d ∷ codes "-n" ∷ n ∷ codes "--budget" ∷ b ∷ []) _
-    (run_named (codes "draw") m s d n no_m no_s no_d (plain_number n k is_k) (codes "--budget" ∷ b ∷ []) _
-    (run_long_budget (codes "draw") m s d n b (plain_number n k is_k) (plain_budget b t is_t)))
+    asked (codes "draw") draw_leaf refl refl refl (m ∷ s ∷ d ∷ codes "-n" ∷ n ∷ codes "--budget" ∷ b ∷ []) _
+    (drawn_named m s d n no_m no_s no_d (plain_number n k is_k) (codes "--budget" ∷ b ∷ []) _
+    (drawn_long_budget m s d n b (plain_number n k is_k) (plain_budget b t is_t)))
     ∙ run_is Draw (run_with m s d) _ _ k t (number_is n k is_k) (budget_is b t is_t)
+
+pub draw_record_asked : (m r : Text) → is_option m ≡ false → is_option r ≡ false → request (codes "draw" ∷ m ∷ r ∷ []) ≡ DrawRecord m r
+unfolding clap_on_literals
+draw_record_asked m r no_m no_r = asked (codes "draw") draw_leaf refl refl refl (m ∷ r ∷ []) _ (record_drawn m r no_m no_r)
 
 pub serve_asked : (m s n : Text) (k : ℕ) → is_option m ≡ false → is_option s ≡ false → number n ≡ Some k
     → request (codes "serve" ∷ m ∷ s ∷ codes "-n" ∷ n ∷ []) ≡ Serve m s k 100000

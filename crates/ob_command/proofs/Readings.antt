@@ -1,5 +1,5 @@
 -- From what clap answers to a request.
-use Rattle.std.proofs.Common.{◌≡◌, ◌≢◌, ◌∙◌, ◌⊎◌, ℕ, refl, sym, ap, ap₂, subst, List, [], ◌∷◌, true, false, Option, Some, None, Err, IsSome, Box, box_value, option_map, option_and_then, is_some, codes, inl, inr}
+use Rattle.std.proofs.Common.{◌≡◌, ◌≢◌, ◌∙◌, ◌⊎◌, ◌||◌, ℕ, refl, sym, ap, ap₂, subst, List, [], ◌∷◌, true, false, Bool, if◌then◌else◌, Option, Some, None, Err, Box, box_value, option_map, option_and_then, is_some, codes, inl, inr}
 use Rattle.clap.specs.Words.{App, Row, Text, rows_of, subcommand_rows_of, IsAmong, HasKind, HasMatchesOf, Kinds, fault_of, is_simple, is_simple_and_free, kind_of, subcommand_of}
 use Rattle.clap.specs.declared.error.Error.{Error}
 use Rattle.clap.specs.declared.error.kind.ErrorKind.{ErrorKind}
@@ -10,8 +10,6 @@ use Rattle.clap.specs.declared.parser.matches.SubCommand.{SubCommand}
 use Rattle.clap.specs.Matches.{subcommand_name_of}
 use Rattle.clap.specs.Simple.{subcommand_rows}
 use Rattle.std.specs.Prelude.{unwrap_or}
-use Rattle.ob_command.specs.declared.command.Command as command
-use Rattle.ob_command.proofs.Required.{has_command}
 use Rattle.clap.specs.Simple.{built}
 use Rattle.clap.specs.Walk.{nothing_held}
 use Rattle.clap.proofs.OnLiterals.{clap_on_literals}
@@ -20,7 +18,7 @@ use Rattle.std.specs.Borrow.{Bor}
 use Rattle.clap.specs.Words.{first_of, first_value, one_of}
 use Rattle.clap.specs.declared.parser.matches.Found.{Found}
 use Rattle.clap.proofs.WalkLemmas.{first_value-rows}
-use Rattle.ob_command.specs.CommandLine.{Request, Bound, Check, Draw, Explain, Help, Listing, Run, RunRequest, Seq, Serve, Unclear, Verify, bound_of, budget_number, budget_of, clap_request, command_of, default_budget, processes_of, request_by, run_of, seq_of, serve_of}
+use Rattle.ob_command.specs.CommandLine.{Request, Bound, Check, Draw, DrawRecord, Explain, Help, Listing, Run, RunRequest, Seq, Serve, Unclear, Verify, bound_of, budget_number, budget_of, clap_request, command_of, default_budget, draw_of, draw_record_of, processes_of, request_by, run_of, seq_of, serve_of}
 use Rattle.ob_command.specs.PlainForms.{run_with}
 use Rattle.ob_command.specs.Commands.{IsReading, IsStopOf, request_of}
 use Rattle.ob_command.specs.declared.command.Stop.{Stop}
@@ -80,6 +78,15 @@ pub first_row : (f : Found) (id : Text) (o : Option (Bor Text)) (v : Option Text
     → option_map (λ s. s.now) o ≡ v → first_of id (rows_of f) ≡ v
 first_row f id o v e h = sym (first_value-rows f id) ∙ (sym e ∙ h)
 
+some_mapped : {A B : Type 0} (g : A → B) (o : Option A) → is_some o ≡ is_some (option_map g o)
+some_mapped g None = refl
+some_mapped g (Some x) = refl
+
+-- whether an argument has a row
+pub given_by : (f : Found) (id : Text) (o : Option (Bor Text)) (given : Bool) → option_map (λ s. s.now) o ≡ first_value f id → given ≡ is_some o
+    → given ≡ is_some (first_of id (rows_of f))
+given_by f id o given e is = is ∙ (some_mapped (λ s. s.now) o ∙ ap is_some (e ∙ first_value-rows f id))
+
 pub no_module : (name : Text) (rows : List Row) → first_of (codes "MODULE") rows ≡ None → command_of name rows ≡ None
 no_module name rows h = rw h refl
 
@@ -106,9 +113,20 @@ a_run name m rows run is h e = rw (is, h) (ap (option_map Run) e)
 pub a_serve : (name m : Text) (rows : List Row) → name ≡ codes "serve" → first_of (codes "MODULE") rows ≡ Some m → command_of name rows ≡ serve_of m rows
 a_serve name m rows is h = rw (is, h) refl
 
-pub a_draw : (name m : Text) (rows : List Row) (run : Option RunRequest) → name ≡ codes "draw" → first_of (codes "MODULE") rows ≡ Some m
-    → run_of m rows ≡ run → command_of name rows ≡ option_map Draw run
-a_draw name m rows run is h e = rw (is, h) (ap (option_map Draw) e)
+pub a_draw : (name m : Text) (rows : List Row) → name ≡ codes "draw" → first_of (codes "MODULE") rows ≡ Some m → command_of name rows ≡ draw_of m rows
+a_draw name m rows is h = rw (is, h) refl
+
+-- what is drawn, by whether there is a schedule, and a number or a budget
+pub drawn_if : (given : Bool) (m : Text) (rows : List Row) → is_some (first_of (codes "SCHEDULE") rows) ≡ given
+    → draw_of m rows ≡ (if given then option_map Draw (run_of m rows) else draw_record_of m rows)
+drawn_if given m rows is = ap (λ (t : Bool). if t then option_map Draw (run_of m rows) else draw_record_of m rows) is
+
+pub neither_given : (n b : Bool) → n ≡ false → b ≡ false → (n || b) ≡ false
+neither_given n b is_n is_b = ap₂ (λ (n b : Bool). n || b) is_n is_b
+
+pub record_if : (given : Bool) (m : Text) (rows : List Row) → (is_some (first_of (codes "N") rows) || is_some (first_of (codes "BUDGET") rows)) ≡ given
+    → draw_record_of m rows ≡ (if given then None else option_map (DrawRecord m) (first_of (codes "SCRIPT") rows))
+record_if given m rows is = ap (λ (t : Bool). if t then None else option_map (DrawRecord m) (first_of (codes "SCRIPT") rows)) is
 
 pub a_verify : (name m : Text) (rows : List Row) (record_name : Option Text) → name ≡ codes "verify" → first_of (codes "MODULE") rows ≡ Some m
     → first_of (codes "RECORD") rows ≡ record_name → command_of name rows ≡ option_map (Verify m) record_name
@@ -158,10 +176,6 @@ met_is (Some b) name rows e h = ap₂ (λ (n : Text) (r : List Row). Some (n, r)
     inside : {A : Type 0} {x y : A} → Some x ≡ Some y → y ≡ x
     inside e = cc
 
-pub mapped : (o : Option command.Command) (r : Option Request) → option_map request_of o ≡ r → is_some r ≡ true → IsSome o
-mapped None r e h = let bad : false ≡ true = rw (← e) at h in cc
-mapped (Some c) r e h = refl
-
 module _ (a : App) (is : a ≡ obl0_app) (words : List Text) (m : ArgMatches)
     (kinds : is_simple_and_free a ≡ true → fault_of a words ≡ []) (matches : HasMatchesOf a words m)
     (name : Text) (rows : List Row) (named : Some name ≡ subcommand_name_of m)
@@ -169,9 +183,10 @@ module _ (a : App) (is : a ≡ obl0_app) (words : List Text) (m : ArgMatches)
   met : subcommand_of obl0_app words ≡ Some (name, rows)
   met = sym (the_rows a is words m kinds matches) ∙ met_is (out-ArgMatches m).subcommand name rows named left
 
-  pub asked_some : is_some (command_of name rows) ≡ true
-  asked_some = has_command words (no_fault a is words m kinds matches) (name, rows) met
-
   pub asked_is : (r : Request) → command_of name rows ≡ Some r → clap_request words ≡ r
   unfolding clap_request
   asked_is r h = ap₂ request_by (no_fault a is words m kinds matches) met ∙ ap (λ o. unwrap_or o Unclear) h
+
+  pub nothing_asked : command_of name rows ≡ None → clap_request words ≡ Unclear
+  unfolding clap_request
+  nothing_asked h = ap₂ request_by (no_fault a is words m kinds matches) met ∙ ap (λ o. unwrap_or o Unclear) h

@@ -1,5 +1,5 @@
 -- The command line in the words of clap.
-use Rattle.std.specs.Prelude.{Some, pos, true, [], ◌∷◌, codes, fold}
+use Rattle.std.specs.Prelude.{Some, pos, true, false, [], ◌∷◌, codes, fold}
 use Rattle.clap.specs.Words.{App, Rule, Shape, Text, new_app, new_rule, with_rule, with_subcommand}
 use Rattle.clap.specs.declared.builder.value_parser.ValueParser.TheVariants.{Signed}
 
@@ -10,6 +10,10 @@ name_rule id = record (new_rule id) { required = true }
 -- `-n N`, with a number of 16 bits, which has to be there
 abbrev pub number_rule : Rule
 number_rule = record (name_rule (codes "N")) { short = Some 110; parser = Some (Signed (pos 0) (pos 65535)) }
+
+-- the same where it may be missing
+abbrev pub optional_number_rule : Rule
+optional_number_rule = record number_rule { required = false }
 
 -- `-b BUDGET`, `--budget BUDGET`, with a number of 32 bits, which may be missing
 abbrev pub budget_rule : Rule
@@ -31,9 +35,13 @@ seq_app command = with_rule (script_app command) budget_rule
 abbrev pub explain_app : Text → App
 explain_app command = with_rule (with_rule (module_app command) (new_rule (codes "SCRIPT"))) budget_rule
 
--- `run MODULE SCRIPT SCHEDULE -n N -b BUDGET`, `draw MODULE SCRIPT SCHEDULE -n N -b BUDGET`
+-- `run MODULE SCRIPT SCHEDULE -n N -b BUDGET`
 abbrev pub run_app : Text → App
 run_app command = with_rule (with_rule (with_rule (script_app command) (name_rule (codes "SCHEDULE"))) number_rule) budget_rule
+
+-- `draw MODULE SCRIPT SCHEDULE -n N -b BUDGET`, `draw MODULE RECORD`
+abbrev pub draw_app : Text → App
+draw_app command = with_rule (with_rule (with_rule (script_app command) (new_rule (codes "SCHEDULE"))) optional_number_rule) budget_rule
 
 -- `serve MODULE SCRIPT -n N -b BUDGET`
 abbrev pub serve_app : Text → App
@@ -65,5 +73,5 @@ with_command app command = with_subcommand app command.top
 
 abbrev pub obl0_app : App
 obl0_app = fold with_command top_app (module_app (codes "check") ∷ module_app (codes "list") ∷ seq_app (codes "seq")
-    ∷ run_app (codes "run") ∷ serve_app (codes "serve") ∷ run_app (codes "draw") ∷ record_app (codes "verify")
+    ∷ run_app (codes "run") ∷ serve_app (codes "serve") ∷ draw_app (codes "draw") ∷ record_app (codes "verify")
     ∷ explain_app (codes "explain") ∷ bound_app (codes "bound") ∷ [])

@@ -20,7 +20,7 @@ pub record RunRequest : Type 0 where
   pub budget : ℕ
 
 -- What they ask for: the rules of a module checked; its code listed; the calls of a script made on it; a run's record;
--- the record of workers' run; a run's picture; the order of a record checked; what is wrong with a module, or with a module and a script, shown to
+-- the record of workers' run; a run's picture; a record's; the order of a record checked; what is wrong with a module, or with a module and a script, shown to
 -- people; how many own steps a call takes at most; help; the version; or nothing that there is. A command has the names of its files, and a budget is how many turns each call has.
 pub data Request : Type 0 where
   Check : (module_name : Text) → Request
@@ -29,6 +29,7 @@ pub data Request : Type 0 where
   Run : (run : RunRequest) → Request
   Serve : (module_name script_name : Text) (processes budget : ℕ) → Request
   Draw : (run : RunRequest) → Request
+  DrawRecord : (module_name record_name : Text) → Request
   Verify : (module_name record_name : Text) → Request
   Explain : (module_name : Text) (script_name : Option Text) (budget : ℕ) → Request
   Bound : (module_name : Text) (processes budget : ℕ) → Request
@@ -72,6 +73,17 @@ run_of module_name rows =
       budget = budget;
     }) (budget_of rows)) (processes_of rows)) (first_of (codes "SCHEDULE") rows)) (first_of (codes "SCRIPT") rows)
 
+-- A record is drawn of a module and a second file alone: of how many processes and with which budget the record tells itself.
+abbrev pub draw_record_of : Text → List Row → Option Request
+draw_record_of module_name rows =
+    if is_some (first_of (codes "N") rows) || is_some (first_of (codes "BUDGET") rows) then None
+    else option_map (DrawRecord module_name) (first_of (codes "SCRIPT") rows)
+
+-- what is to be drawn, of the same rows: a run where there is a schedule, else a record
+abbrev pub draw_of : Text → List Row → Option Request
+draw_of module_name rows =
+    if is_some (first_of (codes "SCHEDULE") rows) then option_map Draw (run_of module_name rows) else draw_record_of module_name rows
+
 -- what workers run, of the same rows
 abbrev pub serve_of : Text → List Row → Option Request
 serve_of module_name rows =
@@ -99,7 +111,7 @@ command_of name rows = option_and_then (λ module_name.
     else if bytes_eq name (codes "seq") then seq_of module_name rows
     else if bytes_eq name (codes "run") then option_map Run (run_of module_name rows)
     else if bytes_eq name (codes "serve") then serve_of module_name rows
-    else if bytes_eq name (codes "draw") then option_map Draw (run_of module_name rows)
+    else if bytes_eq name (codes "draw") then draw_of module_name rows
     else if bytes_eq name (codes "verify") then option_map (Verify module_name) (first_of (codes "RECORD") rows)
     else if bytes_eq name (codes "explain") then explain_of module_name rows
     else if bytes_eq name (codes "bound") then bound_of module_name rows

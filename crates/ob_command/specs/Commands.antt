@@ -7,7 +7,7 @@ use Rattle.ob_command.specs.declared.command.Command.TheVariants as commands
 use Rattle.ob_command.specs.declared.command.RunCommand.{RunCommand}
 use Rattle.ob_command.specs.declared.command.Stop.{Stop}
 use Rattle.ob_command.specs.declared.command.Stop.TheVariants as stops
-use Rattle.ob_command.specs.CommandLine.{Request, RunRequest, Check, Listing, Seq, Run, Serve, Draw, Verify, Explain, Bound, Help, Version, Unclear}
+use Rattle.ob_command.specs.CommandLine.{Request, RunRequest, Check, Listing, Seq, Run, Serve, Draw, DrawRecord, Verify, Explain, Bound, Help, Version, Unclear}
 
 -- what a command asks for
 abbrev pub run_request_of : RunCommand → RunRequest
@@ -26,6 +26,7 @@ request_of (commands.Seq module_name script_name budget) = Seq module_name.now s
 request_of (commands.Run run) = Run (run_request_of run)
 request_of (commands.Serve module_name script_name processes budget) = Serve module_name.now script_name.now processes budget
 request_of (commands.Draw run) = Draw (run_request_of run)
+request_of (commands.DrawRecord module_name record_name) = DrawRecord module_name.now record_name.now
 request_of (commands.Verify module_name record_name) = Verify module_name.now record_name.now
 request_of (commands.Explain module_name script_name budget) = Explain module_name.now (option_map (λ name. name.now) script_name) budget
 request_of (commands.Bound module_name processes budget) = Bound module_name.now processes budget

@@ -1,10 +1,10 @@
 //! The command line.
 
-ghost use Rattle.std.specs.Prelude.{◌≡◌, false, true, IfOk, IsOkAnd, map, option_map};
-ghost use Rattle.clap.specs.Words.{app_of, found_of, kind_of, rows_of, rule_of};
+ghost use Rattle.std.specs.Prelude.{◌≡◌, false, true, IfOk, IsOkAnd, map, option_map, is_some};
+ghost use Rattle.clap.specs.Words.{app_of, first_of, found_of, kind_of, new_rule, rows_of, rule_of};
 ghost use Rattle.clap.specs.declared.builder.command.Command.TheViews.{out-Command as fields_of};
-ghost use Rattle.ob_command.specs.ClapCommand.{bound_app, budget_rule, explain_app, module_app, name_rule, number_rule, obl0_app, record_app, run_app, script_app, seq_app, serve_app, top_app, with_command};
-ghost use Rattle.ob_command.specs.CommandLine.{asks_version, bound_of, budget_of, clap_request, clap_words, command_of, help_words, is_version_option, request, run_of, serve_of};
+ghost use Rattle.ob_command.specs.ClapCommand.{bound_app, budget_rule, draw_app, explain_app, module_app, name_rule, number_rule, obl0_app, optional_number_rule, record_app, run_app, script_app, seq_app, serve_app, top_app, with_command};
+ghost use Rattle.ob_command.specs.CommandLine.{asks_version, bound_of, budget_of, clap_request, clap_words, command_of, draw_of, draw_record_of, help_words, is_version_option, request, run_of, serve_of};
 ghost use Rattle.ob_command.specs.Commands.{IsReading, IsStopOf, request_of, run_request_of};
 ghost use Rattle.ob_command.specs.declared.command.Stop.TheVariants.{NoMemory};
 
@@ -40,6 +40,11 @@ pub enum Command<'a> {
     },
     /// `draw MODULE SCRIPT SCHEDULE -n N -b BUDGET`: the same run as a picture.
     Draw(RunCommand<'a>),
+    /// `draw MODULE RECORD`: the picture of a record that was printed before.
+    DrawRecord {
+        module_name: &'a str,
+        record_name: &'a str,
+    },
     /// `verify MODULE RECORD`: whether the order of a record is a legal order of its calls.
     Verify {
         module_name: &'a str,
@@ -101,7 +106,8 @@ const ABOUT_RUN: &str =
 const ABOUT_SERVE: &str =
     "Makes the calls of a script by a worker for each process and prints the record of the run";
 
-const ABOUT_DRAW: &str = "Makes the same run as `run` and prints a picture of it in SVG";
+const ABOUT_DRAW: &str =
+    "Prints a picture in SVG, of the same run as that of `run`, or of a record alone";
 
 const ABOUT_VERIFY: &str = "Tells whether the order of a record is a legal order of its calls";
 
@@ -112,6 +118,8 @@ const ABOUT_BOUND: &str =
 
 const HELP_SCRIPT: &str = "The file of the calls, one a line: PROCESS PROCEDURE ARGUMENTS";
 
+const HELP_DRAWN: &str = "The file of the calls; or, with no schedule and no option, of a record";
+
 const HELP_SCHEDULE: &str =
     "The file of the items that say which process steps: PROCESS*STEPS, PROCESS:LABEL or PROCESS!";
 
@@ -119,6 +127,13 @@ const HELP_RECORD: &str = "The file of the record, as `run` prints it";
 
 const HELP_BUDGET: &str =
     "How many turns each call has, 0 to 1000000; 100000 where nothing is said";
+
+/// What is wrong with words for a picture that name neither a run nor a record.
+const UNCLEAR_DRAW: &str = "\
+error: a run is drawn by MODULE SCRIPT SCHEDULE -n N, and a record by MODULE RECORD alone
+
+For more information, try '--help'.
+";
 
 /// What stands below the help.
 const AFTER_HELP: &str = "\
@@ -195,7 +210,10 @@ fn read_words<'a>(alloc: Global, words: &'a [&'a str]) -> Result<Command<'a>, St
         Err(error) => return Err(stop_of(alloc, &error)?),
     };
     match matches.subcommand() {
-        Some((name, matches)) => Ok(command_of(name, matches).unwrap()),
+        Some((name, matches)) => match command_of(name, matches) {
+            Some(command) => Ok(command),
+            None => Err(Stop::Unclear(String::from_str(alloc, UNCLEAR_DRAW)?)),
+        },
         None => unreachable!(),
     }
 }
@@ -215,7 +233,7 @@ fn command_of<'a>(name: &str, matches: &ArgMatches<'a>) -> Option<Command<'a>>
         }),
         "run" => Some(Command::Run(run_of(module_name, matches)?)),
         "serve" => serve_of(module_name, matches),
-        "draw" => Some(Command::Draw(run_of(module_name, matches)?)),
+        "draw" => draw_of(module_name, matches),
         "verify" => Some(Command::Verify {
             module_name,
             record_name: matches.get_str("RECORD")?,
@@ -260,6 +278,37 @@ fn serve_of<'a>(module_name: &'a str, matches: &ArgMatches<'a>) -> Option<Comman
         processes: usize::from(workers),
         budget,
     })
+}
+
+/// What is to be drawn, of the matches of the words behind `draw`.
+fn draw_of<'a>(module_name: &'a str, matches: &ArgMatches<'a>) -> Option<Command<'a>>
+    ensures { option_map request_of result ≡ draw_of module_name.entry.now (rows_of (found_of matches.now)) }
+{
+    if is_given(matches, "SCHEDULE") {
+        return Some(Command::Draw(run_of(module_name, matches)?));
+    }
+    draw_record_of(module_name, matches)
+}
+
+/// The record that is to be drawn, of the same matches.
+fn draw_record_of<'a>(module_name: &'a str, matches: &ArgMatches<'a>) -> Option<Command<'a>>
+    ensures { option_map request_of result ≡ draw_record_of module_name.entry.now (rows_of (found_of matches.now)) }
+{
+    if is_given(matches, "N") || is_given(matches, "BUDGET") {
+        return None;
+    }
+    let record_name = matches.get_str("SCRIPT")?;
+    Some(Command::DrawRecord {
+        module_name,
+        record_name,
+    })
+}
+
+/// Whether an argument was given, of the same matches.
+fn is_given(matches: &ArgMatches<'_>, id: &str) -> bool
+    ensures { result ≡ is_some (first_of id.now (rows_of (found_of matches.now))) }
+{
+    matches.get_str(id).is_some()
 }
 
 /// What is to be told of own steps, of the matches of the words behind `bound`.
@@ -327,7 +376,7 @@ fn command_line<'a>(alloc: Global) -> Result<clap::Command<'a>, AllocError>
     let program = with_command(program, seq_line(alloc, "seq", ABOUT_SEQ))?;
     let program = with_command(program, run_line(alloc, "run", ABOUT_RUN))?;
     let program = with_command(program, serve_line(alloc, "serve", ABOUT_SERVE))?;
-    let program = with_command(program, run_line(alloc, "draw", ABOUT_DRAW))?;
+    let program = with_command(program, draw_line(alloc, "draw", ABOUT_DRAW))?;
     let program = with_command(program, record_line(alloc, "verify", ABOUT_VERIFY))?;
     let program = with_command(program, explain_line(alloc, "explain", ABOUT_EXPLAIN))?;
     with_command(program, bound_line(alloc, "bound", ABOUT_BOUND))
@@ -371,6 +420,22 @@ fn run_line<'a>(
     script_line(alloc, command, about)?
         .arg(file_name(alloc, "SCHEDULE", HELP_SCHEDULE))?
         .arg(process_count(alloc))?
+        .arg(call_budget(alloc))
+}
+
+/// The words behind a command on a module, and on a script and a schedule for a number of processes with a budget or on a record.
+fn draw_line<'a>(
+    alloc: Global,
+    command: &'a str,
+    about: &'a str,
+) -> Result<clap::Command<'a>, AllocError>
+    ensures app { IfOk result (λ c. app_of c ≡ draw_app command.entry.now) }
+    ensures local { IfOk result (λ c. (fields_of c).has_globals ≡ false) }
+{
+    module_line(alloc, command, about)?
+        .arg(file_name(alloc, "SCRIPT", HELP_DRAWN))?
+        .arg(optional_name(alloc, "SCHEDULE", HELP_SCHEDULE))?
+        .arg(optional_count(alloc))?
         .arg(call_budget(alloc))
 }
 
@@ -473,14 +538,29 @@ fn file_name<'a>(alloc: Global, id: &'a str, help: &'a str) -> Arg<'a>
     Arg::new(alloc, id).required(true).help(help)
 }
 
+/// A word that may be missing, the name of a file.
+fn optional_name<'a>(alloc: Global, id: &'a str, help: &'a str) -> Arg<'a>
+    ensures rule { rule_of result ≡ new_rule id.entry.now }
+    ensures local { result.global ≡ false }
+{
+    Arg::new(alloc, id).help(help)
+}
+
 /// The option that says how many processes there are.
 fn process_count<'a>(alloc: Global) -> Arg<'a>
     ensures rule { rule_of result ≡ number_rule }
     ensures local { result.global ≡ false }
 {
+    optional_count(alloc).required(true)
+}
+
+/// The same option where it may be missing.
+fn optional_count<'a>(alloc: Global) -> Arg<'a>
+    ensures rule { rule_of result ≡ optional_number_rule }
+    ensures local { result.global ≡ false }
+{
     Arg::new(alloc, "N")
         .short('n')
-        .required(true)
         .value_parser(clap::value_parser!(u16))
         .help("How many processes there are, 1 to 16")
 }

@@ -1,7 +1,7 @@
 //! What plain words ask for. What a function here ensures is proved; it does nothing.
 
 ghost use Rattle.std.specs.Prelude.{◌≡◌, ℕ, Some, None, [], ◌∷◌, false, All, codes};
-ghost use Rattle.ob_command.specs.CommandLine.{Bound, Check, Draw, Explain, Help, Listing, Run, Seq, Serve, Text, Unclear, Verify, Version, budget_number, command_names, is_option, number, request};
+ghost use Rattle.ob_command.specs.CommandLine.{Bound, Check, Draw, DrawRecord, Explain, Help, Listing, Run, Seq, Serve, Text, Unclear, Verify, Version, budget_number, command_names, is_option, number, request};
 ghost use Rattle.ob_command.specs.PlainForms.{IsBoundAsked, IsHelpAsked, IsRunAsked, IsServeAsked, IsVersionAsked, run_with};
 
 /// `check` and a name that is no option.
@@ -61,6 +61,11 @@ pub fn draw_is_asked()
 pub fn draw_with_budget_is_asked()
     ensures short { IsRunAsked (codes "draw") (codes "-b") Draw }
     ensures long { IsRunAsked (codes "draw") (codes "--budget") Draw }
+{}
+
+/// `draw` and two names that are no options.
+pub fn draw_record_is_asked()
+    ensures { (m r : Text) → is_option m ≡ false → is_option r ≡ false → request (codes "draw" ∷ m ∷ r ∷ []) ≡ DrawRecord m r }
 {}
 
 /// `verify` and two names that are no options.

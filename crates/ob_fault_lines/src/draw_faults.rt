@@ -1,15 +1,18 @@
-//! The line of a fault of a picture.
+//! The lines of faults of pictures.
 
 ghost use Rattle.std.specs.Prelude.{◌≡◌, ◌++◌, IfOk, OnOk, codes, decimal, string_bytes};
-ghost use Rattle.ob_fault_lines.specs.DrawFaultLines.{draw_fault_line, picture_line};
+ghost use Rattle.ob_fault_lines.specs.DrawFaultLines.{draw_fault_line, draw_record_fault_line, picture_line};
 
+use crate::module_faults::push_text_fault;
 use crate::run_faults::run_fault_line;
+use crate::script_faults::push_line_number;
+use ob_object_draw::DrawRecordFault;
 use ob_object_perform::DrawFault;
 use ob_text_picture_chart::PictureFault;
 use ob_text_words::numbers::push_number;
 use std::alloc::{AllocError, Global};
 
-/// The line of a fault of a picture, without a line feed.
+/// The line of a fault of a run's picture, without a line feed.
 pub fn draw_fault_line(alloc: Global, fault: DrawFault) -> Result<String, AllocError>
     ensures { IfOk result (λ line. string_bytes line ≡ draw_fault_line fault) }
 {
@@ -23,12 +26,32 @@ fn picture_fault_line(alloc: Global, fault: PictureFault) -> Result<String, Allo
     ensures { IfOk result (λ line. string_bytes line ≡ picture_line fault) }
 {
     let mut line = String::new(alloc);
+    push_picture_fault(&mut line, fault)?;
+    Ok(line)
+}
+
+/// The line of a fault of a record's picture, without a line feed.
+pub fn draw_record_fault_line(alloc: Global, fault: DrawRecordFault) -> Result<String, AllocError>
+    ensures { IfOk result (λ line. string_bytes line ≡ draw_record_fault_line fault) }
+{
+    let mut line = String::new(alloc);
     match fault {
-        PictureFault::NoCalls(count) => push_calls(&mut line, "D1 of ", count)?,
-        PictureFault::TooMany(count) => push_calls(&mut line, "D2 ", count)?,
-        PictureFault::NoMemory => line.push_str("NoMemory")?,
+        DrawRecordFault::Text(fault) => push_text_fault(&mut line, fault)?,
+        DrawRecordFault::Form(number) => push_line_number(&mut line, "F1", number)?,
+        DrawRecordFault::Calls(fault) => push_picture_fault(&mut line, fault)?,
+        DrawRecordFault::NoMemory => line.push_str("NoMemory")?,
     }
     Ok(line)
+}
+
+fn push_picture_fault(line: &mut String, fault: PictureFault) -> Result<(), AllocError>
+    ensures { OnOk result (string_bytes line.new ≡ string_bytes line.old ++ picture_line fault) }
+{
+    match fault {
+        PictureFault::NoCalls(count) => push_calls(line, "D1 of ", count),
+        PictureFault::TooMany(count) => push_calls(line, "D2 ", count),
+        PictureFault::NoMemory => line.push_str("NoMemory"),
+    }
 }
 
 /// Appends a fault of so many calls.

@@ -1,5 +1,5 @@
 use Rattle.std.proofs.Common.{map}
-use Rattle.ob_command.proofs.ClapWords.{bound_asked, bound_short_asked, check_asked, draw_asked, draw_short_asked, explain_asked, explain_script_asked, explain_short_asked, list_asked, run_asked, run_short_asked, seq_asked, seq_short_asked, serve_asked, serve_short_asked, verify_asked}
+use Rattle.ob_command.proofs.ClapWords.{bound_asked, bound_short_asked, check_asked, draw_asked, draw_record_asked, draw_short_asked, explain_asked, explain_script_asked, explain_short_asked, list_asked, run_asked, run_short_asked, seq_asked, seq_short_asked, serve_asked, serve_short_asked, verify_asked}
 use Rattle.ob_answer.proofs.PlainWords.{answered_as}
 use Rattle.ob_answer.proofs.answer.answer.Goals as goal
 
@@ -39,6 +39,9 @@ returns-clause-draw g c m s q n k is no_m no_s no_q number =
 pub returns-clause-draw_budget : goal.returns-clause-draw_budget
 returns-clause-draw_budget g c m s q n b k t is no_m no_s no_q number budget =
     answered_as g.F.Files.reads (map (λ word. word.now) c.args.words.now) _ _ _ _ c.obey_words.result is (draw_short_asked m s q n b k t no_m no_s no_q number budget) c.obey_words.ensures
+
+pub returns-clause-draw_record : goal.returns-clause-draw_record
+returns-clause-draw_record g c m r is no_m no_r = answered_as g.F.Files.reads (map (λ word. word.now) c.args.words.now) _ _ _ _ c.obey_words.result is (draw_record_asked m r no_m no_r) c.obey_words.ensures
 
 pub returns-clause-verify : goal.returns-clause-verify
 returns-clause-verify g c m r is no_m no_r = answered_as g.F.Files.reads (map (λ word. word.now) c.args.words.now) _ _ _ _ c.obey_words.result is (verify_asked m r no_m no_r) c.obey_words.ensures

@@ -18,6 +18,9 @@ returns-in-Serve g c = rw c.in-Serve.is c.obey_serve.ensures
 pub returns-in-Draw : goal.returns-in-Draw
 returns-in-Draw g c = rw c.in-Draw.is c.obey_run-in-Draw.ensures
 
+pub returns-in-DrawRecord : goal.returns-in-DrawRecord
+returns-in-DrawRecord g c = rw c.in-DrawRecord.is c.obey_draw_record.ensures
+
 pub returns-in-Verify : goal.returns-in-Verify
 returns-in-Verify g c = rw c.in-Verify.is c.obey_verify.ensures
 

@@ -18,7 +18,7 @@ returns c =
     let seq = added _ _ _ _ _ c.in_ok-program-4.ensures c.seq_line.ensures.app list in
     let run = added _ _ _ _ _ c.in_ok-program-5.ensures c.run_line.ensures.app seq in
     let serve = added _ _ _ _ _ c.in_ok-program-6.ensures c.serve_line.ensures.app run in
-    let draw = added _ _ _ _ _ c.in_ok-program-7.ensures c.run_line-2.ensures.app serve in
+    let draw = added _ _ _ _ _ c.in_ok-program-7.ensures c.draw_line.ensures.app serve in
     let verify = added _ _ _ _ _ c.in_ok-program-8.ensures c.record_line.ensures.app draw in
     let explain = added _ _ _ _ _ c.in_ok-program-9.ensures c.explain_line.ensures.app verify in
     IfOk-weaker c.with_command-9.result _ _

@@ -63,13 +63,6 @@ returns-in-serve c =
     (ap (option_map (λ s. s.now)) c.in_ok-module_name.was) in
     c.serve_of.ensures ∙ sym (a_serve c.args.name.now _ (rows_of (found_of c.args.matches.now)) c.in-serve.is m)
 
-pub returns-in_ok-run_of-in-draw : goal.returns-in_ok-run_of-in-draw
-returns-in_ok-run_of-in-draw c =
-    let m = first_row (found_of c.args.matches.now) (codes "MODULE") c.get_str.result _ c.get_str.ensures
-    (ap (option_map (λ s. s.now)) c.in_ok-module_name.was) in
-    sym (a_draw c.args.name.now _ (rows_of (found_of c.args.matches.now)) _ c.in-draw.is m
-    (sym c.run_of-in-draw.ensures ∙ ap (option_map run_request_of) c.in_ok-run_of-in-draw.was))
-
 pub returns-in_err-get_str-in-verify : goal.returns-in_err-get_str-in-verify
 returns-in_err-get_str-in-verify c =
     let m = first_row (found_of c.args.matches.now) (codes "MODULE") c.get_str.result _ c.get_str.ensures
@@ -118,10 +111,8 @@ returns-in_err-run_of-in-run c =
     ∙ sym (a_run c.args.name.now _ (rows_of (found_of c.args.matches.now)) _ c.in-run.is m
     (sym c.run_of.ensures ∙ ap (option_map run_request_of) c.in_err-run_of-in-run.was))
 
-pub returns-in_err-run_of-in-draw : goal.returns-in_err-run_of-in-draw
-returns-in_err-run_of-in-draw c =
+pub returns-in-draw : goal.returns-in-draw
+returns-in-draw c =
     let m = first_row (found_of c.args.matches.now) (codes "MODULE") c.get_str.result _ c.get_str.ensures
     (ap (option_map (λ s. s.now)) c.in_ok-module_name.was) in
-    ap (option_map request_of) c.from_residual-in_err-run_of-in-draw.ensures
-    ∙ sym (a_draw c.args.name.now _ (rows_of (found_of c.args.matches.now)) _ c.in-draw.is m
-    (sym c.run_of-in-draw.ensures ∙ ap (option_map run_request_of) c.in_err-run_of-in-draw.was))
+    c.draw_of.ensures ∙ sym (a_draw c.args.name.now _ (rows_of (found_of c.args.matches.now)) c.in-draw.is m)
