@@ -116,6 +116,8 @@ def tabled(row, text, answer, place):
         text = text.replace("|", MARK, 1)
     text = text.replace(" / ", "\n")
     row = replace(row, place=place, words=row.words.replace("{}", text))
+    if row.out_has is not None:
+        row = replace(row, out_has=[it.replace(b"{}", text.encode()) for it in row.out_has])
     files = {name: it.replace("{}", text) for name, it in row.files.items()}
     for name, file in files.items():
         if MARK in file:
