@@ -359,19 +359,19 @@ fn obey_run<F: Files>(
 fn obey_draw_record<F: Files>(
     alloc: Global,
     module_name: &str,
-    record_name: &str,
+    printed_name: &str,
     files: &mut F,
 ) -> Result<Answer, NoMemory>
-    ensures { IfOk result (λ a. IsObeyed F.reads (DrawRecord module_name.now record_name.now) files.old a files.new) }
+    ensures { IfOk result (λ a. IsObeyed F.reads (DrawRecord module_name.now printed_name.now) files.old a files.new) }
 {
     let module = match files.read_beginning(module_name, MODULE_BYTES) {
         Ok(bytes) => bytes,
         Err(FileFault::Unreadable) => return Ok(unreadable(alloc, module_name)?),
         Err(FileFault::NoMemory) => return Err(NoMemory),
     };
-    let record = match files.read(record_name) {
+    let record = match files.read(printed_name) {
         Ok(bytes) => bytes,
-        Err(FileFault::Unreadable) => return Ok(unreadable(alloc, record_name)?),
+        Err(FileFault::Unreadable) => return Ok(unreadable(alloc, printed_name)?),
         Err(FileFault::NoMemory) => return Err(NoMemory),
     };
     answer_draw_record(alloc, module.as_slice(), record.as_slice())

@@ -30,6 +30,9 @@ slip_mark Slips.Exit = codes "EXIT"
 slip_mark Slips.Loop = codes "LOOP"
 slip_mark Slips.Pointer = codes "POINTER"
 slip_mark Slips.Nil = codes "NIL"
+slip_mark Slips.And = codes "AND"
+slip_mark Slips.Not = codes "NOT"
+slip_mark Slips.ElseIf = codes "ELSEIF"
 slip_mark Slips.NoEndName = []
 slip_mark Slips.SmallKeyword = []
 
@@ -42,14 +45,14 @@ slip_hint Slips.Brace = codes "there are no sets and no blocks in braces; a comm
 slip_hint Slips.ExclamationMark = codes "not equal is written #, and not is written ~"
 slip_hint Slips.TwoSlashes = codes "a comment is written (* .. *)"
 slip_hint Slips.Slash = codes "a quotient is written with DIV"
-slip_hint Slips.Bar = codes "there is no CASE, and or is written OR"
+slip_hint Slips.Bar = codes "or is written OR, and there is no CASE"
 slip_hint Slips.Percent = codes "a remainder is written with MOD"
 slip_hint Slips.ByteOrderMark = codes "a byte order mark stands there, which no editor shows; save the file without it"
 slip_hint Slips.SmallestNumber = codes "the smallest INTEGER is written -2147483647 - 1"
 slip_hint Slips.LessGreater = codes "not equal is written #"
 slip_hint Slips.TwoEquals = codes "equal is written with one ="
-slip_hint Slips.Assign = codes ":= assigns; = compares, and stands in declarations of constants and types"
-slip_hint Slips.Equal = codes "= compares, and stands in declarations of constants and types; := assigns"
+slip_hint Slips.Assign = codes ":= assigns, in a statement of its own; = compares, and stands in declarations of constants and types"
+slip_hint Slips.Equal = codes "= compares, and := assigns; beside & or OR a comparison stands in parentheses: (a = 1) & (b = 2)"
 slip_hint Slips.For = codes "there is no FOR; count in a WHILE or a REPEAT"
 slip_hint Slips.Case = codes "there is no CASE; write IF with ELSIF"
 slip_hint Slips.Return = codes "there is no RETURN; a procedure gives values by its VAR parameters"
@@ -58,6 +61,9 @@ slip_hint Slips.Exit = codes "there is no EXIT; a loop ends by its condition"
 slip_hint Slips.Loop = codes "there is no LOOP; use WHILE or REPEAT"
 slip_hint Slips.Pointer = codes "there are no pointers"
 slip_hint Slips.Nil = codes "there are no pointers"
+slip_hint Slips.And = codes "and is written &"
+slip_hint Slips.Not = codes "not is written ~"
+slip_hint Slips.ElseIf = codes "another case is written ELSIF"
 slip_hint Slips.NoEndName = codes "behind the END of a procedure or of the module stands its name"
 slip_hint Slips.SmallKeyword = codes "keywords are written in capitals"
 
@@ -73,7 +79,7 @@ signs = Slips.Assign ∷ Slips.Equal ∷ []
 
 -- words of other languages
 abbrev pub foreign : List Slip
-foreign = Slips.For ∷ Slips.Case ∷ Slips.Return ∷ Slips.Import ∷ Slips.Exit ∷ Slips.Loop ∷ Slips.Pointer ∷ Slips.Nil ∷ []
+foreign = Slips.For ∷ Slips.Case ∷ Slips.Return ∷ Slips.Import ∷ Slips.Exit ∷ Slips.Loop ∷ Slips.Pointer ∷ Slips.Nil ∷ Slips.And ∷ Slips.Not ∷ Slips.ElseIf ∷ []
 
 abbrev pub keywords : List Kind
 keywords =

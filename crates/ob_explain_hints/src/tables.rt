@@ -31,6 +31,9 @@ pub enum Slip {
     Loop,
     Pointer,
     Nil,
+    And,
+    Not,
+    ElseIf,
     NoEndName,
     SmallKeyword,
 }
@@ -53,7 +56,7 @@ pub const STRAY: [Slip; 10] = [
 pub const SIGNS: [Slip; 2] = [Slip::Assign, Slip::Equal];
 
 /// Words of other languages.
-pub const WORDS: [Slip; 8] = [
+pub const WORDS: [Slip; 11] = [
     Slip::For,
     Slip::Case,
     Slip::Return,
@@ -62,6 +65,9 @@ pub const WORDS: [Slip; 8] = [
     Slip::Loop,
     Slip::Pointer,
     Slip::Nil,
+    Slip::And,
+    Slip::Not,
+    Slip::ElseIf,
 ];
 
 /// Keywords.
@@ -117,6 +123,9 @@ pub fn slip_mark(slip: Slip) -> &'static [u8]
         Slip::Loop => b"LOOP",
         Slip::Pointer => b"POINTER",
         Slip::Nil => b"NIL",
+        Slip::And => b"AND",
+        Slip::Not => b"NOT",
+        Slip::ElseIf => b"ELSEIF",
         Slip::NoEndName => b"",
         Slip::SmallKeyword => b"",
     }
@@ -134,15 +143,17 @@ pub fn slip_hint(slip: Slip) -> &'static str
         Slip::ExclamationMark => "not equal is written #, and not is written ~",
         Slip::TwoSlashes => "a comment is written (* .. *)",
         Slip::Slash => "a quotient is written with DIV",
-        Slip::Bar => "there is no CASE, and or is written OR",
+        Slip::Bar => "or is written OR, and there is no CASE",
         Slip::Percent => "a remainder is written with MOD",
         Slip::ByteOrderMark =>
             "a byte order mark stands there, which no editor shows; save the file without it",
         Slip::SmallestNumber => "the smallest INTEGER is written -2147483647 - 1",
         Slip::LessGreater => "not equal is written #",
         Slip::TwoEquals => "equal is written with one =",
-        Slip::Assign => ":= assigns; = compares, and stands in declarations of constants and types",
-        Slip::Equal => "= compares, and stands in declarations of constants and types; := assigns",
+        Slip::Assign =>
+            ":= assigns, in a statement of its own; = compares, and stands in declarations of constants and types",
+        Slip::Equal =>
+            "= compares, and := assigns; beside & or OR a comparison stands in parentheses: (a = 1) & (b = 2)",
         Slip::For => "there is no FOR; count in a WHILE or a REPEAT",
         Slip::Case => "there is no CASE; write IF with ELSIF",
         Slip::Return => "there is no RETURN; a procedure gives values by its VAR parameters",
@@ -151,6 +162,9 @@ pub fn slip_hint(slip: Slip) -> &'static str
         Slip::Loop => "there is no LOOP; use WHILE or REPEAT",
         Slip::Pointer => "there are no pointers",
         Slip::Nil => "there are no pointers",
+        Slip::And => "and is written &",
+        Slip::Not => "not is written ~",
+        Slip::ElseIf => "another case is written ELSIF",
         Slip::NoEndName => "behind the END of a procedure or of the module stands its name",
         Slip::SmallKeyword => "keywords are written in capitals",
     }
