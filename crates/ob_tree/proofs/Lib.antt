@@ -2,3 +2,6 @@ mod Settling
 mod Numbered
 mod Fronts
 mod Stepped
+mod Reserved
+mod Known
+mod Typed

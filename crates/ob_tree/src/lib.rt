@@ -2,8 +2,10 @@
 #![tactic(auto)]
 
 pub mod act;
+pub mod engine;
 pub mod frames;
 pub mod procedures;
+mod reserve;
 pub mod run;
 pub mod settle;
 pub mod start;
