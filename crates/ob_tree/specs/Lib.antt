@@ -2,3 +2,4 @@ pub mod Runs
 pub mod Acting
 pub mod Procedures
 pub mod Stepping
+pub mod View

@@ -59,6 +59,8 @@ fn entrance_at(exports: &[Entrance], number: usize) -> Option<&Entrance>
 impl<'a> TreeEngine<'a> {
     ghost use Rattle.std.specs.Prelude.{IfOk};
     ghost use Rattle.ob_code_law.specs.CodeMeaning as Words;
+    ghost use Rattle.ob_code_law.specs.Compiled as Compiled;
+    ghost use Rattle.ob_tree.specs.View.{tree_parts_in};
 
     /// The engine of a checked module, by its layout, with a budget of turns for each call.
     pub fn new(
@@ -69,8 +71,7 @@ impl<'a> TreeEngine<'a> {
     ) -> Result<TreeEngine<'a>, NoMemory>
         requires layout { parts_of layout.now ≡ layout_of (program_in checked.now) }
         requires budget { budget ≤ most_turns }
-        ensures program { IfOk result (λ e. program_in e.checked.now ≡ program_in checked.now) }
-        ensures budget { IfOk result (λ e. e.budget ≡ budget) }
+        ensures { IfOk result (λ e. tree_parts_in e ≡ Compiled.parts_of (program_in checked.now) budget) }
     {
         checked_is_well_formed(checked);
         let program = checked.program();
@@ -90,6 +91,13 @@ impl<'a> TreeEngine<'a> {
             tasks,
             budget: budget as u32,
         })
+    }
+
+    /// The turns that each call has.
+    pub fn budget(&self) -> u64
+        ensures { result ≡ (tree_parts_in self.now).budget }
+    {
+        u64::from(self.budget)
     }
 
     /// The export of a number.

@@ -10,3 +10,5 @@ pub mod run;
 pub mod settle;
 pub mod start;
 pub mod step;
+
+pub use engine::TreeEngine;

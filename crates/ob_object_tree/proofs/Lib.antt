@@ -1,0 +1,6 @@
+mod InLockStep
+mod OneText
+mod ByCode
+mod Chain
+mod Mapped
+mod Objects

@@ -1,0 +1,23 @@
+use Rattle.std.proofs.Common.{◌∙◌, ap, sym}
+use Rattle.ob_object_record.specs.Record.{record_of}
+use Rattle.ob_text_record.specs.RecordText.{record_text}
+use Rattle.ob_typing.specs.Program.{Program}
+use Rattle.ob_object_tree.proofs.printing.run_tree_text.Goals as goal
+
+pub returns-clause-run : goal.returns-clause-run
+returns-clause-run c =
+    let shown = record_of c.in_ok-object.record in
+    let performs = c.in_ok-object.ensures.performance in
+    record {
+      shown = shown;
+      performs = performs;
+      events = c.in_ok-object.ensures.events;
+      printed = c.in_ok-write_record.ensures
+          ∙ ap (λ (p : Program). record_text p shown) (c.checked.ensures.program ∙ sym (c.in_ok-object.ensures.alone performs.object.program performs.compiled.is_module));
+    }
+
+pub returns-clause-same : goal.returns-clause-same
+returns-clause-same c = λ other is.
+    is.printed ∙ c.in_ok-object.ensures.same is.shown is.performs
+    ∙ ap (λ (p : Program). record_text p (record_of c.in_ok-object.record)) (c.in_ok-object.ensures.alone is.performs.object.program is.performs.compiled.is_module ∙ sym c.checked.ensures.program)
+    ∙ sym c.in_ok-write_record.ensures

@@ -1,0 +1,48 @@
+//! Runs of calls and items on an object over its tree.
+
+ghost use Rattle.std.specs.Prelude.{◌≤◌, IfErr, IfOk};
+ghost use Rattle.ob_meaning.specs.Object.{most_turns};
+ghost use Rattle.ob_object_compile.specs.View.{tree_object_in};
+ghost use Rattle.ob_object_perform.specs.Performance.{IsMeantIn, IsReady, IsRunFault, Shows, ShowsNone};
+ghost use Rattle.ob_object_record.specs.Record.{record_of};
+ghost use Rattle.wf_history.specs.History.{IsHistory};
+
+use crate::recording::record_tree_run;
+use ob_object_compile::TreeObject;
+use ob_object_record::Record;
+use ob_object_run::laws::openings_are_objects;
+use ob_schedule::Item;
+use ob_text_scripts::Scripts;
+use ob_tree::TreeEngine;
+use std::alloc::Global;
+use wf_play::PlayFault;
+
+/// The record of a run of calls and items on an object over its tree.
+pub(crate) fn run_on_tree(
+    alloc: Global,
+    object: &TreeObject,
+    calls: Scripts,
+    items: Vec<Item>,
+) -> Result<Record, PlayFault>
+    requires ready { IsReady (tree_object_in object.now) calls items.items }
+    requires within { (tree_object_in object.now).engine.budget ≤ most_turns }
+    ensures shows { IfOk result (λ r. Shows (tree_object_in object.now) calls items.items (record_of r)) }
+    ensures meant { IfOk result (λ r. IsMeantIn (tree_object_in object.now) (record_of r)) }
+    ensures whole { IfOk result (λ r. IsHistory r.history) }
+    ensures fault { IfErr result (IsRunFault (tree_object_in object.now) calls items.items) }
+    ensures none { IfErr result (ShowsNone (tree_object_in object.now) calls items.items) }
+{
+    // This does nothing: an opening is an object over its engine.
+    openings_are_objects();
+    let layout = object.layout();
+    let engine = TreeEngine::new(alloc, object.checked(), layout, object.budget())?;
+    record_tree_run(
+        alloc,
+        engine,
+        object.processes(),
+        layout,
+        object.opening(),
+        calls.into_calls(),
+        items.as_slice(),
+    )
+}
