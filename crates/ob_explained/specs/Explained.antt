@@ -3,6 +3,7 @@ use Rattle.std.specs.Prelude.{◌≡◌, ℕ, List, Option, None, option_map}
 use Rattle.ob_scan.specs.declared.fault.ScanFault.TheVariants as Scan
 use Rattle.ob_explain.specs.Explanations.{explanation}
 use Rattle.ob_explain.specs.Remarks.{Remark, IsParseRemark, check_remark, scan_remark}
+use Rattle.ob_explained.specs.OpenFaults.{open_explanation}
 use Rattle.ob_explained.specs.ScriptRemarks.{script_remark}
 use Rattle.ob_check_text.specs.declared.checked_text.TextFault.{TextFault}
 use Rattle.ob_check_text.specs.declared.checked_text.TextFault.TheVariants as Texts
@@ -29,9 +30,10 @@ pub record IsTextExplanation (name text : List ℕ) (fault : TextFault) (shown :
 abbrev pub script_explanation : (name script : List ℕ) → ScriptFault → Option (List ℕ)
 script_explanation name script fault = option_map (explanation name script) (script_remark script fault)
 
--- of a module by itself; neither the length of its code has a place nor its opening
+-- of a module by itself; neither the length of its code has a place nor its opening, of which the trap is told
 abbrev pub IsModuleExplanation : (name text : List ℕ) → CompileFault → Option (List ℕ) → Type 0
 IsModuleExplanation name text (Modules.Text e) shown = IsTextExplanation name text e shown
+IsModuleExplanation name text (Modules.Open e) shown = shown ≡ open_explanation e
 IsModuleExplanation name text _ shown = shown ≡ None
 
 -- of a module and a script: the fault of the one stands in the one, and that of the other in the other

@@ -1,4 +1,5 @@
 pub mod Marks
 pub mod ScriptPlaces
 pub mod ScriptRemarks
+pub mod OpenFaults
 pub mod Explained

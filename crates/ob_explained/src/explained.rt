@@ -5,6 +5,7 @@ ghost use Rattle.ob_explain.specs.Explanations.{explanation};
 ghost use Rattle.ob_explain.specs.Remarks.{remark_of};
 ghost use Rattle.ob_explained.specs.Explained.{IsCallsExplanation, IsModuleExplanation, IsTextRemark};
 
+use crate::open_fault::open_explanation;
 use crate::script_remark::script_remark;
 use ob_check_text::TextFault;
 use ob_explain::explanation::explanation;
@@ -14,7 +15,7 @@ use ob_object_sequence::SeqTextFault;
 use ob_scan::ScanFault;
 use std::alloc::{AllocError, Global};
 
-/// What is shown of a fault of a module, whose text has this name; `None` where the fault has no place in it.
+/// What is shown of a fault of a module, whose text has this name; `None` where the fault has no place in it and is none of its opening.
 pub fn module_explanation(
     alloc: Global,
     name: &str,
@@ -25,6 +26,7 @@ pub fn module_explanation(
 {
     match fault {
         CompileFault::Text(fault) => shown(alloc, name, text, text_remark(alloc, text, fault)?),
+        CompileFault::Open(fault) => open_explanation(alloc, fault),
         _ => Ok(None),
     }
 }

@@ -2,6 +2,7 @@
 #![tactic(auto)]
 
 pub mod explained;
+pub mod open_fault;
 pub mod script_place;
 pub mod script_remark;
 

@@ -1,0 +1,30 @@
+-- What each fault of the scripts or the schedule of a run says to people.
+use Rattle.std.specs.Prelude.{ℕ, ◌-◌, ◌++◌, List, Option, None, codes, decimal}
+use Rattle.ob_explain.specs.Remarks.{Remark, at}
+use Rattle.ob_explained.specs.ScriptPlaces.{first_place, in_line}
+use Rattle.ob_explained.specs.ScriptRemarks.{script_remark}
+use Rattle.ob_explained_runs.specs.ItemPlaces.{item_place}
+use Rattle.ob_schedule.specs.declared.schedule.ScheduleFault.{ScheduleFault}
+use Rattle.ob_schedule.specs.declared.schedule.ScheduleFault.TheVariants as Schedule
+use Rattle.ob_text_scripts.specs.declared.script.ScriptFault.{ScriptFault}
+use Rattle.ob_text_scripts.specs.declared.script.ScriptFault.TheVariants as Script
+
+-- which processes there are
+abbrev pub processes_sentence : ℕ → List ℕ
+processes_sentence n = codes "with -n " ++ decimal n ++ codes " the processes are 0 to " ++ decimal (n - 1)
+
+-- at the process that there isn't; each other fault as of a script by itself
+abbrev pub run_script_remark : (n : ℕ) → List ℕ → ScriptFault → Option Remark
+run_script_remark n scripts (Script.Process line) = at (in_line first_place scripts line) (processes_sentence n)
+run_script_remark n scripts fault = script_remark scripts fault
+
+-- at the item
+abbrev pub schedule_remark : (n : ℕ) → List ℕ → ScheduleFault → Option Remark
+schedule_remark n schedule (Schedule.Form item) =
+    at (item_place schedule item) (codes "an item is a process with *STEPS, :LABEL or ! behind it, and no blanks between, as 0*3, 0:TRY or 0!")
+schedule_remark n schedule (Schedule.Process item) = at (item_place schedule item) (processes_sentence n)
+schedule_remark n schedule Schedule.NoMemory = None
+
+abbrev pub long_item_remark : List ℕ → (item : ℕ) → Option Remark
+long_item_remark schedule item =
+    at (item_place schedule item) (codes "an item stands for at most 1000000 steps; write several items, or give the calls fewer turns")

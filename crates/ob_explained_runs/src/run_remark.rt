@@ -1,0 +1,113 @@
+//! What is wrong in the scripts or in the schedule of a run, in a sentence.
+
+ghost use Rattle.std.specs.Prelude.{◌≡◌, ◌-◌, IfOk, IfSome, option_map, string_bytes};
+ghost use Rattle.ob_explain.specs.Remarks.{at, remark_of};
+ghost use Rattle.ob_explained.specs.Marks.{IsMark, MarksWord};
+ghost use Rattle.ob_explained.specs.ScriptPlaces.{first_place, in_line};
+ghost use Rattle.ob_explained_runs.specs.ItemMarks.{BeginsItem, IsItemMark};
+ghost use Rattle.ob_explained_runs.specs.RunRemarks.{long_item_remark, processes_sentence, run_script_remark, schedule_remark};
+
+use crate::item_place::item_place;
+use ob_explain::remark::Remark;
+use ob_explained::script_place::{first_place, script_line};
+use ob_explained::script_remark::script_remark;
+use ob_schedule::ScheduleFault;
+use ob_text_scripts::ScriptFault;
+use ob_text_words::numbers::push_number;
+use std::alloc::{AllocError, Global};
+
+/// The remark on a fault of the scripts of a run of n processes; `None` for want of memory.
+pub fn run_script_remark(
+    alloc: Global,
+    n: usize,
+    scripts: &[u8],
+    fault: ScriptFault,
+) -> Result<Option<Remark>, AllocError>
+    ensures remark { IfOk result (λ remark. option_map remark_of remark ≡ run_script_remark n scripts.now fault) }
+
+    // It stands at a word of the line, by what stands between blanks there.
+    ensures marked { IfOk result (λ remark. IfSome remark (λ r. IsMark scripts.now fault r.place)) }
+{
+    match fault {
+        ScriptFault::Process(line) => told(
+            place_of_process(scripts, line),
+            processes_sentence(alloc, n)?,
+        ),
+        fault => script_remark(alloc, scripts, fault),
+    }
+}
+
+/// Where a line's process stands.
+fn place_of_process(scripts: &[u8], line: usize) -> usize
+    ensures place { result ≡ in_line first_place scripts.now line }
+    ensures marked { MarksWord scripts.now line 0 result }
+{
+    let (begin, text) = script_line(scripts, line);
+    begin + first_place(text)
+}
+
+/// The remark on a fault of the schedule of a run of n processes; `None` for want of memory.
+pub fn schedule_remark(
+    alloc: Global,
+    n: usize,
+    schedule: &[u8],
+    fault: ScheduleFault,
+) -> Result<Option<Remark>, AllocError>
+    ensures remark { IfOk result (λ remark. option_map remark_of remark ≡ schedule_remark n schedule.now fault) }
+
+    // It stands at the item, by what stands between separators.
+    ensures marked { IfOk result (λ remark. IfSome remark (λ r. IsItemMark schedule.now fault r.place)) }
+{
+    match fault {
+        ScheduleFault::Form(item) => told(
+            item_place(schedule, item),
+            String::from_str(
+                alloc,
+                "an item is a process with *STEPS, :LABEL or ! behind it, and no blanks between, as 0*3, 0:TRY or 0!",
+            )?,
+        ),
+        ScheduleFault::Process(item) => {
+            told(item_place(schedule, item), processes_sentence(alloc, n)?)
+        }
+        ScheduleFault::NoMemory => Ok(None),
+    }
+}
+
+/// The remark on an item that stands for too many steps.
+pub fn long_item_remark(
+    alloc: Global,
+    schedule: &[u8],
+    item: usize,
+) -> Result<Option<Remark>, AllocError>
+    ensures remark { IfOk result (λ remark. option_map remark_of remark ≡ long_item_remark schedule.now item) }
+    ensures marked { IfOk result (λ remark. IfSome remark (λ r. BeginsItem schedule.now (item - 1) r.place)) }
+{
+    let sentence = String::from_str(
+        alloc,
+        "an item stands for at most 1000000 steps; write several items, or give the calls fewer turns",
+    )?;
+    told(item_place(schedule, item), sentence)
+}
+
+/// Which processes there are.
+fn processes_sentence(alloc: Global, n: usize) -> Result<String, AllocError>
+    ensures { IfOk result (λ sentence. string_bytes sentence ≡ processes_sentence n) }
+{
+    let mut sentence = String::from_str(alloc, "with -n ")?;
+    push_number(&mut sentence, n)?;
+    sentence.push_str(" the processes are 0 to ")?;
+    push_number(&mut sentence, n.saturating_sub(1))?;
+    Ok(sentence)
+}
+
+/// A remark without a hint.
+fn told(place: usize, sentence: String) -> Result<Option<Remark>, AllocError>
+    ensures remark { IfOk result (λ remark. option_map remark_of remark ≡ at place (string_bytes sentence)) }
+    ensures placed { IfOk result (λ remark. IfSome remark (λ r. r.place ≡ place)) }
+{
+    Ok(Some(Remark {
+        place,
+        sentence,
+        hint: None,
+    }))
+}
