@@ -5,3 +5,7 @@ mod OneStep
 mod QuietSteps
 mod Spends
 mod Keeps
+mod Counting
+mod InARow
+mod InBody
+mod Staying

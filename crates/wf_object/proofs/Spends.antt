@@ -42,6 +42,9 @@ few_steps n (t ∷ ts) h =
 pub inside_room : (n : ℕ) (ts : List Turns) (inside : ℕ) → All (AreTurns n) ts → length ts < 2 ^ 64 → inside ≤ length (steps_of ts) → inside + 1 < 2 ^ 128
 inside_room n ts inside h few among = omega (arith, few_steps n ts h, few, among)
 
+pub inside_room_for : (n : ℕ) (ts : List Turns) (inside count : ℕ) → All (AreTurns n) ts → length ts < 2 ^ 64 → inside ≤ length (steps_of ts) → count < 2 ^ 64 → inside + count < 2 ^ 128
+inside_room_for n ts inside count h few among short = omega (arith, few_steps n ts h, few, among, short)
+
 module _ {Run : Type 0} (m : Meaning Run) (z : Sizes) where
   pub bodies_room : (q : Process Run) (x : Spent) → IsSized z → IsInRange z q → StaysWithin z x q → x.bodies + 1 < 2 ^ 128
   bodies_room q x sized range h = omega (arith, (within_bound m z x q range h).bodies, sized.processes)

@@ -4,3 +4,5 @@ pub mod View
 pub mod Kept
 pub mod Halted
 pub mod Quiet
+pub mod InARow
+pub mod InBody

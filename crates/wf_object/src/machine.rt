@@ -7,14 +7,17 @@ ghost use Rattle.wf_object.specs.Packed.{packed};
 ghost use Rattle.ob_interface.specs.View.{call_of};
 ghost use Rattle.wf_object.specs.declared.fault.NewFault.TheVariants as Faults;
 ghost use Rattle.wf_object.specs.View.{answer_in, seen_in};
+ghost use Rattle.wf_object.specs.InARow.{AreInBody, object_after};
 ghost use Rattle.wf_object.specs.Quiet.{is_quiet};
+ghost use Rattle.wf_table.specs.declared.process.Label.TheVariants as Labels;
 
+use crate::bodies::stay;
 use crate::engine::Engine;
 use crate::fault::NewFault;
 use crate::process::Process;
 use crate::records::{Records, Seen, StepOut};
 use crate::seen::{is_quiet, note_step};
-use crate::spent::{bound_of, count_step};
+use crate::spent::{bound_of, count_inside, count_step};
 use crate::start::{idle, opened};
 use crate::steps::act;
 use ll_cell::Shared;
@@ -137,6 +140,24 @@ impl<E: Engine> Machine<E> {
         ensures err { OnErr result (self.new ≡ self.old) }
     {
         let process = &self.processes[p];
+        if is_quiet(process.label) {
+            self.step_quietly(p)?;
+            return Ok(StepOut::On);
+        }
+        self.step_loudly(p)
+    }
+
+    /// A step that may show something, with room for an event.
+    #[inline(never)]
+    fn step_loudly(&mut self, p: usize) -> Result<StepOut, NoMemory>
+        requires { p < self.old.sizes.processes }
+        ensures stepped { OnOk result (self.new ≡ record self.old { state = step_of (E.meaning self.old.engine) self.old.sizes self.old.state p; spent = spent_by_step self.old.state self.old.spent p }) }
+        ensures answer { IfOk result (λ out. answer_in out ≡ answer_of (E.meaning self.old.engine) self.old.sizes self.old.state p) }
+        ensures turn { OnOk result (steps_of self.new.state.records.schedule ≡ steps_of self.old.state.records.schedule ++ p ∷ []) }
+        ensures few { IfOk result (λ out. length (values_answered (answer_in out)) ≤ 8) }
+        ensures err { OnErr result (self.new ≡ self.old) }
+    {
+        let process = &self.processes[p];
         let label = process.label;
         let begins = process.has_more();
         self.records.few_turns();
@@ -187,7 +208,7 @@ impl<E: Engine> Machine<E> {
         ensures turn { OnOk result (steps_of self.new.state.records.schedule ≡ steps_of self.old.state.records.schedule ++ p ∷ []) }
         ensures err { OnErr result (self.new ≡ self.old) }
     {
-        match self.step(p)? {
+        match self.step_loudly(p)? {
             StepOut::On => Ok(Seen::On),
             StepOut::Began(_) => Ok(Seen::Began),
             StepOut::Answered(_, _) => Ok(Seen::Answered),
@@ -218,6 +239,47 @@ impl<E: Engine> Machine<E> {
             p,
         );
         Ok(())
+    }
+
+    /// Steps of the process in the body in which it stands, each as `advance` takes it, and how many they are: at most so many, and
+    /// none where the last turn was another process's. They take no memory.
+    pub fn stay_in_body(&mut self, p: usize, most: u64) -> u64
+        requires { p < self.old.sizes.processes }
+        ensures stepped { self.new ≡ object_after (E.meaning self.old.engine) p result self.old }
+        ensures few { result ≤ most }
+        ensures inside { AreInBody (E.meaning self.old.engine) self.old.sizes p result self.old.state }
+        ensures turns { steps_of self.new.state.records.schedule ≡ steps_of self.old.state.records.schedule ++ replicate result p }
+    {
+        let process = &self.processes[p];
+        if process.label != Label::Body {
+            return 0;
+        }
+        self.step_in_body(p, most)
+    }
+
+    /// Steps of the process in its body, as far as there is room for their turns.
+    fn step_in_body(&mut self, p: usize, most: u64) -> u64
+        requires process { p < self.old.sizes.processes }
+        requires body { label_of self.old.state p ≡ Labels.Body }
+        ensures stepped { self.new ≡ object_after (E.meaning self.old.engine) p result self.old }
+        ensures few { result ≤ most }
+        ensures inside { AreInBody (E.meaning self.old.engine) self.old.sizes p result self.old.state }
+        ensures turns { steps_of self.new.state.records.schedule ≡ steps_of self.old.state.records.schedule ++ replicate result p }
+    {
+        self.records.few_turns();
+        let room = self.records.room(p, most);
+        let count = stay(
+            &self.engine,
+            self.sizes,
+            &mut self.shared,
+            &mut self.processes[p],
+            p,
+            room,
+        );
+        self.records.count_more(p, count);
+        let spent = &mut self.spent[p];
+        count_inside(spent, count);
+        count
     }
 
     /// Nothing happens: what the machine keeps, for those who hold one.

@@ -1,10 +1,11 @@
 //! What was seen, in which order calls were applied, and who stepped.
 
-ghost use Rattle.std.specs.Prelude.{◌≡◌, ◌+◌, ◌<◌, ◌^◌, ◌++◌, ◌∷◌, [], Some, None, OnOk, OnErr, IfOk, IsOk, length, vec_len, vec_capacity, slice_set, if◌then◌else◌};
+ghost use Rattle.std.specs.Prelude.{◌≡◌, ◌+◌, ◌<◌, ◌≤◌, ◌^◌, ◌++◌, ◌∷◌, [], Some, None, OnOk, OnErr, IfOk, IsOk, length, vec_len, vec_capacity, slice_set, if◌then◌else◌};
 ghost use Rattle.ob_interface.specs.View.{call_of, reply_of};
 ghost use Rattle.wf_history.specs.History.{IsHistory, Begin, Applied, End};
 ghost use Rattle.wf_table.specs.Schedule.{counted};
 ghost use Rattle.wf_table.specs.Labels.{at_flip};
+ghost use Rattle.wf_object.specs.InBody.{counted_times, room_for};
 ghost use Rattle.wf_table.specs.declared.process.Label.TheVariants as At;
 
 use ob_interface::NoMemory;
@@ -87,6 +88,22 @@ impl Records {
         count_turn(&mut self.schedule, p)?;
         note_flip(&mut self.flip_marks, p, label, self.history.len());
         Ok(())
+    }
+
+    /// How many turns of process p the last run of turns has room for, at most so many: none where it is another's.
+    pub fn room(&self, p: usize, most: u64) -> u64
+        ensures few { result ≤ most }
+        ensures room { result ≤ room_for self.now.schedule p }
+    {
+        room_in(&self.schedule, p, most)
+    }
+
+    /// So many more steps of process p that show nothing, for which the last run of turns has room; none of them is a FLIP.
+    pub fn count_more(&mut self, p: usize, count: u64)
+        requires { count ≤ room_for self.old.schedule p }
+        ensures { self.new ≡ record self.old { schedule = counted_times self.old.schedule p count } }
+    {
+        count_turns(&mut self.schedule, p, count);
     }
 
     /// Process p begins a call. Nothing changes where memory runs out.
@@ -227,5 +244,29 @@ fn count_reserved(schedule: &mut Vec<Turns>, p: usize)
     match count_turn(schedule, p) {
         Ok(()) => {}
         Err(_) => unreachable!(),
+    }
+}
+
+/// How many turns of p the last run of turns has room for, at most so many.
+fn room_in(schedule: &[Turns], p: usize, most: u64) -> u64
+    ensures few { result ≤ most }
+    ensures room { result ≤ room_for schedule.now p }
+{
+    let n = schedule.len();
+    if n == 0 || schedule[n - 1].process != p {
+        return 0;
+    }
+    let room = u64::MAX - schedule[n - 1].count;
+    if room < most { room } else { most }
+}
+
+/// So many more turns of p in the last run of turns, which has room for them.
+fn count_turns(schedule: &mut [Turns], p: usize, count: u64)
+    requires { count ≤ room_for schedule.old p }
+    ensures { schedule.new ≡ counted_times schedule.old p count }
+{
+    let n = schedule.len();
+    if n > 0 && schedule[n - 1].process == p {
+        schedule[n - 1].count += count;
     }
 }

@@ -34,6 +34,14 @@ pub fn count_step(spent: &mut Spent, label: Label, begins: bool)
     }
 }
 
+/// So many steps in a body count.
+pub fn count_inside(spent: &mut Spent, count: u64)
+    requires { spent.old.inside + count < 2 ^ 128 }
+    ensures { spent.new ≡ record spent.old { inside = spent.old.inside + count } }
+{
+    spent.inside += u128::from(count);
+}
+
 /// The own steps outside bodies that no call exceeds, in an object of these sizes.
 pub fn bound_of(z: Sizes) -> u128
     requires { IsSized z }

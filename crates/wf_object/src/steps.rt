@@ -2,7 +2,7 @@
 
 ghost use Rattle.std.specs.Prelude.{◌≡◌, ◌+◌, ◌*◌, ◌<◌, ◌≤◌, length, take};
 ghost use Rattle.ll_cell.specs.Cell.{refill_own};
-ghost use Rattle.wf_table.specs.Table.{next, mine, fetch, save, enter, undo, keep, commit, kept_word, row, or_past, part, cell_after, post, flip, try, links, load, store, check, seen, read, take_reply, give, body_step, toggle_in, own_block, block_words, inverted};
+ghost use Rattle.wf_table.specs.Table.{next, mine, fetch, save, enter, undo, keep, commit, kept_word, row, or_past, part, cell_after, post, flip, try, links, load, store, check, seen, read, take_reply, give, after_body, body_step, toggle_in, own_block, block_words, inverted};
 ghost use Rattle.wf_table.specs.Scripts.{CallsFit};
 ghost use Rattle.wf_table.specs.Ranges.{IsSized, IsShaped, IsInRange};
 ghost use Rattle.wf_table.specs.Toggles.{StoresBit};
@@ -173,7 +173,16 @@ pub fn body<E: Engine>(engine: &E, z: Sizes, shared: &mut Shared, q: &mut Proces
     ensures form { shared.new.form ≡ shared.old.form }
     ensures process { q.new ≡ (body_step (E.meaning engine.now) z shared.old.cell p q.old).process }
 {
-    match step_body(engine, z, shared, &mut q.run, p) {
+    let turn = step_body(engine, z, shared, &mut q.run, p);
+    leave_body(z, q, turn);
+}
+
+/// Leaves the body where it has ended, by what its step answers.
+#[inline(always)]
+pub fn leave_body<R>(z: Sizes, q: &mut Process<R>, turn: EngineTurn)
+    ensures { q.new ≡ after_body z turn q.old }
+{
+    match turn {
         EngineTurn::On | EngineTurn::Stuck => {}
         EngineTurn::Returned => {
             q.registers.i = 0;

@@ -1,0 +1,28 @@
+-- Steps of one process in a row.
+use Rattle.std.specs.Prelude.{◌≡◌, ℕ, zero, suc, ◌<◌, List}
+use Rattle.wf_table.specs.declared.process.Label.TheVariants.{Body}
+use Rattle.wf_table.specs.declared.process.Sizes.{Sizes}
+use Rattle.wf_table.specs.Meaning.{Meaning}
+use Rattle.wf_table.specs.Object.{State, label_of, step_of}
+use Rattle.wf_bound.specs.declared.spent.Spent.{Spent}
+use Rattle.wf_bound.specs.Counted.{spent_by_step}
+use Rattle.wf_object.specs.View.{Object}
+
+module _ {Run : Type 0} (m : Meaning Run) (z : Sizes) where
+  -- the process takes so many steps, and no other process one
+  abbrev pub after_steps : ℕ → ℕ → State Run → State Run
+  after_steps p zero s = s
+  after_steps p (suc k) s = step_of m z (after_steps p k s) p
+
+  -- what each process has spent then
+  abbrev pub spent_after_steps : ℕ → ℕ → State Run → List Spent → List Spent
+  spent_after_steps p zero s xs = xs
+  spent_after_steps p (suc k) s xs = spent_by_step (after_steps p k s) (spent_after_steps p k s xs) p
+
+  -- each of them is one of a body
+  abbrev pub AreInBody : ℕ → ℕ → State Run → Type 0
+  AreInBody p k s = (j : ℕ) → j < k → label_of (after_steps p j s) p ≡ Body
+
+-- the object behind so many steps of the process
+abbrev pub object_after : {E Run : Type 0} → Meaning Run → ℕ → ℕ → Object E Run → Object E Run
+object_after m p k o = record o { state = after_steps m o.sizes p k o.state; spent = spent_after_steps m o.sizes p k o.state o.spent }
