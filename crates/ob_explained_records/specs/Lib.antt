@@ -1,0 +1,6 @@
+pub mod CallNames
+pub mod Lines
+pub mod FormRemarks
+pub mod OrderPlaces
+pub mod OrderRemarks
+pub mod ExplainedRecords

@@ -1,0 +1,64 @@
+-- What each fault of a record's order says to people.
+use Rattle.std.specs.Prelude.{◌≡◌, ℕ, Bool, true, false, List, [], ◌++◌, Option, None, Some, MatchOption, codes, decimal, option_map}
+use Rattle.ob_explain.specs.Remarks.{Remark}
+use Rattle.ob_explained_records.specs.Lines.{IsLine}
+use Rattle.ob_explained_records.specs.OrderPlaces.{IsEndPlace, IsOrderPlace}
+use Rattle.ob_explained_records.specs.declared.record_line.Wanted.TheVariants as Wants
+use Rattle.ob_object_order.specs.declared.order.OrderFault.{OrderFault}
+use Rattle.ob_object_order.specs.declared.order.OrderFault.TheVariants as Order
+use Rattle.ob_text_record.specs.RecordText.{id_text}
+use Rattle.wf_history.specs.declared.event.CallId.{CallId}
+
+-- the number of a line behind some words, where there is that line
+abbrev pub line_text : (before : List ℕ) → Option ℕ → List ℕ
+line_text before None = []
+line_text before (Some number) = before ++ decimal number
+
+-- a remark at a place, where there is one
+abbrev pub remark_at : (sentence : List ℕ) → (place : ℕ) → Remark
+remark_at sentence place = record { place = place; sentence = sentence; hint = None }
+
+abbrev pub told_at : Option ℕ → List ℕ → Option Remark
+told_at place sentence = option_map (remark_at sentence) place
+
+module _ (text : List ℕ) (id : CallId) where
+  -- what is said of the call, with the lines in which it begins and ends
+  pub record IsCallSentence (what sentence : List ℕ) : Type 0 where
+    pub begin : Option ℕ
+    pub begins : IsLine text (Wants.Begin id) begin
+    pub end : Option ℕ
+    pub ends : IsLine text (Wants.End id) end
+    pub says :
+        sentence ≡ codes "call " ++ id_text id ++ what ++ line_text (codes "; it begins in line ") begin ++ line_text (codes ", and ends in line ") end
+
+  -- at the call's name in the line of its end
+  pub record IsEndRemark (what : List ℕ) (remark : Option Remark) : Type 0 where
+    pub place : Option ℕ
+    pub stands : IsEndPlace text id place
+    pub sentence : List ℕ
+    pub says : IsCallSentence what sentence
+    pub told : remark ≡ told_at place sentence
+
+  -- at the call's name in the order, or where it stands there again
+  pub record IsOrderLineRemark (again : Bool) (what : List ℕ) (remark : Option Remark) : Type 0 where
+    pub place : Option ℕ
+    pub stands : IsOrderPlace text id again place
+    pub sentence : List ℕ
+    pub says : IsCallSentence what sentence
+    pub told : remark ≡ told_at place sentence
+
+  -- a call that has begun stands there twice
+  abbrev pub IsUnknownRemark : Option Remark → Type 0
+  IsUnknownRemark remark =
+      (begin : Option ℕ) × IsLine text (Wants.Begin id) begin
+      × MatchOption begin (IsOrderLineRemark false (codes " never began, so it can't stand in the order") remark)
+      (λ _. IsOrderLineRemark true (codes " stands in the order before, and a call stands there once") remark)
+
+abbrev pub IsOrderRemark : List ℕ → OrderFault → Option Remark → Type 0
+IsOrderRemark text (Order.Missing id) remark = IsEndRemark text id (codes " ended, and is missing in the order") remark
+IsOrderRemark text (Order.Unknown id) remark = IsUnknownRemark text id remark
+IsOrderRemark text (Order.TooEarly id) remark =
+    IsOrderLineRemark text id false (codes " stands in the order before a call that had ended when it began") remark
+IsOrderRemark text (Order.OtherReply id) remark =
+    IsEndRemark text id (codes " has another reply when the calls are made one at a time in the order") remark
+IsOrderRemark text Order.NoMemory remark = remark ≡ None

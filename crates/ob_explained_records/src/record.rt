@@ -1,0 +1,41 @@
+//! What is shown of a fault of a record.
+
+ghost use Rattle.std.specs.Prelude.{IfOk, option_map, string_bytes};
+ghost use Rattle.ob_explained_records.specs.ExplainedRecords.{IsRecordExplanation};
+ghost use Rattle.ob_explained_runs.specs.Sources.{source_of};
+
+use crate::form_remark::form_remark;
+use crate::order_remark::order_remark;
+use ob_explained::module_explanation;
+use ob_explained::open_fault::open_explanation;
+use ob_explained_runs::source::{Source, shown};
+use ob_object_compile::CompileFault;
+use ob_object_verify::VerifyFault;
+use std::alloc::{AllocError, Global};
+
+/// What is shown of a fault of a module and a record; `None` where the fault has no place in their texts and is none
+/// of the opening.
+pub fn record_explanation(
+    alloc: Global,
+    object: Source<'_>,
+    record_file: Source<'_>,
+    fault: VerifyFault,
+) -> Result<Option<String>, AllocError>
+    ensures { IfOk result (λ shown. IsRecordExplanation (source_of object.entry) (source_of record_file.entry) fault (option_map string_bytes shown)) }
+{
+    match fault {
+        VerifyFault::Text(fault) => {
+            module_explanation(alloc, object.name, object.text, CompileFault::Text(fault))
+        }
+        VerifyFault::Form(number) => {
+            let remark = form_remark(alloc, record_file.text, number)?;
+            shown(alloc, record_file, remark)
+        }
+        VerifyFault::Open(fault) => open_explanation(alloc, fault),
+        VerifyFault::Order(fault) => {
+            let remark = order_remark(alloc, record_file.text, fault)?;
+            shown(alloc, record_file, remark)
+        }
+        VerifyFault::NoMemory => Ok(None),
+    }
+}
