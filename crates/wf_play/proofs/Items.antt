@@ -5,7 +5,8 @@ use Rattle.std.proofs.lemmas.Bool.{cases_order}
 use Rattle.std.proofs.lemmas.Option.{same_Some}
 use Rattle.ob_schedule.specs.declared.item.Item.{Item}
 use Rattle.ob_schedule.specs.Schedule.{process_of}
-use Rattle.wf_play.specs.ItemSteps.{AreItemSteps, IsBeyond, IsFirstBeyond, StandsFor, after_steps, more, none}
+use Rattle.wf_object.specs.InARow.{after_steps}
+use Rattle.wf_play.specs.ItemSteps.{AreItemSteps, IsBeyond, IsFirstBeyond, StandsFor, more, none}
 use Rattle.wf_table.specs.declared.process.Sizes.{Sizes}
 use Rattle.wf_table.specs.Meaning.{Meaning}
 use Rattle.wf_table.specs.Object.{State, step_of}
@@ -46,11 +47,11 @@ module _ {Run : Type 0} (m : Meaning Run) (z : Sizes) where
       (more h₀ few₀ (items-push limit rest (after_steps m z (process_of first) j s) t those item k hs h few))
 
   -- the first of the steps, or the last
-  step_first : (p k : ℕ) (s : State Run) → after_steps m z p k (step_of m z s p) ≡ step_of m z (after_steps m z p k s) p
+  pub step_first : (p k : ℕ) (s : State Run) → after_steps m z p k (step_of m z s p) ≡ step_of m z (after_steps m z p k s) p
   step_first p zero s = refl
   step_first p (suc k) s = ap (λ (t : State Run). step_of m z t p) (step_first p k s)
 
-  steps_run : (p k : ℕ) (ps : List ℕ) (s : State Run) → run m z (turns (replicate k p ++ ps)) s ≡ run m z (turns ps) (after_steps m z p k s)
+  pub steps_run : (p k : ℕ) (ps : List ℕ) (s : State Run) → run m z (turns (replicate k p ++ ps)) s ≡ run m z (turns ps) (after_steps m z p k s)
   steps_run p zero ps s = refl
   steps_run p (suc k) ps s = steps_run p k ps (step_of m z s p) ∙ ap (run m z (turns ps)) (step_first p k s)
 

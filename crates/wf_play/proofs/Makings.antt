@@ -1,20 +1,25 @@
 -- The processes found step by step are the makers of the events.
-use Rattle.std.proofs.Common.{◌≡◌, ℕ, suc, ◌+◌, ◌<◌, ◌⊎◌, List, [], ◌∷◌, ◌++◌, Bool, true, false, cond, length, replicate, take, refl, sym, ap, ◌∙◌, arith, subst, inl, inr, append_assoc, append-nil, length-append}
+use Rattle.std.proofs.Common.{◌≡◌, ℕ, zero, suc, ◌+◌, ◌<◌, ◌⊎◌, List, [], ◌∷◌, ◌++◌, Bool, true, false, cond, length, replicate, take, refl, sym, ap, ◌∙◌, arith, subst, inl, inr, append_assoc, append-nil, length-append}
 use Rattle.std.specs.Prelude.{ℤ, Option, Some, None, nat_lt, slice_get}
 use Rattle.std.proofs.lemmas.Bool.Decides.{nat_tests}
 use Rattle.std.proofs.lemmas.List.{replicate-append-replicate}
 use Rattle.ob_interface.specs.Call.{ObjectCall, Reply}
 use Rattle.wf_history.proofs.Positions.{place_push, take_next}
 use Rattle.wf_history.specs.History.{Event}
+use Rattle.wf_object.specs.InARow.{AreInBody, after_steps}
 use Rattle.wf_object.specs.View.{Object}
 use Rattle.wf_play.specs.Played.{IsSameObject}
+use Rattle.wf_play.proofs.Ends.{same_inside, same_steps}
+use Rattle.wf_play.proofs.Items.{step_first, steps_run}
 use Rattle.wf_play.proofs.Plays.{submitted_records}
 use Rattle.wf_table.specs.Start.{IsStart, sizes_of}
 use Rattle.wf_play.specs.Makers.{AreMakers, AreMakersOf, Shows, maker_at, makers_in}
+use Rattle.wf_table.specs.declared.process.Label.{Label}
+use Rattle.wf_table.specs.declared.process.Label.TheVariants.{Body}
 use Rattle.wf_table.specs.declared.process.Sizes.{Sizes}
 use Rattle.wf_table.specs.declared.schedule.Turns.{Turns}
 use Rattle.wf_table.specs.Meaning.{Meaning}
-use Rattle.wf_table.specs.Object.{Records, State, event_at, history_after, step_by, step_of}
+use Rattle.wf_table.specs.Object.{Records, State, event_at, history_after, label_by, label_of, step_by, step_of}
 use Rattle.wf_table.specs.Runs.{run, submissions, turns}
 use Rattle.wf_table.specs.Schedule.{steps_of}
 use Rattle.wf_table.specs.Table.{Process}
@@ -56,6 +61,26 @@ module _ {Run : Type 0} (m : Meaning Run) (z : Sizes) where
   makers_later ps qs s t before now later at so_far next =
       next ∙ ap (λ (xs : List ℕ). xs ++ makers_in m z qs t) so_far ∙ append_assoc before (makers_in m z ps s) (makers_in m z qs t)
       ∙ ap (λ (v : State Run). before ++ (makers_in m z ps s ++ makers_in m z qs v)) at ∙ ap (λ (xs : List ℕ). before ++ xs) (sym (makers_more ps qs s))
+
+  -- steps within a body show nothing
+  same_history : (s : State Run) (p : ℕ) (o : Option (Process Run)) → label_by o ≡ Body → (step_by m z s p o).records.history ≡ s.records.history
+  same_history s p None is = refl
+  same_history s p (Some q) is = ap (λ (l : Label). history_after s.records.history (event_at l m z s.cell s.processes p q)) is
+
+  no_maker : (s : State Run) (p : ℕ) → label_of s p ≡ Body → maker_at m z s p ≡ []
+  no_maker s p is =
+      let same : length (step_of m z s p).records.history ≡ length s.records.history = ap length (same_history s p (slice_get s.processes p) is) in
+      let test : nat_lt (length s.records.history) (length (step_of m z s p).records.history) ≡ false = grind (arith, nat_tests, same) in
+      ap (λ (b : Bool). cond b (p ∷ []) []) test
+
+  no_makers : (j : ℕ) (s : State Run) (p : ℕ) → AreInBody m z p j s → makers_in m z (replicate j p) s ≡ []
+  no_makers zero s p inside = refl
+  no_makers (suc j) s p inside =
+      ap (λ (xs : List ℕ). xs ++ makers_in m z (replicate j p) (step_of m z s p)) (no_maker s p (inside 0 (omega arith)))
+      ∙ no_makers j (step_of m z s p) p (λ i lt. ap (λ (t : State Run). label_of t p) (step_first m z p i s) ∙ inside (suc i) (omega (arith, lt)))
+
+  as_run : (p j : ℕ) (s : State Run) → after_steps m z p j s ≡ run m z (turns (replicate j p)) s
+  as_run p j s = sym (ap (λ (ps : List ℕ). run m z (turns ps) s) (sym (append-nil (replicate j p))) ∙ steps_run m z p j [] s)
 
   -- a shown event stays shown with more steps
   shows_more : (ps qs : List ℕ) (s : State Run) (place p : ℕ) → Shows m z ps s place p → Shows m z (ps ++ qs) s place p
@@ -131,6 +156,22 @@ module _ {E Run : Type 0} (meaning : E → Meaning Run) where
         same_object a b d same next,
         state_more m z (replicate k p) p a.state b.state d.state state stepped ∙ ap (λ (ps : List ℕ). run m z (turns ps) a.state) longer,
         makers_next m z (replicate k p) p a.state b.state before now later state so_far maker ∙ ap (λ (ps : List ℕ). before ++ makers_in m z ps a.state) longer,
+      )
+
+  -- more turns of it within a body
+  pub turns_inside : (a b d : Object E Run) (p k j : ℕ) (before now : List ℕ) → IsSameObject b a → b.state ≡ run (meaning a.engine) a.sizes (turns (replicate k p)) a.state → now ≡ before ++ makers_in (meaning a.engine) a.sizes (replicate k p) a.state →
+      IsSameObject d b → d.state ≡ after_steps (meaning b.engine) b.sizes p j b.state → AreInBody (meaning b.engine) b.sizes p j b.state →
+      IsSameObject d a × (d.state ≡ run (meaning a.engine) a.sizes (turns (replicate (k + j) p)) a.state) × (now ≡ before ++ makers_in (meaning a.engine) a.sizes (replicate (k + j) p) a.state)
+  turns_inside a b d p k j before now same state so_far next steps inside =
+      let m = meaning a.engine in
+      let z = a.sizes in
+      let longer : replicate k p ++ replicate j p ≡ replicate (k + j) p = replicate-append-replicate k j p in
+      let stepped : d.state ≡ run m z (turns (replicate j p)) b.state = same_steps meaning a b d.state p j same steps ∙ as_run m z p j b.state in
+      let none : makers_in m z (replicate j p) b.state ≡ [] = no_makers m z j b.state p (same_inside meaning a b p j same inside) in
+      let made : now ≡ now ++ makers_in m z (replicate j p) b.state = sym (append-nil now) ∙ ap (λ (xs : List ℕ). now ++ xs) (sym none) in (
+        same_object a b d same next,
+        state_later m z (replicate k p) (replicate j p) a.state b.state d.state state stepped ∙ ap (λ (ps : List ℕ). run m z (turns ps) a.state) longer,
+        makers_later m z (replicate k p) (replicate j p) a.state b.state before now now state so_far made ∙ ap (λ (ps : List ℕ). before ++ makers_in m z ps a.state) longer,
       )
 
   steps_more : (ts : List Turns) (t : Turns) → steps_of (ts ++ t ∷ []) ≡ steps_of ts ++ replicate t.count t.process

@@ -11,7 +11,8 @@ use Rattle.wf_play.specs.LockStep.{AreInLockStep}
 use Rattle.wf_play.specs.Played.{IsPlayed, IsPlayFault, IsTooLong, most_steps}
 use Rattle.wf_play.specs.declared.playing.PlayFault.{PlayFault}
 use Rattle.wf_play.specs.declared.playing.PlayFault.TheVariants as Faults
-use Rattle.wf_play.specs.ItemSteps.{AreItemSteps, EndsWithAnswer, IsAtEnd, IsBeyond, IsFirstBeyond, IsHaltedAfter, IsReply, StandsFor, after_steps, more, none}
+use Rattle.wf_object.specs.InARow.{after_steps}
+use Rattle.wf_play.specs.ItemSteps.{AreItemSteps, EndsWithAnswer, IsAtEnd, IsBeyond, IsFirstBeyond, IsHaltedAfter, IsReply, StandsFor, more, none}
 use Rattle.wf_table.specs.declared.process.Sizes.{Sizes}
 use Rattle.wf_table.specs.Meaning.{Meaning}
 use Rattle.wf_table.specs.Object.{Records, State}

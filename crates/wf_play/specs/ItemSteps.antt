@@ -4,9 +4,10 @@ use Rattle.ob_schedule.specs.declared.item.Item.{Item}
 use Rattle.ob_schedule.specs.declared.item.Item.TheVariants as Items
 use Rattle.ob_schedule.specs.Schedule.{process_of}
 use Rattle.wf_object.specs.Halted.{is_halted}
+use Rattle.wf_object.specs.InARow.{after_steps}
 use Rattle.wf_table.specs.declared.process.Sizes.{Sizes}
 use Rattle.wf_table.specs.Meaning.{Meaning}
-use Rattle.wf_table.specs.Object.{Answer, Replies, State, answer_of, label_of, step_of}
+use Rattle.wf_table.specs.Object.{Answer, Replies, State, answer_of, label_of}
 use Rattle.wf_table.specs.Schedule.{steps_of}
 
 -- a step's answer is the reply to a call
@@ -15,23 +16,18 @@ IsReply (Replies id reply) = Unit {0}
 IsReply _ = ⊥
 
 module _ {Run : Type 0} (m : Meaning Run) (z : Sizes) where
-  -- the process takes so many steps, and no other process one
-  abbrev pub after_steps : ℕ → ℕ → State Run → State Run
-  after_steps p zero s = s
-  after_steps p (suc k) s = step_of m z (after_steps p k s) p
-
   -- the last of so many steps answers
   abbrev pub EndsWithAnswer : ℕ → ℕ → State Run → Type 0
   EndsWithAnswer p zero s = ⊥
-  EndsWithAnswer p (suc k) s = IsReply (answer_of m z (after_steps p k s) p)
+  EndsWithAnswer p (suc k) s = IsReply (answer_of m z (after_steps m z p k s) p)
 
   abbrev pub IsHaltedAfter : ℕ → ℕ → State Run → Type 0
-  IsHaltedAfter p k s = is_halted (after_steps p k s) p ≡ true
+  IsHaltedAfter p k s = is_halted (after_steps m z p k s) p ≡ true
 
   -- p*count ends after so many steps; p:LABEL where p stands at the label, or is halted; p! where p answers, or is halted
   abbrev pub IsAtEnd : Item → ℕ → State Run → Type 0
   IsAtEnd (Items.Steps p count) k s = k ≡ count
-  IsAtEnd (Items.Until p label) k s = (label_of (after_steps p k s) p ≡ label) ⊎ IsHaltedAfter p k s
+  IsAtEnd (Items.Until p label) k s = (label_of (after_steps m z p k s) p ≡ label) ⊎ IsHaltedAfter p k s
   IsAtEnd (Items.ToAnswer p) k s = EndsWithAnswer p k s ⊎ IsHaltedAfter p k s
 
   -- an item stands for the least number of steps after which it is at its end
@@ -48,7 +44,7 @@ module _ {Run : Type 0} (m : Meaning Run) (z : Sizes) where
     pub steps : ℕ
     pub stands : StandsFor item steps s
     pub few : steps ≤ limit
-    pub leads : after ≡ after_steps (process_of item) steps s
+    pub leads : after ≡ after_steps m z (process_of item) steps s
     pub turns : steps_of after.records.schedule ≡ steps_of s.records.schedule ++ replicate steps (process_of item)
 
   -- an item is played to its end, or stands for too many steps
@@ -60,7 +56,7 @@ module _ {Run : Type 0} (m : Meaning Run) (z : Sizes) where
   pub data AreItemSteps (limit : ℕ) : List Item → State Run → List ℕ → State Run → Type 0 where
     none : {s : State Run} → AreItemSteps limit [] s [] s
     more : {item : Item} {items : List Item} {k : ℕ} {s after : State Run} {steps : List ℕ} →
-        StandsFor item k s → k ≤ limit → AreItemSteps limit items (after_steps (process_of item) k s) steps after →
+        StandsFor item k s → k ≤ limit → AreItemSteps limit items (after_steps m z (process_of item) k s) steps after →
         AreItemSteps limit (item ∷ items) s (replicate k (process_of item) ++ steps) after
 
   -- the items' steps lead from one state to the other, and the schedule is longer by them

@@ -1,12 +1,15 @@
 //! One item of a schedule.
 
-ghost use Rattle.std.specs.Prelude.{◌≡◌, ◌<◌, ◌⊎◌, ◌↔◌, true, IsTrue, IfOk, OnOk};
+ghost use Rattle.std.specs.Prelude.{◌≡◌, ◌≢◌, ◌<◌, ◌≤◌, ◌++◌, ◌⊎◌, ◌↔◌, true, replicate, IsTrue, IfOk, OnOk};
 ghost use Rattle.ob_schedule.specs.Schedule.{process_of};
 ghost use Rattle.ob_schedule.specs.declared.item.Item.TheVariants as Items;
 ghost use Rattle.wf_object.specs.Halted.{is_halted};
+ghost use Rattle.wf_object.specs.InARow.{AreInBody, after_steps};
 ghost use Rattle.wf_play.specs.ItemSteps.{IsItemPlayed};
 ghost use Rattle.wf_play.specs.Played.{IsSameObject};
+ghost use Rattle.wf_table.specs.declared.process.Label.TheVariants as Labels;
 ghost use Rattle.wf_table.specs.Object.{label_of};
+ghost use Rattle.wf_table.specs.Schedule.{steps_of};
 
 use ob_interface::NoMemory;
 use ob_schedule::Item;
@@ -43,8 +46,11 @@ fn step_times<E: Engine>(
     if count > limit {
         return Ok(false);
     }
-    for _step in 0..count {
+    let mut taken = 0;
+    while taken < count {
         machine.advance(p)?;
+        taken += 1;
+        taken += machine.stay_in_body(p, count - taken);
     }
     Ok(true)
 }
@@ -60,13 +66,32 @@ fn step_until<E: Engine>(
     ensures object { OnOk result (IsSameObject machine.new machine.old) }
     ensures played { IfOk result (λ ended. IsItemPlayed (E.meaning machine.old.engine) machine.old.sizes limit (Items.Until p label) machine.old.state ended machine.new.state) }
 {
-    for _step in 0..limit {
+    let mut taken = 0;
+    while taken < limit {
         if is_there(machine, p, label) {
             return Ok(true);
         }
         machine.advance(p)?;
+        taken += 1;
+        taken += stay_elsewhere(machine, p, label, limit - taken);
     }
     Ok(is_there(machine, p, label))
+}
+
+/// Steps of the process in a body, at most so many, but where the label is that of a body; and how many they are.
+fn stay_elsewhere<E: Engine>(machine: &mut Machine<E>, p: usize, label: Label, most: u64) -> u64
+    requires { p < machine.old.sizes.processes }
+    ensures object { IsSameObject machine.new machine.old }
+    ensures few { result ≤ most }
+    ensures leads { machine.new.state ≡ after_steps (E.meaning machine.old.engine) machine.old.sizes p result machine.old.state }
+    ensures turns { steps_of machine.new.state.records.schedule ≡ steps_of machine.old.state.records.schedule ++ replicate result p }
+    ensures inside { AreInBody (E.meaning machine.old.engine) machine.old.sizes p result machine.old.state }
+    ensures elsewhere { 0 < result → label ≢ Labels.Body }
+{
+    if label == Label::Body {
+        return 0;
+    }
+    machine.stay_in_body(p, most)
 }
 
 /// Whether the process stands at the label, or is halted.
@@ -87,13 +112,16 @@ fn step_to_answer<E: Engine>(
     ensures object { OnOk result (IsSameObject machine.new machine.old) }
     ensures played { IfOk result (λ ended. IsItemPlayed (E.meaning machine.old.engine) machine.old.sizes limit (Items.ToAnswer p) machine.old.state ended machine.new.state) }
 {
-    for _step in 0..limit {
+    let mut taken = 0;
+    while taken < limit {
         if machine.is_halted(p) {
             return Ok(true);
         }
         if machine.advance(p)? == Seen::Answered {
             return Ok(true);
         }
+        taken += 1;
+        taken += machine.stay_in_body(p, limit - taken);
     }
     Ok(machine.is_halted(p))
 }

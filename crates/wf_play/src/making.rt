@@ -67,8 +67,11 @@ fn take_turns<E: Engine>(
     ensures state { OnOk result (machine.new.state ≡ run (E.meaning machine.old.engine) machine.old.sizes (turns (replicate count p)) machine.old.state) }
     ensures makers { OnOk result (makers.new.items ≡ makers.old.items ++ makers_in (E.meaning machine.old.engine) machine.old.sizes (replicate count p) machine.old.state) }
 {
-    for _turn in 0..count {
+    let mut taken = 0;
+    while taken < count {
         take_turn(machine, p, makers)?;
+        taken += 1;
+        taken += machine.stay_in_body(p, count - taken);
     }
     Ok(())
 }
