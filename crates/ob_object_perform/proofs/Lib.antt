@@ -5,5 +5,5 @@ pub mod NoPerformance
 pub mod Runs
 pub mod Readings
 mod Alone
-mod Mapped
+pub mod Mapped
 pub mod Pictures

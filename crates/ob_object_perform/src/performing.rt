@@ -200,7 +200,7 @@ fn count_events(history: &History)
 }
 
 /// What a run is made of: the object of the module's text, the calls of the scripts and the items of the schedule.
-pub(crate) fn read_texts(
+pub fn read_texts(
     alloc: Global,
     text: &[u8],
     n: usize,

@@ -24,7 +24,7 @@ use wf_play::laws::too_long_items_are_no_run;
 use wf_play::{PlayFault, makers};
 
 /// A run of calls and items on an object: its checked module, and the record.
-pub(crate) fn run_on(
+pub fn run_on(
     alloc: Global,
     object: Object,
     calls: Scripts,
@@ -56,10 +56,10 @@ pub(crate) fn run_on(
 
 /// What a run begins with.
 #[derive(Drop)]
-struct Beginning {
-    engine: CodeEngine,
-    opening: Vec<i64>,
-    calls: Scripts,
+pub struct Beginning {
+    pub engine: CodeEngine,
+    pub opening: Vec<i64>,
+    pub calls: Scripts,
 }
 
 /// A run of calls and items on an object: its checked module, the record, and of each event the process whose step
@@ -102,7 +102,7 @@ pub(crate) fn run_with_makers(
 }
 
 /// Equal to what a run of these calls on the object begins with.
-fn beginning_of(alloc: Global, object: &Object, calls: &Scripts) -> Result<Beginning, NoMemory>
+pub fn beginning_of(alloc: Global, object: &Object, calls: &Scripts) -> Result<Beginning, NoMemory>
     ensures engine { IfOk result (λ b. b.engine.parts ≡ (object_in object.now).engine) }
     ensures opening { IfOk result (λ b. b.opening.items ≡ encoded (object_in object.now).opening) }
     ensures calls { IfOk result (λ b. b.calls ≡ calls.now) }

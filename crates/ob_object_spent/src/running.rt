@@ -1,0 +1,59 @@
+//! Runs of calls and items on an object, and the calls that ended in them.
+
+ghost use Rattle.std.specs.Prelude.{◌≡◌, ◌<◌, ◌≤◌, IfErr, IfOk};
+ghost use Rattle.ob_checked.specs.CheckedModule.{program_in};
+ghost use Rattle.ob_object_compile.specs.View.{object_in};
+ghost use Rattle.ob_object_perform.specs.Performance.{IsMeantIn, IsReady, IsRunFault, Shows, ShowsNone};
+ghost use Rattle.ob_object_record.specs.Record.{record_of};
+ghost use Rattle.ob_object_spent.specs.Spent.{AreEndedIn};
+
+use ob_checked::checked::Checked;
+use ob_interface::MOST_PROCESSES;
+use ob_object_compile::Object;
+use ob_object_perform::running::{Beginning, beginning_of, run_on};
+use ob_object_record::Record;
+use ob_object_run::laws::openings_are_objects;
+use ob_schedule::Item;
+use ob_text_scripts::Scripts;
+use std::alloc::Global;
+use wf_play::PlayFault;
+use wf_spending::{EndedCall, ended_calls};
+
+/// A run of calls and items on an object: its checked module, the record, and each call that ended with its own steps. These are
+/// not in the record: the turns of its schedule are taken once more.
+pub(crate) fn run_with_steps(
+    alloc: Global,
+    object: Object,
+    calls: Scripts,
+    items: Vec<Item>,
+) -> Result<(Checked, Record, Vec<EndedCall>), PlayFault>
+    requires ready { IsReady (object_in object) calls items.items }
+    requires some { 0 < (object_in object).processes }
+    requires few { (object_in object).processes ≤ MOST_PROCESSES }
+    ensures program { IfOk result (λ r. program_in r.0 ≡ (object_in object).program) }
+    ensures shows { IfOk result (λ r. Shows (object_in object) calls items.items (record_of r.1)) }
+    ensures meant { IfOk result (λ r. IsMeantIn (object_in object) (record_of r.1)) }
+    ensures ended { IfOk result (λ r. AreEndedIn (object_in object) calls (record_of r.1) r.2.items) }
+    ensures fault { IfErr result (IsRunFault (object_in object) calls items.items) }
+    ensures none { IfErr result (ShowsNone (object_in object) calls items.items) }
+{
+    let processes = object.processes();
+    let again = beginning_of(alloc, &object, &calls)?;
+    openings_are_objects();
+    let (checked, record) = run_on(alloc, object, calls, items)?;
+    let Beginning {
+        engine,
+        opening,
+        calls,
+    } = again;
+    let turns = record.schedule.as_slice();
+    let ended = ended_calls(
+        alloc,
+        engine,
+        processes,
+        opening.as_slice(),
+        calls.into_calls(),
+        turns,
+    )?;
+    Ok((checked, record, ended))
+}
