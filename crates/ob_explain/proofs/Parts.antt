@@ -1,46 +1,11 @@
--- Places byte by byte, and the words that bytes begin with.
-use Rattle.std.proofs.Common.{◌≡◌, ℕ, suc, ◌+◌, ◌<◌, ◌≤◌, Bool, cond, true, false, List, [], ◌∷◌, length, take, get_or, refl, sym, ap, ◌∙◌, arith}
-use Rattle.std.specs.List.{fold, prefix_len, take_while, HoldsAt}
-use Rattle.std.specs.Char.{is_ascii_alphabetic, is_ascii_alphanumeric}
+-- Places byte by byte.
+use Rattle.std.proofs.Common.{◌≡◌, ℕ, ◌+◌, ◌<◌, List, length, take, get_or, ap, ◌∙◌}
+use Rattle.std.specs.List.{fold}
 use Rattle.std.proofs.lemmas.List.{take_more}
-use Rattle.std.proofs.lemmas.List.Sums.{fold_push, take_while-cons}
-use Rattle.std.proofs.lemmas.List.Folds.{length-prefix_len}
+use Rattle.std.proofs.lemmas.List.Sums.{fold_push}
 use Rattle.ob_explain.specs.declared.place.Place.{Place}
 use Rattle.ob_explain.specs.Places.{behind_byte}
-use Rattle.ob_explain.specs.Shown.{word_at}
 
 pub next_place : (first : Place) (bytes : List ℕ) (i : ℕ) → i < length bytes →
     fold behind_byte first (take (i + 1) bytes) ≡ behind_byte (fold behind_byte first (take i bytes)) (get_or bytes i 0)
 next_place first bytes i h = ap (fold behind_byte first) (take_more bytes i 0 h) ∙ fold_push behind_byte first (take i bytes) (get_or bytes i 0)
-
--- as many bytes as pass from the front on are those that pass
-one_more : (p : ℕ → Bool) (b : ℕ) (bs : List ℕ) (t : Bool) → take (prefix_len p bs) bs ≡ take_while p bs →
-    take (cond t (1 + prefix_len p bs) 0) (b ∷ bs) ≡ cond t (b ∷ take_while p bs) []
-one_more p b bs true h =
-    let first : 1 + prefix_len p bs ≡ suc (prefix_len p bs) = omega arith in
-    ap (λ k. take k (b ∷ bs)) first ∙ ap (λ r. b ∷ r) h
-one_more p b bs false h = refl
-
-passing : (p : ℕ → Bool) (bytes : List ℕ) → take (prefix_len p bytes) bytes ≡ take_while p bytes
-passing p [] = refl
-passing p (b ∷ bs) = one_more p b bs (p b) (passing p bs) ∙ sym (take_while-cons p b bs)
-
-pub taken_while : (p : ℕ → Bool) (bytes : List ℕ) (count : ℕ) → count ≡ length (take (prefix_len p bytes) bytes) → take count bytes ≡ take_while p bytes
-taken_while p bytes count h = ap (λ k. take k bytes) (h ∙ length-prefix_len p bytes) ∙ passing p bytes
-
--- the word at a letter, and none where no letter stands
-pub word_here : (line : List ℕ) (x : ℕ) → HoldsAt (λ y. x ≡ y) line 0 → is_ascii_alphabetic x ≡ true → word_at line ≡ take_while is_ascii_alphanumeric line
-word_here [] x h letter = absurd (omega (arith, h 0, h 1))
-word_here (b ∷ bs) x h letter =
-    let same : is_ascii_alphabetic b ≡ true = ap is_ascii_alphabetic (sym (h 0)) ∙ letter in
-    rw same refl
-
-pub none_here : (line : List ℕ) (x : ℕ) → HoldsAt (λ y. x ≡ y) line 0 → is_ascii_alphabetic x ≡ false → [] ≡ word_at line
-none_here [] x h other = absurd (omega (arith, h 0, h 1))
-none_here (b ∷ bs) x h other =
-    let same : is_ascii_alphabetic b ≡ false = ap is_ascii_alphabetic (sym (h 0)) ∙ other in
-    rw same refl
-
-pub none_behind : (line : List ℕ) → length line ≤ 0 → [] ≡ word_at line
-none_behind [] h = refl
-none_behind (b ∷ bs) h = absurd (omega (arith, h))

@@ -1,5 +1,6 @@
 pub mod Places
 pub mod Shown
+pub mod Counts
 pub mod Rules
 pub mod Remarks
 pub mod Explanations

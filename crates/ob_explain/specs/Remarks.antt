@@ -1,5 +1,5 @@
 -- What each fault of a module says to people.
-use Rattle.std.specs.Prelude.{◌≡◌, ℕ, List, Option, Some, None, codes, drop, string_bytes, take}
+use Rattle.std.specs.Prelude.{◌≡◌, ◌++◌, ℕ, List, Option, Some, None, codes, drop, map, string_bytes, take}
 use Rattle.ob_scan.specs.declared.fault.ScanFault.{ScanFault}
 use Rattle.ob_scan.specs.declared.fault.ScanFault.TheVariants as Scan
 use Rattle.ob_scan.specs.Limits.{longest_text}
@@ -9,14 +9,21 @@ use Rattle.ob_scopes.specs.declared.fault.CheckFault.{CheckFault}
 use Rattle.ob_scopes.specs.declared.fault.CheckFault.TheVariants as Check
 use Rattle.ob_explain_hints.specs.Slips.{number_slip, parse_slip, stray_slip, word_slip}
 use Rattle.ob_explain_hints.specs.declared.tables.Slip.{Slip}
+use Rattle.ob_explain_hints.specs.Words.{word_at}
+use Rattle.ob_explain_names.specs.Lookup.{name_at}
+use Rattle.ob_explain_names.specs.Visible.{AreVisible}
+use Rattle.ob_explain_names.specs.declared.known.Known.{Known}
+use Rattle.ob_explain_tokens.specs.Around.{AreTokens, before}
+use Rattle.ob_explain_tokens.specs.Ends.{name_of_end}
 use Rattle.ob_typing.specs.declared.rule.BrokenRule.{BrokenRule}
 use Rattle.ob_typing.specs.declared.rule.Rule.{Rule}
 use Rattle.ob_typing.specs.declared.rule.Rule.TheVariants as Rules
 use Rattle.ob_explain_expected.specs.Expected.{AreExpected}
 use Rattle.ob_explain_expected.specs.Groups.{expected_sentence}
 use Rattle.ob_scan.specs.declared.token.Kind.{Kind}
+use Rattle.ob_scan.specs.declared.token.Token.{Token}
 use Rattle.ob_explain.specs.Rules.{rule_sentence}
-use Rattle.ob_explain.specs.Shown.{word_at}
+use Rattle.ob_explain.specs.Shown.{shown_byte}
 use Rattle.ob_explain.specs.declared.remark.Remark as Told
 
 -- a sentence on the byte at an offset, and a known slip that it may come of
@@ -49,13 +56,19 @@ scan_remark text Scan.NoMemory = None
 abbrev pub unexpected_slip : List ℕ → ℕ → Option Slip
 unexpected_slip text place = parse_slip (take place text) (word_at (drop place text)) (drop place text)
 
+-- behind END, the name that should stand there, by the tokens before it
+abbrev pub end_sentence : List ℕ → Option Token → List ℕ
+end_sentence text None = codes "behind END stands the name of the module or of the procedure that ends"
+end_sentence text (Some name) =
+    codes "behind END stands the name of the module or of the procedure that ends, which is `" ++ map shown_byte (name_at text name.start) ++ codes "`"
+
 -- of a token that can't stand there, or the end, what could: the kinds of token with which the text before it goes on
 abbrev pub IsParseRemark : List ℕ → ParseFault → Option Remark → Type 0
 IsParseRemark text (Parse.Unexpected place) remark =
     (kinds : List Kind) × AreExpected text place kinds × (remark ≡ hinting place (expected_sentence kinds) (unexpected_slip text place))
 IsParseRemark text (Parse.TooDeep place) remark = remark ≡ at place (codes "this stands within 100 other constructs, and no more nest")
 IsParseRemark text (Parse.NameDiffers place) remark =
-    remark ≡ at place (codes "behind END stands the name of the module or of the procedure that ends")
+    (tokens : List Token) × AreTokens text tokens × (remark ≡ at place (end_sentence text (name_of_end 0 None (before place tokens))))
 IsParseRemark text Parse.NoMemory remark = remark ≡ None
 
 abbrev pub slip_by : Rule → Option Slip → Option Slip
@@ -66,6 +79,9 @@ slip_by _ slip = None
 abbrev pub rule_slip : List ℕ → BrokenRule → Option Slip
 rule_slip text broken = slip_by broken.rule (word_slip (word_at (drop broken.place text)))
 
-abbrev pub check_remark : List ℕ → CheckFault → Option Remark
-check_remark text (Check.Broken b) = hinting b.place (rule_sentence b.rule (take b.place text) (drop b.place text)) (rule_slip text b)
-check_remark text Check.NoMemory = None
+-- of a rule that is broken what it asks, and what stands there, by the names that are visible at the place and by the tokens
+abbrev pub IsCheckRemark : List ℕ → CheckFault → Option Remark → Type 0
+IsCheckRemark text (Check.Broken b) remark =
+    (known : List Known) × (tokens : List Token) × AreVisible text b.place known × AreTokens text tokens
+    × (remark ≡ hinting b.place (rule_sentence text known tokens b) (rule_slip text b))
+IsCheckRemark text Check.NoMemory remark = remark ≡ None

@@ -1,34 +1,90 @@
--- What is wrong where a rule is broken, by the bytes before the place and those from there on.
-use Rattle.std.specs.Prelude.{ℕ, ◌||◌, Bool, List, codes, bytes_eq, if◌then◌else◌}
+-- What is wrong where a rule is broken, by the bytes before the place and those from there on, and the names that are visible there.
+use Rattle.std.specs.Prelude.{ℕ, ◌==◌, ◌||◌, Bool, List, [], ◌++◌, codes, bytes_eq, drop, length, map, take, Option, Some, None, if◌then◌else◌}
+use Rattle.ob_typing.specs.declared.rule.BrokenRule.{BrokenRule}
 use Rattle.ob_typing.specs.declared.rule.Rule.{Rule}
 use Rattle.ob_typing.specs.declared.rule.Rule.TheVariants as Rules
-use Rattle.ob_explain.specs.Shown.{word_at}
 use Rattle.ob_explain_hints.specs.Slips.{begins_with, ends_with}
-use Rattle.ob_explain_hints.specs.Words.{trimmed}
+use Rattle.ob_explain_hints.specs.Words.{trimmed, word_at, word_before}
+use Rattle.ob_explain_names.specs.Lookup.{sort_of}
+use Rattle.ob_explain_names.specs.Needs.{need_of}
+use Rattle.ob_explain_names.specs.declared.known.Known.{Known}
+use Rattle.ob_explain_names.specs.declared.known.Sort.{Sort}
+use Rattle.ob_explain_names.specs.declared.known.Sort.TheVariants as Sorts
+use Rattle.ob_explain_names.specs.declared.need.Need.{Need}
+use Rattle.ob_explain_names.specs.declared.need.Need.TheVariants as Needs
+use Rattle.ob_explain_nearest.specs.Distance.{bytes_of}
+use Rattle.ob_explain_nearest.specs.Nearest.{nearest}
+use Rattle.ob_explain_nearest.specs.declared.distance.Candidate.{Candidate}
+use Rattle.ob_explain_tokens.specs.Actuals.{actual_count}
+use Rattle.ob_explain_tokens.specs.Around as Tokens
+use Rattle.ob_explain_tokens.specs.Parens.{is_in_parens}
+use Rattle.ob_explain_types.specs.Types.{types_sentence}
+use Rattle.ob_scan.specs.declared.token.Token.{Token}
+use Rattle.ob_explain.specs.Counts.{told_count}
+use Rattle.ob_explain.specs.Shown.{shown_byte}
+
+abbrev pub near_question : List ℕ → List ℕ
+near_question name = codes "; did you mean `" ++ map shown_byte name ++ codes "`?"
+
+-- whether a name that is near is meant; at a distance of 3 none is near
+abbrev pub question : (text : List ℕ) → Candidate → List ℕ
+question text near = if near.distance == 3 then [] else near_question (bytes_of text near.named)
 
 -- a field stands behind a `.`
-abbrev pub unknown_sentence : List ℕ → List ℕ
-unknown_sentence before =
+abbrev pub unknown_sentence : (before text : List ℕ) → Candidate → List ℕ
+unknown_sentence before text near =
     if ends_with (trimmed before) 46 then codes "the record has no field of this name"
-    else codes "a name is declared before it is used, and none of this name is visible here"
+    else (codes "a name is declared before it is used, and none of this name is visible here" ++ question text near)
 
 -- ARRAY or RECORD stands there
 abbrev pub opens_type : List ℕ → Bool
 opens_type from = bytes_eq (word_at from) (codes "ARRAY") || bytes_eq (word_at from) (codes "RECORD")
 
--- at a `[`, at a `.`, at a type that is not told by a name, and at a name
-abbrev pub kind_sentence : List ℕ → List ℕ
-kind_sentence from =
+-- what a name is declared as
+abbrev pub told_sort : Sort → List ℕ
+told_sort Sorts.Constant = codes "this is a constant"
+told_sort Sorts.TypeName = codes "this is a type"
+told_sort Sorts.Variable = codes "this is a variable"
+told_sort (Sorts.Procedure parameters) = codes "this is a procedure"
+
+-- what has to stand in its place
+abbrev pub told_need : Need → List ℕ
+told_need Needs.TypeName = codes ", and the name of a type is needed here"
+told_need Needs.Variable = codes ", and a variable is needed here"
+told_need Needs.Procedure = codes ", and a procedure is needed here"
+told_need Needs.Value = codes ", and a constant or a variable is needed here"
+told_need Needs.Unknown = codes ", which can't stand here"
+
+abbrev pub named_sentence : Option Sort → Need → List ℕ
+named_sentence None need = codes "this name stands for another kind of thing than is needed here"
+named_sentence (Some sort) need = told_sort sort ++ told_need need
+
+-- what stands behind the word that bytes begin with
+abbrev pub behind_word : List ℕ → List ℕ
+behind_word from = drop (length (word_at from)) from
+
+-- at a `[`, at a `.`, at a type that is not told by a name, and at a name that is declared as this
+abbrev pub kind_sentence : (before from : List ℕ) → Option Sort → List ℕ
+kind_sentence before from sort =
     if begins_with from 91 then codes "an index stands only behind an array, and this is none"
     else if begins_with from 46 then codes "a field stands only behind a record, and this is none"
     else if opens_type from then codes "the type of a parameter is told by its name; declare it behind TYPE"
-    else codes "this name stands for another kind of thing than is needed here"
+    else named_sentence sort (need_of before (behind_word from))
 
--- an actual stands behind a `(` or a `,`, and else it is the procedure that is called
-abbrev pub actuals_sentence : List ℕ → List ℕ
-actuals_sentence before =
+abbrev pub counts_sentence : (count parameters : ℕ) → List ℕ
+counts_sentence count parameters =
+    codes "this call has " ++ told_count count (codes " actual") ++ codes ", and the procedure has " ++ told_count parameters (codes " parameter")
+
+-- of a call with so many actuals of what is declared as this
+abbrev pub counted_sentence : Option Sort → ℕ → List ℕ
+counted_sentence (Some (Sorts.Procedure parameters)) count = counts_sentence count parameters
+counted_sentence _ count = codes "this call has more or fewer actuals than the procedure has parameters"
+
+-- an actual stands behind a `(` or a `,`, and else it is the procedure that is called, with so many actuals
+abbrev pub actuals_sentence : List ℕ → Option Sort → ℕ → List ℕ
+actuals_sentence before sort count =
     if ends_with (trimmed before) 40 || ends_with (trimmed before) 44 then codes "a parameter with VAR takes a variable, and nothing else"
-    else codes "this call has more or fewer actuals than the procedure has parameters"
+    else counted_sentence sort count
 
 -- at an operation, and at a name
 abbrev pub divides : List ℕ → Bool
@@ -39,24 +95,32 @@ no_word from = bytes_eq (word_at from) (codes "")
 
 abbrev pub constant_sentence : List ℕ → List ℕ
 constant_sentence from =
-    if divides from || no_word from then codes "this operation has no result, so there is no constant"
+    if divides from then codes "a divisor is 1 or more, and this one is not, so there is no constant"
+    else if no_word from then codes "the result is outside -2147483648 to 2147483647, so there is no constant"
     else codes "a constant has no variables in it"
 
--- at a type, and at a name
-abbrev pub limit_sentence : List ℕ → List ℕ
-limit_sentence from =
+-- at a type, at the name of a procedure, at a parameter and at a variable
+abbrev pub limit_sentence : (before from : List ℕ) → (in_parens : Bool) → List ℕ
+limit_sentence before from in_parens =
     if opens_type from then codes "a type has at most 4096 words, and is at most 100 deep"
-    else codes "there are at most 4096 words in a type or a module, 1024 in a procedure's frame, 8 parameters, and 64 exports"
+    else if bytes_eq (word_before before) (codes "PROCEDURE") then codes "a module has at most 64 exports, and this is one more"
+    else if in_parens then codes "a procedure has at most 8 parameters, and this is one more"
+    else codes "the variables of a module have at most 4096 words, and those of a procedure, with its parameters, at most 1024; with this one there are more"
 
--- what a rule asks
-abbrev pub rule_sentence : Rule → (before from : List ℕ) → List ℕ
-rule_sentence Rules.UnknownName before from = unknown_sentence before
-rule_sentence Rules.DeclaredTwice before from = codes "a name is declared once in a scope, and a field stands once in a record"
-rule_sentence Rules.WrongKind before from = kind_sentence from
-rule_sentence Rules.TypesDiffer before from = codes "this is of another type than the one that is needed here"
-rule_sentence Rules.BadConstant before from = constant_sentence from
-rule_sentence Rules.BadLength before from = codes "an array has 1 to 4096 elements"
-rule_sentence Rules.BadActuals before from = actuals_sentence before
-rule_sentence Rules.WrongLevel before from = codes "a procedure sees its own variables and those of the module, and none of a procedure around it"
-rule_sentence Rules.PassesLimit before from = limit_sentence from
-rule_sentence Rules.BadExport before from = codes "exports are procedures of the module itself, with parameters of INTEGER and BOOLEAN"
+-- what a rule asks, and what stands there
+abbrev pub told_rule : Rule → (text : List ℕ) → (place : ℕ) → List Known → List Token → (before from : List ℕ) → List ℕ
+told_rule Rules.UnknownName text place known tokens before from = unknown_sentence before text (nearest text known (word_at from))
+told_rule Rules.DeclaredTwice text place known tokens before from = codes "a name is declared once in a scope, and a field stands once in a record"
+told_rule Rules.WrongKind text place known tokens before from = kind_sentence before from (sort_of text known (word_at from))
+told_rule Rules.TypesDiffer text place known tokens before from = types_sentence before from
+told_rule Rules.BadConstant text place known tokens before from = constant_sentence from
+told_rule Rules.BadLength text place known tokens before from = codes "an array has 1 to 4096 elements"
+told_rule Rules.BadActuals text place known tokens before from =
+    actuals_sentence before (sort_of text known (word_at from)) (actual_count (Tokens.behind place tokens))
+told_rule Rules.WrongLevel text place known tokens before from = codes "a procedure sees its own variables and those of the module, and none of a procedure around it"
+told_rule Rules.PassesLimit text place known tokens before from = limit_sentence before from (is_in_parens (Tokens.before place tokens))
+told_rule Rules.BadExport text place known tokens before from = codes "exports are procedures of the module itself, with parameters of INTEGER and BOOLEAN"
+
+abbrev pub rule_sentence : (text : List ℕ) → List Known → List Token → BrokenRule → List ℕ
+rule_sentence text known tokens broken =
+    told_rule broken.rule text broken.place known tokens (take broken.place text) (drop broken.place text)

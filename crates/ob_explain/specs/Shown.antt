@@ -1,7 +1,6 @@
 -- How a line of a text is shown.
 use Rattle.std.specs.Prelude.{ℕ, ◌+◌, ◌-◌, ◌==◌, ◌||◌, ◌&&◌, nat_le, nat_lt, Bool, List, [], ◌∷◌, ◌++◌, drop, length, map, take, codes, if◌then◌else◌}
-use Rattle.std.specs.Char.{is_ascii_alphabetic, is_ascii_alphanumeric}
-use Rattle.std.specs.List.{take_while}
+use Rattle.ob_explain_hints.specs.Words.{word_at}
 
 -- a tab or a printable ASCII character as it is, a blank for a carriage return, and `?` for each other byte
 abbrev pub shown_byte : ℕ → ℕ
@@ -10,11 +9,6 @@ shown_byte b = if (b == 9) || (nat_le 32 b && nat_le b 126) then b else if b == 
 -- a tab below a tab, and a blank below all else
 abbrev pub blank_below : ℕ → ℕ
 blank_below b = if b == 9 then 9 else 32
-
--- the name or keyword that bytes begin with
-abbrev pub word_at : List ℕ → List ℕ
-word_at [] = []
-word_at (b ∷ bs) = if is_ascii_alphabetic b then take_while is_ascii_alphanumeric (b ∷ bs) else []
 
 -- a word in quotes, with a colon
 abbrev pub quoted : List ℕ → List ℕ

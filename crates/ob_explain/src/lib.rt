@@ -2,6 +2,7 @@
 //! the rule asks.
 #![tactic(auto)]
 
+pub mod counts;
 pub mod explanation;
 pub mod place;
 pub mod remark;

@@ -1,6 +1,6 @@
 //! Lines and columns of a text.
 
-ghost use Rattle.std.specs.Prelude.{◌≡◌, ◌+◌, ◌≤◌, ◌<◌, ◌^◌, length, take};
+ghost use Rattle.std.specs.Prelude.{◌≡◌, ◌+◌, ◌≤◌, ◌<◌, ◌^◌, drop, length, take};
 ghost use Rattle.ob_explain.specs.Places.{behind_byte, line_before, line_from, place_in, up_to_line_feed};
 
 /// A place as people count: its line from 1, and its column, which is one more than the bytes before it in its line.
@@ -56,4 +56,12 @@ fn up_to_line_feed(text: &[u8]) -> &[u8]
 {
     let length = text.iter().take_while(|byte| **byte != b'\n').count();
     &text[..length]
+}
+
+/// What stands before a place of a text, and what from there on.
+pub fn halves(text: &[u8], place: usize) -> (&[u8], &[u8])
+    ensures before { result.0.now ≡ take place text.now }
+    ensures behind { result.1.now ≡ drop place text.now }
+{
+    text.split_at(place.min(text.len()))
 }

@@ -1,17 +1,23 @@
 //! What is wrong at a place of a module, in a sentence.
 
-ghost use Rattle.std.specs.Prelude.{◌≡◌, Some, IfOk, drop, option_map, string_bytes, take};
-ghost use Rattle.ob_explain.specs.Remarks.{IsParseRemark, check_remark, remark_of, rule_slip, scan_remark, unexpected_slip};
+ghost use Rattle.std.specs.Prelude.{◌≡◌, Some, IfOk, option_map, string_bytes};
+ghost use Rattle.ob_explain.specs.Remarks.{IsCheckRemark, IsParseRemark, end_sentence, remark_of, rule_slip, scan_remark, unexpected_slip};
 
+use crate::place::halves;
 use crate::rules::rule_sentence;
-use crate::shown::word_at;
+use crate::shown::push_line;
 use ob_explain_expected::expected::expected_kinds;
 use ob_explain_expected::phrases::expected_sentence;
 use ob_explain_hints::slips::{number_slip, parse_slip, stray_slip, word_slip};
 use ob_explain_hints::tables::Slip;
+use ob_explain_hints::words::word_at;
+use ob_explain_names::lookup::name_at;
+use ob_explain_names::visible::visible_names;
+use ob_explain_tokens::around::{tokens_before, tokens_of};
+use ob_explain_tokens::ends::name_of_end;
 use ob_parser::parser::ParseFault;
-use ob_scan::ScanFault;
 use ob_scan::scanner::LONGEST_TEXT;
+use ob_scan::{ScanFault, Token};
 use ob_scopes::fault::CheckFault;
 use ob_typing::rule::{BrokenRule, Rule};
 use std::alloc::{AllocError, Global};
@@ -90,13 +96,37 @@ pub fn parse_remark(
             "this stands within 100 other constructs, and no more nest",
             None,
         ),
-        ParseFault::NameDiffers(place) => told(
-            alloc,
-            place,
-            "behind END stands the name of the module or of the procedure that ends",
-            None,
-        ),
+        ParseFault::NameDiffers(place) => {
+            let tokens = tokens_of(alloc, text)?;
+            let before = tokens_before(alloc, &tokens, place)?;
+            Ok(Some(Remark {
+                place,
+                sentence: end_sentence(alloc, text, name_of_end(&before))?,
+                hint: None,
+            }))
+        }
         ParseFault::NoMemory => Ok(None),
+    }
+}
+
+/// Of a name behind END that is another than this.
+fn end_sentence(alloc: Global, text: &[u8], name: Option<Token>) -> Result<String, AllocError>
+    ensures { IfOk result (λ sentence. string_bytes sentence ≡ end_sentence text.now name) }
+{
+    match name {
+        Some(name) => {
+            let mut sentence = String::from_str(
+                alloc,
+                "behind END stands the name of the module or of the procedure that ends, which is `",
+            )?;
+            push_line(&mut sentence, name_at(text, name.start))?;
+            sentence.push_str("`")?;
+            Ok(sentence)
+        }
+        None => String::from_str(
+            alloc,
+            "behind END stands the name of the module or of the procedure that ends",
+        ),
     }
 }
 
@@ -114,13 +144,17 @@ pub fn check_remark(
     text: &[u8],
     fault: CheckFault,
 ) -> Result<Option<Remark>, AllocError>
-    ensures { IfOk result (λ remark. option_map remark_of remark ≡ check_remark text.now fault) }
+    ensures { IfOk result (λ remark. IsCheckRemark text.now fault (option_map remark_of remark)) }
 {
     match fault {
         CheckFault::Broken(broken) => {
-            let (before, behind) = halves(text, broken.place);
-            let sentence = rule_sentence(broken.rule, before, behind);
-            told(alloc, broken.place, sentence, rule_slip(text, broken))
+            let known = visible_names(alloc, text, broken.place)?;
+            let tokens = tokens_of(alloc, text)?;
+            Ok(Some(Remark {
+                place: broken.place,
+                sentence: rule_sentence(alloc, text, &known, &tokens, broken)?,
+                hint: rule_slip(text, broken),
+            }))
         }
         CheckFault::NoMemory => Ok(None),
     }
@@ -134,14 +168,6 @@ fn rule_slip(text: &[u8], broken: BrokenRule) -> Option<Slip>
         Rule::UnknownName => word_slip(word_at(halves(text, broken.place).1)),
         _ => None,
     }
-}
-
-/// What stands before a place of a text, and what from there on.
-fn halves(text: &[u8], place: usize) -> (&[u8], &[u8])
-    ensures before { result.0.now ≡ take place text.now }
-    ensures behind { result.1.now ≡ drop place text.now }
-{
-    text.split_at(place.min(text.len()))
 }
 
 fn told(

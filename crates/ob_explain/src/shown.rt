@@ -1,8 +1,9 @@
 //! A line of a text as it is shown, with a mark below one of its columns.
 
 ghost use Rattle.std.specs.Prelude.{◌≡◌, ◌++◌, OnOk, map, string_bytes};
-ghost use Rattle.ob_explain.specs.Shown.{blank_below, cut_blank, cut_mark, first_part, last_part, left_part, named, right_part, shown_byte, word_at};
+ghost use Rattle.ob_explain.specs.Shown.{blank_below, cut_blank, cut_mark, first_part, last_part, left_part, named, right_part, shown_byte};
 
+use ob_explain_hints::words::word_at;
 use std::alloc::AllocError;
 
 /// The most bytes of a line that is shown whole.
@@ -101,22 +102,6 @@ pub fn push_cut_blank(shown: &mut String, all: &[u8], part: &[u8]) -> Result<(),
         shown.push_str(" ")?;
     }
     Ok(())
-}
-
-/// The name or keyword that a line goes on with; empty where it goes on with none.
-pub fn word_at(line: &[u8]) -> &[u8]
-    ensures { result.now ≡ word_at line.now }
-{
-    match line.first() {
-        Some(first) if first.is_ascii_alphabetic() => {
-            let length = line
-                .iter()
-                .take_while(|byte| byte.is_ascii_alphanumeric())
-                .count();
-            &line[..length]
-        }
-        _ => &line[..0],
-    }
 }
 
 fn shown_byte(byte: u8) -> u8

@@ -1,7 +1,7 @@
--- The word that stands before a place.
-use Rattle.std.specs.Prelude.{ℕ, ◌-◌, ◌==◌, ◌||◌, Bool, List, length, take, drop, reverse}
-use Rattle.std.specs.List.{prefix_len}
-use Rattle.std.specs.Char.{is_ascii_alphanumeric}
+-- The words that stand before a place and at it.
+use Rattle.std.specs.Prelude.{ℕ, ◌-◌, ◌==◌, ◌||◌, Bool, List, [], ◌∷◌, length, take, drop, reverse, if◌then◌else◌}
+use Rattle.std.specs.List.{prefix_len, take_while}
+use Rattle.std.specs.Char.{is_ascii_alphabetic, is_ascii_alphanumeric}
 
 abbrev pub is_blank : ℕ → Bool
 is_blank b = (b == 32) || (b == 9) || (b == 13) || (b == 10)
@@ -21,3 +21,8 @@ last_word bytes = drop (length bytes - last_len is_ascii_alphanumeric bytes) byt
 -- the word before a place, behind which blanks alone stand
 abbrev pub word_before : List ℕ → List ℕ
 word_before before = last_word (trimmed before)
+
+-- the name or keyword that bytes begin with
+abbrev pub word_at : List ℕ → List ℕ
+word_at [] = []
+word_at (b ∷ bs) = if is_ascii_alphabetic b then take_while is_ascii_alphanumeric (b ∷ bs) else []

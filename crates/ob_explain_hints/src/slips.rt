@@ -90,7 +90,8 @@ fn is_small_keyword(word: &[u8]) -> bool
     KEYWORDS.iter().any(|kind| is_same_but_for_case(word, sample(*kind).as_bytes()))
 }
 
-fn is_same_but_for_case(word: &[u8], other: &[u8]) -> bool
+/// Whether two words have the same letters and digits, of which some are small and large.
+pub fn is_same_but_for_case(word: &[u8], other: &[u8]) -> bool
     ensures { result ≡ is_same_but_for_case word.now other.now }
 {
     word.eq_ignore_ascii_case(other) && !is_same(word, other)

@@ -2,7 +2,7 @@
 use Rattle.std.specs.Prelude.{◌≡◌, ℕ, List, Option, None, option_map}
 use Rattle.ob_scan.specs.declared.fault.ScanFault.TheVariants as Scan
 use Rattle.ob_explain.specs.Explanations.{explanation}
-use Rattle.ob_explain.specs.Remarks.{Remark, IsParseRemark, check_remark, scan_remark}
+use Rattle.ob_explain.specs.Remarks.{Remark, IsCheckRemark, IsParseRemark, scan_remark}
 use Rattle.ob_explained.specs.OpenFaults.{open_explanation}
 use Rattle.ob_explained.specs.ScriptRemarks.{script_remark}
 use Rattle.ob_check_text.specs.declared.checked_text.TextFault.{TextFault}
@@ -18,7 +18,7 @@ abbrev pub IsTextRemark : List ℕ → TextFault → Option Remark → Type 0
 IsTextRemark text (Texts.Scan Scan.TooLong) remark = remark ≡ None
 IsTextRemark text (Texts.Scan e) remark = remark ≡ scan_remark text e
 IsTextRemark text (Texts.Parse e) remark = IsParseRemark text e remark
-IsTextRemark text (Texts.Check e) remark = remark ≡ check_remark text e
+IsTextRemark text (Texts.Check e) remark = IsCheckRemark text e remark
 IsTextRemark text Texts.NoMemory remark = remark ≡ None
 
 -- in the text of this name

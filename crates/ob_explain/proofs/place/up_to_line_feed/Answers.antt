@@ -2,8 +2,8 @@ use Rattle.std.proofs.Common.{rules, tests, not}
 use Rattle.std.proofs.lemmas.Iterator.{YieldsList-from_slice}
 use Rattle.std.proofs.lemmas.Iterator.Search.{YieldsList-from_take_while}
 use Rattle.std.proofs.lemmas.Iterator.Consumers.{YieldsList-at, count_from_yields_List}
+use Rattle.ob_explain_hints.proofs.Parts.{taken_while}
 use Rattle.ob_explain.specs.Places.{is_line_feed}
-use Rattle.ob_explain.proofs.Parts.{taken_while}
 use Rattle.ob_explain.proofs.place.up_to_line_feed.Goals as goal
 
 pub returns : goal.returns

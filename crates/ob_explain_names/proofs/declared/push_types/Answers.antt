@@ -1,0 +1,21 @@
+use Rattle.std.proofs.Common.{◌≡◌, ◌∷◌, [], ◌++◌, refl, arith}
+use Rattle.std.proofs.lemmas.Grind.{common_steps}
+use Rattle.ob_grammar.specs.View.{name_of}
+use Rattle.ob_explain_names.specs.declared.known.Sort.TheVariants.{TypeName}
+use Rattle.ob_explain_names.specs.Known.{known_as}
+use Rattle.ob_explain_names.proofs.Added.{added, adds_all, loop_added, loop_adds, types_left}
+use Rattle.ob_explain_names.proofs.declared.push_types.Goals as goal
+
+pub loop-declaration-init : goal.loop-declaration-init
+loop-declaration-init c = adds_all _ _
+
+pub loop-declaration-preserved : goal.loop-declaration-preserved
+loop-declaration-preserved c =
+    loop_adds types_left (known_as TypeName (name_of c.declaration-item.result.name) ∷ []) c.deref-declaration-items.result.now c.loop-declaration.declaration-index c.declaration-item.result
+    c.loop-declaration.invariant c.loop-declaration-test.true c.declaration-item.is (λ ys. refl) c.in_ok-push.ensures.items
+
+pub returns : goal.returns
+returns c =
+    let e : c.loop-declaration.known.items ≡ c.args.known.now.items ++ types_left c.deref-declaration-items.result.now =
+    loop_added types_left c.deref-declaration-items.result.now c.loop-declaration.declaration-index c.loop-declaration.invariant refl c.loop-declaration-test.false in
+    grind (arith, common_steps)

@@ -1,0 +1,4 @@
+pub mod Known
+pub mod Visible
+pub mod Lookup
+pub mod Needs

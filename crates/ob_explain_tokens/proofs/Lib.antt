@@ -1,0 +1,2 @@
+pub mod NoTokens
+pub mod Steps

@@ -1,0 +1,4 @@
+pub mod Around
+pub mod Ends
+pub mod Actuals
+pub mod Parens

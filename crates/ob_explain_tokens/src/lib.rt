@@ -1,0 +1,7 @@
+//! What the tokens around a place of a module tell: the name that stands behind an END, and how many actuals a call has.
+#![tactic(auto)]
+
+pub mod actuals;
+pub mod around;
+pub mod ends;
+pub mod parens;
