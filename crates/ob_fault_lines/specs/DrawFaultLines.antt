@@ -10,10 +10,10 @@ use Rattle.ob_fault_lines.specs.ModuleFaultLines.{Text, no_memory_line, text_lin
 use Rattle.ob_fault_lines.specs.RunFaultLines.{run_fault_line}
 use Rattle.ob_fault_lines.specs.ScriptFaultLines.{at_line}
 
--- D1 tells how many calls begin in the run, D2 how many a picture would show
+-- I1 tells how many calls begin in the run, I2 how many a picture would show
 abbrev pub picture_line : PictureFault → Text
-picture_line (Pictures.NoCalls count) = codes "D1 of " ++ decimal count ++ codes " calls"
-picture_line (Pictures.TooMany count) = codes "D2 " ++ decimal count ++ codes " calls"
+picture_line (Pictures.NoCalls count) = codes "I1 of " ++ decimal count ++ codes " calls"
+picture_line (Pictures.TooMany count) = codes "I2 " ++ decimal count ++ codes " calls"
 picture_line Pictures.NoMemory = no_memory_line
 
 abbrev pub draw_fault_line : DrawFault → Text

@@ -48,8 +48,8 @@ fn push_picture_fault(line: &mut String, fault: PictureFault) -> Result<(), Allo
     ensures { OnOk result (string_bytes line.new ≡ string_bytes line.old ++ picture_line fault) }
 {
     match fault {
-        PictureFault::NoCalls(count) => push_calls(line, "D1 of ", count),
-        PictureFault::TooMany(count) => push_calls(line, "D2 ", count),
+        PictureFault::NoCalls(count) => push_calls(line, "I1 of ", count),
+        PictureFault::TooMany(count) => push_calls(line, "I2 ", count),
         PictureFault::NoMemory => line.push_str("NoMemory"),
     }
 }

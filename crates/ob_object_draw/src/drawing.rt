@@ -27,7 +27,7 @@ pub enum DrawRecordFault {
     /// F1: the record's line is missing, or not of its form or place. Lines count from 1.
     #[error("F1 line {0}")]
     Form(usize),
-    /// D1 or D2: the record has no calls of the range, or more than a picture.
+    /// I1 or I2: the record has no calls of the range, or more than a picture.
     #[error("{0}")]
     Calls(PictureFault),
     /// Want of memory.

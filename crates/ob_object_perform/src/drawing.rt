@@ -28,7 +28,7 @@ pub enum DrawFault {
     /// The texts have no run, or memory is wanting.
     #[error("{0}")]
     Run(PerformFault),
-    /// D1 or D2: the run has no calls of the range, or more than a picture.
+    /// I1 or I2: the run has no calls of the range, or more than a picture.
     #[error("{0}")]
     Calls(PictureFault),
 }

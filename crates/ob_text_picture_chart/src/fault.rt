@@ -6,11 +6,11 @@ use thiserror::Error;
 /// Why there is no picture of some calls of a run.
 #[derive(Clone, Copy, Debug, PartialEq, Eq, Error)]
 pub enum PictureFault {
-    /// D1: there are no calls of the range; so many calls begin in the run.
-    #[error("D1: of {0} calls there are none of this range")]
+    /// I1: there are no calls of the range; so many calls begin in the run.
+    #[error("I1: of {0} calls there are none of this range")]
     NoCalls(usize),
-    /// D2: these would be more calls than a picture has.
-    #[error("D2: {0} calls")]
+    /// I2: these would be more calls than a picture has.
+    #[error("I2: {0} calls")]
     TooMany(usize),
     /// Want of memory.
     #[error("NoMemory")]
