@@ -1,12 +1,13 @@
 -- Answers made of the beginning of a module's text.
-use Rattle.std.proofs.Common.{◌≡◌, ◌≢◌, ◌<◌, ◌≤◌, ◌++◌, ◌⊎◌, ℕ, List, Result, Ok, Err, None, IfOk, length, codes, false, inl, inr, refl, subst, sym, arith}
+use Rattle.std.proofs.Common.{◌≡◌, ◌≢◌, ◌<◌, ◌≤◌, ◌++◌, ◌⊎◌, ℕ, List, Result, Ok, Err, Option, IfOk, length, codes, false, inl, inr, refl, subst, sym, arith}
+use Rattle.ob_text_picture_chart.specs.declared.charts.CallRange.{CallRange}
 use Rattle.std.proofs.lemmas.Bool.{cases_lt}
 use Rattle.ob_scan.specs.ScanFaults.{IsScanFault}
 use Rattle.ob_scan.specs.declared.fault.ScanFault.TheVariants as Scan
 use Rattle.ob_typing.specs.ModuleText.{IsModule}
 use Rattle.ob_typing.specs.Program.{Program}
 use Rattle.ob_check_text.specs.declared.checked_text.TextFault.TheVariants as Texts
-use Rattle.ob_answer.specs.Answers.{IsBoundAnswer, IsCheckAnswer, IsListAnswer, IsNumberedDraw, IsPictureAnswer, IsRecordAnswer, IsRecordPictureAnswer, IsSeqAnswer, IsServeAnswer, IsVerifyAnswer, refused}
+use Rattle.ob_answer.specs.Answers.{IsBoundAnswer, IsCheckAnswer, IsListAnswer, IsNumberedDraw, IsPictureAnswer, IsRecordAnswer, IsRecordPictureAnswer, IsSeqAnswer, IsServeAnswer, IsTreeRecordAnswer, IsVerifyAnswer, refused}
 use Rattle.ob_answer.specs.Printed.{IsRefused}
 use Rattle.ob_answer.specs.declared.answered.Answer.{Answer}
 use Rattle.ob_fault_lines.specs.CompileFaultLines.{compile_line}
@@ -28,7 +29,7 @@ use Rattle.ob_object_draw.specs.RecordPictures.{IsDrawRecordFault}
 use Rattle.ob_object_draw.specs.declared.drawing.DrawRecordFault.{DrawRecordFault}
 use Rattle.ob_object_draw.specs.declared.drawing.DrawRecordFault.TheVariants as DrawRecord
 use Rattle.ob_object_perform.specs.Performance as Performs
-use Rattle.ob_object_perform.specs.Performance.{HasNoPerformance, IsPerformFault}
+use Rattle.ob_object_perform.specs.Performance.{HasNoPerformance, HasNoTreePerformance, IsPerformFault, IsTreePerformFault}
 use Rattle.ob_object_perform.specs.Pictured as Pictured
 use Rattle.ob_object_perform.specs.Pictured.{IsDrawFault, SaysNoRun}
 use Rattle.ob_object_perform.specs.declared.drawing.DrawFault.{DrawFault}
@@ -133,19 +134,20 @@ no_numbers n budget beyond too_much within =
 
 -- the fault of a text that is too long, of so many processes with so large a budget
 fault_too_long : {F : Type 0} (compiling : CompileFault → F) (IsFault : F → Type 0) (whole : List ℕ) (n budget : ℕ) (e : F)
-    → ((x : CompileFault) → IsCompileFault whole n budget x → IsFault (compiling x)) → 65536 < length whole
+    → ((n ≡ 0) ⊎ (16 < n) → IsFault (compiling Compile.Processes)) → (1000000 < budget → IsFault (compiling Compile.Budget))
+    → (IsScanFault whole Scan.TooLong → IsFault (compiling (Compile.Text (Texts.Scan Scan.TooLong)))) → 65536 < length whole
     → ((n ≡ 0) ⊎ (16 < n) → e ≡ compiling Compile.Processes) → (0 < n → n ≤ 16 → 1000000 < budget → e ≡ compiling Compile.Budget)
     → (0 < n → n ≤ 16 → budget ≤ 1000000 → e ≡ compiling (Compile.Text (Texts.Scan Scan.TooLong)))
     → IsFault e
-fault_too_long compiling IsFault whole n budget e is_fault longer processes too_much too_long =
+fault_too_long compiling IsFault whole n budget e of_processes of_budget of_text longer processes too_much too_long =
     elim (cases_lt 0 n) [
-      | inr none ↦ let is : n ≡ 0 = omega (arith, none) in subst IsFault (sym (processes (inl is))) (is_fault Compile.Processes (inl is))
+      | inr none ↦ let is : n ≡ 0 = omega (arith, none) in subst IsFault (sym (processes (inl is))) (of_processes (inl is))
       | inl some ↦
           elim (cases_lt 16 n) [
-            | inl many ↦ subst IsFault (sym (processes (inr many))) (is_fault Compile.Processes (inr many))
+            | inl many ↦ subst IsFault (sym (processes (inr many))) (of_processes (inr many))
             | inr few ↦
-                budget_too_long compiling IsFault budget e (is_fault Compile.Budget)
-                (is_fault (Compile.Text (Texts.Scan Scan.TooLong)) (too_long_scan whole longer)) (too_much some few) (too_long some few)
+                budget_too_long compiling IsFault budget e of_budget
+                (of_text (too_long_scan whole longer)) (too_much some few) (too_long some few)
           ]
     ]
 
@@ -159,7 +161,7 @@ bound_refused_made part n budget e (Ok a) told numbered stands apart none proces
     λ whole is.
     refused e
     (of_whole_or_long (λ t. IsCompileFault t n budget e) part whole is
-    (λ long longer. fault_too_long (λ x. x) (IsCompileFault whole n budget) whole n budget e (λ x h. h) longer
+    (λ long longer. fault_too_long (λ x. x) (IsCompileFault whole n budget) whole n budget e (λ h. h) (λ h. h) (λ h. h) longer
     processes too_much (λ some few within. too_long some few within long)) stands)
     (numbered, apart)
     (of_whole_or_long (λ t. HasNoObject t n budget) part whole is (λ long longer. long_has_no_object whole n budget longer) (none (numbered, apart))) told
@@ -175,12 +177,29 @@ run_refused_made part n budget script schedule e (Ok a) told numbered stands apa
     λ whole is.
     refused e
     (of_whole_or_long (λ t. IsPerformFault t n budget script schedule e) part whole is
-    (λ long longer. fault_too_long Perform.Compile (IsPerformFault whole n budget script schedule) whole n budget e (λ x h. h) longer
+    (λ long longer. fault_too_long Perform.Compile (IsPerformFault whole n budget script schedule) whole n budget e (λ h. h) (λ h. h) (λ h. h) longer
     processes too_much (λ some few within. too_long some few within long)) stands)
     (numbered, apart)
     (of_whole_or_long (λ t. HasNoPerformance t n budget script schedule) part whole is
     (λ long longer r performs. no_module whole longer performs.object.program performs.compiled.is_module) (none (numbered, apart))) told
 run_refused_made part n budget script schedule e (Err x) told numbered stands apart none processes too_much too_long = tt
+
+pub tree_refused_made : {E : Type 0} (part : List ℕ) (n budget : ℕ) (script schedule : List ℕ) (e : PerformFault) (result : Result Answer E)
+    → IfOk result (λ a. IsRefused a 1 (run_fault_line e ++ codes "\n")) → IfOk result (λ _. Performs.is_want_of_memory e ≡ false)
+    → IsTreePerformFault part n budget script schedule e → Performs.TellsMemoryApart e → (Performs.IsNumbered e → HasNoTreePerformance part n budget script schedule)
+    → ((n ≡ 0) ⊎ (16 < n) → e ≡ Perform.Compile Compile.Processes) → (0 < n → n ≤ 16 → 1000000 < budget → e ≡ Perform.Compile Compile.Budget)
+    → (0 < n → n ≤ 16 → budget ≤ 1000000 → 65536 < length part → e ≡ Perform.Compile (Compile.Text (Texts.Scan Scan.TooLong)))
+    → IfOk result (λ a. (whole : List ℕ) → part ≡ beginning whole → IsTreeRecordAnswer whole n budget script schedule a)
+tree_refused_made part n budget script schedule e (Ok a) told numbered stands apart none processes too_much too_long =
+    λ whole is.
+    refused e
+    (of_whole_or_long (λ t. IsTreePerformFault t n budget script schedule e) part whole is
+    (λ long longer. fault_too_long Perform.Compile (IsTreePerformFault whole n budget script schedule) whole n budget e (λ h. h) (λ h. h) (λ h. h) longer
+    processes too_much (λ some few within. too_long some few within long)) stands)
+    (numbered, apart)
+    (of_whole_or_long (λ t. HasNoTreePerformance t n budget script schedule) part whole is
+    (λ long longer r performs. no_module whole longer performs.object.program performs.compiled.is_module) (none (numbered, apart))) told
+tree_refused_made part n budget script schedule e (Err x) told numbered stands apart none processes too_much too_long = tt
 
 numbered_draw : (e : DrawFault) → e ≢ Draw.Run Perform.NoMemory → Pictured.TellsMemoryApart e → IsNumberedDraw e
 numbered_draw (Draw.Run (Perform.Compile e)) known apart = (refl, apart)
@@ -195,34 +214,34 @@ long_says_no_run : (text : List ℕ) (n budget : ℕ) (script schedule : List �
 long_says_no_run text n budget script schedule (Draw.Run e) longer = λ numbered r performs. no_module text longer performs.object.program performs.compiled.is_module
 long_says_no_run text n budget script schedule (Draw.Calls e) longer = tt
 
-pub draw_refused_made : {E : Type 0} (part : List ℕ) (n budget : ℕ) (script schedule : List ℕ) (e : DrawFault) (result : Result Answer E)
+pub draw_refused_made : {E : Type 0} (calls : Option CallRange) (part : List ℕ) (n budget : ℕ) (script schedule : List ℕ) (e : DrawFault) (result : Result Answer E)
     → IfOk result (λ a. IsRefused a 1 (draw_fault_line e ++ codes "\n")) → IfOk result (λ _. e ≢ Draw.Run Perform.NoMemory)
-    → IsDrawFault part n budget script schedule None e → Pictured.TellsMemoryApart e → SaysNoRun part n budget script schedule e
+    → IsDrawFault part n budget script schedule calls e → Pictured.TellsMemoryApart e → SaysNoRun part n budget script schedule e
     → ((n ≡ 0) ⊎ (16 < n) → e ≡ Draw.Run (Perform.Compile Compile.Processes)) → (0 < n → n ≤ 16 → 1000000 < budget → e ≡ Draw.Run (Perform.Compile Compile.Budget))
     → (0 < n → n ≤ 16 → budget ≤ 1000000 → 65536 < length part → e ≡ Draw.Run (Perform.Compile (Compile.Text (Texts.Scan Scan.TooLong))))
-    → IfOk result (λ a. (whole : List ℕ) → part ≡ beginning whole → IsPictureAnswer whole n budget script schedule a)
-draw_refused_made part n budget script schedule e (Ok a) told known stands apart none processes too_much too_long =
+    → IfOk result (λ a. (whole : List ℕ) → part ≡ beginning whole → IsPictureAnswer calls whole n budget script schedule a)
+draw_refused_made calls part n budget script schedule e (Ok a) told known stands apart none processes too_much too_long =
     λ whole is.
     refused e
-    (of_whole_or_long (λ t. IsDrawFault t n budget script schedule None e) part whole is
-    (λ long longer. fault_too_long (λ x. Draw.Run (Perform.Compile x)) (IsDrawFault whole n budget script schedule None) whole n budget e (λ x h. h) longer
+    (of_whole_or_long (λ t. IsDrawFault t n budget script schedule calls e) part whole is
+    (λ long longer. fault_too_long (λ x. Draw.Run (Perform.Compile x)) (IsDrawFault whole n budget script schedule calls) whole n budget e (λ h. h) (λ h. h) (λ h. h) longer
     processes too_much (λ some few within. too_long some few within long)) stands)
     (numbered_draw e known apart)
     (of_whole_or_long (λ t. SaysNoRun t n budget script schedule e) part whole is (λ long longer. long_says_no_run whole n budget script schedule e longer) none) told
-draw_refused_made part n budget script schedule e (Err x) told known stands apart none processes too_much too_long = tt
+draw_refused_made calls part n budget script schedule e (Err x) told known stands apart none processes too_much too_long = tt
 
-pub draw_record_refused_made : {E : Type 0} (part text : List ℕ) (e : DrawRecordFault) (result : Result Answer E)
+pub draw_record_refused_made : {E : Type 0} (calls : Option CallRange) (part text : List ℕ) (e : DrawRecordFault) (result : Result Answer E)
     → IfOk result (λ a. IsRefused a 1 (draw_record_fault_line e ++ codes "\n")) → IfOk result (λ _. e ≢ DrawRecord.NoMemory)
-    → IsDrawRecordFault part text None e → RecordPictures.TellsMemoryApart e
+    → IsDrawRecordFault part text calls e → RecordPictures.TellsMemoryApart e
     → (65536 < length part → e ≡ DrawRecord.Text (Texts.Scan Scan.TooLong))
-    → IfOk result (λ a. (whole : List ℕ) → part ≡ beginning whole → IsRecordPictureAnswer whole text a)
-draw_record_refused_made part text e (Ok a) told known stands apart too_long =
+    → IfOk result (λ a. (whole : List ℕ) → part ≡ beginning whole → IsRecordPictureAnswer calls whole text a)
+draw_record_refused_made calls part text e (Ok a) told known stands apart too_long =
     λ whole is.
     refused e
-    (of_whole_or_long (λ t. IsDrawRecordFault t text None e) part whole is
-    (λ long longer. subst (λ (x : DrawRecordFault). IsDrawRecordFault whole text None x) (sym (too_long long)) (too_long_scan whole longer)) stands)
+    (of_whole_or_long (λ t. IsDrawRecordFault t text calls e) part whole is
+    (λ long longer. subst (λ (x : DrawRecordFault). IsDrawRecordFault whole text calls x) (sym (too_long long)) (too_long_scan whole longer)) stands)
     (known, apart) tt told
-draw_record_refused_made part text e (Err x) told known stands apart too_long = tt
+draw_record_refused_made calls part text e (Err x) told known stands apart too_long = tt
 
 pub serve_refused_made : {E : Type 0} (part : List ℕ) (n budget : ℕ) (script : List ℕ) (e : ServeTextFault) (result : Result Answer E)
     → IfOk result (λ a. IsRefused a 1 (serve_fault_line e ++ codes "\n")) → IfOk result (λ _. e ≢ Serve.NoMemory)
@@ -234,7 +253,7 @@ serve_refused_made part n budget script e (Ok a) told known stands apart none pr
     λ whole is.
     refused e
     (of_whole_or_long (λ t. IsUngatedFault t n budget script e) part whole is
-    (λ long longer. fault_too_long Serve.Compile (IsUngatedFault whole n budget script) whole n budget e (λ x h. h) longer
+    (λ long longer. fault_too_long Serve.Compile (IsUngatedFault whole n budget script) whole n budget e (λ h. h) (λ h. h) (λ h. h) longer
     processes too_much (λ some few within. too_long some few within long)) stands)
     (known, apart)
     (λ of_texts. of_whole_or_long (λ t. HasNoCalls t n budget script) part whole is

@@ -1,5 +1,5 @@
 -- What the program answers to a request, by what reads of files give.
-use Rattle.std.specs.Prelude.{◌≡◌, ◌≢◌, ℕ, Bool, List, [], ◌∷◌, ◌++◌, Some, None, Result, codes, count_by, MatchBool, nat_lt}
+use Rattle.std.specs.Prelude.{◌≡◌, ◌≢◌, ℕ, Bool, List, [], ◌∷◌, ◌++◌, Option, Some, None, Result, codes, option_map, count_by, MatchBool, nat_lt}
 use Rattle.std.specs.Str.{bytes_eq}
 use Rattle.ob_answer.specs.declared.answered.Answer.{Answer}
 use Rattle.ob_answer.specs.declared.files.FileFault.{FileFault}
@@ -20,17 +20,20 @@ use Rattle.ob_object_draw.specs.RecordPictures.{IsDrawRecordFault, IsRecordPictu
 use Rattle.ob_object_draw.specs.declared.drawing.DrawRecordFault.{DrawRecordFault}
 use Rattle.ob_object_draw.specs.declared.drawing.DrawRecordFault.TheVariants as DrawsRecord
 use Rattle.ob_object_perform.specs.Performance as Performs
-use Rattle.ob_object_perform.specs.Performance.{HasNoPerformance, IsPerformFault}
+use Rattle.ob_object_perform.specs.Performance.{HasNoPerformance, HasNoTreePerformance, IsPerformFault, IsTreePerformFault}
 use Rattle.ob_object_perform.specs.Pictured.{IsDrawFault, IsPicturePrinted, SaysNoRun}
-use Rattle.ob_object_perform.specs.Printed.{IsRecordPrinted}
+use Rattle.ob_object_perform.specs.Printed.{IsRecordPrinted, IsTreeRecordPrinted}
 use Rattle.ob_object_perform.specs.declared.drawing.DrawFault.{DrawFault}
 use Rattle.ob_object_perform.specs.declared.drawing.DrawFault.TheVariants as Draws
+use Rattle.ob_text_picture_chart.specs.declared.charts.CallRange.{CallRange}
 use Rattle.ob_text_picture_chart.specs.declared.fault.PictureFault.TheVariants as Pictures
 use Rattle.ob_object_sequence.specs.SequentialRun.{HasNoRun, HasObject, IsNumbered, IsSequentialRun, IsSeqTextFault}
+use Rattle.ob_object_tree.specs.TreeRuns.{IsPrintedOfCode}
 use Rattle.ob_object_verify.specs.Verified.{IsVerified}
 use Rattle.ob_object_verify.specs.VerifyFaults as Verifies
 use Rattle.ob_object_verify.specs.VerifyFaults.{IsVerifyFault}
-use Rattle.ob_command.specs.CommandLine.{Text, Request, RunRequest, Check, Listing, Seq, Run, Serve, Draw, DrawRecord, Verify, Explain, Bound, Help, Version, Unclear}
+use Rattle.ob_command.specs.CommandLine.{Text, Request, RunRequest, Check, Listing, Seq, Run, RunTree, Serve, Draw, DrawRecord, Verify, Explain, Bound, Help, Version, Unclear}
+use Rattle.ob_command.specs.declared.command.CallNumbers.{CallNumbers}
 use Rattle.ob_answer.specs.declared.product.Product.{Product}
 use Rattle.ob_answer.specs.declared.product.Product.TheVariants as Products
 use Rattle.ob_answer.specs.Explains.{IsCallsExplained, IsModuleExplained}
@@ -88,32 +91,50 @@ IsRecordAnswer module_bytes processes budget script_bytes schedule_bytes =
     (IsPerformFault module_bytes processes budget script_bytes schedule_bytes) Performs.IsNumbered
     (λ _. HasNoPerformance module_bytes processes budget script_bytes schedule_bytes) run_fault_line
 
+-- of a run over the module's tree the record is printed, which is that of a run over its code, where it has one that is not too long
+abbrev pub SaysTreeRecord : (module_bytes : List ℕ) (processes budget : ℕ) (script_bytes schedule_bytes : List ℕ) → Text → Type 0
+SaysTreeRecord module_bytes processes budget script_bytes schedule_bytes text =
+    IsTreeRecordPrinted module_bytes processes budget script_bytes schedule_bytes text
+    × IsPrintedOfCode module_bytes processes budget script_bytes schedule_bytes text
+
+-- to these the record of the run over the module's tree
+abbrev pub IsTreeRecordAnswer : (module_bytes : List ℕ) (processes budget : ℕ) (script_bytes schedule_bytes : List ℕ) → Answer → Type 0
+IsTreeRecordAnswer module_bytes processes budget script_bytes schedule_bytes =
+    IsTextAnswer (SaysTreeRecord module_bytes processes budget script_bytes schedule_bytes)
+    (IsTreePerformFault module_bytes processes budget script_bytes schedule_bytes) Performs.IsNumbered
+    (λ _. HasNoTreePerformance module_bytes processes budget script_bytes schedule_bytes) run_fault_line
+
 -- a fault of a picture with a number, so no want of memory
 abbrev pub IsNumberedDraw : DrawFault → Type 0
 IsNumberedDraw (Draws.Run e) = Performs.IsNumbered e
 IsNumberedDraw (Draws.Calls e) = e ≢ Pictures.NoMemory
 
--- to these the picture of all calls of the run
-abbrev pub IsPictureAnswer : (module_bytes : List ℕ) (processes budget : ℕ) (script_bytes schedule_bytes : List ℕ) → Answer → Type 0
-IsPictureAnswer module_bytes processes budget script_bytes schedule_bytes =
-    IsTextAnswer (IsPicturePrinted module_bytes processes budget script_bytes schedule_bytes None)
-    (IsDrawFault module_bytes processes budget script_bytes schedule_bytes None) IsNumberedDraw
+-- the calls of a picture that words name
+abbrev pub range_of : Option CallNumbers → Option CallRange
+range_of = option_map (λ calls. record { from = calls.from; to = calls.to })
+
+-- to these the picture of some calls of the run, or of all
+abbrev pub IsPictureAnswer : Option CallRange → (module_bytes : List ℕ) (processes budget : ℕ) (script_bytes schedule_bytes : List ℕ) → Answer → Type 0
+IsPictureAnswer calls module_bytes processes budget script_bytes schedule_bytes =
+    IsTextAnswer (IsPicturePrinted module_bytes processes budget script_bytes schedule_bytes calls)
+    (IsDrawFault module_bytes processes budget script_bytes schedule_bytes calls) IsNumberedDraw
     (SaysNoRun module_bytes processes budget script_bytes schedule_bytes) draw_fault_line
 
 -- a fault of a record's picture with a number, so no want of memory
 abbrev pub IsNumberedDrawRecord : DrawRecordFault → Type 0
 IsNumberedDrawRecord fault = (fault ≢ DrawsRecord.NoMemory) × RecordPictures.TellsMemoryApart fault
 
--- to the bytes of a module and of a record: the picture of all calls of the record
-abbrev pub IsRecordPictureAnswer : (module_bytes record_bytes : List ℕ) → Answer → Type 0
-IsRecordPictureAnswer module_bytes record_bytes =
-    IsTextAnswer (IsRecordPicture module_bytes record_bytes None) (IsDrawRecordFault module_bytes record_bytes None) IsNumberedDrawRecord
+-- to the bytes of a module and of a record: the picture of some calls of the record, or of all
+abbrev pub IsRecordPictureAnswer : Option CallRange → (module_bytes record_bytes : List ℕ) → Answer → Type 0
+IsRecordPictureAnswer calls module_bytes record_bytes =
+    IsTextAnswer (IsRecordPicture module_bytes record_bytes calls) (IsDrawRecordFault module_bytes record_bytes calls) IsNumberedDrawRecord
     (λ _. Unit {0}) draw_record_fault_line
 
--- what is printed of a run: its record, or a picture of it
+-- what is printed of a run: its record, by the code or by the tree of the module, or a picture of it
 abbrev pub IsRunAnswer : Product → (module_bytes : List ℕ) (processes budget : ℕ) (script_bytes schedule_bytes : List ℕ) → Answer → Type 0
 IsRunAnswer Products.Record = IsRecordAnswer
-IsRunAnswer Products.Picture = IsPictureAnswer
+IsRunAnswer Products.TreeRecord = IsTreeRecordAnswer
+IsRunAnswer (Products.Picture calls) = IsPictureAnswer calls
 
 -- To the bytes of a module and of a script: the record of workers, one for each of so many processes, whom no gate stops. A fault of
 -- the workers rules nothing out.
@@ -147,9 +168,10 @@ files_of (Check module_name) = module_name ∷ []
 files_of (Listing module_name) = module_name ∷ []
 files_of (Seq module_name script_name budget) = module_name ∷ script_name ∷ []
 files_of (Run run) = files_of_run run
+files_of (RunTree run) = files_of_run run
 files_of (Serve module_name script_name processes budget) = module_name ∷ script_name ∷ []
-files_of (Draw run) = files_of_run run
-files_of (DrawRecord module_name record_name) = module_name ∷ record_name ∷ []
+files_of (Draw run calls) = files_of_run run
+files_of (DrawRecord module_name record_name calls) = module_name ∷ record_name ∷ []
 files_of (Verify module_name record_name) = module_name ∷ record_name ∷ []
 files_of (Explain module_name None budget) = module_name ∷ []
 files_of (Explain module_name (Some script_name) budget) = module_name ∷ script_name ∷ []
@@ -162,9 +184,11 @@ IsMade (Check module_name) (module_bytes ∷ []) answer = IsCheckAnswer module_b
 IsMade (Listing module_name) (module_bytes ∷ []) answer = IsListAnswer module_bytes answer
 IsMade (Seq module_name script_name budget) (module_bytes ∷ script_bytes ∷ []) answer = IsSeqAnswer module_bytes script_bytes budget answer
 IsMade (Run run) bytes answer = IsRunMade Products.Record run bytes answer
+IsMade (RunTree run) bytes answer = IsRunMade Products.TreeRecord run bytes answer
 IsMade (Serve module_name script_name processes budget) (module_bytes ∷ script_bytes ∷ []) answer = IsServeAnswer module_bytes processes budget script_bytes answer
-IsMade (Draw run) bytes answer = IsRunMade Products.Picture run bytes answer
-IsMade (DrawRecord module_name record_name) (module_bytes ∷ record_bytes ∷ []) answer = IsRecordPictureAnswer module_bytes record_bytes answer
+IsMade (Draw run calls) bytes answer = IsRunMade (Products.Picture (range_of calls)) run bytes answer
+IsMade (DrawRecord module_name record_name calls) (module_bytes ∷ record_bytes ∷ []) answer =
+    IsRecordPictureAnswer (range_of calls) module_bytes record_bytes answer
 IsMade (Verify module_name record_name) (module_bytes ∷ record_bytes ∷ []) answer = IsVerifyAnswer module_bytes record_bytes answer
 IsMade (Explain module_name None budget) (module_bytes ∷ []) answer = IsModuleExplained module_name module_bytes answer
 IsMade (Explain module_name (Some script_name) budget) (module_bytes ∷ script_bytes ∷ []) answer =
@@ -184,6 +208,10 @@ abbrev pub reads_input_twice : List Text → Bool
 reads_input_twice names = nat_lt 1 (count_by (λ name. bytes_eq name input_name) names)
 
 module _ {F : Type 0} (Reads : F → Text → Result (List ℕ) FileFault → F → Type 0) where
+  -- the outcome of the files that a run names
+  abbrev pub IsRunObeyed : Product → RunRequest → F → Answer → F → Type 0
+  IsRunObeyed product run = IsOutcome Reads (files_of_run run) (IsRunMade product run)
+
   -- the outcome of the files that a request names
   abbrev pub IsObeyed : Request → F → Answer → F → Type 0
   IsObeyed request = IsOutcome Reads (files_of request) (IsMade request)

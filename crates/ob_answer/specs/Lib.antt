@@ -3,3 +3,4 @@ pub mod Explains
 pub mod Answers
 pub mod ShownNames
 pub mod Reads
+pub mod PlainAnswers

@@ -1,13 +1,11 @@
 //! From the words of the command line to what the program prints and its exit status.
 
-ghost use Rattle.std.specs.Prelude.{◌≡◌, ◌∷◌, [], ℕ, None, Some, false, IfOk, map, codes, count_by, nat_lt};
+ghost use Rattle.std.specs.Prelude.{◌≡◌, ◌∷◌, [], None, Some, IfOk, map, codes, count_by, nat_lt};
 ghost use Rattle.std.specs.Str.{bytes_eq};
-ghost use Rattle.ob_answer.specs.Answers.{IsAnswer, IsObeyed, IsRunMade, files_of, files_of_run, input_name, reads_input_twice};
-ghost use Rattle.ob_answer.specs.Printed.{IsUnreadable};
-ghost use Rattle.ob_answer.specs.Reads.{IsOutcome};
-ghost use Rattle.ob_command.specs.CommandLine.{Bound, Check, Draw, DrawRecord, Explain, Listing, Run, Seq, Serve, Text, Verify, budget_number, is_option, number, request};
+ghost use Rattle.ob_answer.specs.Answers.{IsAnswer, IsObeyed, IsRunObeyed, files_of, files_of_run, input_name, range_of, reads_input_twice};
+ghost use Rattle.ob_answer.specs.PlainAnswers.{AreBudgetCallsDrawn, AreCallsDrawn, AreRecordCallsDrawn, IsBudgetNumbersAnswered, IsBudgetRunAnswered, IsBudgetWorkersAnswered, IsCallsAnswered, IsModuleAnswered, IsNumbersAnswered, IsPairAnswered, IsRunAnswered, IsWorkersAnswered};
+ghost use Rattle.ob_command.specs.CommandLine.{Bound, Check, Draw, DrawRecord, Explain, Listing, Run, RunTree, Seq, Serve, Verify, request};
 ghost use Rattle.ob_command.specs.Commands.{request_of, run_request_of};
-ghost use Rattle.ob_command.specs.PlainForms.{run_with};
 
 use crate::answered::Answer;
 use crate::explaining::obey_explain;
@@ -17,11 +15,11 @@ use crate::making::{
     answer_serve, answer_verify,
 };
 use crate::product::Product;
-use crate::shown_name::push_name;
-use ob_command::command::{Command, RunCommand, Stop, read_command};
+use crate::reading::{MODULE_BYTES, ThreeFiles, TwoFiles, read_three, read_two, unreadable};
+use ob_command::command::{CallNumbers, Command, RunCommand, Stop, read_command};
 use ob_interface::NoMemory;
-use ob_scan::scanner::LONGEST_TEXT;
-use std::alloc::{AllocError, Global};
+use ob_text_picture_chart::CallRange;
+use std::alloc::Global;
 use std::sync::Wait;
 use std::thread::Threads;
 
@@ -34,9 +32,6 @@ pub const INPUT_NAME: &str = "-";
 /// The mistake of words that name standard input for two files.
 const INPUT_TWICE: &str = "error: `-`, which is standard input, stands for one file alone\n";
 
-/// How many bytes of a module are read: with one more than it may have it is known to be too long.
-pub(crate) const MODULE_BYTES: usize = LONGEST_TEXT + 1;
-
 /// The answer to the words behind the program's name. Files are read in the order in which the words
 /// name them, before anything is made of them. Only `serve` starts threads and waits.
 pub fn answer<R: Threads + Wait + Sync + AllocGlobal, F: Files>(
@@ -48,40 +43,28 @@ pub fn answer<R: Threads + Wait + Sync + AllocGlobal, F: Files>(
     ensures asked { IfOk result (λ a. IsAnswer F.reads (request (map (λ word. word.now) words.now)) files.old a files.new) }
 
     // To a command's name and names of files: the outcome of these files. A call has 100,000 turns where nothing is said of them.
-    ensures check { (m : Text) → map (λ word. word.now) words.now ≡ codes "check" ∷ m ∷ [] → is_option m ≡ false
-        → IfOk result (λ a. IsAnswer F.reads (Check m) files.old a files.new) }
-    ensures list { (m : Text) → map (λ word. word.now) words.now ≡ codes "list" ∷ m ∷ [] → is_option m ≡ false
-        → IfOk result (λ a. IsAnswer F.reads (Listing m) files.old a files.new) }
-    ensures seq { (m s : Text) → map (λ word. word.now) words.now ≡ codes "seq" ∷ m ∷ s ∷ [] → is_option m ≡ false → is_option s ≡ false
-        → IfOk result (λ a. IsAnswer F.reads (Seq m s 100000) files.old a files.new) }
-    ensures seq_budget { (m s b : Text) (k : ℕ) → map (λ word. word.now) words.now ≡ codes "seq" ∷ m ∷ s ∷ codes "-b" ∷ b ∷ [] → is_option m ≡ false → is_option s ≡ false → budget_number b ≡ Some k
-        → IfOk result (λ a. IsAnswer F.reads (Seq m s k) files.old a files.new) }
-    ensures run { (m s q n : Text) (k : ℕ) → map (λ word. word.now) words.now ≡ codes "run" ∷ m ∷ s ∷ q ∷ codes "-n" ∷ n ∷ [] → is_option m ≡ false → is_option s ≡ false → is_option q ≡ false → number n ≡ Some k
-        → IfOk result (λ a. IsAnswer F.reads (Run (run_with m s q k 100000)) files.old a files.new) }
-    ensures run_budget { (m s q n b : Text) (k t : ℕ) → map (λ word. word.now) words.now ≡ codes "run" ∷ m ∷ s ∷ q ∷ codes "-n" ∷ n ∷ codes "-b" ∷ b ∷ [] → is_option m ≡ false → is_option s ≡ false → is_option q ≡ false → number n ≡ Some k → budget_number b ≡ Some t
-        → IfOk result (λ a. IsAnswer F.reads (Run (run_with m s q k t)) files.old a files.new) }
-    ensures serve { (m s n : Text) (k : ℕ) → map (λ word. word.now) words.now ≡ codes "serve" ∷ m ∷ s ∷ codes "-n" ∷ n ∷ [] → is_option m ≡ false → is_option s ≡ false → number n ≡ Some k
-        → IfOk result (λ a. IsAnswer F.reads (Serve m s k 100000) files.old a files.new) }
-    ensures serve_budget { (m s n b : Text) (k t : ℕ) → map (λ word. word.now) words.now ≡ codes "serve" ∷ m ∷ s ∷ codes "-n" ∷ n ∷ codes "-b" ∷ b ∷ [] → is_option m ≡ false → is_option s ≡ false → number n ≡ Some k → budget_number b ≡ Some t
-        → IfOk result (λ a. IsAnswer F.reads (Serve m s k t) files.old a files.new) }
-    ensures draw { (m s q n : Text) (k : ℕ) → map (λ word. word.now) words.now ≡ codes "draw" ∷ m ∷ s ∷ q ∷ codes "-n" ∷ n ∷ [] → is_option m ≡ false → is_option s ≡ false → is_option q ≡ false → number n ≡ Some k
-        → IfOk result (λ a. IsAnswer F.reads (Draw (run_with m s q k 100000)) files.old a files.new) }
-    ensures draw_budget { (m s q n b : Text) (k t : ℕ) → map (λ word. word.now) words.now ≡ codes "draw" ∷ m ∷ s ∷ q ∷ codes "-n" ∷ n ∷ codes "-b" ∷ b ∷ [] → is_option m ≡ false → is_option s ≡ false → is_option q ≡ false → number n ≡ Some k → budget_number b ≡ Some t
-        → IfOk result (λ a. IsAnswer F.reads (Draw (run_with m s q k t)) files.old a files.new) }
-    ensures draw_record { (m r : Text) → map (λ word. word.now) words.now ≡ codes "draw" ∷ m ∷ r ∷ [] → is_option m ≡ false → is_option r ≡ false
-        → IfOk result (λ a. IsAnswer F.reads (DrawRecord m r) files.old a files.new) }
-    ensures verify { (m r : Text) → map (λ word. word.now) words.now ≡ codes "verify" ∷ m ∷ r ∷ [] → is_option m ≡ false → is_option r ≡ false
-        → IfOk result (λ a. IsAnswer F.reads (Verify m r) files.old a files.new) }
-    ensures explain { (m : Text) → map (λ word. word.now) words.now ≡ codes "explain" ∷ m ∷ [] → is_option m ≡ false
-        → IfOk result (λ a. IsAnswer F.reads (Explain m None 100000) files.old a files.new) }
-    ensures explain_calls { (m s : Text) → map (λ word. word.now) words.now ≡ codes "explain" ∷ m ∷ s ∷ [] → is_option m ≡ false → is_option s ≡ false
-        → IfOk result (λ a. IsAnswer F.reads (Explain m (Some s) 100000) files.old a files.new) }
-    ensures explain_budget { (m s b : Text) (k : ℕ) → map (λ word. word.now) words.now ≡ codes "explain" ∷ m ∷ s ∷ codes "-b" ∷ b ∷ [] → is_option m ≡ false → is_option s ≡ false → budget_number b ≡ Some k
-        → IfOk result (λ a. IsAnswer F.reads (Explain m (Some s) k) files.old a files.new) }
-    ensures bound { (m n : Text) (k : ℕ) → map (λ word. word.now) words.now ≡ codes "bound" ∷ m ∷ codes "-n" ∷ n ∷ [] → is_option m ≡ false → number n ≡ Some k
-        → IfOk result (λ a. IsAnswer F.reads (Bound m k 100000) files.old a files.new) }
-    ensures bound_budget { (m n b : Text) (k t : ℕ) → map (λ word. word.now) words.now ≡ codes "bound" ∷ m ∷ codes "-n" ∷ n ∷ codes "-b" ∷ b ∷ [] → is_option m ≡ false → number n ≡ Some k → budget_number b ≡ Some t
-        → IfOk result (λ a. IsAnswer F.reads (Bound m k t) files.old a files.new) }
+    ensures check { IsModuleAnswered F.reads (map (λ word. word.now) words.now) files.old result files.new (codes "check") Check }
+    ensures list { IsModuleAnswered F.reads (map (λ word. word.now) words.now) files.old result files.new (codes "list") Listing }
+    ensures seq { IsPairAnswered F.reads (map (λ word. word.now) words.now) files.old result files.new (codes "seq") (λ m s. Seq m s 100000) }
+    ensures seq_budget { IsCallsAnswered F.reads (map (λ word. word.now) words.now) files.old result files.new (codes "seq") Seq }
+    ensures run { IsRunAnswered F.reads (map (λ word. word.now) words.now) files.old result files.new (codes "run") [] Run }
+    ensures run_budget { IsBudgetRunAnswered F.reads (map (λ word. word.now) words.now) files.old result files.new (codes "run") [] Run }
+    ensures run_tree { IsRunAnswered F.reads (map (λ word. word.now) words.now) files.old result files.new (codes "run") (codes "--tree" ∷ []) RunTree }
+    ensures run_tree_budget { IsBudgetRunAnswered F.reads (map (λ word. word.now) words.now) files.old result files.new (codes "run") (codes "--tree" ∷ []) RunTree }
+    ensures serve { IsWorkersAnswered F.reads (map (λ word. word.now) words.now) files.old result files.new (codes "serve") Serve }
+    ensures serve_budget { IsBudgetWorkersAnswered F.reads (map (λ word. word.now) words.now) files.old result files.new (codes "serve") Serve }
+    ensures draw { IsRunAnswered F.reads (map (λ word. word.now) words.now) files.old result files.new (codes "draw") [] (λ run. Draw run None) }
+    ensures draw_budget { IsBudgetRunAnswered F.reads (map (λ word. word.now) words.now) files.old result files.new (codes "draw") [] (λ run. Draw run None) }
+    ensures draw_calls { AreCallsDrawn F.reads (map (λ word. word.now) words.now) files.old result files.new }
+    ensures draw_budget_calls { AreBudgetCallsDrawn F.reads (map (λ word. word.now) words.now) files.old result files.new }
+    ensures draw_record { IsPairAnswered F.reads (map (λ word. word.now) words.now) files.old result files.new (codes "draw") (λ m r. DrawRecord m r None) }
+    ensures draw_record_calls { AreRecordCallsDrawn F.reads (map (λ word. word.now) words.now) files.old result files.new }
+    ensures verify { IsPairAnswered F.reads (map (λ word. word.now) words.now) files.old result files.new (codes "verify") Verify }
+    ensures explain { IsModuleAnswered F.reads (map (λ word. word.now) words.now) files.old result files.new (codes "explain") (λ m. Explain m None 100000) }
+    ensures explain_calls { IsPairAnswered F.reads (map (λ word. word.now) words.now) files.old result files.new (codes "explain") (λ m s. Explain m (Some s) 100000) }
+    ensures explain_budget { IsCallsAnswered F.reads (map (λ word. word.now) words.now) files.old result files.new (codes "explain") (λ m s k. Explain m (Some s) k) }
+    ensures bound { IsNumbersAnswered F.reads (map (λ word. word.now) words.now) files.old result files.new (codes "bound") Bound }
+    ensures bound_budget { IsBudgetNumbersAnswered F.reads (map (λ word. word.now) words.now) files.old result files.new (codes "bound") Bound }
 {
     obey_words(rt, words, files)
 }
@@ -138,10 +121,12 @@ fn reads_input_twice(command: Command<'_>) -> bool
             ..
         } => are_two_inputs(&[module_name, script_name]),
         Command::Run(run) => are_inputs_of_run(run),
-        Command::Draw(run) => are_inputs_of_run(run),
+        Command::RunTree(run) => are_inputs_of_run(run),
+        Command::Draw { run, .. } => are_inputs_of_run(run),
         Command::DrawRecord {
             module_name,
             record_name,
+            ..
         } => are_two_inputs(&[module_name, record_name]),
         Command::Verify {
             module_name,
@@ -190,6 +175,7 @@ fn obey<R: Threads + Wait + Sync, F: Files>(
             budget,
         } => obey_seq(alloc, module_name, script_name, budget, files),
         Command::Run(run) => obey_run(alloc, run, Product::Record, files),
+        Command::RunTree(run) => obey_run(alloc, run, Product::TreeRecord, files),
         Command::Serve {
             module_name,
             script_name,
@@ -204,11 +190,14 @@ fn obey<R: Threads + Wait + Sync, F: Files>(
             budget,
             files,
         ),
-        Command::Draw(run) => obey_run(alloc, run, Product::Picture, files),
+        Command::Draw { run, calls } => {
+            obey_run(alloc, run, Product::Picture(range_of(calls)), files)
+        }
         Command::DrawRecord {
             module_name,
             record_name,
-        } => obey_draw_record(alloc, module_name, record_name, files),
+            calls,
+        } => obey_draw_record(alloc, module_name, record_name, calls, files),
         Command::Verify {
             module_name,
             record_name,
@@ -275,17 +264,12 @@ fn obey_seq<F: Files>(
 ) -> Result<Answer, NoMemory>
     ensures { IfOk result (λ a. IsObeyed F.reads (Seq module_name.now script_name.now budget) files.old a files.new) }
 {
-    let module = match files.read_beginning(module_name, MODULE_BYTES) {
-        Ok(bytes) => bytes,
-        Err(FileFault::Unreadable) => return Ok(unreadable(alloc, module_name)?),
-        Err(FileFault::NoMemory) => return Err(NoMemory),
-    };
-    let script = match files.read(script_name) {
-        Ok(bytes) => bytes,
-        Err(FileFault::Unreadable) => return Ok(unreadable(alloc, script_name)?),
-        Err(FileFault::NoMemory) => return Err(NoMemory),
-    };
-    answer_seq(alloc, module.as_slice(), script.as_slice(), budget)
+    match read_two(alloc, module_name, script_name, files)? {
+        TwoFiles::Read { module, second } => {
+            answer_seq(alloc, module.as_slice(), second.as_slice(), budget)
+        }
+        TwoFiles::Unread(answer) => Ok(answer),
+    }
 }
 
 /// The answer to `serve`, of the names of its files, the number of its workers and the budget of each call.
@@ -300,24 +284,17 @@ fn obey_serve<R: Threads + Wait + Sync, F: Files>(
 ) -> Result<Answer, NoMemory>
     ensures { IfOk result (λ a. IsObeyed F.reads (Serve module_name.now script_name.now processes budget) files.old a files.new) }
 {
-    let module = match files.read_beginning(module_name, MODULE_BYTES) {
-        Ok(bytes) => bytes,
-        Err(FileFault::Unreadable) => return Ok(unreadable(alloc, module_name)?),
-        Err(FileFault::NoMemory) => return Err(NoMemory),
-    };
-    let script = match files.read(script_name) {
-        Ok(bytes) => bytes,
-        Err(FileFault::Unreadable) => return Ok(unreadable(alloc, script_name)?),
-        Err(FileFault::NoMemory) => return Err(NoMemory),
-    };
-    answer_serve(
-        rt,
-        alloc,
-        module.as_slice(),
-        processes,
-        budget,
-        script.as_slice(),
-    )
+    match read_two(alloc, module_name, script_name, files)? {
+        TwoFiles::Read { module, second } => answer_serve(
+            rt,
+            alloc,
+            module.as_slice(),
+            processes,
+            budget,
+            second.as_slice(),
+        ),
+        TwoFiles::Unread(answer) => Ok(answer),
+    }
 }
 
 /// The answer to `run` and to `draw`.
@@ -327,54 +304,61 @@ fn obey_run<F: Files>(
     product: Product,
     files: &mut F,
 ) -> Result<Answer, NoMemory>
-    ensures { IfOk result (λ a. IsOutcome F.reads (files_of_run (run_request_of run.entry)) (IsRunMade product (run_request_of run.entry)) files.old a files.new) }
+    ensures { IfOk result (λ a. IsRunObeyed F.reads product (run_request_of run.entry) files.old a files.new) }
 {
-    let module = match files.read_beginning(run.module_name, MODULE_BYTES) {
-        Ok(bytes) => bytes,
-        Err(FileFault::Unreadable) => return Ok(unreadable(alloc, run.module_name)?),
-        Err(FileFault::NoMemory) => return Err(NoMemory),
-    };
-    let script = match files.read(run.script_name) {
-        Ok(bytes) => bytes,
-        Err(FileFault::Unreadable) => return Ok(unreadable(alloc, run.script_name)?),
-        Err(FileFault::NoMemory) => return Err(NoMemory),
-    };
-    let schedule = match files.read(run.schedule_name) {
-        Ok(bytes) => bytes,
-        Err(FileFault::Unreadable) => return Ok(unreadable(alloc, run.schedule_name)?),
-        Err(FileFault::NoMemory) => return Err(NoMemory),
-    };
-    answer_run(
+    match read_three(
         alloc,
-        product,
-        module.as_slice(),
-        run.processes,
-        run.budget,
-        script.as_slice(),
-        schedule.as_slice(),
-    )
+        run.module_name,
+        run.script_name,
+        run.schedule_name,
+        files,
+    )? {
+        ThreeFiles::Read {
+            module,
+            second,
+            third,
+        } => answer_run(
+            alloc,
+            product,
+            module.as_slice(),
+            run.processes,
+            run.budget,
+            second.as_slice(),
+            third.as_slice(),
+        ),
+        ThreeFiles::Unread(answer) => Ok(answer),
+    }
 }
 
-/// The answer to `draw` on a record, of the names of its files.
+/// The calls of a picture that words name.
+fn range_of(calls: Option<CallNumbers>) -> Option<CallRange>
+    ensures { result ≡ range_of calls }
+{
+    match calls {
+        None => None,
+        Some(calls) => Some(CallRange {
+            from: calls.from as usize,
+            to: calls.to as usize,
+        }),
+    }
+}
+
+/// The answer to `draw` on a record, of the names of its files and the calls that are drawn.
 fn obey_draw_record<F: Files>(
     alloc: Global,
     module_name: &str,
     printed_name: &str,
+    calls: Option<CallNumbers>,
     files: &mut F,
 ) -> Result<Answer, NoMemory>
-    ensures { IfOk result (λ a. IsObeyed F.reads (DrawRecord module_name.now printed_name.now) files.old a files.new) }
+    ensures { IfOk result (λ a. IsObeyed F.reads (DrawRecord module_name.now printed_name.now calls) files.old a files.new) }
 {
-    let module = match files.read_beginning(module_name, MODULE_BYTES) {
-        Ok(bytes) => bytes,
-        Err(FileFault::Unreadable) => return Ok(unreadable(alloc, module_name)?),
-        Err(FileFault::NoMemory) => return Err(NoMemory),
-    };
-    let record = match files.read(printed_name) {
-        Ok(bytes) => bytes,
-        Err(FileFault::Unreadable) => return Ok(unreadable(alloc, printed_name)?),
-        Err(FileFault::NoMemory) => return Err(NoMemory),
-    };
-    answer_draw_record(alloc, module.as_slice(), record.as_slice())
+    match read_two(alloc, module_name, printed_name, files)? {
+        TwoFiles::Read { module, second } => {
+            answer_draw_record(alloc, module.as_slice(), second.as_slice(), range_of(calls))
+        }
+        TwoFiles::Unread(answer) => Ok(answer),
+    }
 }
 
 /// The answer to `verify`, of the names of its files.
@@ -386,26 +370,10 @@ fn obey_verify<F: Files>(
 ) -> Result<Answer, NoMemory>
     ensures { IfOk result (λ a. IsObeyed F.reads (Verify module_name.now record_name.now) files.old a files.new) }
 {
-    let module = match files.read_beginning(module_name, MODULE_BYTES) {
-        Ok(bytes) => bytes,
-        Err(FileFault::Unreadable) => return Ok(unreadable(alloc, module_name)?),
-        Err(FileFault::NoMemory) => return Err(NoMemory),
-    };
-    let record = match files.read(record_name) {
-        Ok(bytes) => bytes,
-        Err(FileFault::Unreadable) => return Ok(unreadable(alloc, record_name)?),
-        Err(FileFault::NoMemory) => return Err(NoMemory),
-    };
-    answer_verify(alloc, module.as_slice(), record.as_slice())
-}
-
-/// The answer where a file can't be read.
-pub(crate) fn unreadable(alloc: Global, name: &str) -> Result<Answer, AllocError>
-    ensures { IfOk result (λ a. IsUnreadable a name.now) }
-{
-    let mut line = String::new(alloc);
-    line.push_str("cannot read ")?;
-    push_name(&mut line, name)?;
-    line.push_str("\n")?;
-    Ok(Answer::refused(alloc, 3, line))
+    match read_two(alloc, module_name, record_name, files)? {
+        TwoFiles::Read { module, second } => {
+            answer_verify(alloc, module.as_slice(), second.as_slice())
+        }
+        TwoFiles::Unread(answer) => Ok(answer),
+    }
 }

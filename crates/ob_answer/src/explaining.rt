@@ -8,10 +8,10 @@ ghost use Rattle.ob_command.specs.CommandLine.{Explain};
 ghost use Rattle.ob_object_compile.specs.Compilation as Compiles;
 ghost use Rattle.ob_object_sequence.specs.SequentialRun.{is_want_of_memory};
 
-use crate::answer::{MODULE_BYTES, unreadable};
 use crate::answered::Answer;
 use crate::files::{FileFault, Files};
 use crate::making::refused;
+use crate::reading::{MODULE_BYTES, TwoFiles, read_two, unreadable};
 use crate::shown_name::push_name;
 use ob_explained::{calls_explanation, module_explanation};
 use ob_fault_lines::compile_faults::compile_fault_line;
@@ -63,24 +63,17 @@ fn obey_explain_calls<F: Files>(
 ) -> Result<Answer, NoMemory>
     ensures { IfOk result (λ a. IsObeyed F.reads (Explain module_name.now (Some script_name.now) budget) files.old a files.new) }
 {
-    let module = match files.read_beginning(module_name, MODULE_BYTES) {
-        Ok(bytes) => bytes,
-        Err(FileFault::Unreadable) => return Ok(unreadable(alloc, module_name)?),
-        Err(FileFault::NoMemory) => return Err(NoMemory),
-    };
-    let script = match files.read(script_name) {
-        Ok(bytes) => bytes,
-        Err(FileFault::Unreadable) => return Ok(unreadable(alloc, script_name)?),
-        Err(FileFault::NoMemory) => return Err(NoMemory),
-    };
-    explain_calls(
-        alloc,
-        module_name,
-        module.as_slice(),
-        script_name,
-        script.as_slice(),
-        budget,
-    )
+    match read_two(alloc, module_name, script_name, files)? {
+        TwoFiles::Read { module, second } => explain_calls(
+            alloc,
+            module_name,
+            module.as_slice(),
+            script_name,
+            second.as_slice(),
+            budget,
+        ),
+        TwoFiles::Unread(answer) => Ok(answer),
+    }
 }
 
 /// The answer to the name and the beginning of a module's text.

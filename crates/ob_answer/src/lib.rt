@@ -8,4 +8,5 @@ mod explaining;
 pub mod files;
 mod making;
 pub mod product;
+mod reading;
 pub mod shown_name;

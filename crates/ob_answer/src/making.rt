@@ -1,7 +1,7 @@
 //! Answers made of the bytes of files. Of a module's text they have the beginning: a module of more bytes is too long.
 
 ghost use Rattle.std.specs.Prelude.{◌≡◌, ◌≢◌, ◌<◌, ◌≤◌, ◌++◌, ◌⊎◌, ℕ, List, suc, false, take, Err, IfErr, IfOk, codes, length, string_bytes};
-ghost use Rattle.ob_answer.specs.Answers.{IsBoundAnswer, IsCheckAnswer, IsListAnswer, IsPictureAnswer, IsRecordAnswer, IsRecordPictureAnswer, IsRunAnswer, IsSeqAnswer, IsServeAnswer, IsVerifyAnswer};
+ghost use Rattle.ob_answer.specs.Answers.{IsBoundAnswer, IsCheckAnswer, IsListAnswer, IsPictureAnswer, IsRecordAnswer, IsRecordPictureAnswer, IsRunAnswer, IsSeqAnswer, IsServeAnswer, IsTreeRecordAnswer, IsVerifyAnswer};
 ghost use Rattle.ob_answer.specs.Printed.{IsRefused};
 ghost use Rattle.ob_fault_lines.specs.CompileFaultLines.{compile_line};
 ghost use Rattle.ob_fault_lines.specs.DrawFaultLines.{draw_fault_line, draw_record_fault_line};
@@ -30,9 +30,11 @@ use ob_object_compile::{CompileFault, list_text};
 use ob_object_draw::{DrawRecordFault, draw_record_text};
 use ob_object_perform::{DrawFault, PerformFault, draw_text, run_text};
 use ob_object_sequence::{SeqTextFault, check_text, seq_text};
+use ob_object_tree::run_tree_text;
 use ob_object_verify::{VerifyFault, verify_text};
 use ob_scan::ScanFault;
 use ob_scan::scanner::LONGEST_TEXT;
+use ob_text_picture_chart::CallRange;
 use std::alloc::{AllocError, Global};
 use std::sync::Wait;
 use std::thread::Threads;
@@ -133,7 +135,12 @@ pub(crate) fn answer_run(
 {
     match product {
         Product::Record => answer_record(alloc, module, processes, budget, script, schedule),
-        Product::Picture => answer_picture(alloc, module, processes, budget, script, schedule),
+        Product::TreeRecord => {
+            answer_tree_record(alloc, module, processes, budget, script, schedule)
+        }
+        Product::Picture(calls) => answer_picture(
+            alloc, module, processes, budget, script, schedule, calls,
+        ),
     }
 }
 
@@ -149,6 +156,30 @@ fn answer_record(
     ensures { IfOk result (λ a. (whole : List ℕ) → «module».now ≡ take (suc LONGEST_TEXT) whole → IsRecordAnswer whole processes budget script.now schedule.now a) }
 {
     match run_text(
+        alloc,
+        module,
+        processes,
+        u64::from(budget),
+        script,
+        schedule,
+    ) {
+        Ok(lines) => Ok(Answer::printed(alloc, lines)),
+        Err(fault) => run_refused(alloc, fault),
+    }
+}
+
+/// The answer of `run --tree`.
+fn answer_tree_record(
+    alloc: Global,
+    module: &[u8],
+    processes: usize,
+    budget: u32,
+    script: &[u8],
+    schedule: &[u8],
+) -> Result<Answer, NoMemory>
+    ensures { IfOk result (λ a. (whole : List ℕ) → «module».now ≡ take (suc LONGEST_TEXT) whole → IsTreeRecordAnswer whole processes budget script.now schedule.now a) }
+{
+    match run_tree_text(
         alloc,
         module,
         processes,
@@ -180,11 +211,12 @@ fn answer_picture(
     budget: u32,
     script: &[u8],
     schedule: &[u8],
+    calls: Option<CallRange>,
 ) -> Result<Answer, NoMemory>
-    ensures { IfOk result (λ a. (whole : List ℕ) → «module».now ≡ take (suc LONGEST_TEXT) whole → IsPictureAnswer whole processes budget script.now schedule.now a) }
+    ensures { IfOk result (λ a. (whole : List ℕ) → «module».now ≡ take (suc LONGEST_TEXT) whole → IsPictureAnswer calls whole processes budget script.now schedule.now a) }
 {
     let turns = u64::from(budget);
-    match draw_text(alloc, module, processes, turns, script, schedule, None) {
+    match draw_text(alloc, module, processes, turns, script, schedule, calls) {
         Ok(picture) => Ok(Answer::printed(alloc, picture)),
         Err(fault) => draw_refused(alloc, fault),
     }
@@ -201,15 +233,16 @@ fn draw_refused(alloc: Global, fault: DrawFault) -> Result<Answer, NoMemory>
     }
 }
 
-/// The answer of `draw` to the beginning of a module's text and to the text of a record.
+/// The answer of `draw` to the beginning of a module's text and to the text of a record, of some calls or of all.
 pub(crate) fn answer_draw_record(
     alloc: Global,
     module: &[u8],
     record: &[u8],
+    calls: Option<CallRange>,
 ) -> Result<Answer, NoMemory>
-    ensures { IfOk result (λ a. (whole : List ℕ) → «module».now ≡ take (suc LONGEST_TEXT) whole → IsRecordPictureAnswer whole «record».now a) }
+    ensures { IfOk result (λ a. (whole : List ℕ) → «module».now ≡ take (suc LONGEST_TEXT) whole → IsRecordPictureAnswer calls whole «record».now a) }
 {
-    match draw_record_text(alloc, module, record, None) {
+    match draw_record_text(alloc, module, record, calls) {
         Ok(picture) => Ok(Answer::printed(alloc, picture)),
         Err(fault) => draw_record_refused(alloc, fault),
     }

@@ -1,8 +1,12 @@
 //! What is printed of a run.
 
-/// What is printed of a run: the text of its record, or a picture.
+use ob_text_picture_chart::CallRange;
+
+/// What is printed of a run: the text of its record, by the code or by the tree of the module, or a picture of some calls or of
+/// all.
 #[derive(Clone, Copy, PartialEq, Eq)]
 pub enum Product {
     Record,
-    Picture,
+    TreeRecord,
+    Picture(Option<CallRange>),
 }

@@ -1,4 +1,13 @@
 pub mod OneSort
 pub mod Numbers
-pub mod ClapWords
+pub mod CallPlaces
+pub mod PlainWords
+pub mod WalkedWords
+pub mod BuiltLine
+pub mod Asked
+pub mod NameForms
+pub mod RunForms
+pub mod HelpForms
+pub mod Given
+pub mod Required
 pub mod Readings

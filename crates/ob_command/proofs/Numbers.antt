@@ -14,7 +14,7 @@ use Rattle.clap.specs.declared.parser.matches.Found.{Found}
 use Rattle.clap.proofs.CallerReads.{signed_reads}
 use Rattle.clap.proofs.ValueTestLemmas.{Accepts-accepts, accepts-Accepts}
 use Rattle.clap.proofs.WalkLemmas.{one_text-rows}
-use Rattle.ob_command.specs.CommandLine.{budget_number, is_option, number, number_up_to}
+use Rattle.ob_command.specs.CommandLine.{budget_number, is_option, number, number_up_to, place_number}
 
 not_both : false ≡ true → ⊥
 not_both e = cc
@@ -172,3 +172,12 @@ plain_number = plain 16 65535 refl (omega arith)
 
 pub plain_budget : (text : Text) (k : ℕ) → budget_number text ≡ Some k → PlainNumber 4294967295 text
 plain_budget = plain 32 4294967295 refl (omega arith)
+
+-- the place that a text writes, as it is read
+abbrev pub place_value : {E : Type 0} → Result ℕ E → Option ℕ
+place_value (Ok v) = Some v
+place_value (Err e) = None
+
+pub place_read : {E : Type 0} (text : Text) (r : Result ℕ E) → ParsesUnsigned 32 10 text r → place_number text ≡ place_value r
+place_read {E} text (Ok v) h = parsed 32 4294967295 refl (omega arith) {E = E} text (Ok v) h
+place_read {E} text (Err e) h = parsed 32 4294967295 refl (omega arith) {E = E} text (Err e) h

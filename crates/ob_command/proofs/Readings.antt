@@ -1,5 +1,5 @@
 -- From what clap answers to a request.
-use Rattle.std.proofs.Common.{◌≡◌, ◌≢◌, ◌∙◌, ◌⊎◌, ◌||◌, ℕ, refl, sym, ap, ap₂, subst, List, [], ◌∷◌, true, false, Bool, if◌then◌else◌, Option, Some, None, Err, Box, box_value, option_map, option_and_then, is_some, codes, inl, inr}
+use Rattle.std.proofs.Common.{◌≡◌, ◌≢◌, ◌∙◌, ◌⊎◌, ◌||◌, ℕ, refl, sym, ap, ap₂, subst, List, [], ◌∷◌, true, false, Bool, if◌then◌else◌, Option, Some, None, Err, IsSome, Box, box_value, option_map, option_and_then, is_some, codes, inl, inr}
 use Rattle.clap.specs.Words.{App, Row, Text, rows_of, subcommand_rows_of, IsAmong, HasKind, HasMatchesOf, Kinds, fault_of, is_simple, is_simple_and_free, kind_of, subcommand_of}
 use Rattle.clap.specs.declared.error.Error.{Error}
 use Rattle.clap.specs.declared.error.kind.ErrorKind.{ErrorKind}
@@ -10,6 +10,8 @@ use Rattle.clap.specs.declared.parser.matches.SubCommand.{SubCommand}
 use Rattle.clap.specs.Matches.{subcommand_name_of}
 use Rattle.clap.specs.Simple.{subcommand_rows}
 use Rattle.std.specs.Prelude.{unwrap_or}
+use Rattle.std.specs.Option.{option_map_or}
+use Rattle.std.specs.Str.{bytes_eq}
 use Rattle.clap.specs.Simple.{built}
 use Rattle.clap.specs.Walk.{nothing_held}
 use Rattle.clap.proofs.OnLiterals.{clap_on_literals}
@@ -18,11 +20,13 @@ use Rattle.std.specs.Borrow.{Bor}
 use Rattle.clap.specs.Words.{first_of, first_value, one_of}
 use Rattle.clap.specs.declared.parser.matches.Found.{Found}
 use Rattle.clap.proofs.WalkLemmas.{first_value-rows}
-use Rattle.ob_command.specs.CommandLine.{Request, Bound, Check, Draw, DrawRecord, Explain, Help, Listing, Run, RunRequest, Seq, Serve, Unclear, Verify, bound_of, budget_number, budget_of, clap_request, command_of, default_budget, draw_of, draw_record_of, processes_of, request_by, run_of, seq_of, serve_of}
+use Rattle.ob_command.specs.CommandLine.{Request, Bound, Check, Draw, DrawRecord, Explain, Help, Listing, Run, RunRequest, RunTree, Seq, Serve, Unclear, Verify, bound_of, budget_number, budget_of, calls_by, calls_of, clap_request, command_of, default_budget, draw_of, draw_record_of, drawn_of, form_mistake, form_mistake_of, is_set, made_by, processes_of, request_by, run_of, seq_of, serve_of}
+use Rattle.ob_command.specs.declared.command.CallNumbers.{CallNumbers}
 use Rattle.ob_command.specs.PlainForms.{run_with}
-use Rattle.ob_command.specs.Commands.{IsReading, IsStopOf, request_of}
+use Rattle.ob_command.specs.Commands.{IsMistake, IsReading, IsStopOf}
 use Rattle.ob_command.specs.declared.command.Stop.{Stop}
 use Rattle.ob_command.specs.declared.command.Stop.TheVariants as stops
+use Rattle.ob_command.proofs.Required.{has_command}
 use Rattle.ob_command.proofs.OneSort.{OneSort, is_help, of_first, one_sort}
 
 pub is_free : is_simple_and_free obl0_app ≡ true
@@ -61,6 +65,24 @@ unfolding clap_request
 parsed_stop a is words e kinds stop h =
     stop_read (fault_of obl0_app words) (subcommand_of obl0_app words) (the_kinds words) (kind_of e)
     (subst (λ (x : App). HasKind (fault_of x words) e) is (kinds (ap is_simple_and_free is ∙ is_free))) stop h
+
+-- such a stop tells of a fault of the words
+no_faults_here : (kinds : Kinds) (k : ErrorKind) → IsAmong k kinds → kinds ≢ []
+no_faults_here [] k h e = absurd h
+no_faults_here (x ∷ xs) k h e = cc
+
+stop_mistaken : (words : List Text) (k : ErrorKind) → (k ≡ kind.OutOfMemory) ⊎ IsAmong k (fault_of obl0_app words) → (stop : Stop)
+    → IsStopOf k stop → IsMistake words (Err stop)
+stop_mistaken words k any stops.NoMemory is = tt
+stop_mistaken words k any stops.Version is = tt
+stop_mistaken words k any (stops.Help text) is = tt
+stop_mistaken words k (inl any) (stops.Unclear text) is = absurd (is.1 any)
+stop_mistaken words k (inr any) (stops.Unclear text) is = inl (no_faults_here (fault_of obl0_app words) k any)
+
+pub parsed_mistake : (a : App) → a ≡ obl0_app → (words : List Text) (e : Error) → (is_simple_and_free a ≡ true → HasKind (fault_of a words) e)
+    → (stop : Stop) → IsStopOf (kind_of e) stop → IsMistake words (Err stop)
+parsed_mistake a is words e kinds stop h =
+    stop_mistaken words (kind_of e) (subst (λ (x : App). HasKind (fault_of x words) e) is (kinds (ap is_simple_and_free is ∙ is_free))) stop h
 
 -- ---- the same of a parse
 
@@ -107,8 +129,18 @@ pub seq_by : (m s : Text) (rows : List Row) (b : Option ℕ) → first_of (codes
 seq_by m s rows b h e = rw h (ap (option_map (Seq m s)) e)
 
 pub a_run : (name m : Text) (rows : List Row) (run : Option RunRequest) → name ≡ codes "run" → first_of (codes "MODULE") rows ≡ Some m
-    → run_of m rows ≡ run → command_of name rows ≡ option_map Run run
-a_run name m rows run is h e = rw (is, h) (ap (option_map Run) e)
+    → run_of m rows ≡ run → command_of name rows ≡ option_map (made_by rows) run
+a_run name m rows run is h e = rw (is, h) (ap (option_map (made_by rows)) e)
+
+-- whether a word stands there, by the text that clap keeps of it
+pub set_by : (name : Text) (rows : List Row) (text : Option Text) → first_of name rows ≡ text
+    → is_set name rows ≡ option_map_or (λ t. bytes_eq t (codes "true")) text false
+set_by name rows text is = ap (λ (o : Option Text). option_map_or (λ t. bytes_eq t (codes "true")) o false) is
+
+-- the run by the engine that is said
+pub made_if : (t : Bool) (rows : List Row) (run : RunRequest) → is_set (codes "tree") rows ≡ t → made_by rows run ≡ (if t then RunTree run else Run run)
+made_if true rows run is = ap (λ (t : Bool). (if t then RunTree else Run) run) is
+made_if false rows run is = ap (λ (t : Bool). (if t then RunTree else Run) run) is
 
 pub a_serve : (name m : Text) (rows : List Row) → name ≡ codes "serve" → first_of (codes "MODULE") rows ≡ Some m → command_of name rows ≡ serve_of m rows
 a_serve name m rows is h = rw (is, h) refl
@@ -117,16 +149,27 @@ pub a_draw : (name m : Text) (rows : List Row) → name ≡ codes "draw" → fir
 a_draw name m rows is h = rw (is, h) refl
 
 -- what is drawn, by whether there is a schedule, and a number or a budget
-pub drawn_if : (given : Bool) (m : Text) (rows : List Row) → is_some (first_of (codes "SCHEDULE") rows) ≡ given
-    → draw_of m rows ≡ (if given then option_map Draw (run_of m rows) else draw_record_of m rows)
-drawn_if given m rows is = ap (λ (t : Bool). if t then option_map Draw (run_of m rows) else draw_record_of m rows) is
+pub drawn_if : (given : Bool) (m : Text) (rows : List Row) (calls : Option CallNumbers) → calls_of rows ≡ Some calls
+    → is_some (first_of (codes "SCHEDULE") rows) ≡ given
+    → draw_of m rows ≡ (if given then option_map (λ run. Draw run calls) (run_of m rows) else draw_record_of m rows calls)
+drawn_if given m rows calls are is =
+    ap (option_and_then (drawn_of m rows)) are
+    ∙ ap (λ (t : Bool). if t then option_map (λ run. Draw run calls) (run_of m rows) else draw_record_of m rows calls) is
+
+pub no_calls : (m : Text) (rows : List Row) → calls_of rows ≡ None → draw_of m rows ≡ None
+no_calls m rows none = ap (option_and_then (drawn_of m rows)) none
+
+-- the calls by the word behind `--calls`
+pub calls_if : (rows : List Row) (text : Option Text) → first_of (codes "FROM-TO") rows ≡ text → calls_of rows ≡ calls_by text
+calls_if rows text is = ap calls_by is
 
 pub neither_given : (n b : Bool) → n ≡ false → b ≡ false → (n || b) ≡ false
 neither_given n b is_n is_b = ap₂ (λ (n b : Bool). n || b) is_n is_b
 
-pub record_if : (given : Bool) (m : Text) (rows : List Row) → (is_some (first_of (codes "N") rows) || is_some (first_of (codes "BUDGET") rows)) ≡ given
-    → draw_record_of m rows ≡ (if given then None else option_map (DrawRecord m) (first_of (codes "SCRIPT") rows))
-record_if given m rows is = ap (λ (t : Bool). if t then None else option_map (DrawRecord m) (first_of (codes "SCRIPT") rows)) is
+pub record_if : (given : Bool) (m : Text) (rows : List Row) (calls : Option CallNumbers)
+    → (is_some (first_of (codes "N") rows) || is_some (first_of (codes "BUDGET") rows)) ≡ given
+    → draw_record_of m rows calls ≡ (if given then None else option_map (λ r. DrawRecord m r calls) (first_of (codes "SCRIPT") rows))
+record_if given m rows calls is = ap (λ (t : Bool). if t then None else option_map (λ r. DrawRecord m r calls) (first_of (codes "SCRIPT") rows)) is
 
 pub a_verify : (name m : Text) (rows : List Row) (record_name : Option Text) → name ≡ codes "verify" → first_of (codes "MODULE") rows ≡ Some m
     → first_of (codes "RECORD") rows ≡ record_name → command_of name rows ≡ option_map (Verify m) record_name
@@ -190,3 +233,20 @@ module _ (a : App) (is : a ≡ obl0_app) (words : List Text) (m : ArgMatches)
   pub nothing_asked : command_of name rows ≡ None → clap_request words ≡ Unclear
   unfolding clap_request
   nothing_asked h = ap₂ request_by (no_fault a is words m kinds matches) met ∙ ap (λ o. unwrap_or o Unclear) h
+
+  -- what is said of the form
+  pub form_said : form_mistake_of words ≡ form_mistake name rows
+  form_said = ap (option_and_then (λ m. form_mistake m.0 m.1)) met
+
+  pub form_known : command_of name rows ≡ None → is_some (form_mistake name rows) ≡ true
+  form_known h = go (is_some (form_mistake name rows)) refl
+    where
+      go : (t : Bool) → is_some (form_mistake name rows) ≡ t → is_some (form_mistake name rows) ≡ true
+      go true t = t
+      go false t =
+          let bad : false ≡ true = sym (ap is_some h) ∙ has_command words (no_fault a is words m kinds matches) (name, rows) met t in
+          cc
+
+pub mapped : {A B : Type 0} (g : A → B) (o : Option A) (r : Option B) → option_map g o ≡ r → is_some r ≡ true → IsSome o
+mapped g None r e h = let bad : false ≡ true = rw (← e) at h in cc
+mapped g (Some c) r e h = refl

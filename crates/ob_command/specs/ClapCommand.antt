@@ -1,6 +1,7 @@
 -- The command line in the words of clap.
 use Rattle.std.specs.Prelude.{Some, pos, true, false, [], ◌∷◌, codes, fold}
 use Rattle.clap.specs.Words.{App, Rule, Shape, Text, new_app, new_rule, with_rule, with_subcommand}
+use Rattle.clap.specs.declared.builder.action.ArgAction.TheVariants.{SetTrue}
 use Rattle.clap.specs.declared.builder.value_parser.ValueParser.TheVariants.{Signed}
 
 -- a word that has to be there
@@ -19,6 +20,14 @@ optional_number_rule = record number_rule { required = false }
 abbrev pub budget_rule : Rule
 budget_rule = record (new_rule (codes "BUDGET")) { short = Some 98; long = Some (codes "budget"); parser = Some (Signed (pos 0) (pos 4294967295)) }
 
+-- a word that stands there or not, as `--tree`
+abbrev pub flag_rule : Text → Rule
+flag_rule name = record (new_rule name) { long = Some name; action = Some SetTrue }
+
+-- `--calls FROM-TO`, which may be missing
+abbrev pub calls_rule : Rule
+calls_rule = record (new_rule (codes "FROM-TO")) { long = Some (codes "calls") }
+
 -- `check MODULE`, `list MODULE`
 abbrev pub module_app : Text → App
 module_app command = with_rule (new_app command) (name_rule (codes "MODULE"))
@@ -35,13 +44,21 @@ seq_app command = with_rule (script_app command) budget_rule
 abbrev pub explain_app : Text → App
 explain_app command = with_rule (with_rule (module_app command) (new_rule (codes "SCRIPT"))) budget_rule
 
--- `run MODULE SCRIPT SCHEDULE -n N -b BUDGET`
-abbrev pub run_app : Text → App
-run_app command = with_rule (with_rule (with_rule (script_app command) (name_rule (codes "SCHEDULE"))) number_rule) budget_rule
+-- `MODULE SCRIPT SCHEDULE -n N -b BUDGET` behind a command
+abbrev pub schedule_app : Text → App
+schedule_app command = with_rule (with_rule (with_rule (script_app command) (name_rule (codes "SCHEDULE"))) number_rule) budget_rule
 
--- `draw MODULE SCRIPT SCHEDULE -n N -b BUDGET`, `draw MODULE RECORD`
+-- `run MODULE SCRIPT SCHEDULE -n N -b BUDGET --tree`
+abbrev pub run_app : Text → App
+run_app command = with_rule (schedule_app command) (flag_rule (codes "tree"))
+
+-- `MODULE SCRIPT SCHEDULE` behind a command, of which the last may be missing
+abbrev pub drawn_app : Text → App
+drawn_app command = with_rule (script_app command) (new_rule (codes "SCHEDULE"))
+
+-- `draw MODULE SCRIPT SCHEDULE -n N -b BUDGET --calls FROM-TO`, `draw MODULE RECORD --calls FROM-TO`
 abbrev pub draw_app : Text → App
-draw_app command = with_rule (with_rule (with_rule (script_app command) (new_rule (codes "SCHEDULE"))) optional_number_rule) budget_rule
+draw_app command = with_rule (with_rule (with_rule (drawn_app command) optional_number_rule) budget_rule) calls_rule
 
 -- `serve MODULE SCRIPT -n N -b BUDGET`
 abbrev pub serve_app : Text → App

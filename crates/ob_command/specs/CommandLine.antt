@@ -1,12 +1,14 @@
 -- What the words of the command line ask for, by what clap makes of them.
-use Rattle.std.specs.Prelude.{ℕ, ◌==◌, ◌&&◌, ◌||◌, Bool, false, List, [], ◌∷◌, Option, Some, None, is_some, option_and_then, option_map, unwrap_or, codes, if◌then◌else◌}
-use Rattle.std.specs.List.{list_any}
+use Rattle.std.specs.Prelude.{ℕ, ◌==◌, ◌&&◌, ◌||◌, Bool, false, List, [], ◌∷◌, Option, Some, None, is_some, nat_le, option_and_then, option_map, unwrap_or, codes, if◌then◌else◌}
+use Rattle.std.specs.List.{after_first, before_first, list_any}
+use Rattle.std.specs.Option.{option_map_or}
 use Rattle.std.specs.Str.{bytes_eq}
 use Rattle.std.specs.Str.Parse.{digits_value, without_leading_plus}
 use Rattle.clap.specs.ValueTests.{is_unsigned_in}
 use Rattle.clap.specs.Words.{Kinds, Row, fault_of, first_of, one_of, subcommand_of}
 use Rattle.clap.specs.declared.error.kind.ErrorKind.TheVariants as kind
 use Rattle.ob_command.specs.ClapCommand.{obl0_app}
+use Rattle.ob_command.specs.declared.command.CallNumbers.{CallNumbers}
 
 abbrev pub Text : Type 0
 Text = List ℕ
@@ -19,17 +21,20 @@ pub record RunRequest : Type 0 where
   pub processes : ℕ
   pub budget : ℕ
 
--- What they ask for: the rules of a module checked; its code listed; the calls of a script made on it; a run's record;
+-- What they ask for: the rules of a module checked; its code listed; the calls of a script made on it; a run's record; the record of the
+-- same run by the tree of the module;
 -- the record of workers' run; a run's picture; a record's; the order of a record checked; what is wrong with a module, or with a module and a script, shown to
 -- people; how many own steps a call takes at most; help; the version; or nothing that there is. A command has the names of its files, and a budget is how many turns each call has.
+-- A picture has some calls, or all.
 pub data Request : Type 0 where
   Check : (module_name : Text) → Request
   Listing : (module_name : Text) → Request
   Seq : (module_name script_name : Text) (budget : ℕ) → Request
   Run : (run : RunRequest) → Request
+  RunTree : (run : RunRequest) → Request
   Serve : (module_name script_name : Text) (processes budget : ℕ) → Request
-  Draw : (run : RunRequest) → Request
-  DrawRecord : (module_name record_name : Text) → Request
+  Draw : (run : RunRequest) (calls : Option CallNumbers) → Request
+  DrawRecord : (module_name record_name : Text) (calls : Option CallNumbers) → Request
   Verify : (module_name record_name : Text) → Request
   Explain : (module_name : Text) (script_name : Option Text) (budget : ℕ) → Request
   Bound : (module_name : Text) (processes budget : ℕ) → Request
@@ -48,6 +53,21 @@ number = number_up_to 65535
 -- a budget, below 2 ^ 32
 abbrev pub budget_number : Text → Option ℕ
 budget_number = number_up_to 4294967295
+
+-- the place of a call, below 2 ^ 32
+abbrev pub place_number : Text → Option ℕ
+place_number = number_up_to 4294967295
+
+-- calls from one place to another, which is no lower; places count from 1
+abbrev pub calls_between : ℕ → ℕ → Option CallNumbers
+calls_between from to = if nat_le 1 from && nat_le from to then Some (record { from = from; to = to }) else None
+
+abbrev pub is_minus : ℕ → Bool
+is_minus b = b == 45
+
+-- the calls that a text names: a place, a `-`, and a place behind it
+abbrev pub calls_in : Text → Option CallNumbers
+calls_in text = option_and_then (λ from. option_and_then (calls_between from) (place_number (after_first is_minus text))) (place_number (before_first is_minus text))
 
 -- the budget where nothing is said of it
 abbrev pub default_budget : ℕ
@@ -73,16 +93,38 @@ run_of module_name rows =
       budget = budget;
     }) (budget_of rows)) (processes_of rows)) (first_of (codes "SCHEDULE") rows)) (first_of (codes "SCRIPT") rows)
 
--- A record is drawn of a module and a second file alone: of how many processes and with which budget the record tells itself.
-abbrev pub draw_record_of : Text → List Row → Option Request
-draw_record_of module_name rows =
+-- whether a word stands there, of the same rows
+abbrev pub is_set : Text → List Row → Bool
+is_set name rows = option_map_or (λ text. bytes_eq text (codes "true")) (first_of name rows) false
+
+-- by which engine a run is made, of the same rows: by that over the code of the module, or by that over its tree
+abbrev pub made_by : List Row → RunRequest → Request
+made_by rows = if is_set (codes "tree") rows then RunTree else Run
+
+-- the calls that a picture has by the word behind `--calls`: all where there is none, and none where that is no range
+abbrev pub calls_by : Option Text → Option (Option CallNumbers)
+calls_by None = Some None
+calls_by (Some text) = option_map (λ calls. Some calls) (calls_in text)
+
+-- the calls that a picture has, of the same rows
+abbrev pub calls_of : List Row → Option (Option CallNumbers)
+calls_of rows = calls_by (first_of (codes "FROM-TO") rows)
+
+-- A record is drawn of a module and a second file: of how many processes and with which budget the record tells itself.
+abbrev pub draw_record_of : Text → List Row → Option CallNumbers → Option Request
+draw_record_of module_name rows calls =
     if is_some (first_of (codes "N") rows) || is_some (first_of (codes "BUDGET") rows) then None
-    else option_map (DrawRecord module_name) (first_of (codes "SCRIPT") rows)
+    else option_map (λ record_name. DrawRecord module_name record_name calls) (first_of (codes "SCRIPT") rows)
 
 -- what is to be drawn, of the same rows: a run where there is a schedule, else a record
+abbrev pub drawn_of : Text → List Row → Option CallNumbers → Option Request
+drawn_of module_name rows calls =
+    if is_some (first_of (codes "SCHEDULE") rows) then option_map (λ run. Draw run calls) (run_of module_name rows)
+    else draw_record_of module_name rows calls
+
+-- the same of all the rows
 abbrev pub draw_of : Text → List Row → Option Request
-draw_of module_name rows =
-    if is_some (first_of (codes "SCHEDULE") rows) then option_map Draw (run_of module_name rows) else draw_record_of module_name rows
+draw_of module_name rows = option_and_then (drawn_of module_name rows) (calls_of rows)
 
 -- what workers run, of the same rows
 abbrev pub serve_of : Text → List Row → Option Request
@@ -109,13 +151,35 @@ command_of name rows = option_and_then (λ module_name.
     if bytes_eq name (codes "check") then Some (Check module_name)
     else if bytes_eq name (codes "list") then Some (Listing module_name)
     else if bytes_eq name (codes "seq") then seq_of module_name rows
-    else if bytes_eq name (codes "run") then option_map Run (run_of module_name rows)
+    else if bytes_eq name (codes "run") then option_map (made_by rows) (run_of module_name rows)
     else if bytes_eq name (codes "serve") then serve_of module_name rows
     else if bytes_eq name (codes "draw") then draw_of module_name rows
     else if bytes_eq name (codes "verify") then option_map (Verify module_name) (first_of (codes "RECORD") rows)
     else if bytes_eq name (codes "explain") then explain_of module_name rows
     else if bytes_eq name (codes "bound") then bound_of module_name rows
     else None) (first_of (codes "MODULE") rows)
+
+-- what is said of words that clap accepts behind `draw`, and that name neither a run nor a record
+abbrev pub draw_mistake : Text
+draw_mistake =
+    codes "error: a run is drawn by MODULE SCRIPT SCHEDULE -n N, and a record by MODULE RECORD without -n and -b\n\nFor more information, try '--help'.\n"
+
+-- and of a word behind `--calls` that names no calls
+abbrev pub calls_mistake : Text
+calls_mistake =
+    codes "error: behind --calls stands FROM-TO, the places of the first and the last call, from 1\n\nFor more information, try '--help'.\n"
+
+-- What is said where the words of a command that has several forms have none of these. Every other command has one form, which clap tests.
+abbrev pub form_mistake : Text → List Row → Option Text
+form_mistake name rows = if bytes_eq name (codes "draw") then Some (if is_some (calls_of rows) then draw_mistake else calls_mistake) else None
+
+-- the same of all words, by the command that clap meets in them
+abbrev pub form_mistake_of : List Text → Option Text
+form_mistake_of words = option_and_then (λ m. form_mistake m.0 m.1) (subcommand_of obl0_app words)
+
+-- by what clap keeps of the words, they ask for a command
+abbrev pub asks_command : List Text → Bool
+asks_command words = is_some (option_and_then (λ m. command_of m.0 m.1) (subcommand_of obl0_app words))
 
 -- Where clap finds no fault, the command that it met. Else its first fault decides: it is a call for help, or a mistake.
 abbrev pub request_by : Kinds → Option (Text × List Row) → Request
@@ -143,8 +207,12 @@ asks_version (name ∷ word ∷ []) = is_version_option word && is_command name
 asks_version _ = false
 
 -- the words that ask for the help of a command
+abbrev pub help_of_command : Text → Option (List Text)
+help_of_command name = if is_command name then Some (name ∷ codes "--help" ∷ []) else None
+
+-- the words that ask for what `help` says before a word: of `help` and of `version` the help of all tells
 abbrev pub help_words : Text → Option (List Text)
-help_words name = if is_command name then Some (name ∷ codes "--help" ∷ []) else None
+help_words name = if bytes_eq name (codes "help") || bytes_eq name (codes "version") then Some (codes "--help" ∷ []) else help_of_command name
 
 -- What clap reads: `help` alone is its option, and before the name of a command it is that option behind the name. Before another word
 -- it is passed over: that word is no command.

@@ -1,5 +1,6 @@
 -- What `read_command` answers to a request.
-use Rattle.std.specs.Prelude.{◌≡◌, ◌≢◌, Result, Ok, Err, option_map}
+use Rattle.std.specs.Prelude.{◌≡◌, ◌≢◌, ◌⊎◌, List, [], Result, Some, Ok, Err, option_map, string_bytes}
+use Rattle.clap.specs.Words.{fault_of}
 use Rattle.clap.specs.declared.error.kind.ErrorKind.{ErrorKind}
 use Rattle.clap.specs.declared.error.kind.ErrorKind.TheVariants as kind
 use Rattle.ob_command.specs.declared.command.Command as command
@@ -7,7 +8,8 @@ use Rattle.ob_command.specs.declared.command.Command.TheVariants as commands
 use Rattle.ob_command.specs.declared.command.RunCommand.{RunCommand}
 use Rattle.ob_command.specs.declared.command.Stop.{Stop}
 use Rattle.ob_command.specs.declared.command.Stop.TheVariants as stops
-use Rattle.ob_command.specs.CommandLine.{Request, RunRequest, Check, Listing, Seq, Run, Serve, Draw, DrawRecord, Verify, Explain, Bound, Help, Version, Unclear}
+use Rattle.ob_command.specs.ClapCommand.{obl0_app}
+use Rattle.ob_command.specs.CommandLine.{Text, form_mistake_of, Request, RunRequest, Check, Listing, Seq, Run, RunTree, Serve, Draw, DrawRecord, Verify, Explain, Bound, Help, Version, Unclear}
 
 -- what a command asks for
 abbrev pub run_request_of : RunCommand → RunRequest
@@ -24,9 +26,10 @@ request_of (commands.Check module_name) = Check module_name.now
 request_of (commands.List module_name) = Listing module_name.now
 request_of (commands.Seq module_name script_name budget) = Seq module_name.now script_name.now budget
 request_of (commands.Run run) = Run (run_request_of run)
+request_of (commands.RunTree run) = RunTree (run_request_of run)
 request_of (commands.Serve module_name script_name processes budget) = Serve module_name.now script_name.now processes budget
-request_of (commands.Draw run) = Draw (run_request_of run)
-request_of (commands.DrawRecord module_name record_name) = DrawRecord module_name.now record_name.now
+request_of (commands.Draw run calls) = Draw (run_request_of run) calls
+request_of (commands.DrawRecord module_name record_name calls) = DrawRecord module_name.now record_name.now calls
 request_of (commands.Verify module_name record_name) = Verify module_name.now record_name.now
 request_of (commands.Explain module_name script_name budget) = Explain module_name.now (option_map (λ name. name.now) script_name) budget
 request_of (commands.Bound module_name processes budget) = Bound module_name.now processes budget
@@ -38,6 +41,11 @@ IsReading request (Err (stops.Help text)) = request ≡ Help
 IsReading request (Err stops.Version) = request ≡ Version
 IsReading request (Err (stops.Unclear text)) = request ≡ Unclear
 IsReading request (Err stops.NoMemory) = Unit {0}
+
+-- Where these words are no command, clap finds a fault in them, or they have no form of a command that has several, and that is said.
+abbrev pub IsMistake : List Text → Result command.Command Stop → Type 0
+IsMistake words (Err (stops.Unclear text)) = (fault_of obl0_app words ≢ []) ⊎ (form_mistake_of words ≡ Some (string_bytes text))
+IsMistake words _ = Unit {0}
 
 -- what a kind of error stops for
 abbrev pub IsStopOf : ErrorKind → Stop → Type 0

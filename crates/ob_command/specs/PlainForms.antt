@@ -1,6 +1,7 @@
 -- The plain forms of the commands that run calls: names that are no options, a number of processes and a budget.
-use Rattle.std.specs.Prelude.{◌≡◌, ℕ, Some, [], ◌∷◌, false, codes}
-use Rattle.ob_command.specs.CommandLine.{Bound, Help, Request, RunRequest, Serve, Text, Version, budget_number, is_option, number, request}
+use Rattle.std.specs.Prelude.{◌≡◌, ℕ, List, Option, Some, [], ◌∷◌, false, codes}
+use Rattle.ob_command.specs.CommandLine.{Bound, DrawRecord, Help, Request, RunRequest, Serve, Text, Version, budget_number, calls_in, default_budget, is_option, number, request}
+use Rattle.ob_command.specs.declared.command.CallNumbers.{CallNumbers}
 
 -- the run of these files, with so many processes and so many turns for each call
 abbrev pub run_with : (module_name script_name schedule_name : Text) (processes budget : ℕ) → RunRequest
@@ -12,13 +13,32 @@ run_with module_name script_name schedule_name processes budget = record {
   budget = budget;
 }
 
--- The command, three names that are no options, `-n` with a number, and the word that a budget stands behind, with a budget, ask for that run.
-abbrev pub IsRunAsked : Text → Text → (RunRequest → Request) → Type 0
-IsRunAsked command flag asks = (m s d n b : Text) (k t : ℕ) → is_option m ≡ false → is_option s ≡ false → is_option d ≡ false
-    → number n ≡ Some k → budget_number b ≡ Some t
-    → request (command ∷ m ∷ s ∷ d ∷ codes "-n" ∷ n ∷ flag ∷ b ∷ []) ≡ asks (run_with m s d k t)
+-- The command, two names that are no options, and the word that a budget stands behind, with a budget, ask for these calls.
+abbrev pub IsCallsAsked : Text → Text → (Text → Text → ℕ → Request) → Type 0
+IsCallsAsked command flag asks = (m s b : Text) (k : ℕ) → is_option m ≡ false → is_option s ≡ false → budget_number b ≡ Some k
+    → request (command ∷ m ∷ s ∷ flag ∷ b ∷ []) ≡ asks m s k
 
--- The same of `serve` with two names.
+-- The command, three names that are no options, `-n` with a number, and more words ask for the run of these files, in which each call
+-- has the budget that there is where nothing is said of it.
+abbrev pub IsRunAsked : Text → (more : List Text) → (RunRequest → Request) → Type 0
+IsRunAsked command more asks = (m s d n : Text) (k : ℕ) → is_option m ≡ false → is_option s ≡ false → is_option d ≡ false → number n ≡ Some k
+    → request (command ∷ m ∷ s ∷ d ∷ codes "-n" ∷ n ∷ more) ≡ asks (run_with m s d k default_budget)
+
+-- The same, and behind the number the word that a budget stands behind, with a budget.
+abbrev pub IsBudgetRunAsked : Text → Text → (more : List Text) → (RunRequest → Request) → Type 0
+IsBudgetRunAsked command flag more asks = (m s d n b : Text) (k t : ℕ) → is_option m ≡ false → is_option s ≡ false → is_option d ≡ false
+    → number n ≡ Some k → budget_number b ≡ Some t
+    → request (command ∷ m ∷ s ∷ d ∷ codes "-n" ∷ n ∷ flag ∷ b ∷ more) ≡ asks (run_with m s d k t)
+
+-- `draw`, two names that are no options, and more words ask for the picture of this record.
+abbrev pub IsRecordAsked : (more : List Text) → Option CallNumbers → Type 0
+IsRecordAsked more calls = (m r : Text) → is_option m ≡ false → is_option r ≡ false → request (codes "draw" ∷ m ∷ r ∷ more) ≡ DrawRecord m r calls
+
+-- The same words with a range behind `--calls` ask for the picture of these calls.
+abbrev pub WithCalls : ((more : List Text) → Option CallNumbers → Type 0) → Type 0
+WithCalls AreAsked = (c : Text) (calls : CallNumbers) → calls_in c ≡ Some calls → AreAsked (codes "--calls" ∷ c ∷ []) (Some calls)
+
+-- The words of `serve` with two names ask for these workers.
 abbrev pub IsServeAsked : Text → Type 0
 IsServeAsked flag = (m s n b : Text) (k t : ℕ) → is_option m ≡ false → is_option s ≡ false → number n ≡ Some k → budget_number b ≡ Some t
     → request (codes "serve" ∷ m ∷ s ∷ codes "-n" ∷ n ∷ flag ∷ b ∷ []) ≡ Serve m s k t

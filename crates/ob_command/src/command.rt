@@ -3,13 +3,13 @@
 ghost use Rattle.std.specs.Prelude.{◌≡◌, false, true, IfOk, IsOkAnd, map, option_map, is_some};
 ghost use Rattle.clap.specs.Words.{app_of, first_of, found_of, kind_of, new_rule, rows_of, rule_of};
 ghost use Rattle.clap.specs.declared.builder.command.Command.TheViews.{out-Command as fields_of};
-ghost use Rattle.ob_command.specs.ClapCommand.{bound_app, budget_rule, draw_app, explain_app, module_app, name_rule, number_rule, obl0_app, optional_number_rule, record_app, run_app, script_app, seq_app, serve_app, top_app, with_command};
-ghost use Rattle.ob_command.specs.CommandLine.{asks_version, bound_of, budget_of, clap_request, clap_words, command_of, draw_of, draw_record_of, help_words, is_version_option, request, run_of, serve_of};
-ghost use Rattle.ob_command.specs.Commands.{IsReading, IsStopOf, request_of, run_request_of};
+ghost use Rattle.ob_command.specs.ClapCommand.{bound_app, budget_rule, calls_rule, draw_app, drawn_app, explain_app, flag_rule, module_app, name_rule, number_rule, obl0_app, optional_number_rule, record_app, run_app, schedule_app, script_app, seq_app, serve_app, top_app, with_command};
+ghost use Rattle.ob_command.specs.CommandLine.{asks_version, bound_of, budget_of, calls_between, calls_in, calls_of, clap_request, clap_words, command_of, draw_of, draw_record_of, form_mistake, help_of_command, help_words, is_set, is_version_option, made_by, place_number, request, run_of, serve_of};
+ghost use Rattle.ob_command.specs.Commands.{IsMistake, IsReading, IsStopOf, request_of, run_request_of};
 ghost use Rattle.ob_command.specs.declared.command.Stop.TheVariants.{NoMemory};
 
 use clap::error::ErrorKind;
-use clap::{Arg, ArgMatches};
+use clap::{Arg, ArgAction, ArgMatches};
 use std::alloc::{AllocError, Global};
 
 /// What the words ask for. The names are of files.
@@ -31,6 +31,8 @@ pub enum Command<'a> {
     },
     /// `run MODULE SCRIPT SCHEDULE -n N -b BUDGET`: the record of a run.
     Run(RunCommand<'a>),
+    /// `run .. --tree`: the record of the same run, by the tree of the module.
+    RunTree(RunCommand<'a>),
     /// `serve MODULE SCRIPT -n N -b BUDGET`: the record of a run by workers, one for each process.
     Serve {
         module_name: &'a str,
@@ -38,12 +40,16 @@ pub enum Command<'a> {
         processes: usize,
         budget: u32,
     },
-    /// `draw MODULE SCRIPT SCHEDULE -n N -b BUDGET`: the same run as a picture.
-    Draw(RunCommand<'a>),
-    /// `draw MODULE RECORD`: the picture of a record that was printed before.
+    /// `draw MODULE SCRIPT SCHEDULE -n N -b BUDGET --calls FROM-TO`: the same run as a picture, of some calls or of all.
+    Draw {
+        run: RunCommand<'a>,
+        calls: Option<CallNumbers>,
+    },
+    /// `draw MODULE RECORD --calls FROM-TO`: the picture of a record that was printed before.
     DrawRecord {
         module_name: &'a str,
         record_name: &'a str,
+        calls: Option<CallNumbers>,
     },
     /// `verify MODULE RECORD`: whether the order of a record is a legal order of its calls.
     Verify {
@@ -72,6 +78,13 @@ pub struct RunCommand<'a> {
     pub schedule_name: &'a str,
     pub processes: usize,
     pub budget: u32,
+}
+
+/// Some calls of a run, by the places of the first and of the last in the order in which the calls begin, from 1.
+#[derive(Clone, Copy)]
+pub struct CallNumbers {
+    pub from: u32,
+    pub to: u32,
 }
 
 /// Why there is no command to obey.
@@ -118,7 +131,7 @@ const ABOUT_BOUND: &str =
 
 const HELP_SCRIPT: &str = "The file of the calls, one a line: PROCESS PROCEDURE ARGUMENTS";
 
-const HELP_DRAWN: &str = "The file of the calls; or, with no schedule and no option, of a record";
+const HELP_DRAWN: &str = "The file of the calls; or, with no schedule, of a record";
 
 const HELP_SCHEDULE: &str =
     "The file of the items that say which process steps: PROCESS*STEPS, PROCESS:LABEL or PROCESS!";
@@ -128,9 +141,22 @@ const HELP_RECORD: &str = "The file of the record, as `run` prints it";
 const HELP_BUDGET: &str =
     "How many turns each call has, 0 to 1000000; 100000 where nothing is said";
 
+const HELP_TREE: &str =
+    "Runs the module by its tree in place of its code, which may then be of any length";
+
+const HELP_CALLS: &str =
+    "Which calls are drawn: the places of the first and the last, from 1; all where nothing is said";
+
 /// What is wrong with words for a picture that name neither a run nor a record.
 const UNCLEAR_DRAW: &str = "\
-error: a run is drawn by MODULE SCRIPT SCHEDULE -n N, and a record by MODULE RECORD alone
+error: a run is drawn by MODULE SCRIPT SCHEDULE -n N, and a record by MODULE RECORD without -n and -b
+
+For more information, try '--help'.
+";
+
+/// What is wrong with a word behind `--calls` that names no calls.
+const UNCLEAR_CALLS: &str = "\
+error: behind --calls stands FROM-TO, the places of the first and the last call, from 1
 
 For more information, try '--help'.
 ";
@@ -147,7 +173,8 @@ const ASKING_HELP: &[&str] = &["--help"];
 
 /// The command that the words behind the program's name ask for.
 pub fn read_command<'a>(alloc: Global, words: &'a [&'a str]) -> Result<Command<'a>, Stop>
-    ensures { IsReading (request (map (λ word. word.now) words.entry.now)) result }
+    ensures reading { IsReading (request (map (λ word. word.now) words.entry.now)) result }
+    ensures mistake { IsMistake (clap_words (map (λ word. word.now) words.entry.now)) result }
 {
     if asks_version(words) {
         return Err(Stop::Version);
@@ -161,7 +188,7 @@ fn asks_version(words: &[&str]) -> bool
 {
     match words {
         [word] => *word == "version" || is_version_option(word),
-        [name, word] => is_version_option(word) && help_words(name).is_some(),
+        [name, word] => is_version_option(word) && help_of_command(name).is_some(),
         _ => false,
     }
 }
@@ -183,9 +210,19 @@ fn clap_words<'a>(words: &'a [&'a str]) -> &'a [&'a str]
     }
 }
 
-/// The words that ask for the help of a command, where there is one of this name.
+/// The words that ask for what `help` says before a word, where that is one that there is.
 fn help_words(name: &str) -> Option<&'static [&'static str]>
     ensures { option_map (λ words. map (λ word. word.now) words.now) result ≡ help_words name.now }
+{
+    if name == "help" || name == "version" {
+        return Some(ASKING_HELP);
+    }
+    help_of_command(name)
+}
+
+/// The words that ask for the help of a command, where there is one of this name.
+fn help_of_command(name: &str) -> Option<&'static [&'static str]>
+    ensures { option_map (λ words. map (λ word. word.now) words.now) result ≡ help_of_command name.now }
 {
     match name {
         "check" => Some(&["check", "--help"]),
@@ -203,7 +240,8 @@ fn help_words(name: &str) -> Option<&'static [&'static str]>
 
 /// The command that words ask for, in the reading of `clap`.
 fn read_words<'a>(alloc: Global, words: &'a [&'a str]) -> Result<Command<'a>, Stop>
-    ensures { IsReading (clap_request (map (λ word. word.now) words.entry.now)) result }
+    ensures reading { IsReading (clap_request (map (λ word. word.now) words.entry.now)) result }
+    ensures mistake { IsMistake (map (λ word. word.now) words.entry.now) result }
 {
     let matches = match command_line(alloc)?.try_get_matches_from(words) {
         Ok(matches) => matches,
@@ -212,9 +250,25 @@ fn read_words<'a>(alloc: Global, words: &'a [&'a str]) -> Result<Command<'a>, St
     match matches.subcommand() {
         Some((name, matches)) => match command_of(name, matches) {
             Some(command) => Ok(command),
-            None => Err(Stop::Unclear(String::from_str(alloc, UNCLEAR_DRAW)?)),
+            None => {
+                let mistake = form_mistake(name, matches).unwrap();
+                Err(Stop::Unclear(String::from_str(alloc, mistake)?))
+            }
         },
         None => unreachable!(),
+    }
+}
+
+/// What is said of words that have none of the forms of a command, where it has several.
+fn form_mistake(name: &str, matches: &ArgMatches<'_>) -> Option<&'static str>
+    ensures { option_map (λ text. text.now) result ≡ form_mistake name.now (rows_of (found_of matches.now)) }
+{
+    match name {
+        "draw" => match calls_of(matches) {
+            Some(_) => Some(UNCLEAR_DRAW),
+            None => Some(UNCLEAR_CALLS),
+        },
+        _ => None,
     }
 }
 
@@ -231,7 +285,7 @@ fn command_of<'a>(name: &str, matches: &ArgMatches<'a>) -> Option<Command<'a>>
             script_name: matches.get_str("SCRIPT")?,
             budget: budget_of(matches)?,
         }),
-        "run" => Some(Command::Run(run_of(module_name, matches)?)),
+        "run" => Some(made_by(matches, run_of(module_name, matches)?)),
         "serve" => serve_of(module_name, matches),
         "draw" => draw_of(module_name, matches),
         "verify" => Some(Command::Verify {
@@ -245,6 +299,27 @@ fn command_of<'a>(name: &str, matches: &ArgMatches<'a>) -> Option<Command<'a>>
         }),
         "bound" => bound_of(module_name, matches),
         _ => None,
+    }
+}
+
+/// By which engine a run is made, of the matches of the words behind `run`.
+fn made_by<'a>(matches: &ArgMatches<'_>, run: RunCommand<'a>) -> Command<'a>
+    ensures { request_of result ≡ made_by (rows_of (found_of matches.now)) (run_request_of run.entry) }
+{
+    if is_set(matches, "tree") {
+        Command::RunTree(run)
+    } else {
+        Command::Run(run)
+    }
+}
+
+/// Whether a word stands there that has no value, of the same matches.
+fn is_set(matches: &ArgMatches<'_>, name: &str) -> bool
+    ensures { result ≡ is_set name.now (rows_of (found_of matches.now)) }
+{
+    match matches.get_str(name) {
+        Some(text) => text == "true",
+        None => false,
     }
 }
 
@@ -284,15 +359,62 @@ fn serve_of<'a>(module_name: &'a str, matches: &ArgMatches<'a>) -> Option<Comman
 fn draw_of<'a>(module_name: &'a str, matches: &ArgMatches<'a>) -> Option<Command<'a>>
     ensures { option_map request_of result ≡ draw_of module_name.entry.now (rows_of (found_of matches.now)) }
 {
+    let calls = calls_of(matches)?;
     if is_given(matches, "SCHEDULE") {
-        return Some(Command::Draw(run_of(module_name, matches)?));
+        let run = run_of(module_name, matches)?;
+        return Some(Command::Draw { run, calls });
     }
-    draw_record_of(module_name, matches)
+    draw_record_of(module_name, matches, calls)
+}
+
+/// The calls of a picture, of the same matches.
+fn calls_of(matches: &ArgMatches<'_>) -> Option<Option<CallNumbers>>
+    ensures { result ≡ calls_of (rows_of (found_of matches.now)) }
+{
+    match matches.get_str("FROM-TO") {
+        None => Some(None),
+        Some(text) => Some(Some(calls_in(text)?)),
+    }
+}
+
+/// The calls that a text names as `FROM-TO`.
+fn calls_in(text: &str) -> Option<CallNumbers>
+    ensures { result ≡ calls_in text.now }
+{
+    let (first, last) = text.split_once('-')?;
+    let from = place_number(first)?;
+    let to = place_number(last)?;
+    calls_between(from, to)
+}
+
+/// The place of a call.
+fn place_number(text: &str) -> Option<u32>
+    ensures { result ≡ place_number text.now }
+{
+    match text.parse::<u32>() {
+        Ok(place) => Some(place),
+        Err(_) => None,
+    }
+}
+
+/// The calls between two places, where there are such.
+fn calls_between(from: u32, to: u32) -> Option<CallNumbers>
+    ensures { result ≡ calls_between from to }
+{
+    if 1 <= from && from <= to {
+        Some(CallNumbers { from, to })
+    } else {
+        None
+    }
 }
 
 /// The record that is to be drawn, of the same matches.
-fn draw_record_of<'a>(module_name: &'a str, matches: &ArgMatches<'a>) -> Option<Command<'a>>
-    ensures { option_map request_of result ≡ draw_record_of module_name.entry.now (rows_of (found_of matches.now)) }
+fn draw_record_of<'a>(
+    module_name: &'a str,
+    matches: &ArgMatches<'a>,
+    calls: Option<CallNumbers>,
+) -> Option<Command<'a>>
+    ensures { option_map request_of result ≡ draw_record_of module_name.entry.now (rows_of (found_of matches.now)) calls }
 {
     if is_given(matches, "N") || is_given(matches, "BUDGET") {
         return None;
@@ -301,6 +423,7 @@ fn draw_record_of<'a>(module_name: &'a str, matches: &ArgMatches<'a>) -> Option<
     Some(Command::DrawRecord {
         module_name,
         record_name,
+        calls,
     })
 }
 
@@ -408,13 +531,25 @@ fn program_line<'a>(alloc: Global) -> Result<clap::Command<'a>, AllocError>
     Ok(program)
 }
 
-/// The words behind a command on a module, a script and a schedule, for a number of processes with a budget.
+/// The words behind a command that makes a run, by the code or by the tree of a module.
 fn run_line<'a>(
     alloc: Global,
     command: &'a str,
     about: &'a str,
 ) -> Result<clap::Command<'a>, AllocError>
     ensures app { IfOk result (λ c. app_of c ≡ run_app command.entry.now) }
+    ensures local { IfOk result (λ c. (fields_of c).has_globals ≡ false) }
+{
+    schedule_line(alloc, command, about)?.arg(flag(alloc, "tree", HELP_TREE))
+}
+
+/// The words behind a command on a module, a script and a schedule, for a number of processes with a budget.
+fn schedule_line<'a>(
+    alloc: Global,
+    command: &'a str,
+    about: &'a str,
+) -> Result<clap::Command<'a>, AllocError>
+    ensures app { IfOk result (λ c. app_of c ≡ schedule_app command.entry.now) }
     ensures local { IfOk result (λ c. (fields_of c).has_globals ≡ false) }
 {
     script_line(alloc, command, about)?
@@ -432,11 +567,24 @@ fn draw_line<'a>(
     ensures app { IfOk result (λ c. app_of c ≡ draw_app command.entry.now) }
     ensures local { IfOk result (λ c. (fields_of c).has_globals ≡ false) }
 {
+    drawn_line(alloc, command, about)?
+        .arg(optional_count(alloc))?
+        .arg(call_budget(alloc))?
+        .arg(drawn_calls(alloc))
+}
+
+/// The names behind a command that draws: of a module, and of a script and a schedule or of a record.
+fn drawn_line<'a>(
+    alloc: Global,
+    command: &'a str,
+    about: &'a str,
+) -> Result<clap::Command<'a>, AllocError>
+    ensures app { IfOk result (λ c. app_of c ≡ drawn_app command.entry.now) }
+    ensures local { IfOk result (λ c. (fields_of c).has_globals ≡ false) }
+{
     module_line(alloc, command, about)?
         .arg(file_name(alloc, "SCRIPT", HELP_DRAWN))?
-        .arg(optional_name(alloc, "SCHEDULE", HELP_SCHEDULE))?
-        .arg(optional_count(alloc))?
-        .arg(call_budget(alloc))
+        .arg(optional_name(alloc, "SCHEDULE", HELP_SCHEDULE))
 }
 
 /// The words behind a command on a module and a script, for a number of processes with a budget.
@@ -544,6 +692,25 @@ fn optional_name<'a>(alloc: Global, id: &'a str, help: &'a str) -> Arg<'a>
     ensures local { result.global ≡ false }
 {
     Arg::new(alloc, id).help(help)
+}
+
+/// A word that stands there or not.
+fn flag<'a>(alloc: Global, name: &'a str, help: &'a str) -> Arg<'a>
+    ensures rule { rule_of result ≡ flag_rule name.entry.now }
+    ensures local { result.global ≡ false }
+{
+    Arg::new(alloc, name)
+        .long(name)
+        .action(ArgAction::SetTrue)
+        .help(help)
+}
+
+/// The option that says which calls a picture has.
+fn drawn_calls<'a>(alloc: Global) -> Arg<'a>
+    ensures rule { rule_of result ≡ calls_rule }
+    ensures local { result.global ≡ false }
+{
+    Arg::new(alloc, "FROM-TO").long("calls").help(HELP_CALLS)
 }
 
 /// The option that says how many processes there are.

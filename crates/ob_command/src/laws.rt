@@ -1,8 +1,10 @@
 //! What plain words ask for. What a function here ensures is proved; it does nothing.
 
-ghost use Rattle.std.specs.Prelude.{◌≡◌, ℕ, Some, None, [], ◌∷◌, false, All, codes};
-ghost use Rattle.ob_command.specs.CommandLine.{Bound, Check, Draw, DrawRecord, Explain, Help, Listing, Run, Seq, Serve, Text, Unclear, Verify, Version, budget_number, command_names, is_option, number, request};
-ghost use Rattle.ob_command.specs.PlainForms.{IsBoundAsked, IsHelpAsked, IsRunAsked, IsServeAsked, IsVersionAsked, run_with};
+ghost use Rattle.std.specs.Prelude.{◌≡◌, ◌⊎◌, ℕ, List, Some, None, [], ◌∷◌, false, true, All, codes, is_some};
+ghost use Rattle.clap.specs.Words.{fault_of};
+ghost use Rattle.ob_command.specs.ClapCommand.{obl0_app};
+ghost use Rattle.ob_command.specs.CommandLine.{Bound, Check, Draw, Explain, Help, Listing, Run, RunTree, Seq, Serve, Text, Unclear, Verify, Version, asks_command, command_names, form_mistake_of, is_option, number, request};
+ghost use Rattle.ob_command.specs.PlainForms.{IsBoundAsked, IsBudgetRunAsked, IsCallsAsked, IsHelpAsked, IsRecordAsked, IsRunAsked, IsServeAsked, IsVersionAsked, WithCalls};
 
 /// `check` and a name that is no option.
 pub fn check_is_asked()
@@ -21,22 +23,26 @@ pub fn seq_is_asked()
 
 /// The same, and `-b` or `--budget` with a number.
 pub fn seq_with_budget_is_asked()
-    ensures short { (m s b : Text) (k : ℕ) → is_option m ≡ false → is_option s ≡ false → budget_number b ≡ Some k
-        → request (codes "seq" ∷ m ∷ s ∷ codes "-b" ∷ b ∷ []) ≡ Seq m s k }
-    ensures long { (m s b : Text) (k : ℕ) → is_option m ≡ false → is_option s ≡ false → budget_number b ≡ Some k
-        → request (codes "seq" ∷ m ∷ s ∷ codes "--budget" ∷ b ∷ []) ≡ Seq m s k }
+    ensures short { IsCallsAsked (codes "seq") (codes "-b") Seq }
+    ensures long { IsCallsAsked (codes "seq") (codes "--budget") Seq }
 {}
 
 /// `run` and three names that are no options, and `-n` with a number: each call has the budget that there is where nothing is said of it.
 pub fn run_is_asked()
-    ensures { (m s d n : Text) (k : ℕ) → is_option m ≡ false → is_option s ≡ false → is_option d ≡ false → number n ≡ Some k
-        → request (codes "run" ∷ m ∷ s ∷ d ∷ codes "-n" ∷ n ∷ []) ≡ Run (run_with m s d k 100000) }
+    ensures { IsRunAsked (codes "run") [] Run }
 {}
 
 /// The same, and `-b` or `--budget` with a number.
 pub fn run_with_budget_is_asked()
-    ensures short { IsRunAsked (codes "run") (codes "-b") Run }
-    ensures long { IsRunAsked (codes "run") (codes "--budget") Run }
+    ensures short { IsBudgetRunAsked (codes "run") (codes "-b") [] Run }
+    ensures long { IsBudgetRunAsked (codes "run") (codes "--budget") [] Run }
+{}
+
+/// The words of a run behind `run`, with a budget or without, and `--tree`.
+pub fn run_by_tree_is_asked()
+    ensures plain { IsRunAsked (codes "run") (codes "--tree" ∷ []) RunTree }
+    ensures short { IsBudgetRunAsked (codes "run") (codes "-b") (codes "--tree" ∷ []) RunTree }
+    ensures long { IsBudgetRunAsked (codes "run") (codes "--budget") (codes "--tree" ∷ []) RunTree }
 {}
 
 /// `serve` and two names that are no options, and `-n` with a number.
@@ -53,19 +59,30 @@ pub fn serve_with_budget_is_asked()
 
 /// `draw` and the words of a run.
 pub fn draw_is_asked()
-    ensures { (m s d n : Text) (k : ℕ) → is_option m ≡ false → is_option s ≡ false → is_option d ≡ false → number n ≡ Some k
-        → request (codes "draw" ∷ m ∷ s ∷ d ∷ codes "-n" ∷ n ∷ []) ≡ Draw (run_with m s d k 100000) }
+    ensures { IsRunAsked (codes "draw") [] (λ run. Draw run None) }
 {}
 
 /// The same, and `-b` or `--budget` with a number.
 pub fn draw_with_budget_is_asked()
-    ensures short { IsRunAsked (codes "draw") (codes "-b") Draw }
-    ensures long { IsRunAsked (codes "draw") (codes "--budget") Draw }
+    ensures short { IsBudgetRunAsked (codes "draw") (codes "-b") [] (λ run. Draw run None) }
+    ensures long { IsBudgetRunAsked (codes "draw") (codes "--budget") [] (λ run. Draw run None) }
+{}
+
+/// The words of a run behind `draw`, with a budget or without, and `--calls` with a range.
+pub fn draw_of_calls_is_asked()
+    ensures plain { WithCalls (λ more calls. IsRunAsked (codes "draw") more (λ run. Draw run calls)) }
+    ensures short { WithCalls (λ more calls. IsBudgetRunAsked (codes "draw") (codes "-b") more (λ run. Draw run calls)) }
+    ensures long { WithCalls (λ more calls. IsBudgetRunAsked (codes "draw") (codes "--budget") more (λ run. Draw run calls)) }
 {}
 
 /// `draw` and two names that are no options.
 pub fn draw_record_is_asked()
-    ensures { (m r : Text) → is_option m ≡ false → is_option r ≡ false → request (codes "draw" ∷ m ∷ r ∷ []) ≡ DrawRecord m r }
+    ensures { IsRecordAsked [] None }
+{}
+
+/// The same, and `--calls` with a range.
+pub fn draw_record_of_calls_is_asked()
+    ensures { WithCalls IsRecordAsked }
 {}
 
 /// `verify` and two names that are no options.
@@ -85,10 +102,8 @@ pub fn explain_of_script_is_asked()
 
 /// The same, and `-b` or `--budget` with a number.
 pub fn explain_with_budget_is_asked()
-    ensures short { (m s b : Text) (k : ℕ) → is_option m ≡ false → is_option s ≡ false → budget_number b ≡ Some k
-        → request (codes "explain" ∷ m ∷ s ∷ codes "-b" ∷ b ∷ []) ≡ Explain m (Some s) k }
-    ensures long { (m s b : Text) (k : ℕ) → is_option m ≡ false → is_option s ≡ false → budget_number b ≡ Some k
-        → request (codes "explain" ∷ m ∷ s ∷ codes "--budget" ∷ b ∷ []) ≡ Explain m (Some s) k }
+    ensures short { IsCallsAsked (codes "explain") (codes "-b") (λ m s k. Explain m (Some s) k) }
+    ensures long { IsCallsAsked (codes "explain") (codes "--budget") (λ m s k. Explain m (Some s) k) }
 {}
 
 /// `bound` and a name that is no option, and `-n` with a number.
@@ -120,6 +135,14 @@ pub fn help_is_asked()
     ensures alone { request (codes "help" ∷ []) ≡ Help }
     ensures long { request (codes "--help" ∷ []) ≡ Help }
     ensures short { request (codes "-h" ∷ []) ≡ Help }
+    ensures of_help { request (codes "help" ∷ codes "help" ∷ []) ≡ Help }
+    ensures of_version { request (codes "help" ∷ codes "version" ∷ []) ≡ Help }
+{}
+
+/// Words in which `clap` finds no fault ask for a command, or what is said of them is that they have no form of a command that has
+/// several.
+pub fn accepted_words_ask()
+    ensures { (words : List Text) → fault_of obl0_app words ≡ [] → (asks_command words ≡ true) ⊎ (is_some (form_mistake_of words) ≡ true) }
 {}
 
 /// No words ask for nothing that there is.

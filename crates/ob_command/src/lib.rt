@@ -4,4 +4,4 @@
 pub mod command;
 pub mod laws;
 
-pub use command::{Command, RunCommand, Stop, read_command};
+pub use command::{CallNumbers, Command, RunCommand, Stop, read_command};

@@ -1,3 +1,8 @@
+use Rattle.std.proofs.Common.{IfOk, Option, subst}
+use Rattle.ob_answer.specs.Answers.{IsRunObeyed}
+use Rattle.ob_answer.specs.declared.product.Product.TheVariants as Products
+use Rattle.ob_command.specs.Commands.{run_request_of}
+use Rattle.ob_text_picture_chart.specs.declared.charts.CallRange.{CallRange}
 use Rattle.ob_answer.proofs.answer.obey.Goals as goal
 
 pub returns-in-Check : goal.returns-in-Check
@@ -12,11 +17,17 @@ returns-in-Seq g c = rw c.in-Seq.is c.obey_seq.ensures
 pub returns-in-Run : goal.returns-in-Run
 returns-in-Run g c = rw c.in-Run.is c.obey_run.ensures
 
+pub returns-in-RunTree : goal.returns-in-RunTree
+returns-in-RunTree g c = rw c.in-RunTree.is c.obey_run-in-RunTree.ensures
+
 pub returns-in-Serve : goal.returns-in-Serve
 returns-in-Serve g c = rw c.in-Serve.is c.obey_serve.ensures
 
 pub returns-in-Draw : goal.returns-in-Draw
-returns-in-Draw g c = rw c.in-Draw.is c.obey_run-in-Draw.ensures
+returns-in-Draw g c =
+    rw c.in-Draw.is (subst (λ (r : Option CallRange). IfOk c.obey_run-in-Draw.result
+    (λ a. IsRunObeyed g.F.Files.reads (Products.Picture r) (run_request_of c.in-Draw.run') c.args.files.now a c.obey_run-in-Draw.new.files))
+    c.range_of.ensures c.obey_run-in-Draw.ensures)
 
 pub returns-in-DrawRecord : goal.returns-in-DrawRecord
 returns-in-DrawRecord g c = rw c.in-DrawRecord.is c.obey_draw_record.ensures

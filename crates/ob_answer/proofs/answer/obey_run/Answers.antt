@@ -1,27 +1,23 @@
-use Rattle.std.proofs.Common.{◌∙◌, inr, refl, subst, List, ℕ}
+use Rattle.std.proofs.Common.{[], ◌∷◌, subst}
 use Rattle.std.proofs.lemmas.Result.{IfOk-weaker}
-use Rattle.ob_answer.specs.Answers.{IsRunAnswer}
+use Rattle.ob_answer.specs.Answers.{IsRunMade}
+use Rattle.ob_answer.specs.Reads.{AreThreeRead}
+use Rattle.ob_answer.specs.declared.reading.ThreeFiles.{ThreeFiles}
+use Rattle.ob_command.specs.Commands.{run_request_of}
+use Rattle.ob_answer.proofs.FilesRead.{three_made, unread_outcome}
 use Rattle.ob_answer.proofs.answer.obey_run.Goals as goal
 
-pub returns : goal.returns
-returns g c = IfOk-weaker c.answer_run.result _ _ (λ a h. inr (
-  c.in-Ok.ensures.0,
-  c.read_beginning.new.self,
-  c.in-Ok.ensures.1,
-  inr (
-    c.in-Ok-read.bytes.items,
-    c.read.new.self,
-    c.in-Ok-read.ensures,
-    inr (
-      c.in-Ok-read-2.bytes.items,
-      c.read-2.new.self,
-      c.in-Ok-read-2.ensures,
-      (
-        subst (λ (schedule : List ℕ). IsRunAnswer c.args.product c.in-Ok.ensures.0 c.args.run.processes c.args.run.budget c.in-Ok-read.bytes.items schedule a) c.as_slice-3.ensures.value
-            (subst (λ (script : List ℕ). IsRunAnswer c.args.product c.in-Ok.ensures.0 c.args.run.processes c.args.run.budget script c.as_slice-3.result.now a) c.as_slice-2.ensures.value
-            (h c.in-Ok.ensures.0 (c.as_slice.ensures.value ∙ c.in-Ok.ensures.2))),
-        refl,
-      ),
-    ),
-  ),
-)) c.answer_run.ensures
+pub returns-in-Read : goal.returns-in-Read
+returns-in-Read g c =
+    let read = subst (λ (x : ThreeFiles). AreThreeRead g.F.Files.reads c.args.run.module_name.now c.args.run.script_name.now c.args.run.schedule_name.now
+    c.args.files.now x c.read_three.new.files) c.in-Read.is c.in_ok-module.ensures in
+    IfOk-weaker c.answer_run.result _ _ (λ a h. three_made g.F.Files.reads _ _ _ _ _ _ _ _ _ _ _ (IsRunMade c.args.product (run_request_of c.args.run)) a read
+    c.as_slice.ensures.value c.as_slice-in-Read.ensures.value c.as_slice-in-Read-2.ensures.value h)
+    c.answer_run.ensures
+
+pub returns-in-Unread : goal.returns-in-Unread
+returns-in-Unread g c =
+    unread_outcome g.F.Files.reads (c.args.run.module_name.now ∷ c.args.run.script_name.now ∷ c.args.run.schedule_name.now ∷ []) (IsRunMade c.args.product (run_request_of c.args.run))
+    c.args.files.now c.in-Unread.answer c.read_three.new.files
+    (subst (λ (x : ThreeFiles). AreThreeRead g.F.Files.reads c.args.run.module_name.now c.args.run.script_name.now c.args.run.schedule_name.now
+    c.args.files.now x c.read_three.new.files) c.in-Unread.is c.in_ok-module.ensures)

@@ -1,21 +1,21 @@
-use Rattle.std.proofs.Common.{◌∙◌, inr, refl, subst, List, ℕ}
+use Rattle.std.proofs.Common.{[], ◌∷◌, subst}
 use Rattle.std.proofs.lemmas.Result.{IfOk-weaker}
-use Rattle.ob_answer.specs.Answers.{IsServeAnswer}
+use Rattle.ob_answer.specs.Answers.{IsMade}
+use Rattle.ob_answer.specs.Reads.{AreTwoRead}
+use Rattle.ob_answer.specs.declared.reading.TwoFiles.{TwoFiles}
+use Rattle.ob_command.specs.CommandLine.{Serve}
+use Rattle.ob_answer.proofs.FilesRead.{two_made, unread_outcome}
 use Rattle.ob_answer.proofs.answer.obey_serve.Goals as goal
 
-pub returns : goal.returns
-returns g c = IfOk-weaker c.answer_serve.result _ _ (λ a h. inr (
-  c.in-Ok.ensures.0,
-  c.read_beginning.new.self,
-  c.in-Ok.ensures.1,
-  inr (
-    c.in-Ok-read.bytes.items,
-    c.read.new.self,
-    c.in-Ok-read.ensures,
-    (
-      subst (λ (script : List ℕ). IsServeAnswer c.in-Ok.ensures.0 c.args.processes c.args.budget script a) c.as_slice-2.ensures.value
-          (h c.in-Ok.ensures.0 (c.as_slice.ensures.value ∙ c.in-Ok.ensures.2)),
-      refl,
-    ),
-  ),
-)) c.answer_serve.ensures
+pub returns-in-Read : goal.returns-in-Read
+returns-in-Read g c =
+    let read = subst (λ (x : TwoFiles). AreTwoRead g.F.Files.reads c.args.module_name.now c.args.script_name.now c.args.files.now x c.read_two.new.files) c.in-Read.is
+    c.in_ok-module.ensures in
+    IfOk-weaker c.answer_serve.result _ _ (λ a h. two_made g.F.Files.reads _ _ _ _ _ _ _ _ (IsMade (Serve c.args.module_name.now c.args.script_name.now c.args.processes c.args.budget)) a read c.as_slice.ensures.value c.as_slice-in-Read.ensures.value h)
+    c.answer_serve.ensures
+
+pub returns-in-Unread : goal.returns-in-Unread
+returns-in-Unread g c =
+    unread_outcome g.F.Files.reads (c.args.module_name.now ∷ c.args.script_name.now ∷ []) (IsMade (Serve c.args.module_name.now c.args.script_name.now c.args.processes c.args.budget))
+    c.args.files.now c.in-Unread.answer c.read_two.new.files
+    (subst (λ (x : TwoFiles). AreTwoRead g.F.Files.reads c.args.module_name.now c.args.script_name.now c.args.files.now x c.read_two.new.files) c.in-Unread.is c.in_ok-module.ensures)

@@ -1,4 +1,4 @@
-use Rattle.std.proofs.Common.{None, string_bytes}
+use Rattle.std.proofs.Common.{string_bytes}
 use Rattle.ob_answer.specs.Answers.{said}
 use Rattle.ob_answer.proofs.Beginnings.{of_whole}
 use Rattle.ob_answer.proofs.Made.{draw_record_refused_made}
@@ -9,10 +9,10 @@ pub returns-in-Ok : goal.returns-in-Ok
 returns-in-Ok c whole is =
     let text = string_bytes c.in-Ok.picture in
     said text
-    (of_whole (λ t. IsRecordPicture t c.args.record.now None text) c.args.module.now whole is (λ long. let bad = c.in-Ok.ensures.too_long long in cc) c.in-Ok.ensures.picture)
+    (of_whole (λ t. IsRecordPicture t c.args.record.now c.args.calls text) c.args.module.now whole is (λ long. let bad = c.in-Ok.ensures.too_long long in cc) c.in-Ok.ensures.picture)
     c.printed.ensures
 
 pub returns-in-Err : goal.returns-in-Err
-returns-in-Err c = draw_record_refused_made c.args.module.now c.args.record.now c.in-Err.fault
+returns-in-Err c = draw_record_refused_made c.args.calls c.args.module.now c.args.record.now c.in-Err.fault
     c.draw_record_refused.result c.draw_record_refused.ensures.fault c.draw_record_refused.ensures.memory
     c.in-Err.ensures.fault c.in-Err.ensures.memory (λ long. let e = c.in-Err.ensures.too_long long in cc)

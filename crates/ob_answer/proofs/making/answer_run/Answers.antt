@@ -5,3 +5,6 @@ returns-in-Record c = rw c.in-Record.is c.answer_record.ensures
 
 pub returns-in-Picture : goal.returns-in-Picture
 returns-in-Picture c = rw c.in-Picture.is c.answer_picture.ensures
+
+pub returns-in-TreeRecord : goal.returns-in-TreeRecord
+returns-in-TreeRecord c = rw c.in-TreeRecord.is c.answer_tree_record.ensures

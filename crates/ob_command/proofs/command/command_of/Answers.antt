@@ -1,4 +1,4 @@
-use Rattle.std.proofs.Common.{◌∙◌, ap, codes, option_map, refl, sym}
+use Rattle.std.proofs.Common.{◌∙◌, Some, ap, codes, option_map, refl, sym}
 use Rattle.clap.specs.Words.{found_of, rows_of}
 use Rattle.ob_command.specs.Commands.{request_of, run_request_of}
 use Rattle.ob_command.proofs.Readings.{a_bound, a_check, a_draw, a_list, a_run, a_seq, a_serve, a_verify, an_explain, first_row, no_module, no_seq_script, seq_by}
@@ -54,7 +54,7 @@ pub returns-in_ok-run_of-in-run : goal.returns-in_ok-run_of-in-run
 returns-in_ok-run_of-in-run c =
     let m = first_row (found_of c.args.matches.now) (codes "MODULE") c.get_str.result _ c.get_str.ensures
     (ap (option_map (λ s. s.now)) c.in_ok-module_name.was) in
-    sym (a_run c.args.name.now _ (rows_of (found_of c.args.matches.now)) _ c.in-run.is m
+    ap (λ r. Some r) c.made_by.ensures ∙ sym (a_run c.args.name.now _ (rows_of (found_of c.args.matches.now)) _ c.in-run.is m
     (sym c.run_of.ensures ∙ ap (option_map run_request_of) c.in_ok-run_of-in-run.was))
 
 pub returns-in-serve : goal.returns-in-serve

@@ -11,11 +11,11 @@ returns-in_err-record_name c =
     (ap (option_map (λ s. s.now)) c.in_err-record_name.was) in
     let neither = neither_given _ _ (sym c.is_given.ensures ∙ c.if-is_given.false) (sym c.is_given-else-is_given.ensures ∙ c.if-is_given-2.false) in
     ap (option_map request_of) c.from_residual.ensures
-    ∙ sym (record_if false c.args.module_name.now (rows_of (found_of c.args.matches.now)) neither ∙ ap (option_map (DrawRecord c.args.module_name.now)) none)
+    ∙ sym (record_if false c.args.module_name.now (rows_of (found_of c.args.matches.now)) c.args.calls neither ∙ ap (option_map (λ r. DrawRecord c.args.module_name.now r c.args.calls)) none)
 
 pub returns : goal.returns
 returns c =
     let name = first_row (found_of c.args.matches.now) (codes "SCRIPT") c.get_str.result _ c.get_str.ensures
     (ap (option_map (λ s. s.now)) c.in_ok-record_name.was) in
     let neither = neither_given _ _ (sym c.is_given.ensures ∙ c.if-is_given.false) (sym c.is_given-else-is_given.ensures ∙ c.if-is_given-2.false) in
-    sym (record_if false c.args.module_name.now (rows_of (found_of c.args.matches.now)) neither ∙ ap (option_map (DrawRecord c.args.module_name.now)) name)
+    sym (record_if false c.args.module_name.now (rows_of (found_of c.args.matches.now)) c.args.calls neither ∙ ap (option_map (λ r. DrawRecord c.args.module_name.now r c.args.calls)) name)

@@ -1,4 +1,4 @@
-use Rattle.ob_command.proofs.ClapWords.{bound_asked}
+use Rattle.ob_command.proofs.RunForms.{bound_asked}
 use Rattle.ob_command.proofs.laws.bound_is_asked.Goals as goal
 
 pub returns : goal.returns

@@ -1,4 +1,4 @@
-use Rattle.ob_command.proofs.ClapWords.{help_asked, short_help_asked}
+use Rattle.ob_command.proofs.HelpForms.{help_asked, short_help_asked}
 use Rattle.ob_command.proofs.laws.help_is_asked.Goals as goal
 
 pub returns-clause-alone : goal.returns-clause-alone
@@ -9,3 +9,9 @@ returns-clause-long c = help_asked
 
 pub returns-clause-short : goal.returns-clause-short
 returns-clause-short c = short_help_asked
+
+pub returns-clause-of_help : goal.returns-clause-of_help
+returns-clause-of_help c = help_asked
+
+pub returns-clause-of_version : goal.returns-clause-of_version
+returns-clause-of_version c = help_asked

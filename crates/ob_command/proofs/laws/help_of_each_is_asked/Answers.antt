@@ -1,4 +1,4 @@
-use Rattle.ob_command.proofs.ClapWords.{each_help_asked}
+use Rattle.ob_command.proofs.HelpForms.{each_help_asked}
 use Rattle.ob_command.proofs.laws.help_of_each_is_asked.Goals as goal
 
 pub returns : goal.returns

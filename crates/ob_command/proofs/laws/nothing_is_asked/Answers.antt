@@ -1,4 +1,4 @@
-use Rattle.ob_command.proofs.ClapWords.{nothing_asked}
+use Rattle.ob_command.proofs.HelpForms.{nothing_asked}
 use Rattle.ob_command.proofs.laws.nothing_is_asked.Goals as goal
 
 pub returns : goal.returns

@@ -1,4 +1,4 @@
-use Rattle.ob_command.proofs.ClapWords.{run_asked}
+use Rattle.ob_command.proofs.RunForms.{run_asked}
 use Rattle.ob_command.proofs.laws.run_is_asked.Goals as goal
 
 pub returns : goal.returns

@@ -1,4 +1,4 @@
-use Rattle.ob_command.proofs.ClapWords.{seq_asked}
+use Rattle.ob_command.proofs.NameForms.{seq_asked}
 use Rattle.ob_command.proofs.laws.seq_is_asked.Goals as goal
 
 pub returns : goal.returns

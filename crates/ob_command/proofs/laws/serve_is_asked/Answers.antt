@@ -1,4 +1,4 @@
-use Rattle.ob_command.proofs.ClapWords.{serve_asked}
+use Rattle.ob_command.proofs.RunForms.{serve_asked}
 use Rattle.ob_command.proofs.laws.serve_is_asked.Goals as goal
 
 pub returns : goal.returns

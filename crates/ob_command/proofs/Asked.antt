@@ -1,0 +1,96 @@
+-- What words ask for that have no fault.
+use Rattle.std.proofs.Common.{◌≡◌, ◌∙◌, ℕ, refl, sym, ap, ap₂, List, [], ◌∷◌, fold, find, codes, true, false, Bool, if◌then◌else◌, ◌==◌, Option, Some, None, is_some, option_map, option_and_then, pos, unwrap_or}
+use Rattle.std.specs.List.{All}
+use Rattle.std.specs.Option.{option_map_or}
+use Rattle.std.specs.Str.{bytes_eq}
+use Rattle.std.proofs.lemmas.List.Elements.{All-from_recursion}
+use Rattle.std.proofs.lemmas.Slice.Eq.{bytes_eq-Decides}
+use Rattle.clap.specs.Lexer.{long_of, long_of_rest, short_of, short_of_rest, strip_byte, without_minus}
+use Rattle.clap.specs.Walk.{Held, Walk, Step, walk_from, nothing_held, Row, Rule, Text, Names, answers_to, walked, idle, option, value, plain_word, finished, settled, reading_by, word_met, to_positional, arg_by_index, after_step}
+use Rattle.clap.specs.Kinds.{Kinds, or_else}
+use Rattle.clap.specs.Faults.{fault_of, walk_fault, settle_fault, defaults_fault, check_fault, entered_fault, level_fault, turn_fault, step_fault}
+use Rattle.clap.specs.Simple.{App, Shape, entered, help_rule, label_of, rows_at, subcommand_of, with_rule}
+use Rattle.clap.specs.declared.builder.action.ArgAction.TheVariants.{Set}
+use Rattle.clap.specs.declared.builder.value_parser.ValueParser.{ValueParser}
+use Rattle.clap.specs.declared.builder.value_parser.ValueParser.TheVariants as parser
+use Rattle.clap.specs.declared.error.kind.ErrorKind.TheVariants as kind
+use Rattle.clap.specs.declared.parser.matches.ValueSource.TheVariants.{CommandLine}
+use Rattle.clap.proofs.FaultLemmas.{stopped_fault}
+use Rattle.clap.proofs.WalkLemmas.{walk_stopped}
+use Rattle.clap.proofs.OnLiterals.{clap_on_literals}
+use Rattle.ob_command.specs.ClapCommand.{obl0_app}
+use Rattle.ob_command.specs.CommandLine.{Request, RunRequest, Unclear, budget_number, clap_request, number, request_by}
+use Rattle.ob_command.proofs.BuiltLine.{built_app, built_help, built_top, names}
+use Rattle.ob_command.proofs.Numbers.{plain_budget, plain_number}
+use Rattle.ob_command.proofs.WalkedWords.{Goes}
+
+abbrev pub top_rules : List Rule
+top_rules = built_help ∷ []
+
+abbrev pub start : Walk
+start = walk_from nothing_held
+
+abbrev tail : Bool → Kinds
+tail has = or_else (settle_fault top_rules false nothing_held) (or_else (defaults_fault (settled top_rules nothing_held).rows top_rules)
+    (check_fault built_top (finished top_rules nothing_held) has))
+
+-- what the faults of all the words come to behind those of the first level
+abbrev found_fault : List Text → Option Shape → Kinds
+found_fault words o = or_else (option_map_or (λ s. level_fault s [] nothing_held words false []) o []) (tail (is_some (option_map (λ s. rows_at s words) o)))
+
+abbrev met_fault : Option (Text × List Text) → Kinds
+met_fault stop = or_else (entered_fault built_app stop) (tail (is_some (entered built_app stop)))
+
+module _ (name : Text) (leaf : Shape)
+    (turn : turn_fault built_top names start name ≡ [])
+    (meets : walked top_rules names start name ≡ record start { stopped = Some (name, []) })
+    (finds : find (λ s. answers_to name (label_of s)) built_app.subs ≡ Some leaf) where
+  stops : (words : List Text) → fold (walked top_rules names) start (name ∷ words) ≡ record start { stopped = Some (name, words) }
+  stops words = ap (λ (w : Walk). fold (walked top_rules names) w words) meets ∙ sym (walk_stopped top_rules names start name [] words)
+
+  none : (words : List Text) → walk_fault built_top names start (name ∷ words) ≡ []
+  unfolding walk_fault
+  none words = ap₂ (λ ks (w : Walk). or_else ks (walk_fault built_top names w words)) turn meets
+      ∙ stopped_fault built_top names start (name, []) words
+
+  no_fault_met : (words : List Text) (rows : List Row) → Goes leaf start words rows → met_fault (Some (name, words)) ≡ []
+  unfolding clap_on_literals
+  no_fault_met words rows goes = ap (found_fault words) finds ∙ ap (λ ks. or_else ks (tail true)) goes.no_fault
+
+  pub asked : (words : List Text) (rows : List Row) → Goes leaf start words rows
+      → clap_request (name ∷ words) ≡ request_by [] (Some (leaf.name, rows))
+  unfolding clap_request
+  asked words rows goes =
+      let kinds : fault_of obl0_app (name ∷ words) ≡ [] =
+      ap₂ (λ ks (w : Walk). or_else ks (or_else (entered_fault built_app w.stopped)
+      (or_else (settle_fault top_rules false w.held) (or_else (defaults_fault (settled top_rules w.held).rows top_rules)
+      (check_fault built_top (finished top_rules w.held) (is_some (entered built_app w.stopped))))))) (none words) (stops words)
+      ∙ no_fault_met words rows goes in
+      let met : subcommand_of obl0_app (name ∷ words) ≡ Some (leaf.name, rows) =
+      ap (λ (w : Walk). entered built_app w.stopped) (stops words)
+      ∙ (ap (option_map (λ s. rows_at s words)) finds ∙ ap (λ (r : List Row). Some (leaf.name, r)) goes.leaves) in
+      ap₂ request_by kinds met
+
+
+-- ---- the numbers of a request
+
+pub number_is : (n : Text) (k : ℕ) → number n ≡ Some k → number (without_minus n) ≡ Some k
+number_is n k is =
+    let plain = plain_number n k is in
+    ap number plain.as_is ∙ is
+
+pub budget_is : (b : Text) (k : ℕ) → budget_number b ≡ Some k → budget_number (without_minus b) ≡ Some k
+budget_is b k is =
+    let plain = plain_budget b k is in
+    ap budget_number plain.as_is ∙ is
+
+-- the request of a number of processes and a budget
+pub both_are : (asks : ℕ → ℕ → Request) (o p : Option ℕ) (k t : ℕ) → o ≡ Some k → p ≡ Some t
+    → unwrap_or (option_and_then (λ processes. option_map (asks processes) p) o) Unclear ≡ asks k t
+both_are asks o p k t is_k is_t = ap₂ (λ (o p : Option ℕ). unwrap_or (option_and_then (λ processes. option_map (asks processes) p) o) Unclear) is_k is_t
+
+-- the same of a command on a run
+pub run_is : (asks : RunRequest → Request) (run : ℕ → ℕ → RunRequest) (o p : Option ℕ) (k t : ℕ) → o ≡ Some k → p ≡ Some t
+    → unwrap_or (option_map asks (option_and_then (λ processes. option_map (run processes) p) o)) Unclear ≡ asks (run k t)
+run_is asks run o p k t is_k is_t =
+    ap₂ (λ (o p : Option ℕ). unwrap_or (option_map asks (option_and_then (λ processes. option_map (run processes) p) o)) Unclear) is_k is_t

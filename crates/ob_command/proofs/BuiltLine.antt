@@ -1,0 +1,136 @@
+-- The command line as clap builds it.
+use Rattle.std.proofs.Common.{List, [], ◌∷◌, ℕ, codes, true, false, Bool, Option, Some, None, pos}
+use Rattle.clap.specs.Walk.{Names, Row, Rule, Text, reading_by}
+use Rattle.clap.specs.Simple.{App, Shape, help_rule, new_shape}
+use Rattle.clap.specs.declared.builder.action.ArgAction.TheVariants.{Set}
+use Rattle.clap.specs.declared.builder.value_parser.ValueParser.{ValueParser}
+use Rattle.clap.specs.declared.parser.matches.ValueSource.TheVariants.{CommandLine, DefaultValue}
+use Rattle.clap.specs.declared.builder.value_parser.ValueParser.TheVariants as parser
+use Rattle.ob_command.specs.ClapCommand.{flag_rule, name_rule, top_shape}
+
+-- ---- the rules of arguments
+
+-- a rule whose argument takes one value
+abbrev pub built_one : Text → Option ℕ → Option ℕ → ValueParser → Rule
+built_one id place short p = record (name_rule id) {
+  index = place;
+  short = short;
+  action = Some Set;
+  range = Some (record { start_inclusive = 1; end_inclusive = 1 });
+  parser = Some p;
+}
+
+abbrev pub built_name : ℕ → Text → Rule
+built_name place id = built_one id (Some place) None parser.String
+
+abbrev pub built_number : Rule
+built_number = built_one (codes "N") None (Some 110) (parser.Signed (pos 0) (pos 65535))
+
+abbrev pub built_budget : Rule
+built_budget = record (built_one (codes "BUDGET") None (Some 98) (parser.Signed (pos 0) (pos 4294967295))) {
+  long = Some (codes "budget");
+  required = false;
+}
+
+abbrev pub built_flag : Text → Rule
+built_flag name = record (flag_rule name) {
+  defaults = codes "false" ∷ [];
+  missing = codes "true" ∷ [];
+  parser = Some parser.Bool;
+  range = Some (record { start_inclusive = 0; end_inclusive = 0 });
+}
+
+abbrev pub built_calls : Rule
+built_calls = record (built_one (codes "FROM-TO") None None parser.String) { long = Some (codes "calls"); required = false }
+
+abbrev pub built_help : Rule
+built_help = record help_rule {
+  range = Some (record { start_inclusive = 0; end_inclusive = 0 });
+  parser = Some parser.String;
+}
+
+-- the argument has to be there, or may be missing
+abbrev pub needed : Bool → Rule → Rule
+needed t a = record a { required = t }
+
+-- `MODULE SCRIPT -b BUDGET`, and more
+abbrev pub calls_rules : (script : Bool) → List Rule → List Rule
+calls_rules script more = built_name 1 (codes "MODULE") ∷ needed script (built_name 2 (codes "SCRIPT")) ∷ built_budget ∷ more
+
+-- `MODULE SCRIPT SCHEDULE -n N -b BUDGET`, and more
+abbrev pub run_rules : (script schedule number : Bool) → List Rule → List Rule
+run_rules script schedule number more =
+    built_name 1 (codes "MODULE") ∷ needed script (built_name 2 (codes "SCRIPT")) ∷ needed schedule (built_name 3 (codes "SCHEDULE"))
+    ∷ needed number built_number ∷ built_budget ∷ more
+
+-- ---- the commands
+
+abbrev pub leaf : Text → List Rule → Shape
+leaf command rules = record (new_shape command) { rules = rules; no_binary_name = true; disable_help_subcommand = true; is_built = true }
+
+abbrev pub module_leaf : Text → Shape
+module_leaf command = leaf command (built_name 1 (codes "MODULE") ∷ built_help ∷ [])
+
+abbrev pub seq_leaf : Shape
+seq_leaf = leaf (codes "seq") (calls_rules true (built_help ∷ []))
+
+abbrev pub run_leaf : Shape
+run_leaf = leaf (codes "run") (run_rules true true true (built_flag (codes "tree") ∷ built_help ∷ []))
+
+abbrev pub serve_leaf : Shape
+serve_leaf = leaf (codes "serve") (built_name 1 (codes "MODULE") ∷ built_name 2 (codes "SCRIPT") ∷ built_number ∷ built_budget ∷ built_help ∷ [])
+
+abbrev pub draw_leaf : Shape
+draw_leaf = leaf (codes "draw") (run_rules true false false (built_calls ∷ built_help ∷ []))
+
+abbrev pub verify_leaf : Shape
+verify_leaf = leaf (codes "verify") (built_name 1 (codes "MODULE") ∷ built_name 2 (codes "RECORD") ∷ built_help ∷ [])
+
+abbrev pub explain_leaf : Shape
+explain_leaf = leaf (codes "explain") (calls_rules false (built_help ∷ []))
+
+abbrev pub bound_leaf : Shape
+bound_leaf = leaf (codes "bound") (built_name 1 (codes "MODULE") ∷ built_number ∷ built_budget ∷ built_help ∷ [])
+
+abbrev pub built_top : Shape
+built_top = record top_shape { rules = built_help ∷ []; is_leaf = false; is_built = true }
+
+abbrev pub built_app : App
+built_app = record {
+  top = built_top;
+  subs = module_leaf (codes "check") ∷ module_leaf (codes "list") ∷ seq_leaf ∷ run_leaf ∷ serve_leaf ∷ draw_leaf ∷ verify_leaf ∷ explain_leaf
+      ∷ bound_leaf ∷ [];
+}
+
+abbrev pub names : Names
+names = (codes "check", []) ∷ (codes "list", []) ∷ (codes "seq", []) ∷ (codes "run", []) ∷ (codes "serve", []) ∷ (codes "draw", []) ∷ (codes "verify", [])
+    ∷ (codes "explain", []) ∷ (codes "bound", []) ∷ []
+
+-- ---- the rows that clap keeps of a command
+
+abbrev pub row : Text → Text → Rule → Row
+row id value rule = record { id = id; values = value ∷ []; count = None; source = Some CommandLine; reading = reading_by rule }
+
+abbrev pub name_row : Text → Text → Row
+name_row id name = row id name (built_name 1 id)
+
+abbrev pub number_row : Text → Row
+number_row n = row (codes "N") n built_number
+
+abbrev pub budget_row : Text → Row
+budget_row b = row (codes "BUDGET") b built_budget
+
+abbrev pub calls_row : Text → Row
+calls_row c = row (codes "FROM-TO") c built_calls
+
+-- the row of a word that stands there, and of one that doesn't
+abbrev pub flag_row : Text → Row
+flag_row name = row name (codes "true") (built_flag name)
+
+abbrev pub no_flag_row : Text → Row
+no_flag_row name = record (row name (codes "false") (built_flag name)) { source = Some DefaultValue }
+
+-- the word that stands before a budget
+abbrev pub budget_flag : (short : Bool) → Text
+budget_flag true = codes "-b"
+budget_flag false = codes "--budget"

@@ -1,0 +1,63 @@
+-- A word that is no option.
+use Rattle.std.proofs.Common.{◌≡◌, ◌∙◌, ℕ, refl, sym, ap, ap₂, List, [], ◌∷◌, fold, find, codes, true, false, Bool, if◌then◌else◌, ◌==◌, Option, Some, None, is_some, option_map, option_and_then, pos, unwrap_or}
+use Rattle.std.specs.List.{All}
+use Rattle.std.specs.Option.{option_map_or}
+use Rattle.std.specs.Str.{bytes_eq}
+use Rattle.std.proofs.lemmas.List.Elements.{All-from_recursion}
+use Rattle.std.proofs.lemmas.Slice.Eq.{bytes_eq-Decides}
+use Rattle.clap.specs.Lexer.{long_of, long_of_rest, short_of, short_of_rest, strip_byte, without_minus}
+use Rattle.clap.specs.Walk.{Held, Walk, Step, walk_from, nothing_held, Row, Rule, Text, Names, answers_to, walked, idle, option, value, plain_word, finished, settled, reading_by, word_met, to_positional, arg_by_index, after_step}
+use Rattle.clap.specs.Kinds.{Kinds, or_else}
+use Rattle.clap.specs.Faults.{fault_of, walk_fault, settle_fault, defaults_fault, check_fault, entered_fault, level_fault, turn_fault, step_fault}
+use Rattle.clap.specs.Simple.{App, Shape, entered, help_rule, label_of, rows_at, subcommand_of, with_rule}
+use Rattle.clap.specs.declared.builder.action.ArgAction.TheVariants.{Set}
+use Rattle.clap.specs.declared.builder.value_parser.ValueParser.{ValueParser}
+use Rattle.clap.specs.declared.builder.value_parser.ValueParser.TheVariants as parser
+use Rattle.clap.specs.declared.error.kind.ErrorKind.TheVariants as kind
+use Rattle.clap.specs.declared.parser.matches.ValueSource.TheVariants.{CommandLine}
+use Rattle.clap.proofs.FaultLemmas.{stopped_fault}
+use Rattle.clap.proofs.WalkLemmas.{walk_stopped}
+use Rattle.clap.proofs.OnLiterals.{clap_on_literals}
+use Rattle.ob_command.specs.CommandLine.{Version, asks_version, clap_request, is_option}
+
+-- it is no such option
+not_this : (this word : Text) → is_option this ≡ true → is_option word ≡ false → bytes_eq word this ≡ false
+not_this this word is_one h = go (bytes_eq word this) refl
+  where
+    go : (t : Bool) → bytes_eq word this ≡ t → bytes_eq word this ≡ false
+    go false t = t
+    go true t =
+        let is : word ≡ this = (bytes_eq-Decides word this).0 t in
+        let bad : true ≡ false = sym is_one ∙ (ap is_option (sym is) ∙ h) in
+        cc
+
+pub no_dashes : (word : Text) → is_option word ≡ false → bytes_eq word (codes "--") ≡ false
+no_dashes word h = not_this (codes "--") word refl h
+
+-- behind a name it asks for no version
+no_version : (name word : Text) → is_option word ≡ false → asks_version (name ∷ word ∷ []) ≡ false
+no_version name word h =
+    let long = not_this (codes "--version") word refl h in
+    let short = not_this (codes "-V") word refl h in
+    rw (long, short) refl
+
+pub by_clap : (name word : Text) → is_option word ≡ false → (if asks_version (name ∷ word ∷ []) then Version else clap_request (name ∷ word ∷ [])) ≡ clap_request (name ∷ word ∷ [])
+by_clap name word h = ap (λ (t : Bool). if t then Version else clap_request (name ∷ word ∷ [])) (no_version name word h)
+
+pub no_long : (word : Text) → is_option word ≡ false → long_of word ≡ None
+no_long [] h = refl
+no_long (b ∷ []) h = go (b == 45)
+  where
+    go : (t : Bool) → option_and_then long_of_rest (option_and_then (strip_byte 45) (if t then Some [] else None)) ≡ None
+    go true = refl
+    go false = refl
+no_long (b ∷ c ∷ rest) h = rw h refl
+
+pub no_short : (word : Text) → is_option word ≡ false → short_of word ≡ None
+no_short [] h = refl
+no_short (b ∷ []) h = go (b == 45)
+  where
+    go : (t : Bool) → option_and_then short_of_rest (if t then Some [] else None) ≡ None
+    go true = refl
+    go false = refl
+no_short (b ∷ c ∷ rest) h = rw h refl
