@@ -1,5 +1,5 @@
 -- The calls that a text names.
-use Rattle.std.proofs.Common.{◌≡◌, ◌∙◌, ◌==◌, ◌<◌, ◌+◌, ◌&&◌, ℕ, refl, sym, ap, subst, List, [], ◌∷◌, length, drop, true, false, Bool, Option, Some, None, option_and_then, arith, MatchOption}
+use Rattle.std.proofs.Common.{◌≡◌, ◌∙◌, ◌==◌, ◌<◌, ◌+◌, ℕ, refl, ap, subst, List, [], ◌∷◌, length, true, false, Bool, Option, Some, None, option_and_then, arith, MatchOption}
 use Rattle.std.specs.Borrow.{Bor}
 use Rattle.std.specs.List.{after_first, before_first, position_or_len}
 use Rattle.std.proofs.lemmas.List.{drop_all}

@@ -1,5 +1,5 @@
 -- Where a level of the command line has no fault, each argument that has to be there has its value, and N and BUDGET have a number.
-use Rattle.std.proofs.Common.{◌≡◌, ◌∙◌, ℕ, zero, suc, refl, ap, List, [], ◌∷◌, ◌++◌, length, fold, drop, true, false, Bool, if◌then◌else◌, ◌&&◌, Option, Some, None, is_some, chars, encode_utf8, slice_get, find, codes, option_and_then, option_map, subst, ◌⊎◌, inl, inr}
+use Rattle.std.proofs.Common.{◌≡◌, ℕ, zero, suc, refl, List, [], ◌∷◌, ◌++◌, length, fold, drop, true, false, Bool, if◌then◌else◌, ◌&&◌, Option, Some, None, is_some, chars, encode_utf8, slice_get, find, codes, option_and_then, option_map, subst, ◌⊎◌, inl, inr}
 use Rattle.std.specs.List.{list_all}
 use Rattle.std.specs.Option.{option_map_or}
 use Rattle.std.specs.Str.{bytes_eq}

@@ -1,23 +1,9 @@
 -- A word that is no option.
-use Rattle.std.proofs.Common.{◌≡◌, ◌∙◌, ℕ, refl, sym, ap, ap₂, List, [], ◌∷◌, fold, find, codes, true, false, Bool, if◌then◌else◌, ◌==◌, Option, Some, None, is_some, option_map, option_and_then, pos, unwrap_or}
-use Rattle.std.specs.List.{All}
-use Rattle.std.specs.Option.{option_map_or}
+use Rattle.std.proofs.Common.{◌≡◌, ◌∙◌, refl, sym, ap, [], ◌∷◌, codes, true, false, Bool, if◌then◌else◌, ◌==◌, Some, None, option_and_then}
 use Rattle.std.specs.Str.{bytes_eq}
-use Rattle.std.proofs.lemmas.List.Elements.{All-from_recursion}
 use Rattle.std.proofs.lemmas.Slice.Eq.{bytes_eq-Decides}
-use Rattle.clap.specs.Lexer.{long_of, long_of_rest, short_of, short_of_rest, strip_byte, without_minus}
-use Rattle.clap.specs.Walk.{Held, Walk, Step, walk_from, nothing_held, Row, Rule, Text, Names, answers_to, walked, idle, option, value, plain_word, finished, settled, reading_by, word_met, to_positional, arg_by_index, after_step}
-use Rattle.clap.specs.Kinds.{Kinds, or_else}
-use Rattle.clap.specs.Faults.{fault_of, walk_fault, settle_fault, defaults_fault, check_fault, entered_fault, level_fault, turn_fault, step_fault}
-use Rattle.clap.specs.Simple.{App, Shape, entered, help_rule, label_of, rows_at, subcommand_of, with_rule}
-use Rattle.clap.specs.declared.builder.action.ArgAction.TheVariants.{Set}
-use Rattle.clap.specs.declared.builder.value_parser.ValueParser.{ValueParser}
-use Rattle.clap.specs.declared.builder.value_parser.ValueParser.TheVariants as parser
-use Rattle.clap.specs.declared.error.kind.ErrorKind.TheVariants as kind
-use Rattle.clap.specs.declared.parser.matches.ValueSource.TheVariants.{CommandLine}
-use Rattle.clap.proofs.FaultLemmas.{stopped_fault}
-use Rattle.clap.proofs.WalkLemmas.{walk_stopped}
-use Rattle.clap.proofs.OnLiterals.{clap_on_literals}
+use Rattle.clap.specs.Lexer.{long_of, long_of_rest, short_of, short_of_rest, strip_byte}
+use Rattle.clap.specs.Walk.{Text}
 use Rattle.ob_command.specs.CommandLine.{Version, asks_version, clap_request, is_option}
 
 -- it is no such option

@@ -1,23 +1,10 @@
 -- The words behind a command, one after the other, where they have no fault.
-use Rattle.std.proofs.Common.{◌≡◌, ◌∙◌, ℕ, refl, sym, ap, ap₂, List, [], ◌∷◌, fold, find, codes, true, false, Bool, if◌then◌else◌, ◌==◌, Option, Some, None, is_some, option_map, option_and_then, pos, unwrap_or}
-use Rattle.std.specs.List.{All}
-use Rattle.std.specs.Option.{option_map_or}
-use Rattle.std.specs.Str.{bytes_eq}
-use Rattle.std.proofs.lemmas.List.Elements.{All-from_recursion}
-use Rattle.std.proofs.lemmas.Slice.Eq.{bytes_eq-Decides}
-use Rattle.clap.specs.Lexer.{long_of, long_of_rest, short_of, short_of_rest, strip_byte, without_minus}
-use Rattle.clap.specs.Walk.{Held, Walk, Step, walk_from, nothing_held, Row, Rule, Text, Names, answers_to, walked, idle, option, value, plain_word, finished, settled, reading_by, word_met, to_positional, arg_by_index, after_step}
+use Rattle.std.proofs.Common.{◌≡◌, ◌∙◌, ℕ, refl, ap, ap₂, List, [], ◌∷◌, fold, true, false, Bool, if◌then◌else◌, Option, Some, None}
+use Rattle.clap.specs.Walk.{Held, Walk, Step, Row, Text, walked, idle, option, value, plain_word, finished, settled, word_met, to_positional, arg_by_index, after_step}
 use Rattle.clap.specs.Kinds.{Kinds, or_else}
-use Rattle.clap.specs.Faults.{fault_of, walk_fault, settle_fault, defaults_fault, check_fault, entered_fault, level_fault, turn_fault, step_fault}
-use Rattle.clap.specs.Simple.{App, Shape, entered, help_rule, label_of, rows_at, subcommand_of, with_rule}
-use Rattle.clap.specs.declared.builder.action.ArgAction.TheVariants.{Set}
-use Rattle.clap.specs.declared.builder.value_parser.ValueParser.{ValueParser}
-use Rattle.clap.specs.declared.builder.value_parser.ValueParser.TheVariants as parser
+use Rattle.clap.specs.Faults.{walk_fault, settle_fault, defaults_fault, check_fault, turn_fault, step_fault}
+use Rattle.clap.specs.Simple.{Shape}
 use Rattle.clap.specs.declared.error.kind.ErrorKind.TheVariants as kind
-use Rattle.clap.specs.declared.parser.matches.ValueSource.TheVariants.{CommandLine}
-use Rattle.clap.proofs.FaultLemmas.{stopped_fault}
-use Rattle.clap.proofs.WalkLemmas.{walk_stopped}
-use Rattle.clap.proofs.OnLiterals.{clap_on_literals}
 use Rattle.ob_command.specs.CommandLine.{is_option}
 use Rattle.ob_command.proofs.PlainWords.{no_dashes, no_long, no_short}
 
@@ -97,7 +84,6 @@ module _ (s : Shape) (held : List Row) (pending : Option (Text × List Text)) (p
         → after_step s.rules word waits (plain_word s.rules (option id) word here).0 (plain_word s.rules (option id) word here).1 ≡ next
         → (words : List Text) (rows : List Row) → Goes s next words rows → Goes s waits (word ∷ words) rows
     valued word h next is = stepped s waits word (turn_value word h) next (after_value word h ∙ is)
-
 
 -- an option, and behind it its value, which is no option
 pub optioned : (s : Shape) (w : Walk) (flag id v : Text) (held : List Row) (position : ℕ) → turn_fault s [] w flag ≡ []
