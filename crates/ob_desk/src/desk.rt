@@ -14,7 +14,7 @@ use std::alloc::{AllocError, Global};
 use std::marker::Model;
 use std::sync::{Mutex, Wait};
 use wf_coded::CodedEngine;
-use wf_object::{Machine, StepOut};
+use wf_object::{Machine, Seen, StepOut};
 
 /// A floor under a lock, and what it has to be.
 #[derive(Drop)]
@@ -86,6 +86,17 @@ impl<E: CodedEngine> TakeTurn for Desk<E> {
         } else {
             seat.pass();
             Ok(StepOut::Halted)
+        }
+    }
+
+    /// The same turn, whose answer is found on the seat.
+    fn advance<R: Wait>(&self, rt: &R, seat: &mut Seat) -> Result<Seen, NoMemory> {
+        let mut floor = self.floor.lock(rt);
+        if seat.process() < floor.processes() {
+            floor.advance(seat)
+        } else {
+            seat.pass();
+            Ok(Seen::Halted)
         }
     }
 }

@@ -1,8 +1,10 @@
 -- What a seat stands for, and what a turn does to it.
-use Rattle.std.specs.Prelude.{ℕ, ◌+◌, List, [], ◌∷◌, ◌++◌}
+use Rattle.std.specs.Prelude.{◌≡◌, ℕ, ◌+◌, List, [], ◌∷◌, ◌++◌, MatchOption, Option}
 use Rattle.ob_interface.specs.Call.{Reply}
 use Rattle.ob_interface.specs.View.{reply_of}
 use Rattle.wf_history.specs.declared.event.CallId.{CallId}
+use Rattle.wf_object.specs.View.{seen_in}
+use Rattle.wf_object.specs.declared.records.Seen.{Seen}
 use Rattle.wf_table.specs.Object.{Answer, Replies}
 use Rattle.ob_desk_floor.specs.declared.seat.CallAnswer.{CallAnswer}
 
@@ -28,3 +30,13 @@ answers_in _ = []
 -- one turn more, and exactly the step's answer
 abbrev pub seat_after : Answer → Seat → Seat
 seat_after answer s = record { process = s.process; tag = s.tag; turns = s.turns + 1; answers = s.answers ++ answers_in answer }
+
+-- one turn more, with an answer of which so much is seen
+pub record HasTurned (seen : Seen) (before after : Seat) : Type 0 where
+  pub answer : Answer
+  pub shows : seen ≡ seen_in answer
+  pub turned : after ≡ seat_after answer before
+
+-- the last of the answers; none where there is none
+abbrev pub IsLastAnswer : List (CallId × Reply) → Option CallAnswer → Type 0
+IsLastAnswer answers last = MatchOption last (answers ≡ []) (λ a. (earlier : List (CallId × Reply)) × (answers ≡ earlier ++ answered_call a ∷ []))

@@ -10,7 +10,7 @@ use crate::submission::{Submission, copied_call};
 use ob_interface::NoMemory;
 use std::alloc::Global;
 use std::marker::Model;
-use wf_object::{Engine, Machine, NewFault, StepOut, Turns};
+use wf_object::{Engine, Machine, NewFault, Seen, StepOut, Turns};
 use wf_theorems::runs::every_turn;
 
 /// A machine, the calls that were submitted to it before any step, and the turns that each process took.
@@ -36,7 +36,7 @@ impl<E: Engine> Model for Floor<E> {
 impl<E: Engine> Floor<E> {
     ghost use Rattle.ob_desk_floor.specs.Floor.{IsFloor, HasNoTurns, floor_after};
     ghost use Rattle.ob_desk_floor.specs.Seat.{seat_after};
-    ghost use Rattle.wf_object.specs.View.{answer_in};
+    ghost use Rattle.wf_object.specs.View.{answer_in, seen_in};
     ghost use Rattle.wf_table.specs.Object.{answer_of};
     ghost use Rattle.wf_table.specs.Start.{sizes_of};
 
@@ -94,6 +94,26 @@ impl<E: Engine> Floor<E> {
         let out = seat.step(&mut self.machine)?;
         self.counts[process] += 1;
         Ok(out)
+    }
+
+    /// One turn of the seat's process, as `turn` takes it, whose answer, if there is one, is found on the seat.
+    pub fn advance(&mut self, seat: &mut Seat) -> Result<Seen, NoMemory>
+        requires process { seat.old.process < self.old.machine.sizes.processes }
+        requires room { seat.old.turns < 2 ^ 128 - 1 }
+        ensures floor { OnOk result (self.new ≡ floor_after (E.meaning self.old.machine.engine) self.old seat.old.process) }
+        ensures seen { IfOk result (λ seen. seen ≡ seen_in (answer_of (E.meaning self.old.machine.engine) self.old.machine.sizes self.old.machine.state seat.old.process)) }
+        ensures seat { OnOk result (seat.new ≡ seat_after (answer_of (E.meaning self.old.machine.engine) self.old.machine.sizes self.old.machine.state seat.old.process) seat.old) }
+        ensures no_floor { OnErr result (self.new ≡ self.old) }
+        ensures no_seat { OnErr result (seat.new ≡ seat.old) }
+    {
+        let process = seat.process();
+        // These do nothing: the count of the process's turns is in the range of a u128.
+        every_turn::<E>();
+        self.machine.keeps();
+        count_runs(self.machine.schedule());
+        let seen = seat.advance(&mut self.machine)?;
+        self.counts[process] += 1;
+        Ok(seen)
     }
 
     /// The machine: a run of the scripts and of its own schedule brought it where it stands.

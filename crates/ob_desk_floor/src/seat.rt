@@ -1,7 +1,9 @@
 //! What the one who steps a process has in hand.
 
 ghost use Rattle.std.specs.Prelude.{◌≡◌, ◌+◌, ◌-◌, ◌^◌, ◌<◌, ◌≤◌, [], ◌++◌, ◌∷◌, IfOk, OnOk, OnErr, length, map};
+ghost use Rattle.ob_desk_floor.specs.Seat.{answered_call};
 ghost use Rattle.ob_interface.specs.View.{reply_of};
+ghost use Rattle.wf_object.specs.View.{answer_in, seen_in};
 ghost use Rattle.wf_table.specs.Meaning.{values_in};
 
 use ob_interface::NoMemory;
@@ -10,7 +12,7 @@ use smallvec::SmallVec;
 use std::alloc::Global;
 use std::marker::Model;
 use wf_history::CallId;
-use wf_object::{Engine, Machine, StepOut};
+use wf_object::{Engine, Label, Machine, Seen, StepOut};
 
 /// A call that ended, with its reply.
 #[derive(Drop)]
@@ -41,8 +43,8 @@ impl Model for Seat {
 
 impl Seat {
     ghost use Rattle.ob_desk_floor.specs.Floor.{machine_after};
-    ghost use Rattle.ob_desk_floor.specs.Seat.{answered_call, new_seat, seat_after};
-    ghost use Rattle.wf_object.specs.View.{answer_in};
+    ghost use Rattle.ob_desk_floor.specs.Seat.{IsLastAnswer, answered_call, new_seat, seat_after};
+    ghost use Rattle.wf_object.specs.View.{answer_in, seen_in};
     ghost use Rattle.wf_table.specs.Object as Steps;
     ghost use Rattle.wf_table.specs.Schedule.{steps_of};
 
@@ -105,6 +107,52 @@ impl Seat {
         Ok(out)
     }
 
+    /// One step of the seat's process, as `step` takes it, whose answer, if there is one, is found on the seat. No room for an
+    /// answer is made where the step can have none.
+    pub fn advance<E: Engine>(&mut self, machine: &mut Machine<E>) -> Result<Seen, NoMemory>
+        requires process { self.old.process < machine.old.sizes.processes }
+        requires room { self.old.turns < 2 ^ 128 - 1 }
+        ensures machine { OnOk result (machine.new ≡ machine_after (E.meaning machine.old.engine) machine.old self.old.process) }
+        ensures seen { IfOk result (λ seen. seen ≡ seen_in (Steps.answer_of (E.meaning machine.old.engine) machine.old.sizes machine.old.state self.old.process)) }
+        ensures turn { OnOk result (steps_of machine.new.state.records.schedule ≡ steps_of machine.old.state.records.schedule ++ self.old.process ∷ []) }
+        ensures seat { OnOk result (self.new ≡ seat_after (Steps.answer_of (E.meaning machine.old.engine) machine.old.sizes machine.old.state self.old.process) self.old) }
+        ensures no_machine { OnErr result (machine.new ≡ machine.old) }
+        ensures no_seat { OnErr result (self.new ≡ self.old) }
+    {
+        if machine.label(self.process) == Label::Give {
+            return self.take_answer(machine);
+        }
+        let seen = machine.advance(self.process)?;
+        self.turns += 1;
+        Ok(seen)
+    }
+
+    /// A step that may answer.
+    #[inline(never)]
+    fn take_answer<E: Engine>(&mut self, machine: &mut Machine<E>) -> Result<Seen, NoMemory>
+        requires process { self.old.process < machine.old.sizes.processes }
+        requires room { self.old.turns < 2 ^ 128 - 1 }
+        ensures machine { OnOk result (machine.new ≡ machine_after (E.meaning machine.old.engine) machine.old self.old.process) }
+        ensures seen { IfOk result (λ seen. seen ≡ seen_in (Steps.answer_of (E.meaning machine.old.engine) machine.old.sizes machine.old.state self.old.process)) }
+        ensures turn { OnOk result (steps_of machine.new.state.records.schedule ≡ steps_of machine.old.state.records.schedule ++ self.old.process ∷ []) }
+        ensures seat { OnOk result (self.new ≡ seat_after (Steps.answer_of (E.meaning machine.old.engine) machine.old.sizes machine.old.state self.old.process) self.old) }
+        ensures no_machine { OnErr result (machine.new ≡ machine.old) }
+        ensures no_seat { OnErr result (self.new ≡ self.old) }
+    {
+        let out = self.step(machine)?;
+        Ok(seen_of(&out))
+    }
+
+    /// A copy of the last answer; none where there is no answer yet.
+    pub fn last_answer(&self) -> Result<Option<CallAnswer>, NoMemory>
+        ensures { IfOk result (IsLastAnswer self.now.answers) }
+    {
+        match self.answers.as_slice().last() {
+            Some(last) => Ok(Some(copied_answer(self.alloc, last)?)),
+            None => Ok(None),
+        }
+    }
+
     /// A turn that found no process.
     pub fn pass(&mut self)
         requires { self.old.turns < 2 ^ 128 - 1 }
@@ -112,6 +160,32 @@ impl Seat {
     {
         self.turns += 1;
     }
+}
+
+/// What a step showed, without its reply.
+fn seen_of(out: &StepOut) -> Seen
+    ensures { result ≡ seen_in (answer_in out.now) }
+{
+    match out {
+        StepOut::On => Seen::On,
+        StepOut::Began(_) => Seen::Began,
+        StepOut::Answered(_, _) => Seen::Answered,
+        StepOut::Halted => Seen::Halted,
+    }
+}
+
+/// An equal answer.
+fn copied_answer(alloc: Global, answer: &CallAnswer) -> Result<CallAnswer, NoMemory>
+    ensures { IfOk result (λ a. answered_call a ≡ answered_call answer.now) }
+{
+    let reply = match &answer.reply {
+        Reply::Done(values) => Reply::Done(SmallVec::from_slice(alloc, values.as_slice())?),
+        Reply::Trap(number) => Reply::Trap(*number),
+    };
+    Ok(CallAnswer {
+        id: answer.id,
+        reply,
+    })
 }
 
 /// An equal reply. At most 8 values stand in place, so that no memory is taken.

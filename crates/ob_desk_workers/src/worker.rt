@@ -11,7 +11,7 @@ use std::alloc::Global;
 use std::snapshot::Snapshot;
 use std::sync::Wait;
 use std::thread::Promise;
-use wf_object::StepOut;
+use wf_object::Seen;
 
 /// How a worker ended.
 #[derive(Clone, Copy, PartialEq, Eq)]
@@ -131,17 +131,33 @@ fn take_turn<R: Wait, D: TakeTurn, G: Gate>(
     ensures turns { seat.new.turns ≤ seat.old.turns + 1 }
     ensures passed { result ≢ Some Ended.Refused }
 {
-    match desk.turn(rt, seat) {
+    match desk.advance(rt, seat) {
         Err(_) => Some(Ended::NoMemory),
-        Ok(StepOut::Halted) => Some(Ended::Done),
-        Ok(StepOut::Answered(id, reply)) => {
-            gate.answered(id.process, id.number);
-            if answers.send(rt, CallAnswer { id, reply }).is_err() {
-                Some(Ended::NoMemory)
-            } else {
-                None
-            }
-        }
+        Ok(Seen::Halted) => Some(Ended::Done),
+        Ok(Seen::Answered) => tell_answer(rt, gate, seat, answers),
         Ok(_) => None,
     }
+}
+
+/// The seat's last answer is told to the gate and sent. Answers how the worker ends, if it does.
+#[inline(never)]
+fn tell_answer<R: Wait, G: Gate>(
+    rt: &R,
+    gate: &G,
+    seat: &Seat,
+    answers: &Sender<CallAnswer, Global>,
+) -> Option<Ended>
+    ensures { result ≢ Some Ended.Refused }
+{
+    let Ok(last) = seat.last_answer() else {
+        return Some(Ended::NoMemory);
+    };
+    let Some(answer) = last else {
+        return None;
+    };
+    gate.answered(answer.id.process, answer.id.number);
+    if answers.send(rt, answer).is_err() {
+        return Some(Ended::NoMemory);
+    }
+    None
 }
