@@ -1,5 +1,5 @@
 -- Steps of one process in a row, as they change the cell, the process and what it has spent, are so many steps of the table.
-use Rattle.std.proofs.Common.{◌≡◌, ℕ, zero, suc, ◌+◌, ◌-◌, ◌^◌, ◌<◌, ◌≤◌, true, List, length, set, get_or, refl, sym, ap, ◌∙◌, arith, subst, inl, inr, get_or-set_same}
+use Rattle.std.proofs.Common.{◌≡◌, ℕ, zero, suc, ◌+◌, ◌-◌, ◌^◌, ◌<◌, ◌≤◌, true, List, length, set, refl, sym, ap, ◌∙◌, arith, subst, inl, inr, get_or-set_same}
 use Rattle.std.specs.Prelude.{ℤ, Some, slice_get}
 use Rattle.std.proofs.lemmas.Bool.{cases_lt}
 use Rattle.std.proofs.lemmas.List.{set-get_or, set-set}
@@ -14,7 +14,7 @@ use Rattle.wf_table.specs.declared.process.Sizes.{Sizes}
 use Rattle.wf_table.specs.declared.schedule.Turns.{Turns}
 use Rattle.wf_table.specs.Meaning.{Meaning}
 use Rattle.wf_table.specs.Law.{Effects, IsLawful}
-use Rattle.wf_table.specs.Ranges.{IsInRange, IsShaped, IsSized}
+use Rattle.wf_table.specs.Ranges.{IsInRange, IsShaped}
 use Rattle.wf_table.specs.Schedule.{counted}
 use Rattle.wf_table.specs.Scripts.{CallsFit}
 use Rattle.wf_table.specs.Table.{Process, cell_after, row}
