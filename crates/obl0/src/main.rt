@@ -88,7 +88,8 @@ fn printed<R: Print + Eprint>(rt: &R, answer: &Answer) -> Result<u8, Refusal>
     // It is refused by standard output alone: what standard error refuses is passed over.
     ensures refusal { IfErr result (λ refusal. refusal ≡ Refusal.Output) }
 {
-    rt.print(answer.out.as_str()).map_err(|_| Refusal::Output)?;
+    rt.write_all(answer.out.as_bytes())
+        .map_err(|_| Refusal::Output)?;
     let _ = rt.eprint(answer.err.as_str());
     Ok(answer.status)
 }

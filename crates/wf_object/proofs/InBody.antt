@@ -1,8 +1,7 @@
 -- Steps of one body in a row are so many steps of the table.
-use Rattle.std.proofs.Common.{◌≡◌, ℕ, zero, suc, ◌+◌, ◌^◌, ◌<◌, ◌≤◌, List, [], ◌∷◌, ◌++◌, length, take, drop, set, get_or, refl, sym, ap, ◌∙◌, arith, subst, get_or-set_same}
+use Rattle.std.proofs.Common.{◌≡◌, ℕ, zero, suc, ◌+◌, ◌<◌, ◌≤◌, List, [], ◌∷◌, ◌++◌, length, take, drop, set, get_or, refl, sym, ap, ◌∙◌, arith, subst, get_or-set_same}
 use Rattle.std.specs.Prelude.{ℤ, Some, slice_get}
 use Rattle.std.proofs.lemmas.List.{length-take-le, set-get_or, set-set, take_all, take-append-drop}
-use Rattle.std.proofs.lemmas.Option.{slice_get_within}
 use Rattle.ll_cell.specs.Cell.{Cell, own_of, refill_own, refilled}
 use Rattle.ob_interface.specs.Call.{ObjectCall}
 use Rattle.wf_table.specs.declared.engine_turn.EngineTurn.{EngineTurn}
@@ -15,7 +14,7 @@ use Rattle.wf_table.specs.Meaning.{Meaning, Turned, after_turn, steps}
 use Rattle.wf_table.specs.Law.{Effects, IsLawful}
 use Rattle.wf_table.specs.Schedule.{counted}
 use Rattle.wf_table.specs.Table.{Process, after_body, cell_after, own_block, row}
-use Rattle.wf_table.specs.Object.{State, Records, event_at, label_by, label_of, noted, step_by, step_of}
+use Rattle.wf_table.specs.Object.{State, event_at, label_by, label_of, noted, step_by, step_of}
 use Rattle.wf_table.proofs.Stuck.{set_same}
 use Rattle.wf_bound.specs.declared.spent.Spent.{Spent}
 use Rattle.wf_bound.specs.Spent.{unspent, spent_after, has_more}
@@ -23,7 +22,7 @@ use Rattle.wf_bound.specs.Counted.{count_by, spent_of}
 use Rattle.wf_help.proofs.Blocks.{take_refilled}
 use Rattle.wf_help.proofs.Bodies.{steps_more}
 use Rattle.wf_object.specs.InARow.{AreInBody, after_steps, spent_after_steps}
-use Rattle.wf_object.specs.InBody.{body_behind, cell_behind, counted_times, process_behind}
+use Rattle.wf_object.specs.InBody.{body_behind, counted_times}
 use Rattle.wf_object.proofs.Counting.{written_there}
 
 -- ---- blocks that are written again

@@ -9,3 +9,4 @@ mod Counting
 mod InARow
 mod InBody
 mod Staying
+mod Progressing

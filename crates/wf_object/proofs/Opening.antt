@@ -1,6 +1,5 @@
 -- A new cell has room for the opening in the block of process 0.
 use Rattle.std.proofs.Common.{◌≡◌, ℕ, ◌+◌, ◌<◌, length, replicate, [], ap, ◌∙◌, arith, pos}
-use Rattle.std.specs.Prelude.{ℤ}
 use Rattle.std.proofs.lemmas.List.{get_or-replicate, length-replicate}
 use Rattle.std.proofs.lemmas.List.FromFn.{get_or-range_with_len}
 use Rattle.ll_cell.specs.Cell.{fresh, own_of, block_of}

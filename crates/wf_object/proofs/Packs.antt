@@ -1,5 +1,5 @@
 -- The words that a step writes where toggles are kept as bits.
-use Rattle.std.proofs.Common.{◌≡◌, ℕ, ◌+◌, ◌-◌, ◌*◌, ◌<◌, Bool, true, false, cond, arith, sym, subst, refl, inl, inr, int_eq}
+use Rattle.std.proofs.Common.{◌≡◌, ℕ, ◌+◌, ◌*◌, ◌<◌, Bool, true, false, cond, arith, refl, inl, inr, int_eq}
 use Rattle.std.specs.Prelude.{ℤ, pos, nat_eq}
 use Rattle.std.proofs.lemmas.Bool.Decides.{nat_tests}
 use Rattle.std.proofs.lemmas.Nat.{same_from_place}

@@ -26,10 +26,10 @@ use Rattle.wf_bound.proofs.Runs.{step_stays, within_bound}
 use Rattle.wf_bound.proofs.Sums.{bound_few}
 
 -- a step is one step in a body at most
-inside_more : (l : Label) (begins : Bool) (x : Spent) → (spent_after l begins x).inside ≤ x.inside + 1
-inside_more Next true x = omega arith
-inside_more Next false x = omega arith
-inside_more l begins x = omega arith
+pub one_inside_more : (l : Label) (begins : Bool) (x : Spent) → (spent_after l begins x).inside ≤ x.inside + 1
+one_inside_more Next true x = omega arith
+one_inside_more Next false x = omega arith
+one_inside_more l begins x = omega arith
 
 -- so many turns have fewer steps than 2^64 each
 few_steps : (n : ℕ) (ts : List Turns) → All (AreTurns n) ts → length (steps_of ts) ≤ (2 ^ 64 - 1) * length ts
@@ -64,5 +64,5 @@ module _ {Run : Type 0} (m : Meaning Run) (z : Sizes) where
     among_stay same h =
         let longer : length (steps_of (counted s.records.schedule p)) ≡ length (steps_of s.records.schedule) + 1 = ap length (one_turn s.records.schedule p) ∙ length_push (steps_of s.records.schedule) p in
         each_after (λ k _. (spent_of xs k).inside ≤ length (steps_of s.records.schedule)) (λ k _. (spent_of (set xs p later) k).inside ≤ length (steps_of (counted s.records.schedule p))) s.processes p _ h
-        (omega (arith, longer, h p q at, inside_more q.label (has_more q) (spent_of xs p), ap (λ (x : Spent). x.inside) (get_or-set_same xs p later unspent (omega (arith, same, slice_get_within s.processes p q at)))))
+        (omega (arith, longer, h p q at, one_inside_more q.label (has_more q) (spent_of xs p), ap (λ (x : Spent). x.inside) (get_or-set_same xs p later unspent (omega (arith, same, slice_get_within s.processes p q at)))))
         (λ k o apart old. omega (arith, longer, old, ap (λ (x : Spent). x.inside) (get_or-set_other xs p k later unspent apart)))

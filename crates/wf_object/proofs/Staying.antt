@@ -1,7 +1,6 @@
 -- Steps of one body in a row, as a machine takes them.
-use Rattle.std.proofs.Common.{◌≡◌, ℕ, ◌+◌, ◌-◌, ◌*◌, ◌^◌, ◌<◌, ◌≤◌, List, length, set, ap, ◌∙◌, arith, subst}
+use Rattle.std.proofs.Common.{◌≡◌, ℕ, ◌<◌, ◌≤◌, List, length, set, arith, subst}
 use Rattle.std.specs.Prelude.{ℤ, Some, slice_get}
-use Rattle.std.specs.List.{All}
 use Rattle.std.proofs.lemmas.Option.{slice_get_within}
 use Rattle.ll_cell.specs.Cell.{own_of}
 use Rattle.ll_cell.specs.declared.form.Form.{Form}
@@ -9,10 +8,8 @@ use Rattle.ob_interface.specs.Call.{ObjectCall}
 use Rattle.wf_table.specs.declared.engine_turn.EngineTurn.TheVariants.{On}
 use Rattle.wf_table.specs.declared.process.Label.TheVariants.{Body}
 use Rattle.wf_table.specs.declared.process.Sizes.{Sizes}
-use Rattle.wf_table.specs.declared.schedule.Turns.{Turns}
 use Rattle.wf_table.specs.Meaning.{Meaning}
 use Rattle.wf_table.specs.Law.{Effects, IsLawful}
-use Rattle.wf_table.specs.Schedule.{AreTurns, steps_of}
 use Rattle.wf_table.specs.Table.{Process, own_block}
 use Rattle.wf_table.specs.Object.{State}
 use Rattle.wf_bound.specs.declared.spent.Spent.{Spent}

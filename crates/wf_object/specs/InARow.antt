@@ -1,11 +1,12 @@
 -- Steps of one process in a row.
-use Rattle.std.specs.Prelude.{◌≡◌, ℕ, zero, suc, ◌<◌, List}
+use Rattle.std.specs.Prelude.{◌≡◌, ℕ, zero, suc, ◌<◌, List, true}
 use Rattle.wf_table.specs.declared.process.Label.TheVariants.{Body}
 use Rattle.wf_table.specs.declared.process.Sizes.{Sizes}
 use Rattle.wf_table.specs.Meaning.{Meaning}
 use Rattle.wf_table.specs.Object.{State, label_of, step_of}
 use Rattle.wf_bound.specs.declared.spent.Spent.{Spent}
 use Rattle.wf_bound.specs.Counted.{spent_by_step}
+use Rattle.wf_object.specs.Quiet.{is_quiet}
 use Rattle.wf_object.specs.View.{Object}
 
 module _ {Run : Type 0} (m : Meaning Run) (z : Sizes) where
@@ -22,6 +23,10 @@ module _ {Run : Type 0} (m : Meaning Run) (z : Sizes) where
   -- each of them is one of a body
   abbrev pub AreInBody : ℕ → ℕ → State Run → Type 0
   AreInBody p k s = (j : ℕ) → j < k → label_of (after_steps p j s) p ≡ Body
+
+  -- each of them is one that shows nothing
+  abbrev pub AreQuiet : ℕ → ℕ → State Run → Type 0
+  AreQuiet p k s = (j : ℕ) → j < k → is_quiet (label_of (after_steps p j s) p) ≡ true
 
 -- the object behind so many steps of the process
 abbrev pub object_after : {E Run : Type 0} → Meaning Run → ℕ → ℕ → Object E Run → Object E Run

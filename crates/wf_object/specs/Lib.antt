@@ -5,4 +5,5 @@ pub mod Kept
 pub mod Halted
 pub mod Quiet
 pub mod InARow
+pub mod Progress
 pub mod InBody

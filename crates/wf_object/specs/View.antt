@@ -4,7 +4,6 @@ use Rattle.ob_interface.specs.View.{reply_of}
 use Rattle.wf_object.specs.declared.records.StepOut.{StepOut}
 use Rattle.wf_object.specs.declared.records.StepOut.TheVariants.{On, Began, Answered, Halted}
 use Rattle.wf_object.specs.declared.records.Seen.{Seen}
-use Rattle.wf_object.specs.declared.records.Seen.TheVariants as Seen
 use Rattle.wf_table.specs.declared.process.Sizes.{Sizes}
 use Rattle.wf_table.specs.Object.{State, Answer, GoesOn, Begins, Replies, Halts}
 use Rattle.wf_bound.specs.declared.spent.Spent.{Spent}

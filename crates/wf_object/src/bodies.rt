@@ -26,6 +26,7 @@ fn run_on<E: Engine>(
     requires ready { E.ready engine.now run.old }
     requires block { length block.old ≡ (E.meaning engine.now).variables }
     ensures few { result.0 ≤ most }
+    ensures some { 0 < most → 0 < result.0 }
     ensures on { (j : ℕ) → j < result.0 → (steps (E.meaning engine.now) j run.old block.old).turn ≡ Turn.On }
     ensures turn { result.1 ≡ (steps (E.meaning engine.now) result.0 run.old block.old).turn }
     ensures run { run.new ≡ (steps (E.meaning engine.now) result.0 run.old block.old).run }
@@ -55,6 +56,7 @@ fn run_on_own<E: Engine>(
     requires variables { z.variables ≡ (E.meaning engine.now).variables }
     requires ready { E.ready engine.now run.old }
     ensures few { result.0 ≤ most }
+    ensures some { 0 < most → 0 < result.0 }
     ensures on { (j : ℕ) → j < result.0 → (steps (E.meaning engine.now) j run.old (take z.variables (own_block shared.old.cell p))).turn ≡ Turn.On }
     ensures cell { shared.new.cell ≡ refill_own shared.old.cell p (steps (E.meaning engine.now) result.0 run.old (take z.variables (own_block shared.old.cell p))).block }
     ensures form { shared.new.form ≡ shared.old.form }
@@ -67,6 +69,7 @@ fn run_on_own<E: Engine>(
 
 /// Steps of the body in which the process stands, at most so many, up to the first behind which it doesn't go on; and how many
 /// they are.
+#[inline(always)]
 pub fn stay<E: Engine>(
     engine: &E,
     z: Sizes,
@@ -81,6 +84,7 @@ pub fn stay<E: Engine>(
     requires variables { z.variables ≡ (E.meaning engine.now).variables }
     requires ready { E.ready engine.now q.old.run }
     ensures few { result ≤ most }
+    ensures some { 0 < most → 0 < result }
     ensures on { (j : ℕ) → j < result → (body_behind (E.meaning engine.now) z shared.old.cell p q.old j).turn ≡ Turn.On }
     ensures cell { shared.new.cell ≡ cell_behind (E.meaning engine.now) z shared.old.cell p q.old result }
     ensures form { shared.new.form ≡ shared.old.form }

@@ -8,6 +8,7 @@ pub mod fault;
 pub mod machine;
 mod process;
 mod records;
+mod rows;
 mod seen;
 mod spent;
 mod start;

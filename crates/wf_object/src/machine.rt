@@ -7,7 +7,7 @@ ghost use Rattle.wf_object.specs.Packed.{packed};
 ghost use Rattle.ob_interface.specs.View.{call_of};
 ghost use Rattle.wf_object.specs.declared.fault.NewFault.TheVariants as Faults;
 ghost use Rattle.wf_object.specs.View.{answer_in, seen_in};
-ghost use Rattle.wf_object.specs.InARow.{AreInBody, object_after};
+ghost use Rattle.wf_object.specs.InARow.{AreInBody, AreQuiet, object_after};
 ghost use Rattle.wf_object.specs.Quiet.{is_quiet};
 ghost use Rattle.wf_table.specs.declared.process.Label.TheVariants as Labels;
 
@@ -16,6 +16,7 @@ use crate::engine::Engine;
 use crate::fault::NewFault;
 use crate::process::Process;
 use crate::records::{Records, Seen, StepOut};
+use crate::rows::take_rows;
 use crate::seen::{is_quiet, note_step};
 use crate::spent::{bound_of, count_inside, count_step};
 use crate::start::{idle, opened};
@@ -239,6 +240,32 @@ impl<E: Engine> Machine<E> {
             p,
         );
         Ok(())
+    }
+
+    /// Steps of the process that show nothing, each as `advance` takes it, and how many they are: at most so many, none where the last
+    /// turn was another process's, and none at FLIP. They take no memory.
+    pub fn go_on(&mut self, p: usize, most: u64) -> u64
+        requires { p < self.old.sizes.processes }
+        ensures stepped { self.new ≡ object_after (E.meaning self.old.engine) p result self.old }
+        ensures few { result ≤ most }
+        ensures quiet { AreQuiet (E.meaning self.old.engine) self.old.sizes p result self.old.state }
+        ensures turns { steps_of self.new.state.records.schedule ≡ steps_of self.old.state.records.schedule ++ replicate result p }
+    {
+        self.records.few_turns();
+        let room = self.records.room(p, most);
+        let process = &mut self.processes[p];
+        let spent = &mut self.spent[p];
+        let count = take_rows(
+            &self.engine,
+            self.sizes,
+            &mut self.shared,
+            process,
+            spent,
+            p,
+            room,
+        );
+        self.records.count_more(p, count);
+        count
     }
 
     /// Steps of the process in the body in which it stands, each as `advance` takes it, and how many they are: at most so many, and

@@ -9,7 +9,7 @@ ghost use Rattle.wf_table.specs.Ranges.{IsSized, IsShaped, IsInRange};
 ghost use Rattle.wf_table.specs.Scripts.{CallsFit};
 ghost use Rattle.wf_table.specs.Object.{event_at, ended, began, applied, applied_ids, begun_of, history_after, noted, answer_by};
 ghost use Rattle.wf_object.specs.View.{answer_in};
-ghost use Rattle.wf_object.specs.Quiet.{is_quiet};
+ghost use Rattle.wf_object.specs.Quiet.{is_quiet, is_unmarked};
 ghost use Rattle.wf_history.specs.History.{IsHistory};
 
 use crate::copies::{copy_call, copy_reply};
@@ -29,6 +29,17 @@ pub fn is_quiet(label: Label) -> bool
     ensures { result ≡ is_quiet label }
 {
     !matches!(label, Label::Next | Label::Commit | Label::Give)
+}
+
+/// Whether nothing but its turn is noted of a step at the label.
+#[inline(always)]
+pub fn is_unmarked(label: Label) -> bool
+    ensures { result ≡ is_unmarked label }
+{
+    !matches!(
+        label,
+        Label::Next | Label::Flip | Label::Commit | Label::Give
+    )
 }
 
 /// Notes what a step of the process shows, and answers it. Nothing changes where memory runs out.

@@ -9,13 +9,14 @@ use Rattle.ob_schedule.specs.Schedule.{process_of}
 use Rattle.wf_object.specs.Halted.{is_halted, is_halted_by}
 use Rattle.wf_object.specs.View.{Object}
 use Rattle.wf_play.specs.Played.{IsSameObject}
-use Rattle.wf_object.specs.InARow.{AreInBody, after_steps}
+use Rattle.wf_object.specs.InARow.{AreInBody, AreQuiet, after_steps}
+use Rattle.wf_object.specs.Quiet.{is_quiet}
 use Rattle.wf_play.specs.ItemSteps.{EndsWithAnswer, IsAtEnd, IsBeyond, IsItemPlayed, IsItemRun, IsReply}
 use Rattle.wf_object.specs.View.{seen_in}
 use Rattle.wf_object.specs.declared.records.Seen.{Seen}
 use Rattle.wf_object.specs.declared.records.Seen.TheVariants as Shows
 use Rattle.wf_table.specs.declared.process.Label.{Label}
-use Rattle.wf_table.specs.declared.process.Label.TheVariants.{Next, Body}
+use Rattle.wf_table.specs.declared.process.Label.TheVariants.{Next, Body, Commit, Give}
 use Rattle.wf_table.specs.declared.process.Sizes.{Sizes}
 use Rattle.wf_table.specs.Meaning.{Meaning}
 use Rattle.wf_bound.specs.declared.spent.Spent.{Spent}
@@ -80,7 +81,7 @@ module _ {Run : Type 0} (m : Meaning Run) (z : Sizes) where
         turns = turns ∙ ap (λ (i : ℕ). steps_of s.records.schedule ++ replicate i p) more;
       }
 
-  -- ---- steps within a body
+  -- ---- steps that show nothing
 
   steps_join : (p k j : ℕ) (s : State Run) → after_steps m z p j (after_steps m z p k s) ≡ after_steps m z p (k + j) s
   steps_join p k zero s = let none : k ≡ k + 0 = omega arith in ap (λ (i : ℕ). after_steps m z p i s) none
@@ -92,32 +93,46 @@ module _ {Run : Type 0} (m : Meaning Run) (z : Sizes) where
   pub more_behind : (p k j : ℕ) (s t u v : State Run) → t ≡ after_steps m z p k s → u ≡ step_of m z t p → v ≡ after_steps m z p j u → v ≡ after_steps m z p (k + 1 + j) s
   more_behind p k j s t u v leads step steps = steps ∙ ap (after_steps m z p j) (one_more p k s t u leads step) ∙ steps_join p (k + 1) j s
 
-  -- in a body a process is not halted
-  not_halted_by : (o : Option (Process Run)) → label_by o ≡ Body → is_halted_by o ≡ true → ⊥
+  -- a process is not halted at a label that shows nothing
+  not_next : (l : Label) → is_quiet l ≡ true → at_next l ≡ false
+  not_next Next is = absurd (cc)
+  not_next _ is = refl
+
+  not_halted_by : (o : Option (Process Run)) → is_quiet (label_by o) ≡ true → is_halted_by o ≡ true → ⊥
   not_halted_by None is halted = absurd (cc)
   not_halted_by (Some q) is halted =
-      let no : at_next q.label ≡ false = ap at_next is in
+      let no : at_next q.label ≡ false = not_next q.label is in
       let both : false ≡ true = sym (ap (λ (b : Bool). b && not (has_more q)) no) ∙ halted in
       absurd (cc)
 
   -- nor does it answer
-  no_reply_by : (t : State Run) (p : ℕ) (o : Option (Process Run)) → label_by o ≡ Body → IsReply (answer_by (label_by o) (seen_by m z t.cell t.processes p o)) → ⊥
-  no_reply_by t p None is reply = absurd (cc)
-  no_reply_by t p (Some q) is reply = subst (λ (l : Label). IsReply (answer_by l (event_at l m z t.cell t.processes p q))) is reply
+  no_reply_at : (l : Label) (t : State Run) (p : ℕ) (q : Process Run) → is_quiet l ≡ true → IsReply (answer_by l (event_at l m z t.cell t.processes p q)) → ⊥
+  no_reply_at Next t p q is reply = absurd (cc)
+  no_reply_at Commit t p q is reply = absurd (cc)
+  no_reply_at Give t p q is reply = absurd (cc)
+  no_reply_at _ t p q is reply = reply
 
-  module _ (p k j : ℕ) (s u : State Run) (leads : u ≡ after_steps m z p (k + 1) s) (inside : AreInBody m z p j u) where
+  no_reply_by : (t : State Run) (p : ℕ) (o : Option (Process Run)) → is_quiet (label_by o) ≡ true → IsReply (answer_by (label_by o) (seen_by m z t.cell t.processes p o)) → ⊥
+  no_reply_by t p None is reply = absurd (cc)
+  no_reply_by t p (Some q) is reply = no_reply_at q.label t p q is reply
+
+  -- steps within a body show nothing
+  pub quiet_inside : (p j : ℕ) (u : State Run) → AreInBody m z p j u → AreQuiet m z p j u
+  quiet_inside p j u inside i lt = ap is_quiet (inside i lt)
+
+  module _ (p k j : ℕ) (s u : State Run) (leads : u ≡ after_steps m z p (k + 1) s) (quiet : AreQuiet m z p j u) where
     state_in : (d : ℕ) → after_steps m z p (k + 1 + d) s ≡ after_steps m z p d u
     state_in d = sym (steps_join p (k + 1) d s) ∙ ap (after_steps m z p d) (sym leads)
 
-    label_in : (d : ℕ) → d < j → label_of (after_steps m z p (k + 1 + d) s) p ≡ Body
-    label_in d lt = ap (λ (t : State Run). label_of t p) (state_in d) ∙ inside d lt
+    quiet_in : (d : ℕ) → d < j → is_quiet (label_of (after_steps m z p (k + 1 + d) s) p) ≡ true
+    quiet_in d lt = ap (λ (t : State Run). is_quiet (label_of t p)) (state_in d) ∙ quiet d lt
 
     halted_nowhere : (d : ℕ) → d < j → is_halted (after_steps m z p (k + 1 + d) s) p ≡ true → ⊥
-    halted_nowhere d lt halted = not_halted_by (slice_get (after_steps m z p (k + 1 + d) s).processes p) (label_in d lt) halted
+    halted_nowhere d lt halted = not_halted_by (slice_get (after_steps m z p (k + 1 + d) s).processes p) (quiet_in d lt) halted
 
     -- p:LABEL does not end in a body, where the label is another one
-    pub elsewhere : (label : Label) → (0 < j → label ≡ Body → ⊥) → ((i : ℕ) → i < k + 1 → IsAtEnd m z (Items.Until p label) i s → ⊥) → (i : ℕ) → i < k + 1 + j → IsAtEnd m z (Items.Until p label) i s → ⊥
-    elsewhere label other below i lt at = elim (cases_lt i (k + 1)) [
+    pub elsewhere : AreInBody m z p j u → (label : Label) → (0 < j → label ≡ Body → ⊥) → ((i : ℕ) → i < k + 1 → IsAtEnd m z (Items.Until p label) i s → ⊥) → (i : ℕ) → i < k + 1 + j → IsAtEnd m z (Items.Until p label) i s → ⊥
+    elsewhere inside label other below i lt at = elim (cases_lt i (k + 1)) [
       | inl less ↦ below i less at
       | inr more ↦
           let d : ℕ = i - (k + 1) in
@@ -125,19 +140,19 @@ module _ {Run : Type 0} (m : Meaning Run) (z : Sizes) where
           let in_body : d < j = omega (arith, more, lt) in
           let here = subst (λ (n : ℕ). IsAtEnd m z (Items.Until p label) n s) is at in
           elim here [
-            | inl there ↦ other (omega (arith, in_body)) (sym there ∙ label_in d in_body)
+            | inl there ↦ other (omega (arith, in_body)) (sym there ∙ ap (λ (t : State Run). label_of t p) (state_in d) ∙ inside d in_body)
             | inr halts ↦ halted_nowhere d in_body halts
           ]
     ]
 
-    -- no step of a body answers
+    -- none of them answers
     pub still_silent : (d : ℕ) → d ≤ j → (EndsWithAnswer m z p (k + 1) s → ⊥) → EndsWithAnswer m z p (k + 1 + d) s → ⊥
     still_silent zero le first ends = let none : k + 1 + 0 ≡ k + 1 = omega arith in first (subst (λ (n : ℕ). EndsWithAnswer m z p n s) none ends)
     still_silent (suc d) le first ends =
         let more : k + 1 + suc d ≡ suc (k + 1 + d) = omega arith in
         let here : EndsWithAnswer m z p (suc (k + 1 + d)) s = subst (λ (n : ℕ). EndsWithAnswer m z p n s) more ends in
         let t = after_steps m z p (k + 1 + d) s in
-        no_reply_by t p (slice_get t.processes p) (label_in d (omega (arith, le))) here
+        no_reply_by t p (slice_get t.processes p) (quiet_in d (omega (arith, le))) here
 
     -- nor does p! end there
     pub unanswered : (EndsWithAnswer m z p (k + 1) s → ⊥) → ((i : ℕ) → i < k + 1 → IsAtEnd m z (Items.ToAnswer p) i s → ⊥) → (i : ℕ) → i < k + 1 + j → IsAtEnd m z (Items.ToAnswer p) i s → ⊥
@@ -208,6 +223,10 @@ same_steps {E} meaning a b s p j same e = e ∙ ap (λ (x : E). after_steps (mea
 pub same_inside : {E Run : Type 0} (meaning : E → Meaning Run) (a b : Object E Run) (p j : ℕ) → IsSameObject b a → AreInBody (meaning b.engine) b.sizes p j b.state → AreInBody (meaning a.engine) a.sizes p j b.state
 same_inside {E} meaning a b p j same h =
     subst (λ (z : Sizes). AreInBody (meaning a.engine) z p j b.state) same.sizes (subst (λ (x : E). AreInBody (meaning x) b.sizes p j b.state) same.engine h)
+
+pub same_quiet : {E Run : Type 0} (meaning : E → Meaning Run) (a b : Object E Run) (p j : ℕ) → IsSameObject b a → AreQuiet (meaning b.engine) b.sizes p j b.state → AreQuiet (meaning a.engine) a.sizes p j b.state
+same_quiet {E} meaning a b p j same h =
+    subst (λ (z : Sizes). AreQuiet (meaning a.engine) z p j b.state) same.sizes (subst (λ (x : E). AreQuiet (meaning x) b.sizes p j b.state) same.engine h)
 
 -- a state of its own, and what is spent, make no other object
 pub still_same : {E Run : Type 0} (a b o : Object E Run) (s : State Run) (xs : List Spent) → b ≡ record a { state = s; spent = xs } → IsSameObject a o → IsSameObject b o

@@ -6,16 +6,17 @@ use Rattle.std.proofs.lemmas.List.{replicate-append-replicate}
 use Rattle.ob_interface.specs.Call.{ObjectCall, Reply}
 use Rattle.wf_history.proofs.Positions.{place_push, take_next}
 use Rattle.wf_history.specs.History.{Event}
-use Rattle.wf_object.specs.InARow.{AreInBody, after_steps}
+use Rattle.wf_object.specs.InARow.{AreQuiet, after_steps}
+use Rattle.wf_object.specs.Quiet.{is_quiet}
 use Rattle.wf_object.specs.View.{Object}
 use Rattle.wf_play.specs.Played.{IsSameObject}
-use Rattle.wf_play.proofs.Ends.{same_inside, same_steps}
+use Rattle.wf_play.proofs.Ends.{same_quiet, same_steps}
 use Rattle.wf_play.proofs.Items.{step_first, steps_run}
 use Rattle.wf_play.proofs.Plays.{submitted_records}
 use Rattle.wf_table.specs.Start.{IsStart, sizes_of}
 use Rattle.wf_play.specs.Makers.{AreMakers, AreMakersOf, Shows, maker_at, makers_in}
 use Rattle.wf_table.specs.declared.process.Label.{Label}
-use Rattle.wf_table.specs.declared.process.Label.TheVariants.{Body}
+use Rattle.wf_table.specs.declared.process.Label.TheVariants.{Next, Commit, Give}
 use Rattle.wf_table.specs.declared.process.Sizes.{Sizes}
 use Rattle.wf_table.specs.declared.schedule.Turns.{Turns}
 use Rattle.wf_table.specs.Meaning.{Meaning}
@@ -62,22 +63,28 @@ module _ {Run : Type 0} (m : Meaning Run) (z : Sizes) where
       next ∙ ap (λ (xs : List ℕ). xs ++ makers_in m z qs t) so_far ∙ append_assoc before (makers_in m z ps s) (makers_in m z qs t)
       ∙ ap (λ (v : State Run). before ++ (makers_in m z ps s ++ makers_in m z qs v)) at ∙ ap (λ (xs : List ℕ). before ++ xs) (sym (makers_more ps qs s))
 
-  -- steps within a body show nothing
-  same_history : (s : State Run) (p : ℕ) (o : Option (Process Run)) → label_by o ≡ Body → (step_by m z s p o).records.history ≡ s.records.history
-  same_history s p None is = refl
-  same_history s p (Some q) is = ap (λ (l : Label). history_after s.records.history (event_at l m z s.cell s.processes p q)) is
+  -- quiet steps show nothing
+  no_event : (l : Label) (s : State Run) (p : ℕ) (q : Process Run) → is_quiet l ≡ true → event_at l m z s.cell s.processes p q ≡ None
+  no_event Next s p q is = absurd (cc)
+  no_event Commit s p q is = absurd (cc)
+  no_event Give s p q is = absurd (cc)
+  no_event _ s p q is = refl
 
-  no_maker : (s : State Run) (p : ℕ) → label_of s p ≡ Body → maker_at m z s p ≡ []
+  same_history : (s : State Run) (p : ℕ) (o : Option (Process Run)) → is_quiet (label_by o) ≡ true → (step_by m z s p o).records.history ≡ s.records.history
+  same_history s p None is = refl
+  same_history s p (Some q) is = ap (history_after s.records.history) (no_event q.label s p q is)
+
+  no_maker : (s : State Run) (p : ℕ) → is_quiet (label_of s p) ≡ true → maker_at m z s p ≡ []
   no_maker s p is =
       let same : length (step_of m z s p).records.history ≡ length s.records.history = ap length (same_history s p (slice_get s.processes p) is) in
       let test : nat_lt (length s.records.history) (length (step_of m z s p).records.history) ≡ false = grind (arith, nat_tests, same) in
       ap (λ (b : Bool). cond b (p ∷ []) []) test
 
-  no_makers : (j : ℕ) (s : State Run) (p : ℕ) → AreInBody m z p j s → makers_in m z (replicate j p) s ≡ []
-  no_makers zero s p inside = refl
-  no_makers (suc j) s p inside =
-      ap (λ (xs : List ℕ). xs ++ makers_in m z (replicate j p) (step_of m z s p)) (no_maker s p (inside 0 (omega arith)))
-      ∙ no_makers j (step_of m z s p) p (λ i lt. ap (λ (t : State Run). label_of t p) (step_first m z p i s) ∙ inside (suc i) (omega (arith, lt)))
+  no_makers : (j : ℕ) (s : State Run) (p : ℕ) → AreQuiet m z p j s → makers_in m z (replicate j p) s ≡ []
+  no_makers zero s p quiet = refl
+  no_makers (suc j) s p quiet =
+      ap (λ (xs : List ℕ). xs ++ makers_in m z (replicate j p) (step_of m z s p)) (no_maker s p (quiet 0 (omega arith)))
+      ∙ no_makers j (step_of m z s p) p (λ i lt. ap (λ (t : State Run). is_quiet (label_of t p)) (step_first m z p i s) ∙ quiet (suc i) (omega (arith, lt)))
 
   as_run : (p j : ℕ) (s : State Run) → after_steps m z p j s ≡ run m z (turns (replicate j p)) s
   as_run p j s = sym (ap (λ (ps : List ℕ). run m z (turns ps) s) (sym (append-nil (replicate j p))) ∙ steps_run m z p j [] s)
@@ -158,16 +165,16 @@ module _ {E Run : Type 0} (meaning : E → Meaning Run) where
         makers_next m z (replicate k p) p a.state b.state before now later state so_far maker ∙ ap (λ (ps : List ℕ). before ++ makers_in m z ps a.state) longer,
       )
 
-  -- more turns of it within a body
-  pub turns_inside : (a b d : Object E Run) (p k j : ℕ) (before now : List ℕ) → IsSameObject b a → b.state ≡ run (meaning a.engine) a.sizes (turns (replicate k p)) a.state → now ≡ before ++ makers_in (meaning a.engine) a.sizes (replicate k p) a.state →
-      IsSameObject d b → d.state ≡ after_steps (meaning b.engine) b.sizes p j b.state → AreInBody (meaning b.engine) b.sizes p j b.state →
+  -- more turns of it that show nothing
+  pub turns_quiet : (a b d : Object E Run) (p k j : ℕ) (before now : List ℕ) → IsSameObject b a → b.state ≡ run (meaning a.engine) a.sizes (turns (replicate k p)) a.state → now ≡ before ++ makers_in (meaning a.engine) a.sizes (replicate k p) a.state →
+      IsSameObject d b → d.state ≡ after_steps (meaning b.engine) b.sizes p j b.state → AreQuiet (meaning b.engine) b.sizes p j b.state →
       IsSameObject d a × (d.state ≡ run (meaning a.engine) a.sizes (turns (replicate (k + j) p)) a.state) × (now ≡ before ++ makers_in (meaning a.engine) a.sizes (replicate (k + j) p) a.state)
-  turns_inside a b d p k j before now same state so_far next steps inside =
+  turns_quiet a b d p k j before now same state so_far next steps quiet =
       let m = meaning a.engine in
       let z = a.sizes in
       let longer : replicate k p ++ replicate j p ≡ replicate (k + j) p = replicate-append-replicate k j p in
       let stepped : d.state ≡ run m z (turns (replicate j p)) b.state = same_steps meaning a b d.state p j same steps ∙ as_run m z p j b.state in
-      let none : makers_in m z (replicate j p) b.state ≡ [] = no_makers m z j b.state p (same_inside meaning a b p j same inside) in
+      let none : makers_in m z (replicate j p) b.state ≡ [] = no_makers m z j b.state p (same_quiet meaning a b p j same quiet) in
       let made : now ≡ now ++ makers_in m z (replicate j p) b.state = sym (append-nil now) ∙ ap (λ (xs : List ℕ). now ++ xs) (sym none) in (
         same_object a b d same next,
         state_later m z (replicate k p) (replicate j p) a.state b.state d.state state stepped ∙ ap (λ (ps : List ℕ). run m z (turns ps) a.state) longer,

@@ -50,7 +50,7 @@ fn step_times<E: Engine>(
     while taken < count {
         machine.advance(p)?;
         taken += 1;
-        taken += machine.stay_in_body(p, count - taken);
+        taken += machine.go_on(p, count - taken);
     }
     Ok(true)
 }
@@ -121,7 +121,7 @@ fn step_to_answer<E: Engine>(
             return Ok(true);
         }
         taken += 1;
-        taken += machine.stay_in_body(p, limit - taken);
+        taken += machine.go_on(p, limit - taken);
     }
     Ok(machine.is_halted(p))
 }

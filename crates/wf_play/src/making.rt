@@ -71,7 +71,7 @@ fn take_turns<E: Engine>(
     while taken < count {
         take_turn(machine, p, makers)?;
         taken += 1;
-        taken += machine.stay_in_body(p, count - taken);
+        taken += machine.go_on(p, count - taken);
     }
     Ok(())
 }

@@ -2,7 +2,7 @@ use Rattle.std.proofs.Common.{rules, ap, arith}
 use Rattle.ob_schedule.specs.declared.item.Item.TheVariants as Items
 use Rattle.wf_table.specs.Object.{answer_of}
 use Rattle.wf_table.specs.Schedule.{steps_of}
-use Rattle.wf_play.proofs.Ends.{answered, goes_on, halted, is_reply, more_behind, no_reply, one_more, one_turn_more, played_by, same_inside, same_seen, same_step, same_steps, silent, still_same, still_silent, turns_behind, unanswered}
+use Rattle.wf_play.proofs.Ends.{answered, goes_on, halted, is_reply, more_behind, no_reply, one_more, one_turn_more, played_by, same_quiet, same_seen, same_step, same_steps, silent, still_same, still_silent, turns_behind, unanswered}
 use Rattle.wf_play.proofs.item.step_to_answer.Goals as goal
 
 pub returns-then-eq-clause-played : goal.returns-then-eq-clause-played
@@ -23,27 +23,27 @@ loop-taken-preserved g c =
     let a = c.args.machine.now in
     let b = c.loop-taken.machine in
     let u = c.advance.new.self in
-    let v = c.stay_in_body.new.self in
+    let v = c.go_on.new.self in
     let m = g.E.Engine.meaning a.engine in
     let p = c.args.p in
     let k = c.loop-taken.taken in
-    let j = c.stay_in_body.result in
+    let j = c.go_on.result in
     let h = c.loop-taken.invariant in
     let stepped = c.in_ok-advance.ensures.stepped in
-    let stayed = c.stay_in_body.ensures in
+    let stayed = c.go_on.ensures in
     let same = still_same b u a _ _ stepped h.object in
     let step = same_step g.E.Engine.meaning a b u.state p h.object (ap (λ o. o.state) stepped) in
     let leads = one_more m a.sizes p k a.state b.state u.state h.leads step in
-    let inside = same_inside g.E.Engine.meaning a u p j same stayed.inside in
+    let quiet = same_quiet g.E.Engine.meaning a u p j same stayed.quiet in
     let below = goes_on m a.sizes (Items.ToAnswer p) k a.state c.is_halted.result c.if-is_halted.false h.goes_on (halted m a.sizes p k a.state b.state c.is_halted.result h.leads h.no_answer c.is_halted.ensures) in
-    let quiet = silent m a.sizes p k a.state b.state h.leads (no_reply c.in_ok-advance.field-0 (answer_of m a.sizes b.state p) (same_seen g.E.Engine.meaning a b c.in_ok-advance.field-0 p h.object c.in_ok-advance.ensures.seen) (λ is. absurd (search (rules, is, c.if-eq.false)))) in
+    let silence = silent m a.sizes p k a.state b.state h.leads (no_reply c.in_ok-advance.field-0 (answer_of m a.sizes b.state p) (same_seen g.E.Engine.meaning a b c.in_ok-advance.field-0 p h.object c.in_ok-advance.ensures.seen) (λ is. absurd (search (rules, is, c.if-eq.false)))) in
     record {
       object = still_same u v a _ _ stayed.stepped same;
       few = omega (arith, stayed.few);
       leads = more_behind m a.sizes p k j a.state b.state u.state v.state h.leads step (same_steps g.E.Engine.meaning a u v.state p j same (ap (λ o. o.state) stayed.stepped));
       turns = turns_behind (steps_of a.state.records.schedule) (steps_of b.state.records.schedule) (steps_of u.state.records.schedule) (steps_of v.state.records.schedule) k j p h.turns c.in_ok-advance.ensures.turn stayed.turns;
-      goes_on = unanswered m a.sizes p k j a.state u.state leads inside quiet below;
-      no_answer = still_silent m a.sizes p k j a.state u.state leads inside j (omega arith) quiet;
+      goes_on = unanswered m a.sizes p k j a.state u.state leads quiet silence below;
+      no_answer = still_silent m a.sizes p k j a.state u.state leads quiet j (omega arith) silence;
     }
 
 pub returns-clause-played : goal.returns-clause-played
