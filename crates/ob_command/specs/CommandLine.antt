@@ -22,10 +22,10 @@ pub record RunRequest : Type 0 where
   pub budget : ℕ
 
 -- What they ask for: the rules of a module checked; its code listed; the calls of a script made on it; a run's record; the record of the
--- same run by the tree of the module; the record with the own steps of its calls;
--- the record of workers' run; a run's picture; a record's; the order of a record checked; what is wrong with a module, or with a module and a script, shown to
--- people; the same of a run, or of a record; how many own steps a call takes at most; help; the version; or nothing that there is. A command has the names of its files, and a budget is how many turns each call has.
--- A picture has some calls, or all.
+-- same run by the tree of the module; the record with the own steps of its calls beside it; the record of workers' run; a run's picture;
+-- a record's; the order of a record checked; what is wrong with a module, or with a module and a script, shown to people; the same of a
+-- run; the same of a record; how many own steps a call takes at most; help; the version; or nothing that there is. A command has the
+-- names of its files, and a budget is how many turns each call has. A picture has some calls, or all.
 pub data Request : Type 0 where
   Check : (module_name : Text) → Request
   Listing : (module_name : Text) → Request
