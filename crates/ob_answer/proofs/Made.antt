@@ -7,8 +7,9 @@ use Rattle.ob_scan.specs.declared.fault.ScanFault.TheVariants as Scan
 use Rattle.ob_typing.specs.ModuleText.{IsModule}
 use Rattle.ob_typing.specs.Program.{Program}
 use Rattle.ob_check_text.specs.declared.checked_text.TextFault.TheVariants as Texts
-use Rattle.ob_answer.specs.Answers.{IsBoundAnswer, IsCheckAnswer, IsListAnswer, IsNumberedDraw, IsPictureAnswer, IsRecordAnswer, IsRecordPictureAnswer, IsSeqAnswer, IsServeAnswer, IsTreeRecordAnswer, IsVerifyAnswer, refused}
+use Rattle.ob_answer.specs.Answers.{IsBoundAnswer, IsCheckAnswer, IsListAnswer, IsNumberedDraw, IsPictureAnswer, IsRecordPictureAnswer, IsSeqAnswer, IsServeAnswer, IsTextAnswer, IsTreeRecordAnswer, IsVerifyAnswer, refused}
 use Rattle.ob_answer.specs.Printed.{IsRefused}
+use Rattle.ob_command.specs.CommandLine.{Text}
 use Rattle.ob_answer.specs.declared.answered.Answer.{Answer}
 use Rattle.ob_fault_lines.specs.CompileFaultLines.{compile_line}
 use Rattle.ob_fault_lines.specs.SequentialFaultLines.{seq_fault_line}
@@ -51,7 +52,7 @@ pub too_long_scan : (text : List ℕ) → 65536 < length text → IsScanFault te
 too_long_scan text long = record { stands = long; none = λ says. absurd says }
 
 -- it is no module
-no_module : (text : List ℕ) → 65536 < length text → (program : Program) → IsModule text program → ⊥
+pub no_module : (text : List ℕ) → 65536 < length text → (program : Program) → IsModule text program → ⊥
 no_module text longer program m =
     let short = m.short in
     omega arith
@@ -133,7 +134,7 @@ no_numbers n budget beyond too_much within =
     ]
 
 -- the fault of a text that is too long, of so many processes with so large a budget
-fault_too_long : {F : Type 0} (compiling : CompileFault → F) (IsFault : F → Type 0) (whole : List ℕ) (n budget : ℕ) (e : F)
+pub fault_too_long : {F : Type 0} (compiling : CompileFault → F) (IsFault : F → Type 0) (whole : List ℕ) (n budget : ℕ) (e : F)
     → ((n ≡ 0) ⊎ (16 < n) → IsFault (compiling Compile.Processes)) → (1000000 < budget → IsFault (compiling Compile.Budget))
     → (IsScanFault whole Scan.TooLong → IsFault (compiling (Compile.Text (Texts.Scan Scan.TooLong)))) → 65536 < length whole
     → ((n ≡ 0) ⊎ (16 < n) → e ≡ compiling Compile.Processes) → (0 < n → n ≤ 16 → 1000000 < budget → e ≡ compiling Compile.Budget)
@@ -167,13 +168,18 @@ bound_refused_made part n budget e (Ok a) told numbered stands apart none proces
     (of_whole_or_long (λ t. HasNoObject t n budget) part whole is (λ long longer. long_has_no_object whole n budget longer) (none (numbered, apart))) told
 bound_refused_made part n budget e (Err x) told numbered stands apart none processes too_much too_long = tt
 
-pub run_refused_made : {E : Type 0} (part : List ℕ) (n budget : ℕ) (script schedule : List ℕ) (e : PerformFault) (result : Result Answer E)
+-- what is said of a run, or its fault
+abbrev pub IsRefusedRun : (Text → Type 0) → (text : List ℕ) (n budget : ℕ) (script schedule : List ℕ) → Answer → Type 0
+IsRefusedRun Says text n budget script schedule =
+    IsTextAnswer Says (IsPerformFault text n budget script schedule) Performs.IsNumbered (λ _. HasNoPerformance text n budget script schedule) run_fault_line
+
+pub run_refused_made : {E : Type 0} (Says : List ℕ → Text → Type 0) (part : List ℕ) (n budget : ℕ) (script schedule : List ℕ) (e : PerformFault) (result : Result Answer E)
     → IfOk result (λ a. IsRefused a 1 (run_fault_line e ++ codes "\n")) → IfOk result (λ _. Performs.is_want_of_memory e ≡ false)
     → IsPerformFault part n budget script schedule e → Performs.TellsMemoryApart e → (Performs.IsNumbered e → HasNoPerformance part n budget script schedule)
     → ((n ≡ 0) ⊎ (16 < n) → e ≡ Perform.Compile Compile.Processes) → (0 < n → n ≤ 16 → 1000000 < budget → e ≡ Perform.Compile Compile.Budget)
     → (0 < n → n ≤ 16 → budget ≤ 1000000 → 65536 < length part → e ≡ Perform.Compile (Compile.Text (Texts.Scan Scan.TooLong)))
-    → IfOk result (λ a. (whole : List ℕ) → part ≡ beginning whole → IsRecordAnswer whole n budget script schedule a)
-run_refused_made part n budget script schedule e (Ok a) told numbered stands apart none processes too_much too_long =
+    → IfOk result (λ a. (whole : List ℕ) → part ≡ beginning whole → IsRefusedRun (Says whole) whole n budget script schedule a)
+run_refused_made Says part n budget script schedule e (Ok a) told numbered stands apart none processes too_much too_long =
     λ whole is.
     refused e
     (of_whole_or_long (λ t. IsPerformFault t n budget script schedule e) part whole is
@@ -182,7 +188,7 @@ run_refused_made part n budget script schedule e (Ok a) told numbered stands apa
     (numbered, apart)
     (of_whole_or_long (λ t. HasNoPerformance t n budget script schedule) part whole is
     (λ long longer r performs. no_module whole longer performs.object.program performs.compiled.is_module) (none (numbered, apart))) told
-run_refused_made part n budget script schedule e (Err x) told numbered stands apart none processes too_much too_long = tt
+run_refused_made Says part n budget script schedule e (Err x) told numbered stands apart none processes too_much too_long = tt
 
 pub tree_refused_made : {E : Type 0} (part : List ℕ) (n budget : ℕ) (script schedule : List ℕ) (e : PerformFault) (result : Result Answer E)
     → IfOk result (λ a. IsRefused a 1 (run_fault_line e ++ codes "\n")) → IfOk result (λ _. Performs.is_want_of_memory e ≡ false)
@@ -262,7 +268,7 @@ serve_refused_made part n budget script e (Err x) told known stands apart none p
 
 -- ---- of a record
 
-numbered_verify : (e : VerifyFault) → e ≢ Verify.NoMemory → Verifies.TellsMemoryApart e → Verifies.IsNumbered e
+pub numbered_verify : (e : VerifyFault) → e ≢ Verify.NoMemory → Verifies.TellsMemoryApart e → Verifies.IsNumbered e
 numbered_verify e known apart = elim apart [ inl is ↦ absurd (known is) | inr h ↦ h ]
 
 pub verify_refused_made : {E : Type 0} (part text : List ℕ) (e : VerifyFault) (result : Result Answer E)

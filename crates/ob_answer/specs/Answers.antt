@@ -1,5 +1,5 @@
 -- What the program answers to a request, by what reads of files give.
-use Rattle.std.specs.Prelude.{◌≡◌, ◌≢◌, ℕ, Bool, List, [], ◌∷◌, ◌++◌, Option, Some, None, Result, codes, option_map, count_by, MatchBool, nat_lt}
+use Rattle.std.specs.Prelude.{◌≡◌, ◌≢◌, ◌⊎◌, ℕ, Bool, List, [], ◌∷◌, ◌++◌, Option, Some, None, Result, codes, option_map, count_by, MatchBool, nat_lt}
 use Rattle.std.specs.Str.{bytes_eq}
 use Rattle.ob_answer.specs.declared.answered.Answer.{Answer}
 use Rattle.ob_answer.specs.declared.files.FileFault.{FileFault}
@@ -28,16 +28,17 @@ use Rattle.ob_object_perform.specs.declared.drawing.DrawFault.TheVariants as Dra
 use Rattle.ob_text_picture_chart.specs.declared.charts.CallRange.{CallRange}
 use Rattle.ob_text_picture_chart.specs.declared.fault.PictureFault.TheVariants as Pictures
 use Rattle.ob_object_sequence.specs.SequentialRun.{HasNoRun, HasObject, IsNumbered, IsSequentialRun, IsSeqTextFault}
+use Rattle.ob_object_spent.specs.Spent.{IsPrintedWithSteps}
 use Rattle.ob_object_tree.specs.TreeRuns.{IsPrintedOfCode}
 use Rattle.ob_object_verify.specs.Verified.{IsVerified}
 use Rattle.ob_object_verify.specs.VerifyFaults as Verifies
 use Rattle.ob_object_verify.specs.VerifyFaults.{IsVerifyFault}
-use Rattle.ob_command.specs.CommandLine.{Text, Request, RunRequest, Check, Listing, Seq, Run, RunTree, Serve, Draw, DrawRecord, Verify, Explain, Bound, Help, Version, Unclear}
+use Rattle.ob_command.specs.CommandLine.{Text, Request, RunRequest, Check, Listing, Seq, Run, RunTree, RunSteps, Serve, Draw, DrawRecord, Verify, Explain, ExplainRun, ExplainRecord, Bound, Help, Version, Unclear}
 use Rattle.ob_command.specs.declared.command.CallNumbers.{CallNumbers}
 use Rattle.ob_answer.specs.declared.product.Product.{Product}
 use Rattle.ob_answer.specs.declared.product.Product.TheVariants as Products
-use Rattle.ob_answer.specs.Explains.{IsCallsExplained, IsModuleExplained}
-use Rattle.ob_answer.specs.Printed.{IsPrinted, IsRefused}
+use Rattle.ob_answer.specs.Explains.{IsCallsExplained, IsModuleExplained, IsRecordExplained, IsRunExplained}
+use Rattle.ob_answer.specs.Printed.{IsPrinted, IsPrintedBeside, IsRefused}
 use Rattle.ob_answer.specs.Reads.{IsOutcome}
 
 -- the program's name and version, and the kit that it is proved with
@@ -91,6 +92,18 @@ IsRecordAnswer module_bytes processes budget script_bytes schedule_bytes =
     (IsPerformFault module_bytes processes budget script_bytes schedule_bytes) Performs.IsNumbered
     (λ _. HasNoPerformance module_bytes processes budget script_bytes schedule_bytes) run_fault_line
 
+-- of a run the record is printed, and beside it a line for each call that ended in it
+abbrev pub IsToldBeside : (module_bytes : List ℕ) (processes budget : ℕ) (script_bytes schedule_bytes : List ℕ) → Answer → Type 0
+IsToldBeside module_bytes processes budget script_bytes schedule_bytes answer =
+    (text : Text) × (beside : Text) × IsPrintedWithSteps module_bytes processes budget script_bytes schedule_bytes text beside × IsPrintedBeside answer text beside
+
+-- to these the record of the run with the own steps of its calls: where there is none, the line of the fault
+abbrev pub IsStepsAnswer : (module_bytes : List ℕ) (processes budget : ℕ) (script_bytes schedule_bytes : List ℕ) → Answer → Type 0
+IsStepsAnswer module_bytes processes budget script_bytes schedule_bytes answer =
+    IsToldBeside module_bytes processes budget script_bytes schedule_bytes answer
+    ⊎ IsTextAnswer (λ _. ⊥) (IsPerformFault module_bytes processes budget script_bytes schedule_bytes) Performs.IsNumbered
+    (λ _. HasNoPerformance module_bytes processes budget script_bytes schedule_bytes) run_fault_line answer
+
 -- of a run over the module's tree the record is printed, which is that of a run over its code, where it has one that is not too long
 abbrev pub SaysTreeRecord : (module_bytes : List ℕ) (processes budget : ℕ) (script_bytes schedule_bytes : List ℕ) → Text → Type 0
 SaysTreeRecord module_bytes processes budget script_bytes schedule_bytes text =
@@ -130,10 +143,11 @@ IsRecordPictureAnswer calls module_bytes record_bytes =
     IsTextAnswer (IsRecordPicture module_bytes record_bytes calls) (IsDrawRecordFault module_bytes record_bytes calls) IsNumberedDrawRecord
     (λ _. Unit {0}) draw_record_fault_line
 
--- what is printed of a run: its record, by the code or by the tree of the module, or a picture of it
+-- what is printed of a run: its record, by the code or by the tree of the module, or with the own steps of its calls, or a picture of it
 abbrev pub IsRunAnswer : Product → (module_bytes : List ℕ) (processes budget : ℕ) (script_bytes schedule_bytes : List ℕ) → Answer → Type 0
 IsRunAnswer Products.Record = IsRecordAnswer
 IsRunAnswer Products.TreeRecord = IsTreeRecordAnswer
+IsRunAnswer Products.RecordWithSteps = IsStepsAnswer
 IsRunAnswer (Products.Picture calls) = IsPictureAnswer calls
 
 -- To the bytes of a module and of a script: the record of workers, one for each of so many processes, whom no gate stops. A fault of
@@ -169,12 +183,15 @@ files_of (Listing module_name) = module_name ∷ []
 files_of (Seq module_name script_name budget) = module_name ∷ script_name ∷ []
 files_of (Run run) = files_of_run run
 files_of (RunTree run) = files_of_run run
+files_of (RunSteps run) = files_of_run run
 files_of (Serve module_name script_name processes budget) = module_name ∷ script_name ∷ []
 files_of (Draw run calls) = files_of_run run
 files_of (DrawRecord module_name record_name calls) = module_name ∷ record_name ∷ []
 files_of (Verify module_name record_name) = module_name ∷ record_name ∷ []
 files_of (Explain module_name None budget) = module_name ∷ []
 files_of (Explain module_name (Some script_name) budget) = module_name ∷ script_name ∷ []
+files_of (ExplainRun run) = files_of_run run
+files_of (ExplainRecord module_name record_name) = module_name ∷ record_name ∷ []
 files_of (Bound module_name processes budget) = module_name ∷ []
 files_of _ = []
 
@@ -185,6 +202,7 @@ IsMade (Listing module_name) (module_bytes ∷ []) answer = IsListAnswer module_
 IsMade (Seq module_name script_name budget) (module_bytes ∷ script_bytes ∷ []) answer = IsSeqAnswer module_bytes script_bytes budget answer
 IsMade (Run run) bytes answer = IsRunMade Products.Record run bytes answer
 IsMade (RunTree run) bytes answer = IsRunMade Products.TreeRecord run bytes answer
+IsMade (RunSteps run) bytes answer = IsRunMade Products.RecordWithSteps run bytes answer
 IsMade (Serve module_name script_name processes budget) (module_bytes ∷ script_bytes ∷ []) answer = IsServeAnswer module_bytes processes budget script_bytes answer
 IsMade (Draw run calls) bytes answer = IsRunMade (Products.Picture (range_of calls)) run bytes answer
 IsMade (DrawRecord module_name record_name calls) (module_bytes ∷ record_bytes ∷ []) answer =
@@ -193,6 +211,9 @@ IsMade (Verify module_name record_name) (module_bytes ∷ record_bytes ∷ []) a
 IsMade (Explain module_name None budget) (module_bytes ∷ []) answer = IsModuleExplained module_name module_bytes answer
 IsMade (Explain module_name (Some script_name) budget) (module_bytes ∷ script_bytes ∷ []) answer =
     IsCallsExplained module_name module_bytes script_name script_bytes budget answer
+IsMade (ExplainRun run) (module_bytes ∷ script_bytes ∷ schedule_bytes ∷ []) answer = IsRunExplained run module_bytes script_bytes schedule_bytes answer
+IsMade (ExplainRecord module_name record_name) (module_bytes ∷ record_bytes ∷ []) answer =
+    IsRecordExplained module_name module_bytes record_name record_bytes answer
 IsMade (Bound module_name processes budget) (module_bytes ∷ []) answer = IsBoundAnswer module_bytes processes budget answer
 IsMade Help [] answer = (text : Text) × IsPrinted answer text
 IsMade Version [] answer = IsPrinted answer version_text

@@ -3,7 +3,7 @@ use Rattle.std.specs.Prelude.{◌≡◌, ℕ, List, [], ◌∷◌, Some, false, 
 use Rattle.ob_answer.specs.Answers.{IsAnswer}
 use Rattle.ob_answer.specs.declared.answered.Answer.{Answer}
 use Rattle.ob_answer.specs.declared.files.FileFault.{FileFault}
-use Rattle.ob_command.specs.CommandLine.{Draw, DrawRecord, Request, RunRequest, Text, budget_number, calls_in, default_budget, is_option, number}
+use Rattle.ob_command.specs.CommandLine.{Draw, DrawRecord, ExplainRecord, Request, RunRequest, Text, budget_number, calls_in, default_budget, is_option, number}
 use Rattle.ob_command.specs.declared.command.CallNumbers.{CallNumbers}
 use Rattle.ob_command.specs.PlainForms.{run_with}
 
@@ -50,6 +50,11 @@ module _ {F E : Type 0} (Reads : F → Text → Result (List ℕ) FileFault → 
   abbrev pub AreRecordCallsDrawn : Type 0
   AreRecordCallsDrawn = (m r c : Text) (calls : CallNumbers) → is_option m ≡ false → is_option r ≡ false → calls_in c ≡ Some calls
       → IsAnswered (codes "draw" ∷ m ∷ r ∷ codes "--calls" ∷ c ∷ []) (DrawRecord m r (Some calls))
+
+  -- `explain`, a name, and `--record` with a second one ask for what is wrong with the record.
+  abbrev pub IsRecordShown : Type 0
+  IsRecordShown = (m r : Text) → is_option m ≡ false → is_option r ≡ false
+      → IsAnswered (codes "explain" ∷ m ∷ codes "--record" ∷ r ∷ []) (ExplainRecord m r)
 
   -- The command, two names, and `-n` with a number do.
   abbrev pub IsWorkersAnswered : Text → (Text → Text → ℕ → ℕ → Request) → Type 0

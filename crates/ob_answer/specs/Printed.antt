@@ -10,6 +10,12 @@ pub record IsPrinted (answer : Answer) (text : Text) : Type 0 where
   pub out : string_bytes answer.out ≡ text
   pub err : string_bytes answer.err ≡ []
 
+-- text on standard output and text beside it on standard error, and status 0
+pub record IsPrintedBeside (answer : Answer) (text beside : Text) : Type 0 where
+  pub status : answer.status ≡ 0
+  pub out : string_bytes answer.out ≡ text
+  pub err : string_bytes answer.err ≡ beside
+
 -- only text on standard error, and another status
 pub record IsRefused (answer : Answer) (number : ℕ) (text : Text) : Type 0 where
   pub status : answer.status ≡ number

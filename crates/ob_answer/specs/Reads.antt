@@ -11,6 +11,10 @@ use Rattle.ob_answer.specs.declared.reading.TwoFiles.TheVariants as Two
 use Rattle.ob_answer.specs.Printed.{IsUnreadable}
 use Rattle.ob_scan.specs.Limits.{longest_text}
 
+-- what is made of the whole text of a module, of which this was read
+abbrev pub OfWhole : (part : List ℕ) → (List ℕ → Answer → Type 0) → Answer → Type 0
+OfWhole part IsMade answer = (whole : List ℕ) → part ≡ take (suc longest_text) whole → IsMade whole answer
+
 -- Of a read: the state before, the file's name, what was answered, and the state after.
 module _ {F : Type 0} (Reads : F → Text → Result (List ℕ) FileFault → F → Type 0) where
   -- what was read is the beginning, of at most so many bytes, of what a read gives

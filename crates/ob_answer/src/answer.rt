@@ -3,12 +3,13 @@
 ghost use Rattle.std.specs.Prelude.{◌≡◌, ◌∷◌, [], None, Some, IfOk, map, codes, count_by, nat_lt};
 ghost use Rattle.std.specs.Str.{bytes_eq};
 ghost use Rattle.ob_answer.specs.Answers.{IsAnswer, IsObeyed, IsRunObeyed, files_of, files_of_run, input_name, range_of, reads_input_twice};
-ghost use Rattle.ob_answer.specs.PlainAnswers.{AreBudgetCallsDrawn, AreCallsDrawn, AreRecordCallsDrawn, IsBudgetNumbersAnswered, IsBudgetRunAnswered, IsBudgetWorkersAnswered, IsCallsAnswered, IsModuleAnswered, IsNumbersAnswered, IsPairAnswered, IsRunAnswered, IsWorkersAnswered};
-ghost use Rattle.ob_command.specs.CommandLine.{Bound, Check, Draw, DrawRecord, Explain, Listing, Run, RunTree, Seq, Serve, Verify, request};
+ghost use Rattle.ob_answer.specs.PlainAnswers.{AreBudgetCallsDrawn, AreCallsDrawn, AreRecordCallsDrawn, IsBudgetNumbersAnswered, IsBudgetRunAnswered, IsBudgetWorkersAnswered, IsCallsAnswered, IsModuleAnswered, IsNumbersAnswered, IsPairAnswered, IsRecordShown, IsRunAnswered, IsWorkersAnswered};
+ghost use Rattle.ob_command.specs.CommandLine.{Bound, Check, Draw, DrawRecord, Explain, ExplainRun, Listing, Run, RunSteps, RunTree, Seq, Serve, Verify, request};
 ghost use Rattle.ob_command.specs.Commands.{request_of, run_request_of};
 
 use crate::answered::Answer;
 use crate::explaining::obey_explain;
+use crate::explaining_runs::{obey_explain_record, obey_explain_run};
 use crate::files::{FileFault, Files};
 use crate::making::{
     answer_bound, answer_check, answer_draw_record, answer_list, answer_run, answer_seq,
@@ -51,6 +52,8 @@ pub fn answer<R: Threads + Wait + Sync + AllocGlobal, F: Files>(
     ensures run_budget { IsBudgetRunAnswered F.reads (map (λ word. word.now) words.now) files.old result files.new (codes "run") [] Run }
     ensures run_tree { IsRunAnswered F.reads (map (λ word. word.now) words.now) files.old result files.new (codes "run") (codes "--tree" ∷ []) RunTree }
     ensures run_tree_budget { IsBudgetRunAnswered F.reads (map (λ word. word.now) words.now) files.old result files.new (codes "run") (codes "--tree" ∷ []) RunTree }
+    ensures run_steps { IsRunAnswered F.reads (map (λ word. word.now) words.now) files.old result files.new (codes "run") (codes "--steps" ∷ []) RunSteps }
+    ensures run_steps_budget { IsBudgetRunAnswered F.reads (map (λ word. word.now) words.now) files.old result files.new (codes "run") (codes "--steps" ∷ []) RunSteps }
     ensures serve { IsWorkersAnswered F.reads (map (λ word. word.now) words.now) files.old result files.new (codes "serve") Serve }
     ensures serve_budget { IsBudgetWorkersAnswered F.reads (map (λ word. word.now) words.now) files.old result files.new (codes "serve") Serve }
     ensures draw { IsRunAnswered F.reads (map (λ word. word.now) words.now) files.old result files.new (codes "draw") [] (λ run. Draw run None) }
@@ -63,6 +66,9 @@ pub fn answer<R: Threads + Wait + Sync + AllocGlobal, F: Files>(
     ensures explain { IsModuleAnswered F.reads (map (λ word. word.now) words.now) files.old result files.new (codes "explain") (λ m. Explain m None 100000) }
     ensures explain_calls { IsPairAnswered F.reads (map (λ word. word.now) words.now) files.old result files.new (codes "explain") (λ m s. Explain m (Some s) 100000) }
     ensures explain_budget { IsCallsAnswered F.reads (map (λ word. word.now) words.now) files.old result files.new (codes "explain") (λ m s k. Explain m (Some s) k) }
+    ensures explain_run { IsRunAnswered F.reads (map (λ word. word.now) words.now) files.old result files.new (codes "explain") [] ExplainRun }
+    ensures explain_run_budget { IsBudgetRunAnswered F.reads (map (λ word. word.now) words.now) files.old result files.new (codes "explain") [] ExplainRun }
+    ensures explain_record { IsRecordShown F.reads (map (λ word. word.now) words.now) files.old result files.new }
     ensures bound { IsNumbersAnswered F.reads (map (λ word. word.now) words.now) files.old result files.new (codes "bound") Bound }
     ensures bound_budget { IsBudgetNumbersAnswered F.reads (map (λ word. word.now) words.now) files.old result files.new (codes "bound") Bound }
 {
@@ -122,6 +128,7 @@ fn reads_input_twice(command: Command<'_>) -> bool
         } => are_two_inputs(&[module_name, script_name]),
         Command::Run(run) => are_inputs_of_run(run),
         Command::RunTree(run) => are_inputs_of_run(run),
+        Command::RunSteps(run) => are_inputs_of_run(run),
         Command::Draw { run, .. } => are_inputs_of_run(run),
         Command::DrawRecord {
             module_name,
@@ -140,6 +147,11 @@ fn reads_input_twice(command: Command<'_>) -> bool
             Some(script_name) => are_two_inputs(&[module_name, script_name]),
             None => false,
         },
+        Command::ExplainRun(run) => are_inputs_of_run(run),
+        Command::ExplainRecord {
+            module_name,
+            record_name,
+        } => are_two_inputs(&[module_name, record_name]),
     }
 }
 
@@ -176,6 +188,7 @@ fn obey<R: Threads + Wait + Sync, F: Files>(
         } => obey_seq(alloc, module_name, script_name, budget, files),
         Command::Run(run) => obey_run(alloc, run, Product::Record, files),
         Command::RunTree(run) => obey_run(alloc, run, Product::TreeRecord, files),
+        Command::RunSteps(run) => obey_run(alloc, run, Product::RecordWithSteps, files),
         Command::Serve {
             module_name,
             script_name,
@@ -207,6 +220,11 @@ fn obey<R: Threads + Wait + Sync, F: Files>(
             script_name,
             budget,
         } => obey_explain(alloc, module_name, script_name, budget, files),
+        Command::ExplainRun(run) => obey_explain_run(alloc, run, files),
+        Command::ExplainRecord {
+            module_name,
+            record_name,
+        } => obey_explain_record(alloc, module_name, record_name, files),
         Command::Bound {
             module_name,
             processes,

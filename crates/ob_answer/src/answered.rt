@@ -16,16 +16,23 @@ pub struct Answer {
 
 impl Answer {
     ghost use Rattle.std.specs.Prelude.{string_bytes};
-    ghost use Rattle.ob_answer.specs.Printed.{IsPrinted, IsRefused};
+    ghost use Rattle.ob_answer.specs.Printed.{IsPrinted, IsPrintedBeside, IsRefused};
 
     /// What was asked for.
     pub fn printed(alloc: Global, out: String) -> Answer
         ensures { IsPrinted result (string_bytes out) }
     {
+        Answer::printed_beside(out, String::new(alloc))
+    }
+
+    /// What was asked for, and what is told beside it.
+    pub fn printed_beside(out: String, err: String) -> Answer
+        ensures { IsPrintedBeside result (string_bytes out) (string_bytes err) }
+    {
         Answer {
             status: 0,
             out,
-            err: String::new(alloc),
+            err,
         }
     }
 

@@ -1,8 +1,9 @@
 //! The answers of `explain`. Of a module's text they have the beginning: a module of more bytes is too long.
 
-ghost use Rattle.std.specs.Prelude.{◌≡◌, ℕ, List, None, Some, suc, false, take, IfOk, option_map, string_bytes};
+ghost use Rattle.std.specs.Prelude.{◌≡◌, ℕ, None, Some, false, IfOk, option_map, string_bytes};
 ghost use Rattle.ob_answer.specs.Answers.{IsObeyed};
 ghost use Rattle.ob_answer.specs.Explains.{IsCallsExplained, IsCallsFaultShown, IsModuleExplained, IsModuleFaultShown};
+ghost use Rattle.ob_answer.specs.Reads.{OfWhole};
 ghost use Rattle.ob_answer.specs.ShownNames.{shown};
 ghost use Rattle.ob_command.specs.CommandLine.{Explain};
 ghost use Rattle.ob_object_compile.specs.Compilation as Compiles;
@@ -19,7 +20,6 @@ use ob_fault_lines::sequential_faults::seq_fault_line;
 use ob_interface::NoMemory;
 use ob_object_compile::CompileFault;
 use ob_object_sequence::{SeqTextFault, check_text, seq_text};
-use ob_scan::scanner::LONGEST_TEXT;
 use std::alloc::{AllocError, Global};
 
 /// The answer to `explain`, of the names of its files and the budget of each call. Of a module by itself no call is made.
@@ -78,7 +78,7 @@ fn obey_explain_calls<F: Files>(
 
 /// The answer to the name and the beginning of a module's text.
 fn explain_module(alloc: Global, name: &str, module: &[u8]) -> Result<Answer, NoMemory>
-    ensures { IfOk result (λ a. (whole : List ℕ) → «module».now ≡ take (suc LONGEST_TEXT) whole → IsModuleExplained name.now whole a) }
+    ensures { IfOk result (OfWhole «module».now (λ whole. IsModuleExplained name.now whole)) }
 {
     match check_text(alloc, module) {
         Ok(()) => Ok(Answer::printed(alloc, String::from_str(alloc, "ok\n")?)),
@@ -116,7 +116,7 @@ fn explain_calls(
     script: &[u8],
     budget: u32,
 ) -> Result<Answer, NoMemory>
-    ensures { IfOk result (λ a. (whole : List ℕ) → «module».now ≡ take (suc LONGEST_TEXT) whole → IsCallsExplained module_name.now whole script_name.now script.now budget a) }
+    ensures { IfOk result (OfWhole «module».now (λ whole. IsCallsExplained module_name.now whole script_name.now script.now budget)) }
 {
     match seq_text(alloc, module, script, u64::from(budget)) {
         Ok(_lines) => Ok(Answer::printed(alloc, String::from_str(alloc, "ok\n")?)),
@@ -148,7 +148,7 @@ fn calls_wrong(
 }
 
 /// A file's name as it is shown.
-fn shown_name(alloc: Global, name: &str) -> Result<String, AllocError>
+pub(crate) fn shown_name(alloc: Global, name: &str) -> Result<String, AllocError>
     ensures { IfOk result (λ text. string_bytes text ≡ shown name.now) }
 {
     let mut text = String::new(alloc);

@@ -5,6 +5,7 @@
 pub mod answer;
 pub mod answered;
 mod explaining;
+mod explaining_runs;
 pub mod files;
 mod making;
 pub mod product;

@@ -1,7 +1,8 @@
 //! Answers made of the bytes of files. Of a module's text they have the beginning: a module of more bytes is too long.
 
-ghost use Rattle.std.specs.Prelude.{◌≡◌, ◌≢◌, ◌<◌, ◌≤◌, ◌++◌, ◌⊎◌, ℕ, List, suc, false, take, Err, IfErr, IfOk, codes, length, string_bytes};
-ghost use Rattle.ob_answer.specs.Answers.{IsBoundAnswer, IsCheckAnswer, IsListAnswer, IsPictureAnswer, IsRecordAnswer, IsRecordPictureAnswer, IsRunAnswer, IsSeqAnswer, IsServeAnswer, IsTreeRecordAnswer, IsVerifyAnswer};
+ghost use Rattle.std.specs.Prelude.{◌≡◌, ◌≢◌, ◌<◌, ◌≤◌, ◌++◌, ◌⊎◌, false, Err, IfErr, IfOk, codes, length, string_bytes};
+ghost use Rattle.ob_answer.specs.Answers.{IsBoundAnswer, IsCheckAnswer, IsListAnswer, IsPictureAnswer, IsRecordAnswer, IsRecordPictureAnswer, IsRunAnswer, IsSeqAnswer, IsServeAnswer, IsStepsAnswer, IsTreeRecordAnswer, IsVerifyAnswer};
+ghost use Rattle.ob_answer.specs.Reads.{OfWhole};
 ghost use Rattle.ob_answer.specs.Printed.{IsRefused};
 ghost use Rattle.ob_fault_lines.specs.CompileFaultLines.{compile_line};
 ghost use Rattle.ob_fault_lines.specs.DrawFaultLines.{draw_fault_line, draw_record_fault_line};
@@ -30,10 +31,10 @@ use ob_object_compile::{CompileFault, list_text};
 use ob_object_draw::{DrawRecordFault, draw_record_text};
 use ob_object_perform::{DrawFault, PerformFault, draw_text, run_text};
 use ob_object_sequence::{SeqTextFault, check_text, seq_text};
+use ob_object_spent::run_text_with_steps;
 use ob_object_tree::run_tree_text;
 use ob_object_verify::{VerifyFault, verify_text};
 use ob_scan::ScanFault;
-use ob_scan::scanner::LONGEST_TEXT;
 use ob_text_picture_chart::CallRange;
 use std::alloc::{AllocError, Global};
 use std::sync::Wait;
@@ -41,7 +42,7 @@ use std::thread::Threads;
 
 /// The answer of `check` to the beginning of a module's text.
 pub(crate) fn answer_check(alloc: Global, module: &[u8]) -> Result<Answer, NoMemory>
-    ensures { IfOk result (λ a. (whole : List ℕ) → «module».now ≡ take (suc LONGEST_TEXT) whole → IsCheckAnswer whole a) }
+    ensures { IfOk result (OfWhole «module».now IsCheckAnswer) }
 {
     match check_text(alloc, module) {
         Ok(()) => Ok(Answer::printed(alloc, String::from_str(alloc, "ok\n")?)),
@@ -51,7 +52,7 @@ pub(crate) fn answer_check(alloc: Global, module: &[u8]) -> Result<Answer, NoMem
 
 /// The answer of `list` to the beginning of a module's text.
 pub(crate) fn answer_list(alloc: Global, module: &[u8]) -> Result<Answer, NoMemory>
-    ensures { IfOk result (λ a. (whole : List ℕ) → «module».now ≡ take (suc LONGEST_TEXT) whole → IsListAnswer whole a) }
+    ensures { IfOk result (OfWhole «module».now IsListAnswer) }
 {
     match list_text(alloc, module) {
         Ok(lines) => Ok(Answer::printed(alloc, lines)),
@@ -67,7 +68,7 @@ pub(crate) fn answer_bound(
     processes: usize,
     budget: u32,
 ) -> Result<Answer, NoMemory>
-    ensures { IfOk result (λ a. (whole : List ℕ) → «module».now ≡ take (suc LONGEST_TEXT) whole → IsBoundAnswer whole processes budget a) }
+    ensures { IfOk result (OfWhole «module».now (λ whole. IsBoundAnswer whole processes budget)) }
 {
     match bound_text(alloc, module, processes, u64::from(budget)) {
         Ok(lines) => Ok(Answer::printed(alloc, lines)),
@@ -101,7 +102,7 @@ pub(crate) fn answer_seq(
     script: &[u8],
     budget: u32,
 ) -> Result<Answer, NoMemory>
-    ensures { IfOk result (λ a. (whole : List ℕ) → «module».now ≡ take (suc LONGEST_TEXT) whole → IsSeqAnswer whole script.now budget a) }
+    ensures { IfOk result (OfWhole «module».now (λ whole. IsSeqAnswer whole script.now budget)) }
 {
     match seq_text(alloc, module, script, u64::from(budget)) {
         Ok(lines) => Ok(Answer::printed(alloc, lines)),
@@ -131,12 +132,15 @@ pub(crate) fn answer_run(
     script: &[u8],
     schedule: &[u8],
 ) -> Result<Answer, NoMemory>
-    ensures { IfOk result (λ a. (whole : List ℕ) → «module».now ≡ take (suc LONGEST_TEXT) whole → IsRunAnswer product whole processes budget script.now schedule.now a) }
+    ensures { IfOk result (OfWhole «module».now (λ whole. IsRunAnswer product whole processes budget script.now schedule.now)) }
 {
     match product {
         Product::Record => answer_record(alloc, module, processes, budget, script, schedule),
         Product::TreeRecord => {
             answer_tree_record(alloc, module, processes, budget, script, schedule)
+        }
+        Product::RecordWithSteps => {
+            answer_steps(alloc, module, processes, budget, script, schedule)
         }
         Product::Picture(calls) => answer_picture(
             alloc, module, processes, budget, script, schedule, calls,
@@ -153,7 +157,7 @@ fn answer_record(
     script: &[u8],
     schedule: &[u8],
 ) -> Result<Answer, NoMemory>
-    ensures { IfOk result (λ a. (whole : List ℕ) → «module».now ≡ take (suc LONGEST_TEXT) whole → IsRecordAnswer whole processes budget script.now schedule.now a) }
+    ensures { IfOk result (OfWhole «module».now (λ whole. IsRecordAnswer whole processes budget script.now schedule.now)) }
 {
     match run_text(
         alloc,
@@ -177,7 +181,7 @@ fn answer_tree_record(
     script: &[u8],
     schedule: &[u8],
 ) -> Result<Answer, NoMemory>
-    ensures { IfOk result (λ a. (whole : List ℕ) → «module».now ≡ take (suc LONGEST_TEXT) whole → IsTreeRecordAnswer whole processes budget script.now schedule.now a) }
+    ensures { IfOk result (OfWhole «module».now (λ whole. IsTreeRecordAnswer whole processes budget script.now schedule.now)) }
 {
     match run_tree_text(
         alloc,
@@ -188,6 +192,30 @@ fn answer_tree_record(
         schedule,
     ) {
         Ok(lines) => Ok(Answer::printed(alloc, lines)),
+        Err(fault) => run_refused(alloc, fault),
+    }
+}
+
+/// The answer of `run --steps`.
+fn answer_steps(
+    alloc: Global,
+    module: &[u8],
+    processes: usize,
+    budget: u32,
+    script: &[u8],
+    schedule: &[u8],
+) -> Result<Answer, NoMemory>
+    ensures { IfOk result (OfWhole «module».now (λ whole. IsStepsAnswer whole processes budget script.now schedule.now)) }
+{
+    match run_text_with_steps(
+        alloc,
+        module,
+        processes,
+        u64::from(budget),
+        script,
+        schedule,
+    ) {
+        Ok((lines, steps)) => Ok(Answer::printed_beside(lines, steps)),
         Err(fault) => run_refused(alloc, fault),
     }
 }
@@ -213,7 +241,7 @@ fn answer_picture(
     schedule: &[u8],
     calls: Option<CallRange>,
 ) -> Result<Answer, NoMemory>
-    ensures { IfOk result (λ a. (whole : List ℕ) → «module».now ≡ take (suc LONGEST_TEXT) whole → IsPictureAnswer calls whole processes budget script.now schedule.now a) }
+    ensures { IfOk result (OfWhole «module».now (λ whole. IsPictureAnswer calls whole processes budget script.now schedule.now)) }
 {
     let turns = u64::from(budget);
     match draw_text(alloc, module, processes, turns, script, schedule, calls) {
@@ -240,7 +268,7 @@ pub(crate) fn answer_draw_record(
     record: &[u8],
     calls: Option<CallRange>,
 ) -> Result<Answer, NoMemory>
-    ensures { IfOk result (λ a. (whole : List ℕ) → «module».now ≡ take (suc LONGEST_TEXT) whole → IsRecordPictureAnswer calls whole «record».now a) }
+    ensures { IfOk result (OfWhole «module».now (λ whole. IsRecordPictureAnswer calls whole «record».now)) }
 {
     match draw_record_text(alloc, module, record, calls) {
         Ok(picture) => Ok(Answer::printed(alloc, picture)),
@@ -269,7 +297,7 @@ pub(crate) fn answer_serve<R: Threads + Wait + Sync>(
     budget: u32,
     script: &[u8],
 ) -> Result<Answer, NoMemory>
-    ensures { IfOk result (λ a. (whole : List ℕ) → «module».now ≡ take (suc LONGEST_TEXT) whole → IsServeAnswer whole processes budget script.now a) }
+    ensures { IfOk result (OfWhole «module».now (λ whole. IsServeAnswer whole processes budget script.now)) }
 {
     match serve_text(rt, alloc, module, processes, u64::from(budget), script) {
         Ok(lines) => Ok(Answer::printed(alloc, lines)),
@@ -290,7 +318,7 @@ fn serve_refused(alloc: Global, fault: ServeTextFault) -> Result<Answer, NoMemor
 
 /// The answer to the beginning of a module's text and to the text of a record.
 pub(crate) fn answer_verify(alloc: Global, module: &[u8], record: &[u8]) -> Result<Answer, NoMemory>
-    ensures { IfOk result (λ a. (whole : List ℕ) → «module».now ≡ take (suc LONGEST_TEXT) whole → IsVerifyAnswer whole «record».now a) }
+    ensures { IfOk result (OfWhole «module».now (λ whole. IsVerifyAnswer whole «record».now)) }
 {
     match verify_text(alloc, module, record) {
         Ok(()) => Ok(Answer::printed(alloc, String::from_str(alloc, "ok\n")?)),

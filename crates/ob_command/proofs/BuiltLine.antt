@@ -40,6 +40,9 @@ built_flag name = record (flag_rule name) {
   range = Some (record { start_inclusive = 0; end_inclusive = 0 });
 }
 
+abbrev pub built_record : Rule
+built_record = record (built_one (codes "RECORD") None None parser.String) { long = Some (codes "record"); required = false }
+
 abbrev pub built_calls : Rule
 built_calls = record (built_one (codes "FROM-TO") None None parser.String) { long = Some (codes "calls"); required = false }
 
@@ -52,10 +55,6 @@ built_help = record help_rule {
 -- the argument has to be there, or may be missing
 abbrev pub needed : Bool → Rule → Rule
 needed t a = record a { required = t }
-
--- `MODULE SCRIPT -b BUDGET`, and more
-abbrev pub calls_rules : (script : Bool) → List Rule → List Rule
-calls_rules script more = built_name 1 (codes "MODULE") ∷ needed script (built_name 2 (codes "SCRIPT")) ∷ built_budget ∷ more
 
 -- `MODULE SCRIPT SCHEDULE -n N -b BUDGET`, and more
 abbrev pub run_rules : (script schedule number : Bool) → List Rule → List Rule
@@ -72,10 +71,10 @@ abbrev pub module_leaf : Text → Shape
 module_leaf command = leaf command (built_name 1 (codes "MODULE") ∷ built_help ∷ [])
 
 abbrev pub seq_leaf : Shape
-seq_leaf = leaf (codes "seq") (calls_rules true (built_help ∷ []))
+seq_leaf = leaf (codes "seq") (built_name 1 (codes "MODULE") ∷ built_name 2 (codes "SCRIPT") ∷ built_budget ∷ built_help ∷ [])
 
 abbrev pub run_leaf : Shape
-run_leaf = leaf (codes "run") (run_rules true true true (built_flag (codes "tree") ∷ built_help ∷ []))
+run_leaf = leaf (codes "run") (run_rules true true true (built_flag (codes "tree") ∷ built_flag (codes "steps") ∷ built_help ∷ []))
 
 abbrev pub serve_leaf : Shape
 serve_leaf = leaf (codes "serve") (built_name 1 (codes "MODULE") ∷ built_name 2 (codes "SCRIPT") ∷ built_number ∷ built_budget ∷ built_help ∷ [])
@@ -87,7 +86,7 @@ abbrev pub verify_leaf : Shape
 verify_leaf = leaf (codes "verify") (built_name 1 (codes "MODULE") ∷ built_name 2 (codes "RECORD") ∷ built_help ∷ [])
 
 abbrev pub explain_leaf : Shape
-explain_leaf = leaf (codes "explain") (calls_rules false (built_help ∷ []))
+explain_leaf = leaf (codes "explain") (run_rules false false false (built_record ∷ built_help ∷ []))
 
 abbrev pub bound_leaf : Shape
 bound_leaf = leaf (codes "bound") (built_name 1 (codes "MODULE") ∷ built_number ∷ built_budget ∷ built_help ∷ [])

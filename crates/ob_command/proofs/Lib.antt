@@ -7,6 +7,7 @@ pub mod BuiltLine
 pub mod Asked
 pub mod NameForms
 pub mod RunForms
+pub mod ExplainForms
 pub mod HelpForms
 pub mod Given
 pub mod Required

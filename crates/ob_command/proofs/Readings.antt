@@ -20,7 +20,7 @@ use Rattle.std.specs.Borrow.{Bor}
 use Rattle.clap.specs.Words.{first_of, first_value, one_of}
 use Rattle.clap.specs.declared.parser.matches.Found.{Found}
 use Rattle.clap.proofs.WalkLemmas.{first_value-rows}
-use Rattle.ob_command.specs.CommandLine.{Request, Bound, Check, Draw, DrawRecord, Explain, Help, Listing, Run, RunRequest, RunTree, Seq, Serve, Unclear, Verify, bound_of, budget_number, budget_of, calls_by, calls_of, clap_request, command_of, default_budget, draw_of, draw_record_of, drawn_of, form_mistake, form_mistake_of, is_set, made_by, processes_of, request_by, run_of, seq_of, serve_of}
+use Rattle.ob_command.specs.CommandLine.{Request, Bound, Check, Draw, DrawRecord, Explain, ExplainRecord, ExplainRun, Help, Listing, RunRequest, Seq, Serve, Unclear, Verify, bound_of, budget_number, budget_of, calls_by, calls_of, clap_request, command_of, default_budget, draw_of, draw_record_of, drawn_of, explain_by, explain_calls_of, explain_of, explain_record_of, explain_texts_of, form_mistake, form_mistake_of, is_set, made_by, made_of, processes_of, request_by, run_of, seq_of, serve_of}
 use Rattle.ob_command.specs.declared.command.CallNumbers.{CallNumbers}
 use Rattle.ob_command.specs.PlainForms.{run_with}
 use Rattle.ob_command.specs.Commands.{IsMistake, IsReading, IsStopOf}
@@ -129,18 +129,18 @@ pub seq_by : (m s : Text) (rows : List Row) (b : Option ℕ) → first_of (codes
 seq_by m s rows b h e = rw h (ap (option_map (Seq m s)) e)
 
 pub a_run : (name m : Text) (rows : List Row) (run : Option RunRequest) → name ≡ codes "run" → first_of (codes "MODULE") rows ≡ Some m
-    → run_of m rows ≡ run → command_of name rows ≡ option_map (made_by rows) run
-a_run name m rows run is h e = rw (is, h) (ap (option_map (made_by rows)) e)
+    → run_of m rows ≡ run → command_of name rows ≡ option_and_then (made_of rows) run
+a_run name m rows run is h e = rw (is, h) (ap (option_and_then (made_of rows)) e)
 
 -- whether a word stands there, by the text that clap keeps of it
 pub set_by : (name : Text) (rows : List Row) (text : Option Text) → first_of name rows ≡ text
     → is_set name rows ≡ option_map_or (λ t. bytes_eq t (codes "true")) text false
 set_by name rows text is = ap (λ (o : Option Text). option_map_or (λ t. bytes_eq t (codes "true")) o false) is
 
--- the run by the engine that is said
-pub made_if : (t : Bool) (rows : List Row) (run : RunRequest) → is_set (codes "tree") rows ≡ t → made_by rows run ≡ (if t then RunTree run else Run run)
-made_if true rows run is = ap (λ (t : Bool). (if t then RunTree else Run) run) is
-made_if false rows run is = ap (λ (t : Bool). (if t then RunTree else Run) run) is
+-- the run by the words that stand there
+pub made_as : (by_tree tells : Bool) (rows : List Row) (run : RunRequest) → is_set (codes "tree") rows ≡ by_tree → is_set (codes "steps") rows ≡ tells
+    → made_of rows run ≡ made_by by_tree tells run
+made_as by_tree tells rows run is_tree is_steps = ap₂ (λ (t u : Bool). made_by t u run) is_tree is_steps
 
 pub a_serve : (name m : Text) (rows : List Row) → name ≡ codes "serve" → first_of (codes "MODULE") rows ≡ Some m → command_of name rows ≡ serve_of m rows
 a_serve name m rows is h = rw (is, h) refl
@@ -175,9 +175,30 @@ pub a_verify : (name m : Text) (rows : List Row) (record_name : Option Text) →
     → first_of (codes "RECORD") rows ≡ record_name → command_of name rows ≡ option_map (Verify m) record_name
 a_verify name m rows record_name is h r = rw (is, h, r) refl
 
-pub an_explain : (name m : Text) (rows : List Row) (script : Option Text) (b : Option ℕ) → name ≡ codes "explain" → first_of (codes "MODULE") rows ≡ Some m
-    → first_of (codes "SCRIPT") rows ≡ script → budget_of rows ≡ b → command_of name rows ≡ option_map (Explain m script) b
-an_explain name m rows script b is h s e = rw (is, h, s) (ap (option_map (Explain m script)) e)
+pub an_explain : (name m : Text) (rows : List Row) → name ≡ codes "explain" → first_of (codes "MODULE") rows ≡ Some m → command_of name rows ≡ explain_of m rows
+an_explain name m rows is h = rw (is, h) refl
+
+-- what is shown, by what is named behind `--record`, by whether there is a schedule, and a number
+pub explained_by : (m : Text) (rows : List Row) (name : Option Text) → first_of (codes "RECORD") rows ≡ name → explain_of m rows ≡ explain_by m rows name
+explained_by m rows name is = ap (explain_by m rows) is
+
+pub texts_if : (given : Bool) (m : Text) (rows : List Row) → is_some (first_of (codes "SCHEDULE") rows) ≡ given
+    → explain_texts_of m rows ≡ (if given then option_map ExplainRun (run_of m rows) else explain_calls_of m rows)
+texts_if given m rows is = ap (λ (t : Bool). if t then option_map ExplainRun (run_of m rows) else explain_calls_of m rows) is
+
+pub calls_by_script : (m : Text) (rows : List Row) (script : Option Text) (b : Option ℕ) → is_some (first_of (codes "N") rows) ≡ false
+    → first_of (codes "SCRIPT") rows ≡ script → budget_of rows ≡ b → explain_calls_of m rows ≡ option_map (Explain m script) b
+calls_by_script m rows script b none s e =
+    ap (λ (t : Bool). if t then None else option_map (Explain m (first_of (codes "SCRIPT") rows)) (budget_of rows)) none
+    ∙ ap₂ (λ (o : Option Text) (p : Option ℕ). option_map (Explain m o) p) s e
+
+pub no_calls_by_number : (m : Text) (rows : List Row) → is_some (first_of (codes "N") rows) ≡ true → explain_calls_of m rows ≡ None
+no_calls_by_number m rows is = ap (λ (t : Bool). if t then None else option_map (Explain m (first_of (codes "SCRIPT") rows)) (budget_of rows)) is
+
+pub record_shown_if : (given : Bool) (m r : Text) (rows : List Row)
+    → (is_some (first_of (codes "SCRIPT") rows) || (is_some (first_of (codes "N") rows) || is_some (first_of (codes "BUDGET") rows))) ≡ given
+    → explain_record_of m r rows ≡ (if given then None else Some (ExplainRecord m r))
+record_shown_if given m r rows is = ap (λ (t : Bool). if t then None else Some (ExplainRecord m r)) is
 
 pub a_bound : (name m : Text) (rows : List Row) → name ≡ codes "bound" → first_of (codes "MODULE") rows ≡ Some m → command_of name rows ≡ bound_of m rows
 a_bound name m rows is h = rw (is, h) refl

@@ -6,9 +6,9 @@ use Rattle.clap.specs.Facts.{explicit_source}
 use Rattle.clap.specs.Values.{read_as, reading_of, refused_kind}
 use Rattle.clap.specs.ValueTests.{accepts}
 use Rattle.clap.specs.declared.builder.value_parser.ValueParser.{ValueParser}
-use Rattle.clap.specs.declared.parser.matches.ValueSource.TheVariants.{CommandLine, DefaultValue}
+use Rattle.clap.specs.declared.parser.matches.ValueSource.TheVariants.{CommandLine}
 use Rattle.clap.specs.declared.builder.value_parser.ValueParser.TheVariants as parser
-use Rattle.clap.specs.Walk.{Row, Rule, Text, action_of, answers_to, first_of, has_row, nothing_held, rows_after, used, values_or_missing, with_values, walk, walk_from, without, finished, settled}
+use Rattle.clap.specs.Walk.{Row, Rule, Text, action_of, answers_to, first_of, has_row, nothing_held, rows_after, used, values_or_missing, walk, walk_from, without, finished, settled}
 use Rattle.clap.specs.Kinds.{Kinds, check_kinds, or_else, range_kinds, value_kinds, values_kinds}
 use Rattle.clap.specs.Faults.{action_fault, check_fault, defaults_fault, entered_fault, fault_of, level_fault, repeat_fault, settle_fault, use_fault, walk_fault}
 use Rattle.clap.specs.Simple.{Shape, entered, label_of, rows_at, subcommand_of}
@@ -16,8 +16,8 @@ use Rattle.clap.specs.Takes.{is_given}
 use Rattle.clap.specs.declared.error.kind.ErrorKind.{ErrorKind}
 use Rattle.clap.specs.declared.error.kind.ErrorKind.TheVariants as kind
 use Rattle.ob_command.specs.ClapCommand.{obl0_app}
-use Rattle.ob_command.specs.CommandLine.{Request, Check, Listing, Verify, asks_command, bound_of, budget_of, command_of, explain_of, form_mistake, form_mistake_of, made_by, processes_of, run_of, seq_of, serve_of}
-use Rattle.ob_command.proofs.BuiltLine.{bound_leaf, built_app, built_budget, built_flag, built_help, built_name, built_number, built_one, built_top, calls_rules, draw_leaf, explain_leaf, module_leaf, names, needed, run_leaf, seq_leaf, serve_leaf, verify_leaf}
+use Rattle.ob_command.specs.CommandLine.{Request, Check, Listing, Verify, asks_command, bound_of, budget_of, command_of, form_mistake, form_mistake_of, processes_of, seq_of, serve_of}
+use Rattle.ob_command.proofs.BuiltLine.{bound_leaf, built_app, built_budget, built_help, built_name, built_number, built_one, built_top, draw_leaf, explain_leaf, module_leaf, names, needed, run_leaf, seq_leaf, serve_leaf, verify_leaf}
 use Rattle.ob_command.proofs.Given.{EachFills, Filled, Fills, given_first, given_number, level_filled, neither, some_budget, suits, with_filled, without_filled}
 use Rattle.ob_command.proofs.Numbers.{budget_accepted, number_accepted}
 
@@ -72,29 +72,6 @@ fills_budget = record {
   uses = one_uses (codes "BUDGET") None (Some 98) (parser.Signed (pos 0) (pos 4294967295)) budget_accepted;
   defaulted = λ rows f. kept (has_row (codes "BUDGET") rows) rows f;
 }
-
-none_taken : (n : ℕ) → range_kinds 0 0 (suc n) ≡ kind.WrongNumberOfValues ∷ []
-none_taken n =
-    let other : (0 == suc n) ≡ false = ne_eqb 0 (suc n) (λ e. omega arith) in
-    rw other refl
-
--- a word that stands there or not
-module _ (name : Text) (lets : suits name (codes "true") ≡ true) (says : suits name (codes "false") ≡ true) where
-  flag_uses : (again : Bool) (values : List Text) (rows : List Row) → use_fault again (built_flag name) values rows ≡ [] → Filled rows
-      → Filled (used (built_flag name) values rows)
-  flag_uses again [] rows none f = with_filled name (reading_of parser.Bool) CommandLine (codes "true") (without name rows) lets (without_filled name rows f)
-  flag_uses again (v ∷ rest) rows none f =
-      let a = built_flag name in
-      let ranged = neither (range_kinds 0 0 (suc (length rest))) (action_fault (action_of a) again a (values_or_missing a (v ∷ rest)) rows) none in
-      absurd (no_kinds kind.WrongNumberOfValues [] (sym (none_taken (length rest)) ∙ ranged.0))
-
-  defaults_to : (t : Bool) (rows : List Row) → Filled rows
-      → Filled (if t then rows else with_values name (reading_of parser.Bool) DefaultValue (codes "false" ∷ []) rows)
-  defaults_to true rows f = f
-  defaults_to false rows f = with_filled name (reading_of parser.Bool) DefaultValue (codes "false") rows says f
-
-  fills_flag : Fills (built_flag name)
-  fills_flag = record { uses = flag_uses; defaulted = λ rows f. defaults_to (has_row name rows) rows f }
 
 fills_help : Fills built_help
 fills_help = record { uses = λ again values rows none f. f; defaulted = λ rows f. kept (has_row (codes "help") rows) rows f }
@@ -184,40 +161,13 @@ verify_asks words none =
     (given_first (codes "MODULE") rows p.filled (p.given.0 refl))
     (λ m. some_map (first_of (codes "RECORD") rows) (Verify m) (given_first (codes "RECORD") rows p.filled (p.given.1.0 refl)))
 
-fills_calls : (script : Bool) → EachFills (calls_rules script (built_help ∷ []))
-fills_calls script = (fills_name 1 (codes "MODULE") any_text true, (fills_name 2 (codes "SCRIPT") any_text script, (fills_budget, (fills_help, tt))))
-
 seq_asks : AsksBy seq_leaf (λ rows m. seq_of m rows)
 seq_asks words none =
-    let p = passes seq_leaf (fills_calls true) refl words none in
+    let p = passes seq_leaf (fills_name 1 (codes "MODULE") any_text true, (fills_name 2 (codes "SCRIPT") any_text true, (fills_budget, (fills_help, tt)))) refl words none in
     let rows = rows_of_leaf seq_leaf words in
     some_then (first_of (codes "MODULE") rows) (λ m. seq_of m rows) (given_first (codes "MODULE") rows p.filled (p.given.0 refl))
     (λ m. some_then (first_of (codes "SCRIPT") rows) _ (given_first (codes "SCRIPT") rows p.filled (p.given.1.0 refl))
     (λ script. some_map (budget_of rows) _ (some_budget rows p.filled)))
-
-explain_asks : AsksBy explain_leaf (λ rows m. explain_of m rows)
-explain_asks words none =
-    let p = passes explain_leaf (fills_calls false) refl words none in
-    let rows = rows_of_leaf explain_leaf words in
-    some_then (first_of (codes "MODULE") rows) (λ m. explain_of m rows) (given_first (codes "MODULE") rows p.filled (p.given.0 refl))
-    (λ m. some_map (budget_of rows) _ (some_budget rows p.filled))
-
-fills_run : EachFills run_leaf.rules
-fills_run = (
-  fills_name 1 (codes "MODULE") any_text true,
-  (fills_name 2 (codes "SCRIPT") any_text true, (fills_name 3 (codes "SCHEDULE") any_text true, (fills_number, (fills_budget, (fills_flag (codes "tree") refl refl, (fills_help, tt)))))),
-)
-
-run_asks : AsksBy run_leaf (λ rows m. option_map (made_by rows) (run_of m rows))
-run_asks words none =
-    let p = passes run_leaf fills_run refl words none in
-    let rows = rows_of_leaf run_leaf words in
-    some_then (first_of (codes "MODULE") rows) (λ m. option_map (made_by rows) (run_of m rows)) (given_first (codes "MODULE") rows p.filled (p.given.0 refl))
-    (λ m. some_map (run_of m rows) (made_by rows)
-    (some_then (first_of (codes "SCRIPT") rows) _ (given_first (codes "SCRIPT") rows p.filled (p.given.1.0 refl))
-    (λ script. some_then (first_of (codes "SCHEDULE") rows) _ (given_first (codes "SCHEDULE") rows p.filled (p.given.1.1.0 refl))
-    (λ schedule. some_then (processes_of rows) _ (given_number rows p.filled (p.given.1.1.1.0 refl))
-    (λ processes. some_map (budget_of rows) _ (some_budget rows p.filled))))))
 
 serve_asks : AsksBy serve_leaf (λ rows m. serve_of m rows)
 serve_asks words none =
@@ -284,10 +234,10 @@ each_asks = (
     (
       one_form seq_leaf seq_asks,
       (
-        one_form run_leaf run_asks,
+        several_forms run_leaf (λ rows. refl),
         (
           one_form serve_leaf serve_asks,
-          (several_forms draw_leaf (λ rows. refl), (one_form verify_leaf verify_asks, (one_form explain_leaf explain_asks, (one_form bound_leaf bound_asks, tt)))),
+          (several_forms draw_leaf (λ rows. refl), (one_form verify_leaf verify_asks, (several_forms explain_leaf (λ rows. refl), (one_form bound_leaf bound_asks, tt)))),
         ),
       ),
     ),

@@ -1,9 +1,9 @@
 -- The plain forms of `run`, `serve`, `draw` and `bound`: names that are no options, a number of processes, and a budget.
-use Rattle.std.proofs.Common.{◌≡◌, ◌∙◌, ℕ, refl, ap, List, [], ◌∷◌, ◌++◌, codes, true, false, Bool, Option, Some, None, option_and_then, option_map, unwrap_or}
+use Rattle.std.proofs.Common.{◌≡◌, ◌∙◌, ℕ, refl, ap, ap₂, List, [], ◌∷◌, ◌++◌, codes, true, false, Bool, Option, Some, None, option_and_then, option_map, unwrap_or}
 use Rattle.clap.specs.Walk.{Row, Rule, Text, Walk}
 use Rattle.clap.specs.Simple.{Shape}
 use Rattle.clap.proofs.OnLiterals.{clap_on_literals}
-use Rattle.ob_command.specs.CommandLine.{Bound, Draw, Request, Run, RunTree, Serve, Unclear, calls_in, drawn_of, is_option, number, request}
+use Rattle.ob_command.specs.CommandLine.{Bound, Draw, Request, Run, RunRequest, RunSteps, RunTree, Serve, Unclear, calls_in, drawn_of, is_option, number, request}
 use Rattle.ob_command.specs.declared.command.CallNumbers.{CallNumbers}
 use Rattle.ob_command.specs.PlainForms.{IsBoundAsked, IsBudgetRunAsked, IsRecordAsked, IsRunAsked, IsServeAsked, run_with}
 use Rattle.ob_command.proofs.Asked.{asked, both_are, budget_is, number_is, run_is, start}
@@ -17,22 +17,22 @@ use Rattle.ob_command.proofs.WalkedWords.{Goes, named, no_refusal, no_refusal_be
 abbrev files_rows : Text → Text → Text → List Row
 files_rows m s d = name_row (codes "MODULE") m ∷ name_row (codes "SCRIPT") s ∷ name_row (codes "SCHEDULE") d ∷ []
 
-abbrev run_rows : Text → Text → Text → Text → List Row
+abbrev pub run_rows : Text → Text → Text → Text → List Row
 run_rows m s d n = name_row (codes "MODULE") m ∷ name_row (codes "SCRIPT") s ∷ name_row (codes "SCHEDULE") d ∷ number_row n ∷ []
 
-abbrev budget_rows : Text → Text → Text → Text → Text → List Row
+abbrev pub budget_rows : Text → Text → Text → Text → Text → List Row
 budget_rows m s d n b = name_row (codes "MODULE") m ∷ name_row (codes "SCRIPT") s ∷ name_row (codes "SCHEDULE") d ∷ number_row n ∷ budget_row b ∷ []
 
 module _ (command : Text) (script schedule count : Bool) (more : List Rule) where
-  abbrev on_run : Shape
+  abbrev pub on_run : Shape
   on_run = leaf command (run_rules script schedule count more)
 
   -- where the number of processes was met, behind the three names
-  abbrev counted : Text → Text → Text → Text → Walk
+  abbrev pub counted : Text → Text → Text → Text → Walk
   counted m s d n = state on_run (files_rows m s d) (Some (codes "N", n ∷ [])) 4
 
   -- the three names and the number, and what follows
-  run_named : (m s d n : Text) → is_option m ≡ false → is_option s ≡ false → is_option d ≡ false → PlainNumber 65535 n
+  pub run_named : (m s d n : Text) → is_option m ≡ false → is_option s ≡ false → is_option d ≡ false → PlainNumber 65535 n
       → (words : List Text) (rows : List Row) → Goes on_run (counted m s d n) words rows → Goes on_run start (m ∷ s ∷ d ∷ codes "-n" ∷ n ∷ words) rows
   unfolding clap_on_literals
   run_named m s d n no_m no_s no_d plain words rows goes =
@@ -42,7 +42,7 @@ module _ (command : Text) (script schedule count : Bool) (more : List Rule) wher
       (optioned on_run _ (codes "-n") (codes "N") n (files_rows m s d) 4 refl refl plain.no_option refl words rows goes)))
 
   -- behind them a budget, and what follows
-  run_budgeted : (short : Bool) (m s d n b : Text) → PlainNumber 65535 n → PlainNumber 4294967295 b → (words : List Text) (rows : List Row)
+  pub run_budgeted : (short : Bool) (m s d n b : Text) → PlainNumber 65535 n → PlainNumber 4294967295 b → (words : List Text) (rows : List Row)
       → Goes on_run (state on_run (run_rows m s d n) (Some (codes "BUDGET", b ∷ [])) 4) words rows
       → Goes on_run (counted m s d n) (budget_flag short ∷ b ∷ words) rows
   unfolding clap_on_literals
@@ -53,15 +53,24 @@ module _ (command : Text) (script schedule count : Bool) (more : List Rule) wher
 
 -- ---- a run of them, by the code or by the tree
 
--- the rows that are left of a run where `--tree` isn't said, and where it is
+-- the rows that are left of a run, where none of both words stands behind it, or one
 abbrev code_rows : List Row → List Row
-code_rows rows = rows ++ no_flag_row (codes "tree") ∷ []
+code_rows rows = rows ++ no_flag_row (codes "tree") ∷ no_flag_row (codes "steps") ∷ []
 
 abbrev tree_rows : List Row → List Row
-tree_rows rows = rows ++ flag_row (codes "tree") ∷ []
+tree_rows rows = rows ++ flag_row (codes "tree") ∷ no_flag_row (codes "steps") ∷ []
+
+abbrev steps_rows : List Row → List Row
+steps_rows rows = rows ++ flag_row (codes "steps") ∷ no_flag_row (codes "tree") ∷ []
 
 abbrev run_more : List Rule
-run_more = built_flag (codes "tree") ∷ built_help ∷ []
+run_more = built_flag (codes "tree") ∷ built_flag (codes "steps") ∷ built_help ∷ []
+
+-- the request of a number of processes and a budget
+run_made : (asks : RunRequest → Request) (run : ℕ → ℕ → RunRequest) (o p : Option ℕ) (k t : ℕ) → o ≡ Some k → p ≡ Some t
+    → unwrap_or (option_and_then (λ r. Some (asks r)) (option_and_then (λ processes. option_map (run processes) p) o)) Unclear ≡ asks (run k t)
+run_made asks run o p k t is_k is_t =
+    ap₂ (λ (o p : Option ℕ). unwrap_or (option_and_then (λ r. Some (asks r)) (option_and_then (λ processes. option_map (run processes) p) o)) Unclear) is_k is_t
 
 pub run_asked : IsRunAsked (codes "run") [] Run
 unfolding clap_on_literals
@@ -70,7 +79,7 @@ run_asked m s d n k no_m no_s no_d is =
     asked (codes "run") run_leaf refl refl refl (m ∷ s ∷ d ∷ codes "-n" ∷ n ∷ []) (code_rows (run_rows m s d n))
     (run_named (codes "run") true true true run_more m s d n no_m no_s no_d plain [] (code_rows (run_rows m s d n))
     (record { no_fault = no_refusal _ plain.passes; leaves = refl }))
-    ∙ run_is Run (run_with m s d) _ _ k 100000 (number_is n k is) refl
+    ∙ run_made Run (run_with m s d) _ _ k 100000 (number_is n k is) refl
 
 pub run_budget_asked : (short : Bool) → IsBudgetRunAsked (codes "run") (budget_flag short) [] Run
 unfolding clap_on_literals
@@ -81,7 +90,7 @@ run_budget_asked short m s d n b k t no_m no_s no_d is_k is_t =
     (run_named (codes "run") true true true run_more m s d n no_m no_s no_d plain_n (budget_flag short ∷ b ∷ []) (code_rows (budget_rows m s d n b))
     (run_budgeted (codes "run") true true true run_more short m s d n b plain_n plain_b [] (code_rows (budget_rows m s d n b))
     (record { no_fault = no_refusal _ plain_b.passes; leaves = refl })))
-    ∙ run_is Run (run_with m s d) _ _ k t (number_is n k is_k) (budget_is b t is_t)
+    ∙ run_made Run (run_with m s d) _ _ k t (number_is n k is_k) (budget_is b t is_t)
 
 pub tree_asked : IsRunAsked (codes "run") (codes "--tree" ∷ []) RunTree
 unfolding clap_on_literals
@@ -90,7 +99,7 @@ tree_asked m s d n k no_m no_s no_d is =
     asked (codes "run") run_leaf refl refl refl (m ∷ s ∷ d ∷ codes "-n" ∷ n ∷ codes "--tree" ∷ []) (tree_rows (run_rows m s d n))
     (run_named (codes "run") true true true run_more m s d n no_m no_s no_d plain (codes "--tree" ∷ []) (tree_rows (run_rows m s d n))
     (stepped run_leaf _ (codes "--tree") (no_refusal_before _ plain.passes) _ refl [] _ (record { no_fault = refl; leaves = refl })))
-    ∙ run_is RunTree (run_with m s d) _ _ k 100000 (number_is n k is) refl
+    ∙ run_made RunTree (run_with m s d) _ _ k 100000 (number_is n k is) refl
 
 pub tree_budget_asked : (short : Bool) → IsBudgetRunAsked (codes "run") (budget_flag short) (codes "--tree" ∷ []) RunTree
 unfolding clap_on_literals
@@ -101,7 +110,27 @@ tree_budget_asked short m s d n b k t no_m no_s no_d is_k is_t =
     (run_named (codes "run") true true true run_more m s d n no_m no_s no_d plain_n (budget_flag short ∷ b ∷ codes "--tree" ∷ []) (tree_rows (budget_rows m s d n b))
     (run_budgeted (codes "run") true true true run_more short m s d n b plain_n plain_b (codes "--tree" ∷ []) (tree_rows (budget_rows m s d n b))
     (stepped run_leaf _ (codes "--tree") (no_refusal_before _ plain_b.passes) _ refl [] _ (record { no_fault = refl; leaves = refl }))))
-    ∙ run_is RunTree (run_with m s d) _ _ k t (number_is n k is_k) (budget_is b t is_t)
+    ∙ run_made RunTree (run_with m s d) _ _ k t (number_is n k is_k) (budget_is b t is_t)
+
+pub steps_asked : IsRunAsked (codes "run") (codes "--steps" ∷ []) RunSteps
+unfolding clap_on_literals
+steps_asked m s d n k no_m no_s no_d is =
+    let plain = plain_number n k is in
+    asked (codes "run") run_leaf refl refl refl (m ∷ s ∷ d ∷ codes "-n" ∷ n ∷ codes "--steps" ∷ []) (steps_rows (run_rows m s d n))
+    (run_named (codes "run") true true true run_more m s d n no_m no_s no_d plain (codes "--steps" ∷ []) (steps_rows (run_rows m s d n))
+    (stepped run_leaf _ (codes "--steps") (no_refusal_before _ plain.passes) _ refl [] _ (record { no_fault = refl; leaves = refl })))
+    ∙ run_made RunSteps (run_with m s d) _ _ k 100000 (number_is n k is) refl
+
+pub steps_budget_asked : (short : Bool) → IsBudgetRunAsked (codes "run") (budget_flag short) (codes "--steps" ∷ []) RunSteps
+unfolding clap_on_literals
+steps_budget_asked short m s d n b k t no_m no_s no_d is_k is_t =
+    let plain_n = plain_number n k is_k in
+    let plain_b = plain_budget b t is_t in
+    asked (codes "run") run_leaf refl refl refl (m ∷ s ∷ d ∷ codes "-n" ∷ n ∷ budget_flag short ∷ b ∷ codes "--steps" ∷ []) (steps_rows (budget_rows m s d n b))
+    (run_named (codes "run") true true true run_more m s d n no_m no_s no_d plain_n (budget_flag short ∷ b ∷ codes "--steps" ∷ []) (steps_rows (budget_rows m s d n b))
+    (run_budgeted (codes "run") true true true run_more short m s d n b plain_n plain_b (codes "--steps" ∷ []) (steps_rows (budget_rows m s d n b))
+    (stepped run_leaf _ (codes "--steps") (no_refusal_before _ plain_b.passes) _ refl [] _ (record { no_fault = refl; leaves = refl }))))
+    ∙ run_made RunSteps (run_with m s d) _ _ k t (number_is n k is_k) (budget_is b t is_t)
 
 -- ---- a picture of them, of all calls or of some
 

@@ -28,6 +28,10 @@ flag_rule name = record (new_rule name) { long = Some name; action = Some SetTru
 abbrev pub calls_rule : Rule
 calls_rule = record (new_rule (codes "FROM-TO")) { long = Some (codes "calls") }
 
+-- `--record RECORD`, which may be missing
+abbrev pub record_rule : Rule
+record_rule = record (new_rule (codes "RECORD")) { long = Some (codes "record") }
+
 -- `check MODULE`, `list MODULE`
 abbrev pub module_app : Text → App
 module_app command = with_rule (new_app command) (name_rule (codes "MODULE"))
@@ -40,17 +44,21 @@ script_app command = with_rule (module_app command) (name_rule (codes "SCRIPT"))
 abbrev pub seq_app : Text → App
 seq_app command = with_rule (script_app command) budget_rule
 
--- `explain MODULE`, `explain MODULE SCRIPT -b BUDGET`
+-- `MODULE SCRIPT SCHEDULE` behind a command, of which the last two may be missing
+abbrev pub texts_app : Text → App
+texts_app command = with_rule (with_rule (module_app command) (new_rule (codes "SCRIPT"))) (new_rule (codes "SCHEDULE"))
+
+-- `explain MODULE`, `explain MODULE SCRIPT -b BUDGET`, `explain MODULE SCRIPT SCHEDULE -n N -b BUDGET`, `explain MODULE --record RECORD`
 abbrev pub explain_app : Text → App
-explain_app command = with_rule (with_rule (module_app command) (new_rule (codes "SCRIPT"))) budget_rule
+explain_app command = with_rule (with_rule (with_rule (texts_app command) optional_number_rule) budget_rule) record_rule
 
 -- `MODULE SCRIPT SCHEDULE -n N -b BUDGET` behind a command
 abbrev pub schedule_app : Text → App
 schedule_app command = with_rule (with_rule (with_rule (script_app command) (name_rule (codes "SCHEDULE"))) number_rule) budget_rule
 
--- `run MODULE SCRIPT SCHEDULE -n N -b BUDGET --tree`
+-- `run MODULE SCRIPT SCHEDULE -n N -b BUDGET --tree --steps`
 abbrev pub run_app : Text → App
-run_app command = with_rule (schedule_app command) (flag_rule (codes "tree"))
+run_app command = with_rule (with_rule (schedule_app command) (flag_rule (codes "tree"))) (flag_rule (codes "steps"))
 
 -- `MODULE SCRIPT SCHEDULE` behind a command, of which the last may be missing
 abbrev pub drawn_app : Text → App

@@ -1,5 +1,5 @@
 -- What the words of the command line ask for, by what clap makes of them.
-use Rattle.std.specs.Prelude.{ℕ, ◌==◌, ◌&&◌, ◌||◌, Bool, false, List, [], ◌∷◌, Option, Some, None, is_some, nat_le, option_and_then, option_map, unwrap_or, codes, if◌then◌else◌}
+use Rattle.std.specs.Prelude.{ℕ, ◌==◌, ◌&&◌, ◌||◌, Bool, true, false, List, [], ◌∷◌, Option, Some, None, is_some, nat_le, option_and_then, option_map, unwrap_or, codes, if◌then◌else◌}
 use Rattle.std.specs.List.{after_first, before_first, list_any}
 use Rattle.std.specs.Option.{option_map_or}
 use Rattle.std.specs.Str.{bytes_eq}
@@ -22,21 +22,24 @@ pub record RunRequest : Type 0 where
   pub budget : ℕ
 
 -- What they ask for: the rules of a module checked; its code listed; the calls of a script made on it; a run's record; the record of the
--- same run by the tree of the module;
--- the record of workers' run; a run's picture; a record's; the order of a record checked; what is wrong with a module, or with a module and a script, shown to
--- people; how many own steps a call takes at most; help; the version; or nothing that there is. A command has the names of its files, and a budget is how many turns each call has.
--- A picture has some calls, or all.
+-- same run by the tree of the module; the record with the own steps of its calls beside it; the record of workers' run; a run's picture;
+-- a record's; the order of a record checked; what is wrong with a module, or with a module and a script, shown to people; the same of a
+-- run; the same of a record; how many own steps a call takes at most; help; the version; or nothing that there is. A command has the
+-- names of its files, and a budget is how many turns each call has. A picture has some calls, or all.
 pub data Request : Type 0 where
   Check : (module_name : Text) → Request
   Listing : (module_name : Text) → Request
   Seq : (module_name script_name : Text) (budget : ℕ) → Request
   Run : (run : RunRequest) → Request
   RunTree : (run : RunRequest) → Request
+  RunSteps : (run : RunRequest) → Request
   Serve : (module_name script_name : Text) (processes budget : ℕ) → Request
   Draw : (run : RunRequest) (calls : Option CallNumbers) → Request
   DrawRecord : (module_name record_name : Text) (calls : Option CallNumbers) → Request
   Verify : (module_name record_name : Text) → Request
   Explain : (module_name : Text) (script_name : Option Text) (budget : ℕ) → Request
+  ExplainRun : (run : RunRequest) → Request
+  ExplainRecord : (module_name record_name : Text) → Request
   Bound : (module_name : Text) (processes budget : ℕ) → Request
   Help : Request
   Version : Request
@@ -97,9 +100,17 @@ run_of module_name rows =
 abbrev pub is_set : Text → List Row → Bool
 is_set name rows = option_map_or (λ text. bytes_eq text (codes "true")) (first_of name rows) false
 
--- by which engine a run is made, of the same rows: by that over the code of the module, or by that over its tree
-abbrev pub made_by : List Row → RunRequest → Request
-made_by rows = if is_set (codes "tree") rows then RunTree else Run
+-- How a run is made, and what is told of it: by the engine over the module's tree, or by that over its code, where own steps may be
+-- told too.
+abbrev pub made_by : (tree steps : Bool) → RunRequest → Option Request
+made_by true true run = None
+made_by true false run = Some (RunTree run)
+made_by false true run = Some (RunSteps run)
+made_by false false run = Some (Run run)
+
+-- the same of the rows
+abbrev pub made_of : List Row → RunRequest → Option Request
+made_of rows = made_by (is_set (codes "tree") rows) (is_set (codes "steps") rows)
 
 -- the calls that a picture has by the word behind `--calls`: all where there is none, and none where that is no range
 abbrev pub calls_by : Option Text → Option (Option CallNumbers)
@@ -137,9 +148,30 @@ abbrev pub seq_of : Text → List Row → Option Request
 seq_of module_name rows =
     option_and_then (λ script_name. option_map (Seq module_name script_name) (budget_of rows)) (first_of (codes "SCRIPT") rows)
 
+-- A record is explained with its module alone.
+abbrev pub explain_record_of : (module_name record_name : Text) → List Row → Option Request
+explain_record_of module_name record_name rows =
+    if is_some (first_of (codes "SCRIPT") rows) || (is_some (first_of (codes "N") rows) || is_some (first_of (codes "BUDGET") rows)) then None
+    else Some (ExplainRecord module_name record_name)
+
+-- what is to be shown of a module and a script, of the same rows
+abbrev pub explain_calls_of : Text → List Row → Option Request
+explain_calls_of module_name rows =
+    if is_some (first_of (codes "N") rows) then None else option_map (Explain module_name (first_of (codes "SCRIPT") rows)) (budget_of rows)
+
+-- what is to be shown of texts that are no record: of a run where there is a schedule
+abbrev pub explain_texts_of : Text → List Row → Option Request
+explain_texts_of module_name rows =
+    if is_some (first_of (codes "SCHEDULE") rows) then option_map ExplainRun (run_of module_name rows) else explain_calls_of module_name rows
+
+-- what is to be shown, by the word behind `--record`
+abbrev pub explain_by : Text → List Row → Option Text → Option Request
+explain_by module_name rows None = explain_texts_of module_name rows
+explain_by module_name rows (Some record_name) = explain_record_of module_name record_name rows
+
 -- what is to be shown, of the same rows
 abbrev pub explain_of : Text → List Row → Option Request
-explain_of module_name rows = option_map (Explain module_name (first_of (codes "SCRIPT") rows)) (budget_of rows)
+explain_of module_name rows = explain_by module_name rows (first_of (codes "RECORD") rows)
 
 -- what is to be told of own steps, of the same rows
 abbrev pub bound_of : Text → List Row → Option Request
@@ -151,7 +183,7 @@ command_of name rows = option_and_then (λ module_name.
     if bytes_eq name (codes "check") then Some (Check module_name)
     else if bytes_eq name (codes "list") then Some (Listing module_name)
     else if bytes_eq name (codes "seq") then seq_of module_name rows
-    else if bytes_eq name (codes "run") then option_map (made_by rows) (run_of module_name rows)
+    else if bytes_eq name (codes "run") then option_and_then (made_of rows) (run_of module_name rows)
     else if bytes_eq name (codes "serve") then serve_of module_name rows
     else if bytes_eq name (codes "draw") then draw_of module_name rows
     else if bytes_eq name (codes "verify") then option_map (Verify module_name) (first_of (codes "RECORD") rows)
@@ -169,9 +201,22 @@ abbrev pub calls_mistake : Text
 calls_mistake =
     codes "error: behind --calls stands FROM-TO, the places of the first and the last call, from 1\n\nFor more information, try '--help'.\n"
 
+-- and of words behind `explain` that are in none of its forms
+abbrev pub explain_mistake : Text
+explain_mistake =
+    codes "error: a run is explained by MODULE SCRIPT SCHEDULE -n N, and a record by MODULE --record RECORD alone\n\nFor more information, try '--help'.\n"
+
+-- and of words behind `run` that ask for own steps by the tree
+abbrev pub run_mistake : Text
+run_mistake = codes "error: --tree and --steps don't stand together\n\nFor more information, try '--help'.\n"
+
 -- What is said where the words of a command that has several forms have none of these. Every other command has one form, which clap tests.
 abbrev pub form_mistake : Text → List Row → Option Text
-form_mistake name rows = if bytes_eq name (codes "draw") then Some (if is_some (calls_of rows) then draw_mistake else calls_mistake) else None
+form_mistake name rows =
+    if bytes_eq name (codes "draw") then Some (if is_some (calls_of rows) then draw_mistake else calls_mistake)
+    else if bytes_eq name (codes "explain") then Some explain_mistake
+    else if bytes_eq name (codes "run") then Some run_mistake
+    else None
 
 -- the same of all words, by the command that clap meets in them
 abbrev pub form_mistake_of : List Text → Option Text

@@ -3,8 +3,8 @@
 ghost use Rattle.std.specs.Prelude.{◌≡◌, false, true, IfOk, IsOkAnd, map, option_map, is_some};
 ghost use Rattle.clap.specs.Words.{app_of, first_of, found_of, kind_of, new_rule, rows_of, rule_of};
 ghost use Rattle.clap.specs.declared.builder.command.Command.TheViews.{out-Command as fields_of};
-ghost use Rattle.ob_command.specs.ClapCommand.{bound_app, budget_rule, calls_rule, draw_app, drawn_app, explain_app, flag_rule, module_app, name_rule, number_rule, obl0_app, optional_number_rule, record_app, run_app, schedule_app, script_app, seq_app, serve_app, top_app, with_command};
-ghost use Rattle.ob_command.specs.CommandLine.{asks_version, bound_of, budget_of, calls_between, calls_in, calls_of, clap_request, clap_words, command_of, draw_of, draw_record_of, form_mistake, help_of_command, help_words, is_set, is_version_option, made_by, place_number, request, run_of, serve_of};
+ghost use Rattle.ob_command.specs.ClapCommand.{bound_app, budget_rule, calls_rule, draw_app, drawn_app, explain_app, flag_rule, module_app, name_rule, number_rule, obl0_app, optional_number_rule, record_app, record_rule, run_app, schedule_app, script_app, seq_app, serve_app, texts_app, top_app, with_command};
+ghost use Rattle.ob_command.specs.CommandLine.{asks_version, bound_of, budget_of, calls_between, calls_in, calls_of, clap_request, clap_words, command_of, draw_of, draw_record_of, explain_calls_of, explain_of, explain_record_of, explain_texts_of, form_mistake, help_of_command, help_words, is_set, is_version_option, made_of, place_number, request, run_of, serve_of};
 ghost use Rattle.ob_command.specs.Commands.{IsMistake, IsReading, IsStopOf, request_of, run_request_of};
 ghost use Rattle.ob_command.specs.declared.command.Stop.TheVariants.{NoMemory};
 
@@ -33,6 +33,8 @@ pub enum Command<'a> {
     Run(RunCommand<'a>),
     /// `run .. --tree`: the record of the same run, by the tree of the module.
     RunTree(RunCommand<'a>),
+    /// `run .. --steps`: the record, and the own steps of each call that ended.
+    RunSteps(RunCommand<'a>),
     /// `serve MODULE SCRIPT -n N -b BUDGET`: the record of a run by workers, one for each process.
     Serve {
         module_name: &'a str,
@@ -61,6 +63,13 @@ pub enum Command<'a> {
         module_name: &'a str,
         script_name: Option<&'a str>,
         budget: u32,
+    },
+    /// `explain MODULE SCRIPT SCHEDULE -n N -b BUDGET`: what is wrong with a run, shown to people.
+    ExplainRun(RunCommand<'a>),
+    /// `explain MODULE --record RECORD`: what is wrong with a record, shown to people.
+    ExplainRecord {
+        module_name: &'a str,
+        record_name: &'a str,
     },
     /// `bound MODULE -n N -b BUDGET`: how many own steps a call takes at most.
     Bound {
@@ -124,7 +133,8 @@ const ABOUT_DRAW: &str =
 
 const ABOUT_VERIFY: &str = "Tells whether the order of a record is a legal order of its calls";
 
-const ABOUT_EXPLAIN: &str = "Shows what is wrong with a module, or with a module and a script";
+const ABOUT_EXPLAIN: &str =
+    "Shows what is wrong with a module, with a module and a script, with a run or with a record";
 
 const ABOUT_BOUND: &str =
     "Prints how many own steps a call takes at most, and the numbers behind it";
@@ -144,12 +154,29 @@ const HELP_BUDGET: &str =
 const HELP_TREE: &str =
     "Runs the module by its tree in place of its code, which may then be of any length";
 
+const HELP_STEPS: &str =
+    "Prints on standard error each ended call's own steps too, a line each, as `0.1 37`";
+
 const HELP_CALLS: &str =
     "Which calls are drawn: the places of the first and the last, from 1; all where nothing is said";
 
 /// What is wrong with words for a picture that name neither a run nor a record.
 const UNCLEAR_DRAW: &str = "\
 error: a run is drawn by MODULE SCRIPT SCHEDULE -n N, and a record by MODULE RECORD without -n and -b
+
+For more information, try '--help'.
+";
+
+/// What is wrong with words behind `explain` that are in none of its forms.
+const UNCLEAR_EXPLAIN: &str = "\
+error: a run is explained by MODULE SCRIPT SCHEDULE -n N, and a record by MODULE --record RECORD alone
+
+For more information, try '--help'.
+";
+
+/// What is wrong with words behind `run` that ask for own steps by the tree.
+const UNCLEAR_RUN: &str = "\
+error: --tree and --steps don't stand together
 
 For more information, try '--help'.
 ";
@@ -268,6 +295,8 @@ fn form_mistake(name: &str, matches: &ArgMatches<'_>) -> Option<&'static str>
             Some(_) => Some(UNCLEAR_DRAW),
             None => Some(UNCLEAR_CALLS),
         },
+        "explain" => Some(UNCLEAR_EXPLAIN),
+        "run" => Some(UNCLEAR_RUN),
         _ => None,
     }
 }
@@ -285,31 +314,28 @@ fn command_of<'a>(name: &str, matches: &ArgMatches<'a>) -> Option<Command<'a>>
             script_name: matches.get_str("SCRIPT")?,
             budget: budget_of(matches)?,
         }),
-        "run" => Some(made_by(matches, run_of(module_name, matches)?)),
+        "run" => made_of(matches, run_of(module_name, matches)?),
         "serve" => serve_of(module_name, matches),
         "draw" => draw_of(module_name, matches),
         "verify" => Some(Command::Verify {
             module_name,
             record_name: matches.get_str("RECORD")?,
         }),
-        "explain" => Some(Command::Explain {
-            module_name,
-            script_name: matches.get_str("SCRIPT"),
-            budget: budget_of(matches)?,
-        }),
+        "explain" => explain_of(module_name, matches),
         "bound" => bound_of(module_name, matches),
         _ => None,
     }
 }
 
-/// By which engine a run is made, of the matches of the words behind `run`.
-fn made_by<'a>(matches: &ArgMatches<'_>, run: RunCommand<'a>) -> Command<'a>
-    ensures { request_of result ≡ made_by (rows_of (found_of matches.now)) (run_request_of run.entry) }
+/// How a run is made and what is told of it, of the matches of the words behind `run`.
+fn made_of<'a>(matches: &ArgMatches<'_>, run: RunCommand<'a>) -> Option<Command<'a>>
+    ensures { option_map request_of result ≡ made_of (rows_of (found_of matches.now)) (run_request_of run.entry) }
 {
-    if is_set(matches, "tree") {
-        Command::RunTree(run)
-    } else {
-        Command::Run(run)
+    match (is_set(matches, "tree"), is_set(matches, "steps")) {
+        (true, true) => None,
+        (true, false) => Some(Command::RunTree(run)),
+        (false, true) => Some(Command::RunSteps(run)),
+        (false, false) => Some(Command::Run(run)),
     }
 }
 
@@ -427,6 +453,59 @@ fn draw_record_of<'a>(
     })
 }
 
+/// What is to be shown, of the matches of the words behind `explain`.
+fn explain_of<'a>(module_name: &'a str, matches: &ArgMatches<'a>) -> Option<Command<'a>>
+    ensures { option_map request_of result ≡ explain_of module_name.entry.now (rows_of (found_of matches.now)) }
+{
+    match matches.get_str("RECORD") {
+        None => explain_texts_of(module_name, matches),
+        Some(record_name) => explain_record_of(module_name, record_name, matches),
+    }
+}
+
+/// What is to be shown of texts that are no record, of the same matches.
+fn explain_texts_of<'a>(module_name: &'a str, matches: &ArgMatches<'a>) -> Option<Command<'a>>
+    ensures { option_map request_of result ≡ explain_texts_of module_name.entry.now (rows_of (found_of matches.now)) }
+{
+    if is_given(matches, "SCHEDULE") {
+        return Some(Command::ExplainRun(run_of(module_name, matches)?));
+    }
+    explain_calls_of(module_name, matches)
+}
+
+/// What is to be shown of a module and a script, of the same matches.
+fn explain_calls_of<'a>(module_name: &'a str, matches: &ArgMatches<'a>) -> Option<Command<'a>>
+    ensures { option_map request_of result ≡ explain_calls_of module_name.entry.now (rows_of (found_of matches.now)) }
+{
+    if is_given(matches, "N") {
+        return None;
+    }
+    let script_name = matches.get_str("SCRIPT");
+    let budget = budget_of(matches)?;
+    Some(Command::Explain {
+        module_name,
+        script_name,
+        budget,
+    })
+}
+
+/// The record that is to be shown, of the same matches.
+fn explain_record_of<'a>(
+    module_name: &'a str,
+    record_name: &'a str,
+    matches: &ArgMatches<'a>,
+) -> Option<Command<'a>>
+    ensures { option_map request_of result ≡ explain_record_of module_name.entry.now record_name.entry.now (rows_of (found_of matches.now)) }
+{
+    if is_given(matches, "SCRIPT") || is_given(matches, "N") || is_given(matches, "BUDGET") {
+        return None;
+    }
+    Some(Command::ExplainRecord {
+        module_name,
+        record_name,
+    })
+}
+
 /// Whether an argument was given, of the same matches.
 fn is_given(matches: &ArgMatches<'_>, id: &str) -> bool
     ensures { result ≡ is_some (first_of id.now (rows_of (found_of matches.now))) }
@@ -531,7 +610,7 @@ fn program_line<'a>(alloc: Global) -> Result<clap::Command<'a>, AllocError>
     Ok(program)
 }
 
-/// The words behind a command that makes a run, by the code or by the tree of a module.
+/// The words behind a command that makes a run and may tell more of it.
 fn run_line<'a>(
     alloc: Global,
     command: &'a str,
@@ -540,7 +619,9 @@ fn run_line<'a>(
     ensures app { IfOk result (λ c. app_of c ≡ run_app command.entry.now) }
     ensures local { IfOk result (λ c. (fields_of c).has_globals ≡ false) }
 {
-    schedule_line(alloc, command, about)?.arg(flag(alloc, "tree", HELP_TREE))
+    schedule_line(alloc, command, about)?
+        .arg(flag(alloc, "tree", HELP_TREE))?
+        .arg(flag(alloc, "steps", HELP_STEPS))
 }
 
 /// The words behind a command on a module, a script and a schedule, for a number of processes with a budget.
@@ -625,7 +706,7 @@ fn seq_line<'a>(
     script_line(alloc, command, about)?.arg(call_budget(alloc))
 }
 
-/// The words behind a command on a module, and on a script where one is named.
+/// The words behind a command on a module, on a script where one is named, and on a schedule or a record.
 fn explain_line<'a>(
     alloc: Global,
     command: &'a str,
@@ -634,9 +715,24 @@ fn explain_line<'a>(
     ensures app { IfOk result (λ c. app_of c ≡ explain_app command.entry.now) }
     ensures local { IfOk result (λ c. (fields_of c).has_globals ≡ false) }
 {
+    texts_line(alloc, command, about)?
+        .arg(optional_count(alloc))?
+        .arg(call_budget(alloc))?
+        .arg(explained_record(alloc))
+}
+
+/// The names behind a command that explains: of a module, of a script and of a schedule, where they are named.
+fn texts_line<'a>(
+    alloc: Global,
+    command: &'a str,
+    about: &'a str,
+) -> Result<clap::Command<'a>, AllocError>
+    ensures app { IfOk result (λ c. app_of c ≡ texts_app command.entry.now) }
+    ensures local { IfOk result (λ c. (fields_of c).has_globals ≡ false) }
+{
     module_line(alloc, command, about)?
-        .arg(Arg::new(alloc, "SCRIPT").help(HELP_SCRIPT))?
-        .arg(call_budget(alloc))
+        .arg(optional_name(alloc, "SCRIPT", HELP_SCRIPT))?
+        .arg(optional_name(alloc, "SCHEDULE", HELP_SCHEDULE))
 }
 
 /// The words behind a command on a module, for a number of processes with a budget.
@@ -703,6 +799,14 @@ fn flag<'a>(alloc: Global, name: &'a str, help: &'a str) -> Arg<'a>
         .long(name)
         .action(ArgAction::SetTrue)
         .help(help)
+}
+
+/// The option that names a record in place of a script.
+fn explained_record<'a>(alloc: Global) -> Arg<'a>
+    ensures rule { rule_of result ≡ record_rule }
+    ensures local { result.global ≡ false }
+{
+    Arg::new(alloc, "RECORD").long("record").help(HELP_RECORD)
 }
 
 /// The option that says which calls a picture has.

@@ -3,7 +3,7 @@
 ghost use Rattle.std.specs.Prelude.{◌≡◌, ◌⊎◌, ℕ, List, Some, None, [], ◌∷◌, false, true, All, codes, is_some};
 ghost use Rattle.clap.specs.Words.{fault_of};
 ghost use Rattle.ob_command.specs.ClapCommand.{obl0_app};
-ghost use Rattle.ob_command.specs.CommandLine.{Bound, Check, Draw, Explain, Help, Listing, Run, RunTree, Seq, Serve, Text, Unclear, Verify, Version, asks_command, command_names, form_mistake_of, is_option, number, request};
+ghost use Rattle.ob_command.specs.CommandLine.{Bound, Check, Draw, Explain, ExplainRecord, ExplainRun, Help, Listing, Run, RunSteps, RunTree, Seq, Serve, Text, Unclear, Verify, Version, asks_command, command_names, form_mistake_of, is_option, number, request};
 ghost use Rattle.ob_command.specs.PlainForms.{IsBoundAsked, IsBudgetRunAsked, IsCallsAsked, IsHelpAsked, IsRecordAsked, IsRunAsked, IsServeAsked, IsVersionAsked, WithCalls};
 
 /// `check` and a name that is no option.
@@ -43,6 +43,13 @@ pub fn run_by_tree_is_asked()
     ensures plain { IsRunAsked (codes "run") (codes "--tree" ∷ []) RunTree }
     ensures short { IsBudgetRunAsked (codes "run") (codes "-b") (codes "--tree" ∷ []) RunTree }
     ensures long { IsBudgetRunAsked (codes "run") (codes "--budget") (codes "--tree" ∷ []) RunTree }
+{}
+
+/// The same with `--steps`.
+pub fn run_with_steps_is_asked()
+    ensures plain { IsRunAsked (codes "run") (codes "--steps" ∷ []) RunSteps }
+    ensures short { IsBudgetRunAsked (codes "run") (codes "-b") (codes "--steps" ∷ []) RunSteps }
+    ensures long { IsBudgetRunAsked (codes "run") (codes "--budget") (codes "--steps" ∷ []) RunSteps }
 {}
 
 /// `serve` and two names that are no options, and `-n` with a number.
@@ -104,6 +111,19 @@ pub fn explain_of_script_is_asked()
 pub fn explain_with_budget_is_asked()
     ensures short { IsCallsAsked (codes "explain") (codes "-b") (λ m s k. Explain m (Some s) k) }
     ensures long { IsCallsAsked (codes "explain") (codes "--budget") (λ m s k. Explain m (Some s) k) }
+{}
+
+/// The words of a run behind `explain`, with a budget or without.
+pub fn explain_of_run_is_asked()
+    ensures plain { IsRunAsked (codes "explain") [] ExplainRun }
+    ensures short { IsBudgetRunAsked (codes "explain") (codes "-b") [] ExplainRun }
+    ensures long { IsBudgetRunAsked (codes "explain") (codes "--budget") [] ExplainRun }
+{}
+
+/// `explain` and a name that is no option, and `--record` with a second one.
+pub fn explain_of_record_is_asked()
+    ensures { (m r : Text) → is_option m ≡ false → is_option r ≡ false
+        → request (codes "explain" ∷ m ∷ codes "--record" ∷ r ∷ []) ≡ ExplainRecord m r }
 {}
 
 /// `bound` and a name that is no option, and `-n` with a number.

@@ -1,6 +1,7 @@
 use Rattle.std.proofs.Common.{map, true}
-use Rattle.ob_command.proofs.NameForms.{check_asked, explain_asked, explain_budget_asked, explain_script_asked, list_asked, seq_asked, seq_budget_asked, verify_asked}
-use Rattle.ob_command.proofs.RunForms.{bound_asked, bound_budget_asked, draw_asked, draw_budget_asked, draw_budget_calls_asked, draw_calls_asked, draw_record_asked, draw_record_calls_asked, run_asked, run_budget_asked, serve_asked, serve_budget_asked, tree_asked, tree_budget_asked}
+use Rattle.ob_command.proofs.ExplainForms.{explain_asked, explain_budget_asked, explain_record_asked, explain_run_asked, explain_run_budget_asked, explain_script_asked}
+use Rattle.ob_command.proofs.NameForms.{check_asked, list_asked, seq_asked, seq_budget_asked, verify_asked}
+use Rattle.ob_command.proofs.RunForms.{bound_asked, bound_budget_asked, draw_asked, draw_budget_asked, draw_budget_calls_asked, draw_calls_asked, draw_record_asked, draw_record_calls_asked, run_asked, run_budget_asked, serve_asked, serve_budget_asked, steps_asked, steps_budget_asked, tree_asked, tree_budget_asked}
 use Rattle.ob_answer.proofs.PlainWords.{answered_as}
 use Rattle.ob_answer.proofs.answer.answer.Goals as goal
 
@@ -32,6 +33,14 @@ returns-clause-run_tree g c m s q n k no_m no_s no_q number is =
 pub returns-clause-run_tree_budget : goal.returns-clause-run_tree_budget
 returns-clause-run_tree_budget g c m s q n b k t no_m no_s no_q number budget is =
     answered_as g.F.Files.reads (map (λ word. word.now) c.args.words.now) _ _ _ _ c.obey_words.result is (tree_budget_asked true m s q n b k t no_m no_s no_q number budget) c.obey_words.ensures
+
+pub returns-clause-run_steps : goal.returns-clause-run_steps
+returns-clause-run_steps g c m s q n k no_m no_s no_q number is =
+    answered_as g.F.Files.reads (map (λ word. word.now) c.args.words.now) _ _ _ _ c.obey_words.result is (steps_asked m s q n k no_m no_s no_q number) c.obey_words.ensures
+
+pub returns-clause-run_steps_budget : goal.returns-clause-run_steps_budget
+returns-clause-run_steps_budget g c m s q n b k t no_m no_s no_q number budget is =
+    answered_as g.F.Files.reads (map (λ word. word.now) c.args.words.now) _ _ _ _ c.obey_words.result is (steps_budget_asked true m s q n b k t no_m no_s no_q number budget) c.obey_words.ensures
 
 pub returns-clause-serve : goal.returns-clause-serve
 returns-clause-serve g c m s n k no_m no_s number is =
@@ -76,6 +85,18 @@ returns-clause-explain_calls g c m s no_m no_s is = answered_as g.F.Files.reads 
 pub returns-clause-explain_budget : goal.returns-clause-explain_budget
 returns-clause-explain_budget g c m s b k no_m no_s number is =
     answered_as g.F.Files.reads (map (λ word. word.now) c.args.words.now) _ _ _ _ c.obey_words.result is (explain_budget_asked true m s b k no_m no_s number) c.obey_words.ensures
+
+pub returns-clause-explain_run : goal.returns-clause-explain_run
+returns-clause-explain_run g c m s q n k no_m no_s no_q number is =
+    answered_as g.F.Files.reads (map (λ word. word.now) c.args.words.now) _ _ _ _ c.obey_words.result is (explain_run_asked m s q n k no_m no_s no_q number) c.obey_words.ensures
+
+pub returns-clause-explain_run_budget : goal.returns-clause-explain_run_budget
+returns-clause-explain_run_budget g c m s q n b k t no_m no_s no_q number budget is =
+    answered_as g.F.Files.reads (map (λ word. word.now) c.args.words.now) _ _ _ _ c.obey_words.result is (explain_run_budget_asked true m s q n b k t no_m no_s no_q number budget) c.obey_words.ensures
+
+pub returns-clause-explain_record : goal.returns-clause-explain_record
+returns-clause-explain_record g c m r no_m no_r is =
+    answered_as g.F.Files.reads (map (λ word. word.now) c.args.words.now) _ _ _ _ c.obey_words.result is (explain_record_asked m r no_m no_r) c.obey_words.ensures
 
 pub returns-clause-bound : goal.returns-clause-bound
 returns-clause-bound g c m n k no_m number is =

@@ -20,6 +20,9 @@ returns-in-Run g c = rw c.in-Run.is c.obey_run.ensures
 pub returns-in-RunTree : goal.returns-in-RunTree
 returns-in-RunTree g c = rw c.in-RunTree.is c.obey_run-in-RunTree.ensures
 
+pub returns-in-RunSteps : goal.returns-in-RunSteps
+returns-in-RunSteps g c = rw c.in-RunSteps.is c.obey_run-in-RunSteps.ensures
+
 pub returns-in-Serve : goal.returns-in-Serve
 returns-in-Serve g c = rw c.in-Serve.is c.obey_serve.ensures
 
@@ -37,6 +40,12 @@ returns-in-Verify g c = rw c.in-Verify.is c.obey_verify.ensures
 
 pub returns-in-Explain : goal.returns-in-Explain
 returns-in-Explain g c = rw c.in-Explain.is c.obey_explain.ensures
+
+pub returns-in-ExplainRun : goal.returns-in-ExplainRun
+returns-in-ExplainRun g c = rw c.in-ExplainRun.is c.obey_explain_run.ensures
+
+pub returns-in-ExplainRecord : goal.returns-in-ExplainRecord
+returns-in-ExplainRecord g c = rw c.in-ExplainRecord.is c.obey_explain_record.ensures
 
 pub returns-in-Bound : goal.returns-in-Bound
 returns-in-Bound g c = rw c.in-Bound.is c.obey_bound.ensures

@@ -16,7 +16,7 @@ returns-in-Ok c whole is =
 
 pub returns-in-Err : goal.returns-in-Err
 returns-in-Err c =
-    rw (← c.from.ensures) (run_refused_made c.args.module.now c.args.processes c.from.result c.args.script.now c.args.schedule.now c.in-Err.fault
+    rw (← c.from.ensures) (run_refused_made (λ t. IsRecordPrinted t c.args.processes c.from.result c.args.script.now c.args.schedule.now) c.args.module.now c.args.processes c.from.result c.args.script.now c.args.schedule.now c.in-Err.fault
     c.run_refused.result c.run_refused.ensures.fault c.run_refused.ensures.memory
     c.in-Err.ensures.fault c.in-Err.ensures.memory c.in-Err.ensures.none (λ h. let e = c.in-Err.ensures.processes h in cc)
     (λ some few much. let e = c.in-Err.ensures.budget some few much in cc) (λ some few within long. let e = c.in-Err.ensures.too_long some few within long in cc))

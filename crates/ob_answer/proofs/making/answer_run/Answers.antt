@@ -8,3 +8,6 @@ returns-in-Picture c = rw c.in-Picture.is c.answer_picture.ensures
 
 pub returns-in-TreeRecord : goal.returns-in-TreeRecord
 returns-in-TreeRecord c = rw c.in-TreeRecord.is c.answer_tree_record.ensures
+
+pub returns-in-RecordWithSteps : goal.returns-in-RecordWithSteps
+returns-in-RecordWithSteps c = rw c.in-RecordWithSteps.is c.answer_steps.ensures

@@ -1,4 +1,4 @@
-use Rattle.std.proofs.Common.{◌∙◌, Some, ap, codes, option_map, refl, sym}
+use Rattle.std.proofs.Common.{◌∙◌, ap, codes, option_map, sym}
 use Rattle.clap.specs.Words.{found_of, rows_of}
 use Rattle.ob_command.specs.Commands.{request_of, run_request_of}
 use Rattle.ob_command.proofs.Readings.{a_bound, a_check, a_draw, a_list, a_run, a_seq, a_serve, a_verify, an_explain, first_row, no_module, no_seq_script, seq_by}
@@ -54,7 +54,7 @@ pub returns-in_ok-run_of-in-run : goal.returns-in_ok-run_of-in-run
 returns-in_ok-run_of-in-run c =
     let m = first_row (found_of c.args.matches.now) (codes "MODULE") c.get_str.result _ c.get_str.ensures
     (ap (option_map (λ s. s.now)) c.in_ok-module_name.was) in
-    ap (λ r. Some r) c.made_by.ensures ∙ sym (a_run c.args.name.now _ (rows_of (found_of c.args.matches.now)) _ c.in-run.is m
+    c.made_of.ensures ∙ sym (a_run c.args.name.now _ (rows_of (found_of c.args.matches.now)) _ c.in-run.is m
     (sym c.run_of.ensures ∙ ap (option_map run_request_of) c.in_ok-run_of-in-run.was))
 
 pub returns-in-serve : goal.returns-in-serve
@@ -80,22 +80,11 @@ returns-in_ok-get_str-in-verify c =
     (ap (option_map (λ s. s.now)) c.in_ok-get_str-in-verify.was) in
     sym (a_verify c.args.name.now _ (rows_of (found_of c.args.matches.now)) _ c.in-verify.is m r)
 
-pub returns-in_err-budget_of-in-explain : goal.returns-in_err-budget_of-in-explain
-returns-in_err-budget_of-in-explain c =
+pub returns-in-explain : goal.returns-in-explain
+returns-in-explain c =
     let m = first_row (found_of c.args.matches.now) (codes "MODULE") c.get_str.result _ c.get_str.ensures
     (ap (option_map (λ s. s.now)) c.in_ok-module_name.was) in
-    let s = first_row (found_of c.args.matches.now) (codes "SCRIPT") c.get_str-in-explain.result _ c.get_str-in-explain.ensures refl in
-    ap (option_map request_of) c.from_residual-in_err-budget_of-in-explain.ensures
-    ∙ sym (an_explain c.args.name.now _ (rows_of (found_of c.args.matches.now)) _ _ c.in-explain.is m s
-    (sym c.budget_of-in-explain.ensures ∙ c.in_err-budget_of-in-explain.was))
-
-pub returns-in_ok-budget_of-in-explain : goal.returns-in_ok-budget_of-in-explain
-returns-in_ok-budget_of-in-explain c =
-    let m = first_row (found_of c.args.matches.now) (codes "MODULE") c.get_str.result _ c.get_str.ensures
-    (ap (option_map (λ s. s.now)) c.in_ok-module_name.was) in
-    let s = first_row (found_of c.args.matches.now) (codes "SCRIPT") c.get_str-in-explain.result _ c.get_str-in-explain.ensures refl in
-    sym (an_explain c.args.name.now _ (rows_of (found_of c.args.matches.now)) _ _ c.in-explain.is m s
-    (sym c.budget_of-in-explain.ensures ∙ c.in_ok-budget_of-in-explain.was))
+    c.explain_of.ensures ∙ sym (an_explain c.args.name.now _ (rows_of (found_of c.args.matches.now)) c.in-explain.is m)
 
 pub returns-in-bound : goal.returns-in-bound
 returns-in-bound c =

@@ -1,5 +1,5 @@
 use Rattle.std.proofs.Common.{false, true}
-use Rattle.ob_command.proofs.NameForms.{explain_budget_asked}
+use Rattle.ob_command.proofs.ExplainForms.{explain_budget_asked}
 use Rattle.ob_command.proofs.laws.explain_with_budget_is_asked.Goals as goal
 
 pub returns-clause-short : goal.returns-clause-short

@@ -1,0 +1,31 @@
+use Rattle.std.proofs.Common.{ℕ, IfOk, inl, inr, string_bytes, subst}
+use Rattle.std.proofs.lemmas.Result.{IfOk-weaker}
+use Rattle.ob_answer.specs.Answers.{IsStepsAnswer}
+use Rattle.ob_answer.specs.Reads.{OfWhole}
+use Rattle.ob_answer.proofs.Beginnings.{of_whole}
+use Rattle.ob_answer.proofs.Made.{no_numbers, run_refused_made}
+use Rattle.ob_object_spent.specs.Spent.{IsPrintedWithSteps}
+use Rattle.ob_answer.proofs.making.answer_steps.Goals as goal
+
+pub returns-in-Ok : goal.returns-in-Ok
+returns-in-Ok c whole is =
+    subst (λ (b : ℕ). IsStepsAnswer whole c.args.processes b c.args.script.now c.args.schedule.now c.printed_beside.result) c.from.ensures
+    (inl (
+      string_bytes c.in-Ok.lines,
+      string_bytes c.in-Ok.steps,
+      of_whole
+          (λ t. IsPrintedWithSteps t c.args.processes c.from.result c.args.script.now c.args.schedule.now (string_bytes c.in-Ok.lines) (string_bytes c.in-Ok.steps))
+          c.args.module.now whole is
+          (λ long. no_numbers c.args.processes c.from.result (λ h. let bad = c.in-Ok.ensures.processes h in cc) (λ some few much. let bad = c.in-Ok.ensures.budget some few much in cc)
+          (λ some few within. let bad = c.in-Ok.ensures.too_long some few within long in cc)) c.in-Ok.ensures.run,
+      c.printed_beside.ensures,
+    ))
+
+pub returns-in-Err : goal.returns-in-Err
+returns-in-Err c =
+    subst (λ (b : ℕ). IfOk c.run_refused.result (OfWhole c.args.module.now (λ whole. IsStepsAnswer whole c.args.processes b c.args.script.now c.args.schedule.now)))
+    c.from.ensures (IfOk-weaker c.run_refused.result _ _ (λ a h whole is. inr (h whole is))
+    (run_refused_made (λ _ _. ⊥) c.args.module.now c.args.processes c.from.result c.args.script.now c.args.schedule.now c.in-Err.fault
+    c.run_refused.result c.run_refused.ensures.fault c.run_refused.ensures.memory
+    c.in-Err.ensures.fault c.in-Err.ensures.memory c.in-Err.ensures.none (λ h. let e = c.in-Err.ensures.processes h in cc)
+    (λ some few much. let e = c.in-Err.ensures.budget some few much in cc) (λ some few within long. let e = c.in-Err.ensures.too_long some few within long in cc)))
