@@ -38,11 +38,16 @@ in_either : {A : Type 0} (b : Bool) (x y : Sited A) → Explained x → Explaine
 in_either true x y h k = h
 in_either false x y h k = k
 
-in_applied : (n : ℕ) (o : BinaryOperator) (v : Scalar) (right : Sited Scalar) → Explained right → Explained (Sites.applied n o v right)
-in_applied n o v right h =
-    in_either (decides o v) (Yields v) (bind (of_part (suc n) right) (λ w. at n (Operating o v w) (computed o v w))) tt
-    (bound (of_part (suc n) right) (λ w. at n (Operating o v w) (computed o v w)) (in_part (suc n) right h)
-    (λ w. at_part n (Operating o v w) (computed o v w) (λ k e. e)))
+in_applied : (o : BinaryOperator) (v : Scalar) (right : Sited Scalar) → Explained right → Explained (Sites.applied o v right)
+in_applied o v right h =
+    in_either (decides o v) (Yields v) (bind (of_part 1 right) (λ w. at 0 (Operating o v w) (computed o v w))) tt
+    (bound (of_part 1 right) (λ w. at 0 (Operating o v w) (computed o v w)) (in_part 1 right h)
+    (λ w. at_part 0 (Operating o v w) (computed o v w) (λ k e. e)))
+
+in_indexed : (length : ℕ) (index : Sited Scalar) → Explained index → Explained (Sites.indexed length index)
+in_indexed length index h =
+    bound (of_part 1 index) (λ x. at 0 (Indexing length (number_of x)) (within length (number_of x))) (in_part 1 index h)
+    (λ x. at_part 0 (Indexing length (number_of x)) (within length (number_of x)) (λ k e. e))
 
 module _ (stores : Stores) where
   open stores use {Store, Place, Step, Held}
@@ -65,8 +70,9 @@ module _ (stores : Stores) where
       behind : (n : ℕ) (x : Scalar) (operations : Operations) → Explained (Sites.value_behind stores store n x operations)
       behind n x no_operation = tt
       behind n x (operation o e rest) =
-          bound (Sites.applied n o x (Sites.value_of stores store e)) _ (in_applied n o x (Sites.value_of stores store e) (value e))
-          (λ y. behind (suc (suc n)) y rest)
+          bound (of_part n (Sites.applied o x (Sites.value_of stores store e))) _
+          (in_part n (Sites.applied o x (Sites.value_of stores store e)) (in_applied o x (Sites.value_of stores store e) (value e)))
+          (λ y. behind (suc n) y rest)
 
       place : (d : Designator) → Explained (Sites.place_of stores store d)
       place (Designated slot selectors) = bound (Sites.path_of stores store 0 selectors) _ (path 0 selectors) (λ p. tt)
@@ -75,10 +81,9 @@ module _ (stores : Stores) where
       path n no_selector = tt
       path n (field_of position name rest) = bound (Sites.path_of stores store (suc n) rest) _ (path (suc n) rest) (λ p. tt)
       path n (element_of length index rest) =
-          bound (of_part (suc n) (Sites.value_of stores store index)) _ (in_part (suc n) (Sites.value_of stores store index) (value index)) (λ x.
-          bound (at n (Indexing length (number_of x)) (within length (number_of x))) _
-          (at_part n (Indexing length (number_of x)) (within length (number_of x)) (λ k e. e)) (λ i.
-          bound (Sites.path_of stores store (suc (suc n)) rest) _ (path (suc (suc n)) rest) (λ p. tt)))
+          bound (of_part n (Sites.indexed length (Sites.value_of stores store index))) _
+          (in_part n (Sites.indexed length (Sites.value_of stores store index)) (in_indexed length (Sites.value_of stores store index) (value index))) (λ i.
+          bound (Sites.path_of stores store (suc n) rest) _ (path (suc n) rest) (λ p. tt))
 
     handed : (actual : Actual) → Explained (Sites.handed stores store actual)
     handed (ByValue e) = bound (Sites.value_of stores store e) _ (value e) (λ v. tt)
@@ -166,9 +171,10 @@ module _ (stores : Stores) where
       branches_run n no_branch t s = tt
       branches_run n (otherwise ss) t s = runs_part n (Sites.meaning_of_all stores call 0 ss) (statements_run 0 ss) t s
       branches_run n (branch c ss rest) t s =
-          bound (of_part n (Sites.value_of stores s c)) _ (in_part n (Sites.value_of stores s c) (value s c)) (λ v.
-          runs_if (truth_of v) (Sites.run_part stores (suc n) (Sites.meaning_of_all stores call 0 ss)) (Sites.meaning_of_branches stores call (suc (suc n)) rest)
-          (runs_part (suc n) (Sites.meaning_of_all stores call 0 ss) (statements_run 0 ss)) (branches_run (suc (suc n)) rest) t s)
+          bound (of_part n (of_part 0 (Sites.value_of stores s c))) _ (in_part n (of_part 0 (Sites.value_of stores s c)) (in_part 0 (Sites.value_of stores s c) (value s c))) (λ v.
+          runs_if (truth_of v) (Sites.run_part stores n (Sites.run_part stores 1 (Sites.meaning_of_all stores call 0 ss))) (Sites.meaning_of_branches stores call (suc n) rest)
+          (runs_part n (Sites.run_part stores 1 (Sites.meaning_of_all stores call 0 ss)) (runs_part 1 (Sites.meaning_of_all stores call 0 ss) (statements_run 0 ss)))
+          (branches_run (suc n) rest) t s)
 
     in_left : (x : Sited (ℕ × Store)) → Explained x → Explained (Sites.left stores x)
     in_left (Yields (t, s)) h = tt

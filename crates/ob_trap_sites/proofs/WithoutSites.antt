@@ -27,6 +27,9 @@ part_evaluated : {A : Type 0} (part : ℕ) (x : Sited A) → evaluated (of_part 
 part_evaluated part (Yields a) = refl
 part_evaluated part (TrapsAt site) = refl
 
+parts_evaluated : {A : Type 0} (part inner : ℕ) (x : Sited A) → evaluated (of_part part (of_part inner x)) ≡ evaluated x
+parts_evaluated part inner x = part_evaluated part (of_part inner x) ∙ part_evaluated inner x
+
 at_evaluated : {A : Type 0} (part : ℕ) (c : Cause) (v : Evaluated A) → evaluated (at part c v) ≡ v
 at_evaluated part c (Gives a) = refl
 at_evaluated part c (Traps k) = refl
@@ -36,12 +39,23 @@ evaluated_if : {A : Type 0} (b : Bool) (x y : Sited A) (v w : Evaluated A) → e
 evaluated_if true x y v w h k = h
 evaluated_if false x y v w h k = k
 
-applied_evaluated : (n : ℕ) (o : BinaryOperator) (v : Scalar) (right : Sited Scalar) (plain : Evaluated Scalar) → evaluated right ≡ plain →
-    evaluated (Sites.applied n o v right) ≡ applied o v plain
-applied_evaluated n o v right plain h =
-    evaluated_if (decides o v) (Yields v) (bind (of_part (suc n) right) (λ w. at n (Operating o v w) (computed o v w))) (Gives v) (plain_bind plain (λ w. computed o v w)) refl
-    (binds (of_part (suc n) right) plain (λ w. at n (Operating o v w) (computed o v w)) (λ w. computed o v w) (part_evaluated (suc n) right ∙ h)
-    (λ w. at_evaluated n (Operating o v w) (computed o v w)))
+applied_evaluated : (o : BinaryOperator) (v : Scalar) (right : Sited Scalar) (plain : Evaluated Scalar) → evaluated right ≡ plain →
+    evaluated (Sites.applied o v right) ≡ applied o v plain
+applied_evaluated o v right plain h =
+    evaluated_if (decides o v) (Yields v) (bind (of_part 1 right) (λ w. at 0 (Operating o v w) (computed o v w))) (Gives v) (plain_bind plain (λ w. computed o v w)) refl
+    (binds (of_part 1 right) plain (λ w. at 0 (Operating o v w) (computed o v w)) (λ w. computed o v w) (part_evaluated 1 right ∙ h)
+    (λ w. at_evaluated 0 (Operating o v w) (computed o v w)))
+
+indexed_evaluated : (length : ℕ) (index : Sited Scalar) (plain : Evaluated Scalar) → evaluated index ≡ plain →
+    evaluated (Sites.indexed length index) ≡ plain_bind plain (λ x. within length (number_of x))
+indexed_evaluated length index plain h =
+    binds (of_part 1 index) plain (λ x. at 0 (Indexing length (number_of x)) (within length (number_of x))) (λ x. within length (number_of x)) (part_evaluated 1 index ∙ h)
+    (λ x. at_evaluated 0 (Indexing length (number_of x)) (within length (number_of x)))
+
+-- one step behind another
+in_turn : {A B C : Type 0} (v : Evaluated A) (f : A → Evaluated B) (g : B → Evaluated C) → plain_bind (plain_bind v f) g ≡ plain_bind v (λ a. plain_bind (f a) g)
+in_turn (Gives a) f g = refl
+in_turn (Traps k) f g = refl
 
 module _ (stores : Stores) where
   open stores use {Store, Place, Step, Held}
@@ -70,8 +84,9 @@ module _ (stores : Stores) where
           evaluated (Sites.value_behind stores store n x operations) ≡ Plain.value_behind stores store x operations
       behind n x no_operation = refl
       behind n x (operation o e rest) =
-          binds (Sites.applied n o x (Sites.value_of stores store e)) (applied o x (Plain.value_of stores store e)) _ _
-          (applied_evaluated n o x (Sites.value_of stores store e) (Plain.value_of stores store e) (value e)) (λ y. behind (suc (suc n)) y rest)
+          binds (of_part n (Sites.applied o x (Sites.value_of stores store e))) (applied o x (Plain.value_of stores store e)) _ _
+          (part_evaluated n (Sites.applied o x (Sites.value_of stores store e))
+          ∙ applied_evaluated o x (Sites.value_of stores store e) (Plain.value_of stores store e) (value e)) (λ y. behind (suc n) y rest)
 
       pub place : (d : Designator) → evaluated (Sites.place_of stores store d) ≡ Plain.place_of stores store d
       place (Designated slot selectors) = binds (Sites.path_of stores store 0 selectors) (Plain.path_of stores store selectors) _ _ (path 0 selectors) (λ p. refl)
@@ -80,11 +95,12 @@ module _ (stores : Stores) where
       path n no_selector = refl
       path n (field_of position name rest) = binds (Sites.path_of stores store (suc n) rest) (Plain.path_of stores store rest) _ _ (path (suc n) rest) (λ p. refl)
       path n (element_of length index rest) =
-          binds (of_part (suc n) (Sites.value_of stores store index)) (Plain.value_of stores store index) _ _
-          (part_evaluated (suc n) (Sites.value_of stores store index) ∙ value index) (λ x.
-          binds (at n (Indexing length (number_of x)) (within length (number_of x))) (within length (number_of x)) _ _
-          (at_evaluated n (Indexing length (number_of x)) (within length (number_of x))) (λ i.
-          binds (Sites.path_of stores store (suc (suc n)) rest) (Plain.path_of stores store rest) _ _ (path (suc (suc n)) rest) (λ p. refl)))
+          let further : ℕ → Evaluated (List Step) = λ i. plain_bind (Plain.path_of stores store rest) (λ p. Gives (stores.element_step i ∷ p)) in
+          binds (of_part n (Sites.indexed length (Sites.value_of stores store index))) (plain_bind (Plain.value_of stores store index) (λ x. within length (number_of x))) _ further
+          (part_evaluated n (Sites.indexed length (Sites.value_of stores store index))
+          ∙ indexed_evaluated length (Sites.value_of stores store index) (Plain.value_of stores store index) (value index)) (λ i.
+          binds (Sites.path_of stores store (suc n) rest) (Plain.path_of stores store rest) _ _ (path (suc n) rest) (λ p. refl))
+          ∙ in_turn (Plain.value_of stores store index) (λ x. within length (number_of x)) further
 
     handed : (actual : Actual) → evaluated (Sites.handed stores store actual) ≡ Plain.handed stores store actual
     handed (ByValue e) = binds (Sites.value_of stores store e) (Plain.value_of stores store e) _ _ (value e) (λ v. refl)
@@ -201,11 +217,12 @@ module _ (stores : Stores) where
       branches_same n no_branch t s = refl
       branches_same n (otherwise ss) t s = same_part n (Sites.meaning_of_all stores call 0 ss) (Plain.meaning_of_all stores plain_call ss) (statements_same 0 ss) t s
       branches_same n (branch c ss rest) t s =
-          afters (of_part n (Sites.value_of stores s c)) (Plain.value_of stores s c) _ _ (part_evaluated n (Sites.value_of stores s c) ∙ value s c) (λ v.
-          same_if (truth_of v) (Sites.run_part stores (suc n) (Sites.meaning_of_all stores call 0 ss)) (Sites.meaning_of_branches stores call (suc (suc n)) rest)
+          afters (of_part n (of_part 0 (Sites.value_of stores s c))) (Plain.value_of stores s c) _ _ (parts_evaluated n 0 (Sites.value_of stores s c) ∙ value s c) (λ v.
+          same_if (truth_of v) (Sites.run_part stores n (Sites.run_part stores 1 (Sites.meaning_of_all stores call 0 ss))) (Sites.meaning_of_branches stores call (suc n) rest)
           (Plain.meaning_of_all stores plain_call ss) (Plain.meaning_of_branches stores plain_call rest)
-          (same_part (suc n) (Sites.meaning_of_all stores call 0 ss) (Plain.meaning_of_all stores plain_call ss) (statements_same 0 ss))
-          (branches_same (suc (suc n)) rest) t s)
+          (same_part n (Sites.run_part stores 1 (Sites.meaning_of_all stores call 0 ss)) (Plain.meaning_of_all stores plain_call ss)
+          (same_part 1 (Sites.meaning_of_all stores call 0 ss) (Plain.meaning_of_all stores plain_call ss) (statements_same 0 ss)))
+          (branches_same (suc n) rest) t s)
 
     left_outcome : (x : Sited (ℕ × Store)) (y : Outcome Store) → outcome x ≡ y → outcome (Sites.left stores x) ≡ Plain.left stores y
     left_outcome (Yields (t, s)) y h = ap (Plain.left stores) h

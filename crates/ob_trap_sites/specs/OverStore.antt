@@ -7,12 +7,17 @@ use Rattle.ob_typing.specs.Arithmetic.{number_of, computed, decides, negated, co
 use Rattle.ob_meaning.specs.OverStore.{Stores, within}
 use Rattle.ob_trap_sites.specs.Site.{Operating, Negating, Indexing, Activating, Turning, here, Sited, Yields, TrapsAt, ◌>>=◌, at, of_part, of_procedure}
 
--- what an operator gives behind a value, from the part of the operator on: the value itself where it decides
-abbrev pub applied : ℕ → BinaryOperator → Scalar → Sited Scalar → Sited Scalar
-applied n o v right =
+-- what an operator gives behind a value, with the operand behind it: the value itself where it decides
+abbrev pub applied : BinaryOperator → Scalar → Sited Scalar → Sited Scalar
+applied o v right =
     if decides o v
     then Yields v
-    else ◌>>=◌ (of_part (suc n) right) (λ w. at n (Operating o v w) (computed o v w))
+    else ◌>>=◌ (of_part 1 right) (λ w. at 0 (Operating o v w) (computed o v w))
+
+-- an index, in its brackets, of an array of so many elements
+abbrev pub indexed : (length : ℕ) → Sited Scalar → Sited ℕ
+indexed length index =
+    ◌>>=◌ (of_part 1 index) (λ x. at 0 (Indexing length (number_of x)) (within length (number_of x)))
 
 -- takes one turn; where none is left it is trap 5
 abbrev pub with_turn : {A : Type 0} → (ℕ → Sited A) → ℕ → Sited A
@@ -47,8 +52,8 @@ module _ (stores : Stores) where
       pub value_behind : ℕ → Scalar → Operations → Sited Scalar
       value_behind n x no_operation = Yields x
       value_behind n x (operation operator operand rest) = do
-        y ← applied n operator x (value_of operand)
-        value_behind (suc (suc n)) y rest
+        y ← of_part n (applied operator x (value_of operand))
+        value_behind (suc n) y rest
 
       pub place_of : Designator → Sited Place
       place_of (Designated slot selectors) = do
@@ -62,9 +67,8 @@ module _ (stores : Stores) where
         path ← path_of (suc n) rest
         Yields (field_step position name ∷ path)
       path_of n (element_of length index rest) = do
-        x ← of_part (suc n) (value_of index)
-        i ← at n (Indexing length (number_of x)) (within length (number_of x))
-        path ← path_of (suc (suc n)) rest
+        i ← of_part n (indexed length (value_of index))
+        path ← path_of (suc n) rest
         Yields (element_step i ∷ path)
 
     abbrev pub handed : Actual → Sited Held
@@ -141,13 +145,13 @@ module _ (stores : Stores) where
       meaning_of_all n (statement first rest) turns store =
           then_run (of_part n (meaning first turns store)) (meaning_of_all (suc n) rest)
 
-      -- of branches, of which the first condition is this part
+      -- of branches, of which the first is this part
       pub meaning_of_branches : ℕ → Branches → Run
       meaning_of_branches n no_branch turns store = Yields (turns, store)
       meaning_of_branches n (otherwise statements) turns store = of_part n (meaning_of_all 0 statements turns store)
       meaning_of_branches n (branch condition statements rest) turns store =
-          ◌>>=◌ (of_part n (value_of store condition)) (λ v.
-          (if truth_of v then run_part (suc n) (meaning_of_all 0 statements) else meaning_of_branches (suc (suc n)) rest) turns store)
+          ◌>>=◌ (of_part n (of_part 0 (value_of store condition))) (λ v.
+          (if truth_of v then run_part n (run_part 1 (meaning_of_all 0 statements)) else meaning_of_branches (suc n) rest) turns store)
 
   -- the store without its last activation
   abbrev pub left : Sited (ℕ × Store) → Sited (ℕ × Store)

@@ -3,11 +3,13 @@
 --   of statements, each statement;
 --   of an assignment, its target 0 and its expression 1;
 --   of a call, its name 0, and from 1 on the actuals;
---   of IF, each condition and the statements behind it, and in the end those behind ELSE;
+--   of IF, each branch, with the condition 0 and the statements 1 as its parts, and in the end the statements behind ELSE;
 --   of WHILE, the word 0, the condition 1 and the statements 2; of REPEAT, the word 0, the statements 1 and the condition 2;
 --   of a minus sign or `~`, the sign 0 and the operand 1;
---   of operands with operators between them, each of both;
---   of a variable, each field, and of each index the bracket and the index.
+--   of a comparison, the left side 0, the relation 1 and the right side 2;
+--   of operands with operators between them, the first operand 0, and from 1 on each operator with the operand behind it;
+--   of an operator with its operand, the operator 0 and the operand 1;
+--   of a variable, each field and each index; of an index, the bracket 0 and what stands in it 1.
 use Rattle.std.specs.Prelude.{◌≡◌, ℕ, ℤ, List, [], ◌∷◌, Option, Some, None}
 use Rattle.ob_interface.specs.declared.scalar.Scalar.{Scalar}
 use Rattle.ob_typing.specs.declared.operator.BinaryOperator.{BinaryOperator}
