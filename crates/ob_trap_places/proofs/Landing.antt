@@ -1,9 +1,9 @@
 -- When the sites of an evaluation or of a run have places: among the parts of a construct, or in a procedure that was called.
-use Rattle.std.proofs.Common.{◌≡◌, refl, ap, sym, subst, ◌∙◌, arith, ℕ, zero, suc, ◌+◌, Bool, true, false, List, [], ◌∷◌, if◌then◌else◌, Option, Some, None}
+use Rattle.std.proofs.Common.{◌≡◌, refl, ap, sym, subst, ◌∙◌, arith, ℕ, suc, ◌+◌, Bool, true, false, List, [], ◌∷◌, if◌then◌else◌, Option, Some, None}
 use Rattle.ob_typing.specs.Arithmetic.{Evaluated, Gives, Traps}
 use Rattle.ob_trap_sites.specs.Site.{Cause, Site, here, Sited, Yields, TrapsAt, at, of_part, of_procedure}
 use Rattle.ob_trap_sites.specs.Site as Sites
-use Rattle.ob_trap_places.specs.Places.{Places, Parts, no_part, before, itself, of_parts}
+use Rattle.ob_trap_places.specs.Places.{Places, Parts, before, itself, of_parts}
 
 abbrev pub bind : {A B : Type 0} → Sited A → (A → Sited B) → Sited B
 bind = Sites.◌>>=◌

@@ -1,7 +1,6 @@
 -- The sites of calls from outside and of the opening have places.
 use Rattle.std.proofs.Common.{◌≡◌, refl, sym, subst, ℕ, zero, suc, ◌-◌, List, [], ◌∷◌, ◌++◌, Option, Some, None}
 use Rattle.std.specs.Prelude.{slice_get}
-use Rattle.ob_grammar.specs.Tree
 use Rattle.ob_grammar.specs.Tree.{Stmts, Declarations, Procedures, Module}
 use Rattle.ob_interface.specs.declared.scalar.Scalar.{Scalar}
 use Rattle.ob_interface.specs.Call.{ObjectCall}
@@ -17,9 +16,8 @@ use Rattle.ob_positions.specs.Statements.{activation_of, begun}
 use Rattle.ob_positions.specs.Object.{results_begun, outside_handed}
 use Rattle.ob_positions.specs.Evaluation.{by_position}
 use Rattle.ob_trap_sites.specs.Site.{Site, Sited, Yields, TrapsAt, of_procedure, called, site_of}
-use Rattle.ob_trap_sites.specs.Site as Sited
 use Rattle.ob_trap_sites.specs.OverStore as Sites
-use Rattle.ob_trap_sites.specs.Object.{export_number, run_outside, site_in_procedure, site_of_call, opening}
+use Rattle.ob_trap_sites.specs.Object.{export_number, site_in_procedure, site_of_call, opening}
 use Rattle.ob_trap_sites.proofs.CallSites.{export_here}
 use Rattle.ob_trap_places.specs.Places.{Places, Parts, no_part, before, itself, places_in_body, places_in_one, places_in_module, bodies_of, bodies_in, place_of}
 use Rattle.ob_trap_places.proofs.Landing as Landing

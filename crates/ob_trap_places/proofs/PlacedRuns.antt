@@ -1,6 +1,5 @@
 -- The sites of statements, loops and calls have places.
-use Rattle.std.proofs.Common.{◌≡◌, refl, sym, subst, ℕ, zero, suc, Bool, true, false, List, [], ◌∷◌, if◌then◌else◌, Option, Some, None}
-use Rattle.std.specs.Prelude.{slice_get}
+use Rattle.std.proofs.Common.{◌≡◌, refl, sym, subst, ℕ, zero, suc, Bool, true, false, List, if◌then◌else◌, Option}
 use Rattle.ob_grammar.specs.Tree
 use Rattle.ob_grammar.specs.Tree.{Stmt, Stmts, Otherwise}
 use Rattle.ob_typing.specs.Program as Programs
@@ -10,10 +9,10 @@ use Rattle.ob_typing.specs.Scopes.{Environment}
 use Rattle.ob_typing.specs.Statements as Typing
 use Rattle.ob_typing.specs.Statements.{listed, IsStatement, AreStatements, AreBranches, IsBody}
 use Rattle.ob_meaning.specs.OverStore.{Stores}
-use Rattle.ob_trap_sites.specs.Site.{Turning, here, Sited, Yields, TrapsAt, of_part, of_procedure}
+use Rattle.ob_trap_sites.specs.Site.{Turning, here, Sited, Yields, TrapsAt, of_part}
 use Rattle.ob_trap_sites.specs.OverStore as Sites
 use Rattle.ob_trap_places.specs.Places.{Places, Parts, no_part, before, itself, of_parts, places_in, parts_of_selectors, parts_of_actuals, unless_empty, places_in_statement, parts_of_statements, parts_of_branches, parts_of_else, places_in_body}
-use Rattle.ob_trap_places.proofs.Landing.{bind, HasPlace, Lands, LandsAmong, Fits, FitsFrom, bound, bound_from, whole, later, first_part, this_part, called}
+use Rattle.ob_trap_places.proofs.Landing.{bind, Fits, FitsFrom, bound_from, whole, later, first_part, this_part}
 use Rattle.ob_trap_places.proofs.PlacedValues.{value, variable, all_handed}
 
 -- a statement of the program is none that is empty

@@ -1,5 +1,5 @@
 -- The sites of expressions, variables and actuals have places.
-use Rattle.std.proofs.Common.{◌≡◌, ap, sym, subst, ℕ, zero, suc, Bool, true, false, List, [], ◌∷◌, if◌then◌else◌, Option, Some, None}
+use Rattle.std.proofs.Common.{◌≡◌, ap, sym, subst, ℕ, suc, Bool, true, false, List, if◌then◌else◌, Option, Some, None}
 use Rattle.ob_grammar.specs.declared.tree.Sign.{Sign}
 use Rattle.ob_grammar.specs.Tree
 use Rattle.ob_grammar.specs.Tree.{Expr}
@@ -18,7 +18,7 @@ use Rattle.ob_meaning.specs.OverStore.{Stores, within}
 use Rattle.ob_trap_sites.specs.Site.{Cause, Operating, Negating, Indexing, Sited, Yields, at, of_part}
 use Rattle.ob_trap_sites.specs.OverStore as Sites
 use Rattle.ob_trap_places.specs.Places.{Places, Parts, no_part, before, itself, of_parts, with_behind, signed, places_in, parts_of_operands, parts_of_selectors, parts_of_actuals}
-use Rattle.ob_trap_places.proofs.Landing.{bind, Fits, FitsFrom, bound, bound_from, whole, later, first_part, at_part, in_either}
+use Rattle.ob_trap_places.proofs.Landing.{bind, Fits, FitsFrom, bound, bound_from, whole, later, first_part, at_part}
 
 some_pair : (p q : Tree.Name × Tree.Selectors) → Some p ≡ Some q → p ≡ q
 some_pair p q h = cc
