@@ -1,0 +1,4 @@
+pub mod Landing
+pub mod PlacedValues
+pub mod PlacedRuns
+pub mod PlacedCalls

@@ -1,0 +1,3 @@
+pub mod WithoutSites
+pub mod Explained
+pub mod CallSites

@@ -1,0 +1,8 @@
+use Rattle.ob_trap_sites.proofs.CallSites.{call_trap, opening_same}
+use Rattle.ob_trap_sites.proofs.laws.traps_have_sites.Goals as goal
+
+pub returns-clause-call : goal.returns-clause-call
+returns-clause-call c = call_trap
+
+pub returns-clause-opening : goal.returns-clause-opening
+returns-clause-opening c = opening_same
