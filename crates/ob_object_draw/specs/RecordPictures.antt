@@ -8,7 +8,7 @@ use Rattle.ob_object_draw.specs.declared.drawing.DrawRecordFault.{DrawRecordFaul
 use Rattle.ob_object_draw.specs.declared.drawing.DrawRecordFault.TheVariants as Faults
 use Rattle.ob_text_picture.specs.Shapes.{picture_text}
 use Rattle.ob_text_picture_chart.specs.Charts.{begun, chart_of, range_of}
-use Rattle.ob_text_picture_chart.specs.Faults.{IsRangeFault}
+use Rattle.ob_text_picture_chart.specs.Faults.{IsRangeFault, MayBeShown}
 use Rattle.ob_text_picture_chart.specs.Moments.{Moment, placed_from}
 use Rattle.ob_text_picture_chart.specs.declared.charts.CallRange.{CallRange}
 use Rattle.ob_text_picture_chart.specs.declared.fault.PictureFault.{PictureFault}
@@ -28,13 +28,18 @@ pub record IsRead (module_text record_text : List ℕ) (program : Program) (tell
   pub is_module : IsModule module_text program
   pub is_record : IsRecord (signatures program) record_text tells
 
--- the bytes are the picture of the calls of a range of what the record tells
+-- the bytes are the picture of the calls of a range of what the record tells: there are such calls, no more than a picture has
 pub record IsRecordPicture (module_text record_text : List ℕ) (calls : Option CallRange) (output : List ℕ) : Type 0 where
   pub program : Program
   pub tells : Told
   pub read : IsRead module_text record_text program tells
+  pub within : MayBeShown (length (begun (moments_of tells))) calls
   pub printed :
       output ≡ picture_text (signatures program) (chart_of tells.processes (moments_of tells) tells.order (range_of (length (begun (moments_of tells))) calls))
+
+-- the texts have no picture of the calls of a range
+abbrev pub HasNoPicture : (module_text record_text : List ℕ) → Option CallRange → Type 0
+HasNoPicture module_text record_text calls = (output : List ℕ) → IsRecordPicture module_text record_text calls output → ⊥
 
 -- one text is a module, and the other one has this fault as a record of its object
 pub record IsFormFault (module_text record_text : List ℕ) (line : ℕ) : Type 0 where
@@ -76,3 +81,7 @@ TellsMemoryApart (Faults.Text e) = TellsTextMemoryApart e × (e ≢ Text.NoMemor
 TellsMemoryApart (Faults.Form line) = Unit {0}
 TellsMemoryApart (Faults.Calls e) = e ≢ Pictures.NoMemory
 TellsMemoryApart Faults.NoMemory = Unit {0}
+
+-- a fault with a number, so no want of memory
+abbrev pub IsNumbered : DrawRecordFault → Type 0
+IsNumbered fault = (fault ≢ Faults.NoMemory) × TellsMemoryApart fault

@@ -4,8 +4,8 @@ ghost use Rattle.std.specs.Prelude.{◌≡◌, ◌<◌, ◌≤◌, Err, IfErr, I
 ghost use Rattle.ob_checked.specs.CheckedModule.{program_in};
 ghost use Rattle.ob_checked.specs.Exports.{signatures};
 ghost use Rattle.ob_interface.specs.Processes.{most_processes};
-ghost use Rattle.ob_object_draw.specs.RecordPictures.{IsDrawRecordFault, IsRecordPicture, TellsMemoryApart};
-ghost use Rattle.ob_text_record_reading.specs.RecordLines.{IsRecord, IsRecordFault};
+ghost use Rattle.ob_object_draw.specs.RecordPictures.{HasNoPicture, IsDrawRecordFault, IsNumbered, IsRecordPicture, TellsMemoryApart};
+ghost use Rattle.ob_text_record_reading.specs.RecordLines.{IsRecord, IsRecordFault, Told};
 ghost use Rattle.ob_text_record_reading.specs.Told.{told_of};
 
 use ob_check_text::checked_text::{TextFault, checked_text};
@@ -99,6 +99,9 @@ pub fn draw_record_text(
     ensures picture { IfOk result (λ lines. IsRecordPicture «module».now «record».now calls (string_bytes lines)) }
     ensures fault { IfErr result (IsDrawRecordFault «module».now «record».now calls) }
 
+    // With a fault that has a number the texts have no such picture.
+    ensures none { IfErr result (λ e. IsNumbered e → HasNoPicture «module».now «record».now calls) }
+
     // Want of memory is told by its own variant alone.
     ensures memory { IfErr result TellsMemoryApart }
 
@@ -121,6 +124,7 @@ pub fn draw_record_text(
 /// What a record tells, whose processes are no more than an object has.
 fn read_few(alloc: Global, checked: &Checked, text: &[u8]) -> Result<ReadRecord, RecordFault>
     ensures record { IfOk result (λ r. IsRecord (signatures (program_in checked.now)) text.now (told_of «r»)) }
+    ensures alone { IfOk result (λ r. (other : Told) → IsRecord (signatures (program_in checked.now)) text.now other → other ≡ told_of «r») }
     ensures few { IfOk result (λ r. r.processes ≤ most_processes) }
     ensures fault { IfErr result (λ e. IsRecordFault (signatures (program_in checked.now)) text.now e) }
 {

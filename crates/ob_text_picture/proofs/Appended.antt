@@ -1,5 +1,5 @@
 -- Parts that are appended one by one.
-use Rattle.std.proofs.Common.{◌≡◌, ℕ, List, ◌++◌, append_assoc, refl}
+use Rattle.std.proofs.Common.{◌≡◌, ℕ, List, ◌++◌, append_assoc}
 
 pub four_parts : (old a b c d p q r s : List ℕ) → p ≡ old ++ a → q ≡ p ++ b → r ≡ q ++ c → s ≡ r ++ d → s ≡ old ++ (a ++ b ++ c ++ d)
 four_parts old a b c d p q r s ap bp cp dp = rw (dp, cp, bp, ap) (simp append_assoc)

@@ -1,5 +1,5 @@
 -- Where things stand in a picture, in pixels from the left and from the top. The columns of a run stand in bands, one below the other.
-use Rattle.std.specs.Prelude.{ℕ, ◌+◌, ◌-◌, ◌*◌, ◌/◌, ◌%◌, ◌==◌, ◌&&◌, nat_le, nat_lt, Bool, min, max}
+use Rattle.std.specs.Prelude.{ℕ, ◌+◌, ◌-◌, ◌*◌, ◌/◌, ◌%◌, ◌&&◌, nat_le, nat_lt, Bool, min, max}
 use Rattle.ob_text_picture.specs.declared.places.Frame.{Frame}
 use Rattle.ob_text_picture.specs.declared.places.Point.{Point}
 

@@ -1,10 +1,10 @@
 -- The shapes of a picture, by what is seen of a run.
-use Rattle.std.specs.Prelude.{ℕ, zero, suc, ◌+◌, ◌-◌, ◌/◌, ◌%◌, ◌==◌, ◌&&◌, ◌||◌, not, List, [], ◌∷◌, ◌++◌, Bool, true, false, cond, Option, Some, None, codes, decimal, length, nat_le, nat_lt, unwrap_or}
+use Rattle.std.specs.Prelude.{ℕ, zero, suc, ◌+◌, ◌-◌, ◌/◌, ◌%◌, ◌==◌, ◌&&◌, ◌||◌, not, List, [], ◌∷◌, ◌++◌, Bool, false, cond, Option, Some, None, codes, decimal, length, nat_le, nat_lt, slice_get, unwrap_or}
 use Rattle.std.specs.List.{flat_map}
 use Rattle.ob_interface.specs.Call.{ObjectCall, Reply, Answers, Trapped}
 use Rattle.ob_interface.specs.Export.{Signature}
 use Rattle.ob_text_picture.specs.Labels.{call_words, id_words, reply_words, short, short_call}
-use Rattle.ob_text_picture.specs.Places.{at, band_height, bands, cell, columns_in, first, height, is_in, most, top_of, width, x_of, y_of}
+use Rattle.ob_text_picture.specs.Places.{at, band_height, bands, cell, columns_in, first, height, is_in, top_of, width, x_of, y_of}
 use Rattle.ob_text_picture.specs.Svg.{Shape, Line, Box, Circle, Words, Group, EndGroup, svg_text}
 use Rattle.ob_text_picture.specs.declared.places.Frame.{Frame}
 use Rattle.ob_text_picture.specs.declared.places.Point.{Point}
@@ -30,19 +30,23 @@ calls_words total range =
 unfoldable pub heading_words : Chart → List ℕ
 heading_words c = codes "processes: " ++ decimal c.processes ++ codes ", calls: " ++ calls_words c.total c.range
 
--- a column has a number where that is the first one or can be divided by five
-abbrev pub has_tick : (number : ℕ) → Bool
-has_tick number = (number == 1) || (number % 5 == 0)
+-- a column has its time above it where it is the first one of the picture, or its place there can be divided by five
+abbrev pub has_tick : (place : ℕ) → Bool
+has_tick place = (place == 1) || (place % 5 == 0)
 
--- the number of a column, counted in the band, and a line for it
-unfoldable pub tick : Frame → (band : ℕ) → ℕ → List Shape
-tick f band index =
-    let x = x_of f band (first f band + index) in let number = first f band + index + 1 in
-    cond (has_tick number)
-    (Line (codes "tick") (at x (top_of f band + 20)) (at x (top_of f band + band_height f - 14)) ∷ Words (codes "faint middle") (at x (top_of f band + 14)) (decimal number) ∷ []) []
+-- the time of a column; 0 where there is no such column
+abbrev pub time_of : (times : List ℕ) (column : ℕ) → ℕ
+time_of times column = unwrap_or (slice_get times column) 0
 
-unfoldable pub ticks : Frame → (band : ℕ) → List Shape
-ticks f band = Words (codes "faint") (at 12 (top_of f band + 14)) (codes "time") ∷ each (tick f band) (columns_in f band)
+-- the time of a column, counted in the band, and a line for it
+unfoldable pub tick : (times : List ℕ) → Frame → (band : ℕ) → ℕ → List Shape
+tick times f band index =
+    let column = first f band + index in let x = x_of f band column in
+    cond (has_tick (column + 1))
+    (Line (codes "tick") (at x (top_of f band + 20)) (at x (top_of f band + band_height f - 14)) ∷ Words (codes "faint middle") (at x (top_of f band + 14)) (decimal (time_of times column)) ∷ []) []
+
+unfoldable pub ticks : (times : List ℕ) → Frame → (band : ℕ) → List Shape
+ticks times f band = Words (codes "faint") (at 12 (top_of f band + 14)) (codes "time") ∷ each (tick times f band) (columns_in f band)
 
 -- the line of a process, with its name at both ends
 abbrev pub name : ℕ → List ℕ
@@ -130,9 +134,9 @@ is_seen f band b = nat_lt b.begin (first f band + columns_in f band) && nat_le (
 unfoldable pub left : Frame → (band : ℕ) → Bar → ℕ
 left f band b = cond (nat_le (first f band) b.begin) (x_of f band b.begin) 104
 
--- for how many letters there is room up to the next call
+-- for how many letters there is room: up to the next call, or beyond the end of the band where that doesn't begin in it
 unfoldable pub letters : Frame → (band : ℕ) → Bar → ℕ
-letters f band b = (x_of f band b.next - left f band b) / 7 - 1
+letters f band b = (x_of f band b.next + cond (is_in f band b.next) 0 120 - left f band b) / 7 - 1
 
 -- the cross at the end of a bar
 unfoldable pub cross : (x y : ℕ) → List Shape
@@ -211,9 +215,10 @@ mark f band s = mark_of f band s s.happening
 -- ---- the picture
 
 -- a band: the time, the processes, and then what is seen, the bars above the lines and the marks above the bars
-unfoldable pub band_shapes : List Signature → Frame → List Sight → (band : ℕ) → List Shape
-band_shapes exports f sights band =
-    ticks f band ++ each (row f band) f.processes ++ flat_map (help f band) sights ++ bars exports f band sights ++ flat_map (mark f band) sights
+unfoldable pub band_shapes : List Signature → Frame → Chart → (band : ℕ) → List Shape
+band_shapes exports f c band =
+    ticks c.times f band ++ each (row f band) f.processes ++ flat_map (help f band) c.sights ++ bars exports f band c.sights
+    ++ flat_map (mark f band) c.sights
 
 -- the order: of each call its number and its id
 unfoldable pub cell_words : Placed → List ℕ
@@ -254,7 +259,7 @@ unfoldable pub head_shapes : Chart → (size : Point) → List Shape
 head_shapes c size = Box (codes "ground") (at 0 0) size ∷ Words (codes "head") (at 12 22) (heading_words c) ∷ bar_keys ++ mark_keys
 
 abbrev pub frame_of : Chart → Frame
-frame_of c = record { processes = c.processes; columns = c.columns }
+frame_of c = record { processes = c.processes; columns = length c.times }
 
 abbrev pub size_of : Chart → Point
 size_of c = at (width (frame_of c)) (height (frame_of c) (length c.order))
@@ -262,7 +267,7 @@ size_of c = at (width (frame_of c)) (height (frame_of c) (length c.order))
 -- all shapes of a picture, one above the other
 abbrev pub shapes : List Signature → Chart → List Shape
 shapes exports c =
-    head_shapes c (size_of c) ++ each (band_shapes exports (frame_of c) c.sights) (bands (frame_of c)) ++ order_shapes (frame_of c) c.order
+    head_shapes c (size_of c) ++ each (band_shapes exports (frame_of c) c) (bands (frame_of c)) ++ order_shapes (frame_of c) c.order
 
 -- the text of a picture
 abbrev pub picture_text : List Signature → Chart → List ℕ

@@ -1,12 +1,13 @@
 //! The bands of a picture: the time, the processes, and what is seen.
 
-ghost use Rattle.std.specs.Prelude.{◌≡◌, ◌++◌, ◌≤◌, OnOk, codes, map, string_bytes};
+ghost use Rattle.std.specs.Prelude.{◌≡◌, ◌++◌, ◌<◌, ◌≤◌, ◌^◌, OnOk, codes, map, string_bytes};
 ghost use Rattle.std.specs.List.{flat_map};
 ghost use Rattle.ob_interface.specs.View.{signature_of};
-ghost use Rattle.ob_text_picture.specs.Shapes.{band_shapes, bar_at, bars, each, help, mark, row, tick, ticks};
+ghost use Rattle.ob_text_picture.specs.Places.{columns_in};
+ghost use Rattle.ob_text_picture.specs.Shapes.{band_shapes, bar_at, bars, each, help, mark, row, tick, ticks, time_of};
 ghost use Rattle.ob_text_picture.specs.Shapes as Shapes;
 ghost use Rattle.ob_text_picture.specs.Svg.{Words, shape_text, shapes_text};
-ghost use Rattle.ob_text_picture_chart.specs.View.{sight_of};
+ghost use Rattle.ob_text_picture_chart.specs.View.{chart_in, sight_of};
 
 use crate::bars::{bar_of, push_bar};
 use crate::marks::{push_help, push_mark};
@@ -14,7 +15,7 @@ use crate::places::{Frame, Point};
 use crate::svg::{close_words, open_words, push_line, push_numeral, push_words};
 use ob_interface::MOST_PROCESSES;
 use ob_interface::export::Export;
-use ob_text_picture_chart::{Happening, Sight};
+use ob_text_picture_chart::{Chart, Happening, Sight};
 use ob_text_words::numbers::push_number;
 use std::alloc::{AllocError, Global};
 
@@ -25,24 +26,30 @@ pub(crate) fn push_band(
     text: &mut String,
     exports: &[Export],
     frame: Frame,
-    sights: &[Sight],
+    chart: &Chart,
     band: usize,
 ) -> Result<(), AllocError>
     requires { frame.processes ≤ MOST_PROCESSES }
-    ensures { OnOk result (string_bytes text.new ≡ string_bytes text.old ++ shapes_text (band_shapes (map signature_of exports.now) frame (map sight_of sights.now) band)) }
+    ensures { OnOk result (string_bytes text.new ≡ string_bytes text.old ++ shapes_text (band_shapes (map signature_of exports.now) frame (chart_in chart.now) band)) }
 {
-    push_ticks(text, frame, band)?;
+    let sights = chart.sights.as_slice();
+    push_ticks(text, &chart.times, frame, band)?;
     push_rows(text, frame, band)?;
     push_helps(text, frame, band, sights)?;
     push_bars(alloc, text, exports, frame, band, sights)?;
     push_marks(text, frame, band, sights)
 }
 
-/// The numbers of the columns.
+/// The times of the columns.
 #[tactic(auto, using(crate::proofs::Each::each_more), unfolding(crate::specs::Shapes::ticks))]
-fn push_ticks(text: &mut String, frame: Frame, band: usize) -> Result<(), AllocError>
+fn push_ticks(
+    text: &mut String,
+    times: &[usize],
+    frame: Frame,
+    band: usize,
+) -> Result<(), AllocError>
     requires { frame.processes ≤ MOST_PROCESSES }
-    ensures { OnOk result (string_bytes text.new ≡ string_bytes text.old ++ shapes_text (ticks frame band)) }
+    ensures { OnOk result (string_bytes text.new ≡ string_bytes text.old ++ shapes_text (ticks times.now frame band)) }
 {
     let at = Point {
         x: 12,
@@ -50,20 +57,27 @@ fn push_ticks(text: &mut String, frame: Frame, band: usize) -> Result<(), AllocE
     };
     push_words(text, "faint", at, "time")?;
     for index in 0..frame.columns_in(band) {
-        push_tick(text, frame, band, index)?;
+        push_tick(text, times, frame, band, index)?;
     }
     Ok(())
 }
 
-/// The number of a column of a band, with a line, for the first one and each fifth.
-#[tactic(auto, unfolding(crate::specs::Shapes::tick))]
-fn push_tick(text: &mut String, frame: Frame, band: usize, index: usize) -> Result<(), AllocError>
-    requires { frame.processes ≤ MOST_PROCESSES }
-    ensures { OnOk result (string_bytes text.new ≡ string_bytes text.old ++ shapes_text (tick frame band index)) }
+/// The time of a column of a band, with a line, for the first one and each fifth of the picture.
+#[tactic(auto, unfolding(crate::specs::Shapes::tick, crate::specs::Places::columns_in))]
+fn push_tick(
+    text: &mut String,
+    times: &[usize],
+    frame: Frame,
+    band: usize,
+    index: usize,
+) -> Result<(), AllocError>
+    requires few { frame.processes ≤ MOST_PROCESSES }
+    requires here { index < columns_in frame band }
+    ensures { OnOk result (string_bytes text.new ≡ string_bytes text.old ++ shapes_text (tick times.now frame band index)) }
 {
     let column = frame.first(band) + index as u128;
-    let number = column + 1;
-    if number != 1 && number % 5 != 0 {
+    let place = column + 1;
+    if place != 1 && place % 5 != 0 {
         return Ok(());
     }
     let x = frame.x(band, column);
@@ -74,7 +88,20 @@ fn push_tick(text: &mut String, frame: Frame, band: usize, index: usize) -> Resu
         y: frame.bottom(band),
     };
     push_line(text, "tick", from, to)?;
-    push_numeral(text, "faint middle", Point { x, y: top + 14 }, number)
+    push_numeral(
+        text,
+        "faint middle",
+        Point { x, y: top + 14 },
+        time_of(times, column) as u128,
+    )
+}
+
+/// The time of a column.
+fn time_of(times: &[usize], column: u128) -> usize
+    requires { column < 2 ^ 64 }
+    ensures { result ≡ time_of times.now column }
+{
+    times.get(column as usize).copied().unwrap_or(0)
 }
 
 /// The line and the names of each process.

@@ -21,6 +21,9 @@ use wf_history::CallId;
 /// The width of a letter.
 const LETTER: u128 = 7;
 
+/// How far words go on behind the last column of a band.
+const BEYOND: u128 = 120;
+
 /// A call from its begin on.
 #[derive(Clone, Copy)]
 pub(crate) struct Bar<'a> {
@@ -133,14 +136,18 @@ fn left(frame: Frame, band: usize, bar: &Bar) -> u128
     }
 }
 
-/// For how many letters there is room up to the next call.
+/// For how many letters there is room: up to the next call, or beyond the end of the band where that doesn't begin in it.
 #[tactic(auto, unfolding(crate::specs::Shapes::letters))]
 fn letters(frame: Frame, band: usize, bar: &Bar) -> u128
     ensures { result ≡ letters frame band (bar_in bar.now) }
 {
-    let room = frame
-        .x(band, bar.next as u128)
-        .saturating_sub(left(frame, band, bar));
+    let beyond = if frame.is_in(band, bar.next) {
+        0
+    } else {
+        BEYOND
+    };
+    let end = frame.x(band, bar.next as u128) + beyond;
+    let room = end.saturating_sub(left(frame, band, bar));
     (room / LETTER).saturating_sub(1)
 }
 

@@ -7,7 +7,7 @@ ghost use Rattle.ob_text_picture.specs.Places.{at, bands};
 ghost use Rattle.ob_text_picture.specs.Svg.{Words, shape_text, shapes_text};
 ghost use Rattle.ob_text_picture_chart.specs.Charts.{begun, chart_of, range_of};
 ghost use Rattle.ob_text_picture_chart.specs.Faults.{IsRangeFault, MayBeShown};
-ghost use Rattle.ob_text_picture_chart.specs.View.{chart_in, moment_of, sight_of};
+ghost use Rattle.ob_text_picture_chart.specs.View.{chart_in, moment_of};
 
 use crate::bands::push_band;
 use crate::legend::{push_bar_keys, push_mark_keys};
@@ -16,7 +16,7 @@ use crate::places::{Frame, Point};
 use crate::svg::{close_words, open_picture, open_words, push_box};
 use ob_interface::MOST_PROCESSES;
 use ob_interface::export::Export;
-use ob_text_picture_chart::{CallRange, Chart, Moment, PictureFault, Sight, chart_of};
+use ob_text_picture_chart::{CallRange, Chart, Moment, PictureFault, chart_of};
 use ob_text_words::numbers::push_number;
 use std::alloc::{AllocError, Global};
 use wf_history::CallId;
@@ -47,7 +47,7 @@ pub fn picture(alloc: Global, exports: &[Export], chart: &Chart) -> Result<Strin
 {
     let frame = Frame {
         processes: chart.processes,
-        columns: chart.columns,
+        columns: chart.times.as_slice().len(),
     };
     let size = Point {
         x: frame.width(),
@@ -56,7 +56,7 @@ pub fn picture(alloc: Global, exports: &[Export], chart: &Chart) -> Result<Strin
     let mut text = String::new(alloc);
     open_picture(&mut text, size)?;
     push_head(&mut text, chart, size)?;
-    push_bands(alloc, &mut text, exports, frame, &chart.sights)?;
+    push_bands(alloc, &mut text, exports, frame, chart)?;
     push_order(&mut text, frame, &chart.order)?;
     text.push_str("</svg>\n")?;
     Ok(text)
@@ -115,14 +115,14 @@ fn push_bands(
     text: &mut String,
     exports: &[Export],
     frame: Frame,
-    sights: &[Sight],
+    chart: &Chart,
 ) -> Result<(), AllocError>
     requires { frame.processes ≤ MOST_PROCESSES }
     ensures { OnOk result (string_bytes text.new
-        ≡ string_bytes text.old ++ shapes_text (each (band_shapes (map signature_of exports.now) frame (map sight_of sights.now)) (bands frame))) }
+        ≡ string_bytes text.old ++ shapes_text (each (band_shapes (map signature_of exports.now) frame (chart_in chart.now)) (bands frame))) }
 {
     for band in 0..frame.bands() {
-        push_band(alloc, text, exports, frame, sights, band)?;
+        push_band(alloc, text, exports, frame, chart, band)?;
     }
     Ok(())
 }

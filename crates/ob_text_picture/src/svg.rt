@@ -1,6 +1,6 @@
 //! The elements of a picture in SVG.
 
-ghost use Rattle.std.specs.Prelude.{◌≡◌, ◌++◌, OnOk, codes, decimal, string_bytes};
+ghost use Rattle.std.specs.Prelude.{◌≡◌, ◌++◌, OnOk, decimal, string_bytes};
 ghost use Rattle.ob_text_picture.specs.Style.{style_text};
 ghost use Rattle.ob_text_picture.specs.Svg.{Line, Box, Circle, Words, attribute, attributes, element, open_text, close_text, opening_text, shape_text, view_box};
 
@@ -10,7 +10,7 @@ use std::alloc::AllocError;
 
 /// How the classes of elements look.
 const STYLE: &str =
-    "<style>text{font:11px Menlo,Consolas,'DejaVu Sans Mono',monospace;fill:#1b1b1b;stroke:#fff;stroke-width:3px;paint-order:stroke}.ground{fill:#fff}.head{font-size:13px;font-weight:bold}.bold{font-weight:bold}.faint{fill:#777}.middle{text-anchor:middle}.row{stroke:#bbb}.tick{stroke:#eee}.done{fill:#d3e6f8;stroke:#3d77ab}.trap{fill:#fbd9b5;stroke:#b3570b}.open{fill:#e9e9e9;stroke:#777}.trapped{fill:#a34a00}.help{stroke:#444;stroke-dasharray:4 3}.step{fill:#444}.own{fill:#fff;stroke:#222}.helped{fill:#222;stroke:#222}.number{font-size:9px;text-anchor:middle;stroke:none}.light{fill:#fff}.cross{stroke:#c21f1f;stroke-width:3}</style>\n";
+    "<style>text{font:11px Menlo,Consolas,'DejaVu Sans Mono',monospace;fill:#1b1b1b;stroke:#fff;stroke-width:4px;stroke-linejoin:round;paint-order:stroke}.ground{fill:#fff}.head{font-size:13px;font-weight:bold}.bold{font-weight:bold}.faint{fill:#777}.middle{text-anchor:middle}.row{stroke:#bbb}.tick{stroke:#eee}.done{fill:#d3e6f8;stroke:#3d77ab}.trap{fill:#fbd9b5;stroke:#b3570b}.open{fill:#e9e9e9;stroke:#777}.trapped{fill:#a34a00}.help{stroke:#999;stroke-dasharray:4 3;shape-rendering:crispEdges}.step{fill:#444}.own{fill:#fff;stroke:#222}.helped{fill:#222;stroke:#222}.number{font-size:9px;text-anchor:middle;stroke:none}.light{fill:#fff}.cross{stroke:#c21f1f;stroke-width:3}</style>\n";
 
 /// Begins a picture of this size.
 #[tactic(auto, unfolding(crate::specs::Svg::opening_text))]

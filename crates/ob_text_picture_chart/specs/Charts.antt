@@ -22,13 +22,14 @@ pub record Sight : Type 0 where
   pub happening : Happening
 
 -- what a picture shows: of how many processes; how many calls begin in the run, and from which to which of them are shown; what happens to
--- these, in so many columns; and those that took effect, in their order, with their numbers there
+-- these; the columns in which that is, each with its time in the whole run; and those that took effect, in their order, with their numbers
+-- there
 pub record Chart : Type 0 where
   pub processes : ℕ
   pub total : ℕ
   pub range : CallRange
   pub sights : List Sight
-  pub columns : ℕ
+  pub times : List ℕ
   pub order : List Placed
 
 -- the calls, in the order in which they begin
@@ -69,11 +70,22 @@ sights_from order chosen column [] = []
 sights_from order chosen column (moment ∷ moments) =
     chosen_at order chosen column moment ++ sights_from order chosen (column_behind column (chosen_at order chosen column moment)) moments
 
--- how many columns that are
-abbrev pub columns_from : (order chosen : List CallId) (column : ℕ) → List Moment → ℕ
-columns_from order chosen column [] = column
-columns_from order chosen column (moment ∷ moments) =
-    columns_from order chosen (column_behind column (chosen_at order chosen column moment)) moments
+-- the time behind a moment: of the whole run those are counted at which something happens
+abbrev pub time_behind : (time : ℕ) → Moment → ℕ
+time_behind time (Begins id call) = time + 1
+time_behind time (Takes ids maker) = cond (length ids == 0) time (time + 1)
+time_behind time (Ends id reply) = time + 1
+
+-- the time of a column, where so much is seen in it
+abbrev pub time_here : (time : ℕ) → List Sight → List ℕ
+time_here time here = cond (length here == 0) [] (time ∷ [])
+
+-- the times of these columns, from a column and a time on
+abbrev pub times_from : (order chosen : List CallId) (column time : ℕ) → List Moment → List ℕ
+times_from order chosen column time [] = []
+times_from order chosen column time (moment ∷ moments) =
+    time_here time (chosen_at order chosen column moment)
+    ++ times_from order chosen (column_behind column (chosen_at order chosen column moment)) (time_behind time moment) moments
 
 -- a call of an order, if it is chosen, with its number there
 abbrev pub placed_at : (order chosen : List CallId) → CallId → List Placed
@@ -91,6 +103,6 @@ chart_of processes moments order range =
       total = length (begun moments);
       range = range;
       sights = sights_from order (in_range range (begun moments)) 0 moments;
-      columns = columns_from order (in_range range (begun moments)) 0 moments;
+      times = times_from order (in_range range (begun moments)) 0 1 moments;
       order = placed order (in_range range (begun moments));
     }

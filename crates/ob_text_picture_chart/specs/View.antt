@@ -30,6 +30,6 @@ chart_in c =
       total = c.total;
       range = c.range;
       sights = map sight_of c.sights.items;
-      columns = c.columns;
+      times = c.times.items;
       order = c.order.items;
     }

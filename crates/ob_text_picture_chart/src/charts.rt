@@ -1,8 +1,8 @@
 //! What a picture shows of a run: which calls, and in which column each of their events stands.
 
-ghost use Rattle.std.specs.Prelude.{◌≡◌, ◌+◌, ◌<◌, ◌≤◌, ◌++◌, ◌∷◌, ◌==◌, ◌^◌, [], cond, filter, IfErr, IfOk, OnOk, length, map};
+ghost use Rattle.std.specs.Prelude.{◌≡◌, ◌+◌, ◌<◌, ◌≤◌, ◌++◌, ◌∷◌, ◌^◌, [], filter, IfErr, IfOk, OnOk, length, map};
 ghost use Rattle.ob_text_picture_chart.specs.Charts as Charts;
-ghost use Rattle.ob_text_picture_chart.specs.Charts.{begun, chosen_at, columns_from, placed, range_of, sights_from};
+ghost use Rattle.ob_text_picture_chart.specs.Charts.{begun, chosen_at, placed, range_of, sights_from, time_behind, times_from};
 ghost use Rattle.ob_text_picture_chart.specs.Faults.{IsRangeFault, MayBeShown, count, most_calls};
 ghost use Rattle.ob_text_picture_chart.specs.Same.{is_among};
 ghost use Rattle.ob_text_picture_chart.specs.View.{chart_in, happening_of, moment_of, sight_of};
@@ -49,7 +49,8 @@ pub struct Chart<'a> {
     /// The first and the last call that are shown, by their places among those.
     pub range: CallRange,
     pub sights: Vec<Sight<'a>>,
-    pub columns: usize,
+    /// Of each column its time: where its event stands among all of the whole run, from 1.
+    pub times: Vec<usize>,
     /// The calls that are shown and took effect, in their order, each with its number in the order of the whole run.
     pub order: Vec<Placed>,
 }
@@ -77,14 +78,14 @@ pub fn chart_of<'a>(
     let total = begun.len();
     let range = range_in(total, calls)?;
     let chosen = &begun[range.from - 1..range.to];
-    let (sights, columns) = sights_of(alloc, moments, order, chosen)?;
+    let (sights, times) = sights_of(alloc, moments, order, chosen)?;
     let order = placed_of(alloc, order, chosen)?;
     Ok(Chart {
         processes,
         total,
         range,
         sights,
-        columns,
+        times,
         order,
     })
 }
@@ -140,32 +141,39 @@ fn is_among(ids: &[CallId], id: CallId) -> bool
     ids.contains(&id)
 }
 
-/// What happens to the chosen calls, and in how many columns. A moment at which nothing happens to them has none.
+/// What happens to the chosen calls, and the times of its columns. A moment at which nothing happens to them has none.
 fn sights_of<'a>(
     alloc: Global,
     moments: &[Moment<'a>],
     order: &[CallId],
     chosen: &[CallId],
-) -> Result<(Vec<Sight<'a>>, usize), AllocError>
+) -> Result<(Vec<Sight<'a>>, Vec<usize>), AllocError>
     ensures sights { IfOk result (λ r. map sight_of r.0.items ≡ sights_from order.now chosen.now 0 (map moment_of moments.now)) }
-    ensures columns { IfOk result (λ r. r.1 ≡ columns_from order.now chosen.now 0 (map moment_of moments.now)) }
+    ensures times { IfOk result (λ r. r.1.items ≡ times_from order.now chosen.now 0 1 (map moment_of moments.now)) }
 {
     let mut sights = Vec::new(alloc);
-    let mut column = 0;
+    let mut times = Vec::new(alloc);
+    let mut time = 1;
     for moment in moments {
         let before = sights.len();
-        push_moment(&mut sights, *moment, order, chosen, column)?;
-        column = column_behind(column, sights.len() - before);
+        push_moment(&mut sights, *moment, order, chosen, times.len())?;
+        if before < sights.len() {
+            times.push(time)?;
+        }
+        time = time_behind(time, *moment);
     }
-    Ok((sights, column))
+    Ok((sights, times))
 }
 
-/// The next column, behind one in which so much is seen.
-fn column_behind(column: usize, seen: usize) -> usize
-    requires { column + 1 < 2 ^ 64 }
-    ensures { result ≡ cond (seen == 0) column (column + 1) }
+/// The time behind a moment: those at which nothing happens are not counted.
+fn time_behind(time: usize, moment: Moment) -> usize
+    requires { time + 1 < 2 ^ 64 }
+    ensures { result ≡ time_behind time (moment_of moment.entry) }
 {
-    if seen == 0 { column } else { column + 1 }
+    match moment {
+        Moment::Takes(ids, _) if ids.is_empty() => time,
+        _ => time + 1,
+    }
 }
 
 /// What happens to the chosen calls at a moment.

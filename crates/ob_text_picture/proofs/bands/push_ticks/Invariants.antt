@@ -8,4 +8,4 @@ use Rattle.ob_text_picture.proofs.bands.push_ticks.Given as goal
 abbrev pub invariant-loop-index : goal.invariant-loop-index
 invariant-loop-index l =
     string_bytes l.text
-    ≡ string_bytes l.fn.text ++ shapes_text (Words (codes "faint") (at 12 (top_of l.frame l.band + 14)) (codes "time") ∷ each (tick l.frame l.band) l.index)
+    ≡ string_bytes l.fn.text ++ shapes_text (Words (codes "faint") (at 12 (top_of l.frame l.band + 14)) (codes "time") ∷ each (tick l.times l.frame l.band) l.index)

@@ -7,4 +7,4 @@ pub returns-clause-chart : goal.returns-clause-chart
 returns-clause-chart c =
     charted c.args.processes (map moment_of c.args.moments.now) c.args.order.now c.args.calls c.in_ok-begun.begun.items c.len-total.result _ _ _ _
     c.in_ok-begun.ensures (search rules) c.in_ok-range.ensures.range (rw c.deref.ensures.value at c.in_ok-sights.ensures.sights)
-    (rw c.deref.ensures.value at c.in_ok-sights.ensures.columns) (rw c.deref.ensures.value at c.in_ok-order.ensures)
+    (rw c.deref.ensures.value at c.in_ok-sights.ensures.times) (rw c.deref.ensures.value at c.in_ok-order.ensures)
