@@ -158,6 +158,19 @@ impl<E: Engine> Machine<E> {
         ensures few { IfOk result (λ out. length (values_answered (answer_in out)) ≤ 8) }
         ensures err { OnErr result (self.new ≡ self.old) }
     {
+        self.take_loudly(p)
+    }
+
+    /// The same, within its caller: one that needs no reply makes no room for it.
+    #[inline(always)]
+    fn take_loudly(&mut self, p: usize) -> Result<StepOut, NoMemory>
+        requires { p < self.old.sizes.processes }
+        ensures stepped { OnOk result (self.new ≡ record self.old { state = step_of (E.meaning self.old.engine) self.old.sizes self.old.state p; spent = spent_by_step self.old.state self.old.spent p }) }
+        ensures answer { IfOk result (λ out. answer_in out ≡ answer_of (E.meaning self.old.engine) self.old.sizes self.old.state p) }
+        ensures turn { OnOk result (steps_of self.new.state.records.schedule ≡ steps_of self.old.state.records.schedule ++ p ∷ []) }
+        ensures few { IfOk result (λ out. length (values_answered (answer_in out)) ≤ 8) }
+        ensures err { OnErr result (self.new ≡ self.old) }
+    {
         let process = &self.processes[p];
         let label = process.label;
         let begins = process.has_more();
@@ -209,7 +222,7 @@ impl<E: Engine> Machine<E> {
         ensures turn { OnOk result (steps_of self.new.state.records.schedule ≡ steps_of self.old.state.records.schedule ++ p ∷ []) }
         ensures err { OnErr result (self.new ≡ self.old) }
     {
-        match self.step_loudly(p)? {
+        match self.take_loudly(p)? {
             StepOut::On => Ok(Seen::On),
             StepOut::Began(_) => Ok(Seen::Began),
             StepOut::Answered(_, _) => Ok(Seen::Answered),

@@ -43,6 +43,7 @@ pub fn is_unmarked(label: Label) -> bool
 }
 
 /// Notes what a step of the process shows, and answers it. Nothing changes where memory runs out.
+#[inline(always)]
 pub fn note_step<E: Engine>(
     alloc: Global,
     engine: &E,
@@ -79,6 +80,7 @@ pub fn note_step<E: Engine>(
 }
 
 /// The next call of the script begins, where there is one.
+#[inline(always)]
 fn begin<R>(
     alloc: Global,
     q: &Process<R>,
@@ -105,6 +107,7 @@ fn begin<R>(
 }
 
 /// The open calls are applied whose toggles differ between the root and the own block, where the process is linked.
+#[inline(always)]
 fn commit<R>(
     alloc: Global,
     z: Sizes,
@@ -134,6 +137,7 @@ fn commit<R>(
 }
 
 /// The open call ends with the reply that the reply list stands for.
+#[inline(always)]
 fn give<E: Engine>(
     alloc: Global,
     engine: &E,

@@ -24,6 +24,7 @@ pub fn part_of(z: Sizes, q: usize) -> usize
     z.variables + q * (z.replies + 2)
 }
 
+#[inline(always)]
 pub fn post<R>(z: Sizes, shared: &mut Shared, q: &mut Process<R>, p: usize)
     requires sized { IsSized z }
     requires shaped { IsShaped z shared.old.cell }
@@ -87,6 +88,7 @@ pub fn link<R>(shared: &mut Shared, q: &mut Process<R>, p: usize)
     q.label = Label::Load;
 }
 
+#[inline(always)]
 pub fn load<R>(z: Sizes, shared: &Shared, q: &mut Process<R>)
     requires shaped { IsShaped z shared.now.cell }
     requires in_range { IsInRange z q.old }
@@ -97,6 +99,7 @@ pub fn load<R>(z: Sizes, shared: &Shared, q: &mut Process<R>)
     q.label = Label::Store;
 }
 
+#[inline(always)]
 pub fn store<R>(z: Sizes, shared: &mut Shared, q: &mut Process<R>, p: usize)
     requires sized { IsSized z }
     requires shaped { IsShaped z shared.old.cell }
@@ -215,6 +218,7 @@ pub fn next<E: Engine>(engine: &E, q: &mut Process<E::Run>)
     }
 }
 
+#[inline(always)]
 pub fn mine<R>(z: Sizes, shared: &Shared, q: &mut Process<R>, p: usize)
     requires sized { IsSized z }
     requires shaped { IsShaped z shared.now.cell }
@@ -240,6 +244,7 @@ pub fn own_toggle(z: Sizes, shared: &Shared, p: usize, q: usize) -> i64
     shared.read_word(shared.own_block(p), part_of(z, q) + (z.replies + 1))
 }
 
+#[inline(always)]
 pub fn seen<R>(z: Sizes, shared: &Shared, q: &mut Process<R>, p: usize)
     requires sized { IsSized z }
     requires shaped { IsShaped z shared.now.cell }
@@ -258,6 +263,7 @@ pub fn seen<R>(z: Sizes, shared: &Shared, q: &mut Process<R>, p: usize)
     }
 }
 
+#[inline(always)]
 pub fn fetch<R>(z: Sizes, shared: &Shared, q: &mut Process<R>)
     requires sized { IsSized z }
     requires shaped { IsShaped z shared.now.cell }
@@ -273,6 +279,7 @@ pub fn fetch<R>(z: Sizes, shared: &Shared, q: &mut Process<R>)
     }
 }
 
+#[inline(always)]
 pub fn save<R>(z: Sizes, shared: &Shared, q: &mut Process<R>, p: usize)
     requires sized { IsSized z }
     requires shaped { IsShaped z shared.now.cell }
@@ -342,6 +349,7 @@ fn word_kept<E: Engine>(engine: &E, z: Sizes, shared: &Shared, q: &Process<E::Ru
     }
 }
 
+#[inline(always)]
 pub fn keep<E: Engine>(engine: &E, z: Sizes, shared: &mut Shared, q: &mut Process<E::Run>, p: usize)
     requires sized { IsSized z }
     requires shaped { IsShaped z shared.old.cell }
@@ -389,6 +397,7 @@ pub fn read<R>(shared: &Shared, q: &mut Process<R>)
     q.label = Label::Take;
 }
 
+#[inline(always)]
 pub fn take_reply<R>(z: Sizes, shared: &Shared, q: &mut Process<R>, p: usize)
     requires sized { IsSized z }
     requires shaped { IsShaped z shared.now.cell }

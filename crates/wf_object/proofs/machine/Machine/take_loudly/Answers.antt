@@ -13,7 +13,7 @@ use Rattle.wf_bound.specs.Counted.{spent_of, spent_by_step, count_by}
 use Rattle.wf_object.proofs.Keeps.{step_kept}
 use Rattle.wf_object.proofs.Spends.{bodies_room, inside_room, outside_room, later}
 use Rattle.wf_object.proofs.OneStep.{stands, step_is, answer_is, noted_is}
-use Rattle.wf_object.proofs.machine.Machine.step_loudly.Goals as goal
+use Rattle.wf_object.proofs.machine.Machine.take_loudly.Goals as goal
 
 pub note_step-requires-clause-in_range : goal.note_step-requires-clause-in_range
 note_step-requires-clause-in_range g c =
