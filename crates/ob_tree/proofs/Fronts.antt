@@ -18,8 +18,7 @@ use Rattle.ob_tree_work.specs.Reserve.{activation_most, IsLow}
 use Rattle.ob_tree_work.proofs.Opened.{open_element}
 use Rattle.ob_tree_work.proofs.Small.{operands_found}
 use Rattle.ob_tree_work.proofs.Within.{low_long}
-use Rattle.ob_tree_tasks.specs.Opening.{IsSmallSelector, IsSmallTask}
-use Rattle.ob_tree.specs.Acting.{FirstFits}
+use Rattle.ob_tree_tasks.specs.Opening.{IsSmallSelector, IsSmallTask, FirstFits}
 
 module _ (program : Program) (well : ∥ IsWellFormed program ∥₁) where
   abbrev code : List Instr

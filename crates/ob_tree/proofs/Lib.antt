@@ -1,6 +1,8 @@
+mod Kept
 mod Settling
 mod Numbered
 mod Fronts
+mod Acted
 mod Stepped
 mod Reserved
 mod Known

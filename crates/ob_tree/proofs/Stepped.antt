@@ -1,5 +1,5 @@
 -- A step is what the task in front does, and the work behind it opened.
-use Rattle.std.proofs.Common.{◌≡◌, ◌≢◌, ℕ, Bool, false, ℤ, List, [], ◌∷◌, length, ap, sym, ◌∙◌, subst, arith}
+use Rattle.std.proofs.Common.{◌≡◌, ◌≢◌, ℕ, ◌+◌, ◌≤◌, Bool, false, ℤ, List, [], ◌∷◌, length, ap, sym, ◌∙◌, subst, arith}
 use Rattle.std.specs.Prelude.{if◌then◌else◌}
 use Rattle.ob_typing.specs.Program.{Program}
 use Rattle.ob_code_scheme.specs.Types.{Scope, variables_scope}
@@ -8,7 +8,7 @@ use Rattle.ob_code_scheme.specs.WellFormed.{IsWellFormed}
 use Rattle.wf_table.specs.declared.engine_turn.EngineTurn.{EngineTurn}
 use Rattle.wf_table.specs.declared.engine_turn.EngineTurn.TheVariants.{On}
 use Rattle.wf_table.specs.Meaning.{Turned}
-use Rattle.ob_tree_work.specs.Work.{Task, TreeState, Answer, settled, opened, opened_by, does, does_first, step}
+use Rattle.ob_tree_work.specs.Work.{Task, TreeState, Answer, settled, opened_by, does_first, step}
 use Rattle.ob_tree_work.specs.Work as Work
 use Rattle.ob_tree_work.specs.Reserve.{activation_most, AnswerKeepsWithin}
 use Rattle.ob_tree_work.proofs.Opening.{opened_by_kept}
@@ -16,8 +16,8 @@ use Rattle.ob_tree_work.proofs.Ready.{IsReady, opened_left}
 use Rattle.ob_tree_work.proofs.Within.{opened_by_low, step_keeps, within_reserve}
 use Rattle.ob_tree_law.specs.TreeEngine.{TreeRun, tree_shown, tree_step, IsOpened, IsTreeReady}
 use Rattle.ob_tree_law.proofs.TreeLaw.{AnswerStands, step_stands}
-use Rattle.ob_tree_tasks.specs.WorkTasks.{behind}
-use Rattle.ob_tree.specs.Acting.{state_in, rest_of, Comes, HasFirst, CanBeOpened}
+use Rattle.ob_tree_tasks.specs.Opening.{CanBeOpened}
+use Rattle.ob_tree.specs.Acting.{state_in, Comes}
 use Rattle.ob_tree.proofs.Fronts.{first_fits}
 
 module _ (program : Program) where
@@ -47,22 +47,21 @@ module _ (program : Program) where
   shown_off run before (Work.Failed k) turn new after h off = h
   shown_off run before Work.Lost turn new after h off = h
 
-  module _ (run : TreeRun) (ready : IsTreeReady program run) (t : Task) (front : run.body.work ≡ t ∷ behind run.body.work) where
-    pub has_first : HasFirst run
-    has_first =
-        let long = ap (λ (ts : List Task). length ts) front in
+  module _ (run : TreeRun) (ready : IsTreeReady program run) where
+    -- room for what the task in front puts there
+    pub has_room : length run.body.work + 3 ≤ run.room
+    has_room =
         let few = within_reserve program run.reserve 0 run.body ready.within in
         let room = ready.room in
-        record { some = omega (arith, long); room = omega (arith, few, room) }
+        omega (arith, few, room)
 
     module _ (before : List ℤ) where
       abbrev answer : Answer
-      answer = does program run.reserve t (rest_of run) (state_in run before)
+      answer = does_first program run.reserve run.body.work (state_in run before)
 
       step_is : step program run.reserve (state_in run before) ≡ answer
       step_is =
           ap (λ (ts : List Task). does_first program run.reserve ts (state_in run before)) (opened_left g run.body.work (is_ready run.body.work ready.opened))
-          ∙ ap (λ (ts : List Task). does_first program run.reserve ts (state_in run before)) front
 
       pub step_shown : run.is_over ≡ false → tree_shown program run before answer ≡ tree_step program run before
       step_shown over =

@@ -1,13 +1,11 @@
 -- What a run comes to by the task in front, before the work behind it is opened.
-use Rattle.std.specs.Prelude.{◌≡◌, ℕ, ◌+◌, ◌<◌, ◌≤◌, true, ℤ, List, [], ◌∷◌, length}
-use Rattle.ob_code_scheme.specs.Types.{Scope}
+use Rattle.std.specs.Prelude.{◌≡◌, ◌+◌, ◌<◌, ◌≤◌, true, ℤ, List, length}
 use Rattle.wf_table.specs.declared.engine_turn.EngineTurn.{EngineTurn}
 use Rattle.wf_table.specs.declared.engine_turn.EngineTurn.TheVariants.{On, Returned, Trapped, Stuck}
 use Rattle.wf_table.specs.Meaning.{Turned}
-use Rattle.ob_tree_work.specs.Work.{Task, TreeState, Answer, opened_by}
+use Rattle.ob_tree_work.specs.Work.{Task, TreeState, Answer}
 use Rattle.ob_tree_work.specs.Work as Work
-use Rattle.ob_tree_tasks.specs.WorkTasks.{WorkTasks, behind}
-use Rattle.ob_tree_tasks.specs.Opening.{IsSmallTask}
+use Rattle.ob_tree_tasks.specs.WorkTasks.{behind}
 use Rattle.ob_tree_law.specs.TreeEngine.{TreeRun}
 
 -- all that the run works on
@@ -34,12 +32,3 @@ Comes turn new after old before answer = record { turn = turn; run = new; block 
 pub record HasFirst (run : TreeRun) : Type 0 where
   pub some : 0 < length run.body.work
   pub room : length run.body.work + 3 ≤ run.room
-
--- the task in front can give way to its parts
-abbrev pub FirstFits : Scope → (room : ℕ) → List Task → Type 0
-FirstFits globals room [] = Unit {0}
-FirstFits globals room (t ∷ rest) = (length rest + 4 ≤ room) × IsSmallTask globals t
-
--- at each moment of opening
-abbrev pub CanBeOpened : Scope → WorkTasks → Type 0
-CanBeOpened globals w = (n : ℕ) → FirstFits globals w.room (opened_by globals n w.tasks)

@@ -7,21 +7,23 @@ ghost use Rattle.ob_tree.specs.Acting.{Comes, HasFirst, rest_of, state_in};
 ghost use Rattle.ob_tree_tasks.specs.Scoped.{own_in};
 ghost use Rattle.ob_tree_work.specs.Work as Work;
 
+use crate::effects::effect_at_once;
 use crate::run::TreeRun;
 use ob_checked::program::{Branch, Expression, Statement};
 use ob_code_machine::Instr;
-use ob_code_machine::effect::{Answer, effect};
+use ob_code_machine::effect::Answer;
 use ob_tree_tasks::statements::follows;
 use ob_tree_tasks::{Scopes, Task};
 use wf_object::EngineTurn;
 
 impl<'a> TreeRun<'a> {
     /// An instruction that does not jump.
+    #[inline(always)]
     pub(crate) fn compute(&mut self, instr: Instr, block: &mut [i64]) -> EngineTurn
         requires { HasFirst self.old }
         ensures { (program : Program.Program) → Comes result self.new block.new self.old block.old (Work.does program self.old.reserve (Work.Instruction instr) (rest_of self.old) (state_in self.old block.old)) }
     {
-        match effect(instr, self.fp, block, &mut self.stack) {
+        match effect_at_once(instr, self.fp, block, &mut self.stack) {
             Answer::Done => {
                 self.work.remove_first();
                 EngineTurn::On

@@ -2,6 +2,7 @@
 #![tactic(auto)]
 
 pub mod act;
+mod effects;
 pub mod engine;
 pub mod frames;
 pub mod procedures;

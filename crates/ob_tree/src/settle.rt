@@ -2,7 +2,7 @@
 
 ghost use Rattle.std.specs.Prelude.{◌≡◌};
 ghost use Rattle.ob_code_layout.specs.Layout.{block_in};
-ghost use Rattle.ob_tree.specs.Acting.{CanBeOpened};
+ghost use Rattle.ob_tree_tasks.specs.Opening.{CanBeOpened};
 ghost use Rattle.ob_tree_tasks.specs.WorkTasks.{with_tasks};
 ghost use Rattle.ob_tree_work.specs.Work.{opened};
 
@@ -14,9 +14,7 @@ pub fn settle<'a>(work: &mut WorkList<'a>, layout: &'a Layout)
     requires { CanBeOpened (block_in layout.now) work.old }
     ensures { work.new ≡ with_tasks work.old (opened (block_in layout.now) work.old.tasks) }
 {
-    while let Some(task) = work.pop() {
-        if !open(work, layout, task) {
-            return;
-        }
+    while work.is_silent() {
+        open(work, layout);
     }
 }

@@ -1,6 +1,6 @@
 //! One step of a body on a program's tree.
 
-ghost use Rattle.std.specs.Prelude.{◌≡◌, ◌∷◌, ℤ, List, map};
+ghost use Rattle.std.specs.Prelude.{◌≡◌, ◌+◌, ◌≤◌, ℤ, List, length, map};
 ghost use Rattle.ob_checked.specs.View.{program_of};
 ghost use Rattle.ob_code_layout.specs.Layout.{block_in, parts_of};
 ghost use Rattle.ob_code_scheme.specs.Types.{frame_scope, variables_scope};
@@ -54,7 +54,8 @@ impl<'a> TreeRun<'a> {
         EngineTurn::On
     }
 
-    /// What the task in front does. A silent one does nothing.
+    /// What a task does that is in front. A silent one does nothing.
+    #[inline(never)]
     fn act(
         &mut self,
         program: &'a Program,
@@ -103,6 +104,28 @@ impl<'a> TreeRun<'a> {
         }
     }
 
+    /// What the task in front does. An instruction, as most are, is not copied with all that a task has room for.
+    fn act_first(
+        &mut self,
+        program: &'a Program,
+        layout: &'a Layout,
+        block: &mut [i64],
+    ) -> EngineTurn
+        requires room { length self.old.body.work + 3 ≤ self.old.room }
+        requires frames { (parts_of layout.now).frames ≡ map frame_scope (program_of program.now).procedures }
+        requires small { AreSmallFrames (program_of program.now).procedures }
+        ensures { Comes result self.new block.new self.old block.old (Work.does_first (program_of program.now) self.old.reserve self.old.body.work (state_in self.old block.old)) }
+    {
+        let Some(task) = self.work.first() else {
+            return EngineTurn::Stuck;
+        };
+        match *task {
+            Task::Instruction(instr) => self.compute(instr, block),
+            Task::Taking => self.take_turn(),
+            task => self.act(program, layout, task, block),
+        }
+    }
+
     /// One step on a block: what one instruction of the code does. A body that is over is stuck.
     pub fn step(
         &mut self,
@@ -119,13 +142,12 @@ impl<'a> TreeRun<'a> {
         if self.is_over {
             return EngineTurn::Stuck;
         }
-        let Some(task) = self.work.first() else {
-            return EngineTurn::Stuck;
-        };
-        let turn = self.act(program, layout, task, block);
-        if let EngineTurn::On = turn {
-            settle(&mut self.work, layout);
+        match self.act_first(program, layout, block) {
+            EngineTurn::On => {
+                settle(&mut self.work, layout);
+                EngineTurn::On
+            }
+            turn => turn,
         }
-        turn
     }
 }

@@ -47,18 +47,18 @@ down_no_turn : run down 0 (Int (pos 3) ∷ []) 1 [] 22 ≡ Failed 5
 down_no_turn = refl
 
 -- tasks of an activation that are counted, and that a run comes to
-down_tasks : activation_most down.procedures ∷ most_tasks down 0 (Int (pos 3) ∷ []) 3 [] 31 ∷ [] ≡ 11 ∷ 14 ∷ []
+down_tasks : activation_most down.procedures ∷ most_tasks down 0 (Int (pos 3) ∷ []) 3 [] 31 ∷ [] ≡ 11 ∷ 8 ∷ []
 down_tasks = refl
 
 up_done : run up 0 (Int (pos 3) ∷ []) 3 (Holds (Single (Int (pos 0))) ∷ []) 41 ≡ Finished (pos 3 ∷ []) []
 up_done = refl
 
-up_tasks : activation_most up.procedures ∷ most_tasks up 0 (Int (pos 3) ∷ []) 3 (Holds (Single (Int (pos 0))) ∷ []) 41 ∷ [] ≡ 11 ∷ 10 ∷ []
+up_tasks : activation_most up.procedures ∷ most_tasks up 0 (Int (pos 3) ∷ []) 3 (Holds (Single (Int (pos 0))) ∷ []) 41 ∷ [] ≡ 11 ∷ 7 ∷ []
 up_tasks = refl
 
-choosing_tasks : activation_most choosing.procedures ∷ most_tasks choosing 1 (Int (pos 3) ∷ []) 3 [] 500 ∷ [] ≡ 14 ∷ 13 ∷ []
+choosing_tasks : activation_most choosing.procedures ∷ most_tasks choosing 1 (Int (pos 3) ∷ []) 3 [] 500 ∷ [] ≡ 14 ∷ 10 ∷ []
 choosing_tasks = refl
 
--- 64 activations, each of which has two tasks that wait
-filling_tasks : activation_most filling.procedures ∷ most_tasks filling 0 [] 63 [] 127 ∷ [] ≡ 4 ∷ 129 ∷ []
+-- 64 activations, each of which has one task that waits
+filling_tasks : activation_most filling.procedures ∷ most_tasks filling 0 [] 63 [] 127 ∷ [] ≡ 4 ∷ 66 ∷ []
 filling_tasks = refl

@@ -1,11 +1,16 @@
--- What is left of a list of which the task in front was taken.
-use Rattle.std.proofs.Common.{◌≡◌, ◌<◌, [], ◌∷◌, length, Option, Some, None, ap, sym, arith}
-use Rattle.std.specs.Prelude.{MatchOption}
+-- What is left of a list of which the task in front was dropped.
+use Rattle.std.proofs.Common.{◌≡◌, ℕ, zero, suc, ◌-◌, ◌<◌, ◌≤◌, List, [], ◌∷◌, ◌++◌, length, take, reverse, map, get_or, refl, ap, sym, ◌∙◌, arith}
+use Rattle.std.proofs.Math.Seq.{take-suc}
+use Rattle.std.proofs.lemmas.List.{reverse-append}
 use Rattle.ob_tree_tasks.specs.declared.task.Task.{Task}
-use Rattle.ob_tree_tasks.specs.Tasks.{task_of}
-use Rattle.ob_tree_tasks.specs.WorkTasks.{WorkTasks, behind, with_tasks}
+use Rattle.ob_tree_tasks.specs.declared.task.Task.TheVariants.{Over}
+use Rattle.ob_tree_tasks.specs.Tasks.{task_of, tasks_of}
+use Rattle.ob_tree_tasks.specs.WorkTasks.{behind}
 
-pub dropped : (o : Option Task) (old new : WorkTasks) → MatchOption o ((old.tasks ≡ []) × (new ≡ old)) (λ t. old ≡ with_tasks new (task_of t ∷ new.tasks)) → 0 < length old.tasks →
-    new ≡ with_tasks old (behind old.tasks)
-dropped None old new h some = let none = ap length (h.0) in absurd (omega (arith, none, some))
-dropped (Some t) old new h some = sym (ap (λ (w : WorkTasks). with_tasks w (behind w.tasks)) h)
+pub dropped : (tasks : List Task) (count : ℕ) → count ≤ length tasks → tasks_of tasks (count - 1) ≡ behind (tasks_of tasks count)
+dropped tasks zero few = refl
+dropped tasks (suc n) few =
+    let last : Task = get_or tasks n Over in
+    let less : suc n - 1 ≡ n = omega arith in
+    ap (tasks_of tasks) less
+    ∙ sym (ap (λ (ts : List Task). behind (map task_of ts)) (ap reverse (take-suc tasks n Over (omega (arith, few))) ∙ reverse-append (take n tasks) (last ∷ [])))

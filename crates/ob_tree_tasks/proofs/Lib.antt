@@ -1,2 +1,3 @@
-mod Pushed
 mod Dropped
+mod Giving
+mod Pushed

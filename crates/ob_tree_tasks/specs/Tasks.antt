@@ -1,19 +1,17 @@
 -- What the tasks of a work list stand for.
 use Rattle.std.specs.Prelude.{ℕ, List, map, take, reverse}
 use Rattle.ob_typing.specs.Program as Program
-use Rattle.ob_checked.specs.View.{expression_of, operations_in, selectors_in, designator_of, actual_of, statement_of, statements_in, branches_in, otherwise_of}
+use Rattle.ob_checked.specs.View.{expression_of, operations_in, selectors_in, actual_of, statements_in, branches_in, otherwise_of}
 use Rattle.ob_tree_work.specs.Work as Work
 use Rattle.ob_tree_tasks.specs.Scoped.{own_in, type_in}
 use Rattle.ob_tree_tasks.specs.declared.task.Task.{Task}
-use Rattle.ob_tree_tasks.specs.declared.task.Task.TheVariants.{Value, Operators, Address, Selecting, Handing, Doing, While, Repeat, All, Choosing, Instruction, AndThen, OrElse, Alternative, Over, Looping, Again, Until, Taking, Calling, Leaving}
+use Rattle.ob_tree_tasks.specs.declared.task.Task.TheVariants.{Value, Operators, Selecting, Handing, While, Repeat, All, Choosing, Instruction, AndThen, OrElse, Alternative, Over, Looping, Again, Until, Taking, Calling, Leaving}
 
 abbrev pub task_of : Task → Work.Task
 task_of (Value own expression) = Work.Value (own_in own) (expression_of expression.now)
 task_of (Operators own operations) = Work.Operators (own_in own) (operations_in operations.now)
-task_of (Address own designator) = Work.Address (own_in own) (designator_of designator.now)
 task_of (Selecting own layout data_type selectors) = Work.Selecting (own_in own) (type_in layout.now data_type) (selectors_in selectors.now)
 task_of (Handing own actuals) = Work.Handing (own_in own) (map actual_of actuals.now)
-task_of (Doing own statement) = Work.Doing (own_in own) (statement_of statement.now)
 task_of (While own condition body) = Work.Doing (own_in own) (Program.While (expression_of condition.now) (statements_in body.now))
 task_of (Repeat own body condition) = Work.Doing (own_in own) (Program.Repeat (statements_in body.now) (expression_of condition.now))
 task_of (All own statements) = Work.All (own_in own) (statements_in statements.now)

@@ -20,6 +20,10 @@ with_tasks w tasks = record w { tasks = tasks }
 abbrev pub before : List Task → WorkTasks → WorkTasks
 before tasks w = with_tasks w (tasks ++ w.tasks)
 
+-- with this one in front
+abbrev pub with_first : Task → WorkTasks → WorkTasks
+with_first t w = with_tasks w (t ∷ w.tasks)
+
 -- those behind the one in front
 abbrev pub behind : List Task → List Task
 behind [] = []

@@ -1,15 +1,17 @@
-//! The parts that expressions, variables and actuals give way to: the last one is put first, so that the first one is in front.
+//! How expressions, variables and actuals give way to their parts: the last part is put first, and the first one is opened at once, down to
+//! an instruction. Where that is most of what is done the hints keep the way short.
 
-ghost use Rattle.std.specs.Prelude.{◌≡◌, ◌≤◌, ◌∷◌, map};
+ghost use Rattle.std.specs.Prelude.{◌≡◌, ◌+◌, ◌≤◌, length, map, MatchOption};
 ghost use Rattle.ob_code_scheme.specs.Layout as Words;
 ghost use Rattle.ob_code_scheme.specs.Scheme as Scheme;
 ghost use Rattle.ob_code_scheme.specs.Types as Sizes;
+ghost use Rattle.ob_code_scheme.specs.Types.{Scope};
+ghost use Rattle.ob_typing.specs.Program as Program;
 ghost use Rattle.ob_checked.specs.View.{owner_of, actual_of, designator_of, expression_of, operations_in, selectors_in};
 ghost use Rattle.ob_code_layout.specs.Layout.{block_in};
-ghost use Rattle.ob_tree_tasks.specs.Opening.{IsSmallSelector, element_tasks, field_tasks, global_tasks, own_variable_tasks};
-ghost use Rattle.ob_tree_tasks.specs.Scoped.{globals_in, own_in, type_in};
-ghost use Rattle.ob_tree_tasks.specs.Tasks.{task_of};
-ghost use Rattle.ob_tree_tasks.specs.WorkTasks.{HasRoom, HasRoomFor, before, with_tasks};
+ghost use Rattle.ob_tree_tasks.specs.Opening.{CanBeOpened, GivesWay, element_tasks, field_tasks, global_tasks, own_variable_tasks};
+ghost use Rattle.ob_tree_tasks.specs.Scoped.{own_in, type_in};
+ghost use Rattle.ob_tree_tasks.specs.WorkTasks.{HasRoom, HasRoomFor, before, with_first, with_tasks};
 ghost use Rattle.ob_tree_work.specs.Work as Work;
 
 use crate::scopes::Scopes;
@@ -46,45 +48,69 @@ fn relation_instruction(relation: Relation) -> Instr
 }
 
 /// The value of an expression.
-pub fn open_value<'a>(work: &mut WorkList<'a>, own: Scopes<'a>, expression: &'a Expression)
+#[inline(never)]
+pub fn open_value<'a>(
+    work: &mut WorkList<'a>,
+    layout: &'a Layout,
+    own: Scopes<'a>,
+    expression: &'a Expression,
+)
+    requires room { HasRoom work.old }
+    requires fits { CanBeOpened (block_in layout.now) (with_first (Work.Value (own_in own) (expression_of expression.now)) work.old) }
+    ensures { GivesWay (block_in layout.now) (with_first (Work.Value (own_in own.entry) (expression_of expression.now)) work.old) work.new }
+{
+    let mut first = expression;
+    while let Some(operand) = open_outer(work, layout, own, first) {
+        first = operand;
+    }
+}
+
+/// The value of a literal.
+fn open_literal<'a>(work: &mut WorkList<'a>, scalar: Scalar)
     requires { HasRoom work.old }
-    ensures { work.new ≡ before (Work.value_parts (globals_in own.entry) (own_in own.entry) (expression_of expression.now)) work.old }
+    ensures { (globals own : Scope) → work.new ≡ before (Work.value_parts globals own (Program.Literal scalar)) work.old }
+{
+    let value = number_of(scalar);
+    work.push(Task::Instruction(Instr::Literal { value }));
+}
+
+/// An expression without its first operand, which it gives; one that has no operand is opened.
+fn open_outer<'a>(
+    work: &mut WorkList<'a>,
+    layout: &'a Layout,
+    own: Scopes<'a>,
+    expression: &'a Expression,
+) -> Option<&'a Expression>
+    requires room { HasRoom work.old }
+    requires fits { CanBeOpened (block_in layout.now) (with_first (Work.Value (own_in own) (expression_of expression.now)) work.old) }
+    ensures { MatchOption result
+        (GivesWay (block_in layout.now) (with_first (Work.Value (own_in own.entry) (expression_of expression.now)) work.old) work.new)
+        (λ operand. with_first (Work.Value (own_in own.entry) (expression_of operand.now)) work.new ≡ before (Work.value_parts (block_in layout.now) (own_in own.entry) (expression_of expression.now)) work.old) }
 {
     match expression {
         Expression::Literal(scalar) => {
-            let value = number_of(*scalar);
-            work.push(Task::Instruction(Instr::Literal { value }));
+            open_literal(work, *scalar);
+            None
         }
         Expression::ValueOf { variable, .. } => {
             work.push(Task::Instruction(Instr::Get));
-            work.push(Task::Address {
-                own,
-                designator: variable,
-            });
+            open_address(work, layout, own, variable);
+            None
         }
         Expression::Negated(operand) => {
             work.push(Task::Instruction(Instr::Negate));
-            work.push(Task::Value {
-                own,
-                expression: operand,
-            });
+            Some(operand)
         }
         Expression::Complement(operand) => {
             work.push(Task::Instruction(Instr::Not));
-            work.push(Task::Value {
-                own,
-                expression: operand,
-            });
+            Some(operand)
         }
         Expression::Computed { first, rest } => {
             work.push(Task::Operators {
                 own,
                 operations: rest.as_slice(),
             });
-            work.push(Task::Value {
-                own,
-                expression: first,
-            });
+            Some(first)
         }
         Expression::Compared {
             relation,
@@ -96,70 +122,104 @@ pub fn open_value<'a>(work: &mut WorkList<'a>, own: Scopes<'a>, expression: &'a 
                 own,
                 expression: right,
             });
-            work.push(Task::Value {
-                own,
-                expression: left,
-            });
+            Some(left)
         }
     }
 }
 
 /// Operators and operands.
-pub fn open_operators<'a>(work: &mut WorkList<'a>, own: Scopes<'a>, operations: &'a [Operation])
-    requires { HasRoom work.old }
-    ensures { work.new ≡ before (Work.operators_parts (globals_in own.entry) (own_in own.entry) (operations_in operations.now)) work.old }
+pub fn open_operators<'a>(
+    work: &mut WorkList<'a>,
+    layout: &'a Layout,
+    own: Scopes<'a>,
+    operations: &'a [Operation],
+)
+    requires room { HasRoom work.old }
+    requires fits { CanBeOpened (block_in layout.now) (with_first (Work.Operators (own_in own) (operations_in operations.now)) work.old) }
+    ensures { GivesWay (block_in layout.now) (with_first (Work.Operators (own_in own.entry) (operations_in operations.now)) work.old) work.new }
 {
     let Some((operation, rest)) = operations.split_first() else {
         return;
     };
-    work.push(Task::Operators {
-        own,
-        operations: rest,
-    });
-    open_operator(work, own, operation);
-}
-
-/// An operator and its right operand.
-fn open_operator<'a>(work: &mut WorkList<'a>, own: Scopes<'a>, operation: &'a Operation)
-    requires { HasRoomFor 2 work.old }
-    ensures { work.new ≡ with_tasks work.old (Work.operator_tasks (own_in own.entry) operation.now.operator (expression_of operation.now.operand) work.old.tasks) }
-{
-    let operand = &operation.operand;
-    match operation.operator {
-        BinaryOperator::And => work.push(Task::AndThen {
-            own,
-            right: operand,
-        }),
-        BinaryOperator::Or => work.push(Task::OrElse {
-            own,
-            right: operand,
-        }),
-        BinaryOperator::Plus => push_computed(work, own, operand, Instr::Add),
-        BinaryOperator::Minus => push_computed(work, own, operand, Instr::Subtract),
-        BinaryOperator::Times => push_computed(work, own, operand, Instr::Multiply),
-        BinaryOperator::Div => push_computed(work, own, operand, Instr::Divide),
-        BinaryOperator::Mod => push_computed(work, own, operand, Instr::Modulo),
+    leave_operators(work, own, rest);
+    if let Some(operand) = open_operator(work, own, operation) {
+        open_value(work, layout, own, operand);
     }
 }
 
-/// A right operand, and the instruction behind it.
-fn push_computed<'a>(
+/// The operators that are left, where there are some.
+fn leave_operators<'a>(work: &mut WorkList<'a>, own: Scopes<'a>, operations: &'a [Operation])
+    requires { HasRoom work.old }
+    ensures left { work.new ≡ before (Work.operators_left (own_in own.entry) (operations_in operations.now)) work.old }
+    ensures few { length work.new.tasks ≤ length work.old.tasks + 1 }
+{
+    if !operations.is_empty() {
+        work.push(Task::Operators { own, operations });
+    }
+}
+
+/// An operator: the instruction behind its right operand, which it gives, or for `&` and OR the task that decides.
+fn open_operator<'a>(
     work: &mut WorkList<'a>,
     own: Scopes<'a>,
-    operand: &'a Expression,
-    instr: Instr,
-)
+    operation: &'a Operation,
+) -> Option<&'a Expression>
     requires { HasRoomFor 2 work.old }
-    ensures { work.new ≡ with_tasks work.old (Work.Value (own_in own.entry) (expression_of operand.now) ∷ Work.Instruction instr ∷ work.old.tasks) }
+    ensures { MatchOption result
+        (work.new ≡ with_tasks work.old (Work.operator_tasks (own_in own.entry) operation.now.operator (expression_of operation.now.operand) work.old.tasks))
+        (λ operand. with_first (Work.Value (own_in own.entry) (expression_of operand.now)) work.new ≡ with_tasks work.old (Work.operator_tasks (own_in own.entry) operation.now.operator (expression_of operation.now.operand) work.old.tasks)) }
 {
+    let operand = &operation.operand;
+    let instr = match operation.operator {
+        BinaryOperator::And => {
+            work.push(Task::AndThen {
+                own,
+                right: operand,
+            });
+            return None;
+        }
+        BinaryOperator::Or => {
+            work.push(Task::OrElse {
+                own,
+                right: operand,
+            });
+            return None;
+        }
+        BinaryOperator::Plus => Instr::Add,
+        BinaryOperator::Minus => Instr::Subtract,
+        BinaryOperator::Times => Instr::Multiply,
+        BinaryOperator::Div => Instr::Divide,
+        BinaryOperator::Mod => Instr::Modulo,
+    };
     work.push(Task::Instruction(instr));
-    work.push(Task::Value {
-        own,
-        expression: operand,
-    });
+    Some(operand)
+}
+
+/// The selectors that are left, where there are some.
+#[inline(always)]
+fn leave_selectors<'a>(
+    work: &mut WorkList<'a>,
+    own: Scopes<'a>,
+    layout: &'a Layout,
+    data_type: DataType,
+    selectors: &'a [Selector],
+)
+    requires { HasRoom work.old }
+    ensures left { work.new ≡ before (Work.selecting_left (own_in own.entry) (type_in layout.now data_type) (selectors_in selectors.now)) work.old }
+    ensures few { length work.new.tasks ≤ length work.old.tasks + 1 }
+{
+    if !selectors.is_empty() {
+        work.push(Task::Selecting {
+            own,
+            layout,
+            data_type,
+            selectors,
+        });
+    }
 }
 
 /// The address of a variable of the module, and selectors behind it.
+#[inline(always)]
 fn open_global<'a>(
     work: &mut WorkList<'a>,
     layout: &'a Layout,
@@ -172,18 +232,14 @@ fn open_global<'a>(
     ensures { work.new ≡ with_tasks work.old (global_tasks (block_in layout.now) (own_in own.entry) position (selectors_in selectors.now) work.old.tasks) }
 {
     let place = layout.variable(position);
-    work.push(Task::Selecting {
-        own,
-        layout,
-        data_type: place.data_type,
-        selectors,
-    });
+    leave_selectors(work, own, layout, place.data_type, selectors);
     work.push(Task::Instruction(Instr::Global {
         word: place.word as u16,
     }));
 }
 
 /// The address of a variable of the procedure, and selectors behind it.
+#[inline(always)]
 fn open_own<'a>(
     work: &mut WorkList<'a>,
     own: Scopes<'a>,
@@ -195,12 +251,7 @@ fn open_own<'a>(
     ensures { work.new ≡ with_tasks work.old (own_variable_tasks (own_in own.entry) position (selectors_in selectors.now) work.old.tasks) }
 {
     let place = own.layout.own(own.procedure, position);
-    work.push(Task::Selecting {
-        own,
-        layout: own.layout,
-        data_type: place.data_type,
-        selectors,
-    });
+    leave_selectors(work, own, own.layout, place.data_type, selectors);
     if place.is_var {
         work.push(Task::Instruction(Instr::Get));
     }
@@ -210,6 +261,7 @@ fn open_own<'a>(
 }
 
 /// The address of a variable or of a part of it.
+#[inline(always)]
 pub fn open_address<'a>(
     work: &mut WorkList<'a>,
     layout: &'a Layout,
@@ -228,27 +280,30 @@ pub fn open_address<'a>(
     }
 }
 
-/// From the address of something of a type to that of a part of it.
+/// From the address of something of a type, which a layout knows by its number, to that of a part of it.
+#[inline(never)]
 pub fn open_selecting<'a>(
     work: &mut WorkList<'a>,
-    own: Scopes<'a>,
     layout: &'a Layout,
+    own: Scopes<'a>,
+    types: &'a Layout,
     data_type: DataType,
     selectors: &'a [Selector],
 )
     requires room { HasRoom work.old }
-    requires small { IsSmallSelector (type_in layout.now data_type) (selectors_in selectors.now) }
-    ensures { work.new ≡ before (Work.selecting_parts (globals_in own.entry) (own_in own.entry) (type_in layout.now data_type) (selectors_in selectors.now)) work.old }
+    requires fits { CanBeOpened (block_in layout.now) (with_first (Work.Selecting (own_in own) (type_in types.now data_type) (selectors_in selectors.now)) work.old) }
+    ensures { GivesWay (block_in layout.now) (with_first (Work.Selecting (own_in own.entry) (type_in types.now data_type) (selectors_in selectors.now)) work.old) work.new }
 {
     let Some((selector, rest)) = selectors.split_first() else {
         return;
     };
     match selector {
         Selector::Field { position, .. } => {
-            open_field(work, own, layout, data_type, *position, rest)
+            open_field(work, own, types, data_type, *position, rest)
         },
         Selector::Element { length, index } => {
-            open_element(work, own, layout, data_type, *length, index, rest)
+            leave_element(work, own, types, data_type, *length, rest);
+            open_value(work, layout, own, index);
         }
     }
 }
@@ -267,66 +322,63 @@ fn open_field<'a>(
     ensures { work.new ≡ with_tasks work.old (field_tasks (own_in own.entry) (type_in layout.now data_type) position (selectors_in rest.now) work.old.tasks) }
 {
     let offset = layout.part_offset(data_type, position) as u16;
-    work.push(Task::Selecting {
-        own,
-        layout,
-        data_type: layout.part_type(data_type, position),
-        selectors: rest,
-    });
+    let part = layout.part_type(data_type, position);
+    leave_selectors(work, own, layout, part, rest);
     work.push(Task::Instruction(Instr::Field { offset }));
 }
 
-/// An element, and selectors behind it.
-fn open_element<'a>(
+/// What stands behind an index, and selectors behind that.
+fn leave_element<'a>(
     work: &mut WorkList<'a>,
     own: Scopes<'a>,
     layout: &'a Layout,
     data_type: DataType,
     length: usize,
-    index: &'a Expression,
     rest: &'a [Selector],
 )
     requires room { HasRoom work.old }
     requires short { length ≤ 65535 }
     requires small { Sizes.words (Sizes.part_type (type_in layout.now data_type) 0) ≤ 65535 }
-    ensures { work.new ≡ with_tasks work.old (element_tasks (own_in own.entry) (type_in layout.now data_type) length (expression_of index.now) (selectors_in rest.now) work.old.tasks) }
+    ensures { work.new ≡ with_tasks work.old (element_tasks (own_in own.entry) (type_in layout.now data_type) length (selectors_in rest.now) work.old.tasks) }
 {
     let element = layout.part_type(data_type, 0);
     let element_words = layout.words(element) as u16;
-    work.push(Task::Selecting {
-        own,
-        layout,
-        data_type: element,
-        selectors: rest,
-    });
+    leave_selectors(work, own, layout, element, rest);
     work.push(Task::Instruction(Instr::Index {
         length: length as u16,
         element_words,
     }));
-    work.push(Task::Value {
-        own,
-        expression: index,
-    });
 }
 
-/// The value of an actual, or for a VAR parameter its address.
-fn actual_task<'a>(own: Scopes<'a>, actual: &'a Actual) -> Task<'a>
-    ensures { task_of result ≡ Work.actual_task (own_in own.entry) (actual_of actual.now) }
+/// The actuals that are left, where there are some.
+fn leave_actuals<'a>(work: &mut WorkList<'a>, own: Scopes<'a>, actuals: &'a [Actual])
+    requires { HasRoom work.old }
+    ensures left { work.new ≡ before (Work.handing_left (own_in own.entry) (map actual_of actuals.now)) work.old }
+    ensures few { length work.new.tasks ≤ length work.old.tasks + 1 }
 {
-    match actual {
-        Actual::Value(expression) => Task::Value { own, expression },
-        Actual::Place(designator) => Task::Address { own, designator },
+    if !actuals.is_empty() {
+        work.push(Task::Handing { own, actuals });
     }
 }
 
-/// The words that a call hands over.
-pub fn open_handing<'a>(work: &mut WorkList<'a>, own: Scopes<'a>, actuals: &'a [Actual])
-    requires { HasRoom work.old }
-    ensures { work.new ≡ before (Work.handing_parts (globals_in own.entry) (own_in own.entry) (map actual_of actuals.now)) work.old }
+/// The words that a call hands over: of each actual its value, or for a VAR parameter its address.
+#[inline(never)]
+pub fn open_handing<'a>(
+    work: &mut WorkList<'a>,
+    layout: &'a Layout,
+    own: Scopes<'a>,
+    actuals: &'a [Actual],
+)
+    requires room { HasRoom work.old }
+    requires fits { CanBeOpened (block_in layout.now) (with_first (Work.Handing (own_in own) (map actual_of actuals.now)) work.old) }
+    ensures { GivesWay (block_in layout.now) (with_first (Work.Handing (own_in own.entry) (map actual_of actuals.now)) work.old) work.new }
 {
     let Some((actual, rest)) = actuals.split_first() else {
         return;
     };
-    work.push(Task::Handing { own, actuals: rest });
-    work.push(actual_task(own, actual));
+    leave_actuals(work, own, rest);
+    match actual {
+        Actual::Value(expression) => open_value(work, layout, own, expression),
+        Actual::Place(designator) => open_address(work, layout, own, designator),
+    }
 }

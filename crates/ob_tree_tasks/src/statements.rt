@@ -1,23 +1,33 @@
-//! The parts that statements give way to: the last one is put first, so that the first one is in front.
+//! How statements give way to their parts: the last part is put first, and the first one is opened at once.
 
-ghost use Rattle.std.specs.Prelude.{◌≡◌};
+ghost use Rattle.std.specs.Prelude.{◌≡◌, ◌+◌, ◌≤◌, length};
 ghost use Rattle.ob_typing.specs.Program as Program;
 ghost use Rattle.ob_checked.specs.View.{branches_in, expression_of, otherwise_of, statement_of, statements_in};
-ghost use Rattle.ob_tree_tasks.specs.Opening.{is_more};
-ghost use Rattle.ob_tree_tasks.specs.Scoped.{globals_in, own_in};
-ghost use Rattle.ob_tree_tasks.specs.WorkTasks.{HasRoom, before};
+ghost use Rattle.ob_code_layout.specs.Layout.{block_in};
+ghost use Rattle.ob_code_scheme.specs.Types.{Scope};
+ghost use Rattle.ob_tree_tasks.specs.Opening.{CanBeOpened, GivesWay, is_more};
+ghost use Rattle.ob_tree_tasks.specs.Scoped.{own_in};
+ghost use Rattle.ob_tree_tasks.specs.WorkTasks.{HasRoom, before, with_first};
 ghost use Rattle.ob_tree_work.specs.Work as Work;
 
+use crate::expressions::{open_address, open_handing, open_value};
 use crate::scopes::Scopes;
 use crate::task::Task;
 use crate::work_list::WorkList;
 use ob_checked::program::{Branch, Expression, Statement};
+use ob_code_layout::Layout;
 use ob_code_machine::Instr;
 
 /// A statement.
-pub fn open_doing<'a>(work: &mut WorkList<'a>, own: Scopes<'a>, statement: &'a Statement)
-    requires { HasRoom work.old }
-    ensures { work.new ≡ before (Work.doing_parts (globals_in own.entry) (own_in own.entry) (statement_of statement.now)) work.old }
+fn open_doing<'a>(
+    work: &mut WorkList<'a>,
+    layout: &'a Layout,
+    own: Scopes<'a>,
+    statement: &'a Statement,
+)
+    requires room { HasRoom work.old }
+    requires fits { CanBeOpened (block_in layout.now) (with_first (Work.Doing (own_in own) (statement_of statement.now)) work.old) }
+    ensures { GivesWay (block_in layout.now) (with_first (Work.Doing (own_in own.entry) (statement_of statement.now)) work.old) work.new }
 {
     match statement {
         Statement::Assign { target, value } => {
@@ -26,34 +36,24 @@ pub fn open_doing<'a>(work: &mut WorkList<'a>, own: Scopes<'a>, statement: &'a S
                 own,
                 expression: value,
             });
-            work.push(Task::Address {
-                own,
-                designator: target,
-            });
+            open_address(work, layout, own, target);
         }
         Statement::Call { procedure, actuals } => {
             work.push(Task::Calling {
                 procedure: *procedure,
                 parameters: actuals.len(),
             });
-            work.push(Task::Handing {
-                own,
-                actuals: actuals.as_slice(),
-            });
+            open_handing(work, layout, own, actuals.as_slice());
         }
         Statement::If {
             branches,
             otherwise,
-        } => work.push(Task::Choosing {
-            own,
-            branches: branches.as_slice(),
-            otherwise,
-        }),
+        } => open_choosing(work, layout, own, branches.as_slice(), otherwise),
         Statement::While { condition, body } => {
-            open_while(work, own, condition, body.as_slice());
+            open_while(work, layout, own, condition, body.as_slice());
         }
         Statement::Repeat { body, condition } => {
-            open_repeat(work, own, body.as_slice(), condition);
+            open_repeat(work, layout, own, body.as_slice(), condition);
         }
     }
 }
@@ -61,34 +61,37 @@ pub fn open_doing<'a>(work: &mut WorkList<'a>, own: Scopes<'a>, statement: &'a S
 /// WHILE: its condition first.
 pub fn open_while<'a>(
     work: &mut WorkList<'a>,
+    layout: &'a Layout,
     own: Scopes<'a>,
     condition: &'a Expression,
     body: &'a [Statement],
 )
-    requires { HasRoom work.old }
-    ensures { work.new ≡ before (Work.doing_parts (globals_in own.entry) (own_in own.entry) (Program.While (expression_of condition.now) (statements_in body.now))) work.old }
+    requires room { HasRoom work.old }
+    requires fits { CanBeOpened (block_in layout.now) (with_first (Work.Doing (own_in own) (Program.While (expression_of condition.now) (statements_in body.now))) work.old) }
+    ensures { GivesWay (block_in layout.now) (with_first (Work.Doing (own_in own.entry) (Program.While (expression_of condition.now) (statements_in body.now))) work.old) work.new }
 {
     work.push(Task::Looping {
         own,
         condition,
         body,
     });
-    work.push(Task::Value {
-        own,
-        expression: condition,
-    });
+    open_value(work, layout, own, condition);
 }
 
 /// REPEAT: a turn, its statements, and then its condition.
+#[inline(never)]
 pub fn open_repeat<'a>(
     work: &mut WorkList<'a>,
+    layout: &'a Layout,
     own: Scopes<'a>,
     body: &'a [Statement],
     condition: &'a Expression,
 )
-    requires { HasRoom work.old }
-    ensures { work.new ≡ before (Work.doing_parts (globals_in own.entry) (own_in own.entry) (Program.Repeat (statements_in body.now) (expression_of condition.now))) work.old }
+    requires room { HasRoom work.old }
+    requires fits { CanBeOpened (block_in layout.now) (with_first (Work.Doing (own_in own) (Program.Repeat (statements_in body.now) (expression_of condition.now))) work.old) }
+    ensures { GivesWay (block_in layout.now) (with_first (Work.Doing (own_in own.entry) (Program.Repeat (statements_in body.now) (expression_of condition.now))) work.old) work.new }
 {
+    let _frames = layout;
     work.push(Task::Until {
         own,
         body,
@@ -106,18 +109,33 @@ pub fn open_repeat<'a>(
 }
 
 /// Statements one after the other.
-pub fn open_all<'a>(work: &mut WorkList<'a>, own: Scopes<'a>, statements: &'a [Statement])
-    requires { HasRoom work.old }
-    ensures { work.new ≡ before (Work.all_parts (globals_in own.entry) (own_in own.entry) (statements_in statements.now)) work.old }
+#[inline(never)]
+pub fn open_all<'a>(
+    work: &mut WorkList<'a>,
+    layout: &'a Layout,
+    own: Scopes<'a>,
+    statements: &'a [Statement],
+)
+    requires room { HasRoom work.old }
+    requires fits { CanBeOpened (block_in layout.now) (with_first (Work.All (own_in own) (statements_in statements.now)) work.old) }
+    ensures { GivesWay (block_in layout.now) (with_first (Work.All (own_in own.entry) (statements_in statements.now)) work.old) work.new }
 {
     let Some((statement, rest)) = statements.split_first() else {
         return;
     };
-    work.push(Task::All {
-        own,
-        statements: rest,
-    });
-    work.push(Task::Doing { own, statement });
+    leave_statements(work, own, rest);
+    open_doing(work, layout, own, statement);
+}
+
+/// The statements that are left, where there are some.
+fn leave_statements<'a>(work: &mut WorkList<'a>, own: Scopes<'a>, statements: &'a [Statement])
+    requires { HasRoom work.old }
+    ensures left { work.new ≡ before (Work.all_left (own_in own.entry) (statements_in statements.now)) work.old }
+    ensures few { length work.new.tasks ≤ length work.old.tasks + 1 }
+{
+    if !statements.is_empty() {
+        work.push(Task::All { own, statements });
+    }
 }
 
 /// What stands behind ELSE, where it stands.
@@ -127,7 +145,7 @@ fn open_otherwise<'a>(
     otherwise: &'a Option<Vec<Statement>>,
 )
     requires { HasRoom work.old }
-    ensures { work.new ≡ before (Work.choosing_parts (globals_in own.entry) (own_in own.entry) (otherwise_of otherwise.now)) work.old }
+    ensures { (globals : Scope) → work.new ≡ before (Work.choosing_parts globals (own_in own.entry) (otherwise_of otherwise.now)) work.old }
 {
     if let Some(body) = otherwise {
         work.push(Task::All {
@@ -138,14 +156,17 @@ fn open_otherwise<'a>(
 }
 
 /// The alternatives that are left.
+#[inline(never)]
 pub fn open_choosing<'a>(
     work: &mut WorkList<'a>,
+    layout: &'a Layout,
     own: Scopes<'a>,
     branches: &'a [Branch],
     otherwise: &'a Option<Vec<Statement>>,
 )
-    requires { HasRoom work.old }
-    ensures { work.new ≡ before (Work.choosing_parts (globals_in own.entry) (own_in own.entry) (branches_in branches.now (otherwise_of otherwise.now))) work.old }
+    requires room { HasRoom work.old }
+    requires fits { CanBeOpened (block_in layout.now) (with_first (Work.Choosing (own_in own) (branches_in branches.now (otherwise_of otherwise.now))) work.old) }
+    ensures { GivesWay (block_in layout.now) (with_first (Work.Choosing (own_in own.entry) (branches_in branches.now (otherwise_of otherwise.now))) work.old) work.new }
 {
     match branches.split_first() {
         Some((branch, rest)) => {
@@ -155,10 +176,7 @@ pub fn open_choosing<'a>(
                 branches: rest,
                 otherwise,
             });
-            work.push(Task::Value {
-                own,
-                expression: &branch.condition,
-            });
+            open_value(work, layout, own, &branch.condition);
         }
         None => open_otherwise(work, own, otherwise),
     }

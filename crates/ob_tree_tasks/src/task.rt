@@ -1,7 +1,7 @@
 //! The tasks of the engine over a program's tree.
 
 use crate::scopes::Scopes;
-use ob_checked::program::{Actual, Branch, Designator, Expression, Operation, Selector, Statement};
+use ob_checked::program::{Actual, Branch, Expression, Operation, Selector, Statement};
 use ob_checked::types::DataType;
 use ob_code_layout::Layout;
 use ob_code_machine::Instr;
@@ -20,11 +20,6 @@ pub enum Task<'a> {
         own: Scopes<'a>,
         operations: &'a [Operation],
     },
-    /// Silent: the address of a variable or of a part of it.
-    Address {
-        own: Scopes<'a>,
-        designator: &'a Designator,
-    },
     /// Silent: from the address of something of a type, which the layout knows by its number, to that of a part of it.
     Selecting {
         own: Scopes<'a>,
@@ -36,11 +31,6 @@ pub enum Task<'a> {
     Handing {
         own: Scopes<'a>,
         actuals: &'a [Actual],
-    },
-    /// Silent: a statement.
-    Doing {
-        own: Scopes<'a>,
-        statement: &'a Statement,
     },
     /// Silent: WHILE, from its condition on.
     While {
@@ -113,4 +103,27 @@ pub enum Task<'a> {
     },
     /// The end of a procedure.
     Leaving,
+}
+
+impl<'a> Task<'a> {
+    ghost use Rattle.std.specs.Prelude.{◌≡◌};
+    ghost use Rattle.ob_tree_tasks.specs.Opening.{is_silent};
+    ghost use Rattle.ob_tree_tasks.specs.Tasks.{task_of};
+
+    /// Whether it gives way to tasks over smaller parts.
+    pub fn is_silent(&self) -> bool
+        ensures { result ≡ is_silent (task_of self.now) }
+    {
+        matches!(
+            self,
+            Task::Value { .. }
+                | Task::Operators { .. }
+                | Task::Selecting { .. }
+                | Task::Handing { .. }
+                | Task::While { .. }
+                | Task::Repeat { .. }
+                | Task::All { .. }
+                | Task::Choosing { .. }
+        )
+    }
 }

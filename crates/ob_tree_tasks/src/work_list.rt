@@ -1,6 +1,7 @@
 //! The work list: tasks in memory that is reserved once.
 
 ghost use Rattle.std.specs.Prelude.{◌≡◌, ◌<◌, ◌∷◌, [], length, IfOk, MatchOption};
+ghost use Rattle.ob_tree_tasks.specs.Opening.{starts_silent};
 ghost use Rattle.ob_tree_tasks.specs.Tasks.{task_of};
 ghost use Rattle.ob_tree_tasks.specs.WorkTasks.{behind, with_tasks};
 
@@ -69,13 +70,23 @@ impl<'a> WorkList<'a> {
     }
 
     /// The task in front.
-    pub fn first(&self) -> Option<Task<'a>>
-        ensures { MatchOption result (self.now.tasks ≡ []) (λ t. self.now.tasks ≡ task_of t ∷ behind self.now.tasks) }
+    pub fn first(&self) -> Option<&Task<'a>>
+        ensures { MatchOption result (self.now.tasks ≡ []) (λ t. self.now.tasks ≡ task_of t.now ∷ behind self.now.tasks) }
     {
         if self.count == 0 {
             return None;
         }
-        Some(self.tasks[self.count - 1])
+        Some(&self.tasks[self.count - 1])
+    }
+
+    /// Whether the task in front is silent.
+    pub fn is_silent(&self) -> bool
+        ensures { result ≡ starts_silent self.now.tasks }
+    {
+        match self.first() {
+            Some(task) => task.is_silent(),
+            None => false,
+        }
     }
 
     /// Drops the task in front.
@@ -83,6 +94,6 @@ impl<'a> WorkList<'a> {
         requires { 0 < length self.old.tasks }
         ensures { self.new ≡ with_tasks self.old (behind self.old.tasks) }
     {
-        let _first = self.pop();
+        self.count -= 1;
     }
 }

@@ -12,7 +12,7 @@ use Rattle.ob_code_machine.specs.declared.instr.Instr.TheVariants as Instrs
 use Rattle.ob_code_machine.specs.declared.saved.Saved.{Saved}
 use Rattle.ob_code_scheme.specs.Scheme.{variable_size, own_size, size, operations_size, designator_size, selectors_size, actuals_size, statement_size, statements_size, branches_size, relation_instruction, own_code, variable_code, operations_at, statements_at, HasAt}
 use Rattle.ob_tree_work.proofs.Opened.{open_value, open_negated, open_complement, open_computed, open_compared, open_plus, open_minus, open_times, open_div, open_mod, open_and, open_or, open_designator, open_element, open_actual, open_assign, open_call, open_while, open_repeat, open_statement, open_branch}
-use Rattle.ob_tree_work.specs.Work.{Task, Value, Operators, Address, Selecting, Handing, Doing, All, Choosing, own_tasks, variable_tasks, value_parts, operators_parts, address_parts, selecting_parts, handing_parts, doing_parts, all_parts, choosing_parts, parts, given_way, opened_by, opened}
+use Rattle.ob_tree_work.specs.Work.{Task, Value, Operators, Address, Selecting, Handing, Doing, All, Choosing, own_tasks, variable_tasks, operators_left, selecting_left, handing_left, all_left, value_parts, operators_parts, address_parts, selecting_parts, handing_parts, doing_parts, all_parts, choosing_parts, parts, given_way, opened_by, opened}
 use Rattle.ob_tree_work.specs.Places.{IsPlain, Reads}
 
 -- comparisons don't jump
@@ -46,6 +46,24 @@ module _ (code : List Instr) (globals : Scope) (entry : ℕ → ℕ) (saved : Li
         (h.0, λ reserve c. refl, (h.1.0, λ reserve c. refl, moved (tail ++ rest) (pc + 2) (pc + 1 + 1) (omega arith) r))
 
     module _ (own : Scope) where
+      -- what is left stands where all of it stood
+      operators_left_kept : (os : Operations) (n : ℕ) → Stands (Operators own os ∷ rest) n → Stands (operators_left own os ++ rest) n
+      operators_left_kept no_operation n r = moved rest (n + 0) n (omega arith) r.1
+      operators_left_kept (operation o e others) n r = r
+
+      selecting_left_kept : (type : DataType) (ss : Selectors) (n : ℕ) → Stands (Selecting own type ss ∷ rest) n → Stands (selecting_left own type ss ++ rest) n
+      selecting_left_kept type no_selector n r = moved rest (n + 0) n (omega arith) r.1
+      selecting_left_kept type (field_of position name others) n r = r
+      selecting_left_kept type (element_of count index others) n r = r
+
+      handing_left_kept : (xs : List Actual) (n : ℕ) → Stands (Handing own xs ∷ rest) n → Stands (handing_left own xs ++ rest) n
+      handing_left_kept [] n r = moved rest (n + 0) n (omega arith) r.1
+      handing_left_kept (x ∷ xs) n r = r
+
+      all_left_kept : (ss : Statements) (n : ℕ) → Stands (All own ss ∷ rest) n → Stands (all_left own ss ++ rest) n
+      all_left_kept no_statement n r = moved rest (n + 0) n (omega arith) r.1
+      all_left_kept (statement first others) n r = r
+
       value_kept : (e : Expression) → Stands (Value own e ∷ rest) pc → Stands (value_parts globals own e ++ rest) pc
       value_kept (Literal s) r = (r.0.0, λ reserve c. refl, r.1)
       value_kept (ValueOf type d) r =
@@ -67,10 +85,11 @@ module _ (code : List Instr) (globals : Scope) (entry : ℕ → ℕ) (saved : Li
       -- behind an operator with its operand
       others_kept : (o : BinaryOperator) (e : Expression) (others : Operations) (n : ℕ) → pc + (size own e + 1) ≡ n →
           Has (pc + (size own e + 1)) (operations_at globals own (pc + (size own e + 1)) others) → Stands rest (pc + operations_size own (operation o e others)) →
-          Stands (Operators own others ∷ rest) n
+          Stands (operators_left own others ++ rest) n
       others_kept o e others n at h r =
-          moved (Operators own others ∷ rest) (pc + (size own e + 1)) n at
-          (h, moved rest (pc + operations_size own (operation o e others)) (pc + (size own e + 1) + operations_size own others) (omega arith) r)
+          operators_left_kept others n
+          (moved (Operators own others ∷ rest) (pc + (size own e + 1)) n at
+          (h, moved rest (pc + operations_size own (operation o e others)) (pc + (size own e + 1) + operations_size own others) (omega arith) r))
 
       operators_kept : (os : Operations) → Stands (Operators own os ∷ rest) pc → Stands (operators_parts globals own os ++ rest) pc
       operators_kept no_operation r = moved rest (pc + 0) pc (omega arith) r.1
@@ -106,21 +125,24 @@ module _ (code : List Instr) (globals : Scope) (entry : ℕ → ℕ) (saved : Li
       address_kept : (d : Designator) → Stands (Address own d ∷ rest) pc → Stands (address_parts globals own d ++ rest) pc
       address_kept (Designated slot ss) r =
           let s = open_designator code globals own pc slot ss r.0 in
-          variable_kept slot.owner slot.position (Selecting own (type_at (scope_of globals own slot.owner) slot.position) ss ∷ []) s.0
-          (s.1, moved rest (pc + designator_size own (Designated slot ss)) (pc + variable_size own slot.owner slot.position + selectors_size own ss) (omega arith) r.1)
+          let type = type_at (scope_of globals own slot.owner) slot.position in
+          variable_kept slot.owner slot.position (selecting_left own type ss) s.0
+          (selecting_left_kept type ss (pc + variable_size own slot.owner slot.position)
+          (s.1, moved rest (pc + designator_size own (Designated slot ss)) (pc + variable_size own slot.owner slot.position + selectors_size own ss) (omega arith) r.1))
 
       selecting_kept : (type : DataType) (ss : Selectors) → Stands (Selecting own type ss ∷ rest) pc → Stands (selecting_parts globals own type ss ++ rest) pc
       selecting_kept type no_selector r = moved rest (pc + 0) pc (omega arith) r.1
       selecting_kept type (field_of position name others) r =
-          (r.0.0, λ reserve c. refl, (r.0.1, moved rest (pc + selectors_size own (field_of position name others)) (pc + 1 + selectors_size own others) (omega arith) r.1))
+          (r.0.0, λ reserve c. refl, selecting_left_kept (part_type type position) others (pc + 1) (r.0.1, moved rest (pc + selectors_size own (field_of position name others)) (pc + 1 + selectors_size own others) (omega arith) r.1))
       selecting_kept type (element_of n index others) r =
           let s = open_element code globals own pc type n index others r.0 in (
             s.0,
             (
               s.1,
               λ reserve c. refl,
-              moved (Selecting own (part_type type 0) others ∷ rest) (pc + (size own index + 1)) (pc + size own index + 1) (omega arith)
-                  (s.2, moved rest (pc + selectors_size own (element_of n index others)) (pc + (size own index + 1) + selectors_size own others) (omega arith) r.1),
+              selecting_left_kept (part_type type 0) others (pc + size own index + 1)
+                  (moved (Selecting own (part_type type 0) others ∷ rest) (pc + (size own index + 1)) (pc + size own index + 1) (omega arith)
+                  (s.2, moved rest (pc + selectors_size own (element_of n index others)) (pc + (size own index + 1) + selectors_size own others) (omega arith) r.1)),
             ),
           )
 
@@ -128,10 +150,10 @@ module _ (code : List Instr) (globals : Scope) (entry : ℕ → ℕ) (saved : Li
       handing_kept [] r = moved rest (pc + 0) pc (omega arith) r.1
       handing_kept (ByValue e ∷ xs) r =
           let s = open_actual code globals own pc (ByValue e) xs r.0 in
-          (s.0, (s.1, moved rest (pc + actuals_size own (ByValue e ∷ xs)) (pc + size own e + actuals_size own xs) (omega arith) r.1))
+          (s.0, handing_left_kept xs (pc + size own e) (s.1, moved rest (pc + actuals_size own (ByValue e ∷ xs)) (pc + size own e + actuals_size own xs) (omega arith) r.1))
       handing_kept (ByPlace d ∷ xs) r =
           let s = open_actual code globals own pc (ByPlace d) xs r.0 in
-          (s.0, (s.1, moved rest (pc + actuals_size own (ByPlace d ∷ xs)) (pc + designator_size own d + actuals_size own xs) (omega arith) r.1))
+          (s.0, handing_left_kept xs (pc + designator_size own d) (s.1, moved rest (pc + actuals_size own (ByPlace d ∷ xs)) (pc + designator_size own d + actuals_size own xs) (omega arith) r.1))
 
       doing_kept : (s : Statement) → Stands (Doing own s ∷ rest) pc → Stands (doing_parts globals own s ++ rest) pc
       doing_kept (Assign target e) r =
@@ -165,7 +187,7 @@ module _ (code : List Instr) (globals : Scope) (entry : ℕ → ℕ) (saved : Li
       all_kept no_statement r = moved rest (pc + 0) pc (omega arith) r.1
       all_kept (statement first others) r =
           let s = open_statement code globals own entry pc first others r.0 in
-          (s.0, (s.1, moved rest (pc + statements_size own (statement first others)) (pc + statement_size own first + statements_size own others) (omega arith) r.1))
+          (s.0, all_left_kept others (pc + statement_size own first) (s.1, moved rest (pc + statements_size own (statement first others)) (pc + statement_size own first + statements_size own others) (omega arith) r.1))
 
       choosing_kept : (bs : Branches) → Stands (Choosing own bs ∷ rest) pc → Stands (choosing_parts globals own bs ++ rest) pc
       choosing_kept no_branch r = moved rest (pc + 0) pc (omega arith) r.1

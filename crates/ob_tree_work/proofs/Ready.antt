@@ -2,8 +2,8 @@
 use Rattle.std.proofs.Common.{◌≡◌, ℕ, zero, suc, ◌+◌, ◌<◌, ◌≤◌, List, [], ◌∷◌, ◌++◌, Option, Some, None, refl, ap, ◌∙◌, subst, sym, arith}
 use Rattle.ob_typing.specs.declared.operator.BinaryOperator.TheVariants.{Plus, Minus, Times, Div, Mod, And, Or}
 use Rattle.ob_typing.specs.Program.{DataType, Owner, OfModule, Own, Expression, Literal, ValueOf, Negated, Complement, Computed, Compared, Operations, no_operation, operation, Designator, Designated, Selectors, no_selector, field_of, element_of, Actual, ByValue, ByPlace, Statement, Assign, Call, If, While, Repeat, Statements, no_statement, statement, Branches, no_branch, otherwise, branch}
-use Rattle.ob_code_scheme.specs.Types.{Space, Holding, Referring, Scope, word_in, space_at, type_at, scope_of}
-use Rattle.ob_tree_work.specs.Work.{Task, Value, Operators, Address, Selecting, Handing, Doing, All, Choosing, own_tasks, variable_tasks, value_parts, operators_parts, address_parts, selecting_parts, handing_parts, doing_parts, all_parts, choosing_parts, parts, nodes, operators_nodes, address_nodes, selecting_nodes, handing_nodes, doing_nodes, all_nodes, choosing_nodes, task_nodes, work_nodes, given_way, opened_by, opened}
+use Rattle.ob_code_scheme.specs.Types.{part_type, Space, Holding, Referring, Scope, word_in, space_at, type_at, scope_of}
+use Rattle.ob_tree_work.specs.Work.{Task, Value, Operators, Address, Selecting, Handing, Doing, All, Choosing, own_tasks, variable_tasks, operators_left, selecting_left, handing_left, all_left, value_parts, operators_parts, address_parts, selecting_parts, handing_parts, doing_parts, all_parts, choosing_parts, parts, nodes, operators_nodes, address_nodes, selecting_nodes, handing_nodes, doing_nodes, all_nodes, choosing_nodes, task_nodes, work_nodes, given_way, opened_by, opened}
 
 nodes_joined : (a b : List Task) → work_nodes (a ++ b) ≡ work_nodes a + work_nodes b
 nodes_joined [] b = omega arith
@@ -19,6 +19,24 @@ module _ (globals : Scope) where
   variable_fewer own Own position tail = own_fewer (word_in own position) (space_at own position) tail
 
   module _ (own : Scope) where
+    -- what is left has no more nodes than all of it
+    operators_few : (os : Operations) → work_nodes (operators_left own os) ≤ operators_nodes os
+    operators_few no_operation = omega arith
+    operators_few (operation o e rest) = omega arith
+
+    selecting_few : (type : DataType) (ss : Selectors) → work_nodes (selecting_left own type ss) ≤ selecting_nodes ss
+    selecting_few type no_selector = omega arith
+    selecting_few type (field_of position name rest) = omega arith
+    selecting_few type (element_of n index rest) = omega arith
+
+    handing_few : (xs : List Actual) → work_nodes (handing_left own xs) ≤ handing_nodes xs
+    handing_few [] = omega arith
+    handing_few (x ∷ xs) = omega arith
+
+    all_few : (ss : Statements) → work_nodes (all_left own ss) ≤ all_nodes ss
+    all_few no_statement = omega arith
+    all_few (statement first rest) = omega arith
+
     value_fewer : (e : Expression) → work_nodes (value_parts globals own e) < nodes e
     value_fewer (Literal s) = omega arith
     value_fewer (ValueOf type d) = omega arith
@@ -29,27 +47,30 @@ module _ (globals : Scope) where
 
     operators_fewer : (os : Operations) → work_nodes (operators_parts globals own os) < operators_nodes os
     operators_fewer no_operation = omega arith
-    operators_fewer (operation Plus e rest) = omega arith
-    operators_fewer (operation Minus e rest) = omega arith
-    operators_fewer (operation Times e rest) = omega arith
-    operators_fewer (operation Div e rest) = omega arith
-    operators_fewer (operation Mod e rest) = omega arith
-    operators_fewer (operation And e rest) = omega arith
-    operators_fewer (operation Or e rest) = omega arith
+    operators_fewer (operation Plus e rest) = let k = operators_few rest in omega (arith, k)
+    operators_fewer (operation Minus e rest) = let k = operators_few rest in omega (arith, k)
+    operators_fewer (operation Times e rest) = let k = operators_few rest in omega (arith, k)
+    operators_fewer (operation Div e rest) = let k = operators_few rest in omega (arith, k)
+    operators_fewer (operation Mod e rest) = let k = operators_few rest in omega (arith, k)
+    operators_fewer (operation And e rest) = let k = operators_few rest in omega (arith, k)
+    operators_fewer (operation Or e rest) = let k = operators_few rest in omega (arith, k)
 
     address_fewer : (d : Designator) → work_nodes (address_parts globals own d) < address_nodes d
     address_fewer (Designated slot ss) =
-        let h = variable_fewer own slot.owner slot.position (Selecting own (type_at (scope_of globals own slot.owner) slot.position) ss ∷ []) in omega (arith, h)
+        let type = type_at (scope_of globals own slot.owner) slot.position in
+        let h = variable_fewer own slot.owner slot.position (selecting_left own type ss) in
+        let k = selecting_few type ss in
+        omega (arith, h, k)
 
     selecting_fewer : (type : DataType) (ss : Selectors) → work_nodes (selecting_parts globals own type ss) < selecting_nodes ss
     selecting_fewer type no_selector = omega arith
-    selecting_fewer type (field_of position name rest) = omega arith
-    selecting_fewer type (element_of n index rest) = omega arith
+    selecting_fewer type (field_of position name rest) = let k = selecting_few (part_type type position) rest in omega (arith, k)
+    selecting_fewer type (element_of n index rest) = let k = selecting_few (part_type type 0) rest in omega (arith, k)
 
     handing_fewer : (xs : List Actual) → work_nodes (handing_parts globals own xs) < handing_nodes xs
     handing_fewer [] = omega arith
-    handing_fewer (ByValue e ∷ xs) = omega arith
-    handing_fewer (ByPlace d ∷ xs) = omega arith
+    handing_fewer (ByValue e ∷ xs) = let k = handing_few xs in omega (arith, k)
+    handing_fewer (ByPlace d ∷ xs) = let k = handing_few xs in omega (arith, k)
 
     doing_fewer : (s : Statement) → work_nodes (doing_parts globals own s) < doing_nodes s
     doing_fewer (Assign target e) = omega arith
@@ -60,7 +81,7 @@ module _ (globals : Scope) where
 
     all_fewer : (ss : Statements) → work_nodes (all_parts globals own ss) < all_nodes ss
     all_fewer no_statement = omega arith
-    all_fewer (statement first rest) = omega arith
+    all_fewer (statement first rest) = let k = all_few rest in omega (arith, k)
 
     choosing_fewer : (bs : Branches) → work_nodes (choosing_parts globals own bs) < choosing_nodes bs
     choosing_fewer no_branch = omega arith

@@ -6,10 +6,10 @@ use Rattle.std.proofs.Math.Nat.{le-max_left, le-max_right, mul-le-mul_right}
 use Rattle.std.proofs.lemmas.Bool.Decides.{nat_tests}
 use Rattle.ob_typing.specs.declared.operator.BinaryOperator.TheVariants.{Plus, Minus, Times, Div, Mod, And, Or}
 use Rattle.ob_typing.specs.Program.{DataType, Owner, OfModule, Own, Expression, Literal, ValueOf, Negated, Complement, Computed, Compared, Operations, no_operation, operation, Designator, Designated, Selectors, no_selector, field_of, element_of, Actual, ByValue, ByPlace, Statement, Assign, Call, If, While, Repeat, Statements, no_statement, statement, Branches, no_branch, otherwise, branch, Procedure, Program}
-use Rattle.ob_code_scheme.specs.Types.{Space, Holding, Referring, Scope, word_in, space_at, type_at, scope_of, variables_scope}
+use Rattle.ob_code_scheme.specs.Types.{part_type, Space, Holding, Referring, Scope, word_in, space_at, type_at, scope_of, variables_scope}
 use Rattle.ob_code_machine.specs.Words.{Made, Gives, Traps, Sticks}
 use Rattle.ob_code_machine.specs.Effect.{popped, effect}
-use Rattle.ob_tree_work.specs.Work.{Task, Value, Operators, Address, Selecting, Handing, Doing, All, Choosing, Instruction, AndThen, OrElse, Alternative, Over, Looping, Again, Until, Taking, Calling, Leaving, own_tasks, variable_tasks, over_tasks, value_parts, operators_parts, address_parts, selecting_parts, handing_parts, doing_parts, all_parts, choosing_parts, parts, given_way, opened_by, opened, TreeBody, TreeState, Answer, On, Finished, Failed, Lost, made_on, taking, procedure_tasks, leaving_to, does, does_first, step, carried_on, steps}
+use Rattle.ob_tree_work.specs.Work.{Task, Value, Operators, Address, Selecting, Handing, Doing, All, Choosing, Instruction, AndThen, OrElse, Alternative, Over, Looping, Again, Until, Taking, Calling, Leaving, own_tasks, variable_tasks, over_tasks, operators_left, selecting_left, handing_left, all_left, value_parts, operators_parts, address_parts, selecting_parts, handing_parts, doing_parts, all_parts, choosing_parts, parts, given_way, opened_by, opened, TreeBody, TreeState, Answer, On, Finished, Failed, Lost, made_on, taking, procedure_tasks, leaving_to, does, does_first, step, carried_on, steps}
 use Rattle.ob_tree_work.specs.Reserve.{value_most, operators_most, address_most, selecting_most, handing_most, doing_most, all_most, choosing_most, procedure_most, activation_most, task_most, IsLow, KeepsWithin, AnswerKeepsWithin}
 
 -- what is below the larger of two
@@ -41,11 +41,50 @@ module _ (globals : Scope) (most : ℕ) where
     abbrev wait : ℕ
     wait = length rest
 
-    own_low : (word : ℕ) (space : Space) (t : Task) → 3 + wait ≤ limit → Low (t ∷ rest) depth → Low (own_tasks word space (t ∷ []) ++ rest) depth
-    own_low word (Holding type) t high h = (omega (arith, high), h)
-    own_low word (Referring type) t high h = (omega (arith, high), (omega (arith, high), h))
+    -- one task at most
+    abbrev Few : List Task → Type 0
+    Few tail = length (tail ++ rest) ≤ 1 + wait
+
+    own_low : (word : ℕ) (space : Space) (tail : List Task) → Few tail → 3 + wait ≤ limit → Low (tail ++ rest) depth → Low (own_tasks word space tail ++ rest) depth
+    own_low word (Holding type) tail few high h = (omega (arith, few, high), h)
+    own_low word (Referring type) tail few high h = (omega (arith, few, high), (omega (arith, few, high), h))
 
     module _ (own : Scope) where
+      -- what is left keeps within what all of it does
+      operators_few : (os : Operations) → Few (operators_left own os)
+      operators_few no_operation = omega arith
+      operators_few (operation o e others) = omega arith
+
+      operators_left_low : (os : Operations) → Low (Operators own os ∷ rest) depth → Low (operators_left own os ++ rest) depth
+      operators_left_low no_operation h = h.1
+      operators_left_low (operation o e others) h = h
+
+      selecting_few : (type : DataType) (ss : Selectors) → Few (selecting_left own type ss)
+      selecting_few type no_selector = omega arith
+      selecting_few type (field_of position name others) = omega arith
+      selecting_few type (element_of n index others) = omega arith
+
+      selecting_left_low : (type : DataType) (ss : Selectors) → Low (Selecting own type ss ∷ rest) depth → Low (selecting_left own type ss ++ rest) depth
+      selecting_left_low type no_selector h = h.1
+      selecting_left_low type (field_of position name others) h = h
+      selecting_left_low type (element_of n index others) h = h
+
+      handing_few : (xs : List Actual) → Few (handing_left own xs)
+      handing_few [] = omega arith
+      handing_few (x ∷ xs) = omega arith
+
+      handing_left_low : (xs : List Actual) → Low (Handing own xs ∷ rest) depth → Low (handing_left own xs ++ rest) depth
+      handing_left_low [] h = h.1
+      handing_left_low (x ∷ xs) h = h
+
+      all_few : (ss : Statements) → Few (all_left own ss)
+      all_few no_statement = omega arith
+      all_few (statement first others) = omega arith
+
+      all_left_low : (ss : Statements) → Low (All own ss ∷ rest) depth → Low (all_left own ss ++ rest) depth
+      all_left_low no_statement h = h.1
+      all_left_low (statement first others) h = h
+
       value_low : (e : Expression) → Low (Value own e ∷ rest) depth → Low (value_parts globals own e ++ rest) depth
       value_low (Literal s) h = (omega (arith, h.0), h.1)
       value_low (ValueOf type d) h = (omega (arith, h.0), (omega (arith, h.0), h.1))
@@ -65,64 +104,76 @@ module _ (globals : Scope) (most : ℕ) where
       operators_low (operation Plus e others) h =
           let a = left_of (value_most e + 2) (operators_most others) wait limit h.0 in
           let b = right_of (value_most e + 2) (operators_most others) wait limit h.0 in
-          (omega (arith, a), (omega (arith, a), (omega (arith, b), h.1)))
+          let k = operators_few others in
+          (omega (arith, a, k), (omega (arith, a, k), operators_left_low others (omega (arith, b), h.1)))
       operators_low (operation Minus e others) h =
           let a = left_of (value_most e + 2) (operators_most others) wait limit h.0 in
           let b = right_of (value_most e + 2) (operators_most others) wait limit h.0 in
-          (omega (arith, a), (omega (arith, a), (omega (arith, b), h.1)))
+          let k = operators_few others in
+          (omega (arith, a, k), (omega (arith, a, k), operators_left_low others (omega (arith, b), h.1)))
       operators_low (operation Times e others) h =
           let a = left_of (value_most e + 2) (operators_most others) wait limit h.0 in
           let b = right_of (value_most e + 2) (operators_most others) wait limit h.0 in
-          (omega (arith, a), (omega (arith, a), (omega (arith, b), h.1)))
+          let k = operators_few others in
+          (omega (arith, a, k), (omega (arith, a, k), operators_left_low others (omega (arith, b), h.1)))
       operators_low (operation Div e others) h =
           let a = left_of (value_most e + 2) (operators_most others) wait limit h.0 in
           let b = right_of (value_most e + 2) (operators_most others) wait limit h.0 in
-          (omega (arith, a), (omega (arith, a), (omega (arith, b), h.1)))
+          let k = operators_few others in
+          (omega (arith, a, k), (omega (arith, a, k), operators_left_low others (omega (arith, b), h.1)))
       operators_low (operation Mod e others) h =
           let a = left_of (value_most e + 2) (operators_most others) wait limit h.0 in
           let b = right_of (value_most e + 2) (operators_most others) wait limit h.0 in
-          (omega (arith, a), (omega (arith, a), (omega (arith, b), h.1)))
+          let k = operators_few others in
+          (omega (arith, a, k), (omega (arith, a, k), operators_left_low others (omega (arith, b), h.1)))
       operators_low (operation And e others) h =
           let a = left_of (value_most e + 2) (operators_most others) wait limit h.0 in
           let b = right_of (value_most e + 2) (operators_most others) wait limit h.0 in
-          (omega (arith, a), (omega (arith, b), h.1))
+          let k = operators_few others in
+          (omega (arith, a, k), operators_left_low others (omega (arith, b), h.1))
       operators_low (operation Or e others) h =
           let a = left_of (value_most e + 2) (operators_most others) wait limit h.0 in
           let b = right_of (value_most e + 2) (operators_most others) wait limit h.0 in
-          (omega (arith, a), (omega (arith, b), h.1))
+          let k = operators_few others in
+          (omega (arith, a, k), operators_left_low others (omega (arith, b), h.1))
 
-      variable_low : (owner : Owner) (position : ℕ) (t : Task) → 3 + wait ≤ limit → Low (t ∷ rest) depth →
-          Low (variable_tasks globals own owner position (t ∷ []) ++ rest) depth
-      variable_low OfModule position t high h = (omega (arith, high), h)
-      variable_low Own position t high h = own_low (word_in own position) (space_at own position) t high h
+      variable_low : (owner : Owner) (position : ℕ) (tail : List Task) → Few tail → 3 + wait ≤ limit → Low (tail ++ rest) depth →
+          Low (variable_tasks globals own owner position tail ++ rest) depth
+      variable_low OfModule position tail few high h = (omega (arith, few, high), h)
+      variable_low Own position tail few high h = own_low (word_in own position) (space_at own position) tail few high h
 
       address_low : (d : Designator) → Low (Address own d ∷ rest) depth → Low (address_parts globals own d ++ rest) depth
       address_low (Designated slot ss) h =
           let a = left_of 3 (selecting_most ss) wait limit h.0 in
           let b = right_of 3 (selecting_most ss) wait limit h.0 in
-          variable_low slot.owner slot.position (Selecting own (type_at (scope_of globals own slot.owner) slot.position) ss) a (b, h.1)
+          let type = type_at (scope_of globals own slot.owner) slot.position in
+          variable_low slot.owner slot.position (selecting_left own type ss) (selecting_few type ss) a (selecting_left_low type ss (b, h.1))
 
       selecting_low : (type : DataType) (ss : Selectors) → Low (Selecting own type ss ∷ rest) depth → Low (selecting_parts globals own type ss ++ rest) depth
       selecting_low type no_selector h = h.1
       selecting_low type (field_of position name others) h =
           let a = left_of 2 (selecting_most others) wait limit h.0 in
           let b = right_of 2 (selecting_most others) wait limit h.0 in
-          (omega (arith, a), (omega (arith, b), h.1))
+          let k = selecting_few (part_type type position) others in
+          (omega (arith, a, k), selecting_left_low (part_type type position) others (omega (arith, b), h.1))
       selecting_low type (element_of n index others) h =
           let a = left_of (value_most index + 2) (selecting_most others) wait limit h.0 in
           let b = right_of (value_most index + 2) (selecting_most others) wait limit h.0 in
-          (omega (arith, a), (omega (arith, a), (omega (arith, b), h.1)))
+          let k = selecting_few (part_type type 0) others in
+          (omega (arith, a, k), (omega (arith, a, k), selecting_left_low (part_type type 0) others (omega (arith, b), h.1)))
 
       handing_low : (xs : List Actual) → Low (Handing own xs ∷ rest) depth → Low (handing_parts globals own xs ++ rest) depth
       handing_low [] h = h.1
       handing_low (ByValue e ∷ xs) h =
           let a = left_of (value_most e + 1) (handing_most xs) wait limit h.0 in
           let b = right_of (value_most e + 1) (handing_most xs) wait limit h.0 in
-          (omega (arith, a), (omega (arith, b), h.1))
+          let k = handing_few xs in
+          (omega (arith, a, k), handing_left_low xs (omega (arith, b), h.1))
       handing_low (ByPlace d ∷ xs) h =
           let a = left_of (address_most d + 1) (handing_most xs) wait limit h.0 in
           let b = right_of (address_most d + 1) (handing_most xs) wait limit h.0 in
-          (omega (arith, a), (omega (arith, b), h.1))
+          let k = handing_few xs in
+          (omega (arith, a, k), handing_left_low xs (omega (arith, b), h.1))
 
       doing_low : (s : Statement) → Low (Doing own s ∷ rest) depth → Low (doing_parts globals own s ++ rest) depth
       doing_low (Assign target e) h =
@@ -147,7 +198,8 @@ module _ (globals : Scope) (most : ℕ) where
       all_low (statement first others) h =
           let a = left_of (doing_most first + 1) (all_most others) wait limit h.0 in
           let b = right_of (doing_most first + 1) (all_most others) wait limit h.0 in
-          (omega (arith, a), (omega (arith, b), h.1))
+          let k = all_few others in
+          (omega (arith, a, k), all_left_low others (omega (arith, b), h.1))
 
       choosing_low : (bs : Branches) → Low (Choosing own bs ∷ rest) depth → Low (choosing_parts globals own bs ++ rest) depth
       choosing_low no_branch h = h.1

@@ -73,6 +73,24 @@ abbrev pub actual_task : (own : Scope) → Actual → Task
 actual_task own (ByValue e) = Value own e
 actual_task own (ByPlace d) = Address own d
 
+-- what is left of operators, selectors, actuals and statements, where something is left
+abbrev pub operators_left : (own : Scope) → Operations → List Task
+operators_left own no_operation = []
+operators_left own (operation o e rest) = Operators own (operation o e rest) ∷ []
+
+abbrev pub selecting_left : (own : Scope) → DataType → Selectors → List Task
+selecting_left own type no_selector = []
+selecting_left own type (field_of position name rest) = Selecting own type (field_of position name rest) ∷ []
+selecting_left own type (element_of n index rest) = Selecting own type (element_of n index rest) ∷ []
+
+abbrev pub handing_left : (own : Scope) → List Actual → List Task
+handing_left own [] = []
+handing_left own (a ∷ actuals) = Handing own (a ∷ actuals) ∷ []
+
+abbrev pub all_left : (own : Scope) → Statements → List Task
+all_left own no_statement = []
+all_left own (statement first rest) = All own (statement first rest) ∷ []
+
 -- behind an alternative, where others follow: the jump over them
 abbrev pub over_tasks : Branches → List Task → List Task
 over_tasks no_branch rest = rest
@@ -96,26 +114,25 @@ module _ (globals : Scope) where
 
     abbrev pub operators_parts : Operations → List Task
     operators_parts no_operation = []
-    operators_parts (operation o e rest) = operator_tasks own o e (Operators own rest ∷ [])
+    operators_parts (operation o e rest) = operator_tasks own o e (operators_left own rest)
 
     abbrev pub address_parts : Designator → List Task
     address_parts (Designated slot selectors) =
         variable_tasks own slot.owner slot.position
-        (Selecting own (type_at (scope_of globals own slot.owner) slot.position) selectors ∷ [])
+        (selecting_left own (type_at (scope_of globals own slot.owner) slot.position) selectors)
 
     abbrev pub selecting_parts : DataType → Selectors → List Task
     selecting_parts type no_selector = []
     selecting_parts type (field_of position name rest) =
-        Instruction (Instrs.Field (part_offset type position)) ∷ Selecting own (part_type type position) rest ∷ []
+        Instruction (Instrs.Field (part_offset type position)) ∷ selecting_left own (part_type type position) rest
     selecting_parts type (element_of n index rest) =
         Value own index
         ∷ Instruction (Instrs.Index n (words (part_type type 0)))
-        ∷ Selecting own (part_type type 0) rest
-        ∷ []
+        ∷ selecting_left own (part_type type 0) rest
 
     abbrev pub handing_parts : List Actual → List Task
     handing_parts [] = []
-    handing_parts (a ∷ actuals) = actual_task own a ∷ Handing own actuals ∷ []
+    handing_parts (a ∷ actuals) = actual_task own a ∷ handing_left own actuals
 
     abbrev pub doing_parts : Statement → List Task
     doing_parts (Assign target e) = Address own target ∷ Value own e ∷ Instruction Instrs.Put ∷ []
@@ -127,7 +144,7 @@ module _ (globals : Scope) where
 
     abbrev pub all_parts : Statements → List Task
     all_parts no_statement = []
-    all_parts (statement first rest) = Doing own first ∷ All own rest ∷ []
+    all_parts (statement first rest) = Doing own first ∷ all_left own rest
 
     abbrev pub choosing_parts : Branches → List Task
     choosing_parts no_branch = []

@@ -1,29 +1,24 @@
+use Rattle.std.proofs.Common.{sym, ◌∙◌}
 use Rattle.ob_code_layout.specs.Layout.{block_in}
-use Rattle.std.proofs.Common.{◌∙◌}
-use Rattle.ob_tree_tasks.specs.Tasks.{task_of}
-use Rattle.ob_tree.proofs.Settling.{taken_fits, stays, goes, joined}
+use Rattle.ob_tree.proofs.Settling.{settled_so}
 use Rattle.ob_tree.proofs.settle.settle.Goals as goal
 
-pub open-requires-clause-room : goal.open-requires-clause-room
-open-requires-clause-room c =
-    (taken_fits (block_in c.args.layout.now) c.loop-task.work c.pop.new.self (task_of c.in-Some.task) c.in-Some.ensures c.loop-task.invariant.fits).0
+pub open-requires-clause-silent : goal.open-requires-clause-silent
+open-requires-clause-silent c = sym c.is_silent.ensures ∙ c.loop-work-test.true
 
-pub open-requires-clause-small : goal.open-requires-clause-small
-open-requires-clause-small c =
-    (taken_fits (block_in c.args.layout.now) c.loop-task.work c.pop.new.self (task_of c.in-Some.task) c.in-Some.ensures c.loop-task.invariant.fits).1
+pub open-requires-clause-fits : goal.open-requires-clause-fits
+open-requires-clause-fits c = c.loop-work.invariant.fits
 
-pub returns-then-not-open : goal.returns-then-not-open
-returns-then-not-open c =
-    let inv = c.loop-task.invariant in
-    joined (block_in c.args.layout.now) c.loop-task.work c.args.work.now c.open.new.work inv.same inv.room
-    (stays (block_in c.args.layout.now) c.loop-task.work c.pop.new.self (task_of c.in-Some.task) c.in-Some.ensures c.open.new.work c.open.result c.open.ensures c.if-not-open.true)
+pub returns : goal.returns
+returns c =
+    let inv = c.loop-work.invariant in
+    settled_so (block_in c.args.layout.now) c.loop-work.work c.args.work.now inv.same inv.room (sym c.is_silent.ensures ∙ c.loop-work-test.false)
 
-pub loop-task-preserved : goal.loop-task-preserved
-loop-task-preserved c =
-    let inv = c.loop-task.invariant in
-    let on = goes (block_in c.args.layout.now) c.loop-task.work c.pop.new.self (task_of c.in-Some.task) c.in-Some.ensures c.open.new.work c.open.result c.open.ensures c.if-not-open.false inv.fits in
+pub loop-work-preserved : goal.loop-work-preserved
+loop-work-preserved c =
+    let inv = c.loop-work.invariant in
+    let on = c.open.ensures in
     record { same = on.same ∙ inv.same; room = on.room ∙ inv.room; fits = on.fits }
 
-pub loop-task-smaller : goal.loop-task-smaller
-loop-task-smaller c =
-    (goes (block_in c.args.layout.now) c.loop-task.work c.pop.new.self (task_of c.in-Some.task) c.in-Some.ensures c.open.new.work c.open.result c.open.ensures c.if-not-open.false c.loop-task.invariant.fits).fewer
+pub loop-work-smaller : goal.loop-work-smaller
+loop-work-smaller c = c.open.ensures.fewer

@@ -1,12 +1,35 @@
-use Rattle.ob_tree_tasks.specs.Scoped.{globals_in, own_in}
-use Rattle.ob_tree_tasks.proofs.Pushed.{value_two, computed_two}
+use Rattle.std.proofs.Common.{refl}
+use Rattle.ob_checked.specs.View.{expression_of}
+use Rattle.ob_code_layout.specs.Layout.{block_in}
+use Rattle.ob_tree_work.specs.Work.{Value, value_parts}
+use Rattle.ob_tree_tasks.specs.Scoped.{own_in}
+use Rattle.ob_tree_tasks.proofs.Giving.{first_fits, by_parts, then_gives, stays, leads, leads_on}
 use Rattle.ob_tree_tasks.proofs.expressions.open_value.Goals as goal
 
-pub returns-in-ValueOf : goal.returns-in-ValueOf
-returns-in-ValueOf c =
-    value_two (globals_in c.args.own) (own_in c.args.own) _ _ _ _ _ _ c.in-ValueOf.is c.push-in-ValueOf.ensures c.push-in-ValueOf-2.ensures
+pub loop-operand-init : goal.loop-operand-init
+loop-operand-init c = stays _ _ c.requires.fits
 
-pub returns-in-Computed : goal.returns-in-Computed
-returns-in-Computed c =
-    computed_two (globals_in c.args.own) (own_in c.args.own) _ _ _ _ _ _ _ _ c.in-Computed.is c.deref-in-Computed.ensures c.as_slice.ensures.value
-    c.push-in-Computed.ensures c.push-in-Computed-2.ensures
+pub open_outer-requires-clause-room : goal.open_outer-requires-clause-room
+open_outer-requires-clause-room c =
+    (first_fits (block_in c.args.layout.now) (Value (own_in c.args.own) (expression_of c.loop-operand.first.now)) c.loop-operand.work c.loop-operand.invariant.fits).0
+
+pub open_outer-requires-clause-fits : goal.open_outer-requires-clause-fits
+open_outer-requires-clause-fits c = c.loop-operand.invariant.fits
+
+pub loop-operand-preserved : goal.loop-operand-preserved
+loop-operand-preserved c =
+    let g = block_in c.args.layout.now in
+    let o = own_in c.args.own in
+    let e = expression_of c.loop-operand.first.now in
+    let inv = c.loop-operand.invariant in
+    leads g _ _ (leads_on g _ _ _ inv (by_parts g (Value o e) c.loop-operand.work (value_parts g o e) _ refl c.in-Some.ensures inv.fits))
+
+pub loop-operand-smaller : goal.loop-operand-smaller
+loop-operand-smaller c =
+    let g = block_in c.args.layout.now in
+    let o = own_in c.args.own in
+    let e = expression_of c.loop-operand.first.now in
+    (by_parts g (Value o e) c.loop-operand.work (value_parts g o e) _ refl c.in-Some.ensures c.loop-operand.invariant.fits).fewer
+
+pub returns : goal.returns
+returns c = leads_on (block_in c.args.layout.now) _ _ _ c.loop-operand.invariant c.in_default.ensures
