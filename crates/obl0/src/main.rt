@@ -1,50 +1,89 @@
 //! The program: checks, lists and runs a module of Oberon-0.
 #![tactic(auto)]
 
-ghost use Rattle.std.specs.Prelude.{◌≡◌, ◌≢◌, IfErr, IfOk};
+ghost use Rattle.std.specs.Prelude.{◌≡◌, ◌≢◌, Err, IfErr, IfOk};
 ghost use Rattle.obl0.specs.Refusals.{refusal_status};
 
 mod files;
 mod refusal;
 
+use crossbeam_channel::{Receiver, RecvTimeoutError, Sender, unbounded};
 use files::HostFiles;
-use ob_answer::answer::answer;
+use ob_answer::answer::{INPUT_NAME, answer};
 use ob_answer::answered::Answer;
 use refusal::{Refusal, refusal_of_words};
+use std::alloc::Global;
+use std::io::IsTerminal;
 use std::process::ExitCode;
 use std::rt::{Env, Files};
 use std::sync::Wait;
 use std::thread::{JoinHandle, Threads};
+use std::time::{Clock, Duration};
 use std::{env, io, thread};
 
 /// The bytes of stack that all the work is done on. The deepest calls that are interpreted, as `seq` and `verify` do, 64 activations of
 /// at most 100 constructs within one another, take about a third of this. The system gives memory only to the part that is used.
 const STACK: usize = 8 * 1024 * 1024;
 
-/// The work is done on a stack of its own, so that it doesn't matter how much the system grants for the first one.
+/// How many seconds the work may take before a terminal is told that it goes on.
+const PATIENCE: u64 = 1;
+
+/// What a terminal is told then.
+const WORKING: &str = "working ..\n";
+
+/// The work is done on a stack of its own, so that it doesn't matter how much the system grants for the first one. That thread
+/// has the sender for as long as it works; this one tells of long work, and then prints the answer.
 fn main(rt: HostRuntime) -> ExitCode {
+    let Ok((working, done)) = unbounded(rt.alloc()) else {
+        return ExitCode::from(told(&rt, Refusal::NoMemory));
+    };
     let worker = thread::Builder::new()
         .stack_size(STACK)
-        .spawn(&rt, move || end(&rt));
-    ExitCode::from(joined(&rt, worker))
+        .spawn(&rt, move || work(&rt, working));
+    if rt.stderr().is_terminal() && !reads_input(&rt) {
+        tell_of_work(&rt, &done);
+    }
+    ExitCode::from(end(&rt, joined(&rt, worker)))
 }
 
-/// The exit status of the thread that does the work. One that can't be started is want of memory, which is told.
-fn joined<R: Eprint + Threads>(rt: &R, worker: io::Result<JoinHandle<u8>>) -> u8
-    ensures { IfErr worker (λ _. result ≡ refusal_status Refusal.NoMemory) }
-{
-    match worker {
-        Ok(worker) => worker.join(rt),
-        Err(_) => told(rt, Refusal::NoMemory),
+/// Whether a word names standard input, at which somebody may be typing for as long as they like.
+fn reads_input<R: Env + AllocGlobal>(rt: &R) -> bool {
+    match env::args(rt) {
+        Ok(mut words) => words.any(|word| word.as_str() == INPUT_NAME),
+        Err(_) => false,
     }
 }
 
-/// Answers the words of the command line, and gives the exit status.
-fn end<R: Env + Files + Input + AllocGlobal + Print + Eprint + Threads + Wait + Sync>(
+/// Waits until the work is done or has taken its time, and then tells that it goes on.
+fn tell_of_work<R: Eprint + Wait + Clock>(rt: &R, done: &Receiver<(), Global>) {
+    let patience = Duration::from_secs(PATIENCE);
+    if let Err(RecvTimeoutError::Timeout) = done.recv_timeout(rt, patience) {
+        let _ = rt.eprint(WORKING);
+    }
+}
+
+/// What came of the thread that does the work. One that can't be started is want of memory.
+fn joined<R: Threads>(
     rt: &R,
-) -> u8 {
-    match answered(rt) {
-        Ok(status) => status,
+    worker: io::Result<JoinHandle<Result<Answer, Refusal>>>,
+) -> Result<Answer, Refusal>
+    ensures { IfErr worker (λ _. result ≡ Err Refusal.NoMemory) }
+{
+    match worker {
+        Ok(worker) => worker.join(rt),
+        Err(_) => Err(Refusal::NoMemory),
+    }
+}
+
+/// Prints the answer, or tells what the host refused, and gives the exit status.
+fn end<R: Print + Eprint>(rt: &R, answer: Result<Answer, Refusal>) -> u8
+    ensures { IfErr answer (λ refusal. result ≡ refusal_status refusal) }
+{
+    match answer {
+        Ok(answer) => match printed(rt, &answer) {
+            Ok(status) => status,
+            Err(refusal) => told(rt, refusal),
+        },
         Err(refusal) => told(rt, refusal),
     }
 }
@@ -57,10 +96,20 @@ fn told<R: Eprint>(rt: &R, refusal: Refusal) -> u8
     refusal.status()
 }
 
-/// Answers the words of the command line, and gives the exit status, where the host refuses nothing.
-fn answered<R: Env + Files + Input + AllocGlobal + Print + Eprint + Threads + Wait + Sync>(
+/// The answer to the words of the command line. Whoever waits for the work has no more to tell where the sender is gone.
+fn work<R: Env + Files + Input + AllocGlobal + Threads + Wait + Sync>(
     rt: &R,
-) -> Result<u8, Refusal> {
+    working: Sender<(), Global>,
+) -> Result<Answer, Refusal> {
+    let answer = answered(rt);
+    drop(working);
+    answer
+}
+
+/// The answer to the words of the command line.
+fn answered<R: Env + Files + Input + AllocGlobal + Threads + Wait + Sync>(
+    rt: &R,
+) -> Result<Answer, Refusal> {
     let alloc = rt.alloc();
     let arguments = env::args(rt).map_err(refusal_of_words)?;
     let given: Vec<String> = arguments.skip(1).collect(alloc)?;
@@ -68,17 +117,16 @@ fn answered<R: Env + Files + Input + AllocGlobal + Print + Eprint + Threads + Wa
     obeyed(rt, words.as_slice())
 }
 
-/// Answers words, and gives the exit status.
-fn obeyed<R: Files + Input + AllocGlobal + Print + Eprint + Threads + Wait + Sync>(
+/// The answer to words.
+fn obeyed<R: Files + Input + AllocGlobal + Threads + Wait + Sync>(
     rt: &R,
     words: &[&str],
-) -> Result<u8, Refusal>
+) -> Result<Answer, Refusal>
     // Want of memory is never told as a mistake in the words.
     ensures { IfErr result (λ refusal. refusal ≢ Refusal.Words) }
 {
     let mut files = HostFiles { rt };
-    let answer = answer(rt, words, &mut files)?;
-    printed(rt, &answer)
+    Ok(answer(rt, words, &mut files)?)
 }
 
 /// Prints an answer, and gives its exit status.
