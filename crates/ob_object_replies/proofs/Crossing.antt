@@ -1,5 +1,5 @@
 -- What calls come to by position is what they come to by name.
-use Rattle.std.proofs.Common.{◌≡◌, ◌∙◌, ℕ, List, [], ◌∷◌, false, None, Option, MatchOption, Some, option_map, subst, sym}
+use Rattle.std.proofs.Common.{◌≡◌, ◌∙◌, ℕ, List, [], ◌∷◌, false, None, Option, Some, subst, sym}
 use Rattle.ob_agreement.specs.Resolved.{IsResolved}
 use Rattle.ob_agreement.specs.Same.{SameState}
 use Rattle.ob_check_text.specs.CheckedText.{IsNumberedText, TellsTextMemoryApart, is_text_memory}

@@ -1,7 +1,7 @@
 -- The places of Begins, one event more.
 use Rattle.std.proofs.Common.{◌≡◌, ◌∙◌, ℕ, Bool, cond, List, [], ◌∷◌, ◌++◌, length, Option, Some, None, ap, sym, slice_get, subst, inl, inr}
 use Rattle.std.proofs.lemmas.Option.{MatchOption-at_none, MatchOption-at_some}
-use Rattle.ob_object_order.specs.Places.{BeginsAt, IsPlaceOf, begin_noted, same_id}
+use Rattle.ob_object_order.specs.Places.{BeginsAt, IsPlaceOf, begin_noted}
 use Rattle.ob_object_replies.proofs.SameNames.{is_same_id}
 use Rattle.ob_object_replies.specs.Begins.{AreBegins}
 use Rattle.wf_history.proofs.Positions.{contains_at, one_item, place_here, place_left, place_of, place_push}

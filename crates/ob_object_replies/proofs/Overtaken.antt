@@ -1,5 +1,5 @@
 -- The call that another one overtook: it is found, or the other one doesn't stand too early.
-use Rattle.std.proofs.Common.{◌≡◌, ◌↔◌, ℕ, ◌+◌, ◌<◌, suc, List, None, Option, Some, arith, drop, inl, inr, length, slice_get, take}
+use Rattle.std.proofs.Common.{◌≡◌, ◌↔◌, ℕ, ◌+◌, suc, List, None, Option, Some, arith, drop, inl, inr, length, slice_get, take}
 use Rattle.std.proofs.lemmas.Bool.{cases_lt}
 use Rattle.std.specs.List.{Contains}
 use Rattle.ob_interface.specs.Call.{ObjectCall, Reply}

@@ -1,4 +1,4 @@
-use Rattle.std.proofs.Common.{◌≡◌, ◌∙◌, ◌↔◌, ◌+◌, ℕ, List, add-one, ap, drop, map, suc, subst, sym, take}
+use Rattle.std.proofs.Common.{◌∙◌, ◌↔◌, ◌+◌, ℕ, List, add-one, ap, drop, suc, subst, sym, take}
 use Rattle.std.proofs.lemmas.List.{take-map, take_rest}
 use Rattle.std.specs.HashSet as bag
 use Rattle.std.specs.Prelude.{Contains, IsTrue}

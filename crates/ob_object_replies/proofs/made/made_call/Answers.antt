@@ -1,14 +1,9 @@
-use Rattle.std.proofs.Common.{◌≡◌, List, map, subst, take}
 use Rattle.ob_checked.specs.CheckedModule.{program_in}
-use Rattle.ob_interface.specs.Call.{ObjectCall, Reply}
 use Rattle.ob_interpreter.specs.View.{reply_of}
 use Rattle.ob_object_order.specs.LegalOrder.{CallEnds}
 use Rattle.ob_object_replies.proofs.Found.{found, unbegun, unlisted, untold}
 use Rattle.ob_object_replies.proofs.made.made_call.Goals as goal
-use Rattle.ob_object_replies.specs.MadeCalls.{HasUnbegun, IsMeant, IsTold}
 use Rattle.ob_store.specs.View.{state_of}
-use Rattle.wf_history.specs.History.{Event}
-use Rattle.wf_history.specs.View.{event_of}
 
 pub returns-in_default : goal.returns-in_default
 returns-in_default c = unlisted (CallEnds (program_in c.args.checked.now) c.args.budget) (state_of c.args.opening.now) c.args.history.now c.args.order.now c.args.id c.in_default.ensures.place

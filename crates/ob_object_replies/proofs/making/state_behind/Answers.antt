@@ -1,5 +1,5 @@
 -- Each call is made in its turn.
-use Rattle.std.proofs.Common.{◌<◌, List, add-one, arith, get_or, length, map, subst, take}
+use Rattle.std.proofs.Common.{◌<◌, List, add-one, arith, get_or, length, map, subst}
 use Rattle.std.proofs.lemmas.List.{take_all}
 use Rattle.std.proofs.lemmas.Option.{slice_get-get_or}
 use Rattle.ob_checked.specs.CheckedModule.{program_in}
