@@ -16,5 +16,5 @@ IsRecordExplanation object record_file (Faults.Form number) shown =
     (remark : Option Remark) × IsFormRemark record_file.text number remark × (shown ≡ shown_in record_file remark)
 IsRecordExplanation object record_file (Faults.Open e) shown = shown ≡ open_explanation e
 IsRecordExplanation object record_file (Faults.Order e) shown =
-    (remark : Option Remark) × IsOrderRemark record_file.text e remark × (shown ≡ shown_in record_file remark)
+    (remark : Option Remark) × IsOrderRemark object.text record_file.text e remark × (shown ≡ shown_in record_file remark)
 IsRecordExplanation object record_file Faults.NoMemory shown = shown ≡ None

@@ -2,5 +2,6 @@ pub mod CallNames
 pub mod Lines
 pub mod FormRemarks
 pub mod OrderPlaces
+pub mod MadeTexts
 pub mod OrderRemarks
 pub mod ExplainedRecords

@@ -2,10 +2,13 @@
 use Rattle.std.specs.Prelude.{◌≡◌, ℕ, Bool, true, false, List, [], ◌++◌, Option, None, Some, MatchOption, codes, decimal, option_map}
 use Rattle.ob_explain.specs.Remarks.{Remark}
 use Rattle.ob_explained_records.specs.Lines.{IsLine}
+use Rattle.ob_explained_records.specs.MadeTexts.{other_reply_text}
 use Rattle.ob_explained_records.specs.OrderPlaces.{IsEndPlace, IsOrderPlace}
 use Rattle.ob_explained_records.specs.declared.record_line.Wanted.TheVariants as Wants
 use Rattle.ob_object_order.specs.declared.order.OrderFault.{OrderFault}
 use Rattle.ob_object_order.specs.declared.order.OrderFault.TheVariants as Order
+use Rattle.ob_object_replies.specs.MadeCalls.{MadeCall}
+use Rattle.ob_object_replies.specs.RecordCalls.{IsCallFound, IsCallOvertaken}
 use Rattle.ob_text_record.specs.RecordText.{id_text}
 use Rattle.wf_history.specs.declared.event.CallId.{CallId}
 
@@ -54,11 +57,32 @@ module _ (text : List ℕ) (id : CallId) where
       × MatchOption begin (IsOrderLineRemark false (codes " never began, so it can't stand in the order") remark)
       (λ _. IsOrderLineRemark true (codes " stands in the order before, and a call stands there once") remark)
 
-abbrev pub IsOrderRemark : List ℕ → OrderFault → Option Remark → Type 0
-IsOrderRemark text (Order.Missing id) remark = IsEndRemark text id (codes " ended, and is missing in the order") remark
-IsOrderRemark text (Order.Unknown id) remark = IsUnknownRemark text id remark
-IsOrderRemark text (Order.TooEarly id) remark =
-    IsOrderLineRemark text id false (codes " stands in the order before a call that had ended when it began") remark
-IsOrderRemark text (Order.OtherReply id) remark =
-    IsEndRemark text id (codes " has another reply when the calls are made one at a time in the order") remark
-IsOrderRemark text Order.NoMemory remark = remark ≡ None
+-- the call before which another one stands too early, and the line of its end, where they are known
+abbrev pub early_text : Option CallId → (line : Option ℕ) → List ℕ
+early_text None line = codes " stands in the order before a call that had ended when it began"
+early_text (Some other) line =
+    codes " stands in the order before " ++ id_text other ++ codes ", which ended" ++ line_text (codes " in line ") line ++ codes ", before it began"
+
+-- the line of a call's end
+abbrev pub IsEndLine : List ℕ → Option CallId → Option ℕ → Type 0
+IsEndLine text None line = line ≡ None
+IsEndLine text (Some id) line = IsLine text (Wants.End id) line
+
+-- the other call stands behind this one in the order, and had ended when this one began
+abbrev pub IsTooEarlyRemark : (object text : List ℕ) → CallId → Option Remark → Type 0
+IsTooEarlyRemark object text id remark =
+    (other : Option CallId) × IsCallOvertaken object text id other
+    × (line : Option ℕ) × IsEndLine text other line × IsOrderLineRemark text id false (early_text other line) remark
+
+-- what the call says in the record, and what it comes to in the order by the module
+abbrev pub IsOtherReplyRemark : (object text : List ℕ) → CallId → Option Remark → Type 0
+IsOtherReplyRemark object text id remark =
+    (made : Option MadeCall) × IsCallFound object text id made × IsEndRemark text id (other_reply_text made) remark
+
+-- of a module's text and a record
+abbrev pub IsOrderRemark : (object text : List ℕ) → OrderFault → Option Remark → Type 0
+IsOrderRemark object text (Order.Missing id) remark = IsEndRemark text id (codes " ended, and is missing in the order") remark
+IsOrderRemark object text (Order.Unknown id) remark = IsUnknownRemark text id remark
+IsOrderRemark object text (Order.TooEarly id) remark = IsTooEarlyRemark object text id remark
+IsOrderRemark object text (Order.OtherReply id) remark = IsOtherReplyRemark object text id remark
+IsOrderRemark object text Order.NoMemory remark = remark ≡ None

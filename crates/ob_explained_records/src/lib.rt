@@ -3,6 +3,7 @@
 
 mod call_name;
 pub mod form_remark;
+mod made_text;
 mod order_place;
 pub mod order_remark;
 pub mod record;

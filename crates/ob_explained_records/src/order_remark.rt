@@ -2,24 +2,28 @@
 
 ghost use Rattle.std.specs.Prelude.{◌≡◌, ◌++◌, IfOk, OnOk, option_map, string_bytes};
 ghost use Rattle.ob_explain.specs.Remarks.{remark_of};
-ghost use Rattle.ob_explained_records.specs.OrderRemarks.{IsCallSentence, IsEndRemark, IsOrderLineRemark, IsOrderRemark, IsUnknownRemark, line_text, told_at};
+ghost use Rattle.ob_explained_records.specs.OrderRemarks.{IsCallSentence, IsEndLine, IsEndRemark, IsOrderLineRemark, IsOrderRemark, IsOtherReplyRemark, IsTooEarlyRemark, IsUnknownRemark, early_text, line_text, told_at};
 
+use crate::made_text::other_reply_text;
 use crate::order_place::{place_in_order, place_of_end};
 use crate::record_line::{Wanted, first_line};
 use ob_explain::remark::Remark;
 use ob_object_order::OrderFault;
+use ob_object_replies::{call_made, call_overtaken};
 use ob_text_record::push_id;
 use ob_text_words::numbers::push_number;
 use std::alloc::{AllocError, Global};
 use wf_history::CallId;
 
-/// The remark on a fault of a record's order; `None` for want of memory, and where the record has no line that shows it.
+/// The remark on a fault of the order of a record of a module's object; `None` for want of memory, and where the record has no line that
+/// shows it.
 pub fn order_remark(
     alloc: Global,
+    object: &[u8],
     text: &[u8],
     fault: OrderFault,
 ) -> Result<Option<Remark>, AllocError>
-    ensures { IfOk result (λ remark. IsOrderRemark text.now fault (option_map remark_of remark)) }
+    ensures { IfOk result (λ remark. IsOrderRemark object.now text.now fault (option_map remark_of remark)) }
 {
     match fault {
         OrderFault::Missing(id) => end_remark(
@@ -29,21 +33,77 @@ pub fn order_remark(
             " ended, and is missing in the order",
         ),
         OrderFault::Unknown(id) => unknown_remark(alloc, text, id),
-        OrderFault::TooEarly(id) => order_line_remark(
-            alloc,
-            text,
-            id,
-            false,
-            " stands in the order before a call that had ended when it began",
-        ),
-        OrderFault::OtherReply(id) => end_remark(
-            alloc,
-            text,
-            id,
-            " has another reply when the calls are made one at a time in the order",
-        ),
+        OrderFault::TooEarly(id) => too_early_remark(alloc, object, text, id),
+        OrderFault::OtherReply(id) => other_reply_remark(alloc, object, text, id),
         OrderFault::NoMemory => Ok(None),
     }
+}
+
+/// The remark on a call that stands before one that had ended when it began.
+fn too_early_remark(
+    alloc: Global,
+    object: &[u8],
+    text: &[u8],
+    id: CallId,
+) -> Result<Option<Remark>, AllocError>
+    ensures { IfOk result (λ remark. IsTooEarlyRemark object.now text.now id (option_map remark_of remark)) }
+{
+    let Ok(other) = call_overtaken(alloc, object, text, id) else {
+        return Err(AllocError);
+    };
+    let line = end_line(alloc, text, other)?;
+    let what = early_text(alloc, other, line)?;
+    order_line_remark(alloc, text, id, false, what.as_str())
+}
+
+/// The line of a call's end, where there are both.
+fn end_line(alloc: Global, text: &[u8], id: Option<CallId>) -> Result<Option<usize>, AllocError>
+    ensures { IfOk result (IsEndLine text.now id) }
+{
+    match id {
+        Some(id) => first_line(alloc, text, Wanted::End(id)),
+        None => Ok(None),
+    }
+}
+
+/// That a call stands too early, and before which one, where it is known.
+fn early_text(
+    alloc: Global,
+    other: Option<CallId>,
+    line: Option<usize>,
+) -> Result<String, AllocError>
+    ensures { IfOk result (λ what. string_bytes what ≡ early_text other line) }
+{
+    match other {
+        Some(other) => {
+            let mut what = String::from_str(alloc, " stands in the order before ")?;
+            push_id(&mut what, other)?;
+            what.push_str(", which ended")?;
+            push_line(&mut what, " in line ", line)?;
+            what.push_str(", before it began")?;
+            Ok(what)
+        }
+        None => String::from_str(
+            alloc,
+            " stands in the order before a call that had ended when it began",
+        ),
+    }
+}
+
+/// The remark on a call that has another reply in the record than by the module.
+fn other_reply_remark(
+    alloc: Global,
+    object: &[u8],
+    text: &[u8],
+    id: CallId,
+) -> Result<Option<Remark>, AllocError>
+    ensures { IfOk result (λ remark. IsOtherReplyRemark object.now text.now id (option_map remark_of remark)) }
+{
+    let Ok(made) = call_made(alloc, object, text, id) else {
+        return Err(AllocError);
+    };
+    let what = other_reply_text(alloc, made)?;
+    end_remark(alloc, text, id, what.as_str())
 }
 
 /// The remark on a call that can't stand in the order where it stands.

@@ -33,7 +33,7 @@ pub fn record_explanation(
         }
         VerifyFault::Open(fault) => open_explanation(alloc, fault),
         VerifyFault::Order(fault) => {
-            let remark = order_remark(alloc, record_file.text, fault)?;
+            let remark = order_remark(alloc, object.text, record_file.text, fault)?;
             shown(alloc, record_file, remark)
         }
         VerifyFault::NoMemory => Ok(None),

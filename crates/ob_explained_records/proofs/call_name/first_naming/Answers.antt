@@ -1,4 +1,4 @@
-use Rattle.std.proofs.Common.{◌≡◌, ◌∙◌, Bor, refl, sym}
+use Rattle.std.proofs.Common.{◌∙◌, Bor, refl, sym}
 use Rattle.std.proofs.lemmas.Bool.{false≢true}
 use Rattle.ob_text_words.specs.Words.{Word}
 use Rattle.ob_explained_records.specs.CallNames.{Names}

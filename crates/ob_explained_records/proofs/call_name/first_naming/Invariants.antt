@@ -1,5 +1,5 @@
 -- No word so far names the call.
-use Rattle.std.proofs.Common.{ℕ, Bor, List}
+use Rattle.std.proofs.Common.{Bor}
 use Rattle.ob_text_words.specs.Words.{Word}
 use Rattle.ob_explained_records.specs.CallNames.{Names}
 use Rattle.ob_explained_records.proofs.Firsts.{HoldsOfNone}

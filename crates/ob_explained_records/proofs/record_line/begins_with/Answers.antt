@@ -1,4 +1,4 @@
-use Rattle.std.proofs.Common.{◌≡◌, ◌∷◌, Bor, List, ap, map, refl, rules}
+use Rattle.std.proofs.Common.{◌≡◌, ◌∷◌, Bor, ap, map, refl, rules}
 use Rattle.ob_text_words.specs.Words.{Word}
 use Rattle.ob_explained_records.proofs.record_line.begins_with.Goals as goal
 

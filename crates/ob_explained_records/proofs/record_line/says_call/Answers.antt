@@ -1,5 +1,5 @@
-use Rattle.std.proofs.Common.{◌≡◌, ◌∷◌, rules, tests}
-use Rattle.ob_explained_records.proofs.Firsts.{letter_of, says_here}
+use Rattle.std.proofs.Common.{◌≡◌, ◌∷◌, rules}
+use Rattle.ob_explained_records.proofs.Firsts.{says_here}
 use Rattle.ob_explained_records.proofs.record_line.says_call.Goals as goal
 
 pub returns : goal.returns

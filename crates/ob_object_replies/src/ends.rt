@@ -1,0 +1,64 @@
+//! What the Ends of a history say.
+
+ghost use Rattle.std.specs.Prelude.{◌≡◌, IfOk, MatchOption, map, option_map};
+ghost use Rattle.ob_interface.specs.Call as Calls;
+ghost use Rattle.ob_interface.specs.View as History;
+ghost use Rattle.ob_interpreter.specs.View.{reply_of};
+ghost use Rattle.ob_object_replies.specs.MadeCalls.{IsTold};
+ghost use Rattle.wf_history.specs.History.{End};
+ghost use Rattle.wf_history.specs.View.{event_of};
+
+use crate::names::is_same;
+use ob_interface::call::Reply;
+use ob_interpreter::call as interpreter;
+use std::alloc::{AllocError, Global};
+use wf_history::{CallId, Event};
+
+/// The reply of a call that has ended.
+pub(crate) fn told_reply(
+    alloc: Global,
+    events: &[Event],
+    id: CallId,
+) -> Result<Option<interpreter::Reply>, AllocError>
+    ensures { IfOk result (λ reply. IsTold (map event_of events.now) id (option_map reply_of reply)) }
+{
+    for event in events {
+        if let Some(reply) = reply_told(event, id) {
+            let reply = reply_in(alloc, reply)?;
+            return Ok(Some(reply));
+        }
+    }
+    Ok(None)
+}
+
+/// The reply of a call, if it ends with this event.
+fn reply_told(event: &Event, id: CallId) -> Option<&Reply>
+    ensures { MatchOption result
+        ((reply : Calls.Reply) → event_of event.now ≡ End id reply → ⊥)
+        (λ reply. event_of event.now ≡ End id (History.reply_of reply.now)) }
+{
+    match event {
+        Event::Begin(_, _) => None,
+        Event::Applied(_) => None,
+        Event::End(other, reply) => {
+            if is_same(*other, id) {
+                Some(reply)
+            } else {
+                None
+            }
+        }
+    }
+}
+
+/// The reply, as the interpreter's.
+fn reply_in(alloc: Global, reply: &Reply) -> Result<interpreter::Reply, AllocError>
+    ensures { IfOk result (λ r. reply_of r ≡ History.reply_of reply.now) }
+{
+    match reply {
+        Reply::Done(values) => {
+            let values = Vec::from_slice(alloc, values.as_slice())?;
+            Ok(interpreter::Reply::Answers(values))
+        }
+        Reply::Trap(trap) => Ok(interpreter::Reply::Trapped(*trap)),
+    }
+}

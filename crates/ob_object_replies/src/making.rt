@@ -1,0 +1,122 @@
+//! Calls of a history made one at a time.
+
+ghost use Rattle.std.specs.Prelude.{◌≡◌, ◌∷◌, ◌++◌, [], IfOk, MatchOption, Some, map, slice_get};
+ghost use Rattle.std.specs.HashMap as hash;
+ghost use Rattle.ob_checked.specs.CheckedModule.{program_in};
+ghost use Rattle.ob_interface.specs.Call.{ObjectCall};
+ghost use Rattle.ob_interface.specs.View as History;
+ghost use Rattle.ob_interpreter.specs.View.{call_of, reply_of};
+ghost use Rattle.ob_object_order.specs.LegalOrder.{CallEnds};
+ghost use Rattle.ob_object_order.specs.Places.{BeginsAt, same_id};
+ghost use Rattle.ob_object_replies.specs.Begins.{AreBegins};
+ghost use Rattle.ob_object_replies.specs.MadeCalls.{HasUnbegun, IsMeant, LeadTo, NeverBegan};
+ghost use Rattle.ob_store.specs.View.{state_of};
+ghost use Rattle.wf_history.specs.History.{Begin};
+ghost use Rattle.wf_history.specs.Legal.{HasBegun};
+ghost use Rattle.wf_history.specs.View.{event_of};
+ghost use Rattle.wf_history.specs.declared.event.CallId.{CallId};
+
+use crate::begins::begins_of;
+use ob_checked::checked::Checked;
+use ob_interface::NoMemory;
+use ob_interface::call::Call;
+use ob_interpreter::call as interpreter;
+use ob_interpreter::object::step;
+use ob_store::state::State;
+use std::alloc::{AllocError, Global};
+use std::collections::HashMap;
+use wf_history::{CallId, Event};
+
+/// The reply of a call behind others, which are made one at a time from the opening state, each with the budget of turns; none where one of
+/// them or the call itself never began.
+pub(crate) fn meant_reply(
+    alloc: Global,
+    events: &[Event],
+    before: &[CallId],
+    checked: &Checked,
+    opening: &State,
+    budget: u64,
+    id: CallId,
+) -> Result<Option<interpreter::Reply>, NoMemory>
+    ensures { IfOk result (λ reply. MatchOption reply
+        (HasUnbegun (map event_of events.now) (before.now ++ id ∷ []))
+        (λ r. IsMeant (CallEnds (program_in checked.now) budget) (state_of opening.now) (map event_of events.now) before.now id (reply_of r))) }
+{
+    let begins = begins_of(alloc, events)?;
+    let Some(state) = state_behind(alloc, events, &begins, before, checked, opening, budget)? else {
+        return Ok(None);
+    };
+    let Some((_, reply)) = made(alloc, events, &begins, checked, state, id, budget)? else {
+        return Ok(None);
+    };
+    Ok(Some(reply))
+}
+
+/// The state to which calls lead; none where one of them never began.
+fn state_behind(
+    alloc: Global,
+    events: &[Event],
+    begins: &HashMap<CallId, usize>,
+    ids: &[CallId],
+    checked: &Checked,
+    opening: &State,
+    budget: u64,
+) -> Result<Option<State>, NoMemory>
+    requires { AreBegins (map event_of events.now) (hash.get same_id begins.now) }
+    ensures { IfOk result (λ state. MatchOption state
+        (HasUnbegun (map event_of events.now) ids.now)
+        (λ s. LeadTo (CallEnds (program_in checked.now) budget) (state_of opening.now) (map event_of events.now) ids.now (state_of s))) }
+{
+    let mut state = opening.copy(alloc)?;
+    for id in ids {
+        let Some((next, _)) = made(alloc, events, begins, checked, state, *id, budget)? else {
+            return Ok(None);
+        };
+        state = next;
+    }
+    Ok(Some(state))
+}
+
+/// The state and the reply to which a call leads; none where it never began.
+fn made(
+    alloc: Global,
+    events: &[Event],
+    begins: &HashMap<CallId, usize>,
+    checked: &Checked,
+    state: State,
+    id: CallId,
+    budget: u64,
+) -> Result<Option<(State, interpreter::Reply)>, NoMemory>
+    requires { AreBegins (map event_of events.now) (hash.get same_id begins.now) }
+    ensures { IfOk result (λ made. MatchOption made
+        (NeverBegan (map event_of events.now) id)
+        (λ m. (call : ObjectCall) × HasBegun (map event_of events.now) id call × CallEnds (program_in checked.now) budget call (state_of state) (state_of m.0) (reply_of m.1))) }
+{
+    let Some(begin) = begins.get(&id) else {
+        return Ok(None);
+    };
+    let call = call_in(alloc, call_at(events, *begin))?;
+    let (next, reply) = step(alloc, checked.program(), state, &call, budget)?;
+    Ok(Some((next, reply)))
+}
+
+/// The call that begins at a place.
+fn call_at(events: &[Event], place: usize) -> &Call
+    requires { (id : CallId) × BeginsAt (map event_of events.now) id place }
+    ensures { (id : CallId) × (slice_get (map event_of events.now) place ≡ Some (Begin id (History.call_of result.now))) }
+{
+    match &events[place] {
+        Event::Begin(_, call) => call,
+        _ => unreachable!(),
+    }
+}
+
+/// The call, for the interpreter.
+fn call_in(alloc: Global, call: &Call) -> Result<interpreter::Call, AllocError>
+    ensures { IfOk result (λ c. call_of c ≡ History.call_of call.now) }
+{
+    Ok(interpreter::Call {
+        export: call.proc,
+        arguments: Vec::from_slice(alloc, call.args.as_slice())?,
+    })
+}
