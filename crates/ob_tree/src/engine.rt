@@ -187,6 +187,7 @@ impl<'a> Engine for TreeEngine<'a> {
         }
     }
 
+    #[inline(always)]
     fn step(&self, run: &mut TreeRun<'a>, block: &mut [i64]) -> EngineTurn {
         run.step(self.checked.program(), self.layout, block)
     }

@@ -1,7 +1,6 @@
 -- The operands of the code of a well formed program have 16 bits, but for those of calls and jumps: these know places, and code may be of any length.
-use Rattle.std.proofs.Common.{◌≡◌, ℕ, zero, suc, ◌+◌, ◌≤◌, Bool, true, false, List, [], ◌∷◌, ◌++◌, length, Option, Some, None, refl, ap, sym, ◌∙◌, subst, All, arith}
+use Rattle.std.proofs.Common.{◌≡◌, ℕ, zero, suc, ◌+◌, ◌≤◌, Bool, true, false, List, [], ◌∷◌, ◌++◌, length, Option, Some, None, subst, All, arith}
 use Rattle.std.specs.Prelude.{slice_get}
-use Rattle.std.proofs.lemmas.List.{length-map}
 use Rattle.std.proofs.lemmas.List.Elements.{All-nil, All-cons, All-append, All-head, All-tail}
 use Rattle.ob_interface.specs.declared.scalar.ScalarType.{ScalarType}
 use Rattle.ob_interface.specs.declared.scalar.ScalarType.TheVariants.{Integer, Boolean}
@@ -12,11 +11,11 @@ use Rattle.ob_typing.specs.declared.operator.Relation.TheVariants.{Equal, NotEqu
 use Rattle.ob_typing.specs.Program.{DataType, Simple, Array, Record, Fields, no_field, field, Owner, OfModule, Own, Name, Expression, Literal, ValueOf, Negated, Complement, Computed, Compared, Operations, no_operation, operation, Designator, Designated, Selectors, no_selector, field_of, element_of, Actual, ByValue, ByPlace, Statement, Assign, Call, If, While, Repeat, Statements, no_statement, statement, Branches, no_branch, otherwise, branch, Parameter, Variable, Procedure, Program}
 use Rattle.ob_code_machine.specs.declared.instr.Instr.{Instr}
 use Rattle.ob_code_machine.specs.declared.instr.Instr.TheVariants as Instrs
-use Rattle.ob_code_scheme.specs.Types.{words, words_of_fields, offset, field_type, part_type, part_offset, Space, Holding, Referring, Scope, width, extent, word_in, space_at, type_at, scope_of, variables_scope, parameters_scope, frame_scope}
+use Rattle.ob_code_scheme.specs.Types.{words, words_of_fields, offset, field_type, part_type, part_offset, Space, Holding, Referring, Scope, extent, word_in, space_at, type_at, scope_of, variables_scope, parameters_scope, frame_scope}
 use Rattle.ob_code_scheme.specs.Layout.{word}
 use Rattle.ob_code_scheme.specs.Scheme.{size, variable_size, designator_size, actual_size, statement_size, statements_size, over_size, branches_size, procedure_size, entry_of, relation_instruction, operator_at, own_code, over_code, variable_code, code_at, operations_at, designator_at, selectors_at, actual_at, actuals_at, statement_at, statements_at, branches_at, procedure_at, procedures_at, code_of}
 use Rattle.ob_code_scheme.specs.WellFormed.{HasFieldAt, HasLength, IsOf, AreOf, Designates, Selects, IsActual, AreActuals, AreActualsOf, IsFine, AreFine, AreFineBranches, IsSmall, AreSmall, IsFineProcedure, IsWellFormed}
-use Rattle.ob_code_scheme.proofs.Fine.{fine_procedure, extent-append}
+use Rattle.ob_code_scheme.proofs.Fine.{extent-append}
 use Rattle.ob_tree_work.specs.Operands.{HasSmallOperands}
 
 abbrev pub AreSmallOperands : List Instr → Type 0
