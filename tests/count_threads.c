@@ -1,5 +1,5 @@
-/* Loaded before a program: appends a line to the file THREADS for each thread that it starts. At the program's end nothing could be
-   done, since it ends by _exit. */
+/* Loaded before a program: appends a line to the file THREADS for each thread that it starts, and waits for APART microseconds behind
+   each. At the program's end nothing could be done, since it ends by _exit. */
 #define _GNU_SOURCE
 #include <dlfcn.h>
 #include <fcntl.h>
@@ -14,6 +14,8 @@ static int counted(int answer) {
     const char *name = getenv("THREADS");
     int file = name ? open(name, O_WRONLY | O_APPEND) : -1;
     if (file < 0 || write(file, "1\n", 2) != 2 || close(file) != 0) _exit(99);
+    const char *apart = getenv("APART");
+    if (apart) usleep(atoi(apart));
     return 0;
 }
 

@@ -2,7 +2,7 @@
 use Rattle.std.proofs.Common.{◌≡◌, ◌∙◌, ◌||◌, ◌≤◌, Bool, arith, false, not, true, ℕ, zero, suc, All, List, [], ◌∷◌, ◌++◌, ap, length, refl, subst, sym}
 use Rattle.std.specs.Prelude.{slice_get, IfOk, MatchResult, Result, Some, Ok, Err}
 use Rattle.std.proofs.lemmas.Option.{none-some, same_Some}
-use Rattle.std.proofs.lemmas.List.Elements.{All-cons, All-head, All-nil, All-tail}
+use Rattle.std.proofs.lemmas.List.Elements.{All-cons, All-head, All-tail}
 use Rattle.std.specs.declared.thread.PromisedHandle.{PromisedHandle}
 use Rattle.ob_desk_floor.specs.Seat.{Seat}
 use Rattle.ob_desk_workers.specs.Gathered.{AreHeard}
@@ -10,7 +10,6 @@ use Rattle.ob_desk_workers.specs.Joined.{AreJoined, AreStartsOf, IsStartOf, Star
 use Rattle.ob_desk_workers.specs.Rounds.{AreLet, HasWorked, IsRefused, Says}
 use Rattle.ob_desk_workers.specs.declared.gathering.Gathered.{Gathered}
 use Rattle.ob_desk_workers.specs.declared.worker.Ended.{Ended}
-use Rattle.ob_desk_workers.specs.declared.worker.Ended.TheVariants as Ended
 use Rattle.ob_desk_workers.specs.declared.worker.PassedBy.{PassedBy}
 use Rattle.ob_desk_workers.specs.declared.worker.Worked.{Worked}
 

@@ -6,7 +6,7 @@ use Rattle.ob_desk_workers.specs.declared.gathering.Gathered.{Gathered}
 use Rattle.ob_desk_workers.specs.declared.worker.Ended.TheVariants as Ended
 
 -- Of these seats: how the worker of each ended, in their order. Where memory did not want, one that ended as refused was refused by
--- the gate as often in a row as the limit says, and the gate let the processes of the seats that came back take each turn.
+-- the gate as often in a row as the limit says, and the gate let the processes of the seats that came back take each step.
 pub record AreHeard (passes refuses : Says) (limit : ℕ) (seats : List Seat) (g : Gathered) : Type 0 where
   pub few : length g.ended.items ≤ length seats
   pub all : g.is_short ≡ false → length g.ended.items ≡ length seats

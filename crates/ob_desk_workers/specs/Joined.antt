@@ -4,7 +4,6 @@ use Rattle.std.specs.declared.thread.PromisedHandle.{PromisedHandle}
 use Rattle.ob_desk_floor.specs.Seat.{Seat}
 use Rattle.ob_desk_workers.specs.Rounds.{HasWorked, Says}
 use Rattle.ob_desk_workers.specs.declared.worker.Ended.{Ended}
-use Rattle.ob_desk_workers.specs.declared.worker.Ended.TheVariants as Ended
 use Rattle.ob_desk_workers.specs.declared.worker.PassedBy.{PassedBy}
 use Rattle.ob_desk_workers.specs.declared.worker.Worked.{Worked}
 

@@ -2,13 +2,12 @@
 use Rattle.std.specs.Prelude.{◌≡◌, ℕ, ◌+◌, ◌<◌, ◌≤◌, ◌++◌, List, length}
 use Rattle.ob_desk_floor.specs.Seat.{Seat}
 use Rattle.ob_desk_workers.specs.declared.worker.Ended.{Ended}
-use Rattle.ob_desk_workers.specs.declared.worker.Ended.TheVariants as Ended
 use Rattle.ob_interface.specs.Call.{Reply}
 use Rattle.wf_history.specs.declared.event.CallId.{CallId}
 
 -- ---- the seat
 
--- the seat after some turns: still of its process and desk, and no turn added more than one answer
+-- the seat after some steps: still of its process and desk, and no step added more than one answer
 pub record IsAfterTurns (before after : Seat) : Type 0 where
   pub process : after.process ≡ before.process
   pub tag : after.tag ≡ before.tag
@@ -16,14 +15,14 @@ pub record IsAfterTurns (before after : Seat) : Type 0 where
   pub answers : after.answers ≡ before.answers ++ later
   pub turns : before.turns + length later ≤ after.turns
 
--- Refusals in a row, one round later: at most one more, and none where the seat took a turn.
+-- Refusals in a row, one round later: at most one more, and none where the seat took a step.
 pub record AreCounted (before after : Seat) (refusals now : ℕ) : Type 0 where
   pub more : now ≤ refusals + 1
   pub anew : before.turns < after.turns → now ≡ 0
 
 -- ---- the gate
 
--- What a gate says where it passes, or where it refuses: of a process, of how many turns its seat has taken, and of how often in a
+-- What a gate says where it passes, or where it refuses: of a process, of how many steps its seat has taken, and of how often in a
 -- row it has refused the next one.
 abbrev pub Says : Type 1
 Says = ℕ → ℕ → ℕ → Type 0
@@ -32,19 +31,19 @@ Says = ℕ → ℕ → ℕ → Type 0
 abbrev pub never : Says
 never process turns refusals = ⊥
 
--- The gate let the process take the turn behind so many, and had refused it fewer times in a row than the limit says.
+-- The gate let the process take the step behind so many, and had refused it fewer times in a row than the limit says.
 abbrev pub IsLet : Says → (limit process turns : ℕ) → Type 0
 IsLet passes limit process turns = (refusals : ℕ) × (refusals < limit) × passes process turns refusals
 
--- it let the process take each turn of the seat
+-- it let the process take each step of the seat
 abbrev pub AreLet : Says → (limit : ℕ) → Seat → Type 0
 AreLet passes limit s = (turns : ℕ) → turns < s.turns → IsLet passes limit s.process turns
 
--- it refused the seat's next turn so often in a row
+-- it refused the seat's next step so often in a row
 abbrev pub AreRefused : Says → Seat → ℕ → Type 0
 AreRefused refuses s count = (k : ℕ) → k < count → refuses s.process s.turns k
 
--- It refused the process a turn, behind so many, as often in a row as the limit says.
+-- It refused the process a step, behind so many, as often in a row as the limit says.
 abbrev pub IsRefused : Says → (limit process : ℕ) → Type 0
 IsRefused refuses limit process = (turns : ℕ) × ((k : ℕ) → k < limit → refuses process turns k)
 

@@ -4,14 +4,14 @@
 pub trait Gate {
     ghost use Rattle.std.specs.Prelude.{ℕ, IsFalse, IsTrue};
 
-    // What is so where it lets a process take a turn: of the process, of how many turns its seat has taken, and of how often in a
+    // What is so where it lets a process take a step: of the process, of how many steps its seat has taken, and of how often in a
     // row it has refused this one.
     ghost passes: { Self → ℕ → ℕ → ℕ → Type 0 };
 
-    // The same where it refuses the turn.
+    // The same where it refuses the step.
     ghost refuses: { Self → ℕ → ℕ → ℕ → Type 0 };
 
-    /// Whether the process may take one more turn now. `turns` is how many its seat has taken, and `refusals` how often in a row
+    /// Whether the process may take one more step now. `turns` is how many its seat has taken, and `refusals` how often in a row
     /// it was refused since then.
     fn pass(&self, process: usize, turns: u128, refusals: u64) -> bool
         ensures passed { IsTrue result → passes self.now process turns refusals }

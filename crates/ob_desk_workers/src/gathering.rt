@@ -8,11 +8,11 @@ ghost use Rattle.ob_desk_workers.specs.Joined.{AreJoined};
 ghost use Rattle.ob_desk_workers.specs.declared.worker.Ended.TheVariants as Ended;
 
 use crate::gate::Gate;
-use crate::worker::{Ended, PassedBy, Worked, promise, work};
+use crate::worker::{Ended, PassedBy, Worked, promise, work_once_begun};
 use crossbeam_channel::{Receiver, unbounded};
 use ob_desk_floor::{CallAnswer, Seat, TakeTurn};
 use std::alloc::{AllocError, Global};
-use std::sync::Wait;
+use std::sync::{RwLock, Wait};
 use std::thread;
 use std::thread::{PromisedHandle, Threads};
 
@@ -29,7 +29,8 @@ pub struct Gathered {
 /// A worker's thread, or how a worker ended that was not started.
 type Start<G> = Result<PromisedHandle<Worked, PassedBy<G>>, Ended>;
 
-/// Starts a worker for each seat, on a thread of its own, collects the answers that they send, and joins all.
+/// Starts a worker for each seat, on a thread of its own, lets them begin together, collects the answers that they send, and joins
+/// all.
 pub fn gather<R: Threads + Wait + Sync, D: TakeTurn + Sync, G: Gate + Sync>(
     rt: &R,
     alloc: Global,
@@ -43,6 +44,8 @@ pub fn gather<R: Threads + Wait + Sync, D: TakeTurn + Sync, G: Gate + Sync>(
 {
     let (sender, receiver) = unbounded(alloc)?;
     let count = seats.len();
+    let beginning = RwLock::new(());
+    let begun = &beginning;
     thread::scope(
         thread::scope_env(),
         rt,
@@ -53,6 +56,8 @@ pub fn gather<R: Threads + Wait + Sync, D: TakeTurn + Sync, G: Gate + Sync>(
         {
             let mut gathered = Gathered::new(alloc, count)?;
             let mut starts = Vec::with_capacity(alloc, count)?;
+            // While this is held no worker begins.
+            let held = begun.write(rt);
             for seat in seats {
                 let Ok(answers) = sender.clone() else {
                     gathered.is_short |= !add_start(&mut starts, Err(Ended::NoMemory));
@@ -60,10 +65,12 @@ pub fn gather<R: Threads + Wait + Sync, D: TakeTurn + Sync, G: Gate + Sync>(
                 };
                 let kept = promise(gate, limit, &seat);
                 let started = scope.spawn_with(kept, move || {
-                    work(rt, desk, gate, limit, seat, answers)
+                    work_once_begun(rt, begun, desk, gate, limit, seat, answers)
                 });
                 gathered.is_short |= !add_start(&mut starts, start_of(started));
             }
+            // Each thread that could be started is there, so that short scripts overlap too.
+            drop(held);
             // The collector stops where no sender is left.
             drop(sender);
             collect(rt, receiver, &mut gathered);

@@ -1,5 +1,5 @@
-//! The workers of a desk: a thread for each process takes its turns there, as a gate lets it, and a collector hears their
-//! answers.
+//! The workers of a desk: a thread for each process takes its steps there, as a gate lets it, and a collector hears their
+//! answers. A *turn* of a seat is one step of its process.
 #![tactic(auto)]
 
 pub mod gate;

@@ -9,14 +9,14 @@ use crossbeam_channel::Sender;
 use ob_desk_floor::{CallAnswer, Seat, TakeTurn};
 use std::alloc::Global;
 use std::snapshot::Snapshot;
-use std::sync::Wait;
+use std::sync::{RwLock, Wait};
 use std::thread::Promise;
 use wf_object::Seen;
 
 /// How a worker ended.
 #[derive(Clone, Copy, PartialEq, Eq)]
 pub enum Ended {
-    /// The process is halted, or its seat can count no more turns.
+    /// The process is halted, or its seat can count no more steps.
     Done,
     /// It was not started.
     NotStarted,
@@ -33,8 +33,8 @@ pub struct Worked {
     pub ended: Ended,
 }
 
-/// What a worker promises: what its gate, by this limit, says of the turns that it took from this seat on, and where it ends as
-/// refused, that the gate refused a turn as often in a row.
+/// What a worker promises: what its gate, by this limit, says of the steps that it took from this seat on, and where it ends as
+/// refused, that the gate refused a step as often in a row.
 #[derive(Drop)]
 pub struct PassedBy<G: Gate> {
     pub gate: Snapshot<G>,
@@ -61,8 +61,25 @@ pub fn promise<G: Gate>(gate: &G, limit: u64, seat: &Seat) -> PassedBy<G>
     }
 }
 
-/// Takes turns of the seat's process, as the gate lets it, until the process is halted or its seat can count no more turns,
-/// and sends each answer. The desk's lock is free between two turns.
+/// Works as soon as `begun` can be read: whoever starts the workers holds it for writing until all are there.
+pub fn work_once_begun<R: Wait, D: TakeTurn, G: Gate>(
+    rt: &R,
+    begun: &RwLock<()>,
+    desk: &D,
+    gate: &G,
+    limit: u64,
+    seat: Seat,
+    answers: Sender<CallAnswer, Global>,
+) -> Worked
+    requires { 1 ≤ limit }
+    ensures { HasWorked (G.passes gate.now) (G.refuses gate.now) limit seat result.seat result.ended }
+{
+    drop(begun.read(rt));
+    work(rt, desk, gate, limit, seat, answers)
+}
+
+/// Takes steps of the seat's process, as the gate lets it, until the process is halted or its seat can count no more of them,
+/// and sends each answer. The desk's lock is free between two steps.
 pub fn work<R: Wait, D: TakeTurn, G: Gate>(
     rt: &R,
     desk: &D,
@@ -83,7 +100,7 @@ pub fn work<R: Wait, D: TakeTurn, G: Gate>(
     unreachable!()
 }
 
-/// One round: the gate is asked, and where it passes a turn is taken. Answers how the worker ends, if it does.
+/// One round: the gate is asked, and where it passes a step is taken. Answers how the worker ends, if it does.
 fn go_round<R: Wait, D: TakeTurn, G: Gate>(
     rt: &R,
     desk: &D,
@@ -117,7 +134,7 @@ fn go_round<R: Wait, D: TakeTurn, G: Gate>(
     take_turn(rt, desk, gate, seat, answers)
 }
 
-/// One turn of the seat's process, whose answer, if there is one, is told to the gate and sent. Answers how the worker ends, if
+/// One step of the seat's process, whose answer, if there is one, is told to the gate and sent. Answers how the worker ends, if
 /// it does.
 fn take_turn<R: Wait, D: TakeTurn, G: Gate>(
     rt: &R,

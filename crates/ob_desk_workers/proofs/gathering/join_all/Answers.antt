@@ -1,7 +1,6 @@
 use Rattle.std.proofs.Common.{◌∙◌, ◌++◌, ◌∷◌, [], Global, Vec, ap, arith, length, length-append}
 use Rattle.ob_desk_floor.specs.Seat.{Seat}
 use Rattle.ob_desk_workers.proofs.Joins.{joined_next, passed_over_next}
-use Rattle.ob_desk_workers.specs.Joined.{Start}
 use Rattle.ob_desk_workers.specs.declared.worker.Ended.{Ended}
 use Rattle.ob_desk_workers.proofs.gathering.join_all.Goals as goal
 

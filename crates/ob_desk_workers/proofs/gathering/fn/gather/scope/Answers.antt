@@ -1,8 +1,10 @@
-use denote.Param.Send.{sendable}
+use denote.Exit.{no}
+use denote.Param.Send.{arg_send, param_send}
+use mir.Syntax.{named}
 use Rattle.std.proofs.Common.{◌≡◌, ◌∙◌, [], ◌∷◌, Err, arith, length-append, map-id, sym}
 use Rattle.std.proofs.lemmas.Iterator.Adapters.{YieldsList-from_vec}
 use Rattle.std.proofs.lemmas.Iterator.Consumers.{YieldsList-end}
-use Rattle.ob_desk_workers.proofs.Crossing.{seat_row, sender_row}
+use Rattle.ob_desk_workers.proofs.Crossing.{work_row}
 use Rattle.ob_desk_workers.proofs.Joins.{heard, start_of_seat, started_next}
 use Rattle.ob_desk_workers.specs.declared.worker.Ended.TheVariants as Ended
 use Rattle.ob_desk_workers.proofs.gathering.fn.gather.scope.Goals as goal
@@ -10,7 +12,7 @@ use Rattle.ob_desk_workers.proofs.gathering.fn.gather.scope.Goals as goal
 pub spawn_with-started-requires-send-F : goal.spawn_with-started-requires-send-F
 spawn_with-started-requires-send-F g c κs within =
     let shared = c.requires.shared in
-    search (shared.0, shared.1, shared.2, seat_row, sender_row, sendable) depth 20
+    param_send 2 _ (arg_send _ no _ (work_row (named 6) (named 7) (named 8) (named 9) κs.1.1.1.1.1.1.0 κs.1.1.1.1.1.1.1.0 κs.1.1.1.1.1.1.1.1.0 κs.1.1.1.1.1.1.1.1.1.0 g.row.R g.row.D g.row.G _ shared.0 shared.1 shared.2))
 
 pub loop-seat-preserved-in_default : goal.loop-seat-preserved-in_default
 loop-seat-preserved-in_default g c =
