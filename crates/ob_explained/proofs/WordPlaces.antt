@@ -1,5 +1,5 @@
 -- Where the words of a line begin.
-use Rattle.std.proofs.Common.{◌≡◌, ◌+◌, ◌<◌, ◌≤◌, ◌==◌, ℕ, zero, suc, Bool, cond, not, true, false, List, [], ◌∷◌, ◌++◌, All, length, take, drop, filter, slice_get, Some, refl, sym, ap, subst, ◌∙◌, arith, append-nil, ne_eqb}
+use Rattle.std.proofs.Common.{◌≡◌, ◌+◌, ◌-◌, ◌<◌, ◌≤◌, ◌==◌, ℕ, zero, suc, Bool, cond, not, true, false, List, [], ◌∷◌, ◌++◌, All, length, take, drop, filter, slice_get, Some, refl, sym, ap, subst, ◌∙◌, arith, append-nil, ne_eqb}
 use Rattle.std.specs.List.{prefix_len, slice_split}
 use Rattle.std.proofs.lemmas.List.{drop-drop, length-drop, take-append-drop}
 use Rattle.std.proofs.lemmas.List.Elements.{All-cons, All-head, All-nil, All-tail}
@@ -10,7 +10,7 @@ use Rattle.std.proofs.Math.Seq.{take-add}
 use Rattle.ob_text_words.specs.Words.{Word, IsProcess, is_blank, words}
 use Rattle.ob_scan.specs.Spelling.{number_value}
 use Rattle.ob_explained.specs.Marks.{BeginsWord, HasProcess}
-use Rattle.ob_explained.specs.ScriptPlaces.{first_place, first_word, is_of_word, is_process, second_place}
+use Rattle.ob_explained.specs.ScriptPlaces.{first_end, first_place, first_word, is_of_word, is_process, second_place, word_place}
 
 -- ---- what a list begins with
 
@@ -178,6 +178,87 @@ at_second line =
       no_blank = λ b h. stops is_blank (drop (first + n) line) b (get_dropped line (first + n) (prefix_len is_blank (drop (first + n) line)) ∙ h);
       within = within_by is_blank (first + n) line (within_by is_of_word first line (prefix_len-le-length is_blank line));
     }
+
+-- ---- further ones
+
+head_kept : (n : ℕ) (xs : List ℕ) (b : ℕ) → slice_get (take n xs) 0 ≡ Some b → slice_get xs 0 ≡ Some b
+head_kept zero xs b h = cc
+head_kept (suc n) [] b h = cc
+head_kept (suc n) (x ∷ xs) b h = h
+
+record IsFurther (n at : ℕ) (line : List ℕ) : Type 0 where
+  before : words (take (prefix_len is_of_word line + at) line) ≡ take (suc n) (words line)
+  behind : words (drop at (rest_of line)) ≡ drop (suc n) (words line)
+
+is_further : (n at : ℕ) (line : List ℕ) → ((b : ℕ) → slice_get line 0 ≡ Some b → is_blank b ≡ false) → BeginsWord (rest_of line) n at → IsFurther n at line
+is_further n at [] first b =
+    let none : at ≡ 0 = omega (arith, b.within) in
+    record { before = ap (λ (k : ℕ). words (take (prefix_len is_of_word [] + k) [])) none; behind = ap (λ (k : ℕ). words (drop k [])) none }
+is_further n at (x ∷ xs) first b =
+    let line = x ∷ xs in
+    let rest = rest_of line in
+    let m = prefix_len is_of_word line in
+    let whole : words line ≡ word_of line ∷ words rest = whole_of x xs (first x refl) in
+    let up_to : words (take (m + at) line) ≡ word_of line ∷ words (take at rest) =
+    ap words (take-add m at line) ∙ first_of x xs (take at rest) (first x refl) (λ c h. behind_word line c (head_kept at rest c h)) in
+    record {
+      before = up_to ∙ ap (λ (ws : List Word). word_of line ∷ ws) b.before ∙ sym (ap (take (suc n)) whole);
+      behind = b.behind ∙ sym (ap (drop (suc n)) whole);
+    }
+
+behind_first : (n : ℕ) (line : List ℕ) (at : ℕ) → BeginsWord (drop (first_end line) line) n at → BeginsWord line (suc n) (first_end line + at)
+behind_first n line at b =
+    let first = first_place line in
+    let rest = from_first line in
+    let m = prefix_len is_of_word rest in
+    let blank : All (λ c. is_blank c ≡ true) (take first line) = passed is_blank line in
+    let same : words rest ≡ words line = (at_first line).behind in
+    let dropped : drop (first + m) line ≡ rest_of rest = sym (drop-drop m first line) in
+    let further : IsFurther n at rest = is_further n at rest (begins_so line) (subst (λ (ys : List ℕ). BeginsWord ys n at) dropped b) in
+    let place : first_end line + at ≡ first + (m + at) = omega arith in
+    record {
+      before =
+          ap (λ (k : ℕ). words (take k line)) place ∙ ap words (take-add first (m + at) line) ∙ blanks_then (take first line) (take (m + at) rest) blank
+          ∙ further.before ∙ ap (take (suc n)) same;
+      behind =
+          ap (λ (k : ℕ). words (drop k line)) place ∙ ap words (sym (drop-drop (m + at) first line) ∙ sym (drop-drop at m rest)) ∙ further.behind
+          ∙ ap (drop (suc n)) same;
+      no_blank = λ c h. b.no_blank c (get_dropped line (first_end line) at ∙ h);
+      within =
+          omega (arith, b.within, length-drop (first_end line) line, within_by is_of_word first line (prefix_len-le-length is_blank line));
+    }
+
+pub at_word : (n : ℕ) (line : List ℕ) → BeginsWord line n (word_place n line)
+at_word zero line = at_first line
+at_word (suc n) line = behind_first n line (word_place n (drop (first_end line) line)) (at_word n (drop (first_end line) line))
+
+-- the first one, and one behind it
+pub first_word_place : (n : ℕ) (line : List ℕ) (place : ℕ) → n ≡ 0 → place ≡ first_place line → place ≡ word_place n line
+first_word_place n line place none is = is ∙ sym (ap (λ (k : ℕ). word_place k line) none)
+
+pub next_word_place : (n : ℕ) (line : List ℕ) (end rest : ℕ) → (n ≡ 0 → ⊥) → end ≡ first_end line → rest ≡ word_place (n - 1) (drop end line)
+    → end + rest ≡ word_place n line
+next_word_place zero line end rest some is further = absurd (some refl)
+next_word_place (suc n) line end rest some is further =
+    let less : suc n - 1 ≡ n = omega arith in
+    let behind : rest ≡ word_place n (drop (first_end line) line) =
+    further ∙ ap (λ (k : ℕ). word_place k (drop end line)) less ∙ ap (λ (k : ℕ). word_place n (drop k line)) is in
+    ap (λ (k : ℕ). k + rest) is ∙ ap (λ (k : ℕ). first_end line + k) behind
+
+-- a value, behind two words
+pub value_word_place : (n : ℕ) (line : List ℕ) (first second place : ℕ) → first ≡ first_end line → second ≡ first_end (drop first line)
+    → place ≡ word_place n (drop second (drop first line)) → first + (second + place) ≡ word_place (suc (suc n)) line
+value_word_place n line first second place is_first is_second is =
+    let behind : second ≡ first_end (drop (first_end line) line) = is_second ∙ ap (λ (k : ℕ). first_end (drop k line)) is_first in
+    let from : drop second (drop first line) ≡ drop (first_end (drop (first_end line) line)) (drop (first_end line) line) =
+    ap (λ (k : ℕ). drop k (drop first line)) behind
+    ∙ ap (λ (k : ℕ). drop (first_end (drop (first_end line) line)) (drop k line)) is_first in
+    let further : place ≡ word_place n (drop (first_end (drop (first_end line) line)) (drop (first_end line) line)) = is ∙ ap (word_place n) from in
+    ap (λ (k : ℕ). k + (second + place)) is_first ∙ ap (λ (k : ℕ). first_end line + (k + place)) behind
+    ∙ ap (λ (k : ℕ). first_end line + (first_end (drop (first_end line) line) + k)) further
+
+pub told_at : (n : ℕ) (line : List ℕ) (place : ℕ) → place ≡ word_place n line → BeginsWord line n place
+told_at n line place is = subst (λ (k : ℕ). BeginsWord line n k) (sym is) (at_word n line)
 
 -- ---- whether the first word is a process
 

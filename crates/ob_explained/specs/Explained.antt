@@ -4,7 +4,7 @@ use Rattle.ob_scan.specs.declared.fault.ScanFault.TheVariants as Scan
 use Rattle.ob_explain.specs.Explanations.{explanation}
 use Rattle.ob_explain.specs.Remarks.{Remark, IsCheckRemark, IsParseRemark, scan_remark}
 use Rattle.ob_explained.specs.OpenFaults.{open_explanation}
-use Rattle.ob_explained.specs.ScriptRemarks.{script_remark}
+use Rattle.ob_explained.specs.CallRemarks.{IsScriptRemark}
 use Rattle.ob_check_text.specs.declared.checked_text.TextFault.{TextFault}
 use Rattle.ob_check_text.specs.declared.checked_text.TextFault.TheVariants as Texts
 use Rattle.ob_object_compile.specs.declared.compiling.CompileFault.{CompileFault}
@@ -27,8 +27,11 @@ pub record IsTextExplanation (name text : List ℕ) (fault : TextFault) (shown :
   pub remarked : IsTextRemark text fault remark
   pub shows : shown ≡ option_map (explanation name text) remark
 
-abbrev pub script_explanation : (name script : List ℕ) → ScriptFault → Option (List ℕ)
-script_explanation name script fault = option_map (explanation name script) (script_remark script fault)
+-- of a script of this name, for the exports of a module's text
+pub record IsScriptExplanation (text name script : List ℕ) (fault : ScriptFault) (shown : Option (List ℕ)) : Type 0 where
+  pub remark : Option Remark
+  pub remarked : IsScriptRemark text script fault remark
+  pub shows : shown ≡ option_map (explanation name script) remark
 
 -- of a module by itself; neither the length of its code has a place nor its opening, of which the trap is told
 abbrev pub IsModuleExplanation : (name text : List ℕ) → CompileFault → Option (List ℕ) → Type 0
@@ -39,5 +42,5 @@ IsModuleExplanation name text _ shown = shown ≡ None
 -- of a module and a script: the fault of the one stands in the one, and that of the other in the other
 abbrev pub IsCallsExplanation : (module_name text script_name script : List ℕ) → SeqTextFault → Option (List ℕ) → Type 0
 IsCallsExplanation module_name text script_name script (Runs.Compile e) shown = IsModuleExplanation module_name text e shown
-IsCallsExplanation module_name text script_name script (Runs.Script e) shown = shown ≡ script_explanation script_name script e
+IsCallsExplanation module_name text script_name script (Runs.Script e) shown = IsScriptExplanation text script_name script e shown
 IsCallsExplanation module_name text script_name script Runs.NoMemory shown = shown ≡ None

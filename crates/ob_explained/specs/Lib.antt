@@ -1,5 +1,6 @@
 pub mod Marks
 pub mod ScriptPlaces
 pub mod ScriptRemarks
+pub mod CallRemarks
 pub mod OpenFaults
 pub mod Explained

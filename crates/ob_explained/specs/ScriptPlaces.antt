@@ -1,5 +1,5 @@
 -- Where the lines of a script begin, and where their words stand.
-use Rattle.std.specs.Prelude.{ℕ, zero, suc, ◌+◌, ◌-◌, ◌&&◌, not, nat_le, Bool, List, [], ◌∷◌, length, take, drop, if◌then◌else◌}
+use Rattle.std.specs.Prelude.{ℕ, zero, suc, ◌+◌, ◌-◌, ◌&&◌, not, nat_le, Bool, List, [], ◌∷◌, length, take, drop, Option, Some, None, if◌then◌else◌}
 use Rattle.std.specs.Char.{is_ascii_digit}
 use Rattle.std.specs.List.{list_all, prefix_len}
 use Rattle.ob_text_words.specs.Words.{Word, is_blank}
@@ -28,6 +28,16 @@ first_end line = first_place line + prefix_len is_of_word (drop (first_place lin
 -- where its second word begins; its end, where it has none
 abbrev pub second_place : List ℕ → ℕ
 second_place line = first_end line + prefix_len is_blank (drop (first_end line) line)
+
+-- where its word of a number begins, counted from 0: behind so many words; its end, where it has fewer
+abbrev pub word_place : ℕ → List ℕ → ℕ
+word_place zero line = first_place line
+word_place (suc n) line = first_end line + word_place n (drop (first_end line) line)
+
+-- where its value of a number begins, counted from 0, behind the process and the name; the name, where there is no number
+abbrev pub told_place : Option ℕ → List ℕ → ℕ
+told_place None line = second_place line
+told_place (Some number) line = word_place (suc (suc number)) line
 
 abbrev pub first_word : List ℕ → Word
 first_word line = take (prefix_len is_of_word (drop (first_place line) line)) (drop (first_place line) line)

@@ -8,7 +8,7 @@ use Rattle.ob_explained.specs.ScriptPlaces.{first_place, form_place, in_line, se
 -- at the word of the line that the rule is about: the process, or the procedure's name
 abbrev pub script_remark : List ℕ → ScriptFault → Option Remark
 script_remark script (Script.Form line) =
-    at (in_line form_place script line) (codes "a line is a call: a process of one to nine digits, the name of a procedure, and its values, with blanks between them")
+    at (in_line form_place script line) (codes "a line is a call: a process of one to nine digits, the name of a procedure, and its values, with blanks between them, as 0 Push 1")
 script_remark script (Script.Procedure line) =
     at (in_line second_place script line) (codes "a call names a procedure that the module exports, which has a * behind its name there")
 script_remark script (Script.Arguments line) =

@@ -5,8 +5,8 @@ ghost use Rattle.ob_explain.specs.Explanations.{explanation};
 ghost use Rattle.ob_explain.specs.Remarks.{remark_of};
 ghost use Rattle.ob_explained.specs.Explained.{IsCallsExplanation, IsModuleExplanation, IsTextRemark};
 
+use crate::call_remark::calls_remark;
 use crate::open_fault::open_explanation;
-use crate::script_remark::script_remark;
 use ob_check_text::TextFault;
 use ob_explain::explanation::explanation;
 use ob_explain::remark::{Remark, check_remark, parse_remark, scan_remark};
@@ -49,7 +49,7 @@ pub fn calls_explanation(
                 alloc,
                 script_name,
                 script,
-                script_remark(alloc, script, fault)?,
+                calls_remark(alloc, text, script, fault)?,
             )
         }
         SeqTextFault::NoMemory => Ok(None),

@@ -1,11 +1,11 @@
 //! Where the lines of a script begin, and where their words stand.
 
-ghost use Rattle.std.specs.Prelude.{◌≡◌, ◌≤◌, ◌+◌, ◌-◌, ℕ, List, Some, length, slice_get};
+ghost use Rattle.std.specs.Prelude.{◌≡◌, ◌≤◌, ◌+◌, ◌-◌, ℕ, suc, List, Some, length, slice_get};
 ghost use Rattle.std.specs.List.{prefix_len};
 ghost use Rattle.ob_text_words.specs.Words.{is_blank, lines};
 ghost use Rattle.ob_explain.specs.Places.{line_from, place_in};
 ghost use Rattle.ob_explained.specs.Marks.{BeginsWord, HasProcess, IsInLine};
-ghost use Rattle.ob_explained.specs.ScriptPlaces.{behind_feeds, first_place, first_word, form_place, is_of_word, is_process, line_begin, second_place};
+ghost use Rattle.ob_explained.specs.ScriptPlaces.{behind_feeds, first_end, first_place, first_word, form_place, is_of_word, is_process, line_begin, second_place, word_place};
 
 use ob_explain::place::line_around;
 
@@ -67,6 +67,42 @@ pub fn second_place(line: &[u8]) -> usize
     let first = blanks(line);
     let behind = first + word_length(&line[first..]);
     behind + blanks(&line[behind..])
+}
+
+/// Where the word of a number begins in a line, counted from 0; its end, where it has fewer words.
+#[tactic(auto, using(crate::proofs::WordPlaces::first_word_place))]
+pub fn word_place(line: &[u8], number: usize) -> usize
+    ensures place { result ≡ word_place number line.now }
+    ensures word { BeginsWord line.now number result }
+    ensures within { result ≤ length line.now }
+{
+    if number == 0 {
+        return blanks(line);
+    }
+    let end = first_end(line);
+    end + word_place(&line[end..], number - 1)
+}
+
+/// Where a value begins in a line, behind the process and the name; the end, where it has fewer words.
+#[tactic(auto, using(crate::proofs::WordPlaces::value_word_place))]
+pub fn value_place(line: &[u8], number: usize) -> usize
+    ensures place { result ≡ word_place (suc (suc number)) line.now }
+    ensures word { BeginsWord line.now (suc (suc number)) result }
+    ensures within { result ≤ length line.now }
+{
+    let first = first_end(line);
+    let rest = &line[first..];
+    let second = first_end(rest);
+    first + (second + word_place(&rest[second..], number))
+}
+
+/// Where the first word of a line ends.
+fn first_end(line: &[u8]) -> usize
+    ensures place { result ≡ first_end line.now }
+    ensures within { result ≤ length line.now }
+{
+    let first = blanks(line);
+    first + word_length(&line[first..])
 }
 
 /// The word by which a line is no call: the second one, where the first is a process.

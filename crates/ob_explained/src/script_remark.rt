@@ -26,7 +26,7 @@ pub fn script_remark(
         ScriptFault::Form(line) => told(
             alloc,
             place_of_form(script, line),
-            "a line is a call: a process of one to nine digits, the name of a procedure, and its values, with blanks between them",
+            "a line is a call: a process of one to nine digits, the name of a procedure, and its values, with blanks between them, as 0 Push 1",
         ),
         ScriptFault::Procedure(line) => told(
             alloc,
@@ -74,6 +74,7 @@ fn place_of_process(script: &[u8], line: usize) -> usize
     begin + first_place(text)
 }
 
+/// A remark without a hint.
 fn told(alloc: Global, place: usize, sentence: &'static str) -> Result<Option<Remark>, AllocError>
     ensures remark { IfOk result (λ remark. option_map remark_of remark ≡ Some (record { place = place; sentence = sentence.now; hint = None })) }
     ensures placed { IfOk result (λ remark. IfSome remark (λ r. r.place ≡ place)) }

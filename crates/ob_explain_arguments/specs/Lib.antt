@@ -1,0 +1,4 @@
+pub mod Misfits
+pub mod Near
+pub mod Sentences
+pub mod Calls

@@ -1,0 +1,136 @@
+//! What is wrong with a call of a script that names no export, or whose values don't fit, in a sentence.
+
+ghost use Rattle.std.specs.Prelude.{◌≡◌, IfOk, map, option_map};
+ghost use Rattle.ob_check_text.specs.CheckedText.{IsNumberedText, TellsTextMemoryApart, is_text_memory};
+ghost use Rattle.ob_explain.specs.Places.{line_from};
+ghost use Rattle.ob_explain.specs.Remarks.{remark_of};
+ghost use Rattle.ob_explain_arguments.specs.Calls.{told_of};
+ghost use Rattle.ob_explained.specs.CallRemarks.{IsCallRemark, IsExportsRemark, IsScriptRemark, told_remark};
+ghost use Rattle.ob_explained.specs.ScriptPlaces.{in_line, line_begin, told_place};
+ghost use Rattle.ob_interface.specs.View.{signature_of};
+ghost use Rattle.ob_text_words.specs.Words.{words};
+ghost use Rattle.ob_typing.specs.ModuleText.{IsModule};
+ghost use Rattle.ob_typing.specs.Program.{Program};
+
+use crate::script_place::{script_line, second_place, value_place};
+use crate::script_remark::script_remark;
+use ob_check_text::TextFault;
+use ob_check_text::checked_text::checked_text;
+use ob_explain::remark::Remark;
+use ob_explain_arguments::call::{Told, told_call};
+use ob_interface::export::Export;
+use ob_text_scripts::ScriptFault;
+use ob_text_words::words::words_of;
+use std::alloc::{AllocError, Global};
+
+/// The remark on a fault of a script for the exports of a module; `None` for want of memory.
+pub fn calls_remark(
+    alloc: Global,
+    text: &[u8],
+    script: &[u8],
+    fault: ScriptFault,
+) -> Result<Option<Remark>, AllocError>
+    ensures { IfOk result (λ remark. IsScriptRemark text.now script.now fault (option_map remark_of remark)) }
+{
+    match fault {
+        ScriptFault::Procedure(line) => call_remark(alloc, text, script, line, fault),
+        ScriptFault::Arguments(line) => call_remark(alloc, text, script, line, fault),
+        _ => script_remark(alloc, script, fault),
+    }
+}
+
+/// The remark on the call in a line of a script, which has this fault.
+fn call_remark(
+    alloc: Global,
+    text: &[u8],
+    script: &[u8],
+    line: usize,
+    fault: ScriptFault,
+) -> Result<Option<Remark>, AllocError>
+    ensures { IfOk result (λ remark. IsCallRemark text.now script.now line fault (option_map remark_of remark)) }
+{
+    match checked_text(alloc, text) {
+        Ok(checked) => exports_remark(alloc, checked.exports(), script, line, fault),
+        Err(text_fault) => no_exports(alloc, text, script, line, fault, text_fault),
+    }
+}
+
+/// The remark where the text is no module.
+fn no_exports(
+    alloc: Global,
+    text: &[u8],
+    script: &[u8],
+    line: usize,
+    fault: ScriptFault,
+    text_fault: TextFault,
+) -> Result<Option<Remark>, AllocError>
+    requires none { IsNumberedText text_fault → (program : Program) → IsModule text.now program → ⊥ }
+    requires apart { TellsTextMemoryApart text_fault }
+    ensures { IfOk result (λ remark. IsCallRemark text.now script.now line fault (option_map remark_of remark)) }
+{
+    if is_memory(text_fault) {
+        Err(AllocError)
+    } else {
+        script_remark(alloc, script, fault)
+    }
+}
+
+fn is_memory(fault: TextFault) -> bool
+    ensures { result ≡ is_text_memory fault }
+{
+    matches!(fault, TextFault::NoMemory)
+}
+
+/// The remark where these are the exports.
+fn exports_remark(
+    alloc: Global,
+    exports: &[Export],
+    script: &[u8],
+    line: usize,
+    fault: ScriptFault,
+) -> Result<Option<Remark>, AllocError>
+    ensures { IfOk result (λ remark. IsExportsRemark (map signature_of exports.now) script.now line fault (option_map remark_of remark)) }
+{
+    let words = line_words(alloc, script, line)?;
+    let told = told_call(alloc, exports, &words)?;
+    told_remark(alloc, script, line, fault, told)
+}
+
+/// The words of a line.
+fn line_words(alloc: Global, script: &[u8], line: usize) -> Result<Vec<&[u8]>, AllocError>
+    ensures { IfOk result (λ ws. map (λ w. w.now) ws.items ≡ words (line_from script.now (line_begin script.now line))) }
+{
+    let (_begin, bytes) = script_line(script, line);
+    words_of(alloc, bytes)
+}
+
+/// The remark by what is told of the line.
+fn told_remark(
+    alloc: Global,
+    script: &[u8],
+    line: usize,
+    fault: ScriptFault,
+    told: Option<Told>,
+) -> Result<Option<Remark>, AllocError>
+    ensures { IfOk result (λ remark. option_map remark_of remark ≡ told_remark script.now line fault (option_map told_of told)) }
+{
+    match told {
+        Some(told) => Ok(Some(Remark {
+            place: told_place(script, line, told.value),
+            sentence: told.sentence,
+            hint: None,
+        })),
+        None => script_remark(alloc, script, fault),
+    }
+}
+
+/// Where the value of a number stands, or the name where there is no number.
+fn told_place(script: &[u8], line: usize, value: Option<usize>) -> usize
+    ensures { result ≡ in_line (told_place value) script.now line }
+{
+    let (begin, bytes) = script_line(script, line);
+    match value {
+        Some(number) => begin + value_place(bytes, number),
+        None => begin + second_place(bytes),
+    }
+}
