@@ -8,10 +8,8 @@ use Rattle.ob_grammar.specs.declared.tree.Selector.TheVariants.{Field, Index}
 use Rattle.ob_grammar.specs.declared.tree.Branch.{Branch}
 use Rattle.ob_grammar.specs.declared.tree.Procedure.{Procedure}
 use Rattle.ob_grammar.specs.declared.tree.Sign.{Sign}
-use Rattle.ob_grammar.specs.declared.tree.Stmt.{Stmt}
-use Rattle.ob_grammar.specs.declared.tree.Stmt.TheVariants as Stmts
-use Rattle.ob_grammar.specs.View.{expr_of, operands_in, selectors_in, stmt_of, stmts_in, branches_in, procedures_in}
-use Rattle.ob_trap_places.specs.Places.{Places, Parts, before, of_parts, signed, with_behind, places_in, parts_of_operands, parts_of_selectors, parts_of_actuals, unless_empty, places_in_statement, parts_of_statements, parts_of_branches, bodies_in}
+use Rattle.ob_grammar.specs.View.{expr_of, operands_in, selectors_in, stmts_in, branches_in, procedures_in}
+use Rattle.ob_trap_places.specs.Places.{Places, Parts, before, of_parts, signed, with_behind, places_in, parts_of_operands, parts_of_selectors, parts_of_actuals, parts_of_branches, bodies_in}
 use Rattle.ob_trap_lookup.specs.Bodies.{selector_places, branch_places, bodies_of_procedure}
 use Rattle.ob_grammar.specs.Tree as Tree
 use Rattle.std.proofs.lemmas.List.{length-append}

@@ -1,4 +1,4 @@
-use Rattle.std.proofs.Common.{rules, ◌≡◌, ℕ, ◌-◌, ◌<◌, ◌∷◌, ap, sym, ◌∙◌, arith}
+use Rattle.std.proofs.Common.{rules, ◌≡◌, ◌-◌, ◌<◌, ◌∷◌, ap, sym, ◌∙◌, arith}
 use Rattle.ob_grammar.specs.View.{expr_of, operands_in, selectors_in}
 use Rattle.ob_grammar.proofs.Rows.{expr_of-named, expr_of-product, expr_of-sum}
 use Rattle.ob_trap_places.specs.Places as Places

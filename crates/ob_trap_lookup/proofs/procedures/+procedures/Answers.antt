@@ -1,6 +1,6 @@
 use Rattle.std.proofs.Common.{◌≡◌, IfOk, IfErr, Some, length, ap, sym, subst, ◌∙◌}
 use Rattle.std.specs.Prelude.{slice_get}
-use Rattle.ob_grammar.specs.View.{declarations_of, procedures_in}
+use Rattle.ob_grammar.specs.View.{procedures_in}
 use Rattle.ob_grammar.proofs.Rows.{declarations_of-parts}
 use Rattle.ob_trap_places.specs.Places.{bodies_of, bodies_in}
 use Rattle.ob_trap_lookup.specs.Bodies.{body_in}

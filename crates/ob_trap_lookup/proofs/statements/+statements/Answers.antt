@@ -1,4 +1,4 @@
-use Rattle.std.proofs.Common.{rules, ◌≡◌, ℕ, ◌-◌, List, ◌∷◌, length, ap, sym, ◌∙◌, arith}
+use Rattle.std.proofs.Common.{rules, ◌≡◌, ◌-◌, ◌∷◌, length, ap, sym, ◌∙◌, arith}
 use Rattle.ob_grammar.specs.View.{expr_of, stmt_of, stmts_in, branches_in, otherwise_of}
 use Rattle.ob_grammar.proofs.Rows.{stmt_of-if, stmt_of-while, stmt_of-repeat}
 use Rattle.ob_trap_places.specs.Places as Places
