@@ -1,7 +1,7 @@
 -- The lines that show what is wrong with a text.
 use Rattle.std.specs.Prelude.{ℕ, List, [], ◌++◌, map, codes, decimal, Option, Some, None}
-use Rattle.ob_explain_hints.specs.Tables.{slip_hint}
-use Rattle.ob_explain_hints.specs.declared.tables.Slip.{Slip}
+use Rattle.ob_explain_slips.specs.Causes.{hint_text}
+use Rattle.ob_explain_slips.specs.declared.causes.Hint.{Hint}
 use Rattle.ob_explain.specs.declared.place.Place.{Place}
 use Rattle.ob_explain.specs.Places.{place_in, line_before, line_from}
 use Rattle.ob_explain.specs.Remarks.{Remark}
@@ -30,9 +30,9 @@ unfoldable pub told_line : List ℕ → List ℕ → List ℕ
 told_line from sentence = named from ++ sentence ++ codes "\n"
 
 -- the hint, where there is one
-unfoldable pub hint_line : Option Slip → List ℕ
+unfoldable pub hint_line : Option Hint → List ℕ
 hint_line None = []
-hint_line (Some slip) = codes "hint: " ++ slip_hint slip ++ codes "\n"
+hint_line (Some hint) = codes "hint: " ++ hint_text hint ++ codes "\n"
 
 abbrev pub explanation : List ℕ → List ℕ → Remark → List ℕ
 explanation name text remark =

@@ -7,7 +7,7 @@ ghost use Rattle.ob_explain.specs.Remarks.{remark_of};
 use crate::place::{Place, line_around, place_in};
 use crate::remark::Remark;
 use crate::shown::{parts, push_blanks, push_cut, push_cut_blank, push_line, push_named};
-use ob_explain_hints::tables::{Slip, slip_hint};
+use ob_explain_slips::causes::{Hint, hint_text};
 use ob_text_words::numbers::push_number;
 use std::alloc::{AllocError, Global};
 
@@ -84,15 +84,15 @@ fn push_told(shown: &mut String, behind: &[u8], sentence: &str) -> Result<(), Al
     shown.push_str("\n")
 }
 
-/// Appends the hint on a slip.
+/// Appends a hint.
 #[tactic(auto, unfolding(crate::specs::Explanations::hint_line))]
-fn push_hint(shown: &mut String, hint: Option<Slip>) -> Result<(), AllocError>
+fn push_hint(shown: &mut String, hint: Option<Hint>) -> Result<(), AllocError>
     ensures { OnOk result (string_bytes shown.new ≡ string_bytes shown.old ++ hint_line hint) }
 {
     match hint {
-        Some(slip) => {
+        Some(hint) => {
             shown.push_str("hint: ")?;
-            shown.push_str(slip_hint(slip))?;
+            shown.push_str(hint_text(hint))?;
             shown.push_str("\n")
         }
         None => Ok(()),

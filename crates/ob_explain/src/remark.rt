@@ -1,19 +1,23 @@
 //! What is wrong at a place of a module, in a sentence.
 
 ghost use Rattle.std.specs.Prelude.{◌≡◌, Some, IfOk, option_map, string_bytes};
-ghost use Rattle.ob_explain.specs.Remarks.{IsCheckRemark, IsParseRemark, end_sentence, remark_of, rule_slip, scan_remark, unexpected_slip};
+ghost use Rattle.ob_explain.specs.Remarks.{IsCheckRemark, IsParseRemark, IsUnexpectedRemark, broken_remark, end_sentence, remark_of, rule_hint, scan_remark};
 
 use crate::place::halves;
-use crate::rules::rule_sentence;
+use crate::rules::{behind_word, rule_sentence};
 use crate::shown::push_line;
 use ob_explain_expected::expected::expected_kinds;
 use ob_explain_expected::phrases::expected_sentence;
-use ob_explain_hints::slips::{number_slip, parse_slip, stray_slip, word_slip};
-use ob_explain_hints::tables::Slip;
+use ob_explain_hints::slips::{number_slip, stray_slip};
 use ob_explain_hints::words::word_at;
-use ob_explain_names::lookup::name_at;
+use ob_explain_names::known::Known;
+use ob_explain_names::lookup::{name_at, sort_of};
+use ob_explain_names::need::need_of;
 use ob_explain_names::visible::visible_names;
-use ob_explain_tokens::around::{tokens_before, tokens_of};
+use ob_explain_slips::causes::{Hint, known};
+use ob_explain_slips::rules::{kind_hint, types_hint, unknown_hint};
+use ob_explain_slips::unexpected::unexpected_hint;
+use ob_explain_tokens::around::{tokens_before, tokens_behind, tokens_of};
 use ob_explain_tokens::ends::name_of_end;
 use ob_parser::parser::ParseFault;
 use ob_scan::scanner::LONGEST_TEXT;
@@ -22,12 +26,12 @@ use ob_scopes::fault::CheckFault;
 use ob_typing::rule::{BrokenRule, Rule};
 use std::alloc::{AllocError, Global};
 
-/// What is wrong, the offset of the byte where, and a known slip that it may come of.
+/// What is wrong, the offset of the byte where, and a hint on what it may come of.
 #[derive(Drop)]
 pub struct Remark {
     pub place: usize,
     pub sentence: String,
-    pub hint: Option<Slip>,
+    pub hint: Option<Hint>,
 }
 
 /// The remark on a fault of the text's bytes; `None` for want of memory.
@@ -43,7 +47,7 @@ pub fn scan_remark(
             alloc,
             place,
             "no token begins with this byte; a module has ASCII letters, digits, blanks and the symbols of the language",
-            stray_slip(halves(text, place).1),
+            known(stray_slip(halves(text, place).1)),
         ),
         ScanFault::NumberTooLarge(place) => {
             let (before, behind) = halves(text, place);
@@ -51,7 +55,7 @@ pub fn scan_remark(
                 alloc,
                 place,
                 "a number is at most 2147483647",
-                number_slip(before, behind),
+                known(number_slip(before, behind)),
             )
         }
         ScanFault::OpenComment(place) => told(
@@ -82,14 +86,7 @@ pub fn parse_remark(
     ensures { IfOk result (λ remark. IsParseRemark text.now fault (option_map remark_of remark)) }
 {
     match fault {
-        ParseFault::Unexpected(place) => {
-            let kinds = expected_kinds(alloc, text, place)?;
-            Ok(Some(Remark {
-                place,
-                sentence: expected_sentence(alloc, kinds)?,
-                hint: unexpected_slip(text, place),
-            }))
-        }
+        ParseFault::Unexpected(place) => unexpected_remark(alloc, text, place),
         ParseFault::TooDeep(place) => told(
             alloc,
             place,
@@ -107,6 +104,20 @@ pub fn parse_remark(
         }
         ParseFault::NoMemory => Ok(None),
     }
+}
+
+/// The remark on a token that can't stand at a place, or on the end there.
+fn unexpected_remark(alloc: Global, text: &[u8], place: usize) -> Result<Option<Remark>, AllocError>
+    ensures { IfOk result (λ remark. IsUnexpectedRemark text.now place (option_map remark_of remark)) }
+{
+    let kinds = expected_kinds(alloc, text, place)?;
+    let hint = unexpected_hint(alloc, text, place, &kinds)?;
+    let sentence = expected_sentence(alloc, kinds)?;
+    Ok(Some(Remark {
+        place,
+        sentence,
+        hint,
+    }))
 }
 
 /// Of a name behind END that is another than this.
@@ -130,14 +141,6 @@ fn end_sentence(alloc: Global, text: &[u8], name: Option<Token>) -> Result<Strin
     }
 }
 
-/// The known slip of a token that can't stand there.
-fn unexpected_slip(text: &[u8], place: usize) -> Option<Slip>
-    ensures { result ≡ unexpected_slip text.now place }
-{
-    let (before, behind) = halves(text, place);
-    parse_slip(before, word_at(behind), behind)
-}
-
 /// The remark on a rule that is broken; `None` for want of memory.
 pub fn check_remark(
     alloc: Global,
@@ -150,23 +153,58 @@ pub fn check_remark(
         CheckFault::Broken(broken) => {
             let known = visible_names(alloc, text, broken.place)?;
             let tokens = tokens_of(alloc, text)?;
-            Ok(Some(Remark {
-                place: broken.place,
-                sentence: rule_sentence(alloc, text, &known, &tokens, broken)?,
-                hint: rule_slip(text, broken),
-            }))
+            let remark = broken_remark(alloc, text, &known, &tokens, broken)?;
+            Ok(Some(remark))
         }
         CheckFault::NoMemory => Ok(None),
     }
 }
 
-/// The known slip of a broken rule: a name that is not there may be a word of another language.
-fn rule_slip(text: &[u8], broken: BrokenRule) -> Option<Slip>
-    ensures { result ≡ rule_slip text.now broken }
+/// The remark on a broken rule, in a text with these tokens of which these names are visible.
+fn broken_remark(
+    alloc: Global,
+    text: &[u8],
+    known: &[Known],
+    tokens: &[Token],
+    broken: BrokenRule,
+) -> Result<Remark, AllocError>
+    ensures { IfOk result (λ remark. remark_of remark ≡ broken_remark text.now known.now tokens.now broken) }
 {
+    let sentence = rule_sentence(alloc, text, known, tokens, broken)?;
+    let hint = rule_hint(alloc, text, known, tokens, broken)?;
+    Ok(Remark {
+        place: broken.place,
+        sentence,
+        hint,
+    })
+}
+
+/// The hint on a broken rule, in a text with these tokens of which these names are visible.
+fn rule_hint(
+    alloc: Global,
+    text: &[u8],
+    known: &[Known],
+    tokens: &[Token],
+    broken: BrokenRule,
+) -> Result<Option<Hint>, AllocError>
+    ensures { IfOk result (λ hint. hint ≡ rule_hint text.now known.now tokens.now broken) }
+{
+    let (before, from) = halves(text, broken.place);
     match broken.rule {
-        Rule::UnknownName => word_slip(word_at(halves(text, broken.place).1)),
-        _ => None,
+        Rule::UnknownName => {
+            let behind = tokens_behind(alloc, tokens, broken.place)?;
+            Ok(unknown_hint(text, before, &behind, word_at(from)))
+        }
+        Rule::WrongKind => {
+            let sort = sort_of(text, known, word_at(from));
+            Ok(kind_hint(sort, need_of(before, behind_word(from))))
+        }
+        Rule::TypesDiffer => {
+            let preceding = tokens_before(alloc, tokens, broken.place)?;
+            let behind = tokens_behind(alloc, tokens, broken.place)?;
+            Ok(types_hint(from, &preceding, &behind))
+        }
+        _ => Ok(None),
     }
 }
 
@@ -174,7 +212,7 @@ fn told(
     alloc: Global,
     place: usize,
     sentence: &'static str,
-    hint: Option<Slip>,
+    hint: Option<Hint>,
 ) -> Result<Option<Remark>, AllocError>
     ensures { IfOk result (λ remark. option_map remark_of remark ≡ Some (record { place = place; sentence = sentence.now; hint = hint })) }
 {

@@ -181,7 +181,7 @@ fn told_need(need: Need) -> &'static str
 }
 
 /// What stands behind the word that bytes begin with.
-fn behind_word(from: &[u8]) -> &[u8]
+pub fn behind_word(from: &[u8]) -> &[u8]
     ensures { result.now ≡ behind_word from.now }
 {
     halves(from, word_at(from).len()).1

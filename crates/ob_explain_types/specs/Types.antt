@@ -67,9 +67,9 @@ is_behind_operator before = is_sign_or_keyword (word_before before) (slice_get (
 abbrev pub operand_sentence : List ℕ → List ℕ
 operand_sentence before =
     if is_assigned (trimmed before)
-    then codes "this is of another type than the variable before it, or a whole array or record; assign element by element"
+    then codes "the expression that begins here is of another type than the variable before it, or a whole array or record; assign element by element"
     else if ends_with (trimmed before) 40 || ends_with (trimmed before) 44
-    then codes "this is of another type than the parameter, or a whole array or record, which stands in no expression"
+    then codes "the expression that begins here is of another type than the parameter, or a whole array or record, which stands in no expression"
     else if is_behind_operator before then codes "a whole array or record stands in no expression; take an element or a field"
     else codes "this is of another type than the one that is needed here"
 

@@ -53,9 +53,9 @@ fn operand_sentence(before: &[u8]) -> &'static str
     ensures { result.now ≡ operand_sentence before.now }
 {
     if is_assigned(trimmed(before)) {
-        "this is of another type than the variable before it, or a whole array or record; assign element by element"
+        "the expression that begins here is of another type than the variable before it, or a whole array or record; assign element by element"
     } else if ends_with(trimmed(before), b'(') || ends_with(trimmed(before), b',') {
-        "this is of another type than the parameter, or a whole array or record, which stands in no expression"
+        "the expression that begins here is of another type than the parameter, or a whole array or record, which stands in no expression"
     } else if is_behind_operator(before) {
         "a whole array or record stands in no expression; take an element or a field"
     } else {

@@ -1,0 +1,15 @@
+use Rattle.std.proofs.Common.{ℕ, List, subst, ap}
+use Rattle.ob_explain.specs.Remarks.{hinting}
+use Rattle.ob_explain_slips.specs.Unexpected.{IsUnexpectedHint}
+use Rattle.ob_scan.specs.declared.token.Kind.{Kind}
+use Rattle.ob_explain.proofs.remark.unexpected_remark.Goals as goal
+
+pub returns : goal.returns
+returns c = record {
+  kinds = c.in_ok-kinds.kinds.items;
+  hint = c.in_ok-hint.hint;
+  expected = c.in_ok-kinds.ensures;
+  hinted =
+      subst (λ (ks : List Kind). IsUnexpectedHint c.args.text.now c.args.place ks c.in_ok-hint.hint) c.deref.ensures.value c.in_ok-hint.ensures;
+  says = ap (λ (s : List ℕ). hinting c.args.place s c.in_ok-hint.hint) c.in_ok-sentence.ensures;
+}

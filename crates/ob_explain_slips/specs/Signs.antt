@@ -1,0 +1,86 @@
+-- What a sign comes of that can't stand at a place of a text: by its tokens, the last one before the place, the kinds of token
+-- that could stand there, and the bytes before the place and from there on.
+use Rattle.std.specs.Prelude.{ℕ, ◌||◌, ◌&&◌, not, nat_eq, Bool, true, false, List, codes, Option, Some, None, if◌then◌else◌}
+use Rattle.std.specs.List.{starts_with}
+use Rattle.ob_scan.specs.declared.token.Kind.{Kind}
+use Rattle.ob_scan.specs.declared.token.Kind.TheVariants as Kinds
+use Rattle.ob_scan.specs.declared.token.Token.{Token}
+use Rattle.ob_explain_expected.specs.Groups.{has}
+use Rattle.ob_explain_hints.specs.Slips.{begins_with}
+use Rattle.ob_explain_hints.specs.Words.{word_before}
+use Rattle.ob_explain_slips.specs.declared.causes.Cause.{Cause}
+use Rattle.ob_explain_slips.specs.declared.causes.Cause.TheVariants as Causes
+use Rattle.ob_explain_slips.specs.Procedures.{declares}
+
+-- a `(` where a `[` could stand: behind the name of a procedure it is a call in an expression, and else an element in parentheses
+abbrev pub call_cause : (text : List ℕ) → List Token → List Kind → (before from : List ℕ) → Option Cause
+call_cause text tokens kinds before from =
+    if begins_with from 40 && has kinds Kinds.LeftBracket
+    then (if declares text (word_before before) false tokens then Some Causes.NoFunction else Some Causes.Index)
+    else None
+
+-- a `:` that is no `:=`
+abbrev pub is_colon : List ℕ → Bool
+is_colon from = begins_with from 58 && not (starts_with nat_eq from (codes ":="))
+
+abbrev pub is_right_kind : Kind → Bool
+is_right_kind Kinds.RightParen = true
+is_right_kind _ = false
+
+abbrev pub is_right : Option Token → Bool
+is_right None = false
+is_right (Some t) = is_right_kind t.kind
+
+abbrev pub ends_heading_kind : Kind → Bool
+ends_heading_kind Kinds.RightParen = true
+ends_heading_kind Kinds.Times = true
+ends_heading_kind _ = false
+
+-- the parameters of a procedure end there, or the `*` of an export stands there
+abbrev pub ends_heading : Option Token → Bool
+ends_heading None = false
+ends_heading (Some t) = ends_heading_kind t.kind
+
+-- a `:` behind the heading of a procedure, where its `;` could stand
+abbrev pub result_cause : (text : List ℕ) → List Token → Option Token → List Kind → (before from : List ℕ) → Option Cause
+result_cause text tokens last kinds before from =
+    if (is_colon from && has kinds Kinds.Semicolon) && (ends_heading last || declares text (word_before before) false tokens)
+    then Some Causes.NoFunction
+    else None
+
+-- a `:=` behind the `)` of a call, behind which no operator could stand
+abbrev pub element_cause : Option Token → List Kind → (from : List ℕ) → Option Cause
+element_cause last kinds from =
+    if (starts_with nat_eq from (codes ":=") && is_right last) && not (has kinds Kinds.And) then Some Causes.Index else None
+
+-- ++ -- += -=
+abbrev pub begins_change : List ℕ → Bool
+begins_change from =
+    starts_with nat_eq from (codes "++") || starts_with nat_eq from (codes "--") || starts_with nat_eq from (codes "+=") || starts_with nat_eq from (codes "-=")
+
+-- where a `:=` could stand: a `=` in its place, or a sign that changes a variable
+abbrev pub change_cause : List Kind → (from : List ℕ) → Option Cause
+change_cause kinds from =
+    if not (has kinds Kinds.Assign) then None
+    else if begins_with from 61 then Some Causes.Assignment
+    else if begins_change from then Some Causes.Change
+    else None
+
+-- = # < <= > >=
+abbrev pub begins_relation : List ℕ → Bool
+begins_relation from = begins_with from 61 || begins_with from 35 || begins_with from 60 || begins_with from 62
+
+-- a relation where `&` could stand and `=` could not: behind another one
+abbrev pub comparison_cause : List Kind → (from : List ℕ) → Option Cause
+comparison_cause kinds from =
+    if begins_relation from && (has kinds Kinds.And && not (has kinds Kinds.Equal)) then Some Causes.Comparison else None
+
+abbrev pub either : Option Cause → Option Cause → Option Cause
+either None other = other
+either (Some cause) other = Some cause
+
+-- the first of these
+abbrev pub sign_cause : (text : List ℕ) → List Token → Option Token → List Kind → (before from : List ℕ) → Option Cause
+sign_cause text tokens last kinds before from =
+    either (either (call_cause text tokens kinds before from) (result_cause text tokens last kinds before from))
+    (either (element_cause last kinds from) (either (change_cause kinds from) (comparison_cause kinds from)))

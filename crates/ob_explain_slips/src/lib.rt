@@ -1,0 +1,9 @@
+//! Hints on slips of modules by the tokens around a place, and by what could stand there.
+#![tactic(auto)]
+
+pub mod causes;
+pub mod procedures;
+pub mod rules;
+pub mod semicolon;
+pub mod signs;
+pub mod unexpected;
