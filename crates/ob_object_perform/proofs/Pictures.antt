@@ -6,7 +6,7 @@ use Rattle.ob_object_perform.specs.Pictured.{IsDrawFault, IsPicturePrinted, IsWi
 use Rattle.ob_object_record.specs.Record.{Record}
 use Rattle.ob_text_picture.specs.Shapes.{picture_text}
 use Rattle.ob_text_picture_chart.specs.Charts.{begun, chart_of, range_of}
-use Rattle.ob_text_picture_chart.specs.Faults.{IsRangeFault}
+use Rattle.ob_text_picture_chart.specs.Faults.{IsRangeFault, MayBeShown}
 use Rattle.ob_text_picture_chart.specs.Moments.{Moment}
 use Rattle.ob_text_picture_chart.specs.declared.charts.CallRange.{CallRange}
 use Rattle.ob_text_picture_chart.specs.declared.fault.PictureFault.{PictureFault}
@@ -29,7 +29,11 @@ module _ (text : List ℕ) (n budget : ℕ) (scripts schedule : List ℕ) (calls
         record { run = record { program = program; shown = r; makers = makers; is = is }; fails = rw same at fails }
     range_fails Pictures.NoMemory fails = tt
 
-    pub drawn : (names : List Signature) (order : List CallId) (output : List ℕ) → names ≡ signatures program → order ≡ r.order →
+    pub drawn : (names : List Signature) (order : List CallId) (output : List ℕ) → names ≡ signatures program → order ≡ r.order → MayBeShown (length (begun seen)) calls →
         output ≡ picture_text names (chart_of n seen order (range_of (length (begun seen)) calls)) → IsPicturePrinted text n budget scripts schedule calls output
-    drawn names order output named ordered printed =
-        record { run = record { program = program; shown = r; makers = makers; is = is }; printed = rw (← named, ← ordered, ← same) printed }
+    drawn names order output named ordered shown printed =
+        record {
+          run = record { program = program; shown = r; makers = makers; is = is };
+          within = rw same at shown;
+          printed = rw (← named, ← ordered, ← same) printed;
+        }

@@ -9,7 +9,7 @@ use Rattle.ob_object_perform.specs.declared.performing.PerformFault.TheVariants 
 use Rattle.ob_object_record.specs.Record.{Record}
 use Rattle.ob_text_picture.specs.Shapes.{picture_text}
 use Rattle.ob_text_picture_chart.specs.Charts.{begun, chart_of, range_of}
-use Rattle.ob_text_picture_chart.specs.Faults.{IsRangeFault}
+use Rattle.ob_text_picture_chart.specs.Faults.{IsRangeFault, MayBeShown}
 use Rattle.ob_text_picture_chart.specs.Moments.{Moment, seen_from}
 use Rattle.ob_text_picture_chart.specs.declared.charts.CallRange.{CallRange}
 use Rattle.ob_text_picture_chart.specs.declared.fault.PictureFault.{PictureFault}
@@ -34,9 +34,10 @@ pub record Shown (text : List ℕ) (n budget : ℕ) (scripts schedule : List ℕ
   pub makers : List ℕ
   pub is : IsWithMakers text n budget scripts schedule program shown makers
 
--- the bytes are the picture of the calls of a range of a run from the texts
+-- the bytes are the picture of the calls of a range of a run from the texts: there are such calls, no more than a picture has
 pub record IsPicturePrinted (text : List ℕ) (n budget : ℕ) (scripts schedule : List ℕ) (calls : Option CallRange) (output : List ℕ) : Type 0 where
   pub run : Shown text n budget scripts schedule
+  pub within : MayBeShown (length (begun (moments_of run.shown run.makers))) calls
   pub printed :
       let moments = moments_of run.shown run.makers in
       output ≡ picture_text (signatures run.program) (chart_of n moments run.shown.order (range_of (length (begun moments)) calls))

@@ -29,4 +29,4 @@ returns-clause-picture c =
     drawn c.args.text.now c.args.n c.args.budget c.args.scripts.now c.args.schedule.now c.args.calls (program_in c.in_ok-checked.checked) (record_of c.in_ok-checked.record) c.in_ok-checked.makers.items
     c.in_ok-checked.ensures.run (map moment_of c.deref-2.result.now)
     (ap (map moment_of) c.deref-2.ensures.value ∙ rw (c.deref.ensures.value, c.events.ensures.value) at c.in_ok-moments.ensures) (map signature_of c.exports.result.now) c.deref-3.result.now
-    (string_bytes c.in_ok-draw.field-0) c.exports.ensures c.deref-3.ensures.value c.in_ok-draw.ensures.picture
+    (string_bytes c.in_ok-draw.field-0) c.exports.ensures c.deref-3.ensures.value c.in_ok-draw.ensures.shown c.in_ok-draw.ensures.picture
