@@ -121,7 +121,6 @@ impl<'a> TreeRun<'a> {
         };
         match *task {
             Task::Instruction(instr) => self.compute(instr, block),
-            Task::Taking => self.take_turn(),
             task => self.act(program, layout, task, block),
         }
     }

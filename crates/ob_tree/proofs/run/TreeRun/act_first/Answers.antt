@@ -1,6 +1,6 @@
 use Rattle.std.proofs.Common.{◌≡◌, [], ◌∷◌, ap, ◌∙◌, subst}
 use Rattle.ob_checked.specs.View.{program_of}
-use Rattle.ob_tree_work.specs.Work.{Task, Instruction, Taking}
+use Rattle.ob_tree_work.specs.Work.{Task, Instruction}
 use Rattle.ob_tree_tasks.specs.Tasks.{task_of}
 use Rattle.ob_tree_tasks.specs.WorkTasks.{behind}
 use Rattle.ob_tree_law.specs.TreeEngine.{TreeRun}
@@ -28,21 +28,6 @@ returns-in-Instruction c =
     let front = subst (λ (r : TreeRun). r.body.work ≡ t ∷ behind r.body.work) c.self.view_is c.in-Some.ensures in
     let same = ap (λ (x : Task). x ∷ behind run.body.work) (ap task_of c.in-Instruction.is) in
     acts_so run (Instruction c.in-Instruction.instr) (front ∙ same) (program_of c.args.program.now) _ _ _ _ (c.compute.ensures (program_of c.args.program.now))
-
-pub take_turn-requires : goal.take_turn-requires
-take_turn-requires c =
-    let run = c.args.self.now in
-    let t = task_of c.in-Some.task.now in
-    let front = subst (λ (r : TreeRun). r.body.work ≡ t ∷ behind r.body.work) c.self.view_is c.in-Some.ensures in
-    has_first run t front c.requires.room
-
-pub returns-in-Taking : goal.returns-in-Taking
-returns-in-Taking c =
-    let run = c.args.self.now in
-    let t = task_of c.in-Some.task.now in
-    let front = subst (λ (r : TreeRun). r.body.work ≡ t ∷ behind r.body.work) c.self.view_is c.in-Some.ensures in
-    let same = ap (λ (x : Task). x ∷ behind run.body.work) (ap task_of c.in-Taking.is) in
-    acts_so run Taking (front ∙ same) (program_of c.args.program.now) _ _ _ _ (c.take_turn.ensures (program_of c.args.program.now) c.args.block.now)
 
 pub returns-in_default-task : goal.returns-in_default-task
 returns-in_default-task c =
