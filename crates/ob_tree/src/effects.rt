@@ -1,5 +1,5 @@
-//! The effect of an instruction: numbers, addresses and the words there, which are most of what a tree comes to, without a look at all
-//! instructions.
+//! The effect of an instruction: numbers, addresses, the words there and sums, which are most of what a tree comes to, without a look
+//! at all instructions.
 
 ghost use Rattle.std.specs.Prelude.{◌≡◌, ◌+◌, ◌≤◌, length, take, pos, MatchOption, MatchBool};
 ghost use Rattle.ob_code_machine.specs.declared.instr.Instr.{Instr};
@@ -143,6 +143,35 @@ fn store(block: &mut [i64], stack: &mut Stack) -> Answer
     }
 }
 
+/// The sum of two words, where it is an INTEGER.
+#[inline(always)]
+fn sum(x: i64, y: i64) -> Option<i64>
+    ensures { MatchOption result (Words.made_of_two Instr.Add x y ≡ Words.Traps 1) (λ z. Words.made_of_two Instr.Add x y ≡ Words.Gives z) }
+{
+    let z = x.checked_add(y)?;
+    if i64::from(i32::MIN) <= z && z <= i64::from(i32::MAX) {
+        return Some(z);
+    }
+    None
+}
+
+/// Replaces the two words on top by their sum.
+#[inline(always)]
+fn add(stack: &mut Stack) -> Answer
+    ensures { LeavesStack result stack.old stack.new (Effects.of_two (Words.made_of_two Instr.Add) stack.old.words) }
+{
+    let Some((x, y)) = stack.two() else {
+        return Answer::Stuck;
+    };
+    match sum(x, y) {
+        Some(z) => {
+            stack.replace_two(z);
+            Answer::Done
+        }
+        None => Answer::Trap(1),
+    }
+}
+
 /// What an instruction without a jump does to the block and the stack.
 #[inline(always)]
 pub(crate) fn effect_at_once(
@@ -159,6 +188,7 @@ pub(crate) fn effect_at_once(
         Instr::Local { word } => push_local(block, stack, fp, word),
         Instr::Get => load(block, stack),
         Instr::Put => store(block, stack),
+        Instr::Add => add(stack),
         other => effect(other, fp, block, stack),
     }
 }

@@ -23,3 +23,6 @@ returns-in-Local c = rw c.in-Local.is (keeps_block _ _ _ _ _ c.push_local.ensure
 
 pub returns-in-Get : goal.returns-in-Get
 returns-in-Get c = rw c.in-Get.is (keeps_block _ _ _ _ _ c.load.ensures)
+
+pub returns-in-Add : goal.returns-in-Add
+returns-in-Add c = rw c.in-Add.is (keeps_block _ _ _ _ _ c.add.ensures)
