@@ -57,6 +57,7 @@ pub fn run_on(
 /// What a run begins with.
 #[derive(Drop)]
 pub struct Beginning {
+    pub processes: usize,
     pub engine: CodeEngine,
     pub opening: Vec<i64>,
     pub calls: Scripts,
@@ -80,34 +81,60 @@ pub(crate) fn run_with_makers(
     ensures fault { IfErr result (IsRunFault (object_in object) calls items.items) }
     ensures none { IfErr result (ShowsNone (object_in object) calls items.items) }
 {
-    let processes = object.processes();
-    let again = beginning_of(alloc, &object, &calls)?;
+    // This does nothing: an opening is an object over its engine.
     openings_are_objects();
-    let (checked, record) = run_on(alloc, object, calls, items)?;
+    let (checked, record, again) = run_to_repeat(alloc, object, calls, items)?;
     let Beginning {
+        processes,
         engine,
         opening,
         calls,
     } = again;
-    let turns = record.schedule.as_slice();
     let makers = makers(
         alloc,
         engine,
         processes,
         opening.as_slice(),
         calls.into_calls(),
-        turns,
+        record.schedule.as_slice(),
     )?;
     Ok((checked, record, makers))
 }
 
+/// A run of calls and items on an object: its checked module, the record, and what the run began with, for whoever takes the
+/// turns of its schedule once more.
+pub fn run_to_repeat(
+    alloc: Global,
+    object: Object,
+    calls: Scripts,
+    items: Vec<Item>,
+) -> Result<(Checked, Record, Beginning), PlayFault>
+    requires { IsReady (object_in object) calls items.items }
+    ensures program { IfOk result (λ r. program_in r.0 ≡ (object_in object).program) }
+    ensures shows { IfOk result (λ r. Shows (object_in object) calls items.items (record_of r.1)) }
+    ensures meant { IfOk result (λ r. IsMeantIn (object_in object) (record_of r.1)) }
+    ensures turns { IfOk result (λ r. All (λ t. t.process < (object_in object).processes) r.1.schedule.items) }
+    ensures processes { IfOk result (λ r. r.2.processes ≡ (object_in object).processes) }
+    ensures engine { IfOk result (λ r. r.2.engine.parts ≡ (object_in object).engine) }
+    ensures opening { IfOk result (λ r. r.2.opening.items ≡ encoded (object_in object).opening) }
+    ensures calls { IfOk result (λ r. r.2.calls ≡ calls) }
+    ensures fault { IfErr result (IsRunFault (object_in object) calls items.items) }
+    ensures none { IfErr result (ShowsNone (object_in object) calls items.items) }
+{
+    let again = beginning_of(alloc, &object, &calls)?;
+    let (checked, record) = run_on(alloc, object, calls, items)?;
+    Ok((checked, record, again))
+}
+
 /// Equal to what a run of these calls on the object begins with.
-pub fn beginning_of(alloc: Global, object: &Object, calls: &Scripts) -> Result<Beginning, NoMemory>
+fn beginning_of(alloc: Global, object: &Object, calls: &Scripts) -> Result<Beginning, NoMemory>
+    ensures processes { IfOk result (λ b. b.processes ≡ (object_in object.now).processes) }
     ensures engine { IfOk result (λ b. b.engine.parts ≡ (object_in object.now).engine) }
     ensures opening { IfOk result (λ b. b.opening.items ≡ encoded (object_in object.now).opening) }
     ensures calls { IfOk result (λ b. b.calls ≡ calls.now) }
 {
     Ok(Beginning {
+        processes: object.processes(),
         engine: object.engine().copy(alloc)?,
         opening: encode(alloc, object.opening())?,
         calls: calls.copy(alloc)?,

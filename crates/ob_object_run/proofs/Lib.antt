@@ -1,5 +1,5 @@
 mod Engines
-mod Chain
+pub mod Chain
 mod Checks
 mod Sequential
 mod Submissions

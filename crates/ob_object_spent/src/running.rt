@@ -10,7 +10,7 @@ ghost use Rattle.ob_object_spent.specs.Spent.{AreEndedIn};
 use ob_checked::checked::Checked;
 use ob_interface::MOST_PROCESSES;
 use ob_object_compile::Object;
-use ob_object_perform::running::{Beginning, beginning_of, run_on};
+use ob_object_perform::running::{Beginning, run_to_repeat};
 use ob_object_record::Record;
 use ob_object_run::laws::openings_are_objects;
 use ob_schedule::Item;
@@ -37,23 +37,22 @@ pub(crate) fn run_with_steps(
     ensures fault { IfErr result (IsRunFault (object_in object) calls items.items) }
     ensures none { IfErr result (ShowsNone (object_in object) calls items.items) }
 {
-    let processes = object.processes();
-    let again = beginning_of(alloc, &object, &calls)?;
+    // This does nothing: an opening is an object over its engine.
     openings_are_objects();
-    let (checked, record) = run_on(alloc, object, calls, items)?;
+    let (checked, record, again) = run_to_repeat(alloc, object, calls, items)?;
     let Beginning {
+        processes,
         engine,
         opening,
         calls,
     } = again;
-    let turns = record.schedule.as_slice();
     let ended = ended_calls(
         alloc,
         engine,
         processes,
         opening.as_slice(),
         calls.into_calls(),
-        turns,
+        record.schedule.as_slice(),
     )?;
     Ok((checked, record, ended))
 }

@@ -1,6 +1,4 @@
 mod InLockStep
 mod OneText
 mod ByCode
-mod Chain
-mod Mapped
 mod Objects

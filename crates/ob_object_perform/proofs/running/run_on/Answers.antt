@@ -1,17 +1,14 @@
 use Rattle.std.proofs.Common.{◌<◌, ℕ, All, map, subst, sym}
-use Rattle.std.specs.Prelude.{slice_index_or}
 use Rattle.std.proofs.lemmas.Result.{err_from_is_err_and}
-use Rattle.ob_code_law.specs.CodeMeaning.{EngineParts}
-use Rattle.ob_code_law.specs.Compiled.{IsFitting}
 use Rattle.ob_code_layout.specs.Layout.{parts_of}
 use Rattle.ob_object_compile.specs.View.{object_in}
-use Rattle.ob_object_perform.proofs.Mapped.{All_unmapped}
-use Rattle.ob_object_perform.proofs.Objects.{fits_engine, fits_program, object_for}
+use Rattle.ob_object_perform.proofs.Mapped.{callers_below, fit_engine}
+use Rattle.ob_object_perform.proofs.Objects.{fits_program, object_for}
 use Rattle.ob_object_perform.proofs.Runs.{fault_in, meant_in, none_in, shows_in}
 use Rattle.ob_object_record.specs.Record.{record_of}
 use Rattle.ob_schedule.specs.Schedule.{process_of}
 use Rattle.ob_store.specs.View.{state_of}
-use Rattle.ob_text_words.specs.ScriptCalls.{object_call, script_call_of}
+use Rattle.ob_text_words.specs.ScriptCalls.{script_call_of}
 use Rattle.ob_object_perform.proofs.running.run_on.Goals as goal
 
 pub record_run-requires-clause-object : goal.record_run-requires-clause-object
@@ -21,16 +18,13 @@ record_run-requires-clause-object c =
 
 pub record_run-requires-clause-callers : goal.record_run-requires-clause-callers
 record_run-requires-clause-callers c =
-    All_unmapped (λ x. x.process < c.into_parts-processes.result.0) c.into_calls.result.items c.args.calls c.into_calls.ensures
-    (subst (λ (k : ℕ). All (λ x. x.process < k) c.args.calls) (sym c.into_parts-processes.ensures.processes) c.requires.callers)
+    callers_below (object_in c.args.object) c.args.calls c.into_calls.result.items c.into_calls.ensures
+    c.into_parts-processes.result.0 c.into_parts-processes.ensures.processes c.requires.callers
 
 pub record_run-requires-clause-fits : goal.record_run-requires-clause-fits
 record_run-requires-clause-fits c =
     let p = c.into_parts-processes in
-    let o = object_in c.args.object in
-    All_unmapped (λ x. IsFitting p.result.3.parts.exports (object_call x)) c.into_calls.result.items c.args.calls c.into_calls.ensures
-    (λ k d below. subst (λ (e : EngineParts). IsFitting e.exports (object_call (slice_index_or c.args.calls k d))) (sym p.ensures.engine)
-    (fits_engine o c.requires.sound (object_call (slice_index_or c.args.calls k d)) (c.requires.fit k d below)))
+    fit_engine (object_in c.args.object) c.args.calls c.into_calls.result.items c.into_calls.ensures c.requires.sound p.result.3.parts p.ensures.engine c.requires.fit
 
 pub record_run-requires-clause-items : goal.record_run-requires-clause-items
 record_run-requires-clause-items c =

@@ -1,4 +1,3 @@
-use Rattle.std.proofs.Common.{◌≡◌, true, false}
 use Rattle.std.proofs.lemmas.Result.{err_from_is_err_and}
 use Rattle.ob_object_compile.specs.Compilation.{IsCompileFault, IsShort}
 use Rattle.ob_object_compile.specs.View.{object_in}

@@ -6,7 +6,7 @@ use Rattle.ob_code_law.specs.Compiled.{Fits}
 use Rattle.ob_code_law.specs.Parts.{IsEffectOf, IsLawfulFor}
 use Rattle.ob_code_layout.specs.Layout.{parts_of}
 use Rattle.ob_object_record.specs.Record.{Record}
-use Rattle.ob_object_tree.proofs.Chain.{legal_for, meant_for, never_none}
+use Rattle.ob_object_run.proofs.Chain.{legal_for, meant_for, never_none}
 use Rattle.ob_store.specs.View.{state_of}
 use Rattle.ob_tree.specs.View.{tree_parts_in}
 use Rattle.ob_tree_law.specs.TreeEngine.{IsTreeReady, tree_engine}

@@ -1,20 +1,17 @@
 use Rattle.std.proofs.Common.{◌∙◌, ◌<◌, ◌≤◌, ℕ, All, ap, map, subst, sym}
-use Rattle.std.specs.Prelude.{slice_index_or}
 use Rattle.std.proofs.lemmas.Result.{IfErr-weaker, IfOk-weaker}
-use Rattle.ob_code_law.specs.CodeMeaning.{EngineParts}
-use Rattle.ob_code_law.specs.Compiled.{IsFitting}
 use Rattle.ob_code_layout.specs.Layout.{layout_of, parts_of}
 use Rattle.ob_meaning.specs.Object.{most_turns}
 use Rattle.ob_object_compile.specs.View.{tree_object_in}
-use Rattle.ob_object_perform.proofs.Objects.{fits_engine, object_for}
+use Rattle.ob_object_perform.proofs.Mapped.{callers_below, fit_engine}
+use Rattle.ob_object_perform.proofs.Objects.{object_for}
 use Rattle.ob_object_perform.proofs.Runs.{fault_in, meant_in, shows_in}
 use Rattle.ob_object_record.specs.Record.{record_of}
 use Rattle.ob_object_tree.proofs.ByCode.{none_by_code}
-use Rattle.ob_object_tree.proofs.Mapped.{All_unmapped}
 use Rattle.ob_object_tree.proofs.Objects.{engine_is}
 use Rattle.ob_schedule.specs.Schedule.{process_of}
 use Rattle.ob_store.specs.View.{state_of}
-use Rattle.ob_text_words.specs.ScriptCalls.{object_call, script_call_of}
+use Rattle.ob_text_words.specs.ScriptCalls.{script_call_of}
 use Rattle.ob_tree.specs.View.{tree_parts_in}
 use Rattle.ob_object_tree.proofs.running.run_on_tree.Goals as goal
 
@@ -34,8 +31,8 @@ record_tree_run-requires-clause-object c =
 
 pub record_tree_run-requires-clause-callers : goal.record_tree_run-requires-clause-callers
 record_tree_run-requires-clause-callers c =
-    All_unmapped (λ x. x.process < c.processes.result) c.into_calls.result.items c.args.calls c.into_calls.ensures
-    (subst (λ (k : ℕ). All (λ x. x.process < k) c.args.calls) (sym c.processes.ensures) c.requires.ready.callers)
+    callers_below (tree_object_in c.args.object.now) c.args.calls c.into_calls.result.items c.into_calls.ensures
+    c.processes.result c.processes.ensures c.requires.ready.callers
 
 pub record_tree_run-requires-clause-fits : goal.record_tree_run-requires-clause-fits
 record_tree_run-requires-clause-fits c =
@@ -43,9 +40,7 @@ record_tree_run-requires-clause-fits c =
     let sound = c.requires.ready.sound in
     let parts = tree_parts_in c.in_ok-engine.engine in
     let is = engine_is o sound parts _ _ c.in_ok-engine.ensures c.checked.ensures.program c.budget.ensures in
-    All_unmapped (λ x. IsFitting parts.exports (object_call x)) c.into_calls.result.items c.args.calls c.into_calls.ensures
-    (λ k d below. subst (λ (e : EngineParts). IsFitting e.exports (object_call (slice_index_or c.args.calls k d))) (sym is)
-    (fits_engine o sound (object_call (slice_index_or c.args.calls k d)) (c.requires.ready.fit k d below)))
+    fit_engine o c.args.calls c.into_calls.result.items c.into_calls.ensures sound parts is c.requires.ready.fit
 
 pub record_tree_run-requires-clause-items : goal.record_tree_run-requires-clause-items
 record_tree_run-requires-clause-items c =
