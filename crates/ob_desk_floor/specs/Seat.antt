@@ -4,7 +4,7 @@ use Rattle.ob_interface.specs.Call.{Reply}
 use Rattle.ob_interface.specs.View.{reply_of}
 use Rattle.wf_history.specs.declared.event.CallId.{CallId}
 use Rattle.wf_object.specs.View.{seen_in}
-use Rattle.wf_object.specs.declared.records.Seen.{Seen}
+use Rattle.wf_records.specs.declared.records.Seen.{Seen}
 use Rattle.wf_table.specs.Object.{Answer, Replies}
 use Rattle.ob_desk_floor.specs.declared.seat.CallAnswer.{CallAnswer}
 

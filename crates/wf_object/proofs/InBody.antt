@@ -22,8 +22,9 @@ use Rattle.wf_bound.specs.Counted.{count_by, spent_of}
 use Rattle.wf_help.proofs.Blocks.{take_refilled}
 use Rattle.wf_help.proofs.Bodies.{steps_more}
 use Rattle.wf_object.specs.InARow.{AreInBody, after_steps, spent_after_steps}
-use Rattle.wf_object.specs.InBody.{body_behind, counted_times}
-use Rattle.wf_object.proofs.Counting.{written_there}
+use Rattle.wf_object.specs.InBody.{body_behind}
+use Rattle.wf_records.specs.Times.{counted_times}
+use Rattle.wf_records.proofs.Counting.{written_there}
 
 -- ---- blocks that are written again
 

@@ -5,7 +5,6 @@ mod OneStep
 mod QuietSteps
 mod Spends
 mod Keeps
-mod Counting
 mod InARow
 mod InBody
 mod Staying

@@ -15,7 +15,8 @@ use Rattle.wf_table.specs.Object.{State}
 use Rattle.wf_bound.specs.declared.spent.Spent.{Spent}
 use Rattle.wf_bound.specs.Counted.{spent_of}
 use Rattle.wf_object.specs.InARow.{AreInBody, after_steps, spent_after_steps}
-use Rattle.wf_object.specs.InBody.{body_behind, cell_behind, counted_times, process_behind}
+use Rattle.wf_object.specs.InBody.{body_behind, cell_behind, process_behind}
+use Rattle.wf_records.specs.Times.{counted_times}
 use Rattle.wf_object.specs.Kept.{IsKept}
 use Rattle.wf_object.proofs.InARow.{kept_after}
 use Rattle.wf_object.proofs.InBody.{all_in_body, inside_more, spends_inside, stays}

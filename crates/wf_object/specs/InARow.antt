@@ -28,6 +28,10 @@ module _ {Run : Type 0} (m : Meaning Run) (z : Sizes) where
   abbrev pub AreQuiet : ℕ → ℕ → State Run → Type 0
   AreQuiet p k s = (j : ℕ) → j < k → is_quiet (label_of (after_steps p j s) p) ≡ true
 
--- the object behind so many steps of the process
+-- the object behind one step of the process
+abbrev pub stepped : {E Run : Type 0} → Meaning Run → ℕ → Object E Run → Object E Run
+stepped m p o = record o { state = step_of m o.sizes o.state p; spent = spent_by_step o.state o.spent p }
+
+-- behind so many
 abbrev pub object_after : {E Run : Type 0} → Meaning Run → ℕ → ℕ → Object E Run → Object E Run
 object_after m p k o = record o { state = after_steps m o.sizes p k o.state; spent = spent_after_steps m o.sizes p k o.state o.spent }

@@ -1,13 +1,12 @@
 //! The step machine.
 
-ghost use Rattle.std.specs.Prelude.{true, ◌≡◌, ◌+◌, ◌*◌, ◌<◌, ◌≤◌, ◌⊎◌, ◌↔◌, [], ◌++◌, ◌∷◌, List, Contains, take, replicate, IfOk, OnOk, OnErr, length};
-ghost use Rattle.ll_cell.specs.Cell.{block_of};
+ghost use Rattle.std.specs.Prelude.{true, ◌≡◌, ◌+◌, ◌*◌, ◌<◌, ◌≤◌, ◌⊎◌, ◌↔◌, [], ◌++◌, ◌∷◌, List, Contains, replicate, IfOk, OnOk, OnErr, length};
 ghost use Rattle.ll_cell.specs.Form.{kept_words};
 ghost use Rattle.wf_object.specs.Packed.{packed};
 ghost use Rattle.ob_interface.specs.View.{call_of};
 ghost use Rattle.wf_object.specs.declared.fault.NewFault.TheVariants as Faults;
-ghost use Rattle.wf_object.specs.View.{answer_in, seen_in};
-ghost use Rattle.wf_object.specs.InARow.{AreInBody, AreQuiet, object_after};
+ghost use Rattle.wf_object.specs.View.{answer_in, seen_in, variables_of};
+ghost use Rattle.wf_object.specs.InARow.{AreInBody, AreQuiet, object_after, stepped};
 ghost use Rattle.wf_object.specs.Quiet.{is_quiet};
 ghost use Rattle.wf_table.specs.declared.process.Label.TheVariants as Labels;
 
@@ -15,7 +14,6 @@ use crate::bodies::stay;
 use crate::engine::Engine;
 use crate::fault::NewFault;
 use crate::process::Process;
-use crate::records::{Records, Seen, StepOut};
 use crate::rows::take_rows;
 use crate::seen::{is_quiet, note_step};
 use crate::spent::{bound_of, count_inside, count_step};
@@ -28,6 +26,7 @@ use std::alloc::Global;
 use std::marker::Model;
 use wf_bound::Spent;
 use wf_history::{CallId, History};
+use wf_records::{Records, Seen, StepOut};
 use wf_table::{Label, Sizes, Turns};
 
 /// An object of n processes over an engine: its cell, its processes, and what was seen.
@@ -56,7 +55,7 @@ impl<E: Engine> Model for Machine<E> {
 }
 
 impl<E: Engine> Machine<E> {
-    ghost use Rattle.wf_table.specs.Object.{step_of, answer_of, values_answered, submit_of, label_of, script_of};
+    ghost use Rattle.wf_table.specs.Object.{answer_of, values_answered, submit_of, label_of, script_of};
     ghost use Rattle.wf_table.specs.Schedule.{steps_of};
     ghost use Rattle.wf_object.specs.Halted.{is_halted};
     ghost use Rattle.wf_table.specs.Start.{IsStart, sizes_of};
@@ -66,7 +65,7 @@ impl<E: Engine> Machine<E> {
     ghost use Rattle.wf_standing.specs.Stands.{IsStanding};
     ghost use Rattle.wf_standing.specs.Answers.{AreAnswered};
     ghost use Rattle.wf_bound.specs.Spent.{unspent};
-    ghost use Rattle.wf_bound.specs.Counted.{spent_by_step, spent_of};
+    ghost use Rattle.wf_bound.specs.Counted.{spent_of};
     ghost use Rattle.wf_bound.specs.Bound.{sharp, bound};
     ghost use Rattle.wf_history.specs.declared.event.CallId.{CallId};
     ghost use Rattle.wf_history.specs.History.{End, Before};
@@ -134,7 +133,7 @@ impl<E: Engine> Machine<E> {
     /// One step of the process: the row of its label. Where memory runs out nothing changes.
     pub fn step(&mut self, p: usize) -> Result<StepOut, NoMemory>
         requires { p < self.old.sizes.processes }
-        ensures stepped { OnOk result (self.new ≡ record self.old { state = step_of (E.meaning self.old.engine) self.old.sizes self.old.state p; spent = spent_by_step self.old.state self.old.spent p }) }
+        ensures stepped { OnOk result (self.new ≡ stepped (E.meaning self.old.engine) p self.old) }
         ensures answer { IfOk result (λ out. answer_in out ≡ answer_of (E.meaning self.old.engine) self.old.sizes self.old.state p) }
         ensures turn { OnOk result (steps_of self.new.state.records.schedule ≡ steps_of self.old.state.records.schedule ++ p ∷ []) }
         ensures few { IfOk result (λ out. length (values_answered (answer_in out)) ≤ 8) }
@@ -152,7 +151,7 @@ impl<E: Engine> Machine<E> {
     #[inline(never)]
     fn step_loudly(&mut self, p: usize) -> Result<StepOut, NoMemory>
         requires { p < self.old.sizes.processes }
-        ensures stepped { OnOk result (self.new ≡ record self.old { state = step_of (E.meaning self.old.engine) self.old.sizes self.old.state p; spent = spent_by_step self.old.state self.old.spent p }) }
+        ensures stepped { OnOk result (self.new ≡ stepped (E.meaning self.old.engine) p self.old) }
         ensures answer { IfOk result (λ out. answer_in out ≡ answer_of (E.meaning self.old.engine) self.old.sizes self.old.state p) }
         ensures turn { OnOk result (steps_of self.new.state.records.schedule ≡ steps_of self.old.state.records.schedule ++ p ∷ []) }
         ensures few { IfOk result (λ out. length (values_answered (answer_in out)) ≤ 8) }
@@ -165,7 +164,7 @@ impl<E: Engine> Machine<E> {
     #[inline(always)]
     fn take_loudly(&mut self, p: usize) -> Result<StepOut, NoMemory>
         requires { p < self.old.sizes.processes }
-        ensures stepped { OnOk result (self.new ≡ record self.old { state = step_of (E.meaning self.old.engine) self.old.sizes self.old.state p; spent = spent_by_step self.old.state self.old.spent p }) }
+        ensures stepped { OnOk result (self.new ≡ stepped (E.meaning self.old.engine) p self.old) }
         ensures answer { IfOk result (λ out. answer_in out ≡ answer_of (E.meaning self.old.engine) self.old.sizes self.old.state p) }
         ensures turn { OnOk result (steps_of self.new.state.records.schedule ≡ steps_of self.old.state.records.schedule ++ p ∷ []) }
         ensures few { IfOk result (λ out. length (values_answered (answer_in out)) ≤ 8) }
@@ -200,7 +199,7 @@ impl<E: Engine> Machine<E> {
     /// One step of the process, as `step` takes it, for those who need no reply.
     pub fn advance(&mut self, p: usize) -> Result<Seen, NoMemory>
         requires { p < self.old.sizes.processes }
-        ensures stepped { OnOk result (self.new ≡ record self.old { state = step_of (E.meaning self.old.engine) self.old.sizes self.old.state p; spent = spent_by_step self.old.state self.old.spent p }) }
+        ensures stepped { OnOk result (self.new ≡ stepped (E.meaning self.old.engine) p self.old) }
         ensures seen { IfOk result (λ seen. seen ≡ seen_in (answer_of (E.meaning self.old.engine) self.old.sizes self.old.state p)) }
         ensures turn { OnOk result (steps_of self.new.state.records.schedule ≡ steps_of self.old.state.records.schedule ++ p ∷ []) }
         ensures err { OnErr result (self.new ≡ self.old) }
@@ -217,7 +216,7 @@ impl<E: Engine> Machine<E> {
     #[inline(never)]
     fn show(&mut self, p: usize) -> Result<Seen, NoMemory>
         requires { p < self.old.sizes.processes }
-        ensures stepped { OnOk result (self.new ≡ record self.old { state = step_of (E.meaning self.old.engine) self.old.sizes self.old.state p; spent = spent_by_step self.old.state self.old.spent p }) }
+        ensures stepped { OnOk result (self.new ≡ stepped (E.meaning self.old.engine) p self.old) }
         ensures seen { IfOk result (λ seen. seen ≡ seen_in (answer_of (E.meaning self.old.engine) self.old.sizes self.old.state p)) }
         ensures turn { OnOk result (steps_of self.new.state.records.schedule ≡ steps_of self.old.state.records.schedule ++ p ∷ []) }
         ensures err { OnErr result (self.new ≡ self.old) }
@@ -235,7 +234,7 @@ impl<E: Engine> Machine<E> {
     fn step_quietly(&mut self, p: usize) -> Result<(), NoMemory>
         requires process { p < self.old.sizes.processes }
         requires quiet { is_quiet (label_of self.old.state p) ≡ true }
-        ensures stepped { OnOk result (self.new ≡ record self.old { state = step_of (E.meaning self.old.engine) self.old.sizes self.old.state p; spent = spent_by_step self.old.state self.old.spent p }) }
+        ensures stepped { OnOk result (self.new ≡ stepped (E.meaning self.old.engine) p self.old) }
         ensures turn { OnOk result (steps_of self.new.state.records.schedule ≡ steps_of self.old.state.records.schedule ++ p ∷ []) }
         ensures err { OnErr result (self.new ≡ self.old) }
     {
@@ -376,7 +375,7 @@ impl<E: Engine> Machine<E> {
     /// one began, and made one at a time they have the replies that the history gives.
     pub fn order(&self) -> &[CallId]
         ensures calls { result.now ≡ self.now.state.records.order }
-        ensures legal { ∥ IsLegal (E.effect self.now.engine) self.now.opening self.now.state.records.history result.now (take self.now.sizes.variables (block_of self.now.state.cell self.now.state.cell.root)) ∥₁ }
+        ensures legal { ∥ IsLegal (E.effect self.now.engine) self.now.opening self.now.state.records.history result.now (variables_of self.now) ∥₁ }
         ensures once { NoRepeats result.now }
         ensures ended { (id : CallId) (reply : Reply) → Contains self.now.state.records.history (End id reply) → Contains result.now id }
         ensures in_time { (first second third : List CallId) (a b : CallId) → result.now ≡ first ++ a ∷ (second ++ b ∷ third) → ¬ Before self.now.state.records.history b a }
@@ -413,14 +412,14 @@ impl<E: Engine> Machine<E> {
 
     /// The variable words of the root.
     pub fn variables(&self) -> &[i64]
-        ensures { result.now ≡ take self.now.sizes.variables (block_of self.now.state.cell self.now.state.cell.root) }
+        ensures { result.now ≡ variables_of self.now }
     {
         self.shared.root_words(self.sizes.variables)
     }
 
     /// A copy of the words that `variables` lends.
     pub fn state_words(&self) -> Result<Vec<i64>, NoMemory>
-        ensures { IfOk result (λ v. v.items ≡ take self.now.sizes.variables (block_of self.now.state.cell self.now.state.cell.root)) }
+        ensures { IfOk result (λ v. v.items ≡ variables_of self.now) }
     {
         Ok(self.variables().to_vec(self.alloc)?)
     }

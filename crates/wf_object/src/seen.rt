@@ -15,12 +15,12 @@ ghost use Rattle.wf_history.specs.History.{IsHistory};
 use crate::copies::{copy_call, copy_reply};
 use crate::engine::Engine;
 use crate::process::Process;
-use crate::records::{Records, StepOut};
 use crate::steps::{own_toggle, part_of};
 use ll_cell::Shared;
 use ob_interface::NoMemory;
 use std::alloc::Global;
 use wf_history::CallId;
+use wf_records::{Records, StepOut};
 use wf_table::{Label, Sizes};
 
 /// Whether a step at the label shows nothing.

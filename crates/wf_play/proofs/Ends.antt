@@ -13,8 +13,8 @@ use Rattle.wf_object.specs.InARow.{AreInBody, AreQuiet, after_steps}
 use Rattle.wf_object.specs.Quiet.{is_quiet}
 use Rattle.wf_play.specs.ItemSteps.{EndsWithAnswer, IsAtEnd, IsBeyond, IsItemPlayed, IsItemRun, IsReply}
 use Rattle.wf_object.specs.View.{seen_in}
-use Rattle.wf_object.specs.declared.records.Seen.{Seen}
-use Rattle.wf_object.specs.declared.records.Seen.TheVariants as Shows
+use Rattle.wf_records.specs.declared.records.Seen.{Seen}
+use Rattle.wf_records.specs.declared.records.Seen.TheVariants as Shows
 use Rattle.wf_table.specs.declared.process.Label.{Label}
 use Rattle.wf_table.specs.declared.process.Label.TheVariants.{Next, Body, Commit, Give}
 use Rattle.wf_table.specs.declared.process.Sizes.{Sizes}

@@ -6,10 +6,10 @@ use Rattle.wf_bound.specs.declared.spent.Spent.{Spent}
 use Rattle.wf_bound.specs.Spent.{unspent}
 use Rattle.wf_bound.specs.Counted.{spent_of}
 use Rattle.wf_object.specs.InARow.{after_steps, spent_after_steps}
-use Rattle.wf_object.specs.InBody.{counted_times}
+use Rattle.wf_records.specs.Times.{counted_times}
 use Rattle.wf_object.specs.Kept.{IsKept}
 use Rattle.wf_object.specs.Progress.{AreUnmarked, Progress, by_rows, progress}
-use Rattle.wf_object.proofs.Counting.{times_longer}
+use Rattle.wf_records.proofs.Counting.{times_longer}
 use Rattle.wf_object.proofs.OneStep.{stands}
 use Rattle.wf_object.proofs.Progressing.{rows_are, rows_kept, rows_quiet, rows_spend, start}
 use Rattle.wf_object.proofs.Spends.{inside_room_for}

@@ -11,7 +11,7 @@ use Rattle.wf_bound.specs.Counted.{spent_of}
 use Rattle.wf_object.specs.InARow.{after_steps, spent_after_steps}
 use Rattle.wf_object.specs.InBody.{cell_behind, process_behind}
 use Rattle.wf_object.proofs.Staying.{body_inside, body_kept, body_spends, body_steps}
-use Rattle.wf_object.proofs.Counting.{times_longer}
+use Rattle.wf_records.proofs.Counting.{times_longer}
 use Rattle.wf_object.proofs.InBody.{inside_more}
 use Rattle.wf_object.proofs.OneStep.{label_is, stands}
 use Rattle.wf_object.proofs.Spends.{inside_room_for}

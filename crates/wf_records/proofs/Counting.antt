@@ -9,7 +9,7 @@ use Rattle.wf_table.specs.declared.schedule.Turns.{Turns}
 use Rattle.wf_table.specs.Schedule.{counted, counted_after, steps_of}
 use Rattle.wf_table.proofs.Counted.{one_turn}
 use Rattle.wf_table.proofs.Stuck.{set_same}
-use Rattle.wf_object.specs.InBody.{counted_times, room_for, room_in}
+use Rattle.wf_records.specs.Times.{counted_times, room_for, room_in}
 
 -- the schedule is longer by them
 pub times_longer : (ts : List Turns) (p k : ℕ) → steps_of (counted_times ts p k) ≡ steps_of ts ++ replicate k p

@@ -5,7 +5,7 @@ ghost use Rattle.ob_interface.specs.View.{call_of, reply_of};
 ghost use Rattle.wf_history.specs.History.{IsHistory, Begin, Applied, End};
 ghost use Rattle.wf_table.specs.Schedule.{counted};
 ghost use Rattle.wf_table.specs.Labels.{at_flip};
-ghost use Rattle.wf_object.specs.InBody.{counted_times, room_for};
+ghost use Rattle.wf_records.specs.Times.{counted_times, room_for};
 ghost use Rattle.wf_table.specs.declared.process.Label.TheVariants as At;
 
 use ob_interface::NoMemory;

@@ -1,9 +1,9 @@
 use Rattle.std.proofs.Common.{◌-◌, length, get_or, sym, arith}
 use Rattle.std.proofs.lemmas.Option.{slice_get-get_or}
 use Rattle.wf_table.specs.declared.schedule.Turns.{Turns}
-use Rattle.wf_object.proofs.Counting.{counted_elsewhere, counted_first, counted_in_room}
-use Rattle.wf_object.proofs.records.count_turns.Goals as goal
-use Rattle.wf_object.proofs.records.count_turns.Goals.{else-n-gt0-via-then-n-gt0+else-schedule-n, else-n-gt0-via-else-n-gt0}
+use Rattle.wf_records.proofs.Counting.{counted_elsewhere, counted_first, counted_in_room}
+use Rattle.wf_records.proofs.records.count_turns.Goals as goal
+use Rattle.wf_records.proofs.records.count_turns.Goals.{else-n-gt0-via-then-n-gt0+else-schedule-n, else-n-gt0-via-else-n-gt0}
 
 pub returns-then-schedule-n : goal.returns-then-schedule-n
 returns-then-schedule-n c =
