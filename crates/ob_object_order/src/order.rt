@@ -4,12 +4,11 @@ ghost use Rattle.std.specs.Prelude.{◌≡◌, ◌↔◌, ◌⊎◌, map, length
 ghost use Rattle.std.specs.HashSet as bag;
 ghost use Rattle.ob_checked.specs.CheckedModule.{program_in};
 ghost use Rattle.ob_interface.specs.Call as Calls;
-ghost use Rattle.ob_interface.specs.View.{call_of, reply_of};
 ghost use Rattle.ob_positions.specs.Store.{Activation};
 ghost use Rattle.ob_store.specs.View.{state_of};
 ghost use Rattle.wf_history.specs.declared.event.CallId.{CallId};
 ghost use Rattle.wf_history.specs.History.{Begin, End, IsHistory};
-ghost use Rattle.wf_history.specs.View.{event_of};
+ghost use Rattle.wf_history.specs.View.{event_of, kept_call, kept_reply};
 ghost use Rattle.ob_object_order.specs.declared.order.OrderFault.{OrderFault};
 ghost use Rattle.ob_object_order.specs.declared.order.OrderFault.TheVariants as Faults;
 ghost use Rattle.ob_object_order.specs.declared.places.Placed.{Placed};
@@ -21,13 +20,12 @@ use crate::places::{Placed, places_of};
 use crate::replies::{call_in, is_same_reply};
 use ob_checked::checked::Checked;
 use ob_interface::NoMemory;
-use ob_interface::call::{Call, Reply};
 use ob_interpreter::object::step;
 use ob_store::state::State;
 use std::alloc::{AllocError, AllocFailed, Global};
 use std::collections::HashSet;
 use thiserror::Error;
-use wf_history::{CallId, Event, History};
+use wf_history::{CallId, Event, History, KeptCall, KeptReply};
 
 /// Why a list of calls is no legal order of a history.
 #[derive(Clone, Copy, Debug, Error)]
@@ -89,9 +87,9 @@ fn placed(alloc: Global, events: &[Event], order: &[CallId]) -> Result<Vec<Place
     ensures known { OnOk result (IsNowhere (IsUnknown (map event_of events.now) order.now) order.now) }
     ensures fault { IfErr result (IsListFault (map event_of events.now) order.now) }
 {
-    let places = places_of(alloc, events)?;
-    let mut seen = HashSet::new(alloc);
-    let mut placed = Vec::new(alloc);
+    let places = places_of(alloc, events, order.len())?;
+    let mut seen = HashSet::with_capacity(alloc, order.len())?;
+    let mut placed = Vec::with_capacity(alloc, order.len())?;
     for id in order {
         let Some(begin) = places.begins.get(id) else {
             return Err(OrderFault::Unknown(*id));
@@ -112,7 +110,7 @@ fn placed(alloc: Global, events: &[Event], order: &[CallId]) -> Result<Vec<Place
 fn set_of(alloc: Global, order: &[CallId]) -> Result<HashSet<CallId>, NoMemory>
     ensures { IfOk result (λ s. (q : CallId) → IsTrue (bag.contains same_id s q) ↔ Contains order.now q) }
 {
-    let mut ids = HashSet::new(alloc);
+    let mut ids = HashSet::with_capacity(alloc, order.len())?;
     for id in order {
         ids.insert(*id)?;
     }
@@ -191,9 +189,9 @@ fn arranged(alloc: Global, events: &[Event], order: &[CallId]) -> Result<Vec<Pla
 }
 
 /// The call that begins at a place.
-fn call_at(events: &[Event], place: usize) -> &Call
+fn call_at(events: &[Event], place: usize) -> &KeptCall
     requires { (id : CallId) × BeginsAt (map event_of events.now) id place }
-    ensures { (id : CallId) × (slice_get (map event_of events.now) place ≡ Some (Begin id (call_of result.now))) }
+    ensures { (id : CallId) × (slice_get (map event_of events.now) place ≡ Some (Begin id (kept_call result.now))) }
 {
     match &events[place] {
         Event::Begin(_, call) => call,
@@ -202,9 +200,9 @@ fn call_at(events: &[Event], place: usize) -> &Call
 }
 
 /// The reply of the End at a place.
-fn reply_at(events: &[Event], place: usize) -> &Reply
+fn reply_at(events: &[Event], place: usize) -> &KeptReply
     requires { (id : CallId) × EndsAt (map event_of events.now) id place }
-    ensures { (id : CallId) × (slice_get (map event_of events.now) place ≡ Some (End id (reply_of result.now))) }
+    ensures { (id : CallId) × (slice_get (map event_of events.now) place ≡ Some (End id (kept_reply result.now))) }
 {
     match &events[place] {
         Event::End(_, reply) => reply,

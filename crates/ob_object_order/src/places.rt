@@ -50,13 +50,17 @@ impl Places {
     }
 }
 
-/// The places of the calls of these events.
-pub(crate) fn places_of(alloc: Global, events: &[Event]) -> Result<Places, NoMemory>
+/// The places of the calls of these events, with room for so many calls.
+pub(crate) fn places_of(
+    alloc: Global,
+    events: &[Event],
+    calls: usize,
+) -> Result<Places, NoMemory>
     ensures { IfOk result (λ p. ArePlaces (map event_of events.now) (hash.get same_id p.begins) (hash.get same_id p.ends)) }
 {
     let mut places = Places {
-        begins: HashMap::new(alloc),
-        ends: HashMap::new(alloc),
+        begins: HashMap::with_capacity(alloc, calls)?,
+        ends: HashMap::with_capacity(alloc, calls)?,
     };
     for (place, event) in events.iter().enumerate() {
         places.note(place, event)?;
