@@ -29,8 +29,8 @@ pub struct Gathered {
 /// A worker's thread, or how a worker ended that was not started.
 type Start<G> = Result<PromisedHandle<Worked, PassedBy<G>>, Ended>;
 
-/// Starts a worker for each seat, on a thread of its own, lets them begin together, collects the answers that they send, and joins
-/// all.
+/// Starts a worker for each seat, on a thread of its own, lets them begin together, joins all, and collects the answers that they
+/// sent.
 pub fn gather<R: Threads + Wait + Sync, D: TakeTurn + Sync, G: Gate + Sync>(
     rt: &R,
     alloc: Global,
@@ -71,10 +71,10 @@ pub fn gather<R: Threads + Wait + Sync, D: TakeTurn + Sync, G: Gate + Sync>(
             }
             // Each thread that could be started is there, so that short scripts overlap too.
             drop(held);
-            // The collector stops where no sender is left.
+            // The collector stops where no sender is left. It begins when all have ended, so that no step wakes it.
             drop(sender);
-            collect(rt, receiver, &mut gathered);
             join_all(rt, starts, &mut gathered);
+            collect(rt, receiver, &mut gathered);
             Ok(gathered)
         },
     )
@@ -132,7 +132,7 @@ impl Gathered {
     }
 }
 
-/// Keeps each answer that comes, until every sender is gone. Where memory wants it goes on without keeping.
+/// Keeps each answer that was sent; every sender is gone. Where memory wants it goes on without keeping.
 fn collect<R: Wait>(rt: &R, receiver: Receiver<CallAnswer, Global>, gathered: &mut Gathered)
     ensures ended { gathered.new.ended ≡ gathered.old.ended }
     ensures seats { gathered.new.seats ≡ gathered.old.seats }

@@ -3,6 +3,7 @@
 #![tactic(auto)]
 
 pub mod order;
+mod noted;
 mod places;
 mod replies;
 

@@ -2,17 +2,15 @@
 
 ghost use Rattle.std.specs.Prelude.{◌≡◌, IfOk, MatchOption, map, option_map};
 ghost use Rattle.ob_interface.specs.Call as Calls;
-ghost use Rattle.ob_interface.specs.View as History;
 ghost use Rattle.ob_interpreter.specs.View.{reply_of};
 ghost use Rattle.ob_object_replies.specs.MadeCalls.{IsTold};
 ghost use Rattle.wf_history.specs.History.{End};
-ghost use Rattle.wf_history.specs.View.{event_of};
+ghost use Rattle.wf_history.specs.View.{event_of, kept_reply};
 
 use crate::names::is_same;
-use ob_interface::call::Reply;
 use ob_interpreter::call as interpreter;
 use std::alloc::{AllocError, Global};
-use wf_history::{CallId, Event};
+use wf_history::{CallId, Event, KeptReply};
 
 /// The reply of a call that has ended.
 pub(crate) fn told_reply(
@@ -32,10 +30,10 @@ pub(crate) fn told_reply(
 }
 
 /// The reply of a call, if it ends with this event.
-fn reply_told(event: &Event, id: CallId) -> Option<&Reply>
+fn reply_told(event: &Event, id: CallId) -> Option<&KeptReply>
     ensures { MatchOption result
         ((reply : Calls.Reply) → event_of event.now ≡ End id reply → ⊥)
-        (λ reply. event_of event.now ≡ End id (History.reply_of reply.now)) }
+        (λ reply. event_of event.now ≡ End id (kept_reply reply.now)) }
 {
     match event {
         Event::Begin(_, _) => None,
@@ -51,14 +49,14 @@ fn reply_told(event: &Event, id: CallId) -> Option<&Reply>
 }
 
 /// The reply, as the interpreter's.
-fn reply_in(alloc: Global, reply: &Reply) -> Result<interpreter::Reply, AllocError>
-    ensures { IfOk result (λ r. reply_of r ≡ History.reply_of reply.now) }
+fn reply_in(alloc: Global, reply: &KeptReply) -> Result<interpreter::Reply, AllocError>
+    ensures { IfOk result (λ r. reply_of r ≡ kept_reply reply.now) }
 {
     match reply {
-        Reply::Done(values) => {
+        KeptReply::Done(values) => {
             let values = Vec::from_slice(alloc, values.as_slice())?;
             Ok(interpreter::Reply::Answers(values))
         }
-        Reply::Trap(trap) => Ok(interpreter::Reply::Trapped(*trap)),
+        KeptReply::Trap(trap) => Ok(interpreter::Reply::Trapped(*trap)),
     }
 }

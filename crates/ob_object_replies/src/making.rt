@@ -4,7 +4,6 @@ ghost use Rattle.std.specs.Prelude.{◌≡◌, ◌∷◌, ◌++◌, [], IfOk, Ma
 ghost use Rattle.std.specs.HashMap as hash;
 ghost use Rattle.ob_checked.specs.CheckedModule.{program_in};
 ghost use Rattle.ob_interface.specs.Call.{ObjectCall};
-ghost use Rattle.ob_interface.specs.View as History;
 ghost use Rattle.ob_interpreter.specs.View.{call_of, reply_of};
 ghost use Rattle.ob_object_order.specs.LegalOrder.{CallEnds};
 ghost use Rattle.ob_object_order.specs.Places.{BeginsAt, same_id};
@@ -13,19 +12,18 @@ ghost use Rattle.ob_object_replies.specs.MadeCalls.{HasUnbegun, IsMeant, LeadTo,
 ghost use Rattle.ob_store.specs.View.{state_of};
 ghost use Rattle.wf_history.specs.History.{Begin};
 ghost use Rattle.wf_history.specs.Legal.{HasBegun};
-ghost use Rattle.wf_history.specs.View.{event_of};
+ghost use Rattle.wf_history.specs.View.{event_of, kept_call};
 ghost use Rattle.wf_history.specs.declared.event.CallId.{CallId};
 
 use crate::begins::begins_of;
 use ob_checked::checked::Checked;
 use ob_interface::NoMemory;
-use ob_interface::call::Call;
 use ob_interpreter::call as interpreter;
 use ob_interpreter::object::step;
 use ob_store::state::State;
 use std::alloc::{AllocError, Global};
 use std::collections::HashMap;
-use wf_history::{CallId, Event};
+use wf_history::{CallId, Event, KeptCall};
 
 /// The reply of a call behind others, which are made one at a time from the opening state, each with the budget of turns; none where one of
 /// them or the call itself never began.
@@ -101,9 +99,9 @@ fn made(
 }
 
 /// The call that begins at a place.
-fn call_at(events: &[Event], place: usize) -> &Call
+fn call_at(events: &[Event], place: usize) -> &KeptCall
     requires { (id : CallId) × BeginsAt (map event_of events.now) id place }
-    ensures { (id : CallId) × (slice_get (map event_of events.now) place ≡ Some (Begin id (History.call_of result.now))) }
+    ensures { (id : CallId) × (slice_get (map event_of events.now) place ≡ Some (Begin id (kept_call result.now))) }
 {
     match &events[place] {
         Event::Begin(_, call) => call,
@@ -112,8 +110,8 @@ fn call_at(events: &[Event], place: usize) -> &Call
 }
 
 /// The call, for the interpreter.
-fn call_in(alloc: Global, call: &Call) -> Result<interpreter::Call, AllocError>
-    ensures { IfOk result (λ c. call_of c ≡ History.call_of call.now) }
+fn call_in(alloc: Global, call: &KeptCall) -> Result<interpreter::Call, AllocError>
+    ensures { IfOk result (λ c. call_of c ≡ kept_call call.now) }
 {
     Ok(interpreter::Call {
         export: call.proc,

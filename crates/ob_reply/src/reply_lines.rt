@@ -2,8 +2,9 @@
 
 ghost use Rattle.std.specs.Prelude.{◌≡◌, ◌++◌, codes, decimal, OnErr, OnOk, string_bytes};
 ghost use Rattle.std.specs.List.{flat_map};
+ghost use Rattle.ob_interface.specs.Call.{Answers, Trapped};
 ghost use Rattle.ob_interface.specs.View.{reply_of};
-ghost use Rattle.ob_reply.specs.ReplyLines.{reply_line, reply_text};
+ghost use Rattle.ob_reply.specs.ReplyLines.{reply_line};
 ghost use Rattle.ob_text_words.specs.ScalarTexts.{scalar_text};
 ghost use Rattle.ob_text_words.specs.Appending.{GoesOn};
 
@@ -23,23 +24,51 @@ pub fn push_reply_line(
     ensures ok { OnOk result (string_bytes text.new ≡ string_bytes text.old ++ reply_line process number (reply_of reply.now)) }
     ensures left { OnErr result (GoesOn (string_bytes text.old) (string_bytes text.new)) }
 {
-    text.push_str("E ")?;
-    push_number(text, process)?;
-    text.push_str(".")?;
-    push_number(text, number)?;
-    push_reply(text, reply)?;
+    match reply {
+        Reply::Done(values) => push_done_line(text, process, number, values),
+        Reply::Trap(trap) => push_trap_line(text, process, number, *trap),
+    }
+}
+
+/// Appends the line of a process's call of a number that is done, with its values.
+pub fn push_done_line(
+    text: &mut String,
+    process: usize,
+    number: u64,
+    values: &[Scalar],
+) -> Result<(), AllocError>
+    ensures ok { OnOk result (string_bytes text.new ≡ string_bytes text.old ++ reply_line process number (Answers values.now)) }
+    ensures left { OnErr result (GoesOn (string_bytes text.old) (string_bytes text.new)) }
+{
+    push_ended(text, process, number)?;
+    push_values(text, values)?;
     text.push_str("\n")
 }
 
-/// Appends what stands behind the id of a call.
-fn push_reply(text: &mut String, reply: &Reply) -> Result<(), AllocError>
-    ensures ok { OnOk result (string_bytes text.new ≡ string_bytes text.old ++ reply_text (reply_of reply.now)) }
+/// Appends the line of a process's call of a number that traps.
+pub fn push_trap_line(
+    text: &mut String,
+    process: usize,
+    number: u64,
+    trap: u8,
+) -> Result<(), AllocError>
+    ensures ok { OnOk result (string_bytes text.new ≡ string_bytes text.old ++ reply_line process number (Trapped trap)) }
     ensures left { OnErr result (GoesOn (string_bytes text.old) (string_bytes text.new)) }
 {
-    match reply {
-        Reply::Done(values) => push_values(text, values),
-        Reply::Trap(trap) => push_trap(text, *trap),
-    }
+    push_ended(text, process, number)?;
+    push_trap(text, trap)?;
+    text.push_str("\n")
+}
+
+/// Appends what says which call has ended.
+fn push_ended(text: &mut String, process: usize, number: u64) -> Result<(), AllocError>
+    ensures ok { OnOk result (string_bytes text.new ≡ string_bytes text.old ++ (codes "E " ++ decimal process ++ codes "." ++ decimal number)) }
+    ensures left { OnErr result (GoesOn (string_bytes text.old) (string_bytes text.new)) }
+{
+    text.push_str("E ")?;
+    push_number(text, process)?;
+    text.push_str(".")?;
+    push_number(text, number)
 }
 
 /// Appends what stands behind the id of a call that traps.

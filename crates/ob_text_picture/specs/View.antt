@@ -1,16 +1,16 @@
 -- What the program's values of this crate stand for, without pointers.
 use Rattle.std.specs.Prelude.{option_map}
-use Rattle.ob_interface.specs.View.{call_of, reply_of}
 use Rattle.ob_text_picture.specs.Shapes as Shapes
 use Rattle.ob_text_picture.specs.declared.bars.Bar.{Bar}
+use Rattle.wf_history.specs.View.{kept_call, kept_reply}
 
 abbrev pub bar_in : Bar → Shapes.Bar
 bar_in b =
     record {
       id = b.id;
-      call = call_of b.call.now;
+      call = kept_call b.call.now;
       begin = b.begin;
       end = b.end;
-      reply = option_map (λ r. reply_of r.now) b.reply;
+      reply = option_map (λ r. kept_reply r.now) b.reply;
       next = b.next;
     }

@@ -1,22 +1,22 @@
 //! The bars of calls.
 
 ghost use Rattle.std.specs.Prelude.{◌≡◌, ◌++◌, ◌≤◌, OnOk, ◌+◌, ◌<◌, ◌^◌, map, option_map, string_bytes};
-ghost use Rattle.ob_interface.specs.View.{call_of, reply_of, signature_of};
+ghost use Rattle.ob_interface.specs.View.{signature_of};
 ghost use Rattle.ob_text_picture.specs.Shapes as Shapes;
 ghost use Rattle.ob_text_picture.specs.Shapes.{bar_class, bar_of, begin_of, cross, end_of, ending, is_last, is_seen, left, letters, reply_behind, reply_class};
 ghost use Rattle.ob_text_picture.specs.Svg.{EndGroup, Group, shape_text, shapes_text};
 ghost use Rattle.ob_text_picture.specs.View.{bar_in};
 ghost use Rattle.ob_text_picture_chart.specs.View.{sight_of};
+ghost use Rattle.wf_history.specs.View.{kept_call, kept_reply};
 
 use crate::labels::{push_call, push_reply, push_short_call, push_short_reply};
 use crate::places::{Frame, Point};
 use crate::svg::{close_words, open_words, push_box, push_line};
 use ob_interface::MOST_PROCESSES;
-use ob_interface::call::{Call, Reply};
 use ob_interface::export::Export;
 use ob_text_picture_chart::{Happening, Sight};
 use std::alloc::{AllocError, Global};
-use wf_history::CallId;
+use wf_history::{CallId, KeptCall, KeptReply};
 
 /// The width of a letter.
 const LETTER: u128 = 7;
@@ -28,11 +28,11 @@ const BEYOND: u128 = 120;
 #[derive(Clone, Copy)]
 pub(crate) struct Bar<'a> {
     pub id: CallId,
-    pub call: &'a Call,
+    pub call: &'a KeptCall,
     pub begin: usize,
     /// The column of its end, or of the end of the picture.
     pub end: usize,
-    pub reply: Option<&'a Reply>,
+    pub reply: Option<&'a KeptReply>,
     /// The column in which its process begins its next call, or that of the end of the picture.
     pub next: usize,
 }
@@ -40,11 +40,11 @@ pub(crate) struct Bar<'a> {
 /// The bar of a call that begins, by what is seen behind that.
 pub(crate) fn bar_of<'a>(
     sight: &Sight,
-    call: &'a Call,
+    call: &'a KeptCall,
     behind: &[Sight<'a>],
     columns: usize,
 ) -> Bar<'a>
-    ensures { bar_in result ≡ bar_of columns (sight_of sight.now) (call_of call.now) (map sight_of behind.now) }
+    ensures { bar_in result ≡ bar_of columns (sight_of sight.now) (kept_call call.now) (map sight_of behind.now) }
 {
     let end = end_of(behind, sight.id);
     Bar {
@@ -58,8 +58,8 @@ pub(crate) fn bar_of<'a>(
 }
 
 /// The column in which a call ends, with its reply.
-fn end_of<'a>(sights: &[Sight<'a>], id: CallId) -> Option<(usize, &'a Reply)>
-    ensures { option_map (λ end. (end.0, reply_of end.1.now)) result ≡ end_of id (map sight_of sights.now) }
+fn end_of<'a>(sights: &[Sight<'a>], id: CallId) -> Option<(usize, &'a KeptReply)>
+    ensures { option_map (λ end. (end.0, kept_reply end.1.now)) result ≡ end_of id (map sight_of sights.now) }
 {
     for sight in sights {
         if let Happening::Ended(reply) = sight.happening
@@ -162,8 +162,8 @@ fn push_title(text: &mut String, exports: &[Export], bar: &Bar) -> Result<(), Al
     text.push_str("</title>\n")
 }
 
-fn push_reply_behind(text: &mut String, reply: Option<&Reply>) -> Result<(), AllocError>
-    ensures { OnOk result (string_bytes text.new ≡ string_bytes text.old ++ reply_behind (option_map (λ r. reply_of r.now) reply.entry)) }
+fn push_reply_behind(text: &mut String, reply: Option<&KeptReply>) -> Result<(), AllocError>
+    ensures { OnOk result (string_bytes text.new ≡ string_bytes text.old ++ reply_behind (option_map (λ r. kept_reply r.now) reply.entry)) }
 {
     match reply {
         Some(reply) => {
@@ -181,22 +181,22 @@ fn end_group(text: &mut String) -> Result<(), AllocError>
     text.push_str("</g>\n")
 }
 
-fn bar_class(reply: Option<&Reply>) -> &'static str
-    ensures { result.now ≡ bar_class (option_map (λ r. reply_of r.now) reply.entry) }
+fn bar_class(reply: Option<&KeptReply>) -> &'static str
+    ensures { result.now ≡ bar_class (option_map (λ r. kept_reply r.now) reply.entry) }
 {
     match reply {
-        Some(Reply::Done(_)) => "done",
-        Some(Reply::Trap(_)) => "trap",
+        Some(KeptReply::Done(_)) => "done",
+        Some(KeptReply::Trap(_)) => "trap",
         None => "open",
     }
 }
 
-fn reply_class(reply: &Reply) -> &'static str
-    ensures { result.now ≡ reply_class (reply_of reply.now) }
+fn reply_class(reply: &KeptReply) -> &'static str
+    ensures { result.now ≡ reply_class (kept_reply reply.now) }
 {
     match reply {
-        Reply::Done(_) => "reply",
-        Reply::Trap(_) => "trapped",
+        KeptReply::Done(_) => "reply",
+        KeptReply::Trap(_) => "trapped",
     }
 }
 
@@ -268,10 +268,10 @@ fn push_answer(
     frame: Frame,
     band: usize,
     bar: &Bar,
-    reply: &Reply,
+    reply: &KeptReply,
 ) -> Result<(), AllocError>
     requires { frame.processes ≤ MOST_PROCESSES }
-    ensures { OnOk result (string_bytes text.new ≡ string_bytes text.old ++ shape_text (Shapes.answer frame band (bar_in bar.now) (reply_of reply.now))) }
+    ensures { OnOk result (string_bytes text.new ≡ string_bytes text.old ++ shape_text (Shapes.answer frame band (bar_in bar.now) (kept_reply reply.now))) }
 {
     let at = Point {
         x: left(frame, band, bar),

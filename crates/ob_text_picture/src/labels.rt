@@ -1,16 +1,16 @@
 //! The words at a call.
 
 ghost use Rattle.std.specs.Prelude.{◌≡◌, ◌++◌, OnOk, length, map, string_bytes};
-ghost use Rattle.ob_interface.specs.View.{call_of, reply_of, signature_of};
+ghost use Rattle.ob_interface.specs.View.{signature_of};
 ghost use Rattle.ob_text_picture.specs.Labels.{call_words, front, id_words, name_words, reply_words, short, short_call, value_words};
+ghost use Rattle.wf_history.specs.View.{kept_call, kept_reply};
 
-use ob_interface::call::{Call, Reply};
 use ob_interface::export::Export;
 use ob_interface::scalar::Scalar;
 use ob_text_words::numbers::push_number;
 use ob_text_words::values::push_value;
 use std::alloc::{AllocError, Global};
-use wf_history::CallId;
+use wf_history::{CallId, KeptCall, KeptReply};
 
 /// The id of a call, as `0.2` for the second call of process 0.
 #[tactic(auto, unfolding(crate::specs::Labels::id_words))]
@@ -24,8 +24,8 @@ pub(crate) fn push_id(text: &mut String, id: CallId) -> Result<(), AllocError>
 
 /// The name of a call's export.
 #[tactic(auto, unfolding(crate::specs::Labels::name_words))]
-fn name_of<'a>(exports: &'a [Export], call: &Call) -> &'a str
-    ensures { result.now ≡ name_words (map signature_of exports.now) (call_of call.now) }
+fn name_of<'a>(exports: &'a [Export], call: &KeptCall) -> &'a str
+    ensures { result.now ≡ name_words (map signature_of exports.now) (kept_call call.now) }
 {
     match exports.get(call.proc) {
         Some(export) => export.name.as_str(),
@@ -51,9 +51,9 @@ pub(crate) fn push_call(
     text: &mut String,
     exports: &[Export],
     id: CallId,
-    call: &Call,
+    call: &KeptCall,
 ) -> Result<(), AllocError>
-    ensures { OnOk result (string_bytes text.new ≡ string_bytes text.old ++ call_words (map signature_of exports.now) id (call_of call.now)) }
+    ensures { OnOk result (string_bytes text.new ≡ string_bytes text.old ++ call_words (map signature_of exports.now) id (kept_call call.now)) }
 {
     push_id(text, id)?;
     text.push_str(" ")?;
@@ -63,15 +63,15 @@ pub(crate) fn push_call(
 
 /// A reply: its values, or its trap.
 #[tactic(auto, unfolding(crate::specs::Labels::reply_words))]
-pub(crate) fn push_reply(text: &mut String, reply: &Reply) -> Result<(), AllocError>
-    ensures { OnOk result (string_bytes text.new ≡ string_bytes text.old ++ reply_words (reply_of reply.now)) }
+pub(crate) fn push_reply(text: &mut String, reply: &KeptReply) -> Result<(), AllocError>
+    ensures { OnOk result (string_bytes text.new ≡ string_bytes text.old ++ reply_words (kept_reply reply.now)) }
 {
     match reply {
-        Reply::Done(values) => {
+        KeptReply::Done(values) => {
             text.push_str("done")?;
             push_values(text, values)
         }
-        Reply::Trap(trap) => {
+        KeptReply::Trap(trap) => {
             text.push_str("trap ")?;
             push_number(text, *trap)
         }
@@ -82,10 +82,10 @@ pub(crate) fn push_reply(text: &mut String, reply: &Reply) -> Result<(), AllocEr
 pub(crate) fn push_short_reply(
     alloc: Global,
     text: &mut String,
-    reply: &Reply,
+    reply: &KeptReply,
     room: u128,
 ) -> Result<(), AllocError>
-    ensures { OnOk result (string_bytes text.new ≡ string_bytes text.old ++ short room (reply_words (reply_of reply.now))) }
+    ensures { OnOk result (string_bytes text.new ≡ string_bytes text.old ++ short room (reply_words (kept_reply reply.now))) }
 {
     let mut whole = String::new(alloc);
     push_reply(&mut whole, reply)?;
@@ -99,10 +99,10 @@ pub(crate) fn push_short_call(
     text: &mut String,
     exports: &[Export],
     id: CallId,
-    call: &Call,
+    call: &KeptCall,
     room: u128,
 ) -> Result<(), AllocError>
-    ensures { OnOk result (string_bytes text.new ≡ string_bytes text.old ++ short_call room (map signature_of exports.now) id (call_of call.now)) }
+    ensures { OnOk result (string_bytes text.new ≡ string_bytes text.old ++ short_call room (map signature_of exports.now) id (kept_call call.now)) }
 {
     let mut whole = String::new(alloc);
     push_call(&mut whole, exports, id, call)?;

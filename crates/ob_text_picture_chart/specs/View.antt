@@ -1,6 +1,5 @@
 -- What the program's values of this crate stand for, without pointers.
 use Rattle.std.specs.Prelude.{map}
-use Rattle.ob_interface.specs.View.{call_of, reply_of}
 use Rattle.ob_text_picture_chart.specs.Charts as Charts
 use Rattle.ob_text_picture_chart.specs.Moments as Moments
 use Rattle.ob_text_picture_chart.specs.declared.charts.Chart.{Chart}
@@ -9,16 +8,17 @@ use Rattle.ob_text_picture_chart.specs.declared.charts.Happening.TheVariants as 
 use Rattle.ob_text_picture_chart.specs.declared.charts.Sight.{Sight}
 use Rattle.ob_text_picture_chart.specs.declared.moments.Moment.{Moment}
 use Rattle.ob_text_picture_chart.specs.declared.moments.Moment.TheVariants as Rust
+use Rattle.wf_history.specs.View.{kept_call, kept_reply}
 
 abbrev pub moment_of : Moment → Moments.Moment
-moment_of (Rust.Begins id call) = Moments.Begins id (call_of call.now)
+moment_of (Rust.Begins id call) = Moments.Begins id (kept_call call.now)
 moment_of (Rust.Takes ids maker) = Moments.Takes ids.now maker
-moment_of (Rust.Ends id reply) = Moments.Ends id (reply_of reply.now)
+moment_of (Rust.Ends id reply) = Moments.Ends id (kept_reply reply.now)
 
 abbrev pub happening_of : Happening → Charts.Happening
-happening_of (Happenings.Begun call) = Charts.Begun (call_of call.now)
+happening_of (Happenings.Begun call) = Charts.Begun (kept_call call.now)
 happening_of (Happenings.Taken number maker) = Charts.Taken number maker
-happening_of (Happenings.Ended reply) = Charts.Ended (reply_of reply.now)
+happening_of (Happenings.Ended reply) = Charts.Ended (kept_reply reply.now)
 
 abbrev pub sight_of : Sight → Charts.Sight
 sight_of s = record { column = s.column; id = s.id; happening = happening_of s.happening }

@@ -9,9 +9,8 @@ ghost use Rattle.ob_text_picture_chart.specs.View.{chart_in, happening_of, momen
 
 use crate::fault::PictureFault;
 use crate::moments::{Moment, place_in};
-use ob_interface::call::{Call, Reply};
 use std::alloc::{AllocError, Global};
-use wf_history::CallId;
+use wf_history::{CallId, KeptCall, KeptReply};
 
 /// The most calls that a picture has.
 pub const MOST_CALLS: usize = 400;
@@ -26,10 +25,10 @@ pub struct CallRange {
 /// What happens to a call.
 #[derive(Clone, Copy)]
 pub enum Happening<'a> {
-    Begun(&'a Call),
+    Begun(&'a KeptCall),
     /// It takes effect, as the one of this number in the order, by a step of the process, where it is known.
     Taken(usize, Option<usize>),
-    Ended(&'a Reply),
+    Ended(&'a KeptReply),
 }
 
 /// What happens to a call, and in which column of the picture.

@@ -6,19 +6,18 @@ ghost use Rattle.ob_text_picture_chart.specs.Same.{is_same};
 ghost use Rattle.ob_text_picture_chart.specs.View.{moment_of};
 ghost use Rattle.wf_history.specs.View.{event_of};
 
-use ob_interface::call::{Call, Reply};
 use std::alloc::{AllocError, Global};
-use wf_history::{CallId, Event};
+use wf_history::{CallId, Event, KeptCall, KeptReply};
 
 /// A moment of a run: a column of its picture.
 #[derive(Clone, Copy)]
 pub enum Moment<'a> {
     /// A process begins a call.
-    Begins(CallId, &'a Call),
+    Begins(CallId, &'a KeptCall),
     /// These calls take effect, in this order, by a step of the process, where it is known.
     Takes(&'a [CallId], Option<usize>),
     /// A call ends with its reply.
-    Ends(CallId, &'a Reply),
+    Ends(CallId, &'a KeptReply),
 }
 
 /// The moments of a run: its events, each with the process whose step showed it.

@@ -2,19 +2,19 @@
 
 ghost use Rattle.std.specs.Prelude.{◌≡◌, ◌++◌, OnErr, OnOk, map, slice_get, string_bytes};
 ghost use Rattle.std.specs.List.{flat_map};
-ghost use Rattle.ob_interface.specs.View.{call_of, signature_of};
+ghost use Rattle.ob_interface.specs.View.{signature_of};
+ghost use Rattle.ob_reply.specs.ReplyLines.{reply_line};
 ghost use Rattle.ob_text_record.specs.RecordText.{begin_text, event_text, id_text, ids_text, name_of, scalars_text};
-ghost use Rattle.wf_history.specs.View.{event_of};
+ghost use Rattle.wf_history.specs.View.{event_of, kept_call, kept_reply};
 ghost use Rattle.ob_text_words.specs.Appending.{GoesOn};
 
-use ob_interface::call::Call;
 use ob_interface::export::Export;
 use ob_interface::scalar::Scalar;
-use ob_reply::reply_lines::push_reply_line;
+use ob_reply::reply_lines::{push_done_line, push_trap_line};
 use ob_text_words::numbers::push_number;
 use ob_text_words::values::push_value;
 use std::alloc::AllocError;
-use wf_history::{CallId, Event};
+use wf_history::{CallId, Event, KeptCall, KeptReply};
 
 /// Appends a line for each event.
 pub(crate) fn push_events(
@@ -42,7 +42,18 @@ fn push_event(text: &mut String, exports: &[Export], event: &Event) -> Result<()
             push_ids(text, ids)?;
             text.push_str("\n")
         }
-        Event::End(id, reply) => push_reply_line(text, id.process, id.number, reply),
+        Event::End(id, reply) => push_end(text, *id, reply),
+    }
+}
+
+/// Appends the line of a call that has ended.
+fn push_end(text: &mut String, id: CallId, reply: &KeptReply) -> Result<(), AllocError>
+    ensures ok { OnOk result (string_bytes text.new ≡ string_bytes text.old ++ reply_line id.process id.number (kept_reply reply.now)) }
+    ensures left { OnErr result (GoesOn (string_bytes text.old) (string_bytes text.new)) }
+{
+    match reply {
+        KeptReply::Done(values) => push_done_line(text, id.process, id.number, values),
+        KeptReply::Trap(trap) => push_trap_line(text, id.process, id.number, *trap),
     }
 }
 
@@ -50,9 +61,9 @@ fn push_begin(
     text: &mut String,
     exports: &[Export],
     id: CallId,
-    call: &Call,
+    call: &KeptCall,
 ) -> Result<(), AllocError>
-    ensures ok { OnOk result (string_bytes text.new ≡ string_bytes text.old ++ begin_text (map signature_of exports.now) id (call_of call.now)) }
+    ensures ok { OnOk result (string_bytes text.new ≡ string_bytes text.old ++ begin_text (map signature_of exports.now) id (kept_call call.now)) }
     ensures left { OnErr result (GoesOn (string_bytes text.old) (string_bytes text.new)) }
 {
     text.push_str("B ")?;

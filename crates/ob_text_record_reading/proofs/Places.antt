@@ -46,13 +46,10 @@ rest_of xs n =
     let all : length (drop n xs) ≤ length xs - n = let long = length-drop n xs in omega (arith, long) in
     take_all (length xs - n) (drop n xs) all
 
--- the words of one line more
-pub words_more : (ls : List (Bor (List ℕ))) (n : ℕ) (d : Bor (List ℕ)) → n < length ls → (done : List Line) (line : Line) → done ≡ take n (map words (map (λ p. p.now) ls)) →
-    line ≡ words (get_or ls n d).now → done ++ line ∷ [] ≡ take (n + 1) (map words (map (λ p. p.now) ls))
-words_more ls n d within done line so_far is =
-    let whole : n < length (map (λ p. p.now) ls) = map_within (λ (p : Bor (List ℕ)). p.now) ls n d within in
-    let at : (get_or ls n d).now ≡ get_or (map (λ p. p.now) ls) n d.now = map_at (λ (p : Bor (List ℕ)). p.now) ls n d within in
-    ap₂ (λ (ys : List Line) (y : Line). ys ++ y ∷ []) so_far (is ∙ ap words at) ∙ sym (map_more words (map (λ p. p.now) ls) n d.now whole)
+-- the words of each line
+pub words_of_each : (ls : List (Bor (List ℕ))) → map (λ l. words l.now) ls ≡ map words (map (λ l. l.now) ls)
+words_of_each [] = refl
+words_of_each (l ∷ ls) = rw (words_of_each ls) refl
 
 -- a word with none behind it
 pub only_word : (word : Word) (others : List (Bor Word)) (r : Bool) → r ≡ (length others == 0) →

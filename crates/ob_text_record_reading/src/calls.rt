@@ -10,7 +10,7 @@ use ob_interface::NoMemory;
 use ob_interface::call::{Call, Reply};
 use std::alloc::{AllocError, Global};
 use std::marker::Model;
-use wf_history::{CallId, Event, History};
+use wf_history::{CallId, Event, History, KeptCall, KeptReply};
 
 /// Where a process stands in its calls.
 #[derive(Clone, Copy)]
@@ -89,13 +89,14 @@ impl Calls {
     }
 
     /// The call begins.
-    pub(crate) fn begin(&mut self, id: CallId, call: Call) -> Result<(), NoMemory>
+    pub(crate) fn begin(&mut self, alloc: Global, id: CallId, call: &Call) -> Result<(), NoMemory>
         requires below { id.process < self.old.processes }
-        requires next { IsHistory (self.old.events ++ Begin id (call_of call) ∷ []) }
-        ensures { OnOk result ((self.new.events ≡ self.old.events ++ Begin id (call_of call) ∷ []) × (self.new.processes ≡ self.old.processes)) }
+        requires next { IsHistory (self.old.events ++ Begin id (call_of call.now) ∷ []) }
+        ensures { OnOk result ((self.new.events ≡ self.old.events ++ Begin id (call_of call.now) ∷ []) × (self.new.processes ≡ self.old.processes)) }
     {
         let proc = call.proc;
-        self.history.push(Event::Begin(id, call))?;
+        let kept = KeptCall::keep(alloc, call)?;
+        self.history.push(Event::Begin(id, kept))?;
         self.seats[id.process] = Seat {
             begun: id.number,
             pending: Some(proc),
@@ -104,12 +105,13 @@ impl Calls {
     }
 
     /// The call ends.
-    pub(crate) fn end(&mut self, id: CallId, reply: Reply) -> Result<(), NoMemory>
+    pub(crate) fn end(&mut self, alloc: Global, id: CallId, reply: &Reply) -> Result<(), NoMemory>
         requires below { id.process < self.old.processes }
-        requires next { IsHistory (self.old.events ++ End id (reply_of reply) ∷ []) }
-        ensures { OnOk result ((self.new.events ≡ self.old.events ++ End id (reply_of reply) ∷ []) × (self.new.processes ≡ self.old.processes)) }
+        requires next { IsHistory (self.old.events ++ End id (reply_of reply.now) ∷ []) }
+        ensures { OnOk result ((self.new.events ≡ self.old.events ++ End id (reply_of reply.now) ∷ []) × (self.new.processes ≡ self.old.processes)) }
     {
-        self.history.push(Event::End(id, reply))?;
+        let kept = KeptReply::keep(alloc, reply)?;
+        self.history.push(Event::End(id, kept))?;
         self.seats[id.process] = Seat {
             begun: id.number,
             pending: None,

@@ -1,13 +1,14 @@
 //! Records read back.
 
-ghost use Rattle.std.specs.Prelude.{◌≡◌, ◌≤◌, ◌∷◌, [], codes, map, IfOk, IfErr};
+ghost use Rattle.std.specs.Prelude.{◌≡◌, ◌≤◌, ◌∷◌, [], codes, map, IfOk, IfErr, MatchOption};
 ghost use Rattle.ob_checked.specs.CheckedModule.{program_in};
 ghost use Rattle.ob_checked.specs.Exports.{signatures};
 ghost use Rattle.ob_interface.specs.View.{signature_of};
-ghost use Rattle.ob_text_record_reading.specs.LineReading.{FaultBehind};
+ghost use Rattle.ob_text_record_reading.specs.LineReading.{FaultBehind, HasSaid, SaysNothing};
 ghost use Rattle.ob_text_record_reading.specs.RecordLines as Records;
 ghost use Rattle.ob_text_record_reading.specs.RecordLines.{AreLines, FaultStands, IsCount, IsRecord, IsRecordFault, IsRecordOf, IsTitle, Told};
 ghost use Rattle.ob_text_record_reading.specs.Told.{told_of};
+ghost use Rattle.ob_text_words.specs.Words.{words};
 
 use crate::calls::Calls;
 use crate::head::{Version, read_budget, read_count, read_title};
@@ -17,6 +18,7 @@ use ob_checked::checked::Checked;
 use ob_interface::NoMemory;
 use ob_interface::export::Export;
 use ob_interpreter::opening::MOST_TURNS;
+use ob_text_words::words::words_of;
 use std::alloc::{AllocError, AllocFailed, Global};
 use thiserror::Error;
 use wf_history::{CallId, History};
@@ -78,21 +80,23 @@ pub fn read_record(alloc: Global, checked: &Checked, text: &[u8]) -> Result<Read
 fn read_lines(
     alloc: Global,
     exports: &[Export],
-    lines: &[Vec<&[u8]>],
+    lines: &[&[u8]],
 ) -> Result<ReadRecord, RecordFault>
-    ensures record { IfOk result (λ r. IsRecordOf (map signature_of exports.now) (map (λ l. map (λ w. w.now) l.items) lines.now) (told_of «r»)) }
-    ensures fault { IfErr result (λ e. FaultStands (map signature_of exports.now) (map (λ l. map (λ w. w.now) l.items) lines.now) e) }
+    ensures record { IfOk result (λ r. IsRecordOf (map signature_of exports.now) (map (λ l. words l.now) lines.now) (told_of «r»)) }
+    ensures fault { IfErr result (λ e. FaultStands (map signature_of exports.now) (map (λ l. words l.now) lines.now) e) }
 {
     let Some((title, behind)) = lines.split_first() else {
         return Err(RecordFault::Form(1));
     };
-    let Some(version) = read_title(title) else {
+    let first = words_of(alloc, title)?;
+    let Some(version) = read_title(&first) else {
         return Err(RecordFault::Form(1));
     };
     let Some((count, rest)) = behind.split_first() else {
         return Err(RecordFault::Form(2));
     };
-    let Some(processes) = read_count(count) else {
+    let second = words_of(alloc, count)?;
+    let Some(processes) = read_count(&second) else {
         return Err(RecordFault::Form(2));
     };
     match version {
@@ -106,17 +110,18 @@ fn read_budgeted(
     alloc: Global,
     exports: &[Export],
     processes: usize,
-    lines: &[Vec<&[u8]>],
+    lines: &[&[u8]],
 ) -> Result<ReadRecord, RecordFault>
     ensures record { (title second : Records.Line) → IsTitle (codes "2") title → IsCount second processes
-        → IfOk result (λ r. IsRecordOf (map signature_of exports.now) (title ∷ second ∷ map (λ l. map (λ w. w.now) l.items) lines.now) (told_of «r»)) }
+        → IfOk result (λ r. IsRecordOf (map signature_of exports.now) (title ∷ second ∷ map (λ l. words l.now) lines.now) (told_of «r»)) }
     ensures fault { (title second : Records.Line) → IsTitle (codes "2") title → IsCount second processes
-        → IfErr result (λ e. FaultStands (map signature_of exports.now) (title ∷ second ∷ map (λ l. map (λ w. w.now) l.items) lines.now) e) }
+        → IfErr result (λ e. FaultStands (map signature_of exports.now) (title ∷ second ∷ map (λ l. words l.now) lines.now) e) }
 {
     let Some((line, rest)) = lines.split_first() else {
         return Err(RecordFault::Form(3));
     };
-    let Some(budget) = read_budget(line) else {
+    let third = words_of(alloc, line)?;
+    let Some(budget) = read_budget(&third) else {
         return Err(RecordFault::Form(3));
     };
     read_behind(alloc, exports, processes, budget, 3, rest)
@@ -129,12 +134,12 @@ fn read_behind(
     processes: usize,
     budget: u64,
     head: usize,
-    lines: &[Vec<&[u8]>],
+    lines: &[&[u8]],
 ) -> Result<ReadRecord, RecordFault>
     requires { head ≤ 3 }
     ensures told { IfOk result (λ r. (r.processes ≡ processes) × (r.budget ≡ budget)) }
-    ensures record { IfOk result (λ r. AreLines processes (map signature_of exports.now) [] (map (λ l. map (λ w. w.now) l.items) lines.now) r.history r.order.items) }
-    ensures fault { IfErr result (λ e. FaultBehind processes (map signature_of exports.now) head (map (λ l. map (λ w. w.now) l.items) lines.now) e) }
+    ensures record { IfOk result (λ r. AreLines processes (map signature_of exports.now) [] (map (λ l. words l.now) lines.now) r.history r.order.items) }
+    ensures fault { IfErr result (λ e. FaultBehind processes (map signature_of exports.now) head (map (λ l. words l.now) lines.now) e) }
 {
     let mut calls = Calls::new(alloc, processes)?;
     let order = read_events(alloc, exports, &mut calls, head, lines)?;
@@ -152,23 +157,23 @@ fn read_events(
     exports: &[Export],
     calls: &mut Calls,
     head: usize,
-    lines: &[Vec<&[u8]>],
+    lines: &[&[u8]],
 ) -> Result<Vec<CallId>, RecordFault>
     requires none { calls.old.events ≡ [] }
     requires small { head ≤ 3 }
-    ensures record { IfOk result (λ ids. AreLines calls.old.processes (map signature_of exports.now) [] (map (λ l. map (λ w. w.now) l.items) lines.now) calls.new.events ids.items) }
-    ensures fault { IfErr result (λ e. FaultBehind calls.old.processes (map signature_of exports.now) head (map (λ l. map (λ w. w.now) l.items) lines.now) e) }
+    ensures record { IfOk result (λ ids. AreLines calls.old.processes (map signature_of exports.now) [] (map (λ l. words l.now) lines.now) calls.new.events ids.items) }
+    ensures fault { IfErr result (λ e. FaultBehind calls.old.processes (map signature_of exports.now) head (map (λ l. words l.now) lines.now) e) }
 {
     for (index, line) in lines.iter().enumerate() {
-        let Some(said) = read_line(alloc, exports, calls, line)? else {
+        let Some(said) = read_words(alloc, exports, calls, line)? else {
             return Err(RecordFault::Form(head + index + 1));
         };
         match said {
-            Line::Begin(id, call) => calls.begin(id, call)?,
-            Line::End(id, reply) => calls.end(id, reply)?,
+            Line::Begin(id, call) => calls.begin(alloc, id, &call)?,
+            Line::End(id, reply) => calls.end(alloc, id, &reply)?,
             Line::Applied => {}
             Line::Order(order) => {
-                return match first_other(&lines[index + 1..]) {
+                return match first_other(alloc, &lines[index + 1..])? {
                     Some(other) => Err(RecordFault::Form(head + index + other + 2)),
                     None => Ok(order),
                 };
@@ -176,4 +181,19 @@ fn read_events(
         }
     }
     Err(RecordFault::Form(head + lines.len() + 1))
+}
+
+/// What a line says behind the events so far; `None` where it may not stand there.
+fn read_words(
+    alloc: Global,
+    exports: &[Export],
+    calls: &Calls,
+    line: &[u8],
+) -> Result<Option<Line>, AllocError>
+    ensures { IfOk result (λ read. MatchOption read
+        (SaysNothing calls.now.processes (map signature_of exports.now) calls.now.events (words line.now))
+        (HasSaid calls.now.processes (map signature_of exports.now) calls.now.events (words line.now))) }
+{
+    let words = words_of(alloc, line)?;
+    read_line(alloc, exports, calls, &words)
 }

@@ -9,12 +9,12 @@ ghost use Rattle.ob_text_record_reading.specs.RecordLines.{IsTail, record_lines}
 use ob_text_words::words::words_of;
 use std::alloc::{AllocError, Global};
 
-/// The words of the lines of a text.
-pub(crate) fn lines_of(alloc: Global, text: &[u8]) -> Result<Vec<Vec<&[u8]>>, AllocError>
-    ensures { IfOk result (λ ls. map (λ l. map (λ w. w.now) l.items) ls.items ≡ record_lines text.now) }
+/// The lines of a text.
+#[tactic(auto, using(crate::proofs::Places::words_of_each))]
+pub(crate) fn lines_of(alloc: Global, text: &[u8]) -> Result<Vec<&[u8]>, AllocError>
+    ensures { IfOk result (λ ls. map (λ l. words l.now) ls.items ≡ record_lines text.now) }
 {
-    let parts = split_lines(alloc, without_last_feed(text))?;
-    words_of_lines(alloc, &parts)
+    split_lines(alloc, without_last_feed(text))
 }
 
 /// What stands between the line feeds of a text.
@@ -22,17 +22,6 @@ fn split_lines(alloc: Global, text: &[u8]) -> Result<Vec<&[u8]>, AllocError>
     ensures { IfOk result (λ ls. map (λ l. l.now) ls.items ≡ lines text.now) }
 {
     text.split(|byte| *byte == b'\n').collect(alloc)
-}
-
-/// The words of each line.
-fn words_of_lines<'a>(alloc: Global, lines: &[&'a [u8]]) -> Result<Vec<Vec<&'a [u8]>>, AllocError>
-    ensures { IfOk result (λ ls. map (λ l. map (λ w. w.now) l.items) ls.items ≡ map words (map (λ l. l.now) lines.now)) }
-{
-    let mut read = Vec::new(alloc);
-    for line in lines {
-        read.push(words_of(alloc, line)?)?;
-    }
-    Ok(read)
 }
 
 /// A text without the line feed at its end, if it has one.
@@ -46,21 +35,29 @@ fn without_last_feed(text: &[u8]) -> &[u8]
 }
 
 /// The place of the first line whose first byte is neither `S` nor `V`.
-pub(crate) fn first_other(lines: &[Vec<&[u8]>]) -> Option<usize>
-    ensures below { IfSome result (λ k. k < length lines.now) }
-    ensures place { MatchOption result
-        (All IsTail (map (λ l. map (λ w. w.now) l.items) lines.now))
-        (λ k. IsFirstOther (map (λ l. map (λ w. w.now) l.items) lines.now) k) }
+pub(crate) fn first_other(alloc: Global, lines: &[&[u8]]) -> Result<Option<usize>, AllocError>
+    ensures below { IfOk result (λ other. IfSome other (λ k. k < length lines.now)) }
+    ensures place { IfOk result (λ other. MatchOption other
+        (All IsTail (map (λ l. words l.now) lines.now))
+        (λ k. IsFirstOther (map (λ l. words l.now) lines.now) k)) }
 {
     for (index, line) in lines.iter().enumerate() {
-        if !is_tail(line) {
-            return Some(index);
+        if !is_tail_line(alloc, line)? {
+            return Ok(Some(index));
         }
     }
-    None
+    Ok(None)
 }
 
 /// Whether the first byte of a line is `S` or `V`.
+fn is_tail_line(alloc: Global, line: &[u8]) -> Result<bool, AllocError>
+    ensures { IfOk result (λ tail. IsTrue tail ↔ IsTail (words line.now)) }
+{
+    let words = words_of(alloc, line)?;
+    Ok(is_tail(&words))
+}
+
+/// Whether the first byte of the first word is `S` or `V`.
 fn is_tail(words: &[&[u8]]) -> bool
     ensures { IsTrue result ↔ IsTail (map (λ w. w.now) words.now) }
 {

@@ -1,10 +1,11 @@
 //! Names of calls, and events.
 
-use ob_interface::call::{Call, Reply};
+use crate::kept::{KeptCall, KeptReply};
+use smallvec::SmallVec;
 use std::fmt;
 
 /// A call by its process and its number among the calls of that process, from 1.
-#[derive(Clone, Copy, Debug, PartialEq, Eq, Hash)]
+#[derive(Clone, Copy, Debug, Default, PartialEq, Eq, Hash)]
 pub struct CallId {
     pub process: usize,
     pub number: u64,
@@ -21,9 +22,9 @@ impl fmt::Display for CallId {
 #[derive(Drop)]
 pub enum Event {
     /// A process begins a call.
-    Begin(CallId, Call),
+    Begin(CallId, KeptCall),
     /// These calls took effect, in this order.
-    Applied(Vec<CallId>),
+    Applied(SmallVec<CallId, 1>),
     /// A call ends with its reply.
-    End(CallId, Reply),
+    End(CallId, KeptReply),
 }

@@ -3,8 +3,10 @@
 
 pub mod event;
 pub mod history;
+pub mod kept;
 pub mod reply;
 
 pub use event::{CallId, Event};
 pub use history::History;
+pub use kept::{KeptCall, KeptReply};
 pub use reply::same_reply;

@@ -12,14 +12,14 @@ ghost use Rattle.wf_object.specs.View.{answer_in};
 ghost use Rattle.wf_object.specs.Quiet.{is_quiet, is_unmarked};
 ghost use Rattle.wf_history.specs.History.{IsHistory};
 
-use crate::copies::{copy_call, copy_reply};
 use crate::engine::Engine;
 use crate::process::Process;
 use crate::steps::{own_toggle, part_of};
 use ll_cell::Shared;
 use ob_interface::NoMemory;
+use smallvec::SmallVec;
 use std::alloc::Global;
-use wf_history::CallId;
+use wf_history::{CallId, KeptCall, KeptReply};
 use wf_records::{Records, StepOut};
 use wf_table::{Label, Sizes};
 
@@ -101,7 +101,7 @@ fn begin<R>(
         process: p,
         number: q.begun as u64 + 1,
     };
-    let call = copy_call(alloc, &q.calls[q.begun])?;
+    let call = KeptCall::keep(alloc, &q.calls[q.begun])?;
     records.note_begin(p, id, call)?;
     Ok(StepOut::Began(id))
 }
@@ -160,9 +160,9 @@ fn give<E: Engine>(
         number: q.begun as u64,
     };
     let reply = engine.reply(&q.calls[q.begun - 1], &q.replies);
-    let answered = copy_reply(alloc, &reply)?;
-    records.note_end(p, id, reply)?;
-    Ok(StepOut::Answered(id, answered))
+    let kept = KeptReply::keep(alloc, &reply)?;
+    records.note_end(p, id, kept)?;
+    Ok(StepOut::Answered(id, reply))
 }
 
 /// The processes whose toggles differ between the root and p's own block, with their open calls.
@@ -172,14 +172,14 @@ fn applied_ids<R>(
     shared: &Shared,
     processes: &[Process<R>],
     p: usize,
-) -> Result<Vec<CallId>, NoMemory>
+) -> Result<SmallVec<CallId, 1>, NoMemory>
     requires sized { IsSized z }
     requires shaped { IsShaped z shared.now.cell }
     requires count { length processes.now ≡ z.processes }
     requires process { p < z.processes }
     ensures { IfOk result (λ ids. ids.items ≡ applied_ids z (block_of shared.now.cell shared.now.cell.root) (own_block shared.now.cell p) (begun_of processes.now)) }
 {
-    let mut ids = Vec::with_capacity(alloc, z.processes)?;
+    let mut ids = SmallVec::new(alloc);
     for q in 0..z.processes {
         add_if(&mut ids, differs(z, shared, p, q), open_id(processes, q))?;
     }
@@ -197,7 +197,7 @@ fn open_id<R>(processes: &[Process<R>], q: usize) -> CallId
     }
 }
 
-fn add_if(ids: &mut Vec<CallId>, yes: bool, id: CallId) -> Result<(), NoMemory>
+fn add_if(ids: &mut SmallVec<CallId, 1>, yes: bool, id: CallId) -> Result<(), NoMemory>
     ensures { OnOk result (ids.new.items ≡ ids.old.items ++ (if yes then id ∷ [] else [])) }
 {
     if yes {

@@ -1,7 +1,7 @@
 //! What was seen, in which order calls were applied, and who stepped.
 
 ghost use Rattle.std.specs.Prelude.{◌≡◌, ◌+◌, ◌<◌, ◌≤◌, ◌^◌, ◌++◌, ◌∷◌, [], Some, None, OnOk, OnErr, IfOk, IsOk, length, vec_len, vec_capacity, slice_set, if◌then◌else◌};
-ghost use Rattle.ob_interface.specs.View.{call_of, reply_of};
+ghost use Rattle.wf_history.specs.View.{kept_call, kept_reply};
 ghost use Rattle.wf_history.specs.History.{IsHistory, Begin, Applied, End};
 ghost use Rattle.wf_table.specs.Schedule.{counted};
 ghost use Rattle.wf_table.specs.Labels.{at_flip};
@@ -9,10 +9,11 @@ ghost use Rattle.wf_records.specs.Times.{counted_times, room_for};
 ghost use Rattle.wf_table.specs.declared.process.Label.TheVariants as At;
 
 use ob_interface::NoMemory;
-use ob_interface::call::{Call, Reply};
+use ob_interface::call::Reply;
+use smallvec::SmallVec;
 use std::alloc::Global;
 use std::marker::Model;
-use wf_history::{CallId, Event, History};
+use wf_history::{CallId, Event, History, KeptCall, KeptReply};
 use wf_table::{Label, Turns};
 
 /// What a step answers.
@@ -107,9 +108,9 @@ impl Records {
     }
 
     /// Process p begins a call. Nothing changes where memory runs out.
-    pub fn note_begin(&mut self, p: usize, id: CallId, call: Call) -> Result<(), NoMemory>
-        requires { IsHistory (self.old.history ++ Begin id (call_of call) ∷ []) }
-        ensures ok { OnOk result (self.new ≡ noted self.old p At.Next 0 (Some (Begin id (call_of call)))) }
+    pub fn note_begin(&mut self, p: usize, id: CallId, call: KeptCall) -> Result<(), NoMemory>
+        requires { IsHistory (self.old.history ++ Begin id (kept_call call) ∷ []) }
+        ensures ok { OnOk result (self.new ≡ noted self.old p At.Next 0 (Some (Begin id (kept_call call)))) }
         ensures err { OnErr result (self.new ≡ self.old) }
     {
         self.schedule.try_reserve(1)?;
@@ -119,7 +120,12 @@ impl Records {
     }
 
     /// Process p makes its block the root, and these calls take effect. Nothing changes where memory runs out.
-    pub fn note_commit(&mut self, p: usize, block: usize, ids: Vec<CallId>) -> Result<(), NoMemory>
+    pub fn note_commit(
+        &mut self,
+        p: usize,
+        block: usize,
+        ids: SmallVec<CallId, 1>,
+    ) -> Result<(), NoMemory>
         requires in_turn { IsHistory (self.old.history ++ Applied ids.items ∷ []) }
         requires block { block < length self.old.root_marks }
         ensures ok { OnOk result (self.new ≡ noted self.old p At.Commit block (Some (Applied ids.items))) }
@@ -133,9 +139,9 @@ impl Records {
     }
 
     /// Process p's call ends. Nothing changes where memory runs out.
-    pub fn note_end(&mut self, p: usize, id: CallId, reply: Reply) -> Result<(), NoMemory>
-        requires { IsHistory (self.old.history ++ End id (reply_of reply) ∷ []) }
-        ensures ok { OnOk result (self.new ≡ noted self.old p At.Give 0 (Some (End id (reply_of reply)))) }
+    pub fn note_end(&mut self, p: usize, id: CallId, reply: KeptReply) -> Result<(), NoMemory>
+        requires { IsHistory (self.old.history ++ End id (kept_reply reply) ∷ []) }
+        ensures ok { OnOk result (self.new ≡ noted self.old p At.Give 0 (Some (End id (kept_reply reply)))) }
         ensures err { OnErr result (self.new ≡ self.old) }
     {
         self.schedule.try_reserve(1)?;
@@ -199,7 +205,7 @@ fn note_flip(flip_marks: &mut Vec<usize>, p: usize, label: Label, seen: usize)
 fn note_applied(
     history: &mut History,
     order: &mut Vec<CallId>,
-    ids: Vec<CallId>,
+    ids: SmallVec<CallId, 1>,
 ) -> Result<(), NoMemory>
     requires { IsHistory (history.old ++ Applied ids.items ∷ []) }
     ensures history { OnOk result (history.new ≡ history.old ++ Applied ids.items ∷ []) }

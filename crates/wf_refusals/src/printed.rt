@@ -3,7 +3,7 @@
 use ob_interface::call::Reply;
 use ob_interface::scalar::Scalar;
 use std::alloc::AllocError;
-use wf_history::{CallId, Event};
+use wf_history::{CallId, Event, KeptReply};
 use wf_object::Machine;
 use wf_samples::Adder;
 
@@ -52,7 +52,7 @@ fn print_event(text: &mut String, event: &Event) -> Result<(), AllocError> {
         }
         Event::End(id, reply) => {
             text.push_str("end ")?;
-            print_answer(text, *id, reply)
+            print_kept(text, *id, reply)
         }
     }
 }
@@ -62,6 +62,15 @@ fn print_ids(text: &mut String, ids: &[CallId]) -> Result<(), AllocError> {
         write!(text, " {}.{}", id.process, id.number)?;
     }
     text.push_str("\n")
+}
+
+/// A call and its reply, as the history keeps it.
+fn print_kept(text: &mut String, id: CallId, reply: &KeptReply) -> Result<(), AllocError> {
+    write!(text, "{}.{}", id.process, id.number)?;
+    match reply {
+        KeptReply::Done(values) => print_values(text, values),
+        KeptReply::Trap(k) => writeln!(text, " trap {k}"),
+    }
 }
 
 /// A call and its reply.

@@ -11,17 +11,17 @@ returns-in_default-clause-fault c =
 pub returns-in_default-read_budget-clause-fault : goal.returns-in_default-read_budget-clause-fault
 returns-in_default-read_budget-clause-fault c =
     let parts : c.args.lines.now ≡ c.in-Some.line.now ∷ c.in-Some.rest.now = search rules in
-    rw parts (λ title second t n. no_budget _ title second _ _ _ t n (rw c.deref.ensures.value at c.in_default-read_budget.ensures))
+    rw parts (λ title second t n. no_budget _ title second _ _ _ t n (rw (c.deref.ensures.value, c.in_ok-third.ensures) at c.in_default-read_budget.ensures))
 
 pub returns-clause-record : goal.returns-clause-record
 returns-clause-record c =
     let parts : c.args.lines.now ≡ c.in-Some.line.now ∷ c.in-Some.rest.now = search rules in
     rw parts
     (λ title second t n.
-    told_result _ _ _ _ (second_head _ t n (rw c.deref.ensures.value at c.in-Some-read_budget.ensures)) _ _ c.read_behind.ensures.told c.read_behind.ensures.record)
+    told_result _ _ _ _ (second_head _ t n (rw (c.deref.ensures.value, c.in_ok-third.ensures) at c.in-Some-read_budget.ensures)) _ _ c.read_behind.ensures.told c.read_behind.ensures.record)
 
 pub returns-clause-fault : goal.returns-clause-fault
 returns-clause-fault c =
     let parts : c.args.lines.now ≡ c.in-Some.line.now ∷ c.in-Some.rest.now = search rules in
     rw parts
-    (λ title second t n. fault_result _ _ _ _ (second_head _ t n (rw c.deref.ensures.value at c.in-Some-read_budget.ensures)) _ _ c.read_behind.ensures.fault)
+    (λ title second t n. fault_result _ _ _ _ (second_head _ t n (rw (c.deref.ensures.value, c.in_ok-third.ensures) at c.in-Some-read_budget.ensures)) _ _ c.read_behind.ensures.fault)

@@ -10,17 +10,17 @@ loop-index-init c = record { events = rw c.requires.none nothing; processes = re
 pub returns-in_default-clause-fault : goal.returns-in_default-clause-fault
 returns-in_default-clause-fault c =
     no_line _ _ _ c.args.head c.args.lines.now c.loop-index.index _ _ _ c.loop-index-test.true c.index-lines-index.is c.loop-index.invariant.events
-    (rw (c.deref.ensures.value, c.loop-index.invariant.processes, c.in_default.is) at c.in_ok-said.ensures)
+    (rw (c.loop-index.invariant.processes, c.in_default.is) at c.in_ok-said.ensures)
 
 pub returns-in-Some-first_other-clause-fault : goal.returns-in-Some-first_other-clause-fault
 returns-in-Some-first_other-clause-fault c =
     order_fails _ _ _ c.args.head c.args.lines.now c.loop-index.index _ _ _ c.loop-index-test.true c.index-lines-index.is c.loop-index.invariant.events
-    _ _ c.in-Some-first_other.other _ (rest_of c.args.lines.now (c.loop-index.index + 1)) (rw (c.deref.ensures.value, c.loop-index.invariant.processes, c.in-Some.is, c.in-Order.is) at c.in_ok-said.ensures) c.in-Some-first_other.ensures.place refl
+    _ _ c.in-Some-first_other.other _ (rest_of c.args.lines.now (c.loop-index.index + 1)) (rw (c.loop-index.invariant.processes, c.in-Some.is, c.in-Order.is) at c.in_ok-said.ensures) c.in-Some-first_other.ensures.place refl
 
 pub returns-in-None-clause-record : goal.returns-in-None-clause-record
 returns-in-None-clause-record c =
     order_told _ _ _ c.args.head c.args.lines.now c.loop-index.index _ _ _ c.loop-index-test.true c.index-lines-index.is c.loop-index.invariant.events
-    _ _ (rest_of c.args.lines.now (c.loop-index.index + 1)) (rw (c.deref.ensures.value, c.loop-index.invariant.processes, c.in-Some.is, c.in-Order.is) at c.in_ok-said.ensures) (rw c.in-None.is at c.first_other.ensures.place)
+    _ _ (rest_of c.args.lines.now (c.loop-index.index + 1)) (rw (c.loop-index.invariant.processes, c.in-Some.is, c.in-Order.is) at c.in_ok-said.ensures) (rw c.in-None.is at c.first_other.ensures.place)
 
 pub loop-index-preserved : goal.loop-index-preserved
 loop-index-preserved c =
@@ -28,19 +28,19 @@ loop-index-preserved c =
       | in-Begin+in_ok-begin-in-Begin w ↦
           rw (w.calls-is, w.in_ok-begin-in-Begin.ensures.0, w.in_ok-begin-in-Begin.ensures.1)
           (record {
-            events = event_more _ _ _ c.args.head c.args.lines.now c.loop-index.index _ _ _ c.loop-index-test.true c.index-lines-index.is c.loop-index.invariant.events (rw (c.deref.ensures.value, c.loop-index.invariant.processes, c.in-Some.is, w.in-Begin.is) at c.in_ok-said.ensures);
+            events = event_more _ _ _ c.args.head c.args.lines.now c.loop-index.index _ _ _ c.loop-index-test.true c.index-lines-index.is c.loop-index.invariant.events (rw (c.loop-index.invariant.processes, c.in-Some.is, w.in-Begin.is) at c.in_ok-said.ensures);
             processes = c.loop-index.invariant.processes;
           })
       | in-End+in_ok-end-in-End w ↦
           rw (w.calls-is, w.in_ok-end-in-End.ensures.0, w.in_ok-end-in-End.ensures.1)
           (record {
-            events = event_more _ _ _ c.args.head c.args.lines.now c.loop-index.index _ _ _ c.loop-index-test.true c.index-lines-index.is c.loop-index.invariant.events (rw (c.deref.ensures.value, c.loop-index.invariant.processes, c.in-Some.is, w.in-End.is) at c.in_ok-said.ensures);
+            events = event_more _ _ _ c.args.head c.args.lines.now c.loop-index.index _ _ _ c.loop-index-test.true c.index-lines-index.is c.loop-index.invariant.events (rw (c.loop-index.invariant.processes, c.in-Some.is, w.in-End.is) at c.in_ok-said.ensures);
             processes = c.loop-index.invariant.processes;
           })
       | in-Applied w ↦
           rw w.calls-is
           (record {
-            events = applied_more _ _ _ c.args.head c.args.lines.now c.loop-index.index _ _ _ c.loop-index-test.true c.index-lines-index.is c.loop-index.invariant.events (rw (c.deref.ensures.value, c.loop-index.invariant.processes, c.in-Some.is, w.in-Applied.is) at c.in_ok-said.ensures);
+            events = applied_more _ _ _ c.args.head c.args.lines.now c.loop-index.index _ _ _ c.loop-index-test.true c.index-lines-index.is c.loop-index.invariant.events (rw (c.loop-index.invariant.processes, c.in-Some.is, w.in-Applied.is) at c.in_ok-said.ensures);
             processes = c.loop-index.invariant.processes;
           })
     ]

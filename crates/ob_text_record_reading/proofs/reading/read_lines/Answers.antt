@@ -11,26 +11,26 @@ returns-in_default-clause-fault c =
 pub returns-in_default-read_title-clause-fault : goal.returns-in_default-read_title-clause-fault
 returns-in_default-read_title-clause-fault c =
     let parts : c.args.lines.now ≡ c.in-Some.title.now ∷ c.in-Some.behind.now = search rules in
-    rw parts (no_title _ _ _ (rw c.deref.ensures.value at c.in_default-read_title.ensures))
+    rw parts (no_title _ _ _ (rw (c.deref.ensures.value, c.in_ok-first.ensures) at c.in_default-read_title.ensures))
 
 pub returns-in_default-split_first-clause-fault : goal.returns-in_default-split_first-clause-fault
 returns-in_default-split_first-clause-fault c =
     let parts : c.args.lines.now ≡ c.in-Some.title.now ∷ c.in-Some.behind.now = search rules in
     let none : c.in-Some.behind.now ≡ [] = nil_from_length _ c.in_default-split_first.ensures.cases in
-    rw (parts, none) (count_missing _ _ _ (rw c.deref.ensures.value at c.in-Some-read_title.ensures))
+    rw (parts, none) (count_missing _ _ _ (rw (c.deref.ensures.value, c.in_ok-first.ensures) at c.in-Some-read_title.ensures))
 
 pub returns-in_default-read_count-clause-fault : goal.returns-in_default-read_count-clause-fault
 returns-in_default-read_count-clause-fault c =
     let parts : c.args.lines.now ≡ c.in-Some.title.now ∷ c.in-Some.behind.now = search rules in
     let more : c.in-Some.behind.now ≡ c.in-Some-split_first.count.now ∷ c.in-Some-split_first.rest.now = search rules in
-    rw (parts, more) (no_count _ _ _ _ _ (rw c.deref.ensures.value at c.in-Some-read_title.ensures) (rw c.deref-2.ensures.value at c.in_default-read_count.ensures))
+    rw (parts, more) (no_count _ _ _ _ _ (rw (c.deref.ensures.value, c.in_ok-first.ensures) at c.in-Some-read_title.ensures) (rw (c.deref-2.ensures.value, c.in_ok-second.ensures) at c.in_default-read_count.ensures))
 
 pub returns-in-First-clause-record : goal.returns-in-First-clause-record
 returns-in-First-clause-record c =
     let parts : c.args.lines.now ≡ c.in-Some.title.now ∷ c.in-Some.behind.now = search rules in
     let more : c.in-Some.behind.now ≡ c.in-Some-split_first.count.now ∷ c.in-Some-split_first.rest.now = search rules in
     rw (parts, more)
-    (told_result _ _ _ _ (first_head _ (rw (c.deref.ensures.value, c.in-First.is) at c.in-Some-read_title.ensures) (rw c.deref-2.ensures.value at c.in-Some-read_count.ensures)) _ _
+    (told_result _ _ _ _ (first_head _ (rw (c.deref.ensures.value, c.in_ok-first.ensures, c.in-First.is) at c.in-Some-read_title.ensures) (rw (c.deref-2.ensures.value, c.in_ok-second.ensures) at c.in-Some-read_count.ensures)) _ _
     c.read_behind.ensures.told c.read_behind.ensures.record)
 
 pub returns-in-First-clause-fault : goal.returns-in-First-clause-fault
@@ -38,5 +38,5 @@ returns-in-First-clause-fault c =
     let parts : c.args.lines.now ≡ c.in-Some.title.now ∷ c.in-Some.behind.now = search rules in
     let more : c.in-Some.behind.now ≡ c.in-Some-split_first.count.now ∷ c.in-Some-split_first.rest.now = search rules in
     rw (parts, more)
-    (fault_result _ _ _ _ (first_head _ (rw (c.deref.ensures.value, c.in-First.is) at c.in-Some-read_title.ensures) (rw c.deref-2.ensures.value at c.in-Some-read_count.ensures)) _ _
+    (fault_result _ _ _ _ (first_head _ (rw (c.deref.ensures.value, c.in_ok-first.ensures, c.in-First.is) at c.in-Some-read_title.ensures) (rw (c.deref-2.ensures.value, c.in_ok-second.ensures) at c.in-Some-read_count.ensures)) _ _
     c.read_behind.ensures.fault)

@@ -3,8 +3,9 @@ use Rattle.std.specs.Prelude.{Option, Some}
 use Rattle.std.proofs.lemmas.Grind.{common_steps}
 use Rattle.std.proofs.lemmas.List.{length-map}
 use Rattle.ob_interface.specs.Call.{ObjectCall, Reply}
-use Rattle.ob_interface.specs.View.{call_of, reply_of}
+use Rattle.ob_interface.specs.View.{call_of}
 use Rattle.wf_history.specs.History.{Event, IsHistory, End}
+use Rattle.wf_history.specs.View.{kept_reply}
 use Rattle.wf_table.specs.Table.{Process}
 use Rattle.wf_table.specs.Labels.{at_next}
 use Rattle.wf_table.specs.Object.{history_after, ended}
@@ -21,5 +22,5 @@ reply-reply-requires-clause-fits g c =
 
 pub note_end-requires : goal.note_end-requires
 note_end-requires g c =
-    let is : ended (g.E.Engine.meaning c.args.engine.now) c.args.p c.args.q.now ≡ Some (End (record { process = c.args.p; number = c.q.inside.begun }) (reply_of c.reply-reply.result)) = first_of (search rules, grind (arith, common_steps)) in
+    let is : ended (g.E.Engine.meaning c.args.engine.now) c.args.p c.args.q.now ≡ Some (End (record { process = c.args.p; number = c.q.inside.begun }) (kept_reply c.in_ok-kept.kept)) = first_of (search rules, grind (arith, common_steps)) in
     subst (λ (e : Option (Event ObjectCall Reply)). IsHistory (history_after c.args.records.now.history e)) is c.requires.in_turn

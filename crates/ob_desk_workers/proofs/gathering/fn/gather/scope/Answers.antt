@@ -50,5 +50,6 @@ returns g c =
     let given = c.into_iter-seat-iterator.ensures.into_iter_gives in
     let all = YieldsList-end (YieldsList-from_vec {s = c.into_iter-seat-iterator.result} seats given.0 (given.1 ∙ c.captures.seats.ok.0)) c.loop-seat.yielded c.loop-seat.seat-iterator c.loop-seat.yielded_by c.next.result c.next.new.self c.in-None.is c.next.ensures.steps in
     let whole : c.loop-seat.yielded ≡ seats = sym (map-id c.loop-seat.yielded) ∙ all.0 in
-    heard g.G.Gate.passes g.G.Gate.refuses gate limit c.loop-seat.yielded seats starts c.join_all.new.gathered whole h.few c.join_all.ensures.few
-    (λ enough. h.all (c.collect.ensures.short (c.join_all.ensures.short enough))) c.join_all.ensures.joined
+    heard g.G.Gate.passes g.G.Gate.refuses gate limit c.loop-seat.yielded seats starts c.collect.new.gathered whole h.few (rw c.collect.ensures.ended c.join_all.ensures.few)
+    (λ enough. h.all (c.join_all.ensures.short (c.collect.ensures.short enough)))
+    (λ enough. rw (c.collect.ensures.ended, c.collect.ensures.seats) (c.join_all.ensures.joined (c.collect.ensures.short enough)))
