@@ -2,8 +2,8 @@
 //! budget of turns.
 #![tactic(auto)]
 
-pub mod order;
 mod noted;
+pub mod order;
 mod places;
 mod replies;
 

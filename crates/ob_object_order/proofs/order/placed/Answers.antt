@@ -27,7 +27,7 @@ returns-in_default-clause-fault c =
     record {
       place = i;
       here = slice_get-get_or order i default lt;
-      holds = unknown_here history (noted_in places.begins) (noted_in places.ends) c.in_ok-places.ensures order i id (c.in_default.is ∙ c.get.ensures);
+      holds = unknown_here history (noted_in places.begins) (noted_in places.ends) c.in_ok-places.ensures order i id c.in_default.ensures;
       earlier = c.loop-id.invariant.known;
     }
 
@@ -58,11 +58,11 @@ loop-id-preserved c =
     let pushed = c.in_ok-push.ensures.items in
     record {
       ids = rw (add-one, next) (ap (map (λ (x : Placed). x.id)) pushed ∙ map-append (λ (x : Placed). x.id) items _ ∙ ap (λ (ids : List CallId). ids ++ id ∷ []) c.loop-id.invariant.ids);
-      placed = placed_more history (noted_in places.begins) (noted_in places.ends) c.in_ok-places.ensures items c.push.new.self.items _ pushed c.loop-id.invariant.placed (c.in-Some.is ∙ c.get.ensures) c.get-in-loop-id.ensures;
+      placed = placed_more history (noted_in places.begins) (noted_in places.ends) c.in_ok-places.ensures items c.push.new.self.items _ pushed c.loop-id.invariant.placed c.in-Some.ensures c.get-in-loop-id.ensures;
       seen = rw (add-one, next)
           (names_more (noted_in c.loop-id.seen) (noted_in c.note.new.self) (take i order) id c.in-Some.begin c.loop-id.invariant.seen c.in_ok-note.ensures);
       known = nowhere_more (IsUnknown history order) order i id here c.loop-id.invariant.known
-          (known_here history (noted_in places.begins) (noted_in places.ends) c.in_ok-places.ensures order i c.in-Some.begin id (c.in-Some.is ∙ c.get.ensures)
+          (known_here history (noted_in places.begins) (noted_in places.ends) c.in_ok-places.ensures order i c.in-Some.begin id c.in-Some.ensures
           (λ before. false≢true (sym c.if-is_some.false ∙ c.is_some.ensures ∙ (c.loop-id.invariant.seen id).1 before)));
     }
 
