@@ -2,7 +2,6 @@
 //! budget of turns.
 #![tactic(auto)]
 
-mod noted;
 pub mod order;
 mod places;
 mod replies;
