@@ -1,6 +1,5 @@
 mod Arranging
 mod Early
 pub mod Faults
-mod Noting
 mod Placing
 mod Replay

@@ -144,6 +144,15 @@ module _ {A : Type 0} (Fact : ℕ → A → Type 0) (items : List A) where
   pub nowhere_all : (i : ℕ) → length items ≤ i → ((k : ℕ) (other : A) → k < i → slice_get items k ≡ Some other → ¬ Fact k other) → IsNowhere Fact items
   nowhere_all i all before k other at = let lt = slice_get_within items k other at in before k other (omega arith) at
 
+-- what a set says of an id that it takes: whether it had it
+pub had : (has added : Bool) → added ≡ not has → added ≡ false → has ≡ true
+had true added e f = refl
+had false added e f = absurd (false≢true (sym f ∙ e))
+
+pub had_not : (has added : Bool) → added ≡ not has → added ≡ true → has ≡ true → ⊥
+had_not true added e f h = false≢true (sym e ∙ f)
+had_not false added e f h = false≢true h
+
 module _ {Call Reply : Type 0} (history : List (Event Call Reply)) where
   -- the call that was read where an id begins, and the reply where it ends
   pub begun_here : (id other : CallId) (k : ℕ) (call : Call) → BeginsAt history id k → slice_get history k ≡ Some (Begin other call) → HasBegun history id call

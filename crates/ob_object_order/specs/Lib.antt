@@ -1,5 +1,3 @@
 pub mod LegalOrder
-pub mod Noted
 pub mod OrderFaults
 pub mod Places
-pub mod Rows

@@ -3,7 +3,6 @@
 #![tactic(auto)]
 
 pub mod order;
-mod noted;
 mod places;
 mod replies;
 

@@ -77,11 +77,7 @@ pub fn read_record(alloc: Global, checked: &Checked, text: &[u8]) -> Result<Read
 }
 
 /// What lines tell.
-fn read_lines(
-    alloc: Global,
-    exports: &[Export],
-    lines: &[&[u8]],
-) -> Result<ReadRecord, RecordFault>
+fn read_lines(alloc: Global, exports: &[Export], lines: &[&[u8]]) -> Result<ReadRecord, RecordFault>
     ensures record { IfOk result (λ r. IsRecordOf (map signature_of exports.now) (map (λ l. words l.now) lines.now) (told_of «r»)) }
     ensures fault { IfErr result (λ e. FaultStands (map signature_of exports.now) (map (λ l. words l.now) lines.now) e) }
 {
