@@ -15,7 +15,7 @@ returns-in_default-clause-fault c =
 pub returns-in-Some-first_other-clause-fault : goal.returns-in-Some-first_other-clause-fault
 returns-in-Some-first_other-clause-fault c =
     order_fails _ _ _ c.args.head c.args.lines.now c.loop-index.index _ _ _ c.loop-index-test.true c.index-lines-index.is c.loop-index.invariant.events
-    _ _ c.in-Some-first_other.other _ (rest_of c.args.lines.now (c.loop-index.index + 1)) (rw (c.loop-index.invariant.processes, c.in-Some.is, c.in-Order.is) at c.in_ok-said.ensures) c.in-Some-first_other.ensures.place refl
+    _ _ c.in-Some-first_other.other _ (rest_of c.args.lines.now (c.loop-index.index + 1)) (rw (c.loop-index.invariant.processes, c.in-Some.is, c.in-Order.is) at c.in_ok-said.ensures) c.in_ok-first_other.ensures.place refl
 
 pub returns-in-None-clause-record : goal.returns-in-None-clause-record
 returns-in-None-clause-record c =

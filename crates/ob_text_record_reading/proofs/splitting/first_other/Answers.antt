@@ -4,15 +4,15 @@ use Rattle.ob_text_record_reading.specs.RecordLines.{IsTail}
 use Rattle.ob_text_record_reading.proofs.Places.{all_at_end, all_more, first_at}
 use Rattle.ob_text_record_reading.proofs.splitting.first_other.Goals as goal
 
-pub returns-then-not-is_tail-clause-place : goal.returns-then-not-is_tail-clause-place
-returns-then-not-is_tail-clause-place c =
+pub returns-then-not-branch-clause-place : goal.returns-then-not-branch-clause-place
+returns-then-not-branch-clause-place c =
     first_at _ c.args.lines.now c.loop-index.index _ _ c.loop-index-test.true c.index-lines-index.is c.loop-index.invariant
-    (λ h. false≢true (sym c.if-not-is_tail.true ∙ (rw c.deref.ensures.value at c.is_tail.ensures).1 h))
+    (λ h. false≢true (sym c.if-not-branch.true ∙ c.in_ok-is_tail_line.ensures.1 h))
 
 pub loop-index-preserved : goal.loop-index-preserved
 loop-index-preserved c =
     all_more IsTail _ c.args.lines.now c.loop-index.index _ _ c.loop-index-test.true c.index-lines-index.is c.loop-index.invariant
-    ((rw c.deref.ensures.value at c.is_tail.ensures).0 c.if-not-is_tail.false)
+    (c.in_ok-is_tail_line.ensures.0 c.if-not-branch.false)
 
 pub returns-clause-place : goal.returns-clause-place
 returns-clause-place c = all_at_end IsTail _ c.args.lines.now c.loop-index.index c.loop-index-test.false c.loop-index.invariant
