@@ -15,6 +15,6 @@ mod steps;
 pub use engine::Engine;
 pub use fault::NewFault;
 pub use machine::Machine;
-pub use wf_records::{Seen, StepOut};
 pub use wf_bound::Spent;
+pub use wf_records::{Seen, StepOut};
 pub use wf_table::{EngineTurn, Label, Turns};
