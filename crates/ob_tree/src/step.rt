@@ -105,6 +105,7 @@ impl<'a> TreeRun<'a> {
     }
 
     /// What the task in front does. An instruction, as most are, is not copied with all that a task has room for.
+    #[inline(always)]
     fn act_first(
         &mut self,
         program: &'a Program,
@@ -125,7 +126,9 @@ impl<'a> TreeRun<'a> {
         }
     }
 
-    /// One step on a block: what one instruction of the code does. A body that is over is stuck.
+    /// One step on a block: what one instruction of the code does. A body that is over is stuck. It stands in the loop that takes steps, so
+    /// that an instruction is done and the next task looked at without a call.
+    #[inline(always)]
     pub fn step(
         &mut self,
         program: &'a Program,

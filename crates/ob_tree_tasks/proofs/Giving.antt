@@ -1,9 +1,9 @@
 -- A silent task in front gives way to its parts, and what is in front of these gives way in turn.
-use Rattle.std.proofs.Common.{◌≡◌, suc, ◌+◌, ◌≤◌, List, ◌∷◌, ◌++◌, length, Option, Some, None, refl, ap, sym, ◌∙◌, subst, arith}
+use Rattle.std.proofs.Common.{◌≡◌, suc, ◌+◌, ◌≤◌, List, ◌++◌, length, Option, Some, None, refl, ap, sym, ◌∙◌, subst, arith}
 use Rattle.ob_code_scheme.specs.Types.{Scope}
 use Rattle.ob_tree_work.specs.Work.{Task, parts, given_way, opened_by, opened, work_nodes}
 use Rattle.ob_tree_work.proofs.Ready.{gives_way, opened_on}
-use Rattle.ob_tree_tasks.specs.WorkTasks.{WorkTasks, with_tasks, with_first, before, behind}
+use Rattle.ob_tree_tasks.specs.WorkTasks.{WorkTasks, with_first, before}
 use Rattle.ob_tree_tasks.specs.Opening.{IsSmallTask, FirstFits, CanBeOpened, GivesWay}
 
 -- what a silent task in front gives way to
@@ -56,7 +56,6 @@ leads_on g a b c x y =
 pub leads : (g : Scope) (a b : WorkTasks) → GivesWay g a b → Leads g a b
 leads g a b x = let p = x.fewer in record { same = x.same; room = x.room; fits = x.fits; few = omega (arith, p) }
 
--- behind a silent task in front there is room for its parts
-pub room_behind : (g : Scope) (old new : WorkTasks) (t : Task) → old.tasks ≡ t ∷ behind old.tasks → new ≡ with_tasks old (behind old.tasks) → CanBeOpened g old → length new.tasks + 4 ≤ new.room
-room_behind g old new t front dropped fits =
-    subst (λ (w : WorkTasks). length w.tasks + 4 ≤ w.room) (sym dropped) ((subst (λ (ts : List Task). FirstFits g old.room ts) front (fits 0)).0)
+-- behind a task that was taken there is room for its parts
+pub room_behind : (g : Scope) (old new : WorkTasks) (t : Task) → old ≡ with_first t new → CanBeOpened g old → length new.tasks + 4 ≤ new.room
+room_behind g old new t was fits = (first_fits g t new (subst (CanBeOpened g) was fits)).0

@@ -17,59 +17,35 @@ pub fn open<'a>(work: &mut WorkList<'a>, layout: &'a Layout)
     requires fits { CanBeOpened (block_in layout.now) work.old }
     ensures { GivesWay (block_in layout.now) work.old work.new }
 {
-    let Some(task) = work.first() else {
+    let Some(task) = work.pop() else {
         return;
     };
-    match *task {
-        Task::Value { own, expression } => {
-            work.remove_first();
-            open_value(work, layout, own, expression);
-        }
-        Task::Operators { own, operations } => {
-            work.remove_first();
-            open_operators(work, layout, own, operations);
-        }
+    match task {
+        Task::Value { own, expression } => open_value(work, layout, own, expression),
+        Task::Operators { own, operations } => open_operators(work, layout, own, operations),
         Task::Selecting {
             own,
             layout: types,
             data_type,
             selectors,
-        } => {
-            work.remove_first();
-            open_selecting(work, layout, own, types, data_type, selectors);
-        }
-        Task::Handing { own, actuals } => {
-            work.remove_first();
-            open_handing(work, layout, own, actuals);
-        }
+        } => open_selecting(work, layout, own, types, data_type, selectors),
+        Task::Handing { own, actuals } => open_handing(work, layout, own, actuals),
         Task::While {
             own,
             condition,
             body,
-        } => {
-            work.remove_first();
-            open_while(work, layout, own, condition, body);
-        }
+        } => open_while(work, layout, own, condition, body),
         Task::Repeat {
             own,
             body,
             condition,
-        } => {
-            work.remove_first();
-            open_repeat(work, layout, own, body, condition);
-        }
-        Task::All { own, statements } => {
-            work.remove_first();
-            open_all(work, layout, own, statements);
-        }
+        } => open_repeat(work, layout, own, body, condition),
+        Task::All { own, statements } => open_all(work, layout, own, statements),
         Task::Choosing {
             own,
             branches,
             otherwise,
-        } => {
-            work.remove_first();
-            open_choosing(work, layout, own, branches, otherwise);
-        }
+        } => open_choosing(work, layout, own, branches, otherwise),
         _ => {}
     }
 }

@@ -5,32 +5,32 @@ use Rattle.ob_tree_tasks.proofs.opening.open.Goals as goal
 
 pub open_value-requires-clause-room : goal.open_value-requires-clause-room
 open_value-requires-clause-room c =
-    room_behind (block_in c.args.layout.now) c.args.work.now c.remove_first.new.self (task_of c.in-Some.task.now) c.in-Some.ensures c.remove_first.ensures c.requires.fits
+    room_behind (block_in c.args.layout.now) c.args.work.now c.pop.new.self (task_of c.in-Some.task) c.in-Some.ensures c.requires.fits
 
 pub open_operators-requires-clause-room : goal.open_operators-requires-clause-room
 open_operators-requires-clause-room c =
-    room_behind (block_in c.args.layout.now) c.args.work.now c.remove_first-in-Operators.new.self (task_of c.in-Some.task.now) c.in-Some.ensures c.remove_first-in-Operators.ensures c.requires.fits
+    room_behind (block_in c.args.layout.now) c.args.work.now c.pop.new.self (task_of c.in-Some.task) c.in-Some.ensures c.requires.fits
 
 pub open_selecting-requires-clause-room : goal.open_selecting-requires-clause-room
 open_selecting-requires-clause-room c =
-    room_behind (block_in c.args.layout.now) c.args.work.now c.remove_first-in-Selecting.new.self (task_of c.in-Some.task.now) c.in-Some.ensures c.remove_first-in-Selecting.ensures c.requires.fits
+    room_behind (block_in c.args.layout.now) c.args.work.now c.pop.new.self (task_of c.in-Some.task) c.in-Some.ensures c.requires.fits
 
 pub open_handing-requires-clause-room : goal.open_handing-requires-clause-room
 open_handing-requires-clause-room c =
-    room_behind (block_in c.args.layout.now) c.args.work.now c.remove_first-in-Handing.new.self (task_of c.in-Some.task.now) c.in-Some.ensures c.remove_first-in-Handing.ensures c.requires.fits
+    room_behind (block_in c.args.layout.now) c.args.work.now c.pop.new.self (task_of c.in-Some.task) c.in-Some.ensures c.requires.fits
 
 pub open_while-requires-clause-room : goal.open_while-requires-clause-room
 open_while-requires-clause-room c =
-    room_behind (block_in c.args.layout.now) c.args.work.now c.remove_first-in-While.new.self (task_of c.in-Some.task.now) c.in-Some.ensures c.remove_first-in-While.ensures c.requires.fits
+    room_behind (block_in c.args.layout.now) c.args.work.now c.pop.new.self (task_of c.in-Some.task) c.in-Some.ensures c.requires.fits
 
 pub open_repeat-requires-clause-room : goal.open_repeat-requires-clause-room
 open_repeat-requires-clause-room c =
-    room_behind (block_in c.args.layout.now) c.args.work.now c.remove_first-in-Repeat.new.self (task_of c.in-Some.task.now) c.in-Some.ensures c.remove_first-in-Repeat.ensures c.requires.fits
+    room_behind (block_in c.args.layout.now) c.args.work.now c.pop.new.self (task_of c.in-Some.task) c.in-Some.ensures c.requires.fits
 
 pub open_all-requires-clause-room : goal.open_all-requires-clause-room
 open_all-requires-clause-room c =
-    room_behind (block_in c.args.layout.now) c.args.work.now c.remove_first-in-All.new.self (task_of c.in-Some.task.now) c.in-Some.ensures c.remove_first-in-All.ensures c.requires.fits
+    room_behind (block_in c.args.layout.now) c.args.work.now c.pop.new.self (task_of c.in-Some.task) c.in-Some.ensures c.requires.fits
 
 pub open_choosing-requires-clause-room : goal.open_choosing-requires-clause-room
 open_choosing-requires-clause-room c =
-    room_behind (block_in c.args.layout.now) c.args.work.now c.remove_first-in-Choosing.new.self (task_of c.in-Some.task.now) c.in-Some.ensures c.remove_first-in-Choosing.ensures c.requires.fits
+    room_behind (block_in c.args.layout.now) c.args.work.now c.pop.new.self (task_of c.in-Some.task) c.in-Some.ensures c.requires.fits
