@@ -30,15 +30,15 @@ HasCounted-none processes callers made e =
 count_of-le : (p : ℕ) (xs : List ℕ) → count_of p xs ≤ length xs
 count_of-le p xs = rw length-filter (count_by-le-length _ xs)
 
-count_of-more : (q : ℕ) (callers : List ℕ) (n p : ℕ) → n < length callers → p ≡ get_or callers n p →
+count_of-more : (q : ℕ) (callers : List ℕ) (n p : ℕ) → n < length callers → p ≡ get_or callers n 0 →
     count_of q (take (n + 1) callers) ≡ count_of q (take n callers) + cond (p == q) 1 0
 count_of-more q callers n p within at =
-    length-filter_more (λ r. r == q) callers n p within ∙ ap (λ r. count_of q (take n callers) + cond (r == q) 1 0) (sym at)
+    length-filter_more (λ r. r == q) callers n 0 within ∙ ap (λ r. count_of q (take n callers) + cond (r == q) 1 0) (sym at)
 
-count_of-here : (callers : List ℕ) (n p : ℕ) → n < length callers → p ≡ get_or callers n p → count_of p (take (n + 1) callers) ≡ count_of p (take n callers) + 1
+count_of-here : (callers : List ℕ) (n p : ℕ) → n < length callers → p ≡ get_or callers n 0 → count_of p (take (n + 1) callers) ≡ count_of p (take n callers) + 1
 count_of-here callers n p within at = count_of-more p callers n p within at ∙ ap (λ b. count_of p (take n callers) + cond b 1 0) (eq-eqb p p refl)
 
-count_of-other : (callers : List ℕ) (n p q : ℕ) → n < length callers → p ≡ get_or callers n p → (p == q) ≡ false →
+count_of-other : (callers : List ℕ) (n p q : ℕ) → n < length callers → p ≡ get_or callers n 0 → (p == q) ≡ false →
     count_of q (take (n + 1) callers) ≡ count_of q (take n callers)
 count_of-other callers n p q within at other =
     let none : count_of q (take n callers) + 0 ≡ count_of q (take n callers) = omega arith in
@@ -49,7 +49,7 @@ module _ (processes : ℕ) (callers : List ℕ) (n : ℕ) (made : List ℕ) (so_
   pub counted_few : (p : ℕ) → p < processes → get_or made p 0 ≤ n
   counted_few p below = rw (so_far.counted p below) (omega (arith, count_of-le p (take n callers), length-take n callers))
 
-  pub HasCounted-more : (p : ℕ) → p < processes → n < length callers → p ≡ get_or callers n p →
+  pub HasCounted-more : (p : ℕ) → p < processes → n < length callers → p ≡ get_or callers n 0 →
       HasCounted processes callers (n + 1) (set made p (get_or made p 0 + 1))
   HasCounted-more p below within at =
       let in_range : p < length made = omega (arith, so_far.long) in

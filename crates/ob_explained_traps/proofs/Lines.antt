@@ -52,18 +52,17 @@ one_more number line =
 lines_from-end : (number : ℕ) (all : List (List Word)) (line : List Word) →
     lines_from number (all ++ line ∷ []) ≡ lines_from number all ++ (if is_silent line then [] else (number + length all) ∷ [])
 lines_from-end number [] line = one_more number line
-lines_from-end number (first ∷ all) line = go (is_silent first)
+lines_from-end number (first ∷ all) line =
+    let moved : suc number + length all ≡ number + suc (length all) = omega arith in
+    go (is_silent first)
+    (lines_from-end (suc number) all line ∙ ap (λ k. lines_from (suc number) all ++ (if is_silent line then [] else k ∷ [])) moved)
   where
-    moved : suc number + length all ≡ number + suc (length all)
-    moved = omega arith
-
-    later : lines_from (suc number) (all ++ line ∷ []) ≡ lines_from (suc number) all ++ (if is_silent line then [] else (number + suc (length all)) ∷ [])
-    later = lines_from-end (suc number) all line ∙ ap (λ k. lines_from (suc number) all ++ (if is_silent line then [] else k ∷ [])) moved
-
-    go : (t : Bool) → (if t then lines_from (suc number) (all ++ line ∷ []) else number ∷ lines_from (suc number) (all ++ line ∷ []))
+    go : (t : Bool) →
+        lines_from (suc number) (all ++ line ∷ []) ≡ lines_from (suc number) all ++ (if is_silent line then [] else (number + suc (length all)) ∷ []) →
+        (if t then lines_from (suc number) (all ++ line ∷ []) else number ∷ lines_from (suc number) (all ++ line ∷ []))
         ≡ (if t then lines_from (suc number) all else number ∷ lines_from (suc number) all) ++ (if is_silent line then [] else (number + suc (length all)) ∷ [])
-    go true = later
-    go false = ap (λ ns. number ∷ ns) later
+    go true later = later
+    go false later = ap (λ ns. number ∷ ns) later
 
 module _ (all : List (List Word)) (n : ℕ) (line : List Word) (within : n < length all) (at : line ≡ get_or all n line) where
   so_far : lines_from 1 (take (n + 1) all) ≡ lines_from 1 (take n all) ++ (if is_silent line then [] else (1 + n) ∷ [])

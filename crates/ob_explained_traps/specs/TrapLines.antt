@@ -26,11 +26,20 @@ setting_of s = record {
   budget = s.budget;
 }
 
--- which call it is, where it stands in the script, and the number of its trap
+-- which call it is
+unfoldable pub call_text : CallName → List ℕ
+call_text call = codes "call " ++ decimal call.process ++ codes "." ++ decimal call.number
+
+-- where it stands in the script
+unfoldable pub line_text : (script_name : List ℕ) → CallName → List ℕ
+line_text script_name call = codes ", line " ++ decimal call.line ++ codes " of " ++ script_name
+
+-- the number of its trap
+unfoldable pub trap_text : (trap : ℕ) → List ℕ
+trap_text trap = codes ": trap " ++ decimal trap ++ codes "\n"
+
 abbrev pub heading : (script_name : List ℕ) → CallName → (trap : ℕ) → List ℕ
-heading script_name call trap =
-    codes "call " ++ decimal call.process ++ codes "." ++ decimal call.number ++ codes ", line " ++ decimal call.line ++ codes " of " ++ script_name
-    ++ codes ": trap " ++ decimal trap ++ codes "\n"
+heading script_name call trap = call_text call ++ line_text script_name call ++ trap_text trap
 
 -- the operation's place in the text of the module, its line with a mark below it, and what is said of it
 abbrev pub place_lines : Setting → Site → Option ℕ → List ℕ

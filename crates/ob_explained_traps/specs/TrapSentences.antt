@@ -1,5 +1,5 @@
 -- What is said of an operation that traps, with its values.
-use Rattle.std.specs.Prelude.{ℕ, pos, ◌-◌, ◌++◌, int_lt, List, codes, decimal, if◌then◌else◌}
+use Rattle.std.specs.Prelude.{ℕ, ℤ, pos, ◌-◌, ◌++◌, int_lt, List, codes, decimal, if◌then◌else◌}
 use Rattle.std.specs.Fmt.{signed_decimal}
 use Rattle.ob_interface.specs.declared.scalar.Scalar.{Scalar}
 use Rattle.ob_interface.specs.declared.scalar.Scalar.TheVariants.{Int}
@@ -33,11 +33,17 @@ reason_text Div = codes " has no value, since a divisor is at least 1"
 reason_text Mod = codes " has no value, since a divisor is at least 1"
 reason_text operator = range_text
 
+-- of an index, and of an array of so many elements
+unfoldable pub index_text : ℤ → List ℕ
+index_text index = codes "the index is " ++ signed_decimal index
+
+unfoldable pub indices_text : (length : ℕ) → List ℕ
+indices_text length = codes ", and the array has the indices 0 to " ++ decimal (length - 1)
+
 -- of calls with this budget
 abbrev pub cause_sentence : (budget : ℕ) → Cause → List ℕ
 cause_sentence budget (Operating operator left right) = scalar_text left ++ operator_text operator ++ operand_text right ++ reason_text operator
 cause_sentence budget (Negating operand) = codes "-" ++ operand_text operand ++ range_text
-cause_sentence budget (Indexing length index) =
-    codes "the index is " ++ signed_decimal index ++ codes ", and the array has the indices 0 to " ++ decimal (length - 1)
+cause_sentence budget (Indexing length index) = index_text index ++ indices_text length
 cause_sentence budget Activating = codes "at most 64 calls are active at a time, and this would be the 65th"
 cause_sentence budget Turning = codes "no turn is left of the " ++ decimal budget ++ codes " that a call has for its loops and calls"

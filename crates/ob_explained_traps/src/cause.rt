@@ -1,7 +1,7 @@
 //! What is said of an operation that traps.
 
 ghost use Rattle.std.specs.Prelude.{◌≡◌, ◌++◌, codes, IfOk, OnOk, string_bytes};
-ghost use Rattle.ob_explained_traps.specs.TrapSentences.{cause_sentence, operand_text, operator_text, range_text, reason_text};
+ghost use Rattle.ob_explained_traps.specs.TrapSentences.{cause_sentence, index_text, indices_text, operand_text, operator_text, range_text, reason_text};
 ghost use Rattle.ob_text_words.specs.ScalarTexts.{scalar_text};
 ghost use Rattle.ob_trap_sites.specs.Site as Sites;
 ghost use Rattle.ob_trap_values.specs.Reaching.{cause_of};
@@ -117,8 +117,24 @@ fn push_negation(sentence: &mut String, operand: Scalar) -> Result<(), AllocErro
 fn push_index(sentence: &mut String, length: usize, index: i32) -> Result<(), AllocError>
     ensures { OnOk result (string_bytes sentence.new ≡ string_bytes sentence.old ++ cause_sentence 0 (Sites.Indexing length index)) }
 {
+    push_given(sentence, index)?;
+    push_indices(sentence, length)
+}
+
+/// Appends an index.
+#[tactic(auto, unfolding(crate::specs::TrapSentences::index_text))]
+fn push_given(sentence: &mut String, index: i32) -> Result<(), AllocError>
+    ensures { OnOk result (string_bytes sentence.new ≡ string_bytes sentence.old ++ index_text index) }
+{
     sentence.push_str("the index is ")?;
-    push_number(sentence, index)?;
+    push_number(sentence, index)
+}
+
+/// Appends the indices that an array of so many elements has.
+#[tactic(auto, unfolding(crate::specs::TrapSentences::indices_text))]
+fn push_indices(sentence: &mut String, length: usize) -> Result<(), AllocError>
+    ensures { OnOk result (string_bytes sentence.new ≡ string_bytes sentence.old ++ indices_text length) }
+{
     sentence.push_str(", and the array has the indices 0 to ")?;
     push_number(sentence, length.saturating_sub(1))
 }

@@ -1,7 +1,7 @@
 //! The lines that tell of the traps of calls.
 
 ghost use Rattle.std.specs.Prelude.{◌≡◌, ◌++◌, ◌<◌, All, IfOk, OnOk, length, map, option_map, string_bytes};
-ghost use Rattle.ob_explained_traps.specs.TrapLines.{heading, place_lines, setting_of, site_lines, traps_lines};
+ghost use Rattle.ob_explained_traps.specs.TrapLines.{call_text, heading, line_text, place_lines, setting_of, site_lines, trap_text, traps_lines};
 ghost use Rattle.ob_trap_places.specs.Places.{place_of};
 ghost use Rattle.ob_trap_values.specs.Reaching.{site_of};
 
@@ -91,14 +91,38 @@ fn push_heading(
 ) -> Result<(), AllocError>
     ensures { OnOk result (string_bytes told.new ≡ string_bytes told.old ++ heading script_name.now call trap) }
 {
+    push_call(told, call)?;
+    push_line(told, script_name, call)?;
+    push_trap(told, trap)
+}
+
+/// Appends which call it is.
+#[tactic(auto, unfolding(crate::specs::TrapLines::call_text))]
+fn push_call(told: &mut String, call: CallName) -> Result<(), AllocError>
+    ensures { OnOk result (string_bytes told.new ≡ string_bytes told.old ++ call_text call) }
+{
     told.push_str("call ")?;
     push_number(told, call.process)?;
     told.push_str(".")?;
-    push_number(told, call.number)?;
+    push_number(told, call.number)
+}
+
+/// Appends where a call stands in the script.
+#[tactic(auto, unfolding(crate::specs::TrapLines::line_text))]
+fn push_line(told: &mut String, script_name: &str, call: CallName) -> Result<(), AllocError>
+    ensures { OnOk result (string_bytes told.new ≡ string_bytes told.old ++ line_text script_name.now call) }
+{
     told.push_str(", line ")?;
     push_number(told, call.line)?;
     told.push_str(" of ")?;
-    told.push_str(script_name)?;
+    told.push_str(script_name)
+}
+
+/// Appends the number of a trap.
+#[tactic(auto, unfolding(crate::specs::TrapLines::trap_text))]
+fn push_trap(told: &mut String, trap: u8) -> Result<(), AllocError>
+    ensures { OnOk result (string_bytes told.new ≡ string_bytes told.old ++ trap_text trap) }
+{
     told.push_str(": trap ")?;
     push_number(told, trap)?;
     told.push_str("\n")

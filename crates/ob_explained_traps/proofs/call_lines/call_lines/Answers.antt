@@ -8,7 +8,7 @@ use Rattle.ob_text_words.proofs.Reading.{line_at}
 use Rattle.ob_explained_traps.specs.CallLines.{is_silent, lines_from}
 use Rattle.ob_explained_traps.proofs.Lines.{is_quiet, lines_with, lines_without, speaks}
 use Rattle.ob_explained_traps.proofs.call_lines.call_lines.Goals as goal
-use Rattle.ob_explained_traps.proofs.call_lines.call_lines.Goals.{then-makes_call, else-makes_call}
+use Rattle.ob_explained_traps.proofs.call_lines.call_lines.Goals.{then-makes_call+in_ok-push, else-makes_call}
 
 pub loop-index-preserved : goal.loop-index-preserved
 loop-index-preserved c =
@@ -22,7 +22,7 @@ loop-index-preserved c =
     let at = line_at (lines c.args.script.now) n c.in-Some.index c.in-Some.line.now turn.0 turn.1 in
     let makes = rw (c.deref.ensures.value, c.in_ok-words.ensures) at c.makes_call.ensures in
     elim c.if-makes_call.branch [
-      | then-makes_call w ↦
+      | then-makes_call+in_ok-push w ↦
           rw (w.lines-is, length_push, w.in_ok-push.ensures.items)
           (ap (λ ls. ls ++ (c.in-Some.index + 1) ∷ []) c.loop-index.invariant ∙ ap (λ i. lines_from 1 (take n all) ++ (i + 1) ∷ []) at.1
           ∙ sym (lines_with all n (words c.in-Some.line.now) at.0 at.2 (speaks (is_silent (words c.in-Some.line.now)) (sym makes ∙ w.if-makes_call.true))))

@@ -11,6 +11,7 @@ use Rattle.ob_object_sequence.proofs.Runs.{each}
 use Rattle.ob_text_scripts.specs.Script.{IsScript}
 use Rattle.ob_text_words.specs.ScriptCalls.{ScriptCall, object_call, script_call_of}
 use Rattle.ob_typing.specs.Program.{Program}
+use Rattle.ob_explained_traps.specs.TrapsText.{traps_text}
 use Rattle.ob_explained_traps.proofs.Lines.{script_lined}
 use Rattle.ob_explained_traps.proofs.TrapsOfCalls.{all_told}
 use Rattle.ob_explained_traps.proofs.traps.traps_text.Goals as goal
@@ -40,7 +41,7 @@ told_of_calls-requires-clause-lined c =
 pub returns-clause-told : goal.returns-clause-told
 returns-clause-told c =
     let object = object_in c.in_ok-compiled.compiled in
-    let read = subst (λ (p : Program). IsScript (signatures p) 16 c.args.script.text.now _) c.checked.ensures.program c.in_ok-scripts.ensures.script in
-    let fit = subst (λ (p : Program). All (λ (x : ScriptCall). CallFits (signatures p) (object_call x)) _) c.checked.ensures.program c.in_ok-scripts.ensures.fit in
-    all_told (source_of c.args.object) (source_of c.args.script) c.args.budget object _ _ c.in_ok-compiled.ensures.object c.in_ok-compiled.ensures.one_tree read fit
-    c.in_ok-told.ensures
+    let read = subst (λ (p : Program). IsScript (signatures p) 16 c.args.script.text.now c.in_ok-scripts.scripts) c.checked.ensures.program c.in_ok-scripts.ensures.script in
+    let fit = subst (λ (p : Program). All (λ (x : ScriptCall). CallFits (signatures p) (object_call x)) c.in_ok-scripts.scripts) c.checked.ensures.program c.in_ok-scripts.ensures.fit in
+    all_told (source_of c.args.object) (source_of c.args.script) c.args.budget object c.in_ok-scripts.scripts _ c.in_ok-compiled.ensures.object c.in_ok-compiled.ensures.one_tree read fit
+    (c.in_ok-told.ensures ∙ ap (traps_text (source_of c.args.object) (source_of c.args.script) c.args.budget object) c.calls.ensures)
