@@ -23,6 +23,8 @@ FAULT = re.compile(rb"[A-Z]\d+( (at|trap|line|item|process) \d+| \d+\.\d+| \w+)?
 REFUSAL = re.compile(rb"(NoMemory|cannot [^\n]*)\n")
 # that a sentence is shown at a place of a file
 EXPLAINED = re.compile(r"shown in (\w+) at (\d+): (.*)")
+# that a call traps, at a place of a file
+TRAPPED = re.compile(r"(call \d+\.\d+, line \d+ of \w+: trap \d), shown in (\w+) at (\d+): (.*)")
 WORD = re.compile(rb"[A-Za-z][A-Za-z0-9]*")
 NO_MEMORY = b"NoMemory\n"
 
@@ -147,7 +149,7 @@ def explained(name, text, place, sentence):
 
 
 def answered(row, answer):
-    """The row with the answer of a table: 'is read', 'nothing', what is shown, the line of a fault, or what is printed."""
+    """The row with the answer of a table: 'is read', 'nothing', what is shown, a trap, the line of a fault, or what is printed."""
     if not answer:
         return row
     if answer == "is read":
@@ -157,6 +159,10 @@ def answered(row, answer):
     told = EXPLAINED.fullmatch(answer)
     if told:
         return replace(row, out=b"", err=explained(told[1], expand(row.files[told[1]]), int(told[2]), told[3]))
+    trap = TRAPPED.fullmatch(answer)
+    if trap:
+        shown = explained(trap[2], expand(row.files[trap[2]]), int(trap[3]), trap[4])
+        return replace(row, out=trap[1].encode() + b"\n" + shown, err=b"")
     lines = expand(answer.replace(" / ", "\n") + "\n")
     is_fault = FAULT.fullmatch(lines) or REFUSAL.fullmatch(lines)
     return replace(row, out=b"", err=lines) if is_fault else replace(row, out=lines, err=b"")

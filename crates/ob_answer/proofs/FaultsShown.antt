@@ -1,7 +1,7 @@
 -- Explanations made of the beginning of a module's text.
 use Rattle.std.proofs.Common.{◌≡◌, ◌≢◌, ◌<◌, ◌≤◌, ◌⊎◌, ℕ, List, Result, Ok, Err, IfOk, length, false, subst, sym}
 use Rattle.ob_scan.specs.declared.fault.ScanFault.TheVariants as Scan
-use Rattle.ob_answer.specs.Explains.{IsCallsExplained, IsCallsFaultShown, IsModuleExplained, IsModuleFaultShown, IsRecordExplained, IsRecordFaultShown, IsRunExplained, IsRunFaultShown, wrong}
+use Rattle.ob_answer.specs.Explains.{AreTrapsExplained, IsCallsExplained, IsCallsFaultShown, IsModuleExplained, IsModuleFaultShown, IsRecordExplained, IsRecordFaultShown, IsRunExplained, IsRunFaultShown, untold, wrong}
 use Rattle.ob_explained.proofs.Long.{told_elsewhere}
 use Rattle.ob_answer.specs.declared.answered.Answer.{Answer}
 use Rattle.ob_check_text.specs.declared.checked_text.TextFault.TheVariants as Texts
@@ -58,18 +58,44 @@ long_calls module_name part whole script_name script budget e a too_much too_lon
     → IsSeqTextFault whole script budget x × IsCallsFaultShown module_name whole script_name script x a)
     budget e (λ much told. (much, told)) (λ told. (too_long_scan whole longer, (told.0, told_elsewhere told.1, told.2))) too_much too_long
 
-pub calls_wrong_made : {E : Type 0} (module_name : Text) (part : List ℕ) (script_name : Text) (script : List ℕ) (budget : ℕ) (e : SeqTextFault) (result : Result Answer E)
-    → IfOk result (λ a. IsCallsFaultShown module_name part script_name script e a) → IfOk result (λ _. is_want_of_memory e ≡ false)
-    → IsSeqTextFault part script budget e → TellsMemoryApart e → (IsNumbered e → HasNoRun part script budget)
-    → (1000000 < budget → e ≡ Runs.Compile Compile.Budget) → (budget ≤ 1000000 → 65536 < length part → e ≡ Runs.Compile (Compile.Text (Texts.Scan Scan.TooLong)))
-    → IfOk result (λ a. (whole : List ℕ) → part ≡ beginning whole → IsCallsExplained module_name whole script_name script budget a)
-calls_wrong_made module_name part script_name script budget e (Ok a) told numbered stands apart none too_much too_long =
-    λ whole is.
-    let both = of_whole_or_long (λ t. IsSeqTextFault t script budget e × IsCallsFaultShown module_name t script_name script e a) part whole is
-    (λ long longer. long_calls module_name part whole script_name script budget e a too_much (λ few. too_long few long) longer told) (stands, told) in
-    let no_run = of_whole_or_long (λ t. HasNoRun t script budget) part whole is (λ long longer. long_runs_not whole script budget longer) (none (numbered, apart)) in
-    wrong e both.0 (numbered, apart) (λ run. no_run run.0 run.1) both.1
-calls_wrong_made module_name part script_name script budget e (Err x) told numbered stands apart none too_much too_long = tt
+-- a fault of calls on the beginning of a module's text is one of calls on the whole, is shown so, and rules out their replies
+record Untold (module_name : Text) (whole : List ℕ) (script_name : Text) (script : List ℕ) (budget : ℕ) (e : SeqTextFault) (a : Answer) : Type 0 where
+  stands : IsSeqTextFault whole script budget e
+  shown : IsCallsFaultShown module_name whole script_name script e a
+  no_run : HasNoRun whole script budget
+
+module _ (module_name : Text) (part : List ℕ) (script_name : Text) (script : List ℕ) (budget : ℕ) (e : SeqTextFault)
+    (stands : IsSeqTextFault part script budget e) (apart : TellsMemoryApart e) (none : IsNumbered e → HasNoRun part script budget)
+    (too_much : 1000000 < budget → e ≡ Runs.Compile Compile.Budget)
+    (too_long : budget ≤ 1000000 → 65536 < length part → e ≡ Runs.Compile (Compile.Text (Texts.Scan Scan.TooLong))) where
+  of_whole_calls : (a : Answer) → IsCallsFaultShown module_name part script_name script e a → is_want_of_memory e ≡ false
+      → (whole : List ℕ) → part ≡ beginning whole → Untold module_name whole script_name script budget e a
+  of_whole_calls a told numbered whole is =
+      let both = of_whole_or_long (λ t. IsSeqTextFault t script budget e × IsCallsFaultShown module_name t script_name script e a) part whole is
+      (λ long longer. long_calls module_name part whole script_name script budget e a too_much (λ few. too_long few long) longer told) (stands, told) in
+      record {
+        stands = both.0;
+        shown = both.1;
+        no_run = of_whole_or_long (λ t. HasNoRun t script budget) part whole is (λ long longer. long_runs_not whole script budget longer) (none (numbered, apart));
+      }
+
+  pub calls_wrong_made : {E : Type 0} (result : Result Answer E)
+      → IfOk result (λ a. IsCallsFaultShown module_name part script_name script e a) → IfOk result (λ _. is_want_of_memory e ≡ false)
+      → IfOk result (λ a. (whole : List ℕ) → part ≡ beginning whole → IsCallsExplained module_name whole script_name script budget a)
+  calls_wrong_made (Ok a) told numbered =
+      λ whole is.
+      let here = of_whole_calls a told numbered whole is in
+      wrong e here.stands (numbered, apart) (λ run. here.no_run run.0 run.1) here.shown
+  calls_wrong_made (Err x) told numbered = tt
+
+  pub traps_untold_made : {E : Type 0} (result : Result Answer E)
+      → IfOk result (λ a. IsCallsFaultShown module_name part script_name script e a) → IfOk result (λ _. is_want_of_memory e ≡ false)
+      → IfOk result (λ a. (whole : List ℕ) → part ≡ beginning whole → AreTrapsExplained module_name whole script_name script budget a)
+  traps_untold_made (Ok a) told numbered =
+      λ whole is.
+      let here = of_whole_calls a told numbered whole is in
+      untold e here.stands (numbered, apart) here.no_run here.shown
+  traps_untold_made (Err x) told numbered = tt
 
 -- ---- of a run
 

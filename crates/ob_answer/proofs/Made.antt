@@ -26,7 +26,7 @@ use Rattle.ob_object_compile.specs.Compilation.{HasNoObject, IsCompileFault, def
 use Rattle.ob_object_compile.specs.declared.compiling.CompileFault.{CompileFault}
 use Rattle.ob_object_compile.specs.declared.compiling.CompileFault.TheVariants as Compile
 use Rattle.ob_object_draw.specs.RecordPictures as RecordPictures
-use Rattle.ob_object_draw.specs.RecordPictures.{IsDrawRecordFault}
+use Rattle.ob_object_draw.specs.RecordPictures.{HasNoPicture, IsDrawRecordFault}
 use Rattle.ob_object_draw.specs.declared.drawing.DrawRecordFault.{DrawRecordFault}
 use Rattle.ob_object_draw.specs.declared.drawing.DrawRecordFault.TheVariants as DrawRecord
 use Rattle.ob_object_perform.specs.Performance as Performs
@@ -238,16 +238,18 @@ draw_refused_made calls part n budget script schedule e (Err x) told known stand
 
 pub draw_record_refused_made : {E : Type 0} (calls : Option CallRange) (part text : List ℕ) (e : DrawRecordFault) (result : Result Answer E)
     → IfOk result (λ a. IsRefused a 1 (draw_record_fault_line e ++ codes "\n")) → IfOk result (λ _. e ≢ DrawRecord.NoMemory)
-    → IsDrawRecordFault part text calls e → RecordPictures.TellsMemoryApart e
+    → IsDrawRecordFault part text calls e → RecordPictures.TellsMemoryApart e → (RecordPictures.IsNumbered e → HasNoPicture part text calls)
     → (65536 < length part → e ≡ DrawRecord.Text (Texts.Scan Scan.TooLong))
     → IfOk result (λ a. (whole : List ℕ) → part ≡ beginning whole → IsRecordPictureAnswer calls whole text a)
-draw_record_refused_made calls part text e (Ok a) told known stands apart too_long =
+draw_record_refused_made calls part text e (Ok a) told known stands apart none too_long =
     λ whole is.
     refused e
     (of_whole_or_long (λ t. IsDrawRecordFault t text calls e) part whole is
     (λ long longer. subst (λ (x : DrawRecordFault). IsDrawRecordFault whole text calls x) (sym (too_long long)) (too_long_scan whole longer)) stands)
-    (known, apart) tt told
-draw_record_refused_made calls part text e (Err x) told known stands apart too_long = tt
+    (known, apart)
+    (of_whole_or_long (λ t. HasNoPicture t text calls) part whole is (λ long longer output p. no_module whole longer p.program p.read.is_module)
+    (none (known, apart))) told
+draw_record_refused_made calls part text e (Err x) told known stands apart none too_long = tt
 
 pub serve_refused_made : {E : Type 0} (part : List ℕ) (n budget : ℕ) (script : List ℕ) (e : ServeTextFault) (result : Result Answer E)
     → IfOk result (λ a. IsRefused a 1 (serve_fault_line e ++ codes "\n")) → IfOk result (λ _. e ≢ Serve.NoMemory)

@@ -16,9 +16,7 @@ use Rattle.ob_object_compile.specs.Compilation as Compiles
 use Rattle.ob_object_compile.specs.Compilation.{HasNoObject, IsCompileFault, default_budget}
 use Rattle.ob_object_compile.specs.Listed.{IsListing}
 use Rattle.ob_object_draw.specs.RecordPictures as RecordPictures
-use Rattle.ob_object_draw.specs.RecordPictures.{IsDrawRecordFault, IsRecordPicture}
-use Rattle.ob_object_draw.specs.declared.drawing.DrawRecordFault.{DrawRecordFault}
-use Rattle.ob_object_draw.specs.declared.drawing.DrawRecordFault.TheVariants as DrawsRecord
+use Rattle.ob_object_draw.specs.RecordPictures.{HasNoPicture, IsDrawRecordFault, IsRecordPicture}
 use Rattle.ob_object_perform.specs.Performance as Performs
 use Rattle.ob_object_perform.specs.Performance.{HasNoPerformance, HasNoTreePerformance, IsPerformFault, IsTreePerformFault}
 use Rattle.ob_object_perform.specs.Pictured.{IsDrawFault, IsPicturePrinted, SaysNoRun}
@@ -33,11 +31,11 @@ use Rattle.ob_object_tree.specs.TreeRuns.{IsPrintedOfCode}
 use Rattle.ob_object_verify.specs.Verified.{IsVerified}
 use Rattle.ob_object_verify.specs.VerifyFaults as Verifies
 use Rattle.ob_object_verify.specs.VerifyFaults.{IsVerifyFault}
-use Rattle.ob_command.specs.CommandLine.{Text, Request, RunRequest, Check, Listing, Seq, Run, RunTree, RunSteps, Serve, Draw, DrawRecord, Verify, Explain, ExplainRun, ExplainRecord, Bound, Help, Version, Unclear}
+use Rattle.ob_command.specs.CommandLine.{Text, Request, RunRequest, Check, Listing, Seq, Run, RunTree, RunSteps, Serve, Draw, DrawRecord, Verify, Explain, ExplainTraps, ExplainRun, ExplainRecord, Bound, Help, Version, Unclear}
 use Rattle.ob_command.specs.declared.command.CallNumbers.{CallNumbers}
 use Rattle.ob_answer.specs.declared.product.Product.{Product}
 use Rattle.ob_answer.specs.declared.product.Product.TheVariants as Products
-use Rattle.ob_answer.specs.Explains.{IsCallsExplained, IsModuleExplained, IsRecordExplained, IsRunExplained}
+use Rattle.ob_answer.specs.Explains.{AreTrapsExplained, IsCallsExplained, IsModuleExplained, IsRecordExplained, IsRunExplained}
 use Rattle.ob_answer.specs.Printed.{IsPrinted, IsPrintedBeside, IsRefused}
 use Rattle.ob_answer.specs.Reads.{IsOutcome}
 
@@ -133,15 +131,11 @@ IsPictureAnswer calls module_bytes processes budget script_bytes schedule_bytes 
     (IsDrawFault module_bytes processes budget script_bytes schedule_bytes calls) IsNumberedDraw
     (SaysNoRun module_bytes processes budget script_bytes schedule_bytes) draw_fault_line
 
--- a fault of a record's picture with a number, so no want of memory
-abbrev pub IsNumberedDrawRecord : DrawRecordFault → Type 0
-IsNumberedDrawRecord fault = (fault ≢ DrawsRecord.NoMemory) × RecordPictures.TellsMemoryApart fault
-
 -- to the bytes of a module and of a record: the picture of some calls of the record, or of all
 abbrev pub IsRecordPictureAnswer : Option CallRange → (module_bytes record_bytes : List ℕ) → Answer → Type 0
 IsRecordPictureAnswer calls module_bytes record_bytes =
-    IsTextAnswer (IsRecordPicture module_bytes record_bytes calls) (IsDrawRecordFault module_bytes record_bytes calls) IsNumberedDrawRecord
-    (λ _. Unit {0}) draw_record_fault_line
+    IsTextAnswer (IsRecordPicture module_bytes record_bytes calls) (IsDrawRecordFault module_bytes record_bytes calls) RecordPictures.IsNumbered
+    (λ _. HasNoPicture module_bytes record_bytes calls) draw_record_fault_line
 
 -- what is printed of a run: its record, by the code or by the tree of the module, or with the own steps of its calls, or a picture of it
 abbrev pub IsRunAnswer : Product → (module_bytes : List ℕ) (processes budget : ℕ) (script_bytes schedule_bytes : List ℕ) → Answer → Type 0
@@ -190,6 +184,7 @@ files_of (DrawRecord module_name record_name calls) = module_name ∷ record_nam
 files_of (Verify module_name record_name) = module_name ∷ record_name ∷ []
 files_of (Explain module_name None budget) = module_name ∷ []
 files_of (Explain module_name (Some script_name) budget) = module_name ∷ script_name ∷ []
+files_of (ExplainTraps module_name script_name budget) = module_name ∷ script_name ∷ []
 files_of (ExplainRun run) = files_of_run run
 files_of (ExplainRecord module_name record_name) = module_name ∷ record_name ∷ []
 files_of (Bound module_name processes budget) = module_name ∷ []
@@ -211,6 +206,8 @@ IsMade (Verify module_name record_name) (module_bytes ∷ record_bytes ∷ []) a
 IsMade (Explain module_name None budget) (module_bytes ∷ []) answer = IsModuleExplained module_name module_bytes answer
 IsMade (Explain module_name (Some script_name) budget) (module_bytes ∷ script_bytes ∷ []) answer =
     IsCallsExplained module_name module_bytes script_name script_bytes budget answer
+IsMade (ExplainTraps module_name script_name budget) (module_bytes ∷ script_bytes ∷ []) answer =
+    AreTrapsExplained module_name module_bytes script_name script_bytes budget answer
 IsMade (ExplainRun run) (module_bytes ∷ script_bytes ∷ schedule_bytes ∷ []) answer = IsRunExplained run module_bytes script_bytes schedule_bytes answer
 IsMade (ExplainRecord module_name record_name) (module_bytes ∷ record_bytes ∷ []) answer =
     IsRecordExplained module_name module_bytes record_name record_bytes answer

@@ -8,6 +8,7 @@ use Rattle.ob_explained.specs.Explained.{IsCallsExplanation, IsModuleExplanation
 use Rattle.ob_explained_records.specs.ExplainedRecords.{IsRecordExplanation}
 use Rattle.ob_explained_runs.specs.ExplainedRuns.{IsRunExplanation}
 use Rattle.ob_explained_runs.specs.Sources.{Source}
+use Rattle.ob_explained_traps.specs.TrapsText.{IsTrapsText}
 use Rattle.ob_fault_lines.specs.RunFaultLines.{run_fault_line}
 use Rattle.ob_fault_lines.specs.VerifyFaultLines.{verify_fault_line}
 use Rattle.ob_fault_lines.specs.CompileFaultLines.{compile_line}
@@ -19,7 +20,7 @@ use Rattle.ob_object_perform.specs.Performance as Performs
 use Rattle.ob_object_perform.specs.Performance.{IsPerformFault}
 use Rattle.ob_object_perform.specs.Printed.{HasPerformance}
 use Rattle.ob_object_perform.specs.declared.performing.PerformFault.{PerformFault}
-use Rattle.ob_object_sequence.specs.SequentialRun.{HasObject, IsNumbered, IsSeqTextFault, IsSequentialRun}
+use Rattle.ob_object_sequence.specs.SequentialRun.{HasNoRun, HasObject, IsNumbered, IsSeqTextFault, IsSequentialRun}
 use Rattle.ob_object_sequence.specs.declared.sequential.SeqTextFault.{SeqTextFault}
 use Rattle.ob_object_verify.specs.Verified.{IsVerified}
 use Rattle.ob_object_verify.specs.VerifyFaults as Verifies
@@ -60,6 +61,15 @@ IsCallsExplained module_name module_bytes script_name script_bytes budget =
 -- a text with the name by which its file is shown
 abbrev pub source : (name : Text) (bytes : List ℕ) → Source
 source name bytes = record { name = shown name; text = bytes }
+
+-- To the names and the bytes of a module and a script and to a budget: what is told of the calls that trap; else a fault is shown, which
+-- is not want of memory, and then the calls have no replies.
+pub data AreTrapsExplained (module_name : Text) (module_bytes : List ℕ) (script_name : Text) (script_bytes : List ℕ) (budget : ℕ) (answer : Answer) : Type 0 where
+  told : (text : Text) → IsTrapsText (source module_name module_bytes) (source script_name script_bytes) budget text → IsPrinted answer text
+      → AreTrapsExplained module_name module_bytes script_name script_bytes budget answer
+  untold : (e : SeqTextFault) → IsSeqTextFault module_bytes script_bytes budget e → IsNumbered e → HasNoRun module_bytes script_bytes budget
+      → IsCallsFaultShown module_name module_bytes script_name script_bytes e answer
+      → AreTrapsExplained module_name module_bytes script_name script_bytes budget answer
 
 -- a fault of a run: the place in the file of its module, of its script or of its schedule, and else the line by which `run` tells it
 abbrev pub IsRunFaultShown : RunRequest → (module_bytes script_bytes schedule_bytes : List ℕ) → PerformFault → Answer → Type 0

@@ -3,7 +3,7 @@ use Rattle.std.specs.Prelude.{◌≡◌, ℕ, List, [], ◌∷◌, Some, false, 
 use Rattle.ob_answer.specs.Answers.{IsAnswer}
 use Rattle.ob_answer.specs.declared.answered.Answer.{Answer}
 use Rattle.ob_answer.specs.declared.files.FileFault.{FileFault}
-use Rattle.ob_command.specs.CommandLine.{Draw, DrawRecord, ExplainRecord, Request, RunRequest, Text, budget_number, calls_in, default_budget, is_option, number}
+use Rattle.ob_command.specs.CommandLine.{Draw, DrawRecord, ExplainRecord, ExplainTraps, Request, RunRequest, Text, budget_number, calls_in, default_budget, is_option, number}
 use Rattle.ob_command.specs.declared.command.CallNumbers.{CallNumbers}
 use Rattle.ob_command.specs.PlainForms.{run_with}
 
@@ -21,10 +21,10 @@ module _ {F E : Type 0} (Reads : F → Text → Result (List ℕ) FileFault → 
   abbrev pub IsPairAnswered : Text → (Text → Text → Request) → Type 0
   IsPairAnswered command asks = (m s : Text) → is_option m ≡ false → is_option s ≡ false → IsAnswered (command ∷ m ∷ s ∷ []) (asks m s)
 
-  -- The command, two names, and `-b` with a budget do.
-  abbrev pub IsCallsAnswered : Text → (Text → Text → ℕ → Request) → Type 0
-  IsCallsAnswered command asks = (m s b : Text) (k : ℕ) → is_option m ≡ false → is_option s ≡ false → budget_number b ≡ Some k
-      → IsAnswered (command ∷ m ∷ s ∷ codes "-b" ∷ b ∷ []) (asks m s k)
+  -- The command, two names, `-b` with a budget, and more words do.
+  abbrev pub IsCallsAnswered : Text → (more : List Text) → (Text → Text → ℕ → Request) → Type 0
+  IsCallsAnswered command more asks = (m s b : Text) (k : ℕ) → is_option m ≡ false → is_option s ≡ false → budget_number b ≡ Some k
+      → IsAnswered (command ∷ m ∷ s ∷ codes "-b" ∷ b ∷ more) (asks m s k)
 
   -- The command, three names, `-n` with a number, and more words do.
   abbrev pub IsRunAnswered : Text → (more : List Text) → (RunRequest → Request) → Type 0
@@ -55,6 +55,11 @@ module _ {F E : Type 0} (Reads : F → Text → Result (List ℕ) FileFault → 
   abbrev pub IsRecordShown : Type 0
   IsRecordShown = (m r : Text) → is_option m ≡ false → is_option r ≡ false
       → IsAnswered (codes "explain" ∷ m ∷ codes "--record" ∷ r ∷ []) (ExplainRecord m r)
+
+  -- `explain`, two names, and `--traps` ask for the traps of the calls.
+  abbrev pub AreTrapsShown : Type 0
+  AreTrapsShown = (m s : Text) → is_option m ≡ false → is_option s ≡ false
+      → IsAnswered (codes "explain" ∷ m ∷ s ∷ codes "--traps" ∷ []) (ExplainTraps m s default_budget)
 
   -- The command, two names, and `-n` with a number do.
   abbrev pub IsWorkersAnswered : Text → (Text → Text → ℕ → ℕ → Request) → Type 0

@@ -3,13 +3,14 @@
 ghost use Rattle.std.specs.Prelude.{◌≡◌, ◌∷◌, [], None, Some, IfOk, map, codes, count_by, nat_lt};
 ghost use Rattle.std.specs.Str.{bytes_eq};
 ghost use Rattle.ob_answer.specs.Answers.{IsAnswer, IsObeyed, IsRunObeyed, files_of, files_of_run, input_name, range_of, reads_input_twice};
-ghost use Rattle.ob_answer.specs.PlainAnswers.{AreBudgetCallsDrawn, AreCallsDrawn, AreRecordCallsDrawn, IsBudgetNumbersAnswered, IsBudgetRunAnswered, IsBudgetWorkersAnswered, IsCallsAnswered, IsModuleAnswered, IsNumbersAnswered, IsPairAnswered, IsRecordShown, IsRunAnswered, IsWorkersAnswered};
-ghost use Rattle.ob_command.specs.CommandLine.{Bound, Check, Draw, DrawRecord, Explain, ExplainRun, Listing, Run, RunSteps, RunTree, Seq, Serve, Verify, request};
+ghost use Rattle.ob_answer.specs.PlainAnswers.{AreBudgetCallsDrawn, AreCallsDrawn, AreRecordCallsDrawn, AreTrapsShown, IsBudgetNumbersAnswered, IsBudgetRunAnswered, IsBudgetWorkersAnswered, IsCallsAnswered, IsModuleAnswered, IsNumbersAnswered, IsPairAnswered, IsRecordShown, IsRunAnswered, IsWorkersAnswered};
+ghost use Rattle.ob_command.specs.CommandLine.{Bound, Check, Draw, DrawRecord, Explain, ExplainRun, ExplainTraps, Listing, Run, RunSteps, RunTree, Seq, Serve, Verify, request};
 ghost use Rattle.ob_command.specs.Commands.{request_of, run_request_of};
 
 use crate::answered::Answer;
 use crate::explaining::obey_explain;
 use crate::explaining_runs::{obey_explain_record, obey_explain_run};
+use crate::explaining_traps::obey_explain_traps;
 use crate::files::{FileFault, Files};
 use crate::making::{
     answer_bound, answer_check, answer_draw_record, answer_list, answer_run, answer_seq,
@@ -47,7 +48,7 @@ pub fn answer<R: Threads + Wait + Sync + AllocGlobal, F: Files>(
     ensures check { IsModuleAnswered F.reads (map (λ word. word.now) words.now) files.old result files.new (codes "check") Check }
     ensures list { IsModuleAnswered F.reads (map (λ word. word.now) words.now) files.old result files.new (codes "list") Listing }
     ensures seq { IsPairAnswered F.reads (map (λ word. word.now) words.now) files.old result files.new (codes "seq") (λ m s. Seq m s 100000) }
-    ensures seq_budget { IsCallsAnswered F.reads (map (λ word. word.now) words.now) files.old result files.new (codes "seq") Seq }
+    ensures seq_budget { IsCallsAnswered F.reads (map (λ word. word.now) words.now) files.old result files.new (codes "seq") [] Seq }
     ensures run { IsRunAnswered F.reads (map (λ word. word.now) words.now) files.old result files.new (codes "run") [] Run }
     ensures run_budget { IsBudgetRunAnswered F.reads (map (λ word. word.now) words.now) files.old result files.new (codes "run") [] Run }
     ensures run_tree { IsRunAnswered F.reads (map (λ word. word.now) words.now) files.old result files.new (codes "run") (codes "--tree" ∷ []) RunTree }
@@ -65,7 +66,9 @@ pub fn answer<R: Threads + Wait + Sync + AllocGlobal, F: Files>(
     ensures verify { IsPairAnswered F.reads (map (λ word. word.now) words.now) files.old result files.new (codes "verify") Verify }
     ensures explain { IsModuleAnswered F.reads (map (λ word. word.now) words.now) files.old result files.new (codes "explain") (λ m. Explain m None 100000) }
     ensures explain_calls { IsPairAnswered F.reads (map (λ word. word.now) words.now) files.old result files.new (codes "explain") (λ m s. Explain m (Some s) 100000) }
-    ensures explain_budget { IsCallsAnswered F.reads (map (λ word. word.now) words.now) files.old result files.new (codes "explain") (λ m s k. Explain m (Some s) k) }
+    ensures explain_budget { IsCallsAnswered F.reads (map (λ word. word.now) words.now) files.old result files.new (codes "explain") [] (λ m s k. Explain m (Some s) k) }
+    ensures explain_traps { AreTrapsShown F.reads (map (λ word. word.now) words.now) files.old result files.new }
+    ensures explain_traps_budget { IsCallsAnswered F.reads (map (λ word. word.now) words.now) files.old result files.new (codes "explain") (codes "--traps" ∷ []) ExplainTraps }
     ensures explain_run { IsRunAnswered F.reads (map (λ word. word.now) words.now) files.old result files.new (codes "explain") [] ExplainRun }
     ensures explain_run_budget { IsBudgetRunAnswered F.reads (map (λ word. word.now) words.now) files.old result files.new (codes "explain") [] ExplainRun }
     ensures explain_record { IsRecordShown F.reads (map (λ word. word.now) words.now) files.old result files.new }
@@ -147,6 +150,11 @@ fn reads_input_twice(command: Command<'_>) -> bool
             Some(script_name) => are_two_inputs(&[module_name, script_name]),
             None => false,
         },
+        Command::ExplainTraps {
+            module_name,
+            script_name,
+            ..
+        } => are_two_inputs(&[module_name, script_name]),
         Command::ExplainRun(run) => are_inputs_of_run(run),
         Command::ExplainRecord {
             module_name,
@@ -220,6 +228,11 @@ fn obey<R: Threads + Wait + Sync, F: Files>(
             script_name,
             budget,
         } => obey_explain(alloc, module_name, script_name, budget, files),
+        Command::ExplainTraps {
+            module_name,
+            script_name,
+            budget,
+        } => obey_explain_traps(alloc, module_name, script_name, budget, files),
         Command::ExplainRun(run) => obey_explain_run(alloc, run, files),
         Command::ExplainRecord {
             module_name,

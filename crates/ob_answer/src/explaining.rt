@@ -125,7 +125,7 @@ fn explain_calls(
 }
 
 /// The answer to a fault of a module and a script.
-fn calls_wrong(
+pub(crate) fn calls_wrong(
     alloc: Global,
     module_name: &str,
     module: &[u8],

@@ -6,6 +6,7 @@ pub mod answer;
 pub mod answered;
 mod explaining;
 mod explaining_runs;
+mod explaining_traps;
 pub mod files;
 mod making;
 pub mod product;

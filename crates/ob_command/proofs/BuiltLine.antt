@@ -86,7 +86,7 @@ abbrev pub verify_leaf : Shape
 verify_leaf = leaf (codes "verify") (built_name 1 (codes "MODULE") ∷ built_name 2 (codes "RECORD") ∷ built_help ∷ [])
 
 abbrev pub explain_leaf : Shape
-explain_leaf = leaf (codes "explain") (run_rules false false false (built_record ∷ built_help ∷ []))
+explain_leaf = leaf (codes "explain") (run_rules false false false (built_record ∷ built_flag (codes "traps") ∷ built_help ∷ []))
 
 abbrev pub bound_leaf : Shape
 bound_leaf = leaf (codes "bound") (built_name 1 (codes "MODULE") ∷ built_number ∷ built_budget ∷ built_help ∷ [])

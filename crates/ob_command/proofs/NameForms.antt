@@ -71,7 +71,7 @@ seq_asked m s no_m no_s =
     asked (codes "seq") seq_leaf refl refl refl (m ∷ s ∷ []) (script_rows m s)
     (calls_named m s no_m no_s [] (script_rows m s) (record { no_fault = refl; leaves = refl }))
 
-pub seq_budget_asked : (short : Bool) → IsCallsAsked (codes "seq") (budget_flag short) Seq
+pub seq_budget_asked : (short : Bool) → IsCallsAsked (codes "seq") (budget_flag short) [] Seq
 unfolding clap_on_literals
 seq_budget_asked short m s b k no_m no_s is =
     asked (codes "seq") seq_leaf refl refl refl (m ∷ s ∷ budget_flag short ∷ b ∷ []) (calls_rows m s b)

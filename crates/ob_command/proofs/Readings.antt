@@ -20,7 +20,7 @@ use Rattle.std.specs.Borrow.{Bor}
 use Rattle.clap.specs.Words.{first_of, first_value, one_of}
 use Rattle.clap.specs.declared.parser.matches.Found.{Found}
 use Rattle.clap.proofs.WalkLemmas.{first_value-rows}
-use Rattle.ob_command.specs.CommandLine.{Request, Bound, Check, Draw, DrawRecord, Explain, ExplainRecord, ExplainRun, Help, Listing, RunRequest, Seq, Serve, Unclear, Verify, bound_of, budget_number, budget_of, calls_by, calls_of, clap_request, command_of, default_budget, draw_of, draw_record_of, drawn_of, explain_by, explain_calls_of, explain_of, explain_record_of, explain_texts_of, form_mistake, form_mistake_of, is_set, made_by, made_of, processes_of, request_by, run_of, seq_of, serve_of}
+use Rattle.ob_command.specs.CommandLine.{Request, Bound, Check, Draw, DrawRecord, Explain, ExplainRecord, ExplainRun, ExplainTraps, Help, Listing, RunRequest, Seq, Serve, Unclear, Verify, bound_of, budget_number, budget_of, calls_by, calls_of, clap_request, command_of, default_budget, draw_of, draw_record_of, drawn_of, explain_by, explain_calls_of, explain_of, explain_record_of, explain_texts_of, explain_traps_of, form_mistake, form_mistake_of, is_set, made_by, made_of, processes_of, request_by, run_of, seq_of, serve_of, traps_of}
 use Rattle.ob_command.specs.declared.command.CallNumbers.{CallNumbers}
 use Rattle.ob_command.specs.PlainForms.{run_with}
 use Rattle.ob_command.specs.Commands.{IsMistake, IsReading, IsStopOf}
@@ -178,9 +178,26 @@ a_verify name m rows record_name is h r = rw (is, h, r) refl
 pub an_explain : (name m : Text) (rows : List Row) → name ≡ codes "explain" → first_of (codes "MODULE") rows ≡ Some m → command_of name rows ≡ explain_of m rows
 an_explain name m rows is h = rw (is, h) refl
 
--- what is shown, by what is named behind `--record`, by whether there is a schedule, and a number
-pub explained_by : (m : Text) (rows : List Row) (name : Option Text) → first_of (codes "RECORD") rows ≡ name → explain_of m rows ≡ explain_by m rows name
-explained_by m rows name is = ap (explain_by m rows) is
+-- what is shown, by whether `--traps` stands there, by what is named behind `--record`, by whether there is a schedule, and a number
+pub explained_if : (given : Bool) (m : Text) (rows : List Row) → is_set (codes "traps") rows ≡ given
+    → explain_of m rows ≡ (if given then explain_traps_of m rows else explain_by m rows (first_of (codes "RECORD") rows))
+explained_if given m rows is = ap (λ (t : Bool). if t then explain_traps_of m rows else explain_by m rows (first_of (codes "RECORD") rows)) is
+
+pub explained_by : (m : Text) (rows : List Row) (name : Option Text) → is_set (codes "traps") rows ≡ false → first_of (codes "RECORD") rows ≡ name
+    → explain_of m rows ≡ explain_by m rows name
+explained_by m rows name none is = explained_if false m rows none ∙ ap (explain_by m rows) is
+
+pub traps_if : (given : Bool) (m : Text) (rows : List Row)
+    → (is_some (first_of (codes "SCHEDULE") rows) || (is_some (first_of (codes "N") rows) || is_some (first_of (codes "RECORD") rows))) ≡ given
+    → explain_traps_of m rows ≡ (if given then None else traps_of m rows)
+traps_if given m rows is = ap (λ (t : Bool). if t then None else traps_of m rows) is
+
+pub no_traps_script : (m : Text) (rows : List Row) → first_of (codes "SCRIPT") rows ≡ None → traps_of m rows ≡ None
+no_traps_script m rows h = rw h refl
+
+pub traps_by : (m s : Text) (rows : List Row) (b : Option ℕ) → first_of (codes "SCRIPT") rows ≡ Some s → budget_of rows ≡ b
+    → traps_of m rows ≡ option_map (ExplainTraps m s) b
+traps_by m s rows b h e = rw h (ap (option_map (ExplainTraps m s)) e)
 
 pub texts_if : (given : Bool) (m : Text) (rows : List Row) → is_some (first_of (codes "SCHEDULE") rows) ≡ given
     → explain_texts_of m rows ≡ (if given then option_map ExplainRun (run_of m rows) else explain_calls_of m rows)

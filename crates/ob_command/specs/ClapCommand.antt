@@ -48,9 +48,13 @@ seq_app command = with_rule (script_app command) budget_rule
 abbrev pub texts_app : Text → App
 texts_app command = with_rule (with_rule (module_app command) (new_rule (codes "SCRIPT"))) (new_rule (codes "SCHEDULE"))
 
--- `explain MODULE`, `explain MODULE SCRIPT -b BUDGET`, `explain MODULE SCRIPT SCHEDULE -n N -b BUDGET`, `explain MODULE --record RECORD`
+-- `MODULE SCRIPT SCHEDULE -n N -b BUDGET` behind a command, of which all but the first may be missing
+abbrev pub optional_run_app : Text → App
+optional_run_app command = with_rule (with_rule (texts_app command) optional_number_rule) budget_rule
+
+-- `explain MODULE`, `explain MODULE SCRIPT -b BUDGET --traps`, `explain MODULE SCRIPT SCHEDULE -n N -b BUDGET`, `explain MODULE --record RECORD`
 abbrev pub explain_app : Text → App
-explain_app command = with_rule (with_rule (with_rule (texts_app command) optional_number_rule) budget_rule) record_rule
+explain_app command = with_rule (with_rule (optional_run_app command) record_rule) (flag_rule (codes "traps"))
 
 -- `MODULE SCRIPT SCHEDULE -n N -b BUDGET` behind a command
 abbrev pub schedule_app : Text → App

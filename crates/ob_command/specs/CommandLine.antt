@@ -23,9 +23,10 @@ pub record RunRequest : Type 0 where
 
 -- What they ask for: the rules of a module checked; its code listed; the calls of a script made on it; a run's record; the record of the
 -- same run by the tree of the module; the record with the own steps of its calls beside it; the record of workers' run; a run's picture;
--- a record's; the order of a record checked; what is wrong with a module, or with a module and a script, shown to people; the same of a
--- run; the same of a record; how many own steps a call takes at most; help; the version; or nothing that there is. A command has the
--- names of its files, and a budget is how many turns each call has. A picture has some calls, or all.
+-- a record's; the order of a record checked; what is wrong with a module, or with a module and a script, shown to people; where the calls
+-- of a script trap, shown to people; what is wrong with a run; the same of a record; how many own steps a call takes at most; help; the
+-- version; or nothing that there is. A command has the names of its files, and a budget is how many turns each call has. A picture has
+-- some calls, or all.
 pub data Request : Type 0 where
   Check : (module_name : Text) → Request
   Listing : (module_name : Text) → Request
@@ -38,6 +39,7 @@ pub data Request : Type 0 where
   DrawRecord : (module_name record_name : Text) (calls : Option CallNumbers) → Request
   Verify : (module_name record_name : Text) → Request
   Explain : (module_name : Text) (script_name : Option Text) (budget : ℕ) → Request
+  ExplainTraps : (module_name script_name : Text) (budget : ℕ) → Request
   ExplainRun : (run : RunRequest) → Request
   ExplainRecord : (module_name record_name : Text) → Request
   Bound : (module_name : Text) (processes budget : ℕ) → Request
@@ -169,9 +171,21 @@ abbrev pub explain_by : Text → List Row → Option Text → Option Request
 explain_by module_name rows None = explain_texts_of module_name rows
 explain_by module_name rows (Some record_name) = explain_record_of module_name record_name rows
 
+-- the calls whose traps are to be shown, of the same rows
+abbrev pub traps_of : Text → List Row → Option Request
+traps_of module_name rows =
+    option_and_then (λ script_name. option_map (ExplainTraps module_name script_name) (budget_of rows)) (first_of (codes "SCRIPT") rows)
+
+-- Traps are those of calls that are made one at a time: of a module and a script alone.
+abbrev pub explain_traps_of : Text → List Row → Option Request
+explain_traps_of module_name rows =
+    if is_some (first_of (codes "SCHEDULE") rows) || (is_some (first_of (codes "N") rows) || is_some (first_of (codes "RECORD") rows)) then None
+    else traps_of module_name rows
+
 -- what is to be shown, of the same rows
 abbrev pub explain_of : Text → List Row → Option Request
-explain_of module_name rows = explain_by module_name rows (first_of (codes "RECORD") rows)
+explain_of module_name rows =
+    if is_set (codes "traps") rows then explain_traps_of module_name rows else explain_by module_name rows (first_of (codes "RECORD") rows)
 
 -- what is to be told of own steps, of the same rows
 abbrev pub bound_of : Text → List Row → Option Request
@@ -204,7 +218,7 @@ calls_mistake =
 -- and of words behind `explain` that are in none of its forms
 abbrev pub explain_mistake : Text
 explain_mistake =
-    codes "error: a run is explained by MODULE SCRIPT SCHEDULE -n N, and a record by MODULE --record RECORD alone\n\nFor more information, try '--help'.\n"
+    codes "error: a run is explained by MODULE SCRIPT SCHEDULE -n N, a record by MODULE --record RECORD alone, and traps by MODULE SCRIPT --traps\n\nFor more information, try '--help'.\n"
 
 -- and of words behind `run` that ask for own steps by the tree
 abbrev pub run_mistake : Text

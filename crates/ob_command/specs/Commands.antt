@@ -9,7 +9,7 @@ use Rattle.ob_command.specs.declared.command.RunCommand.{RunCommand}
 use Rattle.ob_command.specs.declared.command.Stop.{Stop}
 use Rattle.ob_command.specs.declared.command.Stop.TheVariants as stops
 use Rattle.ob_command.specs.ClapCommand.{obl0_app}
-use Rattle.ob_command.specs.CommandLine.{Text, form_mistake_of, Request, RunRequest, Check, Listing, Seq, Run, RunTree, RunSteps, Serve, Draw, DrawRecord, Verify, Explain, ExplainRun, ExplainRecord, Bound, Help, Version, Unclear}
+use Rattle.ob_command.specs.CommandLine.{Text, form_mistake_of, Request, RunRequest, Check, Listing, Seq, Run, RunTree, RunSteps, Serve, Draw, DrawRecord, Verify, Explain, ExplainTraps, ExplainRun, ExplainRecord, Bound, Help, Version, Unclear}
 
 -- what a command asks for
 abbrev pub run_request_of : RunCommand → RunRequest
@@ -33,6 +33,7 @@ request_of (commands.Draw run calls) = Draw (run_request_of run) calls
 request_of (commands.DrawRecord module_name record_name calls) = DrawRecord module_name.now record_name.now calls
 request_of (commands.Verify module_name record_name) = Verify module_name.now record_name.now
 request_of (commands.Explain module_name script_name budget) = Explain module_name.now (option_map (λ name. name.now) script_name) budget
+request_of (commands.ExplainTraps module_name script_name budget) = ExplainTraps module_name.now script_name.now budget
 request_of (commands.ExplainRun run) = ExplainRun (run_request_of run)
 request_of (commands.ExplainRecord module_name record_name) = ExplainRecord module_name.now record_name.now
 request_of (commands.Bound module_name processes budget) = Bound module_name.now processes budget

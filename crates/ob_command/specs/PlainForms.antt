@@ -13,10 +13,10 @@ run_with module_name script_name schedule_name processes budget = record {
   budget = budget;
 }
 
--- The command, two names that are no options, and the word that a budget stands behind, with a budget, ask for these calls.
-abbrev pub IsCallsAsked : Text → Text → (Text → Text → ℕ → Request) → Type 0
-IsCallsAsked command flag asks = (m s b : Text) (k : ℕ) → is_option m ≡ false → is_option s ≡ false → budget_number b ≡ Some k
-    → request (command ∷ m ∷ s ∷ flag ∷ b ∷ []) ≡ asks m s k
+-- The command, two names that are no options, the word that a budget stands behind, with a budget, and more words ask for these calls.
+abbrev pub IsCallsAsked : Text → Text → (more : List Text) → (Text → Text → ℕ → Request) → Type 0
+IsCallsAsked command flag more asks = (m s b : Text) (k : ℕ) → is_option m ≡ false → is_option s ≡ false → budget_number b ≡ Some k
+    → request (command ∷ m ∷ s ∷ flag ∷ b ∷ more) ≡ asks m s k
 
 -- The command, three names that are no options, `-n` with a number, and more words ask for the run of these files, in which each call
 -- has the budget that there is where nothing is said of it.

@@ -3,8 +3,8 @@
 ghost use Rattle.std.specs.Prelude.{◌≡◌, false, true, IfOk, IsOkAnd, map, option_map, is_some};
 ghost use Rattle.clap.specs.Words.{app_of, first_of, found_of, kind_of, new_rule, rows_of, rule_of};
 ghost use Rattle.clap.specs.declared.builder.command.Command.TheViews.{out-Command as fields_of};
-ghost use Rattle.ob_command.specs.ClapCommand.{bound_app, budget_rule, calls_rule, draw_app, drawn_app, explain_app, flag_rule, module_app, name_rule, number_rule, obl0_app, optional_number_rule, record_app, record_rule, run_app, schedule_app, script_app, seq_app, serve_app, texts_app, top_app, with_command};
-ghost use Rattle.ob_command.specs.CommandLine.{asks_version, bound_of, budget_of, calls_between, calls_in, calls_of, clap_request, clap_words, command_of, draw_of, draw_record_of, explain_calls_of, explain_of, explain_record_of, explain_texts_of, form_mistake, help_of_command, help_words, is_set, is_version_option, made_of, place_number, request, run_of, serve_of};
+ghost use Rattle.ob_command.specs.ClapCommand.{bound_app, budget_rule, calls_rule, draw_app, drawn_app, explain_app, flag_rule, module_app, name_rule, number_rule, obl0_app, optional_number_rule, optional_run_app, record_app, record_rule, run_app, schedule_app, script_app, seq_app, serve_app, texts_app, top_app, with_command};
+ghost use Rattle.ob_command.specs.CommandLine.{asks_version, bound_of, budget_of, calls_between, calls_in, calls_of, clap_request, clap_words, command_of, draw_of, draw_record_of, explain_calls_of, explain_of, explain_record_of, explain_texts_of, explain_traps_of, form_mistake, help_of_command, help_words, is_set, is_version_option, made_of, place_number, request, run_of, serve_of, traps_of};
 ghost use Rattle.ob_command.specs.Commands.{IsMistake, IsReading, IsStopOf, request_of, run_request_of};
 ghost use Rattle.ob_command.specs.declared.command.Stop.TheVariants.{NoMemory};
 
@@ -62,6 +62,12 @@ pub enum Command<'a> {
     Explain {
         module_name: &'a str,
         script_name: Option<&'a str>,
+        budget: u32,
+    },
+    /// `explain MODULE SCRIPT -b BUDGET --traps`: where the calls of a script trap, shown to people.
+    ExplainTraps {
+        module_name: &'a str,
+        script_name: &'a str,
         budget: u32,
     },
     /// `explain MODULE SCRIPT SCHEDULE -n N -b BUDGET`: what is wrong with a run, shown to people.
@@ -134,7 +140,8 @@ const ABOUT_DRAW: &str =
 const ABOUT_VERIFY: &str = "Tells whether the order of a record is a legal order of its calls";
 
 const ABOUT_EXPLAIN: &str =
-    "Shows what is wrong with a module, with a module and a script, with a run or with a record";
+    "Shows what is wrong with a module, with a module and a script, with a run or with a record, \
+    or where calls trap";
 
 const ABOUT_BOUND: &str =
     "Prints how many own steps a call takes at most, and the numbers behind it";
@@ -157,6 +164,9 @@ const HELP_TREE: &str =
 const HELP_STEPS: &str =
     "Prints on standard error each ended call's own steps too, a line each, as `0.1 37`";
 
+const HELP_TRAPS: &str =
+    "Shows for each call of the script that traps the operation that traps, and its values";
+
 const HELP_CALLS: &str =
     "Which calls are drawn: the places of the first and the last, from 1; all where nothing is said";
 
@@ -169,7 +179,7 @@ For more information, try '--help'.
 
 /// What is wrong with words behind `explain` that are in none of its forms.
 const UNCLEAR_EXPLAIN: &str = "\
-error: a run is explained by MODULE SCRIPT SCHEDULE -n N, and a record by MODULE --record RECORD alone
+error: a run is explained by MODULE SCRIPT SCHEDULE -n N, a record by MODULE --record RECORD alone, and traps by MODULE SCRIPT --traps
 
 For more information, try '--help'.
 ";
@@ -457,10 +467,36 @@ fn draw_record_of<'a>(
 fn explain_of<'a>(module_name: &'a str, matches: &ArgMatches<'a>) -> Option<Command<'a>>
     ensures { option_map request_of result ≡ explain_of module_name.entry.now (rows_of (found_of matches.now)) }
 {
+    if is_set(matches, "traps") {
+        return explain_traps_of(module_name, matches);
+    }
     match matches.get_str("RECORD") {
         None => explain_texts_of(module_name, matches),
         Some(record_name) => explain_record_of(module_name, record_name, matches),
     }
+}
+
+/// The traps that are to be shown, of the same matches.
+fn explain_traps_of<'a>(module_name: &'a str, matches: &ArgMatches<'a>) -> Option<Command<'a>>
+    ensures { option_map request_of result ≡ explain_traps_of module_name.entry.now (rows_of (found_of matches.now)) }
+{
+    if is_given(matches, "SCHEDULE") || is_given(matches, "N") || is_given(matches, "RECORD") {
+        return None;
+    }
+    traps_of(module_name, matches)
+}
+
+/// The calls whose traps are to be shown, of the same matches.
+fn traps_of<'a>(module_name: &'a str, matches: &ArgMatches<'a>) -> Option<Command<'a>>
+    ensures { option_map request_of result ≡ traps_of module_name.entry.now (rows_of (found_of matches.now)) }
+{
+    let script_name = matches.get_str("SCRIPT")?;
+    let budget = budget_of(matches)?;
+    Some(Command::ExplainTraps {
+        module_name,
+        script_name,
+        budget,
+    })
 }
 
 /// What is to be shown of texts that are no record, of the same matches.
@@ -715,10 +751,23 @@ fn explain_line<'a>(
     ensures app { IfOk result (λ c. app_of c ≡ explain_app command.entry.now) }
     ensures local { IfOk result (λ c. (fields_of c).has_globals ≡ false) }
 {
+    optional_run_line(alloc, command, about)?
+        .arg(explained_record(alloc))?
+        .arg(flag(alloc, "traps", HELP_TRAPS))
+}
+
+/// The words of a run behind a command, of which all but the module's name may be missing.
+fn optional_run_line<'a>(
+    alloc: Global,
+    command: &'a str,
+    about: &'a str,
+) -> Result<clap::Command<'a>, AllocError>
+    ensures app { IfOk result (λ c. app_of c ≡ optional_run_app command.entry.now) }
+    ensures local { IfOk result (λ c. (fields_of c).has_globals ≡ false) }
+{
     texts_line(alloc, command, about)?
         .arg(optional_count(alloc))?
-        .arg(call_budget(alloc))?
-        .arg(explained_record(alloc))
+        .arg(call_budget(alloc))
 }
 
 /// The names behind a command that explains: of a module, of a script and of a schedule, where they are named.

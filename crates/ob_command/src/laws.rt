@@ -3,7 +3,7 @@
 ghost use Rattle.std.specs.Prelude.{◌≡◌, ◌⊎◌, ℕ, List, Some, None, [], ◌∷◌, false, true, All, codes, is_some};
 ghost use Rattle.clap.specs.Words.{fault_of};
 ghost use Rattle.ob_command.specs.ClapCommand.{obl0_app};
-ghost use Rattle.ob_command.specs.CommandLine.{Bound, Check, Draw, Explain, ExplainRecord, ExplainRun, Help, Listing, Run, RunSteps, RunTree, Seq, Serve, Text, Unclear, Verify, Version, asks_command, command_names, form_mistake_of, is_option, number, request};
+ghost use Rattle.ob_command.specs.CommandLine.{Bound, Check, Draw, Explain, ExplainRecord, ExplainRun, ExplainTraps, Help, Listing, Run, RunSteps, RunTree, Seq, Serve, Text, Unclear, Verify, Version, asks_command, command_names, form_mistake_of, is_option, number, request};
 ghost use Rattle.ob_command.specs.PlainForms.{IsBoundAsked, IsBudgetRunAsked, IsCallsAsked, IsHelpAsked, IsRecordAsked, IsRunAsked, IsServeAsked, IsVersionAsked, WithCalls};
 
 /// `check` and a name that is no option.
@@ -23,8 +23,8 @@ pub fn seq_is_asked()
 
 /// The same, and `-b` or `--budget` with a number.
 pub fn seq_with_budget_is_asked()
-    ensures short { IsCallsAsked (codes "seq") (codes "-b") Seq }
-    ensures long { IsCallsAsked (codes "seq") (codes "--budget") Seq }
+    ensures short { IsCallsAsked (codes "seq") (codes "-b") [] Seq }
+    ensures long { IsCallsAsked (codes "seq") (codes "--budget") [] Seq }
 {}
 
 /// `run` and three names that are no options, and `-n` with a number: each call has the budget that there is where nothing is said of it.
@@ -109,8 +109,16 @@ pub fn explain_of_script_is_asked()
 
 /// The same, and `-b` or `--budget` with a number.
 pub fn explain_with_budget_is_asked()
-    ensures short { IsCallsAsked (codes "explain") (codes "-b") (λ m s k. Explain m (Some s) k) }
-    ensures long { IsCallsAsked (codes "explain") (codes "--budget") (λ m s k. Explain m (Some s) k) }
+    ensures short { IsCallsAsked (codes "explain") (codes "-b") [] (λ m s k. Explain m (Some s) k) }
+    ensures long { IsCallsAsked (codes "explain") (codes "--budget") [] (λ m s k. Explain m (Some s) k) }
+{}
+
+/// `explain` and two names that are no options, with a budget or without, and `--traps`.
+pub fn explain_of_traps_is_asked()
+    ensures plain { (m s : Text) → is_option m ≡ false → is_option s ≡ false
+        → request (codes "explain" ∷ m ∷ s ∷ codes "--traps" ∷ []) ≡ ExplainTraps m s 100000 }
+    ensures short { IsCallsAsked (codes "explain") (codes "-b") (codes "--traps" ∷ []) ExplainTraps }
+    ensures long { IsCallsAsked (codes "explain") (codes "--budget") (codes "--traps" ∷ []) ExplainTraps }
 {}
 
 /// The words of a run behind `explain`, with a budget or without.

@@ -1,5 +1,5 @@
 use Rattle.std.proofs.Common.{map, true}
-use Rattle.ob_command.proofs.ExplainForms.{explain_asked, explain_budget_asked, explain_record_asked, explain_run_asked, explain_run_budget_asked, explain_script_asked}
+use Rattle.ob_command.proofs.ExplainForms.{explain_asked, explain_budget_asked, explain_record_asked, explain_run_asked, explain_run_budget_asked, explain_script_asked, explain_traps_asked, explain_traps_budget_asked}
 use Rattle.ob_command.proofs.NameForms.{check_asked, list_asked, seq_asked, seq_budget_asked, verify_asked}
 use Rattle.ob_command.proofs.RunForms.{bound_asked, bound_budget_asked, draw_asked, draw_budget_asked, draw_budget_calls_asked, draw_calls_asked, draw_record_asked, draw_record_calls_asked, run_asked, run_budget_asked, serve_asked, serve_budget_asked, steps_asked, steps_budget_asked, tree_asked, tree_budget_asked}
 use Rattle.ob_answer.proofs.PlainWords.{answered_as}
@@ -85,6 +85,13 @@ returns-clause-explain_calls g c m s no_m no_s is = answered_as g.F.Files.reads 
 pub returns-clause-explain_budget : goal.returns-clause-explain_budget
 returns-clause-explain_budget g c m s b k no_m no_s number is =
     answered_as g.F.Files.reads (map (λ word. word.now) c.args.words.now) _ _ _ _ c.obey_words.result is (explain_budget_asked true m s b k no_m no_s number) c.obey_words.ensures
+
+pub returns-clause-explain_traps : goal.returns-clause-explain_traps
+returns-clause-explain_traps g c m s no_m no_s is = answered_as g.F.Files.reads (map (λ word. word.now) c.args.words.now) _ _ _ _ c.obey_words.result is (explain_traps_asked m s no_m no_s) c.obey_words.ensures
+
+pub returns-clause-explain_traps_budget : goal.returns-clause-explain_traps_budget
+returns-clause-explain_traps_budget g c m s b k no_m no_s number is =
+    answered_as g.F.Files.reads (map (λ word. word.now) c.args.words.now) _ _ _ _ c.obey_words.result is (explain_traps_budget_asked true m s b k no_m no_s number) c.obey_words.ensures
 
 pub returns-clause-explain_run : goal.returns-clause-explain_run
 returns-clause-explain_run g c m s q n k no_m no_s no_q number is =

@@ -41,6 +41,9 @@ returns-in-Verify g c = rw c.in-Verify.is c.obey_verify.ensures
 pub returns-in-Explain : goal.returns-in-Explain
 returns-in-Explain g c = rw c.in-Explain.is c.obey_explain.ensures
 
+pub returns-in-ExplainTraps : goal.returns-in-ExplainTraps
+returns-in-ExplainTraps g c = rw c.in-ExplainTraps.is c.obey_explain_traps.ensures
+
 pub returns-in-ExplainRun : goal.returns-in-ExplainRun
 returns-in-ExplainRun g c = rw c.in-ExplainRun.is c.obey_explain_run.ensures
 

@@ -17,6 +17,6 @@ returns-in_ok-from_str-in-Ok c whole is =
 pub returns-in-Err : goal.returns-in-Err
 returns-in-Err c =
     rw (← c.from.ensures) (calls_wrong_made c.args.module_name.now c.args.module.now c.args.script_name.now c.args.script.now c.from.result c.in-Err.fault
-    c.calls_wrong.result c.calls_wrong.ensures.fault c.calls_wrong.ensures.memory
     c.in-Err.ensures.fault c.in-Err.ensures.memory c.in-Err.ensures.no_run
-    (λ much. let e = c.in-Err.ensures.too_much much in cc) (λ few long. let e = c.in-Err.ensures.too_long few long in cc))
+    (λ much. let e = c.in-Err.ensures.too_much much in cc) (λ few long. let e = c.in-Err.ensures.too_long few long in cc)
+    c.calls_wrong.result c.calls_wrong.ensures.fault c.calls_wrong.ensures.memory)

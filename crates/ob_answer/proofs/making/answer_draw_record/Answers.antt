@@ -15,4 +15,4 @@ returns-in-Ok c whole is =
 pub returns-in-Err : goal.returns-in-Err
 returns-in-Err c = draw_record_refused_made c.args.calls c.args.module.now c.args.record.now c.in-Err.fault
     c.draw_record_refused.result c.draw_record_refused.ensures.fault c.draw_record_refused.ensures.memory
-    c.in-Err.ensures.fault c.in-Err.ensures.memory (λ long. let e = c.in-Err.ensures.too_long long in cc)
+    c.in-Err.ensures.fault c.in-Err.ensures.memory c.in-Err.ensures.none (λ long. let e = c.in-Err.ensures.too_long long in cc)

@@ -1,0 +1,4 @@
+pub mod TrapSentences
+pub mod CallLines
+pub mod TrapLines
+pub mod TrapsText

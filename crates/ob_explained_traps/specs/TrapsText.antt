@@ -1,0 +1,50 @@
+-- What is told of the traps of a script's calls: from the bytes of a module and of a script to the bytes that are printed.
+use Rattle.std.specs.Prelude.{◌≡◌, ℕ, List, [], ◌∷◌, All, Option, Some, None, codes, map, option_map}
+use Rattle.ob_checked.specs.Exports.{signatures}
+use Rattle.ob_explained_runs.specs.Sources.{Source}
+use Rattle.ob_grammar.specs.Tree
+use Rattle.ob_interface.specs.Call.{Reply}
+use Rattle.ob_interface.specs.Processes.{most_processes}
+use Rattle.ob_meaning.specs.Object.{AreReplies}
+use Rattle.ob_object_compile.specs.Compilation.{IsCompilation, ObjectParts}
+use Rattle.ob_text_scripts.specs.Script.{IsScript}
+use Rattle.ob_text_words.specs.ScriptCalls.{ScriptCall, object_call}
+use Rattle.ob_trap_places.specs.Places.{place_of}
+use Rattle.ob_trap_sequence.specs.Sequence.{sites_from}
+use Rattle.ob_trap_sites.specs.Object.{trap_of}
+use Rattle.ob_trap_sites.specs.Site.{Site}
+use Rattle.ob_explained_traps.specs.CallLines.{call_lines}
+use Rattle.ob_explained_traps.specs.TrapLines.{traps_lines}
+
+-- where the traps of these calls come from, made one at a time from the opening state, each with the budget
+abbrev pub sites_of : ObjectParts → (budget : ℕ) → List ScriptCall → List (Option Site)
+sites_of object budget calls = sites_from object.program budget object.opening (map object_call calls)
+
+-- a line where there are no others
+abbrev pub or_none : List ℕ → List ℕ
+or_none [] = codes "no call traps\n"
+or_none (b ∷ bytes) = b ∷ bytes
+
+-- what is printed of the calls of a script on an object: the lines of each call that traps, in line order
+abbrev pub traps_text : (text script : Source) → (budget : ℕ) → ObjectParts → List ScriptCall → List ℕ
+traps_text text script budget object calls =
+    or_none (traps_lines (record { object = text; tree = object.tree; script_name = script.name; budget = budget })
+    (map (λ c. c.process) calls) (call_lines script.text) 0 (sites_of object budget calls))
+
+-- where a call traps, the operation has a place in the text
+abbrev pub IsPlaced : Tree.Module → Option Site → Type 0
+IsPlaced tree None = Unit {0}
+IsPlaced tree (Some site) = (place : ℕ) × (place_of tree site ≡ Some place)
+
+-- The printed bytes are what is told of the calls of a script on the object of a module, for all processes that an object can have. A
+-- call is told of where the meaning replies with a trap, and with the number of that.
+pub record IsTrapsText (text script : Source) (budget : ℕ) (output : List ℕ) : Type 0 where
+  pub object : ObjectParts
+  pub calls : List ScriptCall
+  pub compiled : IsCompilation text.text most_processes budget object
+  pub read : IsScript (signatures object.program) most_processes script.text calls
+  pub replies : List Reply
+  pub replied : AreReplies object.program budget (map object_call calls) replies
+  pub trapped : map (option_map (λ site. site.number)) (sites_of object budget calls) ≡ map trap_of replies
+  pub placed : All (IsPlaced object.tree) (sites_of object budget calls)
+  pub printed : output ≡ traps_text text script budget object calls

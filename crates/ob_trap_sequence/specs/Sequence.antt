@@ -1,0 +1,18 @@
+-- Where the traps of calls come from that are made one at a time.
+use Rattle.std.specs.Prelude.{ℕ, List, [], ◌∷◌, Option}
+use Rattle.ob_interface.specs.Call.{ObjectCall, Reply}
+use Rattle.ob_positions.specs.Object.{Effect, effect}
+use Rattle.ob_positions.specs.Store.{Activation}
+use Rattle.ob_trap_sites.specs.Object.{site_of_call}
+use Rattle.ob_trap_sites.specs.Site.{Site}
+use Rattle.ob_typing.specs.Program.{Program}
+
+-- of each call, made one at a time from a state with the budget, where its trap comes from, if it traps
+abbrev pub sites_from : Program → (budget : ℕ) → Activation → List ObjectCall → List (Option Site)
+sites_from program budget state [] = []
+sites_from program budget state (call ∷ calls) =
+    site_of_call program call budget state ∷ sites_from program budget (effect program call budget state).state calls
+
+-- a call left this state and this reply
+abbrev pub effect_left : Activation → Reply → Effect
+effect_left state reply = record { state = state; reply = reply }
