@@ -1,5 +1,6 @@
 mod Arranging
 mod Early
 pub mod Faults
+mod Noting
 mod Placing
 mod Replay

@@ -1,6 +1,6 @@
 -- Places of calls and sets of calls, one event or one id more.
 use Rattle.std.proofs.Common.{◌≡◌, refl, sym, ap, ◌∙◌, subst, ℕ, ◌+◌, ◌<◌, ◌≤◌, Bool, true, false, not, cond, ◌↔◌, List, [], ◌∷◌, ◌++◌, length, get_or, map, take, option_map, Option, Some, None, arith, ◌⊎◌, inl, inr, eq-eqb, add-one}
-use Rattle.std.proofs.lemmas.Bool.{cases_eq, cases_lt, ne_eqb, false≢true}
+use Rattle.std.proofs.lemmas.Bool.{cases_eq, cases_lt, ne_eqb}
 use Rattle.std.proofs.lemmas.List.Elements.{Contains-push, Contains-push_cases, Contains-append_left}
 use Rattle.std.proofs.lemmas.Option.{slice_get_within, slice_get-map, slice_get_read, MatchOption-at_none, MatchOption-at_some}
 use Rattle.std.specs.Prelude.{slice_get, IsTrue, Contains, ◌&&◌, nat_eq}
@@ -143,15 +143,6 @@ module _ {A : Type 0} (Fact : ℕ → A → Type 0) (items : List A) where
 
   pub nowhere_all : (i : ℕ) → length items ≤ i → ((k : ℕ) (other : A) → k < i → slice_get items k ≡ Some other → ¬ Fact k other) → IsNowhere Fact items
   nowhere_all i all before k other at = let lt = slice_get_within items k other at in before k other (omega arith) at
-
--- what a set says of an id that it takes: whether it had it
-pub had : (has added : Bool) → added ≡ not has → added ≡ false → has ≡ true
-had true added e f = refl
-had false added e f = absurd (false≢true (sym f ∙ e))
-
-pub had_not : (has added : Bool) → added ≡ not has → added ≡ true → has ≡ true → ⊥
-had_not true added e f h = false≢true (sym e ∙ f)
-had_not false added e f h = false≢true h
 
 module _ {Call Reply : Type 0} (history : List (Event Call Reply)) where
   -- the call that was read where an id begins, and the reply where it ends

@@ -1,3 +1,5 @@
 pub mod LegalOrder
+pub mod Noted
 pub mod OrderFaults
 pub mod Places
+pub mod Rows

@@ -2,6 +2,7 @@
 //! budget of turns.
 #![tactic(auto)]
 
+mod noted;
 pub mod order;
 mod places;
 mod replies;

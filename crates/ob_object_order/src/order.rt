@@ -1,7 +1,6 @@
 //! The checker of orders: whether a list of calls is a legal order of a history.
 
-ghost use Rattle.std.specs.Prelude.{◌≡◌, ◌↔◌, ◌⊎◌, map, length, slice_get, Some, OnOk, IfOk, IfErr, MatchOption, MatchResult, IsTrue, Contains};
-ghost use Rattle.std.specs.HashSet as bag;
+ghost use Rattle.std.specs.Prelude.{◌≡◌, ◌↔◌, ◌⊎◌, map, length, slice_get, Some, OnOk, IfOk, IfErr, MatchOption, MatchResult, IsSome, Contains};
 ghost use Rattle.ob_checked.specs.CheckedModule.{program_in};
 ghost use Rattle.ob_interface.specs.Call as Calls;
 ghost use Rattle.ob_positions.specs.Store.{Activation};
@@ -14,8 +13,10 @@ ghost use Rattle.ob_object_order.specs.declared.order.OrderFault.TheVariants as 
 ghost use Rattle.ob_object_order.specs.declared.places.Placed.{Placed};
 ghost use Rattle.ob_object_order.specs.LegalOrder.{CallEnds, IsLegalOrder};
 ghost use Rattle.ob_object_order.specs.OrderFaults.{IsFirst, IsNowhere, IsUnknown, IsListFault, EndsUnlisted, IsFirstUnlisted, IsArranged, LeadsTo, IsReplayFault, IsOrderFault};
-ghost use Rattle.ob_object_order.specs.Places.{same_id, ArePlaced, BeginsAt, EndsAt, BeginsTooLate};
+ghost use Rattle.ob_object_order.specs.Noted.{noted_in};
+ghost use Rattle.ob_object_order.specs.Places.{ArePlaced, BeginsAt, EndsAt, BeginsTooLate};
 
+use crate::noted::Noted;
 use crate::places::{Placed, places_of};
 use crate::replies::{call_in, is_same_reply};
 use ob_checked::checked::Checked;
@@ -23,7 +24,6 @@ use ob_interface::NoMemory;
 use ob_interpreter::object::step;
 use ob_store::state::State;
 use std::alloc::{AllocError, AllocFailed, Global};
-use std::collections::HashSet;
 use thiserror::Error;
 use wf_history::{CallId, Event, History, KeptCall, KeptReply};
 
@@ -87,34 +87,35 @@ fn placed(alloc: Global, events: &[Event], order: &[CallId]) -> Result<Vec<Place
     ensures known { OnOk result (IsNowhere (IsUnknown (map event_of events.now) order.now) order.now) }
     ensures fault { IfErr result (IsListFault (map event_of events.now) order.now) }
 {
-    let places = places_of(alloc, events, order.len())?;
-    let mut seen = HashSet::with_capacity(alloc, order.len())?;
+    let places = places_of(alloc, events)?;
+    let mut seen = Noted::new(alloc)?;
     let mut placed = Vec::with_capacity(alloc, order.len())?;
     for id in order {
-        let Some(begin) = places.begins.get(id) else {
+        let Some(begin) = places.begins.get(*id) else {
             return Err(OrderFault::Unknown(*id));
         };
-        if !seen.insert(*id)? {
+        if seen.get(*id).is_some() {
             return Err(OrderFault::Unknown(*id));
         }
+        seen.note(*id, begin)?;
         placed.push(Placed {
             id: *id,
-            begin: *begin,
-            end: places.ends.get(id).copied(),
+            begin,
+            end: places.ends.get(*id),
         })?;
     }
     Ok(placed)
 }
 
-/// The ids of a list, as a set.
-fn set_of(alloc: Global, order: &[CallId]) -> Result<HashSet<CallId>, NoMemory>
-    ensures { IfOk result (λ s. (q : CallId) → IsTrue (bag.contains same_id s q) ↔ Contains order.now q) }
+/// The ids of a list, each with its place in it.
+fn places_in(alloc: Global, order: &[CallId]) -> Result<Noted, NoMemory>
+    ensures { IfOk result (λ s. (q : CallId) → IsSome (noted_in s q) ↔ Contains order.now q) }
 {
-    let mut ids = HashSet::with_capacity(alloc, order.len())?;
-    for id in order {
-        ids.insert(*id)?;
+    let mut places = Noted::new(alloc)?;
+    for (place, id) in order.iter().enumerate() {
+        places.note(*id, place)?;
     }
-    Ok(ids)
+    Ok(places)
 }
 
 /// The call that ends with an event, if one does.
@@ -139,10 +140,10 @@ fn first_missing(
         (IsNowhere (EndsUnlisted (map event_of events.now) order.now) (map event_of events.now))
         (IsFirstUnlisted (map event_of events.now) order.now)) }
 {
-    let listed = set_of(alloc, order)?;
+    let listed = places_in(alloc, order)?;
     for event in events {
         if let Some(id) = ended(event)
-            && !listed.contains(&id)
+            && listed.get(id).is_none()
         {
             return Ok(Some(id));
         }

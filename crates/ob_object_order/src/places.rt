@@ -1,13 +1,13 @@
 //! Where calls begin and end among the events of a history.
 
 ghost use Rattle.std.specs.Prelude.{map, IfOk};
-ghost use Rattle.std.specs.HashMap as hash;
 ghost use Rattle.wf_history.specs.View.{event_of};
-ghost use Rattle.ob_object_order.specs.Places.{same_id, ArePlaces};
+ghost use Rattle.ob_object_order.specs.Noted.{noted_in};
+ghost use Rattle.ob_object_order.specs.Places.{ArePlaces};
 
+use crate::noted::Noted;
 use ob_interface::NoMemory;
 use std::alloc::Global;
-use std::collections::HashMap;
 use wf_history::{CallId, Event};
 
 /// A call with the place of its Begin among the events, and of its End where it has ended.
@@ -21,42 +21,42 @@ pub(crate) struct Placed {
 /// The places of all calls of a history.
 #[derive(Drop)]
 pub(crate) struct Places {
-    pub begins: HashMap<CallId, usize>,
-    pub ends: HashMap<CallId, usize>,
+    pub begins: Noted,
+    pub ends: Noted,
 }
 
 impl Places {
     ghost use Rattle.std.specs.Prelude.{◌≡◌, OnOk};
-    ghost use Rattle.std.specs.HashMap as hash;
     ghost use Rattle.wf_history.specs.declared.event.CallId.{CallId};
     ghost use Rattle.wf_history.specs.View.{event_of};
-    ghost use Rattle.ob_object_order.specs.Places.{same_id, begin_noted, end_noted};
+    ghost use Rattle.ob_object_order.specs.Noted.{noted_in};
+    ghost use Rattle.ob_object_order.specs.Places.{begin_noted, end_noted};
 
     /// Takes up the event at a place.
     fn note(&mut self, place: usize, event: &Event) -> Result<(), NoMemory>
-        ensures begins { OnOk result ((q : CallId) → hash.get same_id self.new.begins q ≡ begin_noted place (event_of event.now) q (hash.get same_id self.old.begins q)) }
-        ensures ends { OnOk result ((q : CallId) → hash.get same_id self.new.ends q ≡ end_noted place (event_of event.now) q (hash.get same_id self.old.ends q)) }
+        ensures begins { OnOk result ((q : CallId) → noted_in self.new.begins q ≡ begin_noted place (event_of event.now) q (noted_in self.old.begins q)) }
+        ensures ends { OnOk result ((q : CallId) → noted_in self.new.ends q ≡ end_noted place (event_of event.now) q (noted_in self.old.ends q)) }
     {
         match event {
             Event::Begin(id, _) => {
-                self.begins.insert(*id, place)?;
+                self.begins.note(*id, place)?;
             }
             Event::Applied(_) => {}
             Event::End(id, _) => {
-                self.ends.insert(*id, place)?;
+                self.ends.note(*id, place)?;
             }
         }
         Ok(())
     }
 }
 
-/// The places of the calls of these events, with room for so many calls.
-pub(crate) fn places_of(alloc: Global, events: &[Event], calls: usize) -> Result<Places, NoMemory>
-    ensures { IfOk result (λ p. ArePlaces (map event_of events.now) (hash.get same_id p.begins) (hash.get same_id p.ends)) }
+/// The places of the calls of these events.
+pub(crate) fn places_of(alloc: Global, events: &[Event]) -> Result<Places, NoMemory>
+    ensures { IfOk result (λ p. ArePlaces (map event_of events.now) (noted_in p.begins) (noted_in p.ends)) }
 {
     let mut places = Places {
-        begins: HashMap::with_capacity(alloc, calls)?,
-        ends: HashMap::with_capacity(alloc, calls)?,
+        begins: Noted::new(alloc)?,
+        ends: Noted::new(alloc)?,
     };
     for (place, event) in events.iter().enumerate() {
         places.note(place, event)?;

@@ -1,15 +1,16 @@
 -- The End of a call that isn't in the set is the first of those.
-use Rattle.std.proofs.Common.{◌≡◌, sym, ap, map, length, arith, ◌<◌, ◌∙◌, Some, None}
+use Rattle.std.proofs.Common.{◌≡◌, sym, ap, map, length, arith, ◌<◌, ◌∙◌, Some, None, false, not}
 use Rattle.std.proofs.lemmas.List.{length-map}
 use Rattle.ob_object_order.proofs.Placing.{item_of, nowhere_more, nowhere_all}
 use Rattle.ob_object_order.proofs.Arranging.{no_end, end_listed}
 use Rattle.ob_object_order.proofs.order.first_missing.Goals as goal
-use Rattle.ob_object_order.proofs.order.first_missing.Goals.{in_default-via-in-None-1, in_default-via-in-Some+else-not-contains}
+use Rattle.ob_object_order.proofs.order.first_missing.Goals.{in_default-via-in-None-1, in_default-via-in-Some+else-is_none}
 use Rattle.wf_history.specs.declared.event.CallId.{CallId}
 use Rattle.wf_history.specs.History.{End}
 use Rattle.ob_interface.specs.Call.{Reply}
 use Rattle.std.proofs.lemmas.Option.{MatchOption-at_none}
 use Rattle.std.proofs.lemmas.Bool.{false≢true}
+use Rattle.std.specs.Option.{is_some}
 use Rattle.ob_object_order.specs.OrderFaults.{EndsUnlisted}
 use Rattle.wf_history.specs.View.{event_of}
 
@@ -19,13 +20,12 @@ returns-in-loop-event c =
     let lt : i < length c.args.events.now = omega arith in
     let at = item_of event_of c.args.events.now i c.event-item.result lt c.event-item.is in
     let ended = c.in-Some.ensures in
-    let has = c.contains.ensures in
-    let lacks = c.if-not-contains.true in (
+    let lacks : is_some c.get.result ≡ false = c.is_none.ensures ∙ ap not c.if-is_none.true in (
       ended.0,
       record {
         place = i;
         here = at ∙ ap Some ended.1;
-        holds = λ listed. false≢true (sym lacks ∙ has ∙ (c.in_ok-listed.ensures c.in-Some.id).1 listed);
+        holds = λ listed. false≢true (sym lacks ∙ ap is_some c.get.ensures ∙ (c.in_ok-listed.ensures c.in-Some.id).1 listed);
         earlier = c.loop-event.invariant;
       },
     )
@@ -42,9 +42,9 @@ loop-event-preserved c =
           let none : c.ended.result ≡ None = cc in
           no_end history c.args.order.now i (event_of c.event-item.result)
           (MatchOption-at_none ((id : CallId) (reply : Reply) → event_of c.event-item.result ≡ End id reply → ⊥) (λ (id : CallId). (reply : Reply) × (event_of c.event-item.result ≡ End id reply)) none c.ended.ensures)
-      | in_default-via-in-Some+else-not-contains w ↦
+      | in_default-via-in-Some+else-is_none w ↦
           end_listed history c.args.order.now i (event_of c.event-item.result) w.in-Some.id w.in-Some.ensures.0 w.in-Some.ensures.1
-          ((c.in_ok-listed.ensures w.in-Some.id).0 (sym w.contains.ensures ∙ w.if-not-contains.false))
+          ((c.in_ok-listed.ensures w.in-Some.id).0 (sym (ap is_some w.get.ensures) ∙ w.is_none.ensures ∙ ap not w.if-is_none.false))
     ])
 
 pub returns : goal.returns

@@ -1,12 +1,12 @@
 -- One more event is noted at its place.
 use Rattle.std.proofs.Common.{◌≡◌, ℕ, sym, subst, map, take, length, arith, ◌<◌, List}
 use Rattle.std.proofs.lemmas.List.{length-map, length-take-le}
-use Rattle.std.specs.HashMap as hash
 use Rattle.ob_interface.specs.Call.{ObjectCall, Reply}
 use Rattle.ob_object_order.proofs.Placing.{places_more, take_item}
 use Rattle.ob_object_order.proofs.places.places_of.Goals as goal
 use Rattle.wf_history.specs.History.{Event}
-use Rattle.ob_object_order.specs.Places.{same_id, ArePlaces, begin_noted, end_noted}
+use Rattle.ob_object_order.specs.Noted.{noted_in}
+use Rattle.ob_object_order.specs.Places.{ArePlaces, begin_noted, end_noted}
 use Rattle.wf_history.specs.View.{event_of}
 use Rattle.wf_history.specs.declared.event.CallId.{CallId}
 
@@ -15,10 +15,10 @@ loop-place-preserved c =
     let i = c.loop-place.place in
     let history = map event_of c.args.events.now in
     let event = event_of c.index-events-place.result in
-    let begins = hash.get same_id c.loop-place.places.begins in
-    let ends = hash.get same_id c.loop-place.places.ends in
-    let new_begins = hash.get same_id c.note.new.self.begins in
-    let new_ends = hash.get same_id c.note.new.self.ends in
+    let begins = noted_in c.loop-place.places.begins in
+    let ends = noted_in c.loop-place.places.ends in
+    let new_begins = noted_in c.note.new.self.begins in
+    let new_ends = noted_in c.note.new.self.ends in
     let lt : i < length c.args.events.now = omega arith in
     let all = length-map c.args.events.now event_of in
     let count : length (take i history) ≡ i = length-take-le i history (omega (arith, all)) in
