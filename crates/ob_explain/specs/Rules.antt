@@ -1,5 +1,5 @@
 -- What is wrong where a rule is broken, by the bytes before the place and those from there on, and the names that are visible there.
-use Rattle.std.specs.Prelude.{ℕ, ◌==◌, ◌||◌, Bool, List, [], ◌++◌, codes, bytes_eq, drop, length, map, take, Option, Some, None, if◌then◌else◌}
+use Rattle.std.specs.Prelude.{ℕ, ◌==◌, ◌||◌, Bool, true, false, List, [], ◌++◌, codes, bytes_eq, decimal, drop, find, length, map, take, Option, Some, None, if◌then◌else◌}
 use Rattle.ob_typing.specs.declared.rule.BrokenRule.{BrokenRule}
 use Rattle.ob_typing.specs.declared.rule.Rule.{Rule}
 use Rattle.ob_typing.specs.declared.rule.Rule.TheVariants as Rules
@@ -15,12 +15,18 @@ use Rattle.ob_explain_names.specs.declared.need.Need.TheVariants as Needs
 use Rattle.ob_explain_nearest.specs.Distance.{bytes_of}
 use Rattle.ob_explain_nearest.specs.Nearest.{nearest}
 use Rattle.ob_explain_nearest.specs.declared.distance.Candidate.{Candidate}
+use Rattle.ob_explain_operands.specs.Declarations.{declared_as, in_record, token_bytes}
+use Rattle.ob_explain_operands.specs.Numerals.{numeral_before, numeral_next}
+use Rattle.ob_explain_operands.specs.declared.numerals.Numeral.{Numeral}
 use Rattle.ob_explain_tokens.specs.Actuals.{actual_count}
 use Rattle.ob_explain_tokens.specs.Around as Tokens
 use Rattle.ob_explain_tokens.specs.Parens.{is_in_parens}
-use Rattle.ob_explain_types.specs.Types.{types_sentence}
+use Rattle.ob_explain_types.specs.Typed.{typed_sentence}
+use Rattle.ob_scan.specs.declared.token.Kind.{Kind}
+use Rattle.ob_scan.specs.declared.token.Kind.TheVariants as Kinds
 use Rattle.ob_scan.specs.declared.token.Token.{Token}
 use Rattle.ob_explain.specs.Counts.{told_count}
+use Rattle.ob_explain.specs.Places.{place_in}
 use Rattle.ob_explain.specs.Shown.{shown_byte}
 
 abbrev pub near_question : List ℕ → List ℕ
@@ -35,6 +41,17 @@ abbrev pub unknown_sentence : (before text : List ℕ) → Candidate → List �
 unknown_sentence before text near =
     if ends_with (trimmed before) 46 then codes "the record has no field of this name"
     else (codes "a name is declared before it is used, and none of this name is visible here" ++ question text near)
+
+-- of a name that stands there before, in which line
+abbrev pub before_sentence : (text : List ℕ) → Option Known → List ℕ
+before_sentence text None = codes "a name is declared once in a scope"
+before_sentence text (Some name) =
+    codes "a name is declared once in a scope, and this one is declared before, in line " ++ decimal (place_in text name.place).line
+
+abbrev pub twice_sentence : (text : List ℕ) → List Known → (in_record : Bool) → (word : List ℕ) → List ℕ
+twice_sentence text known in_record word =
+    if in_record then codes "a field stands once in a record, and this name stands in it before"
+    else before_sentence text (declared_as text known word)
 
 -- ARRAY or RECORD stands there
 abbrev pub opens_type : List ℕ → Bool
@@ -93,32 +110,85 @@ divides from = bytes_eq (word_at from) (codes "DIV") || bytes_eq (word_at from) 
 abbrev pub no_word : List ℕ → Bool
 no_word from = bytes_eq (word_at from) (codes "")
 
-abbrev pub constant_sentence : List ℕ → List ℕ
-constant_sentence from =
-    if divides from then codes "a divisor is 1 or more, and this one is not, so there is no constant"
-    else if no_word from then codes "the result is outside -2147483648 to 2147483647, so there is no constant"
+-- a number as it is written
+abbrev pub shown_numeral : (text : List ℕ) → Numeral → List ℕ
+shown_numeral text n = (if n.is_negative then codes "-" else codes "") ++ map shown_byte (token_bytes text n.digits)
+
+-- the divisor, where it is known
+abbrev pub divisor_sentence : (text : List ℕ) → Option Numeral → List ℕ
+divisor_sentence text None = codes "a divisor is 1 or more, and this one is not, so there is no constant"
+divisor_sentence text (Some n) = codes "a divisor is 1 or more, and this one is " ++ shown_numeral text n ++ codes ", so there is no constant"
+
+-- the operation of an operator with which bytes begin, where its operands are known
+abbrev pub operation_from : (text from : List ℕ) → (first : Numeral) → (second : Option Numeral) → List ℕ
+operation_from text from first None = codes "the result"
+operation_from text from first (Some second) =
+    shown_numeral text first ++ codes " " ++ map shown_byte (take 1 from) ++ codes " " ++ shown_numeral text second
+
+abbrev pub operation_text : (text from : List ℕ) → (first second : Option Numeral) → List ℕ
+operation_text text from None second = codes "the result"
+operation_text text from (Some first) second = operation_from text from first second
+
+abbrev pub range_sentence : (text from : List ℕ) → (first second : Option Numeral) → List ℕ
+range_sentence text from first second =
+    operation_text text from first second ++ codes " is outside -2147483648 to 2147483647, so there is no constant"
+
+abbrev pub operands_sentence : (text from : List ℕ) → (first second : Option Numeral) → List ℕ
+operands_sentence text from first second = if divides from then divisor_sentence text second else range_sentence text from first second
+
+-- * DIV MOD, which bind closer than a sign
+abbrev pub binds_closer : List ℕ → Bool
+binds_closer from = begins_with from 42 || divides from
+
+-- at an operator, and at a name
+abbrev pub constant_sentence : (text : List ℕ) → List Known → List Token → (place : ℕ) → (from : List ℕ) → List ℕ
+constant_sentence text known tokens place from =
+    if divides from || no_word from
+    then operands_sentence text from (numeral_before text known tokens (binds_closer from) (Tokens.before place tokens))
+    (numeral_next text known tokens (binds_closer from) (Tokens.behind place tokens))
     else codes "a constant has no variables in it"
 
+abbrev pub is_procedure : Kind → Bool
+is_procedure Kinds.Procedure = true
+is_procedure _ = false
+
+abbrev pub is_procedure_token : Token → Bool
+is_procedure_token t = is_procedure t.kind
+
+abbrev pub is_token : Option Token → Bool
+is_token None = false
+is_token (Some t) = true
+
+-- a variable behind a PROCEDURE is one of a procedure, since those of the module stand before all procedures
+abbrev pub is_in_procedure : (before : List Token) → Bool
+is_in_procedure before = is_token (find is_procedure_token before)
+
+abbrev pub variables_sentence : (in_procedure : Bool) → List ℕ
+variables_sentence in_procedure =
+    if in_procedure then codes "the variables of a procedure, with its parameters, have at most 1024 words, and with this one there are more"
+    else codes "the variables of a module have at most 4096 words, and with this one there are more"
+
 -- at a type, at the name of a procedure, at a parameter and at a variable
-abbrev pub limit_sentence : (before from : List ℕ) → (in_parens : Bool) → List ℕ
-limit_sentence before from in_parens =
+abbrev pub limit_sentence : (before from : List ℕ) → (in_parens in_procedure : Bool) → List ℕ
+limit_sentence before from in_parens in_procedure =
     if opens_type from then codes "a type has at most 4096 words, and is at most 100 deep"
-    else if bytes_eq (word_before before) (codes "PROCEDURE") then codes "a module has at most 64 exports, and this is one more"
-    else if in_parens then codes "a procedure has at most 8 parameters, and this is one more"
-    else codes "the variables of a module have at most 4096 words, and those of a procedure, with its parameters, at most 1024; with this one there are more"
+    else if bytes_eq (word_before before) (codes "PROCEDURE") then codes "a module has at most 64 exports, and this is the 65th"
+    else if in_parens then codes "a procedure has at most 8 parameters, and this is the ninth"
+    else variables_sentence in_procedure
 
 -- what a rule asks, and what stands there
 abbrev pub told_rule : Rule → (text : List ℕ) → (place : ℕ) → List Known → List Token → (before from : List ℕ) → List ℕ
 told_rule Rules.UnknownName text place known tokens before from = unknown_sentence before text (nearest text known (word_at from))
-told_rule Rules.DeclaredTwice text place known tokens before from = codes "a name is declared once in a scope, and a field stands once in a record"
+told_rule Rules.DeclaredTwice text place known tokens before from = twice_sentence text known (in_record 0 (Tokens.before place tokens)) (word_at from)
 told_rule Rules.WrongKind text place known tokens before from = kind_sentence before from (sort_of text known (word_at from))
-told_rule Rules.TypesDiffer text place known tokens before from = types_sentence before from
-told_rule Rules.BadConstant text place known tokens before from = constant_sentence from
+told_rule Rules.TypesDiffer text place known tokens before from = typed_sentence text known tokens place before from
+told_rule Rules.BadConstant text place known tokens before from = constant_sentence text known tokens place from
 told_rule Rules.BadLength text place known tokens before from = codes "an array has 1 to 4096 elements"
 told_rule Rules.BadActuals text place known tokens before from =
     actuals_sentence before (sort_of text known (word_at from)) (actual_count (Tokens.behind place tokens))
-told_rule Rules.WrongLevel text place known tokens before from = codes "a procedure sees its own variables and those of the module, and none of a procedure around it"
-told_rule Rules.PassesLimit text place known tokens before from = limit_sentence before from (is_in_parens (Tokens.before place tokens))
+told_rule Rules.WrongLevel text place known tokens before from = codes "a procedure sees its own variables and those of the module, and none of a procedure around it; hand it over as a VAR parameter"
+told_rule Rules.PassesLimit text place known tokens before from =
+    limit_sentence before from (is_in_parens (Tokens.before place tokens)) (is_in_procedure (Tokens.before place tokens))
 told_rule Rules.BadExport text place known tokens before from = codes "exports are procedures of the module itself, with parameters of INTEGER and BOOLEAN"
 
 abbrev pub rule_sentence : (text : List ℕ) → List Known → List Token → BrokenRule → List ℕ

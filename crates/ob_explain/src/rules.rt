@@ -1,10 +1,10 @@
 //! What is wrong where a rule is broken, in a sentence.
 
-ghost use Rattle.std.specs.Prelude.{◌≡◌, ◌++◌, IfOk, OnOk, string_bytes};
-ghost use Rattle.ob_explain.specs.Rules.{actuals_sentence, behind_word, constant_sentence, counted_sentence, counts_sentence, divides, kind_sentence, limit_sentence, named_sentence, near_question, no_word, opens_type, question, rule_sentence, told_need, told_sort, unknown_sentence};
+ghost use Rattle.std.specs.Prelude.{◌≡◌, ◌++◌, IfOk, OnOk, find, string_bytes};
+ghost use Rattle.ob_explain.specs.Rules.{actuals_sentence, before_sentence, behind_word, binds_closer, constant_sentence, counted_sentence, counts_sentence, divides, divisor_sentence, is_in_procedure, is_procedure, is_procedure_token, kind_sentence, limit_sentence, named_sentence, near_question, no_word, opens_type, operands_sentence, operation_from, operation_text, question, range_sentence, rule_sentence, shown_numeral, told_need, told_sort, twice_sentence, unknown_sentence, variables_sentence};
 
 use crate::counts::push_count;
-use crate::place::halves;
+use crate::place::{halves, place_in};
 use crate::shown::push_line;
 use ob_explain_hints::slips::{begins_with, ends_with, is_same};
 use ob_explain_hints::words::{trimmed, word_at, word_before};
@@ -13,11 +13,14 @@ use ob_explain_names::lookup::sort_of;
 use ob_explain_names::need::{Need, need_of};
 use ob_explain_nearest::distance::{Candidate, FAR, bytes_of};
 use ob_explain_nearest::nearest::nearest;
+use ob_explain_operands::declarations::{declared_as, in_record, token_bytes};
+use ob_explain_operands::numerals::{Numeral, numeral_before, numeral_next};
 use ob_explain_tokens::actuals::actual_count;
 use ob_explain_tokens::around::{tokens_before, tokens_behind};
 use ob_explain_tokens::parens::is_in_parens;
-use ob_explain_types::types::types_sentence;
-use ob_scan::Token;
+use ob_explain_types::typed::typed_sentence;
+use ob_scan::{Kind, Token};
+use ob_text_words::numbers::push_number;
 use ob_typing::rule::{BrokenRule, Rule};
 use std::alloc::{AllocError, Global};
 
@@ -39,13 +42,15 @@ pub fn rule_sentence(
             text,
             nearest(text, known, word_at(from)),
         ),
-        Rule::DeclaredTwice => String::from_str(
-            alloc,
-            "a name is declared once in a scope, and a field stands once in a record",
-        ),
+        Rule::DeclaredTwice => {
+            let preceding = tokens_before(alloc, tokens, broken.place)?;
+            twice_sentence(alloc, text, known, in_record(&preceding), word_at(from))
+        }
         Rule::WrongKind => kind_sentence(alloc, before, from, sort_of(text, known, word_at(from))),
-        Rule::TypesDiffer => String::from_str(alloc, types_sentence(before, from)),
-        Rule::BadConstant => String::from_str(alloc, constant_sentence(from)),
+        Rule::TypesDiffer => {
+            typed_sentence(alloc, text, known, tokens, broken.place, before, from)
+        }
+        Rule::BadConstant => constant_sentence(alloc, text, known, tokens, broken.place, from),
         Rule::BadLength => String::from_str(alloc, "an array has 1 to 4096 elements"),
         Rule::BadActuals => {
             let behind = tokens_behind(alloc, tokens, broken.place)?;
@@ -54,12 +59,13 @@ pub fn rule_sentence(
         }
         Rule::WrongLevel => String::from_str(
             alloc,
-            "a procedure sees its own variables and those of the module, and none of a procedure around it",
+            "a procedure sees its own variables and those of the module, and none of a procedure around it; hand it over as a VAR parameter",
         ),
         Rule::PassesLimit => {
             let preceding = tokens_before(alloc, tokens, broken.place)?;
             let in_parens = is_in_parens(&preceding);
-            String::from_str(alloc, limit_sentence(before, from, in_parens))
+            let in_procedure = is_in_procedure(&preceding);
+            String::from_str(alloc, limit_sentence(before, from, in_parens, in_procedure))
         }
         Rule::BadExport => String::from_str(
             alloc,
@@ -107,6 +113,43 @@ fn push_near(sentence: &mut String, name: &[u8]) -> Result<(), AllocError>
     push_line(sentence, name)?;
     sentence.push_str("`?")?;
     Ok(())
+}
+
+/// Of a name that is declared, or a field that stands, twice.
+fn twice_sentence(
+    alloc: Global,
+    text: &[u8],
+    known: &[Known],
+    in_record: bool,
+    word: &[u8],
+) -> Result<String, AllocError>
+    ensures { IfOk result (λ sentence. string_bytes sentence ≡ twice_sentence text.now known.now in_record word.now) }
+{
+    if in_record {
+        String::from_str(
+            alloc,
+            "a field stands once in a record, and this name stands in it before",
+        )
+    } else {
+        before_sentence(alloc, text, declared_as(text, known, word))
+    }
+}
+
+/// Of a name that is declared before as this.
+fn before_sentence(alloc: Global, text: &[u8], name: Option<Known>) -> Result<String, AllocError>
+    ensures { IfOk result (λ sentence. string_bytes sentence ≡ before_sentence text.now name) }
+{
+    match name {
+        Some(name) => {
+            let mut sentence = String::from_str(
+                alloc,
+                "a name is declared once in a scope, and this one is declared before, in line ",
+            )?;
+            push_number(&mut sentence, place_in(text, name.place).line)?;
+            Ok(sentence)
+        }
+        None => String::from_str(alloc, "a name is declared once in a scope"),
+    }
 }
 
 /// Of what is of another kind.
@@ -231,31 +274,187 @@ fn counts_sentence(alloc: Global, count: usize, parameters: usize) -> Result<Str
     Ok(sentence)
 }
 
-/// Of a constant that has no value.
-fn constant_sentence(from: &[u8]) -> &'static str
-    ensures { result.now ≡ constant_sentence from.now }
+/// Of a constant that has no value, of an operation in it or of a variable.
+fn constant_sentence(
+    alloc: Global,
+    text: &[u8],
+    known: &[Known],
+    tokens: &[Token],
+    place: usize,
+    from: &[u8],
+) -> Result<String, AllocError>
+    ensures { IfOk result (λ sentence. string_bytes sentence ≡ constant_sentence text.now known.now tokens.now place from.now) }
 {
-    if divides(from) {
-        "a divisor is 1 or more, and this one is not, so there is no constant"
-    } else if no_word(from) {
-        "the result is outside -2147483648 to 2147483647, so there is no constant"
+    if divides(from) || no_word(from) {
+        let preceding = tokens_before(alloc, tokens, place)?;
+        let behind = tokens_behind(alloc, tokens, place)?;
+        let closer = binds_closer(from);
+        let first = numeral_before(alloc, text, known, tokens, closer, &preceding)?;
+        let second = numeral_next(alloc, text, known, tokens, closer, &behind)?;
+        operands_sentence(alloc, text, from, first, second)
     } else {
-        "a constant has no variables in it"
+        String::from_str(alloc, "a constant has no variables in it")
     }
 }
 
-/// Of a limit, at a type or at a name, which may stand in parentheses.
-fn limit_sentence(before: &[u8], from: &[u8], in_parens: bool) -> &'static str
-    ensures { result.now ≡ limit_sentence before.now from.now in_parens }
+/// Of an operation that has no result, of an operator with which these bytes begin.
+fn operands_sentence(
+    alloc: Global,
+    text: &[u8],
+    from: &[u8],
+    first: Option<Numeral>,
+    second: Option<Numeral>,
+) -> Result<String, AllocError>
+    ensures { IfOk result (λ sentence. string_bytes sentence ≡ operands_sentence text.now from.now first second) }
+{
+    if divides(from) {
+        divisor_sentence(alloc, text, second)
+    } else {
+        range_sentence(alloc, text, from, first, second)
+    }
+}
+
+/// Of a divisor.
+fn divisor_sentence(
+    alloc: Global,
+    text: &[u8],
+    divisor: Option<Numeral>,
+) -> Result<String, AllocError>
+    ensures { IfOk result (λ sentence. string_bytes sentence ≡ divisor_sentence text.now divisor) }
+{
+    match divisor {
+        Some(numeral) => {
+            let mut sentence = String::from_str(alloc, "a divisor is 1 or more, and this one is ")?;
+            push_numeral(&mut sentence, text, numeral)?;
+            sentence.push_str(", so there is no constant")?;
+            Ok(sentence)
+        }
+        None => String::from_str(
+            alloc,
+            "a divisor is 1 or more, and this one is not, so there is no constant",
+        ),
+    }
+}
+
+/// Of a result that is out of range.
+fn range_sentence(
+    alloc: Global,
+    text: &[u8],
+    from: &[u8],
+    first: Option<Numeral>,
+    second: Option<Numeral>,
+) -> Result<String, AllocError>
+    ensures { IfOk result (λ sentence. string_bytes sentence ≡ range_sentence text.now from.now first second) }
+{
+    let mut sentence = operation_text(alloc, text, from, first, second)?;
+    sentence.push_str(" is outside -2147483648 to 2147483647, so there is no constant")?;
+    Ok(sentence)
+}
+
+/// An operation, where its operands are known.
+fn operation_text(
+    alloc: Global,
+    text: &[u8],
+    from: &[u8],
+    first: Option<Numeral>,
+    second: Option<Numeral>,
+) -> Result<String, AllocError>
+    ensures { IfOk result (λ shown. string_bytes shown ≡ operation_text text.now from.now first second) }
+{
+    match first {
+        Some(first) => operation_from(alloc, text, from, first, second),
+        None => String::from_str(alloc, "the result"),
+    }
+}
+
+/// An operation with this first operand.
+fn operation_from(
+    alloc: Global,
+    text: &[u8],
+    from: &[u8],
+    first: Numeral,
+    second: Option<Numeral>,
+) -> Result<String, AllocError>
+    ensures { IfOk result (λ shown. string_bytes shown ≡ operation_from text.now from.now first second) }
+{
+    match second {
+        Some(second) => {
+            let mut shown = String::new(alloc);
+            push_numeral(&mut shown, text, first)?;
+            shown.push_str(" ")?;
+            push_line(&mut shown, halves(from, 1).0)?;
+            shown.push_str(" ")?;
+            push_numeral(&mut shown, text, second)?;
+            Ok(shown)
+        }
+        None => String::from_str(alloc, "the result"),
+    }
+}
+
+/// Appends a number as it is written.
+fn push_numeral(sentence: &mut String, text: &[u8], numeral: Numeral) -> Result<(), AllocError>
+    ensures { OnOk result (string_bytes sentence.new ≡ string_bytes sentence.old ++ shown_numeral text.now numeral) }
+{
+    sentence.push_str(if numeral.is_negative { "-" } else { "" })?;
+    push_line(sentence, token_bytes(text, numeral.digits))
+}
+
+/// Whether bytes begin with an operator that binds closer than a sign.
+fn binds_closer(from: &[u8]) -> bool
+    ensures { result ≡ binds_closer from.now }
+{
+    begins_with(from, b'*') || divides(from)
+}
+
+/// Whether a PROCEDURE stands among tokens.
+fn is_in_procedure(before: &[Token]) -> bool
+    ensures { result ≡ is_in_procedure before.now }
+{
+    match first_procedure(before) {
+        Some(_) => true,
+        None => false,
+    }
+}
+
+/// The first PROCEDURE of tokens.
+fn first_procedure(tokens: &[Token]) -> Option<Token>
+    ensures { result ≡ find is_procedure_token tokens.now }
+{
+    tokens
+        .iter()
+        .copied()
+        .find(|token| is_procedure(token.kind))
+}
+
+fn is_procedure(kind: Kind) -> bool
+    ensures { result ≡ is_procedure kind }
+{
+    matches!(kind, Kind::Procedure)
+}
+
+/// Of a limit, at a type or at a name, which may stand in parentheses or in a procedure.
+fn limit_sentence(before: &[u8], from: &[u8], in_parens: bool, in_procedure: bool) -> &'static str
+    ensures { result.now ≡ limit_sentence before.now from.now in_parens in_procedure }
 {
     if opens_type(from) {
         "a type has at most 4096 words, and is at most 100 deep"
     } else if is_same(word_before(before), b"PROCEDURE") {
-        "a module has at most 64 exports, and this is one more"
+        "a module has at most 64 exports, and this is the 65th"
     } else if in_parens {
-        "a procedure has at most 8 parameters, and this is one more"
+        "a procedure has at most 8 parameters, and this is the ninth"
     } else {
-        "the variables of a module have at most 4096 words, and those of a procedure, with its parameters, at most 1024; with this one there are more"
+        variables_sentence(in_procedure)
+    }
+}
+
+/// Of the variables of a procedure or of the module.
+fn variables_sentence(in_procedure: bool) -> &'static str
+    ensures { result.now ≡ variables_sentence in_procedure }
+{
+    if in_procedure {
+        "the variables of a procedure, with its parameters, have at most 1024 words, and with this one there are more"
+    } else {
+        "the variables of a module have at most 4096 words, and with this one there are more"
     }
 }
 

@@ -1,1 +1,3 @@
 pub mod Types
+pub mod Wanted
+pub mod Typed

@@ -92,7 +92,7 @@ fn is_operator_sign(byte: u8) -> bool
 }
 
 /// Whether an operator that takes INTEGERs stands there; a `+` or a `-` is one behind an operand.
-fn takes_numbers(before: &[u8], from: &[u8]) -> bool
+pub(crate) fn takes_numbers(before: &[u8], from: &[u8]) -> bool
     ensures { result ≡ takes_numbers before.now from.now }
 {
     begins_with(from, b'*')
@@ -103,19 +103,19 @@ fn takes_numbers(before: &[u8], from: &[u8]) -> bool
         || ((begins_with(from, b'+') || begins_with(from, b'-')) && is_behind_operand(before))
 }
 
-fn takes_truths(from: &[u8]) -> bool
+pub(crate) fn takes_truths(from: &[u8]) -> bool
     ensures { result ≡ takes_truths from.now }
 {
     begins_with(from, b'&') || is_same(word_at(from), b"OR")
 }
 
-fn compares(from: &[u8]) -> bool
+pub(crate) fn compares(from: &[u8]) -> bool
     ensures { result ≡ compares from.now }
 {
     begins_with(from, b'=') || begins_with(from, b'#')
 }
 
-fn begins_with_sign(from: &[u8]) -> bool
+pub(crate) fn begins_with_sign(from: &[u8]) -> bool
     ensures { result ≡ begins_with_sign from.now }
 {
     begins_with(from, b'+') || begins_with(from, b'-') || begins_with(from, b'~')

@@ -18,7 +18,7 @@ fn a_place_is_shown_below_its_line(rt: HostRuntime) -> Result<(), Fail> {
     let shown = explanation(rt.alloc(), "m.mod", TEXT, &remark)?;
     assert_eq!(rt;
         shown.as_str(),
-        "m.mod:2:9\n\tVAR a, a: INTEGER;\n\t       ^\n`a`: a name is declared once in a scope, and a field stands once in a record\n"
+        "m.mod:2:9\n\tVAR a, a: INTEGER;\n\t       ^\n`a`: a name is declared once in a scope, and this one is declared before, in line 2\n"
     );
     Ok(())
 }
