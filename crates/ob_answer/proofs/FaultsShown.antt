@@ -50,28 +50,28 @@ module_wrong_made name part e (Err x) told numbered stands apart none too_long =
 -- so is a budget that is too large
 long_calls : (module_name : Text) (part whole : List ℕ) (script_name : Text) (script : List ℕ) (budget : ℕ) (e : SeqTextFault) (a : Answer)
     → (1000000 < budget → e ≡ Runs.Compile Compile.Budget) → (budget ≤ 1000000 → e ≡ Runs.Compile (Compile.Text (Texts.Scan Scan.TooLong))) → 65536 < length whole
-    → IsCallsFaultShown module_name part script_name script e a
-    → IsSeqTextFault whole script budget e × IsCallsFaultShown module_name whole script_name script e a
+    → IsCallsFaultShown module_name part script_name script budget e a
+    → IsSeqTextFault whole script budget e × IsCallsFaultShown module_name whole script_name script budget e a
 long_calls module_name part whole script_name script budget e a too_much too_long longer =
     budget_too_long Runs.Compile
-    (λ x. IsCallsFaultShown module_name part script_name script x a
-    → IsSeqTextFault whole script budget x × IsCallsFaultShown module_name whole script_name script x a)
+    (λ x. IsCallsFaultShown module_name part script_name script budget x a
+    → IsSeqTextFault whole script budget x × IsCallsFaultShown module_name whole script_name script budget x a)
     budget e (λ much told. (much, told)) (λ told. (too_long_scan whole longer, (told.0, told_elsewhere told.1, told.2))) too_much too_long
 
 -- a fault of calls on the beginning of a module's text is one of calls on the whole, is shown so, and rules out their replies
 record Untold (module_name : Text) (whole : List ℕ) (script_name : Text) (script : List ℕ) (budget : ℕ) (e : SeqTextFault) (a : Answer) : Type 0 where
   stands : IsSeqTextFault whole script budget e
-  shown : IsCallsFaultShown module_name whole script_name script e a
+  shown : IsCallsFaultShown module_name whole script_name script budget e a
   no_run : HasNoRun whole script budget
 
 module _ (module_name : Text) (part : List ℕ) (script_name : Text) (script : List ℕ) (budget : ℕ) (e : SeqTextFault)
     (stands : IsSeqTextFault part script budget e) (apart : TellsMemoryApart e) (none : IsNumbered e → HasNoRun part script budget)
     (too_much : 1000000 < budget → e ≡ Runs.Compile Compile.Budget)
     (too_long : budget ≤ 1000000 → 65536 < length part → e ≡ Runs.Compile (Compile.Text (Texts.Scan Scan.TooLong))) where
-  of_whole_calls : (a : Answer) → IsCallsFaultShown module_name part script_name script e a → is_want_of_memory e ≡ false
+  of_whole_calls : (a : Answer) → IsCallsFaultShown module_name part script_name script budget e a → is_want_of_memory e ≡ false
       → (whole : List ℕ) → part ≡ beginning whole → Untold module_name whole script_name script budget e a
   of_whole_calls a told numbered whole is =
-      let both = of_whole_or_long (λ t. IsSeqTextFault t script budget e × IsCallsFaultShown module_name t script_name script e a) part whole is
+      let both = of_whole_or_long (λ t. IsSeqTextFault t script budget e × IsCallsFaultShown module_name t script_name script budget e a) part whole is
       (λ long longer. long_calls module_name part whole script_name script budget e a too_much (λ few. too_long few long) longer told) (stands, told) in
       record {
         stands = both.0;
@@ -80,7 +80,7 @@ module _ (module_name : Text) (part : List ℕ) (script_name : Text) (script : L
       }
 
   pub calls_wrong_made : {E : Type 0} (result : Result Answer E)
-      → IfOk result (λ a. IsCallsFaultShown module_name part script_name script e a) → IfOk result (λ _. is_want_of_memory e ≡ false)
+      → IfOk result (λ a. IsCallsFaultShown module_name part script_name script budget e a) → IfOk result (λ _. is_want_of_memory e ≡ false)
       → IfOk result (λ a. (whole : List ℕ) → part ≡ beginning whole → IsCallsExplained module_name whole script_name script budget a)
   calls_wrong_made (Ok a) told numbered =
       λ whole is.
@@ -89,7 +89,7 @@ module _ (module_name : Text) (part : List ℕ) (script_name : Text) (script : L
   calls_wrong_made (Err x) told numbered = tt
 
   pub traps_untold_made : {E : Type 0} (result : Result Answer E)
-      → IfOk result (λ a. IsCallsFaultShown module_name part script_name script e a) → IfOk result (λ _. is_want_of_memory e ≡ false)
+      → IfOk result (λ a. IsCallsFaultShown module_name part script_name script budget e a) → IfOk result (λ _. is_want_of_memory e ≡ false)
       → IfOk result (λ a. (whole : List ℕ) → part ≡ beginning whole → AreTrapsExplained module_name whole script_name script budget a)
   traps_untold_made (Ok a) told numbered =
       λ whole is.

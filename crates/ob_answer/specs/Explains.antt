@@ -38,10 +38,10 @@ abbrev pub IsModuleFaultShown : (name : Text) (bytes : List ℕ) → CompileFaul
 IsModuleFaultShown name bytes e answer =
     (told : Option Text) × IsModuleExplanation (shown name) bytes e told × IsRefused answer 1 (unwrap_or told (compile_line e ++ codes "\n"))
 
--- a fault of a module and a script: the place in the one's file or in the other's, and else the line by which `seq` tells it
-abbrev pub IsCallsFaultShown : (module_name : Text) (module_bytes : List ℕ) (script_name : Text) (script_bytes : List ℕ) → SeqTextFault → Answer → Type 0
-IsCallsFaultShown module_name module_bytes script_name script_bytes e answer =
-    (told : Option Text) × IsCallsExplanation (shown module_name) module_bytes (shown script_name) script_bytes e told
+-- a fault of a module, a script and a budget: the place in the one's file or in the other's, and else the line by which `seq` tells it
+abbrev pub IsCallsFaultShown : (module_name : Text) (module_bytes : List ℕ) (script_name : Text) (script_bytes : List ℕ) (budget : ℕ) → SeqTextFault → Answer → Type 0
+IsCallsFaultShown module_name module_bytes script_name script_bytes budget e answer =
+    (told : Option Text) × IsCallsExplanation (shown module_name) module_bytes (shown script_name) script_bytes budget e told
     × IsRefused answer 1 (unwrap_or told (seq_fault_line e ++ codes "\n"))
 
 -- to the name and the bytes of one module, which is right where `check` prints `ok`
@@ -56,7 +56,7 @@ HasRun module_bytes script_bytes budget = (output : List ℕ) × IsSequentialRun
 abbrev pub IsCallsExplained : (module_name : Text) (module_bytes : List ℕ) (script_name : Text) (script_bytes : List ℕ) (budget : ℕ) → Answer → Type 0
 IsCallsExplained module_name module_bytes script_name script_bytes budget =
     IsExplained (HasRun module_bytes script_bytes budget) (IsSeqTextFault module_bytes script_bytes budget) IsNumbered
-    (IsCallsFaultShown module_name module_bytes script_name script_bytes)
+    (IsCallsFaultShown module_name module_bytes script_name script_bytes budget)
 
 -- a text with the name by which its file is shown
 abbrev pub source : (name : Text) (bytes : List ℕ) → Source
@@ -68,14 +68,15 @@ pub data AreTrapsExplained (module_name : Text) (module_bytes : List ℕ) (scrip
   told : (text : Text) → IsTrapsText (source module_name module_bytes) (source script_name script_bytes) budget text → IsPrinted answer text
       → AreTrapsExplained module_name module_bytes script_name script_bytes budget answer
   untold : (e : SeqTextFault) → IsSeqTextFault module_bytes script_bytes budget e → IsNumbered e → HasNoRun module_bytes script_bytes budget
-      → IsCallsFaultShown module_name module_bytes script_name script_bytes e answer
+      → IsCallsFaultShown module_name module_bytes script_name script_bytes budget e answer
       → AreTrapsExplained module_name module_bytes script_name script_bytes budget answer
 
 -- a fault of a run: the place in the file of its module, of its script or of its schedule, and else the line by which `run` tells it
 abbrev pub IsRunFaultShown : RunRequest → (module_bytes script_bytes schedule_bytes : List ℕ) → PerformFault → Answer → Type 0
 IsRunFaultShown run module_bytes script_bytes schedule_bytes e answer =
     (told : Option Text)
-    × IsRunExplanation (source run.module_name module_bytes) (source run.script_name script_bytes) (source run.schedule_name schedule_bytes) run.processes e told
+    × IsRunExplanation (source run.module_name module_bytes) (source run.script_name script_bytes) (source run.schedule_name schedule_bytes)
+    run.processes run.budget e told
     × IsRefused answer 1 (unwrap_or told (run_fault_line e ++ codes "\n"))
 
 -- to the files of a run, which are right where `run` prints a record

@@ -118,22 +118,32 @@ fn explain_calls(
 ) -> Result<Answer, NoMemory>
     ensures { IfOk result (OfWhole «module».now (λ whole. IsCallsExplained module_name.now whole script_name.now script.now budget)) }
 {
-    match seq_text(alloc, module, script, u64::from(budget)) {
+    let turns = u64::from(budget);
+    match seq_text(alloc, module, script, turns) {
         Ok(_lines) => Ok(Answer::printed(alloc, String::from_str(alloc, "ok\n")?)),
-        Err(fault) => calls_wrong(alloc, module_name, module, script_name, script, fault),
+        Err(fault) => calls_wrong(
+            alloc,
+            module_name,
+            module,
+            script_name,
+            script,
+            turns,
+            fault,
+        ),
     }
 }
 
-/// The answer to a fault of a module and a script.
+/// The answer to a fault of a module and a script, whose calls have the budget of turns each.
 pub(crate) fn calls_wrong(
     alloc: Global,
     module_name: &str,
     module: &[u8],
     script_name: &str,
     script: &[u8],
+    budget: u64,
     fault: SeqTextFault,
 ) -> Result<Answer, NoMemory>
-    ensures fault { IfOk result (λ a. IsCallsFaultShown module_name.now «module».now script_name.now script.now fault a) }
+    ensures fault { IfOk result (λ a. IsCallsFaultShown module_name.now «module».now script_name.now script.now budget fault a) }
     ensures memory { IfOk result (λ _. is_want_of_memory fault ≡ false) }
 {
     if let SeqTextFault::NoMemory = fault {
@@ -141,7 +151,15 @@ pub(crate) fn calls_wrong(
     }
     let module_shown = shown_name(alloc, module_name)?;
     let script_shown = shown_name(alloc, script_name)?;
-    match calls_explanation(alloc, &module_shown, module, &script_shown, script, fault)? {
+    match calls_explanation(
+        alloc,
+        &module_shown,
+        module,
+        &script_shown,
+        script,
+        budget,
+        fault,
+    )? {
         Some(text) => Ok(Answer::refused(alloc, 1, text)),
         None => Ok(refused(alloc, seq_fault_line(alloc, fault)?)?),
     }

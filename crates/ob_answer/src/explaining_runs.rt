@@ -100,7 +100,8 @@ fn run_wrong(
         name: &schedule_shown,
         text: schedule,
     };
-    match run_explanation(alloc, object, scripts, items, run.processes, fault)? {
+    let turns = u64::from(run.budget);
+    match run_explanation(alloc, object, scripts, items, run.processes, turns, fault)? {
         Some(text) => Ok(Answer::refused(alloc, 1, text)),
         None => Ok(refused(alloc, run_fault_line(alloc, fault)?)?),
     }

@@ -60,8 +60,17 @@ fn explain_traps(
         name: &script_shown,
         text: script,
     };
-    match traps_text(alloc, object, calls, u64::from(budget)) {
+    let turns = u64::from(budget);
+    match traps_text(alloc, object, calls, turns) {
         Ok(text) => Ok(Answer::printed(alloc, text)),
-        Err(fault) => calls_wrong(alloc, module_name, module, script_name, script, fault),
+        Err(fault) => calls_wrong(
+            alloc,
+            module_name,
+            module,
+            script_name,
+            script,
+            turns,
+            fault,
+        ),
     }
 }

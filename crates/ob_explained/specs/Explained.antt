@@ -1,9 +1,10 @@
 -- What is shown of a fault that has a place in a text.
-use Rattle.std.specs.Prelude.{◌≡◌, ℕ, List, Option, None, option_map}
+use Rattle.std.specs.Prelude.{◌≡◌, ℕ, List, Option, None, Some, option_map}
 use Rattle.ob_scan.specs.declared.fault.ScanFault.TheVariants as Scan
 use Rattle.ob_explain.specs.Explanations.{explanation}
 use Rattle.ob_explain.specs.Remarks.{Remark, IsCheckRemark, IsParseRemark, scan_remark}
 use Rattle.ob_explained.specs.OpenFaults.{open_explanation}
+use Rattle.ob_explained.specs.NumberFaults.{budget_explanation, processes_explanation}
 use Rattle.ob_explained.specs.CallRemarks.{IsScriptRemark}
 use Rattle.ob_check_text.specs.declared.checked_text.TextFault.{TextFault}
 use Rattle.ob_check_text.specs.declared.checked_text.TextFault.TheVariants as Texts
@@ -39,8 +40,15 @@ IsModuleExplanation name text (Modules.Text e) shown = IsTextExplanation name te
 IsModuleExplanation name text (Modules.Open e) shown = shown ≡ open_explanation e
 IsModuleExplanation name text _ shown = shown ≡ None
 
--- of a module and a script: the fault of the one stands in the one, and that of the other in the other
-abbrev pub IsCallsExplanation : (module_name text script_name script : List ℕ) → SeqTextFault → Option (List ℕ) → Type 0
-IsCallsExplanation module_name text script_name script (Runs.Compile e) shown = IsModuleExplanation module_name text e shown
-IsCallsExplanation module_name text script_name script (Runs.Script e) shown = IsScriptExplanation text script_name script e shown
-IsCallsExplanation module_name text script_name script Runs.NoMemory shown = shown ≡ None
+-- of a module that so many processes share, each of whose calls has a budget: of a number that may not be which it may
+abbrev pub IsObjectExplanation : (name text : List ℕ) (processes budget : ℕ) → CompileFault → Option (List ℕ) → Type 0
+IsObjectExplanation name text processes budget Modules.Processes shown = shown ≡ Some (processes_explanation processes)
+IsObjectExplanation name text processes budget Modules.Budget shown = shown ≡ Some (budget_explanation budget)
+IsObjectExplanation name text processes budget fault shown = IsModuleExplanation name text fault shown
+
+-- Of a module and a script, whose calls have a budget each: the fault of the one stands in the one, and that of the other in the
+-- other. There is one process at a time.
+abbrev pub IsCallsExplanation : (module_name text script_name script : List ℕ) (budget : ℕ) → SeqTextFault → Option (List ℕ) → Type 0
+IsCallsExplanation module_name text script_name script budget (Runs.Compile e) shown = IsObjectExplanation module_name text 1 budget e shown
+IsCallsExplanation module_name text script_name script budget (Runs.Script e) shown = IsScriptExplanation text script_name script e shown
+IsCallsExplanation module_name text script_name script budget Runs.NoMemory shown = shown ≡ None

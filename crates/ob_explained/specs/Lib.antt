@@ -3,4 +3,5 @@ pub mod ScriptPlaces
 pub mod ScriptRemarks
 pub mod CallRemarks
 pub mod OpenFaults
+pub mod NumberFaults
 pub mod Explained

@@ -37,3 +37,13 @@ IsMark script (Script.Procedure number) place = MarksWord script number 1 place
 IsMark script (Script.Arguments number) place = MarksWord script number 1 place
 IsMark script (Script.Process number) place = MarksWord script number 0 place
 IsMark script Script.NoMemory place = ⊥
+
+-- a place in a text at which a word of a line begins behind its process: the procedure's name, or a value
+abbrev pub MarksBehindProcess : (text : List ℕ) (number place : ℕ) → Type 0
+MarksBehindProcess text number place = (word : ℕ) × (1 ≤ word) × MarksWord text number word place
+
+-- the word that is told where the exports are known: of values that don't fit the procedure's name or one of them, and else as above
+abbrev pub IsToldMark : (script : List ℕ) → ScriptFault → (place : ℕ) → Type 0
+IsToldMark script (Script.Procedure number) place = MarksBehindProcess script number place
+IsToldMark script (Script.Arguments number) place = MarksBehindProcess script number place
+IsToldMark script fault place = IsMark script fault place

@@ -1,19 +1,20 @@
 //! What is wrong with a call of a script that names no export, or whose values don't fit, in a sentence.
 
-ghost use Rattle.std.specs.Prelude.{◌≡◌, IfOk, map, option_map};
+ghost use Rattle.std.specs.Prelude.{◌≡◌, ◌⊎◌, suc, IfOk, IfSome, map, option_map};
 ghost use Rattle.ob_check_text.specs.CheckedText.{IsNumberedText, TellsTextMemoryApart, is_text_memory};
 ghost use Rattle.ob_explain.specs.Places.{line_from};
 ghost use Rattle.ob_explain.specs.Remarks.{remark_of};
 ghost use Rattle.ob_explain_arguments.specs.Calls.{told_of};
+ghost use Rattle.ob_explained.specs.Marks.{IsMark, IsToldMark, MarksBehindProcess, MarksWord};
 ghost use Rattle.ob_explained.specs.CallRemarks.{IsCallRemark, IsExportsRemark, IsScriptRemark, told_remark};
-ghost use Rattle.ob_explained.specs.ScriptPlaces.{in_line, line_begin, told_place};
+ghost use Rattle.ob_explained.specs.ScriptPlaces.{in_line, line_begin, told_place, word_place};
 ghost use Rattle.ob_interface.specs.View.{signature_of};
 ghost use Rattle.ob_text_words.specs.Words.{words};
 ghost use Rattle.ob_typing.specs.ModuleText.{IsModule};
 ghost use Rattle.ob_typing.specs.Program.{Program};
 
-use crate::script_place::{script_line, second_place, value_place};
-use crate::script_remark::script_remark;
+use crate::script_place::{script_line, value_place};
+use crate::script_remark::{place_of_name, script_remark};
 use ob_check_text::TextFault;
 use ob_check_text::checked_text::checked_text;
 use ob_explain::remark::Remark;
@@ -24,13 +25,17 @@ use ob_text_words::words::words_of;
 use std::alloc::{AllocError, Global};
 
 /// The remark on a fault of a script for the exports of a module; `None` for want of memory.
+#[tactic(auto, using(crate::proofs::Marked::as_told))]
 pub fn calls_remark(
     alloc: Global,
     text: &[u8],
     script: &[u8],
     fault: ScriptFault,
 ) -> Result<Option<Remark>, AllocError>
-    ensures { IfOk result (λ remark. IsScriptRemark text.now script.now fault (option_map remark_of remark)) }
+    ensures remark { IfOk result (λ remark. IsScriptRemark text.now script.now fault (option_map remark_of remark)) }
+
+    // It stands at a word of the line, by what stands between blanks there.
+    ensures marked { IfOk result (λ remark. IfSome remark (λ r. IsToldMark script.now fault r.place)) }
 {
     match fault {
         ScriptFault::Procedure(line) => call_remark(alloc, text, script, line, fault),
@@ -47,7 +52,8 @@ fn call_remark(
     line: usize,
     fault: ScriptFault,
 ) -> Result<Option<Remark>, AllocError>
-    ensures { IfOk result (λ remark. IsCallRemark text.now script.now line fault (option_map remark_of remark)) }
+    ensures remark { IfOk result (λ remark. IsCallRemark text.now script.now line fault (option_map remark_of remark)) }
+    ensures marked { IfOk result (λ remark. IfSome remark (λ r. MarksBehindProcess script.now line r.place ⊎ IsMark script.now fault r.place)) }
 {
     match checked_text(alloc, text) {
         Ok(checked) => exports_remark(alloc, checked.exports(), script, line, fault),
@@ -56,6 +62,7 @@ fn call_remark(
 }
 
 /// The remark where the text is no module.
+#[tactic(auto, using(crate::proofs::Marked::by_itself))]
 fn no_exports(
     alloc: Global,
     text: &[u8],
@@ -66,7 +73,8 @@ fn no_exports(
 ) -> Result<Option<Remark>, AllocError>
     requires none { IsNumberedText text_fault → (program : Program) → IsModule text.now program → ⊥ }
     requires apart { TellsTextMemoryApart text_fault }
-    ensures { IfOk result (λ remark. IsCallRemark text.now script.now line fault (option_map remark_of remark)) }
+    ensures remark { IfOk result (λ remark. IsCallRemark text.now script.now line fault (option_map remark_of remark)) }
+    ensures marked { IfOk result (λ remark. IfSome remark (λ r. MarksBehindProcess script.now line r.place ⊎ IsMark script.now fault r.place)) }
 {
     if is_memory(text_fault) {
         Err(AllocError)
@@ -89,7 +97,8 @@ fn exports_remark(
     line: usize,
     fault: ScriptFault,
 ) -> Result<Option<Remark>, AllocError>
-    ensures { IfOk result (λ remark. IsExportsRemark (map signature_of exports.now) script.now line fault (option_map remark_of remark)) }
+    ensures remark { IfOk result (λ remark. IsExportsRemark (map signature_of exports.now) script.now line fault (option_map remark_of remark)) }
+    ensures marked { IfOk result (λ remark. IfSome remark (λ r. MarksBehindProcess script.now line r.place ⊎ IsMark script.now fault r.place)) }
 {
     let words = line_words(alloc, script, line)?;
     let told = told_call(alloc, exports, &words)?;
@@ -105,6 +114,7 @@ fn line_words(alloc: Global, script: &[u8], line: usize) -> Result<Vec<&[u8]>, A
 }
 
 /// The remark by what is told of the line.
+#[tactic(auto, using(crate::proofs::Marked::by_itself))]
 fn told_remark(
     alloc: Global,
     script: &[u8],
@@ -112,7 +122,8 @@ fn told_remark(
     fault: ScriptFault,
     told: Option<Told>,
 ) -> Result<Option<Remark>, AllocError>
-    ensures { IfOk result (λ remark. option_map remark_of remark ≡ told_remark script.now line fault (option_map told_of told)) }
+    ensures remark { IfOk result (λ remark. option_map remark_of remark ≡ told_remark script.now line fault (option_map told_of told)) }
+    ensures marked { IfOk result (λ remark. IfSome remark (λ r. MarksBehindProcess script.now line r.place ⊎ IsMark script.now fault r.place)) }
 {
     match told {
         Some(told) => Ok(Some(Remark {
@@ -126,11 +137,20 @@ fn told_remark(
 
 /// Where the value of a number stands, or the name where there is no number.
 fn told_place(script: &[u8], line: usize, value: Option<usize>) -> usize
-    ensures { result ≡ in_line (told_place value) script.now line }
+    ensures place { result ≡ in_line (told_place value) script.now line }
+    ensures marked { MarksBehindProcess script.now line result }
+{
+    match value {
+        Some(number) => place_of_value(script, line, number),
+        None => place_of_name(script, line),
+    }
+}
+
+/// Where the value of a number stands in a line, counted from 0.
+fn place_of_value(script: &[u8], line: usize, number: usize) -> usize
+    ensures place { result ≡ in_line (word_place (suc (suc number))) script.now line }
+    ensures marked { MarksWord script.now line (suc (suc number)) result }
 {
     let (begin, bytes) = script_line(script, line);
-    match value {
-        Some(number) => begin + value_place(bytes, number),
-        None => begin + second_place(bytes),
-    }
+    begin + value_place(bytes, number)
 }

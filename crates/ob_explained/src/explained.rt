@@ -3,9 +3,10 @@
 ghost use Rattle.std.specs.Prelude.{◌≡◌, IfOk, option_map, string_bytes};
 ghost use Rattle.ob_explain.specs.Explanations.{explanation};
 ghost use Rattle.ob_explain.specs.Remarks.{remark_of};
-ghost use Rattle.ob_explained.specs.Explained.{IsCallsExplanation, IsModuleExplanation, IsTextRemark};
+ghost use Rattle.ob_explained.specs.Explained.{IsCallsExplanation, IsModuleExplanation, IsObjectExplanation, IsTextRemark};
 
 use crate::call_remark::calls_remark;
+use crate::number_fault::{budget_explanation, processes_explanation};
 use crate::open_fault::open_explanation;
 use ob_check_text::TextFault;
 use ob_explain::explanation::explanation;
@@ -14,6 +15,9 @@ use ob_object_compile::CompileFault;
 use ob_object_sequence::SeqTextFault;
 use ob_scan::ScanFault;
 use std::alloc::{AllocError, Global};
+
+/// The processes that make the calls of a script one at a time.
+const ONE_PROCESS: usize = 1;
 
 /// What is shown of a fault of a module, whose text has this name; `None` where the fault has no place in it and is none of its opening.
 pub fn module_explanation(
@@ -31,19 +35,42 @@ pub fn module_explanation(
     }
 }
 
-/// What is shown of a fault of a module and a script, whose texts have these names; `None` where the fault has no place in them.
+/// The same of a module that so many processes share, each of whose calls has a budget of turns; of a number that may not be it
+/// is told which it may.
+pub fn object_explanation(
+    alloc: Global,
+    name: &str,
+    text: &[u8],
+    processes: usize,
+    budget: u64,
+    fault: CompileFault,
+) -> Result<Option<String>, AllocError>
+    ensures { IfOk result (λ shown. IsObjectExplanation name.now text.now processes budget fault (option_map string_bytes shown)) }
+{
+    match fault {
+        CompileFault::Processes => Ok(Some(processes_explanation(alloc, processes)?)),
+        CompileFault::Budget => Ok(Some(budget_explanation(alloc, budget)?)),
+        _ => module_explanation(alloc, name, text, fault),
+    }
+}
+
+/// What is shown of a fault of a module and a script, whose texts have these names and whose calls have a budget of turns each;
+/// `None` where the fault has no place in them and is none of the budget.
 pub fn calls_explanation(
     alloc: Global,
     module_name: &str,
     text: &[u8],
     script_name: &str,
     script: &[u8],
+    budget: u64,
     fault: SeqTextFault,
 ) -> Result<Option<String>, AllocError>
-    ensures { IfOk result (λ shown. IsCallsExplanation module_name.now text.now script_name.now script.now fault (option_map string_bytes shown)) }
+    ensures { IfOk result (λ shown. IsCallsExplanation module_name.now text.now script_name.now script.now budget fault (option_map string_bytes shown)) }
 {
     match fault {
-        SeqTextFault::Compile(fault) => module_explanation(alloc, module_name, text, fault),
+        SeqTextFault::Compile(fault) => {
+            object_explanation(alloc, module_name, text, ONE_PROCESS, budget, fault)
+        }
         SeqTextFault::Script(fault) => {
             shown(
                 alloc,

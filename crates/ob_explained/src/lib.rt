@@ -3,8 +3,9 @@
 
 pub mod call_remark;
 pub mod explained;
+pub mod number_fault;
 pub mod open_fault;
 pub mod script_place;
 pub mod script_remark;
 
-pub use explained::{calls_explanation, module_explanation};
+pub use explained::{calls_explanation, module_explanation, object_explanation};

@@ -57,7 +57,7 @@ fn place_of_form(script: &[u8], line: usize) -> usize
 }
 
 /// Where the name of a line's procedure stands.
-fn place_of_name(script: &[u8], line: usize) -> usize
+pub(crate) fn place_of_name(script: &[u8], line: usize) -> usize
     ensures place { result ≡ in_line second_place script.now line }
     ensures marked { MarksWord script.now line 1 result }
 {

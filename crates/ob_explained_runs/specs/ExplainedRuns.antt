@@ -1,15 +1,23 @@
 -- What is shown of a fault of a run that has a place in one of its texts.
 use Rattle.std.specs.Prelude.{◌≡◌, ℕ, List, Option, None}
-use Rattle.ob_explained.specs.Explained.{IsModuleExplanation}
-use Rattle.ob_explained_runs.specs.RunRemarks.{long_item_remark, run_script_remark, schedule_remark}
+use Rattle.ob_explain.specs.Remarks.{Remark}
+use Rattle.ob_explained.specs.Explained.{IsObjectExplanation}
+use Rattle.ob_explained_runs.specs.RunRemarks.{IsRunScriptRemark, long_item_remark, schedule_remark}
 use Rattle.ob_explained_runs.specs.Sources.{Source, shown_in}
 use Rattle.ob_object_perform.specs.declared.performing.PerformFault.{PerformFault}
 use Rattle.ob_object_perform.specs.declared.performing.PerformFault.TheVariants as Runs
+use Rattle.ob_text_scripts.specs.declared.script.ScriptFault.{ScriptFault}
 
--- of a module, of scripts and of a schedule for n processes: the fault of each stands in its own text
-abbrev pub IsRunExplanation : (object scripts schedule : Source) (n : ℕ) → PerformFault → Option (List ℕ) → Type 0
-IsRunExplanation object scripts schedule n (Runs.Compile e) shown = IsModuleExplanation object.name object.text e shown
-IsRunExplanation object scripts schedule n (Runs.Script e) shown = shown ≡ shown_in scripts (run_script_remark n scripts.text e)
-IsRunExplanation object scripts schedule n (Runs.Schedule e) shown = shown ≡ shown_in schedule (schedule_remark n schedule.text e)
-IsRunExplanation object scripts schedule n (Runs.TooLong item) shown = shown ≡ shown_in schedule (long_item_remark schedule.text item)
-IsRunExplanation object scripts schedule n Runs.NoMemory shown = shown ≡ None
+-- of the scripts of n processes, whose calls are of the exports of a module's text
+pub record IsRunScriptExplanation (n : ℕ) (text : List ℕ) (scripts : Source) (fault : ScriptFault) (shown : Option (List ℕ)) : Type 0 where
+  pub remark : Option Remark
+  pub remarked : IsRunScriptRemark n text scripts.text fault remark
+  pub shows : shown ≡ shown_in scripts remark
+
+-- of a module, of scripts and of a schedule for n processes, whose calls have a budget each: the fault of each stands in its own text
+abbrev pub IsRunExplanation : (object scripts schedule : Source) (n budget : ℕ) → PerformFault → Option (List ℕ) → Type 0
+IsRunExplanation object scripts schedule n budget (Runs.Compile e) shown = IsObjectExplanation object.name object.text n budget e shown
+IsRunExplanation object scripts schedule n budget (Runs.Script e) shown = IsRunScriptExplanation n object.text scripts e shown
+IsRunExplanation object scripts schedule n budget (Runs.Schedule e) shown = shown ≡ shown_in schedule (schedule_remark n schedule.text e)
+IsRunExplanation object scripts schedule n budget (Runs.TooLong item) shown = shown ≡ shown_in schedule (long_item_remark schedule.text item)
+IsRunExplanation object scripts schedule n budget Runs.NoMemory shown = shown ≡ None

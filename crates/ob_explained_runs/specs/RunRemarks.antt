@@ -1,8 +1,8 @@
 -- What each fault of the scripts or the schedule of a run says to people.
-use Rattle.std.specs.Prelude.{ℕ, ◌-◌, ◌++◌, List, Option, None, codes, decimal}
+use Rattle.std.specs.Prelude.{◌≡◌, ℕ, ◌-◌, ◌==◌, ◌++◌, List, Option, None, codes, decimal, if◌then◌else◌}
 use Rattle.ob_explain.specs.Remarks.{Remark, at}
 use Rattle.ob_explained.specs.ScriptPlaces.{first_place, in_line}
-use Rattle.ob_explained.specs.ScriptRemarks.{script_remark}
+use Rattle.ob_explained.specs.CallRemarks.{IsScriptRemark}
 use Rattle.ob_explained_runs.specs.ItemPlaces.{item_place}
 use Rattle.ob_schedule.specs.declared.schedule.ScheduleFault.{ScheduleFault}
 use Rattle.ob_schedule.specs.declared.schedule.ScheduleFault.TheVariants as Schedule
@@ -11,12 +11,14 @@ use Rattle.ob_text_scripts.specs.declared.script.ScriptFault.TheVariants as Scri
 
 -- which processes there are
 abbrev pub processes_sentence : ℕ → List ℕ
-processes_sentence n = codes "with -n " ++ decimal n ++ codes " the processes are 0 to " ++ decimal (n - 1)
+processes_sentence n =
+    if n == 1 then codes "with -n 1 there is process 0 alone"
+    else (codes "with -n " ++ decimal n ++ codes " the processes are 0 to " ++ decimal (n - 1))
 
--- at the process that there isn't; each other fault as of a script by itself
-abbrev pub run_script_remark : (n : ℕ) → List ℕ → ScriptFault → Option Remark
-run_script_remark n scripts (Script.Process line) = at (in_line first_place scripts line) (processes_sentence n)
-run_script_remark n scripts fault = script_remark scripts fault
+-- at the process that there isn't; each other fault as of a script by itself, for the exports of the module's text
+abbrev pub IsRunScriptRemark : (n : ℕ) → (text scripts : List ℕ) → ScriptFault → Option Remark → Type 0
+IsRunScriptRemark n text scripts (Script.Process line) remark = remark ≡ at (in_line first_place scripts line) (processes_sentence n)
+IsRunScriptRemark n text scripts fault remark = IsScriptRemark text scripts fault remark
 
 -- at the item
 abbrev pub schedule_remark : (n : ℕ) → List ℕ → ScheduleFault → Option Remark

@@ -1,32 +1,35 @@
 //! What is shown of a fault of a run.
 
 ghost use Rattle.std.specs.Prelude.{◌≡◌, IfOk, option_map, string_bytes};
-ghost use Rattle.ob_explained_runs.specs.ExplainedRuns.{IsRunExplanation};
+ghost use Rattle.ob_explained_runs.specs.ExplainedRuns.{IsRunExplanation, IsRunScriptExplanation};
 ghost use Rattle.ob_explained_runs.specs.Sources.{source_of};
 
 use crate::run_remark::{long_item_remark, run_script_remark, schedule_remark};
 use crate::source::{Source, shown};
-use ob_explained::module_explanation;
+use ob_explained::object_explanation;
 use ob_object_perform::PerformFault;
+use ob_text_scripts::ScriptFault;
 use std::alloc::{AllocError, Global};
 
-/// What is shown of a fault of the run of these scripts and this schedule on a module's object, which n processes share; `None`
-/// where the fault has no place in their texts.
+/// What is shown of a fault of the run of these scripts and this schedule on a module's object, which n processes share and whose
+/// calls have a budget of turns each; `None` where the fault has no place in their texts and is none of these numbers.
 pub fn run_explanation(
     alloc: Global,
     object: Source<'_>,
     scripts: Source<'_>,
     schedule: Source<'_>,
     n: usize,
+    budget: u64,
     fault: PerformFault,
 ) -> Result<Option<String>, AllocError>
-    ensures { IfOk result (λ shown. IsRunExplanation (source_of object.entry) (source_of scripts.entry) (source_of schedule.entry) n fault (option_map string_bytes shown)) }
+    ensures { IfOk result (λ shown. IsRunExplanation (source_of object.entry) (source_of scripts.entry) (source_of schedule.entry) n budget fault (option_map string_bytes shown)) }
 {
     match fault {
-        PerformFault::Compile(fault) => module_explanation(alloc, object.name, object.text, fault),
+        PerformFault::Compile(fault) => {
+            object_explanation(alloc, object.name, object.text, n, budget, fault)
+        }
         PerformFault::Script(fault) => {
-            let remark = run_script_remark(alloc, n, scripts.text, fault)?;
-            shown(alloc, scripts, remark)
+            run_script_explanation(alloc, object.text, scripts, n, fault)
         }
         PerformFault::Schedule(fault) => {
             let remark = schedule_remark(alloc, n, schedule.text, fault)?;
@@ -38,4 +41,18 @@ pub fn run_explanation(
         }
         PerformFault::NoMemory => Ok(None),
     }
+}
+
+/// What is shown of a fault of the scripts of n processes, for the exports of a module's text; `None` for want of memory.
+fn run_script_explanation(
+    alloc: Global,
+    text: &[u8],
+    scripts: Source<'_>,
+    n: usize,
+    fault: ScriptFault,
+) -> Result<Option<String>, AllocError>
+    ensures { IfOk result (λ shown. IsRunScriptExplanation n text.now (source_of scripts.entry) fault (option_map string_bytes shown)) }
+{
+    let remark = run_script_remark(alloc, n, text, scripts.text, fault)?;
+    shown(alloc, scripts, remark)
 }

@@ -2,38 +2,39 @@
 
 ghost use Rattle.std.specs.Prelude.{◌≡◌, ◌-◌, IfOk, IfSome, option_map, string_bytes};
 ghost use Rattle.ob_explain.specs.Remarks.{at, remark_of};
-ghost use Rattle.ob_explained.specs.Marks.{IsMark, MarksWord};
+ghost use Rattle.ob_explained.specs.Marks.{IsToldMark, MarksWord};
 ghost use Rattle.ob_explained.specs.ScriptPlaces.{first_place, in_line};
 ghost use Rattle.ob_explained_runs.specs.ItemMarks.{BeginsItem, IsItemMark};
-ghost use Rattle.ob_explained_runs.specs.RunRemarks.{long_item_remark, processes_sentence, run_script_remark, schedule_remark};
+ghost use Rattle.ob_explained_runs.specs.RunRemarks.{IsRunScriptRemark, long_item_remark, processes_sentence, schedule_remark};
 
 use crate::item_place::item_place;
 use ob_explain::remark::Remark;
+use ob_explained::call_remark::calls_remark;
 use ob_explained::script_place::{first_place, script_line};
-use ob_explained::script_remark::script_remark;
 use ob_schedule::ScheduleFault;
 use ob_text_scripts::ScriptFault;
 use ob_text_words::numbers::push_number;
 use std::alloc::{AllocError, Global};
 
-/// The remark on a fault of the scripts of a run of n processes; `None` for want of memory.
+/// The remark on a fault of the scripts of a run of n processes, for the exports of a module's text; `None` for want of memory.
 pub fn run_script_remark(
     alloc: Global,
     n: usize,
+    text: &[u8],
     scripts: &[u8],
     fault: ScriptFault,
 ) -> Result<Option<Remark>, AllocError>
-    ensures remark { IfOk result (λ remark. option_map remark_of remark ≡ run_script_remark n scripts.now fault) }
+    ensures remark { IfOk result (λ remark. IsRunScriptRemark n text.now scripts.now fault (option_map remark_of remark)) }
 
     // It stands at a word of the line, by what stands between blanks there.
-    ensures marked { IfOk result (λ remark. IfSome remark (λ r. IsMark scripts.now fault r.place)) }
+    ensures marked { IfOk result (λ remark. IfSome remark (λ r. IsToldMark scripts.now fault r.place)) }
 {
     match fault {
         ScriptFault::Process(line) => told(
             place_of_process(scripts, line),
             processes_sentence(alloc, n)?,
         ),
-        fault => script_remark(alloc, scripts, fault),
+        fault => calls_remark(alloc, text, scripts, fault),
     }
 }
 
@@ -93,6 +94,9 @@ pub fn long_item_remark(
 fn processes_sentence(alloc: Global, n: usize) -> Result<String, AllocError>
     ensures { IfOk result (λ sentence. string_bytes sentence ≡ processes_sentence n) }
 {
+    if n == 1 {
+        return String::from_str(alloc, "with -n 1 there is process 0 alone");
+    }
     let mut sentence = String::from_str(alloc, "with -n ")?;
     push_number(&mut sentence, n)?;
     sentence.push_str(" the processes are 0 to ")?;

@@ -1,5 +1,5 @@
-use Rattle.std.proofs.Common.{◌≡◌, ℕ, IfOk, codes, rules, string_bytes, subst}
-use Rattle.ob_answer.specs.Explains.{IsRunExplained, right}
+use Rattle.std.proofs.Common.{◌≡◌, ℕ, IfOk, codes, rules, string_bytes, subst, sym}
+use Rattle.ob_answer.specs.Explains.{IsRunExplained, IsRunFaultShown, right}
 use Rattle.ob_answer.specs.Reads.{OfWhole}
 use Rattle.ob_command.specs.Commands.{run_request_of}
 use Rattle.ob_object_perform.specs.Performance.{IsPerformance}
@@ -20,9 +20,11 @@ returns-in_ok-from_str-in-Ok c whole is =
 
 pub returns-in-Err : goal.returns-in-Err
 returns-in-Err c =
+    let shown = subst (λ (b : ℕ). IfOk c.run_wrong.result (λ a. IsRunFaultShown (record (run_request_of c.args.run) { budget = b }) c.args.module.now c.args.script.now c.args.schedule.now c.in-Err.fault a))
+    (sym c.from-turns.ensures) c.run_wrong.ensures.fault in
     subst (λ (b : ℕ). IfOk c.run_wrong.result (OfWhole c.args.module.now (λ whole. IsRunExplained (record (run_request_of c.args.run) { budget = b }) whole c.args.script.now c.args.schedule.now)))
     c.from-turns.ensures
     (run_wrong_made (record (run_request_of c.args.run) { budget = c.from-turns.result }) c.args.module.now c.args.script.now c.args.schedule.now c.in-Err.fault
-    c.run_wrong.result c.run_wrong.ensures.fault c.run_wrong.ensures.memory
+    c.run_wrong.result shown c.run_wrong.ensures.memory
     c.in-Err.ensures.fault c.in-Err.ensures.memory c.in-Err.ensures.none (λ h. let e = c.in-Err.ensures.processes h in cc)
     (λ some few much. let e = c.in-Err.ensures.budget some few much in cc) (λ some few within long. let e = c.in-Err.ensures.too_long some few within long in cc))

@@ -6,9 +6,9 @@ use Rattle.ob_explained.specs.CallRemarks.{IsExportsRemark, of_module}
 use Rattle.ob_interface.specs.Export.{Signature}
 use Rattle.ob_explained.proofs.call_remark.call_remark.Goals as goal
 
-pub returns-in-Ok : goal.returns-in-Ok
-returns-in-Ok c =
+pub returns-in-Ok-clause-remark : goal.returns-in-Ok-clause-remark
+returns-in-Ok-clause-remark c =
     IfOk-weaker c.exports_remark.result _ _
     (λ remark e. of_module (program_in c.in-Ok.checked) c.in-Ok.ensures.program
     (subst (λ (ss : List Signature). IsExportsRemark ss c.args.script.now c.args.line c.args.fault (option_map remark_of remark)) c.exports.ensures e))
-    c.exports_remark.ensures
+    c.exports_remark.ensures.remark

@@ -5,8 +5,8 @@ use Rattle.ob_interface.specs.View.{signature_of}
 use Rattle.ob_text_words.specs.Words.{Word}
 use Rattle.ob_explained.proofs.call_remark.exports_remark.Goals as goal
 
-pub returns : goal.returns
-returns c =
+pub returns-clause-remark : goal.returns-clause-remark
+returns-clause-remark c =
     IfOk-weaker c.told_remark.result _ _
     (λ remark e. record {
       told = option_map told_of c.in_ok-told.told;
@@ -14,4 +14,4 @@ returns c =
           subst (λ (ws : List Word). IsToldOf (map signature_of c.args.exports.now) ws (option_map told_of c.in_ok-told.told))
           (ap (map (λ (w : Bor Word). w.now)) c.deref.ensures.value ∙ c.in_ok-words.ensures) c.in_ok-told.ensures;
       says = e;
-    }) c.told_remark.ensures
+    }) c.told_remark.ensures.remark
