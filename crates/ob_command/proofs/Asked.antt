@@ -9,7 +9,7 @@ use Rattle.clap.specs.Simple.{Shape, entered, label_of, rows_at, subcommand_of}
 use Rattle.clap.proofs.FaultLemmas.{stopped_fault}
 use Rattle.clap.proofs.WalkLemmas.{walk_stopped}
 use Rattle.clap.proofs.OnLiterals.{clap_on_literals}
-use Rattle.ob_command.specs.ClapCommand.{obl0_app}
+use Rattle.ob_command_line.specs.ClapCommand.{obl0_app}
 use Rattle.ob_command.specs.CommandLine.{Request, RunRequest, Unclear, budget_number, clap_request, number, request_by}
 use Rattle.ob_command.proofs.BuiltLine.{built_app, built_help, built_top, names}
 use Rattle.ob_command.proofs.Numbers.{plain_budget, plain_number}

@@ -6,7 +6,7 @@ use Rattle.clap.specs.declared.builder.action.ArgAction.TheVariants.{Set}
 use Rattle.clap.specs.declared.builder.value_parser.ValueParser.{ValueParser}
 use Rattle.clap.specs.declared.parser.matches.ValueSource.TheVariants.{CommandLine, DefaultValue}
 use Rattle.clap.specs.declared.builder.value_parser.ValueParser.TheVariants as parser
-use Rattle.ob_command.specs.ClapCommand.{flag_rule, name_rule, top_shape}
+use Rattle.ob_command_line.specs.ClapCommand.{flag_rule, name_rule, top_shape}
 
 -- ---- the rules of arguments
 

@@ -15,7 +15,7 @@ use Rattle.std.specs.Str.{bytes_eq}
 use Rattle.clap.specs.Simple.{built}
 use Rattle.clap.specs.Walk.{nothing_held}
 use Rattle.clap.proofs.OnLiterals.{clap_on_literals}
-use Rattle.ob_command.specs.ClapCommand.{obl0_app}
+use Rattle.ob_command_line.specs.ClapCommand.{obl0_app}
 use Rattle.std.specs.Borrow.{Bor}
 use Rattle.clap.specs.Words.{first_of, first_value, one_of}
 use Rattle.clap.specs.declared.parser.matches.Found.{Found}

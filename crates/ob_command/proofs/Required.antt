@@ -15,7 +15,7 @@ use Rattle.clap.specs.Simple.{Shape, entered, label_of, rows_at, subcommand_of}
 use Rattle.clap.specs.Takes.{is_given}
 use Rattle.clap.specs.declared.error.kind.ErrorKind.{ErrorKind}
 use Rattle.clap.specs.declared.error.kind.ErrorKind.TheVariants as kind
-use Rattle.ob_command.specs.ClapCommand.{obl0_app}
+use Rattle.ob_command_line.specs.ClapCommand.{obl0_app}
 use Rattle.ob_command.specs.CommandLine.{Request, Check, Listing, Verify, asks_command, bound_of, budget_of, command_of, form_mistake, form_mistake_of, processes_of, seq_of, serve_of}
 use Rattle.ob_command.proofs.BuiltLine.{bound_leaf, built_app, built_budget, built_help, built_name, built_number, built_one, built_top, draw_leaf, explain_leaf, module_leaf, names, needed, run_leaf, seq_leaf, serve_leaf, verify_leaf}
 use Rattle.ob_command.proofs.Given.{EachFills, Filled, Fills, given_first, given_number, level_filled, neither, some_budget, suits, with_filled, without_filled}

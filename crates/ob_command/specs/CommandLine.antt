@@ -7,7 +7,7 @@ use Rattle.std.specs.Str.Parse.{digits_value, without_leading_plus}
 use Rattle.clap.specs.ValueTests.{is_unsigned_in}
 use Rattle.clap.specs.Words.{Kinds, Row, fault_of, first_of, one_of, subcommand_of}
 use Rattle.clap.specs.declared.error.kind.ErrorKind.TheVariants as kind
-use Rattle.ob_command.specs.ClapCommand.{obl0_app}
+use Rattle.ob_command_line.specs.ClapCommand.{obl0_app}
 use Rattle.ob_command.specs.declared.command.CallNumbers.{CallNumbers}
 
 abbrev pub Text : Type 0

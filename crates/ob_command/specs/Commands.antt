@@ -8,7 +8,7 @@ use Rattle.ob_command.specs.declared.command.Command.TheVariants as commands
 use Rattle.ob_command.specs.declared.command.RunCommand.{RunCommand}
 use Rattle.ob_command.specs.declared.command.Stop.{Stop}
 use Rattle.ob_command.specs.declared.command.Stop.TheVariants as stops
-use Rattle.ob_command.specs.ClapCommand.{obl0_app}
+use Rattle.ob_command_line.specs.ClapCommand.{obl0_app}
 use Rattle.ob_command.specs.CommandLine.{Text, form_mistake_of, Request, RunRequest, Check, Listing, Seq, Run, RunTree, RunSteps, Serve, Draw, DrawRecord, Verify, Explain, ExplainTraps, ExplainRun, ExplainRecord, Bound, Help, Version, Unclear}
 
 -- what a command asks for

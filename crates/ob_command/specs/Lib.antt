@@ -1,4 +1,3 @@
 pub mod CommandLine
-pub mod ClapCommand
 pub mod Commands
 pub mod PlainForms

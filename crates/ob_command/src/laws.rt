@@ -2,7 +2,7 @@
 
 ghost use Rattle.std.specs.Prelude.{◌≡◌, ◌⊎◌, ℕ, List, Some, None, [], ◌∷◌, false, true, All, codes, is_some};
 ghost use Rattle.clap.specs.Words.{fault_of};
-ghost use Rattle.ob_command.specs.ClapCommand.{obl0_app};
+ghost use Rattle.ob_command_line.specs.ClapCommand.{obl0_app};
 ghost use Rattle.ob_command.specs.CommandLine.{Bound, Check, Draw, Explain, ExplainRecord, ExplainRun, ExplainTraps, Help, Listing, Run, RunSteps, RunTree, Seq, Serve, Text, Unclear, Verify, Version, asks_command, command_names, form_mistake_of, is_option, number, request};
 ghost use Rattle.ob_command.specs.PlainForms.{IsBoundAsked, IsBudgetRunAsked, IsCallsAsked, IsHelpAsked, IsRecordAsked, IsRunAsked, IsServeAsked, IsVersionAsked, WithCalls};
 

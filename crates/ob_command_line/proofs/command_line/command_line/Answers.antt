@@ -2,8 +2,8 @@ use Rattle.std.proofs.Common.{◌≡◌, ◌∙◌, ap₂, Result, Ok, Err, IfOk
 use Rattle.std.proofs.lemmas.Result.{IfOk-weaker}
 use Rattle.clap.specs.Words.{App, app_of}
 use Rattle.clap.specs.declared.builder.command.Command.{Command}
-use Rattle.ob_command.specs.ClapCommand.{with_command}
-use Rattle.ob_command.proofs.command.command_line.Goals as goal
+use Rattle.ob_command_line.specs.ClapCommand.{with_command}
+use Rattle.ob_command_line.proofs.command_line.command_line.Goals as goal
 
 -- the command that was made is added to what stood before
 added : {E : Type 0} (made : Result Command E) (whole above a b : App) → IsOkAnd made (λ one. whole ≡ with_command above (app_of one))

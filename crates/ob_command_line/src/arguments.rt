@@ -1,0 +1,90 @@
+//! The arguments that stand behind commands.
+
+ghost use Rattle.std.specs.Prelude.{◌≡◌, false};
+ghost use Rattle.clap.specs.Words.{new_rule, rule_of};
+ghost use Rattle.ob_command_line.specs.ClapCommand.{budget_rule, calls_rule, flag_rule, name_rule, number_rule, optional_number_rule, record_rule};
+
+use clap::{Arg, ArgAction};
+use std::alloc::Global;
+
+const HELP_RECORD: &str = "The file of the record, as `run` prints it";
+
+const HELP_BUDGET: &str =
+    "How many turns each call has, 0 to 1000000; 100000 where nothing is said";
+
+const HELP_CALLS: &str =
+    "Which calls are drawn: the places of the first and the last, from 1; all where nothing is said";
+
+/// A word that has to be there, the name of a file.
+pub fn file_name<'a>(alloc: Global, id: &'a str, help: &'a str) -> Arg<'a>
+    ensures rule { rule_of result ≡ name_rule id.entry.now }
+    ensures local { result.global ≡ false }
+{
+    Arg::new(alloc, id).required(true).help(help)
+}
+
+/// A word that may be missing, the name of a file.
+pub fn optional_name<'a>(alloc: Global, id: &'a str, help: &'a str) -> Arg<'a>
+    ensures rule { rule_of result ≡ new_rule id.entry.now }
+    ensures local { result.global ≡ false }
+{
+    Arg::new(alloc, id).help(help)
+}
+
+/// A word that stands there or not.
+pub fn flag<'a>(alloc: Global, name: &'a str, help: &'a str) -> Arg<'a>
+    ensures rule { rule_of result ≡ flag_rule name.entry.now }
+    ensures local { result.global ≡ false }
+{
+    Arg::new(alloc, name)
+        .long(name)
+        .action(ArgAction::SetTrue)
+        .help(help)
+}
+
+/// The option that names a record in place of a script.
+pub fn explained_record<'a>(alloc: Global) -> Arg<'a>
+    ensures rule { rule_of result ≡ record_rule }
+    ensures local { result.global ≡ false }
+{
+    Arg::new(alloc, "RECORD").long("record").help(HELP_RECORD)
+}
+
+/// The option that says which calls a picture has.
+pub fn drawn_calls<'a>(alloc: Global) -> Arg<'a>
+    ensures rule { rule_of result ≡ calls_rule }
+    ensures local { result.global ≡ false }
+{
+    Arg::new(alloc, "FROM-TO").long("calls").help(HELP_CALLS)
+}
+
+/// The option that says how many processes there are.
+pub fn process_count<'a>(alloc: Global) -> Arg<'a>
+    ensures rule { rule_of result ≡ number_rule }
+    ensures local { result.global ≡ false }
+{
+    optional_count(alloc).required(true)
+}
+
+/// The same option where it may be missing.
+pub fn optional_count<'a>(alloc: Global) -> Arg<'a>
+    ensures rule { rule_of result ≡ optional_number_rule }
+    ensures local { result.global ≡ false }
+{
+    Arg::new(alloc, "N")
+        .short('n')
+        .value_parser(clap::value_parser!(u16))
+        .help("How many processes there are, 1 to 16")
+}
+
+/// The option that says how many turns each call has.
+pub fn call_budget<'a>(alloc: Global) -> Arg<'a>
+    ensures rule { rule_of result ≡ budget_rule }
+    ensures local { result.global ≡ false }
+{
+    Arg::new(alloc, "BUDGET")
+        .short('b')
+        .long("budget")
+        .value_parser(clap::value_parser!(u32))
+        .help(HELP_BUDGET)
+}

@@ -1,0 +1,83 @@
+//! The command line as `clap` is told of it.
+
+ghost use Rattle.std.specs.Prelude.{◌≡◌, false, IfOk, IsOkAnd};
+ghost use Rattle.clap.specs.Words.{app_of};
+ghost use Rattle.clap.specs.declared.builder.command.Command.TheViews.{out-Command as fields_of};
+ghost use Rattle.ob_command_line.specs.ClapCommand.{obl0_app, top_app, with_command};
+
+use crate::lines::{
+    bound_line, draw_line, explain_line, module_line, record_line, run_line, seq_line, serve_line,
+};
+use std::alloc::{AllocError, Global};
+
+const ABOUT_SEQ: &str = "Makes the calls of a script one at a time and prints the reply to each";
+
+const ABOUT_RUN: &str =
+    "Makes the calls of a script by the steps of a schedule and prints the record of the run";
+
+const ABOUT_SERVE: &str =
+    "Makes the calls of a script by a worker for each process and prints the record of the run";
+
+const ABOUT_DRAW: &str =
+    "Prints a picture in SVG, of the same run as that of `run`, or of a record alone";
+
+const ABOUT_VERIFY: &str = "Tells whether the order of a record is a legal order of its calls";
+
+const ABOUT_EXPLAIN: &str =
+    "Shows what is wrong with a module, with a module and a script, with a run or with a record, \
+    or where calls trap";
+
+const ABOUT_BOUND: &str =
+    "Prints how many own steps a call takes at most, and the numbers behind it";
+
+/// What stands below the help.
+const AFTER_HELP: &str = "\
+`help COMMAND` prints the help of a command, as `COMMAND --help` does.
+`version`, `--version` and `-V` print the version.
+`-` in the place of a file's name is standard input.
+docs/FAULTS.md lists the faults, such as S3 or O2.";
+
+/// The command line as `clap` reads it.
+pub fn command_line<'a>(alloc: Global) -> Result<clap::Command<'a>, AllocError>
+    ensures { IfOk result (λ c. app_of c ≡ obl0_app) }
+{
+    // Nothing is held while a command is made, so that want of memory finds nothing to let go.
+    let program = program_line(alloc)?;
+    let check = module_line(alloc, "check", "Tells whether a module keeps the rules");
+    let program = with_command(program, check)?;
+    let list = module_line(alloc, "list", "Prints the code of a module");
+    let program = with_command(program, list)?;
+    let program = with_command(program, seq_line(alloc, "seq", ABOUT_SEQ))?;
+    let program = with_command(program, run_line(alloc, "run", ABOUT_RUN))?;
+    let program = with_command(program, serve_line(alloc, "serve", ABOUT_SERVE))?;
+    let program = with_command(program, draw_line(alloc, "draw", ABOUT_DRAW))?;
+    let program = with_command(program, record_line(alloc, "verify", ABOUT_VERIFY))?;
+    let program = with_command(program, explain_line(alloc, "explain", ABOUT_EXPLAIN))?;
+    with_command(program, bound_line(alloc, "bound", ABOUT_BOUND))
+}
+
+/// The command line with one command more, where that could be made.
+fn with_command<'a>(
+    program: clap::Command<'a>,
+    command: Result<clap::Command<'a>, AllocError>,
+) -> Result<clap::Command<'a>, AllocError>
+    requires local { IfOk command (λ c. (fields_of c).has_globals ≡ false) }
+    ensures { IfOk result (λ c. IsOkAnd command.entry (λ added. app_of c ≡ with_command (app_of program.entry) (app_of added))) }
+{
+    program.subcommand(command?)
+}
+
+/// The command line before any command.
+fn program_line<'a>(alloc: Global) -> Result<clap::Command<'a>, AllocError>
+    ensures { IfOk result (λ c. app_of c ≡ top_app) }
+{
+    let program = clap::Command::new(alloc, "obl0")
+        .bin_name("obl0")?
+        .about("Checks, compiles and runs a module of Oberon-0")
+        .after_help(AFTER_HELP)
+        .no_binary_name(true)
+        .disable_help_subcommand(true)
+        .subcommand_required(true)
+        .arg_required_else_help(true);
+    Ok(program)
+}

@@ -1,0 +1,6 @@
+//! The command line of the program, as the library `clap` is told of it.
+#![tactic(auto)]
+
+pub mod arguments;
+pub mod command_line;
+pub mod lines;

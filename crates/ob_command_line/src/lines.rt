@@ -1,0 +1,207 @@
+//! The words behind each command.
+
+ghost use Rattle.std.specs.Prelude.{◌≡◌, false, IfOk};
+ghost use Rattle.clap.specs.Words.{app_of};
+ghost use Rattle.clap.specs.declared.builder.command.Command.TheViews.{out-Command as fields_of};
+ghost use Rattle.ob_command_line.specs.ClapCommand.{bound_app, draw_app, drawn_app, explain_app, module_app, optional_run_app, record_app, run_app, schedule_app, script_app, seq_app, serve_app, texts_app};
+
+use crate::arguments::{
+    call_budget, drawn_calls, explained_record, file_name, flag, optional_count, optional_name,
+    process_count,
+};
+use std::alloc::{AllocError, Global};
+
+const HELP_SCRIPT: &str = "The file of the calls, one a line: PROCESS PROCEDURE ARGUMENTS";
+
+const HELP_DRAWN: &str = "The file of the calls; or, with no schedule, of a record";
+
+const HELP_SCHEDULE: &str =
+    "The file of the items that say which process steps: PROCESS*STEPS, PROCESS:LABEL or PROCESS!";
+
+const HELP_RECORD: &str = "The file of the record, as `run` prints it";
+
+const HELP_TREE: &str =
+    "Runs the module by its tree in place of its code, which may then be of any length";
+
+const HELP_STEPS: &str =
+    "Prints on standard error each ended call's own steps too, a line each, as `0.1 37`";
+
+const HELP_TRAPS: &str =
+    "Shows for each call of the script that traps the operation that traps, and its values";
+
+/// The words behind a command that makes a run and may tell more of it.
+pub fn run_line<'a>(
+    alloc: Global,
+    command: &'a str,
+    about: &'a str,
+) -> Result<clap::Command<'a>, AllocError>
+    ensures app { IfOk result (λ c. app_of c ≡ run_app command.entry.now) }
+    ensures local { IfOk result (λ c. (fields_of c).has_globals ≡ false) }
+{
+    schedule_line(alloc, command, about)?
+        .arg(flag(alloc, "tree", HELP_TREE))?
+        .arg(flag(alloc, "steps", HELP_STEPS))
+}
+
+/// The words behind a command on a module, a script and a schedule, for a number of processes with a budget.
+pub fn schedule_line<'a>(
+    alloc: Global,
+    command: &'a str,
+    about: &'a str,
+) -> Result<clap::Command<'a>, AllocError>
+    ensures app { IfOk result (λ c. app_of c ≡ schedule_app command.entry.now) }
+    ensures local { IfOk result (λ c. (fields_of c).has_globals ≡ false) }
+{
+    script_line(alloc, command, about)?
+        .arg(file_name(alloc, "SCHEDULE", HELP_SCHEDULE))?
+        .arg(process_count(alloc))?
+        .arg(call_budget(alloc))
+}
+
+/// The words behind a command on a module, and on a script and a schedule for a number of processes with a budget or on a record.
+pub fn draw_line<'a>(
+    alloc: Global,
+    command: &'a str,
+    about: &'a str,
+) -> Result<clap::Command<'a>, AllocError>
+    ensures app { IfOk result (λ c. app_of c ≡ draw_app command.entry.now) }
+    ensures local { IfOk result (λ c. (fields_of c).has_globals ≡ false) }
+{
+    drawn_line(alloc, command, about)?
+        .arg(optional_count(alloc))?
+        .arg(call_budget(alloc))?
+        .arg(drawn_calls(alloc))
+}
+
+/// The names behind a command that draws: of a module, and of a script and a schedule or of a record.
+pub fn drawn_line<'a>(
+    alloc: Global,
+    command: &'a str,
+    about: &'a str,
+) -> Result<clap::Command<'a>, AllocError>
+    ensures app { IfOk result (λ c. app_of c ≡ drawn_app command.entry.now) }
+    ensures local { IfOk result (λ c. (fields_of c).has_globals ≡ false) }
+{
+    module_line(alloc, command, about)?
+        .arg(file_name(alloc, "SCRIPT", HELP_DRAWN))?
+        .arg(optional_name(alloc, "SCHEDULE", HELP_SCHEDULE))
+}
+
+/// The words behind a command on a module and a script, for a number of processes with a budget.
+pub fn serve_line<'a>(
+    alloc: Global,
+    command: &'a str,
+    about: &'a str,
+) -> Result<clap::Command<'a>, AllocError>
+    ensures app { IfOk result (λ c. app_of c ≡ serve_app command.entry.now) }
+    ensures local { IfOk result (λ c. (fields_of c).has_globals ≡ false) }
+{
+    script_line(alloc, command, about)?
+        .arg(process_count(alloc))?
+        .arg(call_budget(alloc))
+}
+
+/// The words behind a command on a module and a script.
+pub fn script_line<'a>(
+    alloc: Global,
+    command: &'a str,
+    about: &'a str,
+) -> Result<clap::Command<'a>, AllocError>
+    ensures app { IfOk result (λ c. app_of c ≡ script_app command.entry.now) }
+    ensures local { IfOk result (λ c. (fields_of c).has_globals ≡ false) }
+{
+    module_line(alloc, command, about)?.arg(file_name(alloc, "SCRIPT", HELP_SCRIPT))
+}
+
+/// The words behind a command that makes the calls of a script on a module.
+pub fn seq_line<'a>(
+    alloc: Global,
+    command: &'a str,
+    about: &'a str,
+) -> Result<clap::Command<'a>, AllocError>
+    ensures app { IfOk result (λ c. app_of c ≡ seq_app command.entry.now) }
+    ensures local { IfOk result (λ c. (fields_of c).has_globals ≡ false) }
+{
+    script_line(alloc, command, about)?.arg(call_budget(alloc))
+}
+
+/// The words behind a command on a module, on a script where one is named, and on a schedule or a record.
+pub fn explain_line<'a>(
+    alloc: Global,
+    command: &'a str,
+    about: &'a str,
+) -> Result<clap::Command<'a>, AllocError>
+    ensures app { IfOk result (λ c. app_of c ≡ explain_app command.entry.now) }
+    ensures local { IfOk result (λ c. (fields_of c).has_globals ≡ false) }
+{
+    optional_run_line(alloc, command, about)?
+        .arg(explained_record(alloc))?
+        .arg(flag(alloc, "traps", HELP_TRAPS))
+}
+
+/// The words of a run behind a command, of which all but the module's name may be missing.
+pub fn optional_run_line<'a>(
+    alloc: Global,
+    command: &'a str,
+    about: &'a str,
+) -> Result<clap::Command<'a>, AllocError>
+    ensures app { IfOk result (λ c. app_of c ≡ optional_run_app command.entry.now) }
+    ensures local { IfOk result (λ c. (fields_of c).has_globals ≡ false) }
+{
+    texts_line(alloc, command, about)?
+        .arg(optional_count(alloc))?
+        .arg(call_budget(alloc))
+}
+
+/// The names behind a command that explains: of a module, of a script and of a schedule, where they are named.
+pub fn texts_line<'a>(
+    alloc: Global,
+    command: &'a str,
+    about: &'a str,
+) -> Result<clap::Command<'a>, AllocError>
+    ensures app { IfOk result (λ c. app_of c ≡ texts_app command.entry.now) }
+    ensures local { IfOk result (λ c. (fields_of c).has_globals ≡ false) }
+{
+    module_line(alloc, command, about)?
+        .arg(optional_name(alloc, "SCRIPT", HELP_SCRIPT))?
+        .arg(optional_name(alloc, "SCHEDULE", HELP_SCHEDULE))
+}
+
+/// The words behind a command on a module, for a number of processes with a budget.
+pub fn bound_line<'a>(
+    alloc: Global,
+    command: &'a str,
+    about: &'a str,
+) -> Result<clap::Command<'a>, AllocError>
+    ensures app { IfOk result (λ c. app_of c ≡ bound_app command.entry.now) }
+    ensures local { IfOk result (λ c. (fields_of c).has_globals ≡ false) }
+{
+    module_line(alloc, command, about)?
+        .arg(process_count(alloc))?
+        .arg(call_budget(alloc))
+}
+
+/// The words behind a command on a module and the record of a run.
+pub fn record_line<'a>(
+    alloc: Global,
+    command: &'a str,
+    about: &'a str,
+) -> Result<clap::Command<'a>, AllocError>
+    ensures app { IfOk result (λ c. app_of c ≡ record_app command.entry.now) }
+    ensures local { IfOk result (λ c. (fields_of c).has_globals ≡ false) }
+{
+    module_line(alloc, command, about)?.arg(file_name(alloc, "RECORD", HELP_RECORD))
+}
+
+/// The words behind a command on a module: the module's name.
+pub fn module_line<'a>(
+    alloc: Global,
+    command: &'a str,
+    about: &'a str,
+) -> Result<clap::Command<'a>, AllocError>
+    ensures app { IfOk result (λ c. app_of c ≡ module_app command.entry.now) }
+    ensures local { IfOk result (λ c. (fields_of c).has_globals ≡ false) }
+{
+    let module = file_name(alloc, "MODULE", "The file of the module's text");
+    clap::Command::new(alloc, command).about(about).arg(module)
+}
