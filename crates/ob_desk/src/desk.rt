@@ -11,10 +11,19 @@ use crate::terms::Terms;
 use ob_desk_floor::{Floor, Seat, Submission, TakeTurn};
 use ob_interface::{MOST_PROCESSES, NoMemory};
 use std::alloc::{AllocError, Global};
+use std::hint::spin_loop;
 use std::marker::Model;
-use std::sync::{Mutex, Wait};
+use std::sync::{Mutex, MutexGuard, Wait};
 use wf_coded::CodedEngine;
 use wf_object::{Machine, Seen, StepOut};
+
+/// How often a seat finds the lock taken before it waits for it by `Mutex::lock`.
+const TRIES: u32 = 32;
+
+/// By how many bits the turns of a seat are shifted for the pauses that it makes between two tries, and how many these are at most.
+const FEWER: u32 = 5;
+
+const MOST_PAUSES: u128 = 128;
 
 /// A floor under a lock, and what it has to be.
 #[derive(Drop)]
@@ -80,7 +89,7 @@ impl<E: CodedEngine> TakeTurn for Desk<E> {
     /// Takes the lock for one turn of the seat's process. Where the floor has no such process the answer is that of a process
     /// without calls. Nothing changes on the seat where memory runs out.
     fn turn<R: Wait>(&self, rt: &R, seat: &mut Seat) -> Result<StepOut, NoMemory> {
-        let mut floor = self.floor.lock(rt);
+        let mut floor = enter(rt, &self.floor, seat.turns());
         if seat.process() < floor.processes() {
             floor.turn(seat)
         } else {
@@ -91,13 +100,52 @@ impl<E: CodedEngine> TakeTurn for Desk<E> {
 
     /// The same turn, whose answer is found on the seat.
     fn advance<R: Wait>(&self, rt: &R, seat: &mut Seat) -> Result<Seen, NoMemory> {
-        let mut floor = self.floor.lock(rt);
+        let mut floor = enter(rt, &self.floor, seat.turns());
         if seat.process() < floor.processes() {
             floor.advance(seat)
         } else {
             seat.pass();
             Ok(Seen::Halted)
         }
+    }
+}
+
+/// Takes the lock for a seat that took so many turns.
+#[inline(always)]
+fn enter<'a, E: CodedEngine, R: Wait>(
+    rt: &R,
+    floor: &'a Mutex<Floor<E>>,
+    turns: u128,
+) -> MutexGuard<'a, Floor<E>> {
+    match floor.try_lock() {
+        Some(guard) => guard,
+        None => wait_for(rt, floor, turns),
+    }
+}
+
+/// Takes a lock that was found taken. Between two tries the lock's word is not looked at: each look takes it from the processor of
+/// the thread that has the lock, which writes it at each of its turns. The more turns the seat took the longer are its waits, so
+/// that a thread in the midst of its work goes on for some turns, and those that have just begun soon come in.
+#[inline(never)]
+fn wait_for<'a, E: CodedEngine, R: Wait>(
+    rt: &R,
+    floor: &'a Mutex<Floor<E>>,
+    turns: u128,
+) -> MutexGuard<'a, Floor<E>> {
+    let pauses = (turns >> FEWER).min(MOST_PAUSES) as u32;
+    for _ in 0..TRIES {
+        pause(pauses);
+        if let Some(guard) = floor.try_lock() {
+            return guard;
+        }
+    }
+    floor.lock(rt)
+}
+
+/// Passes some time.
+fn pause(times: u32) {
+    for _ in 0..times {
+        spin_loop();
     }
 }
 
