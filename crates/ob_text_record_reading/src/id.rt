@@ -50,9 +50,9 @@ pub(crate) fn are_ids(processes: usize, words: &[&[u8]]) -> bool
     ensures no { IsFalse result → (ids : List CallId) → AreIds processes (map (λ w. w.now) words.now) ids → ⊥ }
 {
     for word in words {
-        if read_id(processes, word).is_none() {
+        let Some(_id) = read_id(processes, word) else {
             return false;
-        }
+        };
     }
     true
 }
