@@ -11,9 +11,10 @@ pub returns-in_default-clause-no : goal.returns-in_default-clause-no
 returns-in_default-clause-no c h = ids-stop _ c.args.words.now c.loop-word.word-index _ c.loop-word-test.true c.in_default.ensures
 
 pub loop-word-preserved : goal.loop-word-preserved
-loop-word-preserved c =
-    (c.loop-word.invariant.0 ++ c.in-Some._id ∷ [],
-    ids-read _ c.args.words.now c.loop-word.word-index _ c.loop-word-test.true _ _ c.in-Some.ensures c.loop-word.invariant.1)
+loop-word-preserved c = (
+  c.loop-word.invariant.0 ++ c.in-Some._id ∷ [],
+  ids-read _ c.args.words.now c.loop-word.word-index _ c.loop-word-test.true _ _ c.in-Some.ensures c.loop-word.invariant.1,
+)
 
 pub returns-clause-yes : goal.returns-clause-yes
 returns-clause-yes c h =
