@@ -1,5 +1,5 @@
 -- Lists read one item after the other.
-use Rattle.std.proofs.Common.{◌≡◌, ◌∙◌, ℕ, ◌+◌, ◌-◌, ◌<◌, ◌≤◌, zero, suc, List, [], ◌∷◌, ◌++◌, All, Bor, Bool, IsTrue, ◌==◌, drop, length, take, get_or, map, refl, sym, ap, ap₂, subst, arith}
+use Rattle.std.proofs.Common.{◌≡◌, ◌∙◌, ℕ, ◌+◌, ◌-◌, ◌<◌, ◌≤◌, zero, suc, List, [], ◌∷◌, ◌++◌, All, Bor, Bool, IsTrue, ◌==◌, drop, length, take, get_or, map, refl, sym, ap, subst, arith}
 use Rattle.std.proofs.lemmas.List.{length-drop, length-map, take_all, take_more}
 use Rattle.std.proofs.Math.ListN.{get_or-map}
 use Rattle.ob_text_words.specs.Words.{words}

@@ -53,19 +53,19 @@ pub(crate) fn read_line(
     match *first {
         b"B" => read_begin(alloc, exports, calls, rest),
         b"E" => read_end(alloc, exports, calls, rest),
-        b"A" => Ok(read_applied(calls.processes(), rest)),
+        b"A" => read_applied(calls.processes(), rest),
         b"O" => read_order(alloc, calls.processes(), rest),
         _ => Ok(None),
     }
 }
 
 /// What stands behind an `A`.
-fn read_applied(processes: usize, words: &[&[u8]]) -> Option<Line>
-    ensures { MatchOption result
+fn read_applied(processes: usize, words: &[&[u8]]) -> Result<Option<Line>, AllocError>
+    ensures { IfOk result (λ read. MatchOption read
         ((ids : List Names.CallId) → AreIds processes (map (λ w. w.now) words.now) ids → ⊥)
-        (IsAppliedRead processes (map (λ w. w.now) words.now)) }
+        (IsAppliedRead processes (map (λ w. w.now) words.now))) }
 {
-    are_ids(processes, words).then_some(Line::Applied)
+    Ok(are_ids(processes, words).then_some(Line::Applied))
 }
 
 /// The order behind an `O`.

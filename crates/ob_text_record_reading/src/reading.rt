@@ -138,7 +138,8 @@ fn read_behind(
     ensures fault { IfErr result (λ e. FaultBehind processes (map signature_of exports.now) head (map (λ l. words l.now) lines.now) e) }
 {
     let mut calls = Calls::new(alloc, processes)?;
-    let order = read_events(alloc, exports, &mut calls, head, lines)?;
+    let mut words = Vec::new(alloc);
+    let order = read_events(alloc, exports, &mut calls, head, lines, &mut words)?;
     Ok(ReadRecord {
         processes,
         budget,
@@ -147,22 +148,22 @@ fn read_behind(
     })
 }
 
-/// The order that lines behind the head tell, with the events before it.
-fn read_events(
+/// The order that lines behind the head tell, with the events before it. The list has the words of one line after the other.
+fn read_events<'a>(
     alloc: Global,
     exports: &[Export],
     calls: &mut Calls,
     head: usize,
-    lines: &[&[u8]],
+    lines: &[&'a [u8]],
+    list: &mut Vec<&'a [u8]>,
 ) -> Result<Vec<CallId>, RecordFault>
     requires none { calls.old.events ≡ [] }
     requires small { head ≤ 3 }
     ensures record { IfOk result (λ ids. AreLines calls.old.processes (map signature_of exports.now) [] (map (λ l. words l.now) lines.now) calls.new.events ids.items) }
     ensures fault { IfErr result (λ e. FaultBehind calls.old.processes (map signature_of exports.now) head (map (λ l. words l.now) lines.now) e) }
 {
-    let mut words = Vec::new(alloc);
     for (index, line) in lines.iter().enumerate() {
-        let Some(said) = read_words(alloc, exports, calls, line, &mut words)? else {
+        let Some(said) = read_words(alloc, exports, calls, line, list)? else {
             return Err(RecordFault::Form(head + index + 1));
         };
         match said {
