@@ -270,17 +270,10 @@ bar_keys =
     ++ bar_key (codes "open") 92 (codes "a call that does not end here") ++ cross 46 102
 
 -- what words below a bar are, and what dots stand for
-unfoldable pub word_key : (class : List ℕ) (from x : ℕ) (sample words : List ℕ) → List Shape
-word_key class from x sample words = Words class (at from 134) sample ∷ Words (codes "key") (at x 134) words ∷ []
-
-unfoldable pub values_key : List Shape
-values_key = word_key (codes "reply") 12 64 (codes "= 7") (codes "below it the values of its reply, or done")
-
-unfoldable pub dots_key : List Shape
-dots_key = word_key (codes "label") 396 418 dots (codes "the rest, which the pointer on the bar shows")
-
 unfoldable pub word_keys : List Shape
-word_keys = values_key ++ dots_key
+word_keys =
+    Words (codes "reply") (at 12 134) (codes "= 7") ∷ Words (codes "key") (at 64 134) (codes "below it the values of its reply, or done")
+    ∷ Words (codes "label") (at 396 134) dots ∷ Words (codes "key") (at 418 134) (codes "the rest, which the pointer on the bar shows") ∷ []
 
 -- what a mark is, and what the marks are
 unfoldable pub mark_key : (circle numeral : List ℕ) (y number : ℕ) (words : List ℕ) → List Shape

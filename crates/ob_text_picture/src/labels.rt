@@ -1,7 +1,6 @@
 //! The words at a call.
 
 ghost use Rattle.std.specs.Prelude.{◌≡◌, ◌++◌, OnOk, length, map, string_bytes};
-ghost use Rattle.ob_interface.specs.Call.{Answers};
 ghost use Rattle.ob_interface.specs.View.{signature_of};
 ghost use Rattle.ob_text_picture.specs.Labels.{answer_words, call_words, front, head_words, id_words, name_words, reply_words, short, short_again, short_call, value_words};
 ghost use Rattle.wf_history.specs.View.{kept_call, kept_reply};
@@ -98,23 +97,16 @@ pub(crate) fn push_answer_words(text: &mut String, reply: &KeptReply) -> Result<
     ensures { OnOk result (string_bytes text.new ≡ string_bytes text.old ++ answer_words (kept_reply reply.now)) }
 {
     match reply {
-        KeptReply::Done(values) => push_answer_values(text, values),
+        KeptReply::Done(values) if values.is_empty() => text.push_str("done"),
+        KeptReply::Done(values) => {
+            text.push_str("=")?;
+            push_values(text, values)
+        }
         KeptReply::Trap(trap) => {
             text.push_str("trap ")?;
             push_number(text, *trap)
         }
     }
-}
-
-#[tactic(auto, unfolding(crate::specs::Labels::answer_words))]
-fn push_answer_values(text: &mut String, values: &[Scalar]) -> Result<(), AllocError>
-    ensures { OnOk result (string_bytes text.new ≡ string_bytes text.old ++ answer_words (Answers values.now)) }
-{
-    if values.is_empty() {
-        return text.push_str("done");
-    }
-    text.push_str("=")?;
-    push_values(text, values)
 }
 
 /// A reply in the room for so many letters.

@@ -2,7 +2,7 @@
 
 ghost use Rattle.std.specs.Prelude.{◌≡◌, ◌+◌, ◌++◌, ◌<◌, OnOk, string_bytes};
 ghost use Rattle.ob_text_picture.specs.Places as Places;
-ghost use Rattle.ob_text_picture.specs.Shapes.{bar_key, bar_keys, dots_key, helped_keys, mark_key, mark_keys, values_key, word_key, word_keys};
+ghost use Rattle.ob_text_picture.specs.Shapes.{bar_key, bar_keys, helped_keys, mark_key, mark_keys, word_keys};
 ghost use Rattle.ob_text_picture.specs.Svg.{shapes_text};
 
 use crate::bars::push_cross;
@@ -84,38 +84,11 @@ fn push_mark_key(
 pub(crate) fn push_word_keys(text: &mut String) -> Result<(), AllocError>
     ensures { OnOk result (string_bytes text.new ≡ string_bytes text.old ++ shapes_text word_keys) }
 {
-    push_values_key(text)?;
-    push_dots_key(text)
-}
-
-#[tactic(auto, unfolding(crate::specs::Shapes::values_key))]
-fn push_values_key(text: &mut String) -> Result<(), AllocError>
-    ensures { OnOk result (string_bytes text.new ≡ string_bytes text.old ++ shapes_text values_key) }
-{
     let values = "below it the values of its reply, or done";
-    push_word_key(text, "reply", 12, 64, "= 7", values)
-}
-
-#[tactic(auto, unfolding(crate::specs::Shapes::dots_key))]
-fn push_dots_key(text: &mut String) -> Result<(), AllocError>
-    ensures { OnOk result (string_bytes text.new ≡ string_bytes text.old ++ shapes_text dots_key) }
-{
     let rest = "the rest, which the pointer on the bar shows";
-    push_word_key(text, "label", 396, 418, "\u{2026}", rest)
-}
-
-/// Words, by their class, and what they are.
-#[tactic(auto, unfolding(crate::specs::Shapes::word_key))]
-fn push_word_key(
-    text: &mut String,
-    class: &str,
-    from: u128,
-    x: u128,
-    sample: &str,
-    words: &str,
-) -> Result<(), AllocError>
-    ensures { OnOk result (string_bytes text.new ≡ string_bytes text.old ++ shapes_text (word_key class.now from x sample.now words.now)) }
-{
-    push_words(text, class, at(from, 134), sample)?;
-    push_words(text, "key", at(x, 134), words)
+    push_words(text, "reply", Point { x: 12, y: 134 }, "= 7")?;
+    push_words(text, "key", Point { x: 64, y: 134 }, values)?;
+    push_words(text, "label", Point { x: 396, y: 134 }, "\u{2026}")?;
+    push_words(text, "key", Point { x: 418, y: 134 }, rest)?;
+    Ok(())
 }

@@ -1,19 +1,18 @@
 //! How wide columns have to be for the words of calls.
 
-ghost use Rattle.std.specs.Prelude.{◌≡◌, ◌<◌, ◌^◌, IfOk, length, map, option_map};
+ghost use Rattle.std.specs.Prelude.{◌≡◌, ◌++◌, ◌<◌, ◌^◌, IfOk, OnOk, map, option_map, string_bytes};
 ghost use Rattle.ob_interface.specs.View.{signature_of};
-ghost use Rattle.ob_text_picture.specs.Labels.{call_words};
 ghost use Rattle.ob_text_picture.specs.Shapes.{most_letters, wanted, width_at, width_for, words_below};
 ghost use Rattle.ob_text_picture.specs.View.{bar_in};
 ghost use Rattle.ob_text_picture_chart.specs.View.{sight_of};
-ghost use Rattle.wf_history.specs.View.{kept_call, kept_reply};
+ghost use Rattle.wf_history.specs.View.{kept_reply};
 
 use crate::bars::{Bar, LETTER, bar_of};
 use crate::labels::{push_answer_words, push_call};
 use ob_interface::export::Export;
 use ob_text_picture_chart::{Happening, Sight};
 use std::alloc::{AllocError, Global};
-use wf_history::{CallId, KeptCall, KeptReply};
+use wf_history::KeptReply;
 
 /// How wide columns have to be for the words of all calls.
 pub(crate) fn wanted(
@@ -75,30 +74,19 @@ fn most_letters(alloc: Global, exports: &[Export], bar: &Bar) -> Result<u128, Al
     ensures letters { IfOk result (λ count. count ≡ most_letters (map signature_of exports.now) (bar_in bar.now)) }
     ensures few { IfOk result (λ count. count < 2 ^ 64) }
 {
-    let above = letters_above(alloc, exports, bar.id, bar.call)?;
-    let below = letters_below(alloc, bar.reply)?;
-    Ok(above.max(below) as u128)
+    let mut above = String::new(alloc);
+    push_call(&mut above, exports, bar.id, bar.call)?;
+    let mut below = String::new(alloc);
+    push_words_below(&mut below, bar.reply)?;
+    Ok(above.as_str().len().max(below.as_str().len()) as u128)
 }
 
-fn letters_above(
-    alloc: Global,
-    exports: &[Export],
-    id: CallId,
-    call: &KeptCall,
-) -> Result<usize, AllocError>
-    ensures { IfOk result (λ count. count ≡ length (call_words (map signature_of exports.now) id (kept_call call.now))) }
+/// The words below a bar: none without a reply.
+fn push_words_below(text: &mut String, reply: Option<&KeptReply>) -> Result<(), AllocError>
+    ensures { OnOk result (string_bytes text.new ≡ string_bytes text.old ++ words_below (option_map (λ r. kept_reply r.now) reply.entry)) }
 {
-    let mut whole = String::new(alloc);
-    push_call(&mut whole, exports, id, call)?;
-    Ok(whole.as_str().len())
-}
-
-fn letters_below(alloc: Global, reply: Option<&KeptReply>) -> Result<usize, AllocError>
-    ensures { IfOk result (λ count. count ≡ length (words_below (option_map (λ r. kept_reply r.now) reply.entry))) }
-{
-    let mut whole = String::new(alloc);
-    if let Some(reply) = reply {
-        push_answer_words(&mut whole, reply)?;
+    match reply {
+        Some(reply) => push_answer_words(text, reply),
+        None => Ok(()),
     }
-    Ok(whole.as_str().len())
 }
