@@ -1,5 +1,5 @@
 -- The words at a call. Names have letters and digits alone, so nothing in them is markup.
-use Rattle.std.specs.Prelude.{ℕ, ◌-◌, ◌||◌, List, [], ◌∷◌, ◌++◌, cond, Option, Some, None, codes, decimal, length, nat_le, nat_lt, slice_get, take}
+use Rattle.std.specs.Prelude.{ℕ, ◌-◌, ◌==◌, ◌||◌, List, [], ◌∷◌, ◌++◌, cond, Option, Some, None, codes, decimal, length, nat_le, nat_lt, slice_get, take}
 use Rattle.std.specs.List.{flat_map}
 use Rattle.ob_interface.specs.Call.{ObjectCall, Reply, Answers, Trapped}
 use Rattle.ob_interface.specs.Export.{Signature}
@@ -22,13 +22,22 @@ name_of (Some export) = export.name
 unfoldable pub name_words : List Signature → ObjectCall → List ℕ
 name_words exports call = name_of (slice_get exports call.export)
 
+-- p.k Name
+unfoldable pub head_words : List Signature → CallId → ObjectCall → List ℕ
+head_words exports id call = id_words id ++ codes " " ++ name_words exports call
+
 -- p.k Name arguments
 unfoldable pub call_words : List Signature → CallId → ObjectCall → List ℕ
-call_words exports id call = id_words id ++ codes " " ++ name_words exports call ++ value_words call.arguments
+call_words exports id call = head_words exports id call ++ value_words call.arguments
 
 unfoldable pub reply_words : Reply → List ℕ
 reply_words (Answers values) = codes "done" ++ value_words values
 reply_words (Trapped k) = codes "trap " ++ decimal k
+
+-- a reply by its values alone, where it has some
+unfoldable pub answer_words : Reply → List ℕ
+answer_words (Answers values) = cond (length values == 0) (codes "done") (codes "=" ++ value_words values)
+answer_words (Trapped k) = codes "trap " ++ decimal k
 
 -- the first letters of a text, where a letter of ASCII stands behind them
 abbrev pub front_before : Option ℕ → ℕ → List ℕ → List ℕ
@@ -55,3 +64,8 @@ unfoldable pub short_call : ℕ → List Signature → CallId → ObjectCall →
 short_call room exports id call =
     cond (nat_le (length (call_words exports id call)) room || nat_lt (name_room room exports id call) 4) (short room (call_words exports id call))
     (id_words id ++ codes " " ++ short (name_room room exports id call) (name_words exports call) ++ value_words call.arguments)
+
+-- a call that stands there again: where there is no room for all, its arguments are left away
+unfoldable pub short_again : ℕ → List Signature → CallId → ObjectCall → List ℕ
+short_again room exports id call =
+    cond (nat_le (length (call_words exports id call)) room) (call_words exports id call) (short room (head_words exports id call))

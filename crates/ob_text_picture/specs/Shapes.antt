@@ -1,10 +1,10 @@
 -- The shapes of a picture, by what is seen of a run.
-use Rattle.std.specs.Prelude.{ℕ, zero, suc, ◌+◌, ◌-◌, ◌/◌, ◌%◌, ◌==◌, ◌&&◌, ◌||◌, not, List, [], ◌∷◌, ◌++◌, Bool, false, cond, Option, Some, None, codes, decimal, length, nat_le, nat_lt, slice_get, unwrap_or}
+use Rattle.std.specs.Prelude.{ℕ, zero, suc, ◌+◌, ◌-◌, ◌*◌, ◌/◌, ◌%◌, ◌==◌, ◌&&◌, ◌||◌, not, List, [], ◌∷◌, ◌++◌, Bool, false, cond, Option, Some, None, codes, decimal, length, max, nat_le, nat_lt, slice_get, unwrap_or}
 use Rattle.std.specs.List.{flat_map}
 use Rattle.ob_interface.specs.Call.{ObjectCall, Reply, Answers, Trapped}
 use Rattle.ob_interface.specs.Export.{Signature}
-use Rattle.ob_text_picture.specs.Labels.{call_words, id_words, reply_words, short, short_call}
-use Rattle.ob_text_picture.specs.Places.{at, band_height, bands, cell, columns_in, first, height, is_in, top_of, width, x_of, y_of}
+use Rattle.ob_text_picture.specs.Labels.{answer_words, call_words, dots, id_words, reply_words, short, short_again, short_call}
+use Rattle.ob_text_picture.specs.Places.{at, band_height, bands, beyond, cell, columns_in, first, height, is_in, top_of, width, x_of, y_of}
 use Rattle.ob_text_picture.specs.Svg.{Shape, Line, Box, Circle, Words, Group, EndGroup, svg_text}
 use Rattle.ob_text_picture.specs.declared.places.Frame.{Frame}
 use Rattle.ob_text_picture.specs.declared.places.Point.{Point}
@@ -126,6 +126,29 @@ reply_behind (Some reply) = codes ": " ++ reply_words reply
 abbrev pub title : List Signature → Bar → List ℕ
 title exports b = call_words exports b.id b.call ++ reply_behind b.reply
 
+-- the words below a bar; none without a reply
+abbrev pub words_below : Option Reply → List ℕ
+words_below None = codes ""
+words_below (Some reply) = answer_words reply
+
+-- for how many letters there has to be room: for the words above the bar and for those below it
+unfoldable pub most_letters : List Signature → Bar → ℕ
+most_letters exports b = max (length (call_words exports b.id b.call)) (length (words_below b.reply))
+
+-- how wide columns have to be so that these words end before the next call of the process; any width is enough where there is none
+unfoldable pub width_for : List Signature → (columns : ℕ) → Bar → ℕ
+width_for exports columns b = cond (nat_lt b.next columns) (7 * (most_letters exports b + 1) / max (b.next - b.begin) 1 + 1) 0
+
+abbrev pub width_at : List Signature → (columns : ℕ) → Sight → Happening → List Sight → ℕ
+width_at exports columns s (Begun call) behind = width_for exports columns (bar_of columns s call behind)
+width_at exports columns s (Taken number maker) behind = 0
+width_at exports columns s (Ended reply) behind = 0
+
+-- how wide columns have to be for the words of all calls
+abbrev pub wanted : List Signature → (columns : ℕ) → List Sight → ℕ
+wanted exports columns [] = 0
+wanted exports columns (s ∷ behind) = max (width_at exports columns s s.happening behind) (wanted exports columns behind)
+
 -- a call is seen in a band: it begins in it or before, and ends in it or behind
 unfoldable pub is_seen : Frame → (band : ℕ) → Bar → Bool
 is_seen f band b = nat_lt b.begin (first f band + columns_in f band) && nat_le (first f band) b.end
@@ -136,7 +159,7 @@ left f band b = cond (nat_le (first f band) b.begin) (x_of f band b.begin) 104
 
 -- for how many letters there is room: up to the next call, or beyond the end of the band where that doesn't begin in it
 unfoldable pub letters : Frame → (band : ℕ) → Bar → ℕ
-letters f band b = (x_of f band b.next + cond (is_in f band b.next) 0 120 - left f band b) / 7 - 1
+letters f band b = (x_of f band b.next + cond (is_in f band b.next) 0 beyond - left f band b) / 7 - 1
 
 -- the cross at the end of a bar
 unfoldable pub cross : (x y : ℕ) → List Shape
@@ -146,12 +169,18 @@ cross x y = Line (codes "cross") (at (x - 8) (y - 8)) (at (x + 8) (y + 8)) ∷ L
 abbrev pub is_last : Frame → (band : ℕ) → Bool
 is_last f band = nat_le f.columns (first f band + columns_in f band)
 
+-- the call, which stands again in a band to which it goes on
+unfoldable pub label_words : List Signature → Frame → (band : ℕ) → Bar → List ℕ
+label_words exports f band b =
+    cond (nat_le (first f band) b.begin) (short_call (letters f band b) exports b.id b.call)
+    (short_again (letters f band b) exports b.id b.call)
+
 -- the call, above its bar; the reply, below it
 abbrev pub label : List Signature → Frame → (band : ℕ) → Bar → Shape
-label exports f band b = Words (codes "label") (at (left f band b) (y_of f band b.id.process - 15)) (short_call (letters f band b) exports b.id b.call)
+label exports f band b = Words (codes "label") (at (left f band b) (y_of f band b.id.process - 15)) (label_words exports f band b)
 
 abbrev pub answer : Frame → (band : ℕ) → Bar → Reply → Shape
-answer f band b reply = Words (reply_class reply) (at (left f band b) (y_of f band b.id.process + 22)) (short (letters f band b) (reply_words reply))
+answer f band b reply = Words (reply_class reply) (at (left f band b) (y_of f band b.id.process + 22)) (short (letters f band b) (answer_words reply))
 
 -- below a bar stands the reply, in the band of the end; a bar without one has a cross at the end of the picture
 abbrev pub ending_of : Frame → (band : ℕ) → Bar → Option Reply → List Shape
@@ -240,15 +269,21 @@ bar_keys =
     bar_key (codes "done") 36 (codes "a call, from its begin to its end") ++ bar_key (codes "trap") 64 (codes "a call that trapped")
     ++ bar_key (codes "open") 92 (codes "a call that does not end here") ++ cross 46 102
 
+-- what words below a bar are, and what dots stand for
+unfoldable pub word_keys : List Shape
+word_keys =
+    Words (codes "reply") (at 12 134) (codes "= 7") ∷ Words (codes "key") (at 64 134) (codes "below it the values of its reply, or done")
+    ∷ Words (codes "label") (at 396 134) dots ∷ Words (codes "key") (at 418 134) (codes "the rest, which the pointer on the bar shows") ∷ []
+
 -- what a mark is, and what the marks are
 unfoldable pub mark_key : (circle numeral : List ℕ) (y number : ℕ) (words : List ℕ) → List Shape
 mark_key circle numeral y number words =
-    Circle circle (at 340 y) 9 ∷ Words numeral (at 340 (y + 3)) (decimal number) ∷ Words (codes "key") (at 358 (y + 4)) words ∷ []
+    Circle circle (at 400 y) 9 ∷ Words numeral (at 400 (y + 3)) (decimal number) ∷ Words (codes "key") (at 418 (y + 4)) words ∷ []
 
 unfoldable pub helped_keys : List Shape
 helped_keys =
-    Line (codes "help") (at 340 74) (at 340 106) ∷ Circle (codes "step") (at 340 106) 3
-    ∷ Words (codes "key") (at 358 94) (codes "the one at the other end of the line")
+    Line (codes "help") (at 400 74) (at 400 106) ∷ Circle (codes "step") (at 400 106) 3
+    ∷ Words (codes "key") (at 418 94) (codes "the one at the other end of the line")
     ∷ mark_key (codes "helped") (codes "number light") 74 2 (codes "took effect by a step of another process,")
 
 unfoldable pub mark_keys : List Shape
@@ -256,19 +291,25 @@ mark_keys = mark_key (codes "own") (codes "number") 46 1 (codes "took effect, as
 
 -- the ground, which is as large as the picture, and what stands above the bands
 unfoldable pub head_shapes : Chart → (size : Point) → List Shape
-head_shapes c size = Box (codes "ground") (at 0 0) size ∷ Words (codes "head") (at 12 22) (heading_words c) ∷ bar_keys ++ mark_keys
+head_shapes c size = Box (codes "ground") (at 0 0) size ∷ Words (codes "head") (at 12 22) (heading_words c) ∷ bar_keys ++ mark_keys ++ word_keys
 
-abbrev pub frame_of : Chart → Frame
-frame_of c = record { processes = c.processes; columns = length c.times }
+abbrev pub frame_of : List Signature → Chart → Frame
+frame_of exports c =
+    record {
+      processes = c.processes;
+      columns = length c.times;
+      wanted = wanted exports (length c.times) c.sights;
+    }
 
-abbrev pub size_of : Chart → Point
-size_of c = at (width (frame_of c)) (height (frame_of c) (length c.order))
+abbrev pub size_of : List Signature → Chart → Point
+size_of exports c = at (width (frame_of exports c)) (height (frame_of exports c) (length c.order))
 
 -- all shapes of a picture, one above the other
 abbrev pub shapes : List Signature → Chart → List Shape
 shapes exports c =
-    head_shapes c (size_of c) ++ each (band_shapes exports (frame_of c) c) (bands (frame_of c)) ++ order_shapes (frame_of c) c.order
+    head_shapes c (size_of exports c) ++ each (band_shapes exports (frame_of exports c) c) (bands (frame_of exports c))
+    ++ order_shapes (frame_of exports c) c.order
 
 -- the text of a picture
 abbrev pub picture_text : List Signature → Chart → List ℕ
-picture_text exports c = svg_text (size_of c) (shapes exports c)
+picture_text exports c = svg_text (size_of exports c) (shapes exports c)

@@ -3,14 +3,14 @@
 ghost use Rattle.std.specs.Prelude.{◌≡◌, ◌++◌, ◌≤◌, OnOk, ◌+◌, ◌<◌, ◌^◌, map, option_map, string_bytes};
 ghost use Rattle.ob_interface.specs.View.{signature_of};
 ghost use Rattle.ob_text_picture.specs.Shapes as Shapes;
-ghost use Rattle.ob_text_picture.specs.Shapes.{bar_class, bar_of, begin_of, cross, end_of, ending, is_last, is_seen, left, letters, reply_behind, reply_class};
+ghost use Rattle.ob_text_picture.specs.Shapes.{bar_class, bar_of, begin_of, cross, end_of, ending, is_last, is_seen, label_words, left, letters, reply_behind, reply_class};
 ghost use Rattle.ob_text_picture.specs.Svg.{EndGroup, Group, shape_text, shapes_text};
 ghost use Rattle.ob_text_picture.specs.View.{bar_in};
 ghost use Rattle.ob_text_picture_chart.specs.View.{sight_of};
 ghost use Rattle.wf_history.specs.View.{kept_call, kept_reply};
 
-use crate::labels::{push_call, push_reply, push_short_call, push_short_reply};
-use crate::places::{Frame, Point};
+use crate::labels::{push_call, push_reply, push_short_again, push_short_answer, push_short_call};
+use crate::places::{BEYOND, Frame, Point};
 use crate::svg::{close_words, open_words, push_box, push_line};
 use ob_interface::MOST_PROCESSES;
 use ob_interface::export::Export;
@@ -19,10 +19,7 @@ use std::alloc::{AllocError, Global};
 use wf_history::{CallId, KeptCall, KeptReply};
 
 /// The width of a letter.
-const LETTER: u128 = 7;
-
-/// How far words go on behind the last column of a band.
-const BEYOND: u128 = 120;
+pub(crate) const LETTER: u128 = 7;
 
 /// A call from its begin on.
 #[derive(Clone, Copy)]
@@ -200,7 +197,27 @@ fn reply_class(reply: &KeptReply) -> &'static str
     }
 }
 
-/// The call, above its bar.
+/// The words above a bar: the call, which stands again in a band to which it goes on.
+#[tactic(auto, unfolding(crate::specs::Shapes::label_words))]
+fn push_label_words(
+    alloc: Global,
+    text: &mut String,
+    exports: &[Export],
+    frame: Frame,
+    band: usize,
+    bar: &Bar,
+) -> Result<(), AllocError>
+    ensures { OnOk result (string_bytes text.new ≡ string_bytes text.old ++ label_words (map signature_of exports.now) frame band (bar_in bar.now)) }
+{
+    let room = letters(frame, band, bar);
+    if frame.first(band) <= bar.begin as u128 {
+        push_short_call(alloc, text, exports, bar.id, bar.call, room)
+    } else {
+        push_short_again(alloc, text, exports, bar.id, bar.call, room)
+    }
+}
+
+/// The words above a bar, at their place.
 #[tactic(auto, unfolding(crate::specs::Svg::shape_text))]
 fn push_label(
     alloc: Global,
@@ -218,14 +235,7 @@ fn push_label(
         y: frame.y(band, bar.id.process) - 15,
     };
     open_words(text, "label", at)?;
-    push_short_call(
-        alloc,
-        text,
-        exports,
-        bar.id,
-        bar.call,
-        letters(frame, band, bar),
-    )?;
+    push_label_words(alloc, text, exports, frame, band, bar)?;
     close_words(text)
 }
 
@@ -278,7 +288,7 @@ fn push_answer(
         y: frame.y(band, bar.id.process) + 22,
     };
     open_words(text, reply_class(reply), at)?;
-    push_short_reply(alloc, text, reply, letters(frame, band, bar))?;
+    push_short_answer(alloc, text, reply, letters(frame, band, bar))?;
     close_words(text)
 }
 

@@ -2,7 +2,7 @@
 
 ghost use Rattle.std.specs.Prelude.{◌≡◌, ◌++◌, ◌≤◌, IfErr, IfOk, OnOk, codes, length, map, string_bytes};
 ghost use Rattle.ob_interface.specs.View.{signature_of};
-ghost use Rattle.ob_text_picture.specs.Shapes.{band_shapes, calls_words, each, head_shapes, heading_words, picture_text};
+ghost use Rattle.ob_text_picture.specs.Shapes.{band_shapes, calls_words, each, frame_of, head_shapes, heading_words, picture_text};
 ghost use Rattle.ob_text_picture.specs.Places.{at, bands};
 ghost use Rattle.ob_text_picture.specs.Svg.{Words, shape_text, shapes_text};
 ghost use Rattle.ob_text_picture_chart.specs.Charts.{begun, chart_of, range_of};
@@ -10,10 +10,11 @@ ghost use Rattle.ob_text_picture_chart.specs.Faults.{IsRangeFault, MayBeShown};
 ghost use Rattle.ob_text_picture_chart.specs.View.{chart_in, moment_of};
 
 use crate::bands::push_band;
-use crate::legend::{push_bar_keys, push_mark_keys};
+use crate::legend::{push_bar_keys, push_mark_keys, push_word_keys};
 use crate::order::push_order;
 use crate::places::{Frame, Point};
 use crate::svg::{close_words, open_picture, open_words, push_box};
+use crate::widths::wanted;
 use ob_interface::MOST_PROCESSES;
 use ob_interface::export::Export;
 use ob_text_picture_chart::{CallRange, Chart, Moment, PictureFault, chart_of};
@@ -45,10 +46,7 @@ pub fn picture(alloc: Global, exports: &[Export], chart: &Chart) -> Result<Strin
     requires { chart.now.processes ≤ MOST_PROCESSES }
     ensures { IfOk result (λ text. string_bytes text ≡ picture_text (map signature_of exports.now) (chart_in chart.now)) }
 {
-    let frame = Frame {
-        processes: chart.processes,
-        columns: chart.times.as_slice().len(),
-    };
+    let frame = frame_of(alloc, exports, chart)?;
     let size = Point {
         x: frame.width(),
         y: frame.height(chart.order.as_slice().len()),
@@ -62,6 +60,18 @@ pub fn picture(alloc: Global, exports: &[Export], chart: &Chart) -> Result<Strin
     Ok(text)
 }
 
+/// The sizes of a chart's picture.
+fn frame_of(alloc: Global, exports: &[Export], chart: &Chart) -> Result<Frame, AllocError>
+    ensures { IfOk result (λ frame. frame ≡ frame_of (map signature_of exports.now) (chart_in chart.now)) }
+{
+    let columns = chart.times.as_slice().len();
+    Ok(Frame {
+        processes: chart.processes,
+        columns,
+        wanted: wanted(alloc, exports, columns, &chart.sights)?,
+    })
+}
+
 /// The ground, and what stands above the bands.
 #[tactic(auto, unfolding(crate::specs::Shapes::head_shapes))]
 fn push_head(text: &mut String, chart: &Chart, size: Point) -> Result<(), AllocError>
@@ -70,7 +80,8 @@ fn push_head(text: &mut String, chart: &Chart, size: Point) -> Result<(), AllocE
     push_box(text, "ground", Point { x: 0, y: 0 }, size)?;
     push_heading(text, chart)?;
     push_bar_keys(text)?;
-    push_mark_keys(text)
+    push_mark_keys(text)?;
+    push_word_keys(text)
 }
 
 /// How many processes there are, and which calls are shown.

@@ -2,7 +2,7 @@
 
 ghost use Rattle.std.specs.Prelude.{◌≡◌, ◌++◌, OnOk, length, map, string_bytes};
 ghost use Rattle.ob_interface.specs.View.{signature_of};
-ghost use Rattle.ob_text_picture.specs.Labels.{call_words, front, id_words, name_words, reply_words, short, short_call, value_words};
+ghost use Rattle.ob_text_picture.specs.Labels.{answer_words, call_words, front, head_words, id_words, name_words, reply_words, short, short_again, short_call, value_words};
 ghost use Rattle.wf_history.specs.View.{kept_call, kept_reply};
 
 use ob_interface::export::Export;
@@ -45,6 +45,21 @@ fn push_values(text: &mut String, values: &[Scalar]) -> Result<(), AllocError>
     Ok(())
 }
 
+/// The id and the name of a call.
+#[tactic(auto, unfolding(crate::specs::Labels::head_words))]
+fn push_head(
+    text: &mut String,
+    exports: &[Export],
+    id: CallId,
+    call: &KeptCall,
+) -> Result<(), AllocError>
+    ensures { OnOk result (string_bytes text.new ≡ string_bytes text.old ++ head_words (map signature_of exports.now) id (kept_call call.now)) }
+{
+    push_id(text, id)?;
+    text.push_str(" ")?;
+    text.push_str(name_of(exports, call))
+}
+
 /// A call: its id, its name and its arguments.
 #[tactic(auto, unfolding(crate::specs::Labels::call_words))]
 pub(crate) fn push_call(
@@ -55,9 +70,7 @@ pub(crate) fn push_call(
 ) -> Result<(), AllocError>
     ensures { OnOk result (string_bytes text.new ≡ string_bytes text.old ++ call_words (map signature_of exports.now) id (kept_call call.now)) }
 {
-    push_id(text, id)?;
-    text.push_str(" ")?;
-    text.push_str(name_of(exports, call))?;
+    push_head(text, exports, id, call)?;
     push_values(text, &call.args)
 }
 
@@ -78,18 +91,58 @@ pub(crate) fn push_reply(text: &mut String, reply: &KeptReply) -> Result<(), All
     }
 }
 
+/// A reply by its values alone, where it has some.
+#[tactic(auto, unfolding(crate::specs::Labels::answer_words))]
+pub(crate) fn push_answer_words(text: &mut String, reply: &KeptReply) -> Result<(), AllocError>
+    ensures { OnOk result (string_bytes text.new ≡ string_bytes text.old ++ answer_words (kept_reply reply.now)) }
+{
+    match reply {
+        KeptReply::Done(values) if values.is_empty() => text.push_str("done"),
+        KeptReply::Done(values) => {
+            text.push_str("=")?;
+            push_values(text, values)
+        }
+        KeptReply::Trap(trap) => {
+            text.push_str("trap ")?;
+            push_number(text, *trap)
+        }
+    }
+}
+
 /// A reply in the room for so many letters.
-pub(crate) fn push_short_reply(
+pub(crate) fn push_short_answer(
     alloc: Global,
     text: &mut String,
     reply: &KeptReply,
     room: u128,
 ) -> Result<(), AllocError>
-    ensures { OnOk result (string_bytes text.new ≡ string_bytes text.old ++ short room (reply_words (kept_reply reply.now))) }
+    ensures { OnOk result (string_bytes text.new ≡ string_bytes text.old ++ short room (answer_words (kept_reply reply.now))) }
 {
     let mut whole = String::new(alloc);
-    push_reply(&mut whole, reply)?;
+    push_answer_words(&mut whole, reply)?;
     push_short(text, whole.as_str(), room)
+}
+
+/// A call that stands there again: where there is no room for all, its arguments are left away.
+#[tactic(auto, unfolding(crate::specs::Labels::short_again))]
+pub(crate) fn push_short_again(
+    alloc: Global,
+    text: &mut String,
+    exports: &[Export],
+    id: CallId,
+    call: &KeptCall,
+    room: u128,
+) -> Result<(), AllocError>
+    ensures { OnOk result (string_bytes text.new ≡ string_bytes text.old ++ short_again room (map signature_of exports.now) id (kept_call call.now)) }
+{
+    let mut whole = String::new(alloc);
+    push_call(&mut whole, exports, id, call)?;
+    if whole.as_str().len() as u128 <= room {
+        return text.push_str(whole.as_str());
+    }
+    let mut head = String::new(alloc);
+    push_head(&mut head, exports, id, call)?;
+    push_short(text, head.as_str(), room)
 }
 
 /// A call in the room for so many letters: its name is shortened, or, if that isn't enough, all.

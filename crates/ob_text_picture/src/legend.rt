@@ -2,7 +2,7 @@
 
 ghost use Rattle.std.specs.Prelude.{◌≡◌, ◌+◌, ◌++◌, ◌<◌, OnOk, string_bytes};
 ghost use Rattle.ob_text_picture.specs.Places as Places;
-ghost use Rattle.ob_text_picture.specs.Shapes.{bar_key, bar_keys, helped_keys, mark_key, mark_keys};
+ghost use Rattle.ob_text_picture.specs.Shapes.{bar_key, bar_keys, helped_keys, mark_key, mark_keys, word_keys};
 ghost use Rattle.ob_text_picture.specs.Svg.{shapes_text};
 
 use crate::bars::push_cross;
@@ -52,11 +52,11 @@ fn push_helped_keys(text: &mut String) -> Result<(), AllocError>
 {
     let helped = "took effect by a step of another process,";
     let behind = "the one at the other end of the line";
-    let from = Point { x: 340, y: 74 };
-    let to = Point { x: 340, y: 106 };
+    let from = Point { x: 400, y: 74 };
+    let to = Point { x: 400, y: 106 };
     push_line(text, "help", from, to)?;
     push_circle(text, "step", to, 3)?;
-    push_words(text, "key", Point { x: 358, y: 94 }, behind)?;
+    push_words(text, "key", Point { x: 418, y: 94 }, behind)?;
     push_mark_key(text, "helped", "number light", 74, 2, helped)?;
     Ok(())
 }
@@ -74,7 +74,21 @@ fn push_mark_key(
     requires { y < 200 }
     ensures { OnOk result (string_bytes text.new ≡ string_bytes text.old ++ shapes_text (mark_key circle.now numeral.now y number words.now)) }
 {
-    push_circle(text, circle, at(340, y), 9)?;
-    push_numeral(text, numeral, at(340, y + 3), number)?;
-    push_words(text, "key", at(358, y + 4), words)
+    push_circle(text, circle, at(400, y), 9)?;
+    push_numeral(text, numeral, at(400, y + 3), number)?;
+    push_words(text, "key", at(418, y + 4), words)
+}
+
+/// What words below a bar are, and what dots stand for.
+#[tactic(auto, unfolding(crate::specs::Shapes::word_keys))]
+pub(crate) fn push_word_keys(text: &mut String) -> Result<(), AllocError>
+    ensures { OnOk result (string_bytes text.new ≡ string_bytes text.old ++ shapes_text word_keys) }
+{
+    let values = "below it the values of its reply, or done";
+    let rest = "the rest, which the pointer on the bar shows";
+    push_words(text, "reply", Point { x: 12, y: 134 }, "= 7")?;
+    push_words(text, "key", Point { x: 64, y: 134 }, values)?;
+    push_words(text, "label", Point { x: 396, y: 134 }, "\u{2026}")?;
+    push_words(text, "key", Point { x: 418, y: 134 }, rest)?;
+    Ok(())
 }

@@ -10,5 +10,6 @@ mod marks;
 mod order;
 mod places;
 mod svg;
+mod widths;
 
 pub use drawing::{draw, picture};

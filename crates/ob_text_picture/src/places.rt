@@ -1,7 +1,7 @@
 //! Where things stand in a picture, in pixels.
 
 ghost use Rattle.std.specs.Prelude.{◌≡◌, ◌+◌, ◌-◌, ◌*◌, ◌<◌, ◌≤◌, ◌^◌};
-ghost use Rattle.ob_text_picture.specs.Places.{band_height, bands, cell, column_width, columns_in, first, height, in_line, is_in, most, room, top_of, width, x_of, y_of};
+ghost use Rattle.ob_text_picture.specs.Places.{band_height, bands, beyond, cell, column_width, columns_in, first, height, in_line, is_in, lead, most, room, top_of, width, x_of, y_of};
 
 use ob_interface::MOST_PROCESSES;
 
@@ -12,11 +12,16 @@ pub struct Point {
     pub y: u128,
 }
 
+/// How far words may go on behind the end of a band.
+pub(crate) const BEYOND: u128 = 200;
+
 /// The sizes by which things are placed: the columns of a run stand in bands, one below the other.
 #[derive(Clone, Copy)]
 pub struct Frame {
     pub processes: usize,
     pub columns: usize,
+    /// How wide columns have to be for the words of all calls.
+    pub wanted: u128,
 }
 
 /// A product that fits.
@@ -28,15 +33,26 @@ fn times(count: usize, size: usize) -> u128
     count as u128 * size as u128
 }
 
+/// From the left: the first column of a band.
+#[tactic(auto, unfolding(crate::specs::Places::lead))]
+fn lead(band: usize) -> u128
+    ensures value { result ≡ lead band }
+    ensures least { 130 ≤ result }
+    ensures largest { result ≤ 230 }
+{
+    if band == 0 { 130 } else { 230 }
+}
+
 #[tactic(auto, unfolding(crate::specs::Places::column_width, crate::specs::Places::room, crate::specs::Places::bands, crate::specs::Places::most, crate::specs::Places::first, crate::specs::Places::columns_in, crate::specs::Places::is_in, crate::specs::Places::x_of, crate::specs::Places::band_height, crate::specs::Places::top_of, crate::specs::Places::y_of, crate::specs::Places::width, crate::specs::Places::in_line, crate::specs::Places::cell, crate::specs::Places::height))]
 impl Frame {
-    /// The fewer processes there are, the nearer to each other are the begin and the end of a call.
+    /// As wide as words want it, up to a limit; and a few columns are a little wider.
     fn column_width(self) -> usize
         ensures value { result ≡ column_width self }
         ensures least { 24 ≤ result }
-        ensures largest { result ≤ 64 }
+        ensures largest { result ≤ 80 }
     {
-        (120 / self.processes.max(1)).min(64).max(24)
+        let few = (1180 / self.columns.max(1)).min(40).max(24);
+        (self.wanted.min(80) as usize).max(few)
     }
 
     /// For how many columns there is room in a band.
@@ -45,7 +61,7 @@ impl Frame {
         ensures some { 1 ≤ result }
         ensures few { result ≤ 60 }
     {
-        1360 / self.column_width()
+        1180 / self.column_width()
     }
 
     pub(crate) fn bands(self) -> usize
@@ -97,7 +113,7 @@ impl Frame {
         let before = column
             .saturating_sub(self.first(band))
             .min(self.columns_in(band) as u128);
-        130 + times(before as usize, self.column_width())
+        lead(band) + times(before as usize, self.column_width())
     }
 
     fn band_height(self) -> usize
@@ -112,10 +128,10 @@ impl Frame {
     pub(crate) fn top(self, band: usize) -> u128
         requires { self.processes ≤ MOST_PROCESSES }
         ensures value { result ≡ top_of self band }
-        ensures least { 136 ≤ result }
+        ensures least { 164 ≤ result }
         ensures largest { result < 2 ^ 76 }
     {
-        136 + times(band, self.band_height())
+        164 + times(band, self.band_height())
     }
 
     /// Where the lines of a band's columns end.
@@ -130,7 +146,7 @@ impl Frame {
     pub(crate) fn y(self, band: usize, process: usize) -> u128
         requires { self.processes ≤ MOST_PROCESSES }
         ensures value { result ≡ y_of self band process }
-        ensures least { 184 ≤ result }
+        ensures least { 212 ≤ result }
         ensures largest { result < 2 ^ 77 }
     {
         self.top(band) + 48 + 56 * process as u128
@@ -140,7 +156,8 @@ impl Frame {
         ensures value { result ≡ width self }
         ensures least { 780 ≤ result }
     {
-        (260 + times(self.columns.min(self.most()), self.column_width())).max(780)
+        let columns = times(self.columns.min(self.most()), self.column_width());
+        (lead(self.bands() - 1) + BEYOND + 10 + columns).max(780)
     }
 
     /// How many calls of the order stand in a line.
