@@ -11,7 +11,7 @@ use Rattle.ob_explain_slips.specs.declared.causes.Hint.TheVariants.{Known, Told,
 use Rattle.ob_explain.specs.Places.{place_in}
 
 -- the keyword with which a construct begins, and its line
-abbrev pub construct_text : (text : List ℕ) → (opening : Token) → List ℕ
+unfoldable pub construct_text : (text : List ℕ) → (opening : Token) → List ℕ
 construct_text text opening = sample opening.kind ++ codes " of line " ++ decimal (place_in text opening.start).line
 
 -- what a construct that is still open may lack
@@ -22,12 +22,15 @@ lacking_text _ = codes " is still open; is its END missing?"
 abbrev pub open_text : (text : List ℕ) → (opening : Token) → List ℕ
 open_text text opening = codes "the " ++ construct_text text opening ++ lacking_text opening.kind
 
+-- an END closes it
+unfoldable pub end_closes_text : (text : List ℕ) → (opening : Token) → List ℕ
+end_closes_text text opening = codes "the END before it closes the " ++ construct_text text opening
+
 abbrev pub closed_text : (text : List ℕ) → (opening : Token) → List ℕ
-closed_text text opening = codes "the END before it closes the " ++ construct_text text opening ++ codes "; is an END missing before that one?"
+closed_text text opening = end_closes_text text opening ++ codes "; is an END missing before that one?"
 
 abbrev pub ended_text : (text : List ℕ) → (opening : Token) → List ℕ
-ended_text text opening =
-    codes "the END before it closes the " ++ construct_text text opening ++ codes ", whose name stands behind it; or is there one END too many?"
+ended_text text opening = end_closes_text text opening ++ codes ", whose name stands behind it; or is there one END too many?"
 
 abbrev pub else_if_text : (text : List ℕ) → (opening : Token) → List ℕ
 else_if_text text opening =

@@ -1,7 +1,7 @@
 //! The words of a hint.
 
 ghost use Rattle.std.specs.Prelude.{◌≡◌, ◌++◌, OnOk, string_bytes};
-ghost use Rattle.ob_explain.specs.Hints.{closed_text, construct_text, else_if_text, ended_text, hint_line, hint_text, lacking_text, open_text};
+ghost use Rattle.ob_explain.specs.Hints.{closed_text, construct_text, else_if_text, end_closes_text, ended_text, hint_line, hint_text, lacking_text, open_text};
 
 use crate::place::place_in;
 use ob_explain_expected::kinds::sample;
@@ -49,12 +49,11 @@ fn push_open(shown: &mut String, text: &[u8], opening: Token) -> Result<(), Allo
     shown.push_str(lacking_text(opening.kind))
 }
 
-/// Appends that an END closes a construct.
+/// Appends that an END closes a statement or a record.
 fn push_closed(shown: &mut String, text: &[u8], opening: Token) -> Result<(), AllocError>
     ensures { OnOk result (string_bytes shown.new ≡ string_bytes shown.old ++ closed_text text.now opening) }
 {
-    shown.push_str("the END before it closes the ")?;
-    push_construct(shown, text, opening)?;
+    push_end_closes(shown, text, opening)?;
     shown.push_str("; is an END missing before that one?")
 }
 
@@ -62,9 +61,17 @@ fn push_closed(shown: &mut String, text: &[u8], opening: Token) -> Result<(), Al
 fn push_ended(shown: &mut String, text: &[u8], opening: Token) -> Result<(), AllocError>
     ensures { OnOk result (string_bytes shown.new ≡ string_bytes shown.old ++ ended_text text.now opening) }
 {
-    shown.push_str("the END before it closes the ")?;
-    push_construct(shown, text, opening)?;
+    push_end_closes(shown, text, opening)?;
     shown.push_str(", whose name stands behind it; or is there one END too many?")
+}
+
+/// Appends the construct that an END closes.
+#[tactic(auto, unfolding(crate::specs::Hints::end_closes_text))]
+fn push_end_closes(shown: &mut String, text: &[u8], opening: Token) -> Result<(), AllocError>
+    ensures { OnOk result (string_bytes shown.new ≡ string_bytes shown.old ++ end_closes_text text.now opening) }
+{
+    shown.push_str("the END before it closes the ")?;
+    push_construct(shown, text, opening)
 }
 
 /// Appends what an IF behind an ELSE is.
@@ -79,6 +86,7 @@ fn push_else_if(shown: &mut String, text: &[u8], opening: Token) -> Result<(), A
 }
 
 /// Appends the keyword with which a construct begins, and its line.
+#[tactic(auto, unfolding(crate::specs::Hints::construct_text))]
 fn push_construct(shown: &mut String, text: &[u8], opening: Token) -> Result<(), AllocError>
     ensures { OnOk result (string_bytes shown.new ≡ string_bytes shown.old ++ construct_text text.now opening) }
 {

@@ -96,8 +96,7 @@ pub fn cause_text(cause: Cause) -> &'static str
         Cause::Comparison =>
             "a comparison beside another one, or beside & or OR, stands in parentheses: (a > 0) & (b < 5)",
         Cause::Indices => "a further index stands in brackets of its own: a[i][j]",
-        Cause::Parted =>
-            "behind a type stands ;, and then the next names: a: INTEGER; b: BOOLEAN",
+        Cause::Parted => "behind a type stands ;, and then the next names: a: INTEGER; b: BOOLEAN",
         Cause::ArrayType => "an array type is written ARRAY 4 OF INTEGER; its indices are 0 to 3",
         Cause::NameFirst => "a name stands before its type: x: INTEGER",
         Cause::NoValue =>

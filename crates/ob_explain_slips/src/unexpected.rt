@@ -27,9 +27,7 @@ pub fn unexpected_hint(
     let tokens = tokens_of(alloc, text)?;
     let preceding = tokens_before(alloc, &tokens, place)?;
     let semicolon = semicolon_cause(alloc, text, &tokens, place)?;
-    Ok(first_hint(
-        text, &tokens, &preceding, place, kinds, semicolon,
-    ))
+    Ok(first_hint(text, &tokens, &preceding, place, kinds, semicolon))
 }
 
 /// The first of the hints on a place, before which these tokens stand, the last one first, and of which this is the cause of a `;`.

@@ -1,5 +1,5 @@
 -- Tokens one by one, back from a place.
-use Rattle.std.proofs.Common.{◌≡◌, ℕ, suc, ◌+◌, ◌<◌, ◌≤◌, Bool, true, false, cond, List, [], ◌∷◌, Option, Some, None, length, get_or, drop, refl, sym, ◌∙◌, ap, add-one, drop-cons, drop_of_length-le, arith}
+use Rattle.std.proofs.Common.{◌≡◌, ℕ, ◌+◌, ◌<◌, ◌≤◌, Bool, true, false, cond, List, Option, Some, None, length, get_or, drop, sym, ◌∙◌, ap, add-one, drop-cons, drop_of_length-le}
 use Rattle.ob_scan.specs.declared.token.Token.{Token}
 use Rattle.ob_explain_tokens.specs.Open.{closed_from, else_if, is_before, is_else_if, is_open, open_construct}
 
