@@ -1,8 +1,7 @@
 -- The lines that show what is wrong with a text.
-use Rattle.std.specs.Prelude.{ℕ, List, [], ◌++◌, map, codes, decimal, Option, Some, None}
-use Rattle.ob_explain_slips.specs.Causes.{hint_text}
-use Rattle.ob_explain_slips.specs.declared.causes.Hint.{Hint}
+use Rattle.std.specs.Prelude.{ℕ, List, ◌++◌, map, codes, decimal}
 use Rattle.ob_explain.specs.declared.place.Place.{Place}
+use Rattle.ob_explain.specs.Hints.{hint_line}
 use Rattle.ob_explain.specs.Places.{place_in, line_before, line_from}
 use Rattle.ob_explain.specs.Remarks.{Remark}
 use Rattle.ob_explain.specs.Shown.{blank_below, cut_blank, cut_mark, left_part, named, right_part, shown_byte}
@@ -29,14 +28,9 @@ marked_line before from = shown_line before from ++ codes "\n" ++ mark_below bef
 unfoldable pub told_line : List ℕ → List ℕ → List ℕ
 told_line from sentence = named from ++ sentence ++ codes "\n"
 
--- the hint, where there is one
-unfoldable pub hint_line : Option Hint → List ℕ
-hint_line None = []
-hint_line (Some hint) = codes "hint: " ++ hint_text hint ++ codes "\n"
-
 abbrev pub explanation : List ℕ → List ℕ → Remark → List ℕ
 explanation name text remark =
     place_line name (place_in text remark.place)
     ++ marked_line (line_before text remark.place) (line_from text remark.place)
     ++ told_line (line_from text remark.place) remark.sentence
-    ++ hint_line remark.hint
+    ++ hint_line text remark.hint

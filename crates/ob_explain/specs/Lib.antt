@@ -3,4 +3,5 @@ pub mod Shown
 pub mod Counts
 pub mod Rules
 pub mod Remarks
+pub mod Hints
 pub mod Explanations

@@ -15,6 +15,7 @@ use Rattle.ob_explain_names.specs.Visible.{AreVisible}
 use Rattle.ob_explain_names.specs.declared.known.Known.{Known}
 use Rattle.ob_explain_slips.specs.Causes.{known}
 use Rattle.ob_explain_slips.specs.declared.causes.Hint.{Hint}
+use Rattle.ob_explain_slips.specs.Endings.{name_hint}
 use Rattle.ob_explain_slips.specs.Rules.{kind_hint, types_hint, unknown_hint}
 use Rattle.ob_explain_slips.specs.Unexpected.{IsUnexpectedHint}
 use Rattle.ob_explain_tokens.specs.Around as Tokens
@@ -63,6 +64,11 @@ end_sentence text None = codes "behind END stands the name of the module or of t
 end_sentence text (Some name) =
     codes "behind END stands the name of the module or of the procedure that ends, which is `" ++ map shown_byte (name_at text name.start) ++ codes "`"
 
+-- of a name behind END that is another one, by the tokens before it
+abbrev pub name_remark : (text : List ℕ) → (place : ℕ) → List Token → Option Remark
+name_remark text place before =
+    hinting place (end_sentence text (name_of_end 0 None before)) (name_hint text (word_at (drop place text)) before)
+
 -- of a token that can't stand there, or the end, what could: the kinds of token with which the text before it goes on
 pub record IsUnexpectedRemark (text : List ℕ) (place : ℕ) (remark : Option Remark) : Type 0 where
   pub kinds : List Kind
@@ -76,7 +82,7 @@ abbrev pub IsParseRemark : List ℕ → ParseFault → Option Remark → Type 0
 IsParseRemark text (Parse.Unexpected place) remark = IsUnexpectedRemark text place remark
 IsParseRemark text (Parse.TooDeep place) remark = remark ≡ at place (codes "this stands within 100 other constructs, and no more nest")
 IsParseRemark text (Parse.NameDiffers place) remark =
-    (tokens : List Token) × AreTokens text tokens × (remark ≡ at place (end_sentence text (name_of_end 0 None (Tokens.before place tokens))))
+    (tokens : List Token) × AreTokens text tokens × (remark ≡ name_remark text place (Tokens.before place tokens))
 IsParseRemark text Parse.NoMemory remark = remark ≡ None
 
 abbrev pub hint_by : Rule → (text : List ℕ) → (place : ℕ) → List Known → List Token → (before from : List ℕ) → Option Hint

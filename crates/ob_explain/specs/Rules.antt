@@ -1,5 +1,5 @@
 -- What is wrong where a rule is broken, by the bytes before the place and those from there on, and the names that are visible there.
-use Rattle.std.specs.Prelude.{ℕ, ◌==◌, ◌||◌, Bool, true, false, List, [], ◌++◌, codes, bytes_eq, decimal, drop, find, length, map, take, Option, Some, None, if◌then◌else◌}
+use Rattle.std.specs.Prelude.{ℕ, ◌-◌, ◌==◌, ◌||◌, Bool, true, false, List, [], ◌∷◌, ◌++◌, codes, bytes_eq, decimal, drop, find, length, map, take, Option, Some, None, if◌then◌else◌}
 use Rattle.ob_typing.specs.declared.rule.BrokenRule.{BrokenRule}
 use Rattle.ob_typing.specs.declared.rule.Rule.{Rule}
 use Rattle.ob_typing.specs.declared.rule.Rule.TheVariants as Rules
@@ -20,6 +20,7 @@ use Rattle.ob_explain_operands.specs.Numerals.{numeral_before, numeral_next}
 use Rattle.ob_explain_operands.specs.declared.numerals.Numeral.{Numeral}
 use Rattle.ob_explain_tokens.specs.Actuals.{actual_count}
 use Rattle.ob_explain_tokens.specs.Around as Tokens
+use Rattle.ob_explain_tokens.specs.Open.{open_construct}
 use Rattle.ob_explain_tokens.specs.Parens.{is_in_parens}
 use Rattle.ob_explain_types.specs.Typed.{typed_sentence}
 use Rattle.ob_scan.specs.declared.token.Kind.{Kind}
@@ -176,6 +177,38 @@ limit_sentence before from in_parens in_procedure =
     else if in_parens then codes "a procedure has at most 8 parameters, and this is the ninth"
     else variables_sentence in_procedure
 
+-- a length that is one token, of the tokens from there on: OF stands behind it
+abbrev pub is_of : Kind → Bool
+is_of Kinds.Of = true
+is_of _ = false
+
+abbrev pub is_one_token : List Token → Bool
+is_one_token (t ∷ u ∷ rest) = is_of u.kind
+is_one_token _ = false
+
+abbrev pub length_numeral : (text : List ℕ) → List Known → List Token → (from : List Token) → Option Numeral
+length_numeral text known tokens from = if is_one_token from then numeral_next text known tokens true from else None
+
+-- the length, where it is known
+abbrev pub length_sentence : (text : List ℕ) → Option Numeral → List ℕ
+length_sentence text None = codes "an array has 1 to 4096 elements"
+length_sentence text (Some n) = codes "an array has 1 to 4096 elements, and the length of this one is " ++ shown_numeral text n
+
+abbrev pub is_procedure_there : Option Token → Bool
+is_procedure_there None = false
+is_procedure_there (Some t) = is_procedure t.kind
+
+-- the PROCEDURE before a name stands within another procedure
+abbrev pub is_inner : List Token → Bool
+is_inner [] = false
+is_inner (t ∷ before) = is_procedure_there (open_construct 0 before)
+
+-- of the tokens before the name of an export
+abbrev pub export_sentence : (before : List Token) → List ℕ
+export_sentence before =
+    if is_inner before then codes "exports are procedures of the module itself, and this one stands within another procedure"
+    else codes "the parameters of an export are INTEGERs and BOOLEANs, and one of these is an array or a record"
+
 -- what a rule asks, and what stands there
 abbrev pub told_rule : Rule → (text : List ℕ) → (place : ℕ) → List Known → List Token → (before from : List ℕ) → List ℕ
 told_rule Rules.UnknownName text place known tokens before from = unknown_sentence before text (nearest text known (word_at from))
@@ -183,13 +216,14 @@ told_rule Rules.DeclaredTwice text place known tokens before from = twice_senten
 told_rule Rules.WrongKind text place known tokens before from = kind_sentence before from (sort_of text known (word_at from))
 told_rule Rules.TypesDiffer text place known tokens before from = typed_sentence text known tokens place before from
 told_rule Rules.BadConstant text place known tokens before from = constant_sentence text known tokens place from
-told_rule Rules.BadLength text place known tokens before from = codes "an array has 1 to 4096 elements"
+told_rule Rules.BadLength text place known tokens before from =
+    length_sentence text (length_numeral text known tokens (Tokens.behind (place - 1) tokens))
 told_rule Rules.BadActuals text place known tokens before from =
     actuals_sentence before (sort_of text known (word_at from)) (actual_count (Tokens.behind place tokens))
 told_rule Rules.WrongLevel text place known tokens before from = codes "a procedure sees its own variables and those of the module, and none of a procedure around it; hand it over as a VAR parameter"
 told_rule Rules.PassesLimit text place known tokens before from =
     limit_sentence before from (is_in_parens (Tokens.before place tokens)) (is_in_procedure (Tokens.before place tokens))
-told_rule Rules.BadExport text place known tokens before from = codes "exports are procedures of the module itself, with parameters of INTEGER and BOOLEAN"
+told_rule Rules.BadExport text place known tokens before from = export_sentence (Tokens.before place tokens)
 
 abbrev pub rule_sentence : (text : List ℕ) → List Known → List Token → BrokenRule → List ℕ
 rule_sentence text known tokens broken =

@@ -1,13 +1,13 @@
 //! The lines that show people what is wrong with a module.
 
 ghost use Rattle.std.specs.Prelude.{◌≡◌, ◌++◌, IfOk, OnOk, string_bytes};
-ghost use Rattle.ob_explain.specs.Explanations.{explanation, hint_line, mark_below, marked_line, place_line, shown_line, told_line};
+ghost use Rattle.ob_explain.specs.Explanations.{explanation, mark_below, marked_line, place_line, shown_line, told_line};
 ghost use Rattle.ob_explain.specs.Remarks.{remark_of};
 
+use crate::hints::push_hint;
 use crate::place::{Place, line_around, place_in};
 use crate::remark::Remark;
 use crate::shown::{parts, push_blanks, push_cut, push_cut_blank, push_line, push_named};
-use ob_explain_slips::causes::{Hint, hint_text};
 use ob_text_words::numbers::push_number;
 use std::alloc::{AllocError, Global};
 
@@ -26,7 +26,7 @@ pub fn explanation(
     let (before, behind) = line_around(text, remark.place);
     push_marked(&mut shown, before, behind)?;
     push_told(&mut shown, behind, remark.sentence.as_str())?;
-    push_hint(&mut shown, remark.hint)?;
+    push_hint(&mut shown, text, remark.hint)?;
     Ok(shown)
 }
 
@@ -82,19 +82,4 @@ fn push_told(shown: &mut String, behind: &[u8], sentence: &str) -> Result<(), Al
     push_named(shown, behind)?;
     shown.push_str(sentence)?;
     shown.push_str("\n")
-}
-
-/// Appends a hint.
-#[tactic(auto, unfolding(crate::specs::Explanations::hint_line))]
-fn push_hint(shown: &mut String, hint: Option<Hint>) -> Result<(), AllocError>
-    ensures { OnOk result (string_bytes shown.new ≡ string_bytes shown.old ++ hint_line hint) }
-{
-    match hint {
-        Some(hint) => {
-            shown.push_str("hint: ")?;
-            shown.push_str(hint_text(hint))?;
-            shown.push_str("\n")
-        }
-        None => Ok(()),
-    }
 }

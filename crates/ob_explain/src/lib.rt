@@ -4,6 +4,7 @@
 
 pub mod counts;
 pub mod explanation;
+mod hints;
 pub mod place;
 pub mod remark;
 mod rules;

@@ -15,6 +15,7 @@ use ob_explain_names::lookup::{name_at, sort_of};
 use ob_explain_names::need::need_of;
 use ob_explain_names::visible::visible_names;
 use ob_explain_slips::causes::{Hint, known};
+use ob_explain_slips::endings::name_hint;
 use ob_explain_slips::rules::{kind_hint, types_hint, unknown_hint};
 use ob_explain_slips::unexpected::unexpected_hint;
 use ob_explain_tokens::around::{tokens_before, tokens_behind, tokens_of};
@@ -96,10 +97,11 @@ pub fn parse_remark(
         ParseFault::NameDiffers(place) => {
             let tokens = tokens_of(alloc, text)?;
             let before = tokens_before(alloc, &tokens, place)?;
+            let word = word_at(halves(text, place).1);
             Ok(Some(Remark {
                 place,
                 sentence: end_sentence(alloc, text, name_of_end(&before))?,
-                hint: None,
+                hint: name_hint(text, word, &before),
             }))
         }
         ParseFault::NoMemory => Ok(None),

@@ -1,7 +1,7 @@
 //! What is wrong where a rule is broken, in a sentence.
 
 ghost use Rattle.std.specs.Prelude.{◌≡◌, ◌++◌, IfOk, OnOk, find, string_bytes};
-ghost use Rattle.ob_explain.specs.Rules.{actuals_sentence, before_sentence, behind_word, binds_closer, constant_sentence, counted_sentence, counts_sentence, divides, divisor_sentence, is_in_procedure, is_procedure, is_procedure_token, kind_sentence, limit_sentence, named_sentence, near_question, no_word, opens_type, operands_sentence, operation_from, operation_text, question, range_sentence, rule_sentence, shown_numeral, told_need, told_sort, twice_sentence, unknown_sentence, variables_sentence};
+ghost use Rattle.ob_explain.specs.Rules.{actuals_sentence, before_sentence, behind_word, binds_closer, constant_sentence, counted_sentence, counts_sentence, divides, divisor_sentence, export_sentence, is_in_procedure, is_inner, is_one_token, is_procedure, is_procedure_there, is_procedure_token, kind_sentence, length_numeral, length_sentence, limit_sentence, named_sentence, near_question, no_word, opens_type, operands_sentence, operation_from, operation_text, question, range_sentence, rule_sentence, shown_numeral, told_need, told_sort, twice_sentence, unknown_sentence, variables_sentence};
 
 use crate::counts::push_count;
 use crate::place::{halves, place_in};
@@ -17,6 +17,7 @@ use ob_explain_operands::declarations::{declared_as, in_record, token_bytes};
 use ob_explain_operands::numerals::{Numeral, numeral_before, numeral_next};
 use ob_explain_tokens::actuals::actual_count;
 use ob_explain_tokens::around::{tokens_before, tokens_behind};
+use ob_explain_tokens::open::open_construct;
 use ob_explain_tokens::parens::is_in_parens;
 use ob_explain_types::typed::typed_sentence;
 use ob_scan::{Kind, Token};
@@ -51,7 +52,11 @@ pub fn rule_sentence(
             typed_sentence(alloc, text, known, tokens, broken.place, before, from)
         }
         Rule::BadConstant => constant_sentence(alloc, text, known, tokens, broken.place, from),
-        Rule::BadLength => String::from_str(alloc, "an array has 1 to 4096 elements"),
+        Rule::BadLength => {
+            let from = tokens_behind(alloc, tokens, broken.place.saturating_sub(1))?;
+            let length = length_numeral(alloc, text, known, tokens, &from)?;
+            length_sentence(alloc, text, length)
+        }
         Rule::BadActuals => {
             let behind = tokens_behind(alloc, tokens, broken.place)?;
             let sort = sort_of(text, known, word_at(from));
@@ -67,10 +72,10 @@ pub fn rule_sentence(
             let in_procedure = is_in_procedure(&preceding);
             String::from_str(alloc, limit_sentence(before, from, in_parens, in_procedure))
         }
-        Rule::BadExport => String::from_str(
-            alloc,
-            "exports are procedures of the module itself, with parameters of INTEGER and BOOLEAN",
-        ),
+        Rule::BadExport => {
+            let preceding = tokens_before(alloc, tokens, broken.place)?;
+            String::from_str(alloc, export_sentence(&preceding))
+        }
     }
 }
 
@@ -272,6 +277,84 @@ fn counts_sentence(alloc: Global, count: usize, parameters: usize) -> Result<Str
     sentence.push_str(", and the procedure has ")?;
     push_count(&mut sentence, parameters, " parameter")?;
     Ok(sentence)
+}
+
+/// The length of an array, where it is one of these tokens, with which it begins, and a number or stands for one.
+fn length_numeral(
+    alloc: Global,
+    text: &[u8],
+    known: &[Known],
+    tokens: &[Token],
+    from: &[Token],
+) -> Result<Option<Numeral>, AllocError>
+    ensures { IfOk result (λ length. length ≡ length_numeral text.now known.now tokens.now from.now) }
+{
+    if is_one_token(from) {
+        numeral_next(alloc, text, known, tokens, true, from)
+    } else {
+        Ok(None)
+    }
+}
+
+/// Whether OF stands behind the first of these tokens.
+fn is_one_token(tokens: &[Token]) -> bool
+    ensures { result ≡ is_one_token tokens.now }
+{
+    match tokens {
+        [_, second, ..] => matches!(second.kind, Kind::Of),
+        _ => false,
+    }
+}
+
+/// Of a length.
+fn length_sentence(
+    alloc: Global,
+    text: &[u8],
+    length: Option<Numeral>,
+) -> Result<String, AllocError>
+    ensures { IfOk result (λ sentence. string_bytes sentence ≡ length_sentence text.now length) }
+{
+    match length {
+        Some(length) => {
+            let mut sentence = String::from_str(
+                alloc,
+                "an array has 1 to 4096 elements, and the length of this one is ",
+            )?;
+            push_numeral(&mut sentence, text, length)?;
+            Ok(sentence)
+        }
+        None => String::from_str(alloc, "an array has 1 to 4096 elements"),
+    }
+}
+
+/// Of an export, before whose name these tokens stand, the last one first.
+fn export_sentence(before: &[Token]) -> &'static str
+    ensures { result.now ≡ export_sentence before.now }
+{
+    if is_inner(before) {
+        "exports are procedures of the module itself, and this one stands within another procedure"
+    } else {
+        "the parameters of an export are INTEGERs and BOOLEANs, and one of these is an array or a record"
+    }
+}
+
+/// Whether a procedure of which the last one of these tokens is the PROCEDURE stands within another one.
+fn is_inner(tokens: &[Token]) -> bool
+    ensures { result ≡ is_inner tokens.now }
+{
+    match tokens {
+        [_, before @ ..] => is_procedure_there(open_construct(before)),
+        _ => false,
+    }
+}
+
+fn is_procedure_there(token: Option<Token>) -> bool
+    ensures { result ≡ is_procedure_there token }
+{
+    match token {
+        Some(token) => is_procedure(token.kind),
+        None => false,
+    }
 }
 
 /// Of a constant that has no value, of an operation in it or of a variable.

@@ -1,5 +1,5 @@
 -- Which known slip is at a place of a text: by what stands before it, the word that stands there, and the bytes from there on.
-use Rattle.std.specs.Prelude.{ℕ, ◌-◌, ◌==◌, ◌&&◌, not, Bool, false, List, length, map, find, slice_get, nat_eq, codes, bytes_eq, Option, Some, None, if◌then◌else◌}
+use Rattle.std.specs.Prelude.{ℕ, ◌-◌, ◌==◌, ◌&&◌, not, Bool, false, List, length, map, find, slice_get, nat_eq, bytes_eq, Option, Some, None, if◌then◌else◌}
 use Rattle.std.specs.Char.{to_ascii_lowercase}
 use Rattle.std.specs.List.{list_any, starts_with}
 use Rattle.ob_explain_expected.specs.Kinds.{sample}
@@ -12,9 +12,13 @@ use Rattle.ob_explain_hints.specs.Words.{trimmed, word_before}
 abbrev pub with_sign : List Slip → List ℕ → Option Slip
 with_sign slips bytes = find (λ slip. starts_with nat_eq bytes (slip_mark slip)) slips
 
--- the first of these slips whose word this is
+-- the same letters and digits, small or large
+abbrev pub is_same_in_any_case : List ℕ → List ℕ → Bool
+is_same_in_any_case word other = bytes_eq (map to_ascii_lowercase word) (map to_ascii_lowercase other)
+
+-- the first of these slips whose word this is, in small letters or large
 abbrev pub with_word : List Slip → List ℕ → Option Slip
-with_word slips word = find (λ slip. bytes_eq word (slip_mark slip)) slips
+with_word slips word = find (λ slip. is_same_in_any_case word (slip_mark slip)) slips
 
 abbrev pub either : Option Slip → Option Slip → Option Slip
 either None other = other
@@ -33,7 +37,7 @@ begins_with bytes byte = is_byte (slice_get bytes 0) byte
 
 -- the same letters and digits, of which some are small and large
 abbrev pub is_same_but_for_case : List ℕ → List ℕ → Bool
-is_same_but_for_case word other = bytes_eq (map to_ascii_lowercase word) (map to_ascii_lowercase other) && not (bytes_eq word other)
+is_same_but_for_case word other = is_same_in_any_case word other && not (bytes_eq word other)
 
 -- a keyword with small letters
 abbrev pub is_small_keyword : List ℕ → Bool
@@ -52,12 +56,12 @@ abbrev pub number_slip : (before bytes : List ℕ) → Option Slip
 number_slip before bytes =
     if ends_with (trimmed before) 45 && starts_with nat_eq bytes (slip_mark Slips.SmallestNumber) then Some Slips.SmallestNumber else None
 
--- of two tokens that touch, or of an END without a name
+-- of two tokens that touch
 abbrev pub pair_slip : (before bytes : List ℕ) → Option Slip
 pair_slip before bytes =
     if ends_with before 60 && begins_with bytes 62 then Some Slips.LessGreater
     else if ends_with before 61 && begins_with bytes 61 then Some Slips.TwoEquals
-    else if bytes_eq (word_before before) (codes "END") && begins_with bytes 59 then Some Slips.NoEndName
+    else if ends_with before 38 && begins_with bytes 38 then Some Slips.TwoAnds
     else None
 
 -- of a token that can't stand there: of two signs, a sign, the word there, the word before

@@ -20,6 +20,7 @@ slip_mark Slips.ByteOrderMark = 239 ∷ 187 ∷ 191 ∷ []
 slip_mark Slips.SmallestNumber = codes "2147483648"
 slip_mark Slips.LessGreater = []
 slip_mark Slips.TwoEquals = []
+slip_mark Slips.TwoAnds = []
 slip_mark Slips.Assign = codes ":="
 slip_mark Slips.Equal = codes "="
 slip_mark Slips.For = codes "FOR"
@@ -33,7 +34,11 @@ slip_mark Slips.Nil = codes "NIL"
 slip_mark Slips.And = codes "AND"
 slip_mark Slips.Not = codes "NOT"
 slip_mark Slips.ElseIf = codes "ELSEIF"
-slip_mark Slips.NoEndName = []
+slip_mark Slips.ElIf = codes "ELIF"
+slip_mark Slips.EndIf = codes "ENDIF"
+slip_mark Slips.Break = codes "BREAK"
+slip_mark Slips.Continue = codes "CONTINUE"
+slip_mark Slips.Function = codes "FUNCTION"
 slip_mark Slips.SmallKeyword = []
 
 -- the hint on a slip
@@ -51,6 +56,7 @@ slip_hint Slips.ByteOrderMark = codes "a byte order mark stands there, which no 
 slip_hint Slips.SmallestNumber = codes "the smallest INTEGER is written -2147483647 - 1"
 slip_hint Slips.LessGreater = codes "not equal is written #"
 slip_hint Slips.TwoEquals = codes "equal is written with one ="
+slip_hint Slips.TwoAnds = codes "and is written with one &"
 slip_hint Slips.Assign = codes ":= assigns, in a statement of its own; = compares, and stands in declarations of constants and types"
 slip_hint Slips.Equal = codes "= compares, and := assigns; beside & or OR a comparison stands in parentheses: (a = 1) & (b = 2)"
 slip_hint Slips.For = codes "there is no FOR; count in a WHILE or a REPEAT"
@@ -64,7 +70,11 @@ slip_hint Slips.Nil = codes "there are no pointers"
 slip_hint Slips.And = codes "and is written &"
 slip_hint Slips.Not = codes "not is written ~"
 slip_hint Slips.ElseIf = codes "another case is written ELSIF"
-slip_hint Slips.NoEndName = codes "behind the END of a procedure or of the module stands its name"
+slip_hint Slips.ElIf = codes "another case is written ELSIF"
+slip_hint Slips.EndIf = codes "an IF ends with END"
+slip_hint Slips.Break = codes "there is no BREAK; a loop ends by its condition"
+slip_hint Slips.Continue = codes "there is no CONTINUE; put what is left of the turn into an IF"
+slip_hint Slips.Function = codes "there are no functions; a procedure gives its results by VAR parameters"
 slip_hint Slips.SmallKeyword = codes "keywords are written in capitals"
 
 -- signs that begin no token
@@ -79,7 +89,9 @@ signs = Slips.Assign ∷ Slips.Equal ∷ []
 
 -- words of other languages
 abbrev pub foreign : List Slip
-foreign = Slips.For ∷ Slips.Case ∷ Slips.Return ∷ Slips.Import ∷ Slips.Exit ∷ Slips.Loop ∷ Slips.Pointer ∷ Slips.Nil ∷ Slips.And ∷ Slips.Not ∷ Slips.ElseIf ∷ []
+foreign =
+    Slips.For ∷ Slips.Case ∷ Slips.Return ∷ Slips.Import ∷ Slips.Exit ∷ Slips.Loop ∷ Slips.Pointer ∷ Slips.Nil ∷ Slips.And ∷ Slips.Not
+    ∷ Slips.ElseIf ∷ Slips.ElIf ∷ Slips.EndIf ∷ Slips.Break ∷ Slips.Continue ∷ Slips.Function ∷ []
 
 abbrev pub keywords : List Kind
 keywords =

@@ -1,7 +1,7 @@
 //! The known slip at a place of a text.
 
 ghost use Rattle.std.specs.Prelude.{◌≡◌, Some, None, bytes_eq};
-ghost use Rattle.ob_explain_hints.specs.Slips.{begins_with, either, ends_with, is_same_but_for_case, is_small_keyword, number_slip, pair_slip, parse_slip, stray_slip, with_sign, with_word, word_slip};
+ghost use Rattle.ob_explain_hints.specs.Slips.{begins_with, either, ends_with, is_same_but_for_case, is_same_in_any_case, is_small_keyword, number_slip, pair_slip, parse_slip, stray_slip, with_sign, with_word, word_slip};
 
 use crate::tables::{KEYWORDS, SIGNS, STRAY, Slip, WORDS, slip_mark};
 use crate::words::{trimmed, word_before};
@@ -48,7 +48,7 @@ pub fn word_slip(word: &[u8]) -> Option<Slip>
     either(with_word(&WORDS, word), of_case)
 }
 
-/// The slip of two tokens that touch, or of an END without a name.
+/// The slip of two tokens that touch.
 fn pair_slip(before: &[u8], bytes: &[u8]) -> Option<Slip>
     ensures { result ≡ pair_slip before.now bytes.now }
 {
@@ -56,8 +56,8 @@ fn pair_slip(before: &[u8], bytes: &[u8]) -> Option<Slip>
         Some(Slip::LessGreater)
     } else if ends_with(before, b'=') && begins_with(bytes, b'=') {
         Some(Slip::TwoEquals)
-    } else if is_same(word_before(before), b"END") && begins_with(bytes, b';') {
-        Some(Slip::NoEndName)
+    } else if ends_with(before, b'&') && begins_with(bytes, b'&') {
+        Some(Slip::TwoAnds)
     } else {
         None
     }
@@ -73,14 +73,14 @@ fn with_sign(slips: &[Slip], bytes: &[u8]) -> Option<Slip>
         .find(|slip| bytes.starts_with(slip_mark(*slip)))
 }
 
-/// The first of these slips whose word this is.
+/// The first of these slips whose word this is, in small letters or large.
 fn with_word(slips: &[Slip], word: &[u8]) -> Option<Slip>
     ensures { result ≡ with_word slips.now word.now }
 {
     slips
         .iter()
         .copied()
-        .find(|slip| is_same(word, slip_mark(*slip)))
+        .find(|slip| is_same_in_any_case(word, slip_mark(*slip)))
 }
 
 /// Whether a word is a keyword but for small letters.
@@ -94,7 +94,14 @@ fn is_small_keyword(word: &[u8]) -> bool
 pub fn is_same_but_for_case(word: &[u8], other: &[u8]) -> bool
     ensures { result ≡ is_same_but_for_case word.now other.now }
 {
-    word.eq_ignore_ascii_case(other) && !is_same(word, other)
+    is_same_in_any_case(word, other) && !is_same(word, other)
+}
+
+/// Whether two words have the same letters and digits, small or large.
+pub fn is_same_in_any_case(word: &[u8], other: &[u8]) -> bool
+    ensures { result ≡ is_same_in_any_case word.now other.now }
+{
+    word.eq_ignore_ascii_case(other)
 }
 
 /// Whether two words are the same.

@@ -21,6 +21,7 @@ pub enum Slip {
     SmallestNumber,
     LessGreater,
     TwoEquals,
+    TwoAnds,
     Assign,
     Equal,
     For,
@@ -34,7 +35,11 @@ pub enum Slip {
     And,
     Not,
     ElseIf,
-    NoEndName,
+    ElIf,
+    EndIf,
+    Break,
+    Continue,
+    Function,
     SmallKeyword,
 }
 
@@ -55,8 +60,8 @@ pub const STRAY: [Slip; 10] = [
 /// Signs that stand in place of others.
 pub const SIGNS: [Slip; 2] = [Slip::Assign, Slip::Equal];
 
-/// Words of other languages.
-pub const WORDS: [Slip; 11] = [
+/// Words of other languages, whose letters may be small or large.
+pub const WORDS: [Slip; 16] = [
     Slip::For,
     Slip::Case,
     Slip::Return,
@@ -68,6 +73,11 @@ pub const WORDS: [Slip; 11] = [
     Slip::And,
     Slip::Not,
     Slip::ElseIf,
+    Slip::ElIf,
+    Slip::EndIf,
+    Slip::Break,
+    Slip::Continue,
+    Slip::Function,
 ];
 
 /// Keywords.
@@ -113,6 +123,7 @@ pub fn slip_mark(slip: Slip) -> &'static [u8]
         Slip::SmallestNumber => b"2147483648",
         Slip::LessGreater => b"",
         Slip::TwoEquals => b"",
+        Slip::TwoAnds => b"",
         Slip::Assign => b":=",
         Slip::Equal => b"=",
         Slip::For => b"FOR",
@@ -126,7 +137,11 @@ pub fn slip_mark(slip: Slip) -> &'static [u8]
         Slip::And => b"AND",
         Slip::Not => b"NOT",
         Slip::ElseIf => b"ELSEIF",
-        Slip::NoEndName => b"",
+        Slip::ElIf => b"ELIF",
+        Slip::EndIf => b"ENDIF",
+        Slip::Break => b"BREAK",
+        Slip::Continue => b"CONTINUE",
+        Slip::Function => b"FUNCTION",
         Slip::SmallKeyword => b"",
     }
 }
@@ -150,6 +165,7 @@ pub fn slip_hint(slip: Slip) -> &'static str
         Slip::SmallestNumber => "the smallest INTEGER is written -2147483647 - 1",
         Slip::LessGreater => "not equal is written #",
         Slip::TwoEquals => "equal is written with one =",
+        Slip::TwoAnds => "and is written with one &",
         Slip::Assign =>
             ":= assigns, in a statement of its own; = compares, and stands in declarations of constants and types",
         Slip::Equal =>
@@ -165,7 +181,11 @@ pub fn slip_hint(slip: Slip) -> &'static str
         Slip::And => "and is written &",
         Slip::Not => "not is written ~",
         Slip::ElseIf => "another case is written ELSIF",
-        Slip::NoEndName => "behind the END of a procedure or of the module stands its name",
+        Slip::ElIf => "another case is written ELSIF",
+        Slip::EndIf => "an IF ends with END",
+        Slip::Break => "there is no BREAK; a loop ends by its condition",
+        Slip::Continue => "there is no CONTINUE; put what is left of the turn into an IF",
+        Slip::Function => "there are no functions; a procedure gives its results by VAR parameters",
         Slip::SmallKeyword => "keywords are written in capitals",
     }
 }

@@ -1,7 +1,6 @@
 -- Hints on slips that show by the tokens around a place.
-use Rattle.std.specs.Prelude.{ℕ, Bool, List, [], ◌∷◌, bytes_eq, codes, find, map, Option, Some, None}
-use Rattle.std.specs.Char.{to_ascii_lowercase}
-use Rattle.ob_explain_hints.specs.Tables.{slip_hint}
+use Rattle.std.specs.Prelude.{ℕ, List, [], ◌∷◌, codes, find, Option, Some, None}
+use Rattle.ob_explain_hints.specs.Slips.{is_same_in_any_case}
 use Rattle.ob_explain_hints.specs.declared.tables.Slip.{Slip}
 use Rattle.ob_explain_slips.specs.declared.causes.Cause.{Cause}
 use Rattle.ob_explain_slips.specs.declared.causes.Cause.TheVariants as Causes
@@ -16,8 +15,6 @@ cause_mark Causes.Truth = codes "BOOL"
 cause_mark Causes.Number = codes "INT"
 cause_mark Causes.Real = codes "REAL"
 cause_mark Causes.Character = codes "CHAR"
-cause_mark Causes.And = codes "AND"
-cause_mark Causes.Not = codes "NOT"
 cause_mark _ = []
 
 abbrev pub cause_text : Cause → List ℕ
@@ -27,43 +24,35 @@ cause_text Causes.Truth = codes "the type of TRUE and FALSE is BOOLEAN"
 cause_text Causes.Number = codes "the type of numbers is INTEGER"
 cause_text Causes.Real = codes "there are no real numbers; the types of single values are INTEGER and BOOLEAN"
 cause_text Causes.Character = codes "there are no characters; the types of single values are INTEGER and BOOLEAN"
-cause_text Causes.And = codes "and is written &"
-cause_text Causes.Not = codes "not is written ~"
 cause_text Causes.NoFunction = codes "there are no functions; a procedure gives its results by VAR parameters, and a call of it is a statement"
 cause_text Causes.Index = codes "an element of an array is written a[i]"
 cause_text Causes.Change = codes "a variable is changed by an assignment: x := x + 1"
 cause_text Causes.Assignment = codes "= compares, and := assigns"
 cause_text Causes.Comparison = codes "a comparison beside another one, or beside & or OR, stands in parentheses: (a > 0) & (b < 5)"
+cause_text Causes.Indices = codes "a further index stands in brackets of its own: a[i][j]"
+cause_text Causes.Parted = codes "behind a type stands ;, and then the next names: a: INTEGER; b: BOOLEAN"
+cause_text Causes.ArrayType = codes "an array type is written ARRAY 4 OF INTEGER; its indices are 0 to 3"
+cause_text Causes.NameFirst = codes "a name stands before its type: x: INTEGER"
+cause_text Causes.NoValue = codes "a variable is declared without a value, as x: INTEGER; what assigns one is a statement, and stands behind BEGIN"
+cause_text Causes.NoColon = codes "behind the name of a constant or of a type stands ="
+cause_text Causes.Order = codes "declarations stand before BEGIN, in this order: CONST, TYPE, VAR, procedures"
+cause_text Causes.NoBegin = codes "statements stand behind BEGIN; is it missing before this one?"
+cause_text Causes.EndAlone = codes "an IF or a WHILE ends with END alone"
+cause_text Causes.NoIf = codes "no IF is open here; is one END too many before it?"
 cause_text Causes.Semicolon = codes "is a ; missing before it?"
 cause_text Causes.FurtherDown = codes "a procedure of this name is declared further down; a name is known behind its declaration only"
-
-abbrev pub hint_text : Hint → List ℕ
-hint_text (Known slip) = slip_hint slip
-hint_text (Told cause) = cause_text cause
 
 -- names that other languages have
 abbrev pub names : List Cause
 names = Causes.Increase ∷ Causes.Decrease ∷ Causes.Truth ∷ Causes.Number ∷ Causes.Real ∷ Causes.Character ∷ []
 
--- the same letters and digits, small or large
-abbrev pub is_same_in_any_case : List ℕ → List ℕ → Bool
-is_same_in_any_case word other = bytes_eq (map to_ascii_lowercase word) (map to_ascii_lowercase other)
-
 -- the first of these causes whose name this is, in small letters or large
 abbrev pub with_mark : List Cause → List ℕ → Option Cause
 with_mark causes word = find (λ cause. is_same_in_any_case word (cause_mark cause)) causes
 
--- words of other languages for operators
-abbrev pub operators : List Cause
-operators = Causes.And ∷ Causes.Not ∷ []
-
 -- of a name that is not there
 abbrev pub name_cause : List ℕ → Option Cause
 name_cause word = with_mark names word
-
--- of a word that can't stand there
-abbrev pub word_cause : List ℕ → Option Cause
-word_cause word = with_mark operators word
 
 abbrev pub known : Option Slip → Option Hint
 known None = None

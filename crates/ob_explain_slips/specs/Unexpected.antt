@@ -3,27 +3,41 @@ use Rattle.std.specs.Prelude.{◌≡◌, ℕ, nat_lt, List, drop, find, reverse,
 use Rattle.ob_scan.specs.declared.token.Kind.{Kind}
 use Rattle.ob_scan.specs.declared.token.Token.{Token}
 use Rattle.ob_explain_hints.specs.Slips.{parse_slip}
-use Rattle.ob_explain_hints.specs.Words.{word_at, word_before}
-use Rattle.ob_explain_slips.specs.Causes.{either, known, told, word_cause}
+use Rattle.ob_explain_hints.specs.Words.{word_at}
+use Rattle.ob_explain_slips.specs.Causes.{either, known, told}
+use Rattle.ob_explain_slips.specs.Declarations.{cause_there}
+use Rattle.ob_explain_slips.specs.Endings.{ending_hint}
 use Rattle.ob_explain_slips.specs.declared.causes.Cause.{Cause}
 use Rattle.ob_explain_slips.specs.declared.causes.Hint.{Hint}
-use Rattle.ob_explain_slips.specs.Semicolons.{IsSemicolonCause}
+use Rattle.ob_explain_slips.specs.Semicolons.{IsSemicolonCause, token_at}
+use Rattle.ob_explain_slips.specs.Signs as Signs
 use Rattle.ob_explain_slips.specs.Signs.{sign_cause}
 use Rattle.ob_explain_tokens.specs.Around.{AreTokens}
+use Rattle.ob_explain_tokens.specs.Around as Tokens
 
 abbrev pub last_before : List Token → (place : ℕ) → Option Token
 last_before tokens place = find (λ t. nat_lt t.start place) (reverse tokens)
 
--- of a word for an operator in another language, there or before
-abbrev pub operator_hint : (before from : List ℕ) → Option Hint
-operator_hint before from = either (told (word_cause (word_at from))) (told (word_cause (word_before before)))
+abbrev pub next_behind : List Token → (place : ℕ) → Option Token
+next_behind tokens place = find (λ t. nat_lt place t.start) tokens
 
--- of a sign, by what could stand there; else of signs and words by themselves; else of a `;` that may be missing
-abbrev pub first_hint : (text : List ℕ) → List Token → (place : ℕ) → List Kind → (semicolon : Option Cause) → Option Hint
-first_hint text tokens place kinds semicolon =
-    either (told (sign_cause text tokens (last_before tokens place) kinds (take place text) (drop place text)))
-    (either (known (parse_slip (take place text) (word_at (drop place text)) (drop place text)))
-    (either (operator_hint (take place text) (drop place text)) (told semicolon)))
+-- of a sign by what could stand there, or of a declaration
+abbrev pub first_cause : (text : List ℕ) → (tokens preceding : List Token) → (place : ℕ) → List Kind → Option Cause
+first_cause text tokens preceding place kinds =
+    Signs.either (sign_cause text tokens (last_before tokens place) kinds (take place text) (drop place text))
+    (cause_there (token_at tokens place) preceding kinds (take place text) (next_behind tokens place))
+
+-- of a construct that is open at the place
+abbrev pub construct_hint : (text : List ℕ) → (tokens preceding : List Token) → (place : ℕ) → List Kind → Option Hint
+construct_hint text tokens preceding place kinds =
+    ending_hint text (word_at (drop place text)) (token_at tokens place) (next_behind tokens place) preceding kinds
+
+-- the first of these; else of signs and words by themselves; else of a `;` that may be missing
+abbrev pub first_hint : (text : List ℕ) → (tokens preceding : List Token) → (place : ℕ) → List Kind → (semicolon : Option Cause) → Option Hint
+first_hint text tokens preceding place kinds semicolon =
+    either (told (first_cause text tokens preceding place kinds))
+    (either (construct_hint text tokens preceding place kinds)
+    (either (known (parse_slip (take place text) (word_at (drop place text)) (drop place text))) (told semicolon)))
 
 -- of a text where tokens of these kinds could stand
 pub record IsUnexpectedHint (text : List ℕ) (place : ℕ) (kinds : List Kind) (hint : Option Hint) : Type 0 where
@@ -31,4 +45,4 @@ pub record IsUnexpectedHint (text : List ℕ) (place : ℕ) (kinds : List Kind) 
   pub semicolon : Option Cause
   pub are : AreTokens text tokens
   pub missing : IsSemicolonCause text tokens place semicolon
-  pub says : hint ≡ first_hint text tokens place kinds semicolon
+  pub says : hint ≡ first_hint text tokens (Tokens.before place tokens) place kinds semicolon

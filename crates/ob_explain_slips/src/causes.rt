@@ -1,9 +1,11 @@
 //! Hints on slips that show by the tokens around a place.
 
 ghost use Rattle.std.specs.Prelude.{◌≡◌};
-ghost use Rattle.ob_explain_slips.specs.Causes.{cause_mark, cause_text, either, hint_text, is_same_in_any_case, known, name_cause, told, with_mark, word_cause};
+ghost use Rattle.ob_explain_slips.specs.Causes.{cause_mark, cause_text, either, known, name_cause, told, with_mark};
 
-use ob_explain_hints::tables::{Slip, slip_hint};
+use ob_explain_hints::slips::is_same_in_any_case;
+use ob_explain_hints::tables::Slip;
+use ob_scan::Token;
 
 /// What a slip comes of.
 #[derive(Clone, Copy)]
@@ -14,22 +16,38 @@ pub enum Cause {
     Number,
     Real,
     Character,
-    And,
-    Not,
     NoFunction,
     Index,
     Change,
     Assignment,
     Comparison,
+    Indices,
+    Parted,
+    ArrayType,
+    NameFirst,
+    NoValue,
+    NoColon,
+    Order,
+    NoBegin,
+    EndAlone,
+    NoIf,
     Semicolon,
     FurtherDown,
 }
 
-/// A known slip by its sign or word, or what the tokens around a place show.
+/// A known slip by its sign or word, or what the tokens around a place show; or what they show of a construct, which this token opens.
 #[derive(Clone, Copy)]
 pub enum Hint {
     Known(Slip),
     Told(Cause),
+    /// It is still open.
+    Open(Token),
+    /// The END before the place closes it.
+    Closed(Token),
+    /// That END closes it, and it is a module or a procedure.
+    Ended(Token),
+    /// It is an IF behind an ELSE.
+    ElseIf(Token),
 }
 
 /// Names that other languages have, whose letters may be small or large.
@@ -42,9 +60,6 @@ pub const NAMES: [Cause; 6] = [
     Cause::Character,
 ];
 
-/// Words of other languages for operators, whose letters may be small or large.
-pub const WORDS: [Cause; 2] = [Cause::And, Cause::Not];
-
 /// The name that is written there.
 fn cause_mark(cause: Cause) -> &'static [u8]
     ensures { result.now ≡ cause_mark cause }
@@ -56,14 +71,12 @@ fn cause_mark(cause: Cause) -> &'static [u8]
         Cause::Number => b"INT",
         Cause::Real => b"REAL",
         Cause::Character => b"CHAR",
-        Cause::And => b"AND",
-        Cause::Not => b"NOT",
         _ => b"",
     }
 }
 
 /// The hint on a cause.
-fn cause_text(cause: Cause) -> &'static str
+pub fn cause_text(cause: Cause) -> &'static str
     ensures { result.now ≡ cause_text cause }
 {
     match cause {
@@ -75,8 +88,6 @@ fn cause_text(cause: Cause) -> &'static str
             "there are no real numbers; the types of single values are INTEGER and BOOLEAN",
         Cause::Character =>
             "there are no characters; the types of single values are INTEGER and BOOLEAN",
-        Cause::And => "and is written &",
-        Cause::Not => "not is written ~",
         Cause::NoFunction =>
             "there are no functions; a procedure gives its results by VAR parameters, and a call of it is a statement",
         Cause::Index => "an element of an array is written a[i]",
@@ -84,19 +95,21 @@ fn cause_text(cause: Cause) -> &'static str
         Cause::Assignment => "= compares, and := assigns",
         Cause::Comparison =>
             "a comparison beside another one, or beside & or OR, stands in parentheses: (a > 0) & (b < 5)",
+        Cause::Indices => "a further index stands in brackets of its own: a[i][j]",
+        Cause::Parted => "behind a type stands ;, and then the next names: a: INTEGER; b: BOOLEAN",
+        Cause::ArrayType => "an array type is written ARRAY 4 OF INTEGER; its indices are 0 to 3",
+        Cause::NameFirst => "a name stands before its type: x: INTEGER",
+        Cause::NoValue =>
+            "a variable is declared without a value, as x: INTEGER; what assigns one is a statement, and stands behind BEGIN",
+        Cause::NoColon => "behind the name of a constant or of a type stands =",
+        Cause::Order =>
+            "declarations stand before BEGIN, in this order: CONST, TYPE, VAR, procedures",
+        Cause::NoBegin => "statements stand behind BEGIN; is it missing before this one?",
+        Cause::EndAlone => "an IF or a WHILE ends with END alone",
+        Cause::NoIf => "no IF is open here; is one END too many before it?",
         Cause::Semicolon => "is a ; missing before it?",
         Cause::FurtherDown =>
             "a procedure of this name is declared further down; a name is known behind its declaration only",
-    }
-}
-
-/// The words of a hint.
-pub fn hint_text(hint: Hint) -> &'static str
-    ensures { result.now ≡ hint_text hint }
-{
-    match hint {
-        Hint::Known(slip) => slip_hint(slip),
-        Hint::Told(cause) => cause_text(cause),
     }
 }
 
@@ -107,13 +120,6 @@ pub fn name_cause(word: &[u8]) -> Option<Cause>
     with_mark(&NAMES, word)
 }
 
-/// What a word comes of that stands for an operator in another language.
-pub fn word_cause(word: &[u8]) -> Option<Cause>
-    ensures { result ≡ word_cause word.now }
-{
-    with_mark(&WORDS, word)
-}
-
 /// The first of these causes whose name this is, in small letters or large.
 fn with_mark(causes: &[Cause], word: &[u8]) -> Option<Cause>
     ensures { result ≡ with_mark causes.now word.now }
@@ -122,13 +128,6 @@ fn with_mark(causes: &[Cause], word: &[u8]) -> Option<Cause>
         .iter()
         .copied()
         .find(|cause| is_same_in_any_case(word, cause_mark(*cause)))
-}
-
-/// Whether two words have the same letters and digits, small or large.
-fn is_same_in_any_case(word: &[u8], other: &[u8]) -> bool
-    ensures { result ≡ is_same_in_any_case word.now other.now }
-{
-    word.eq_ignore_ascii_case(other)
 }
 
 /// The hint on a known slip, where there is one.

@@ -2,6 +2,8 @@
 #![tactic(auto)]
 
 pub mod causes;
+pub mod declarations;
+pub mod endings;
 pub mod procedures;
 pub mod rules;
 pub mod semicolon;

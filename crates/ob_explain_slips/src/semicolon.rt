@@ -58,7 +58,7 @@ fn with_semicolon(alloc: Global, text: &[u8], place: usize) -> Result<Vec<u8>, A
 }
 
 /// The token that begins at a place.
-fn token_at(tokens: &[Token], place: usize) -> Option<Token>
+pub fn token_at(tokens: &[Token], place: usize) -> Option<Token>
     ensures { result ≡ token_at tokens.now place }
 {
     tokens.iter().copied().find(|token| token.start == place)

@@ -117,7 +117,7 @@ fn comparison_cause(kinds: &[Kind], from: &[u8]) -> Option<Cause>
 }
 
 /// The first cause, or else the other one.
-fn either(cause: Option<Cause>, other: Option<Cause>) -> Option<Cause>
+pub fn either(cause: Option<Cause>, other: Option<Cause>) -> Option<Cause>
     ensures { result ≡ either cause other }
 {
     match cause {
@@ -127,7 +127,7 @@ fn either(cause: Option<Cause>, other: Option<Cause>) -> Option<Cause>
 }
 
 /// Whether a kind is among these.
-fn has(kinds: &[Kind], kind: Kind) -> bool
+pub fn has(kinds: &[Kind], kind: Kind) -> bool
     ensures { result ≡ has kinds.now kind }
 {
     kinds.contains(&kind)

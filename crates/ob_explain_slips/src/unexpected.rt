@@ -1,14 +1,17 @@
 //! The hint on a token that can't stand at a place.
 
 ghost use Rattle.std.specs.Prelude.{◌≡◌, IfOk, drop, take};
-ghost use Rattle.ob_explain_slips.specs.Unexpected.{IsUnexpectedHint, first_hint, last_before, operator_hint};
+ghost use Rattle.ob_explain_slips.specs.Unexpected.{IsUnexpectedHint, construct_hint, first_cause, first_hint, last_before, next_behind};
 
-use crate::causes::{Cause, Hint, either, known, told, word_cause};
-use crate::semicolon::semicolon_cause;
+use crate::causes::{Cause, Hint, either, known, told};
+use crate::declarations::cause_there;
+use crate::endings::ending_hint;
+use crate::semicolon::{semicolon_cause, token_at};
+use crate::signs;
 use crate::signs::sign_cause;
 use ob_explain_hints::slips::parse_slip;
-use ob_explain_hints::words::{word_at, word_before};
-use ob_explain_tokens::around::tokens_of;
+use ob_explain_hints::words::word_at;
+use ob_explain_tokens::around::{tokens_before, tokens_of};
 use ob_scan::{Kind, Token};
 use std::alloc::{AllocError, Global};
 
@@ -22,45 +25,64 @@ pub fn unexpected_hint(
     ensures { IfOk result (λ hint. IsUnexpectedHint text.now place kinds.now hint) }
 {
     let tokens = tokens_of(alloc, text)?;
+    let preceding = tokens_before(alloc, &tokens, place)?;
     let semicolon = semicolon_cause(alloc, text, &tokens, place)?;
-    Ok(first_hint(text, &tokens, place, kinds, semicolon))
+    Ok(first_hint(text, &tokens, &preceding, place, kinds, semicolon))
 }
 
-/// The first of the hints on a place, of which this is the cause of a `;`.
+/// The first of the hints on a place, before which these tokens stand, the last one first, and of which this is the cause of a `;`.
 fn first_hint(
     text: &[u8],
     tokens: &[Token],
+    preceding: &[Token],
     place: usize,
     kinds: &[Kind],
     semicolon: Option<Cause>,
 ) -> Option<Hint>
-    ensures { result ≡ first_hint text.now tokens.now place kinds.now semicolon }
+    ensures { result ≡ first_hint text.now tokens.now preceding.now place kinds.now semicolon }
 {
     let (before, from) = halves(text, place);
-    let of_sign = sign_cause(
-        text,
-        tokens,
-        last_before(tokens, place),
-        kinds,
-        before,
-        from,
-    );
+    let of_cause = told(first_cause(text, tokens, preceding, place, kinds));
+    let of_construct = construct_hint(text, tokens, preceding, place, kinds);
     let of_slip = known(parse_slip(before, word_at(from), from));
-    let of_word = operator_hint(before, from);
     either(
-        told(of_sign),
-        either(of_slip, either(of_word, told(semicolon))),
+        of_cause,
+        either(of_construct, either(of_slip, told(semicolon))),
     )
 }
 
-/// The hint on a word for an operator in another language, there or before.
-fn operator_hint(before: &[u8], from: &[u8]) -> Option<Hint>
-    ensures { result ≡ operator_hint before.now from.now }
+/// The cause of a sign, or of what can't stand in a declaration.
+fn first_cause(
+    text: &[u8],
+    tokens: &[Token],
+    preceding: &[Token],
+    place: usize,
+    kinds: &[Kind],
+) -> Option<Cause>
+    ensures { result ≡ first_cause text.now tokens.now preceding.now place kinds.now }
 {
-    either(
-        told(word_cause(word_at(from))),
-        told(word_cause(word_before(before))),
-    )
+    let (before, from) = halves(text, place);
+    let last = last_before(tokens, place);
+    let of_sign = sign_cause(text, tokens, last, kinds, before, from);
+    let there = token_at(tokens, place);
+    let next = next_behind(tokens, place);
+    signs::either(of_sign, cause_there(there, preceding, kinds, before, next))
+}
+
+/// The hint on a construct that is open at the place.
+fn construct_hint(
+    text: &[u8],
+    tokens: &[Token],
+    preceding: &[Token],
+    place: usize,
+    kinds: &[Kind],
+) -> Option<Hint>
+    ensures { result ≡ construct_hint text.now tokens.now preceding.now place kinds.now }
+{
+    let (_, from) = halves(text, place);
+    let there = token_at(tokens, place);
+    let next = next_behind(tokens, place);
+    ending_hint(text, word_at(from), there, next, preceding, kinds)
 }
 
 /// The last token before a place.
@@ -72,6 +94,13 @@ fn last_before(tokens: &[Token], place: usize) -> Option<Token>
         .rev()
         .copied()
         .find(|token| token.start < place)
+}
+
+/// The first token behind a place.
+fn next_behind(tokens: &[Token], place: usize) -> Option<Token>
+    ensures { result ≡ next_behind tokens.now place }
+{
+    tokens.iter().copied().find(|token| place < token.start)
 }
 
 /// What stands before a place of a text, and what from there on.

@@ -1,2 +1,3 @@
 pub mod NoTokens
 pub mod Steps
+pub mod OpenSteps

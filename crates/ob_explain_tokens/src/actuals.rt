@@ -66,7 +66,7 @@ fn comma(kind: Kind) -> usize
 }
 
 /// Whether a token stands behind a call.
-fn ends_call(kind: Kind) -> bool
+pub fn ends_call(kind: Kind) -> bool
     ensures { result ≡ ends_call kind }
 {
     matches!(

@@ -48,7 +48,7 @@ fn opens(kind: Kind) -> bool
     )
 }
 
-fn closes(kind: Kind) -> bool
+pub fn closes(kind: Kind) -> bool
     ensures { result ≡ closes kind }
 {
     matches!(kind, Kind::End)
