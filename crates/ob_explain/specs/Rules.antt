@@ -1,5 +1,5 @@
 -- What is wrong where a rule is broken, by the bytes before the place and those from there on, and the names that are visible there.
-use Rattle.std.specs.Prelude.{ℕ, ◌-◌, ◌==◌, ◌||◌, Bool, true, false, List, [], ◌∷◌, ◌++◌, codes, bytes_eq, decimal, drop, find, length, map, take, Option, Some, None, if◌then◌else◌}
+use Rattle.std.specs.Prelude.{ℕ, ◌-◌, ◌==◌, ◌||◌, Bool, true, false, List, [], ◌∷◌, ◌++◌, codes, bytes_eq, decimal, drop, find, length, map, nat_lt, take, Option, Some, None, if◌then◌else◌}
 use Rattle.ob_typing.specs.declared.rule.BrokenRule.{BrokenRule}
 use Rattle.ob_typing.specs.declared.rule.Rule.{Rule}
 use Rattle.ob_typing.specs.declared.rule.Rule.TheVariants as Rules
@@ -23,6 +23,7 @@ use Rattle.ob_explain_tokens.specs.Around as Tokens
 use Rattle.ob_explain_tokens.specs.Open.{open_construct}
 use Rattle.ob_explain_tokens.specs.Parens.{is_in_parens}
 use Rattle.ob_explain_types.specs.Typed.{typed_sentence}
+use Rattle.ob_explain_words.specs.Words.{words_of_type, words_with}
 use Rattle.ob_scan.specs.declared.token.Kind.{Kind}
 use Rattle.ob_scan.specs.declared.token.Kind.TheVariants as Kinds
 use Rattle.ob_scan.specs.declared.token.Token.{Token}
@@ -164,18 +165,40 @@ is_token (Some t) = true
 abbrev pub is_in_procedure : (before : List Token) → Bool
 is_in_procedure before = is_token (find is_procedure_token before)
 
-abbrev pub variables_sentence : (in_procedure : Bool) → List ℕ
-variables_sentence in_procedure =
-    if in_procedure then codes "the variables of a procedure, with its parameters, have at most 1024 words, and with this one there are more"
-    else codes "the variables of a module have at most 4096 words, and with this one there are more"
+-- the most words that the variables of a procedure or of the module have
+abbrev pub most_words : (in_procedure : Bool) → ℕ
+most_words in_procedure = if in_procedure then 1024 else 4096
+
+-- where they are told, and more than there may be
+abbrev pub beyond : (most : ℕ) → Option ℕ → Option ℕ
+beyond most None = None
+beyond most (Some words) = if nat_lt most words then Some words else None
+
+-- how many there are
+abbrev pub told_words : Option ℕ → List ℕ
+told_words None = codes "more"
+told_words (Some words) = decimal words
+
+abbrev pub variables_limit : (in_procedure : Bool) → List ℕ
+variables_limit in_procedure =
+    if in_procedure then codes "the variables of a procedure, with its parameters, have at most 1024 words, and with this one there are "
+    else codes "the variables of a module have at most 4096 words, and with this one there are "
+
+abbrev pub variables_sentence : (in_procedure : Bool) → (words : Option ℕ) → List ℕ
+variables_sentence in_procedure words = variables_limit in_procedure ++ told_words (beyond (most_words in_procedure) words)
+
+-- of a type that has so many words, or is too deep
+abbrev pub large_sentence : Option ℕ → List ℕ
+large_sentence None = codes "a type has at most 4096 words, and is at most 100 deep"
+large_sentence (Some words) = codes "a type has at most 4096 words, and this one has " ++ decimal words
 
 -- at a type, at the name of a procedure, at a parameter and at a variable
-abbrev pub limit_sentence : (before from : List ℕ) → (in_parens in_procedure : Bool) → List ℕ
-limit_sentence before from in_parens in_procedure =
-    if opens_type from then codes "a type has at most 4096 words, and is at most 100 deep"
+abbrev pub limit_sentence : (text : List ℕ) → List Known → List Token → (place : ℕ) → (before from : List ℕ) → List ℕ
+limit_sentence text known tokens place before from =
+    if opens_type from then large_sentence (beyond 4096 (words_of_type text tokens known place))
     else if bytes_eq (word_before before) (codes "PROCEDURE") then codes "a module has at most 64 exports, and this is the 65th"
-    else if in_parens then codes "a procedure has at most 8 parameters, and this is the ninth"
-    else variables_sentence in_procedure
+    else if is_in_parens (Tokens.before place tokens) then codes "a procedure has at most 8 parameters, and this is the ninth"
+    else variables_sentence (is_in_procedure (Tokens.before place tokens)) (words_with text tokens known place)
 
 -- a length that is one token, of the tokens from there on: OF stands behind it
 abbrev pub is_of : Kind → Bool
@@ -221,8 +244,7 @@ told_rule Rules.BadLength text place known tokens before from =
 told_rule Rules.BadActuals text place known tokens before from =
     actuals_sentence before (sort_of text known (word_at from)) (actual_count (Tokens.behind place tokens))
 told_rule Rules.WrongLevel text place known tokens before from = codes "a procedure sees its own variables and those of the module, and none of a procedure around it; hand it over as a VAR parameter"
-told_rule Rules.PassesLimit text place known tokens before from =
-    limit_sentence before from (is_in_parens (Tokens.before place tokens)) (is_in_procedure (Tokens.before place tokens))
+told_rule Rules.PassesLimit text place known tokens before from = limit_sentence text known tokens place before from
 told_rule Rules.BadExport text place known tokens before from = export_sentence (Tokens.before place tokens)
 
 abbrev pub rule_sentence : (text : List ℕ) → List Known → List Token → BrokenRule → List ℕ

@@ -1,7 +1,7 @@
 //! What is wrong where a rule is broken, in a sentence.
 
 ghost use Rattle.std.specs.Prelude.{◌≡◌, ◌++◌, IfOk, OnOk, find, string_bytes};
-ghost use Rattle.ob_explain.specs.Rules.{actuals_sentence, before_sentence, behind_word, binds_closer, constant_sentence, counted_sentence, counts_sentence, divides, divisor_sentence, export_sentence, is_in_procedure, is_inner, is_one_token, is_procedure, is_procedure_there, is_procedure_token, kind_sentence, length_numeral, length_sentence, limit_sentence, named_sentence, near_question, no_word, opens_type, operands_sentence, operation_from, operation_text, question, range_sentence, rule_sentence, shown_numeral, told_need, told_sort, twice_sentence, unknown_sentence, variables_sentence};
+ghost use Rattle.ob_explain.specs.Rules.{actuals_sentence, before_sentence, behind_word, beyond, binds_closer, constant_sentence, counted_sentence, counts_sentence, divides, divisor_sentence, export_sentence, is_in_procedure, is_inner, is_one_token, is_procedure, is_procedure_there, is_procedure_token, kind_sentence, large_sentence, length_numeral, length_sentence, limit_sentence, most_words, named_sentence, near_question, no_word, opens_type, operands_sentence, operation_from, operation_text, question, range_sentence, rule_sentence, shown_numeral, told_need, told_sort, told_words, twice_sentence, unknown_sentence, variables_limit, variables_sentence};
 
 use crate::counts::push_count;
 use crate::place::{halves, place_in};
@@ -20,10 +20,14 @@ use ob_explain_tokens::around::{tokens_before, tokens_behind};
 use ob_explain_tokens::open::open_construct;
 use ob_explain_tokens::parens::is_in_parens;
 use ob_explain_types::typed::typed_sentence;
+use ob_explain_words::words::{words_of_type, words_with};
 use ob_scan::{Kind, Token};
 use ob_text_words::numbers::push_number;
 use ob_typing::rule::{BrokenRule, Rule};
 use std::alloc::{AllocError, Global};
+
+/// The most words of a type.
+const MOST_TYPE_WORDS: usize = 4096;
 
 /// What a broken rule asks, and what stands there, in a text with these tokens of which these names are visible.
 pub fn rule_sentence(
@@ -67,10 +71,7 @@ pub fn rule_sentence(
             "a procedure sees its own variables and those of the module, and none of a procedure around it; hand it over as a VAR parameter",
         ),
         Rule::PassesLimit => {
-            let preceding = tokens_before(alloc, tokens, broken.place)?;
-            let in_parens = is_in_parens(&preceding);
-            let in_procedure = is_in_procedure(&preceding);
-            String::from_str(alloc, limit_sentence(before, from, in_parens, in_procedure))
+            limit_sentence(alloc, text, known, tokens, broken.place, before, from)
         }
         Rule::BadExport => {
             let preceding = tokens_before(alloc, tokens, broken.place)?;
@@ -515,29 +516,107 @@ fn is_procedure(kind: Kind) -> bool
     matches!(kind, Kind::Procedure)
 }
 
-/// Of a limit, at a type or at a name, which may stand in parentheses or in a procedure.
-fn limit_sentence(before: &[u8], from: &[u8], in_parens: bool, in_procedure: bool) -> &'static str
-    ensures { result.now ≡ limit_sentence before.now from.now in_parens in_procedure }
+/// Of a limit, at a type or at a name.
+fn limit_sentence(
+    alloc: Global,
+    text: &[u8],
+    known: &[Known],
+    tokens: &[Token],
+    place: usize,
+    before: &[u8],
+    from: &[u8],
+) -> Result<String, AllocError>
+    ensures { IfOk result (λ sentence. string_bytes sentence ≡ limit_sentence text.now known.now tokens.now place before.now from.now) }
 {
     if opens_type(from) {
-        "a type has at most 4096 words, and is at most 100 deep"
-    } else if is_same(word_before(before), b"PROCEDURE") {
-        "a module has at most 64 exports, and this is the 65th"
-    } else if in_parens {
-        "a procedure has at most 8 parameters, and this is the ninth"
-    } else {
-        variables_sentence(in_procedure)
+        let words = words_of_type(alloc, text, tokens, known, place)?;
+        return large_sentence(alloc, beyond(MOST_TYPE_WORDS, words));
+    }
+    if is_same(word_before(before), b"PROCEDURE") {
+        return String::from_str(
+            alloc,
+            "a module has at most 64 exports, and this is the 65th",
+        );
+    }
+    let preceding = tokens_before(alloc, tokens, place)?;
+    if is_in_parens(&preceding) {
+        return String::from_str(
+            alloc,
+            "a procedure has at most 8 parameters, and this is the ninth",
+        );
+    }
+    let words = words_with(alloc, text, tokens, known, place)?;
+    variables_sentence(alloc, is_in_procedure(&preceding), words)
+}
+
+/// Of a type that has so many words, or is too deep.
+fn large_sentence(alloc: Global, words: Option<usize>) -> Result<String, AllocError>
+    ensures { IfOk result (λ sentence. string_bytes sentence ≡ large_sentence words) }
+{
+    match words {
+        Some(words) => {
+            let mut sentence = String::from_str(
+                alloc,
+                "a type has at most 4096 words, and this one has ",
+            )?;
+            push_number(&mut sentence, words)?;
+            Ok(sentence)
+        }
+        None => String::from_str(
+            alloc,
+            "a type has at most 4096 words, and is at most 100 deep",
+        ),
     }
 }
 
-/// Of the variables of a procedure or of the module.
-fn variables_sentence(in_procedure: bool) -> &'static str
-    ensures { result.now ≡ variables_sentence in_procedure }
+/// Of the variables of a procedure or of the module, which have so many words.
+fn variables_sentence(
+    alloc: Global,
+    in_procedure: bool,
+    words: Option<usize>,
+) -> Result<String, AllocError>
+    ensures { IfOk result (λ sentence. string_bytes sentence ≡ variables_sentence in_procedure words) }
+{
+    let mut sentence = String::from_str(alloc, variables_limit(in_procedure))?;
+    push_words(&mut sentence, beyond(most_words(in_procedure), words))?;
+    Ok(sentence)
+}
+
+/// The limit on the variables of a procedure or of the module.
+fn variables_limit(in_procedure: bool) -> &'static str
+    ensures { result.now ≡ variables_limit in_procedure }
 {
     if in_procedure {
-        "the variables of a procedure, with its parameters, have at most 1024 words, and with this one there are more"
+        "the variables of a procedure, with its parameters, have at most 1024 words, and with this one there are "
     } else {
-        "the variables of a module have at most 4096 words, and with this one there are more"
+        "the variables of a module have at most 4096 words, and with this one there are "
+    }
+}
+
+/// The most words that these have.
+fn most_words(in_procedure: bool) -> usize
+    ensures { result ≡ most_words in_procedure }
+{
+    if in_procedure { 1024 } else { 4096 }
+}
+
+/// Words that are told, where they are more than there may be.
+fn beyond(most: usize, words: Option<usize>) -> Option<usize>
+    ensures { result ≡ beyond most words }
+{
+    match words {
+        Some(words) if most < words => Some(words),
+        _ => None,
+    }
+}
+
+/// Appends how many words there are.
+fn push_words(sentence: &mut String, words: Option<usize>) -> Result<(), AllocError>
+    ensures { OnOk result (string_bytes sentence.new ≡ string_bytes sentence.old ++ told_words words) }
+{
+    match words {
+        Some(words) => push_number(sentence, words),
+        None => sentence.push_str("more"),
     }
 }
 
