@@ -60,3 +60,8 @@ count_sentence values types = codes "this call has " ++ decimal values ++ values
 abbrev pub value_sentence : ScalarType → List ℕ
 value_sentence Integer = codes "an INTEGER is wanted here, a number from -2147483648 to 2147483647"
 value_sentence Boolean = codes "a BOOLEAN is wanted here, TRUE or FALSE"
+
+-- how many values stand behind done, and how many the procedure gives
+abbrev pub done_sentence : (values : ℕ) → List ScalarType → List ℕ
+done_sentence values types =
+    codes "done has " ++ decimal values ++ values_noun values ++ codes ", and the procedure gives " ++ decimal (length types) ++ codes " for its parameters with VAR" ++ listed_types types

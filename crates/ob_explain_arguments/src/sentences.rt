@@ -1,7 +1,7 @@
 //! What is said of a call of no export, and of values that don't fit.
 
 ghost use Rattle.std.specs.Prelude.{◌≡◌, ◌∷◌, ◌++◌, IfOk, OnOk, map, option_map, string_bytes};
-ghost use Rattle.ob_explain_arguments.specs.Sentences.{count_sentence, further_names, further_types, listed_names, listed_types, name_text, near_or_all, question_text, taken_text, type_name, unknown_sentence, value_sentence, values_noun};
+ghost use Rattle.ob_explain_arguments.specs.Sentences.{count_sentence, done_sentence, further_names, further_types, listed_names, listed_types, name_text, near_or_all, question_text, taken_text, type_name, unknown_sentence, value_sentence, values_noun};
 ghost use Rattle.ob_interface.specs.View.{signature_of};
 
 use crate::near::near_export;
@@ -114,6 +114,24 @@ fn push_taken(sentence: &mut String, types: &[ScalarType]) -> Result<(), AllocEr
     sentence.push_str(" for its parameters without VAR")?;
     push_types(sentence, types)?;
     Ok(())
+}
+
+/// Of so many values behind done, in the reply of a procedure that gives values of these types.
+pub fn done_sentence(
+    alloc: Global,
+    values: usize,
+    types: &[ScalarType],
+) -> Result<String, AllocError>
+    ensures { IfOk result (λ sentence. string_bytes sentence ≡ done_sentence values types.now) }
+{
+    let mut sentence = String::from_str(alloc, "done has ")?;
+    push_number(&mut sentence, values)?;
+    sentence.push_str(values_noun(values))?;
+    sentence.push_str(", and the procedure gives ")?;
+    push_number(&mut sentence, types.len())?;
+    sentence.push_str(" for its parameters with VAR")?;
+    push_types(&mut sentence, types)?;
+    Ok(sentence)
 }
 
 fn values_noun(values: usize) -> &'static str

@@ -1,2 +1,0 @@
-pub mod SameNames
-pub mod Firsts

@@ -4,8 +4,8 @@ use Rattle.ob_explain.specs.Places.{line_from}
 use Rattle.ob_explain.specs.Remarks.{Remark, at}
 use Rattle.ob_explain_hints.specs.Slips.{begins_with}
 use Rattle.ob_explained.specs.ScriptPlaces.{first_place, in_line, line_begin}
-use Rattle.ob_explained_records.specs.Lines.{IsLine}
-use Rattle.ob_explained_records.specs.declared.record_line.Wanted.TheVariants as Wants
+use Rattle.ob_explained_lines.specs.Lines.{IsLine}
+use Rattle.ob_explained_lines.specs.declared.record_line.Wanted.TheVariants as Wants
 
 -- by the first byte of the line's first word: B, E, A, O, b
 abbrev pub letter_sentence : List ℕ → List ℕ

@@ -5,7 +5,7 @@ ghost use Rattle.ob_explain.specs.Remarks.{remark_of};
 ghost use Rattle.ob_explained.specs.Marks.{MarksWord};
 ghost use Rattle.ob_explained_records.specs.FormRemarks.{IsFormRemark, form_sentence, is_behind, letter_sentence};
 
-use crate::record_line::{Wanted, first_line};
+use ob_explained_lines::record_line::{Wanted, first_line};
 use ob_explain::remark::Remark;
 use ob_explain_hints::slips::begins_with;
 use ob_explained::script_place::{first_place, script_line};

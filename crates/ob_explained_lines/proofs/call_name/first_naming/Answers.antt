@@ -1,9 +1,9 @@
 use Rattle.std.proofs.Common.{◌∙◌, Bor, refl, sym}
 use Rattle.std.proofs.lemmas.Bool.{false≢true}
 use Rattle.ob_text_words.specs.Words.{Word}
-use Rattle.ob_explained_records.specs.CallNames.{Names}
-use Rattle.ob_explained_records.proofs.Firsts.{none_at_all, none_more, word_found}
-use Rattle.ob_explained_records.proofs.call_name.first_naming.Goals as goal
+use Rattle.ob_explained_lines.specs.CallNames.{Names}
+use Rattle.ob_explained_lines.proofs.Firsts.{none_at_all, none_more, word_found}
+use Rattle.ob_explained_lines.proofs.call_name.first_naming.Goals as goal
 
 pub returns-then-names_call-clause-place : goal.returns-then-names_call-clause-place
 returns-then-names_call-clause-place c =

@@ -1,9 +1,9 @@
 use Rattle.std.proofs.Common.{◌∙◌, ℕ, Bor, List, refl, sym}
 use Rattle.std.proofs.lemmas.Bool.{false≢true}
 use Rattle.ob_text_words.specs.Words.{words}
-use Rattle.ob_explained_records.specs.Lines.{Says}
-use Rattle.ob_explained_records.proofs.Firsts.{line_found, none_at_all, none_more}
-use Rattle.ob_explained_records.proofs.record_line.first_of.Goals as goal
+use Rattle.ob_explained_lines.specs.Lines.{Says}
+use Rattle.ob_explained_lines.proofs.Firsts.{line_found, none_at_all, none_more}
+use Rattle.ob_explained_lines.proofs.record_line.first_of.Goals as goal
 
 pub returns-then-found : goal.returns-then-found
 returns-then-found c =

@@ -1,6 +1,6 @@
 use Rattle.std.proofs.Common.{◌≡◌, ◌∷◌, rules}
-use Rattle.ob_explained_records.proofs.Firsts.{says_here}
-use Rattle.ob_explained_records.proofs.record_line.says_call.Goals as goal
+use Rattle.ob_explained_lines.proofs.Firsts.{says_here}
+use Rattle.ob_explained_lines.proofs.record_line.says_call.Goals as goal
 
 pub returns : goal.returns
 returns c =

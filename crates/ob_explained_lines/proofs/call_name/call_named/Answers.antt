@@ -1,6 +1,6 @@
 use Rattle.std.proofs.Common.{◌≡◌, ◌∷◌, ◌<◌, ◌^◌, rules}
 use Rattle.ob_text_record_reading.specs.RecordLines.{id}
-use Rattle.ob_explained_records.proofs.call_name.call_named.Goals as goal
+use Rattle.ob_explained_lines.proofs.call_name.call_named.Goals as goal
 
 pub returns : goal.returns
 returns c =

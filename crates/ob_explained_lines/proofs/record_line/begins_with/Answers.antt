@@ -1,6 +1,6 @@
 use Rattle.std.proofs.Common.{◌≡◌, ◌∷◌, Bor, ap, map, refl, rules}
 use Rattle.ob_text_words.specs.Words.{Word}
-use Rattle.ob_explained_records.proofs.record_line.begins_with.Goals as goal
+use Rattle.ob_explained_lines.proofs.record_line.begins_with.Goals as goal
 
 pub returns : goal.returns
 returns c =

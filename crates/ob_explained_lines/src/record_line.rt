@@ -2,7 +2,7 @@
 
 ghost use Rattle.std.specs.Prelude.{◌≡◌, ◌↔◌, ◌∷◌, List, IfOk, IsTrue, MatchOption, map};
 ghost use Rattle.ob_text_words.specs.Words.{Word, lines, words};
-ghost use Rattle.ob_explained_records.specs.Lines.{HasNoLine, IsFirstLine, IsLine, Says, SaysCall};
+ghost use Rattle.ob_explained_lines.specs.Lines.{HasNoLine, IsFirstLine, IsLine, Says, SaysCall};
 
 use crate::call_name::names_call;
 use ob_text_words::words::words_of;
@@ -29,7 +29,7 @@ pub fn first_line(alloc: Global, text: &[u8], wanted: Wanted) -> Result<Option<u
 }
 
 /// What stands between the line feeds of a text.
-fn split_lines(alloc: Global, text: &[u8]) -> Result<Vec<&[u8]>, AllocError>
+pub(crate) fn split_lines(alloc: Global, text: &[u8]) -> Result<Vec<&[u8]>, AllocError>
     ensures { IfOk result (λ ls. map (λ l. l.now) ls.items ≡ lines text.now) }
 {
     text.split(|byte| *byte == b'\n').collect(alloc)

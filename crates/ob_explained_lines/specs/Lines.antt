@@ -1,8 +1,8 @@
 -- Lines of a record, by what they say.
 use Rattle.std.specs.Prelude.{◌≡◌, ◌≤◌, ◌<◌, ◌-◌, ℕ, List, ◌∷◌, Option, Some, MatchOption, codes, slice_get}
-use Rattle.ob_explained_records.specs.CallNames.{Names}
-use Rattle.ob_explained_records.specs.declared.record_line.Wanted.{Wanted}
-use Rattle.ob_explained_records.specs.declared.record_line.Wanted.TheVariants as Wants
+use Rattle.ob_explained_lines.specs.CallNames.{Names}
+use Rattle.ob_explained_lines.specs.declared.record_line.Wanted.{Wanted}
+use Rattle.ob_explained_lines.specs.declared.record_line.Wanted.TheVariants as Wants
 use Rattle.ob_text_words.specs.Words.{Word, lines, words}
 use Rattle.wf_history.specs.declared.event.CallId.{CallId}
 

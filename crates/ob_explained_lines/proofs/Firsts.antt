@@ -4,9 +4,9 @@ use Rattle.std.proofs.lemmas.Bool.{cases_lt}
 use Rattle.std.proofs.lemmas.List.{length-map}
 use Rattle.std.proofs.lemmas.Option.{same_Some, slice_get-get_or, slice_get-map, slice_get_within}
 use Rattle.ob_text_words.specs.Words.{Word, words}
-use Rattle.ob_explained_records.specs.CallNames.{IsFirstNaming, Names}
-use Rattle.ob_explained_records.specs.Lines.{IsFirstLine, Says, SaysCall}
-use Rattle.ob_explained_records.specs.declared.record_line.Wanted.{Wanted}
+use Rattle.ob_explained_lines.specs.CallNames.{IsFirstNaming, Names}
+use Rattle.ob_explained_lines.specs.Lines.{IsFirstLine, Says, SaysCall}
+use Rattle.ob_explained_lines.specs.declared.record_line.Wanted.{Wanted}
 use Rattle.wf_history.specs.declared.event.CallId.{CallId}
 
 module _ {A B : Type 0} (v : A → B) (Fact : B → Type 0) (xs : List A) where

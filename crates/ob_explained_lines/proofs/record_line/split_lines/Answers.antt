@@ -1,7 +1,7 @@
 use Rattle.std.proofs.Common.{rules, tests, ◌==◌}
 use Rattle.std.proofs.lemmas.Iterator.Consumers.{map_from_collect}
 use Rattle.std.proofs.lemmas.Iterator.Splits.{YieldsList-from_slice_split}
-use Rattle.ob_explained_records.proofs.record_line.split_lines.Goals as goal
+use Rattle.ob_explained_lines.proofs.record_line.split_lines.Goals as goal
 
 pub returns : goal.returns
 returns c =

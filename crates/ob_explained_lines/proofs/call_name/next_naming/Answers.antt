@@ -1,8 +1,8 @@
 use Rattle.std.proofs.Common.{◌≡◌, ◌∙◌, ◌+◌, ◌-◌, ℕ, Bor, List, None, Some, ap, drop, length, map, refl, rules, subst, sym, take}
 use Rattle.std.proofs.lemmas.List.{drop-map, take_rest}
 use Rattle.ob_text_words.specs.Words.{Word}
-use Rattle.ob_explained_records.specs.CallNames.{IsFirstNaming, NamesNone}
-use Rattle.ob_explained_records.proofs.call_name.next_naming.Goals as goal
+use Rattle.ob_explained_lines.specs.CallNames.{IsFirstNaming, NamesNone}
+use Rattle.ob_explained_lines.proofs.call_name.next_naming.Goals as goal
 
 -- the words behind a place
 behind : (ws : List (Bor Word)) (n : ℕ) → map (λ (w : Bor Word). w.now) (take (length ws - n) (drop n ws)) ≡ drop n (map (λ (w : Bor Word). w.now) ws)
