@@ -1,5 +1,5 @@
 -- What is said of a call of no export, and of values that don't fit.
-use Rattle.std.specs.Prelude.{ℕ, ◌==◌, List, [], ◌∷◌, ◌++◌, codes, decimal, length, Option, Some, None, if◌then◌else◌}
+use Rattle.std.specs.Prelude.{ℕ, Bool, ◌==◌, List, [], ◌∷◌, ◌++◌, codes, decimal, length, Option, Some, None, if◌then◌else◌}
 use Rattle.ob_interface.specs.declared.scalar.ScalarType.{ScalarType}
 use Rattle.ob_interface.specs.declared.scalar.ScalarType.TheVariants.{Integer, Boolean}
 use Rattle.ob_interface.specs.Export.{Signature}
@@ -32,6 +32,16 @@ near_or_all signatures (Some near) = question_text near
 abbrev pub unknown_sentence : List Signature → Word → List ℕ
 unknown_sentence signatures name =
     codes "a call names a procedure that the module exports, which has a * behind its name there" ++ near_or_all signatures (near_export signatures name)
+
+-- of a name that is one of a procedure which is not exported
+abbrev pub private_sentence : List Signature → List ℕ
+private_sentence signatures = codes "the module declares this procedure without a * behind its name, so it isn't exported" ++ listed_names signatures
+
+-- of a name that is none of an export, and that the module declares or not
+abbrev pub unknown_text : (declared : Bool) → List Signature → Word → List ℕ
+unknown_text declared signatures name =
+    if declared then private_sentence signatures
+    else unknown_sentence signatures name
 
 abbrev pub type_name : ScalarType → List ℕ
 type_name Integer = codes "INTEGER"

@@ -1,5 +1,5 @@
 -- Why a line of a record can't stand where it does, by the lines before it and by the exports of the module.
-use Rattle.std.specs.Prelude.{◌≡◌, ◌≢◌, ◌⊎◌, ◌<◌, ◌^◌, ◌+◌, ◌-◌, ◌==◌, ℕ, suc, Bool, false, List, [], ◌∷◌, ◌++◌, Option, None, Some, MatchOption, codes, decimal, if◌then◌else◌, length, option_and_then, option_map, slice_get, string_bytes, unwrap_or}
+use Rattle.std.specs.Prelude.{◌≡◌, ◌≢◌, ◌⊎◌, ◌<◌, ◌^◌, ◌+◌, ◌-◌, ◌==◌, ℕ, suc, Bool, false, List, [], ◌∷◌, ◌++◌, Option, None, Some, MatchOption, codes, decimal, if◌then◌else◌, length, map, option_and_then, option_map, slice_get, string_bytes, unwrap_or}
 use Rattle.std.specs.Option.{option_map_or}
 use Rattle.std.specs.Str.{bytes_eq}
 use Rattle.ob_explain_arguments.specs.Calls.{IsToldOf, Told}
@@ -11,12 +11,14 @@ use Rattle.ob_explained_lines.specs.CallPlaces.{IsBeginPlace, IsCallWithin, IsLi
 use Rattle.ob_explained_lines.specs.declared.cause.Cause as Declared
 use Rattle.ob_explained_lines.specs.declared.cause.Letter.{Letter}
 use Rattle.ob_explained_lines.specs.declared.cause.Letter.TheVariants as Letters
+use Rattle.ob_explained_lines.specs.declared.cause.Object as Rust
 use Rattle.ob_explained_lines.specs.declared.cause.Outcome.{Outcome}
 use Rattle.ob_explained_lines.specs.declared.cause.Outcome.TheVariants as Outcomes
 use Rattle.ob_explained_lines.specs.declared.cause.Spot.{Spot}
 use Rattle.ob_explained_lines.specs.declared.cause.Spot.TheVariants as Spots
 use Rattle.ob_explained_lines.specs.declared.record_line.Wanted.TheVariants as Wants
 use Rattle.ob_interface.specs.Export.{Signature, var_types}
+use Rattle.ob_interface.specs.View.{signature_of}
 use Rattle.ob_interface.specs.declared.scalar.ScalarType.{ScalarType}
 use Rattle.ob_text_exports.specs.ExportNames.{export_named}
 use Rattle.ob_text_words.specs.Words.{IsNumeral, Word, lines, words}
@@ -113,20 +115,28 @@ pub record IsDoneTold (types : List ScalarType) (values : List Word) (cause : Op
   pub fails : TellsMisfit types values misfit
   pub says : cause ≡ done_told types (length values) misfit
 
--- the exports of the module
-module _ (signatures : List Signature) where
+-- of the procedure that was called, where it is known
+abbrev pub IsDoneCause : Option Signature → (values : List Word) → Option Cause → Type 0
+IsDoneCause None values cause = cause ≡ None
+IsDoneCause (Some signature) values cause = IsDoneTold (var_types signature.formals) values cause
+
+-- the text of a module, and its exports
+pub record Object : Type 0 where
+  pub text : List ℕ
+  pub exports : List Signature
+
+abbrev pub object_of : Rust.Object → Object
+object_of o = record { text = o.text.now; exports = map signature_of o.exports.now }
+
+module _ (object : Object) where
   -- why a call of these words can't begin, by what is said of its place
   abbrev pub IsPlacedBegin : List Word → (said : Option (List ℕ)) → Option Cause → Type 0
   IsPlacedBegin ws (Some sentence) cause = cause ≡ cause_at (Spots.Word 1) sentence
-  IsPlacedBegin ws None cause = (told : Option Told) × IsToldOf signatures ws told × (cause ≡ option_map begin_told told)
+  IsPlacedBegin ws None cause = (told : Option Told) × IsToldOf object.text object.exports ws told × (cause ≡ option_map begin_told told)
 
   -- the procedure that a line calls
   abbrev pub called_by : List Word → Option Signature
-  called_by ws = option_map (λ e. e.1) (option_and_then (export_named signatures) (slice_get ws 2))
-
-  abbrev pub IsDoneCause : Option Signature → (values : List Word) → Option Cause → Type 0
-  IsDoneCause None values cause = cause ≡ None
-  IsDoneCause (Some signature) values cause = IsDoneTold (var_types signature.formals) values cause
+  called_by ws = option_map (λ e. e.1) (option_and_then (export_named object.exports) (slice_get ws 2))
 
   -- why a call that begins in this line can't have this outcome
   abbrev pub IsOutcomeCause : (text : List ℕ) (line : ℕ) → (values : List Word) → Outcome → Option Cause → Type 0
@@ -138,28 +148,36 @@ module _ (signatures : List Signature) where
   IsReplyCause text line [] cause = cause ≡ cause_at (Spots.Word 2) reply_sentence
   IsReplyCause text line (word ∷ values) cause = (outcome : Outcome) × IsOutcome word outcome × IsOutcomeCause text line values outcome cause
 
-  -- the line of a number of a record of so many processes
+  -- why a call can't end, by the lines in which it begins and ends before
+  abbrev pub IsPlacedEnd : (text : List ℕ) → CallId → List Word → (begin end : Option ℕ) → Option Cause → Type 0
+  IsPlacedEnd text id rest None end cause = cause ≡ cause_at (Spots.Word 1) (not_begun_text id)
+  IsPlacedEnd text id rest (Some line) (Some other) cause = cause ≡ cause_at (Spots.Word 1) (ended_text id other)
+  IsPlacedEnd text id rest (Some line) None cause = IsReplyCause text line rest cause
+
+  -- the line of a number of a record
+  module _ (text : List ℕ) (number : ℕ) where
+    abbrev pub IsSaidBegin : CallId → List Word → Option Cause → Type 0
+    IsSaidBegin id ws cause = (said : Option (List ℕ)) × IsBeginPlace text number id said × IsPlacedBegin ws said cause
+
+    abbrev pub IsSaidEnd : CallId → List Word → Option Cause → Type 0
+    IsSaidEnd id rest cause =
+        (begin : Option ℕ) × IsLineBefore text number (Wants.Begin id) begin
+        × (end : Option ℕ) × IsLineBefore text number (Wants.End id) end × IsPlacedEnd text id rest begin end cause
+
+  -- the same where there are so many processes
   module _ (text : List ℕ) (number processes : ℕ) where
     abbrev pub IsNamedBegin : List Word → Option CallId → Option Cause → Type 0
     IsNamedBegin ws None cause = cause ≡ cause_at (Spots.Word 1) (id_sentence processes)
-    IsNamedBegin ws (Some id) cause = (said : Option (List ℕ)) × IsBeginPlace text number id said × IsPlacedBegin ws said cause
+    IsNamedBegin ws (Some id) cause = IsSaidBegin text number id ws cause
 
     -- behind a B stand the name of a call and the call
     abbrev pub IsBeginCause : List Word → Option Cause → Type 0
     IsBeginCause [] cause = cause ≡ None
     IsBeginCause (word ∷ rest) cause = (id : Option CallId) × IsCallWithin processes word id × IsNamedBegin (word ∷ rest) id cause
 
-    -- why a call can't end, by the lines in which it begins and ends before
-    abbrev pub IsPlacedEnd : CallId → List Word → (begin end : Option ℕ) → Option Cause → Type 0
-    IsPlacedEnd id rest None end cause = cause ≡ cause_at (Spots.Word 1) (not_begun_text id)
-    IsPlacedEnd id rest (Some line) (Some other) cause = cause ≡ cause_at (Spots.Word 1) (ended_text id other)
-    IsPlacedEnd id rest (Some line) None cause = IsReplyCause text line rest cause
-
     abbrev pub IsNamedEnd : List Word → Option CallId → Option Cause → Type 0
     IsNamedEnd rest None cause = cause ≡ cause_at (Spots.Word 1) (id_sentence processes)
-    IsNamedEnd rest (Some id) cause =
-        (begin : Option ℕ) × IsLineBefore text number (Wants.Begin id) begin
-        × (end : Option ℕ) × IsLineBefore text number (Wants.End id) end × IsPlacedEnd id rest begin end cause
+    IsNamedEnd rest (Some id) cause = IsSaidEnd text number id rest cause
 
     -- behind an E stand the name of a call and its reply
     abbrev pub IsEndCause : List Word → Option Cause → Type 0

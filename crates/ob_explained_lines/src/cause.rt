@@ -3,8 +3,7 @@
 ghost use Rattle.std.specs.Prelude.{◌≡◌, ◌<◌, ◌-◌, ℕ, [], IfOk, IfSome, List, None, Option, Some, length, map, option_map, slice_get, string_bytes, unwrap_or};
 ghost use Rattle.ob_explain_arguments.specs.Calls.{told_of};
 ghost use Rattle.ob_explain_arguments.specs.Misfits.{TellsMisfit};
-ghost use Rattle.ob_explained_lines.specs.Causes.{IsBeginCause, IsCallsCause, IsCountedCause, IsDoneCause, IsEndCause, IsLetter, IsLetterCause, IsLineCause, IsDoneTold, IsNamedEnd, IsOutcome, IsOutcomeCause, IsPlacedBegin, IsPlacedEnd, IsProcessCount, IsReplyCause, IsStranger, IsWordsCause, begin_told, called_by, cause_at, cause_of, done_told, has_budget, id_sentence, line_words, reply_sentence, told_spot, trap_sentence};
-ghost use Rattle.ob_explained_lines.specs.CallPlaces.{IsBeginPlace};
+ghost use Rattle.ob_explained_lines.specs.Causes.{IsBeginCause, IsCallsCause, IsCountedCause, IsDoneCause, IsEndCause, IsLetter, IsLetterCause, IsLineCause, IsDoneTold, IsSaidBegin, IsSaidEnd, IsOutcome, IsOutcomeCause, IsPlacedBegin, IsPlacedEnd, IsProcessCount, IsReplyCause, IsStranger, IsWordsCause, begin_told, called_by, cause_at, cause_of, done_told, has_budget, id_sentence, line_words, object_of, reply_sentence, told_spot, trap_sentence};
 ghost use Rattle.ob_interface.specs.Export.{var_types};
 ghost use Rattle.ob_interface.specs.View.{signature_of};
 
@@ -20,6 +19,13 @@ use ob_text_words::numbers::{push_number, read_numeral};
 use ob_text_words::words::words_of;
 use std::alloc::{AllocError, Global};
 use wf_history::CallId;
+
+/// The text of a module, and its exports.
+#[derive(Clone, Copy)]
+pub struct Object<'a> {
+    pub text: &'a [u8],
+    pub exports: &'a [Export],
+}
 
 /// A word of a line.
 #[derive(Clone, Copy)]
@@ -63,14 +69,14 @@ enum Outcome {
 /// neither one of an event nor the order.
 pub fn line_cause(
     alloc: Global,
-    exports: &[Export],
+    object: Object<'_>,
     text: &[u8],
     number: usize,
 ) -> Result<Option<Cause>, AllocError>
-    ensures { IfOk result (λ cause. IsLineCause (map signature_of exports.now) text.now number (option_map cause_of cause)) }
+    ensures { IfOk result (λ cause. IsLineCause (object_of object.entry) text.now number (option_map cause_of cause)) }
 {
     let processes = process_count(alloc, text)?;
-    counted_cause(alloc, exports, text, number, processes)
+    counted_cause(alloc, object, text, number, processes)
 }
 
 /// How many processes there are, by the second line.
@@ -129,17 +135,17 @@ fn line_at<'a>(lines: &[&'a [u8]], number: usize) -> &'a [u8]
 /// Why a line can't stand where it does, with the number of processes that the second line says.
 fn counted_cause(
     alloc: Global,
-    exports: &[Export],
+    object: Object<'_>,
     text: &[u8],
     number: usize,
     processes: Option<usize>,
 ) -> Result<Option<Cause>, AllocError>
-    ensures { IfOk result (λ cause. IsCountedCause (map signature_of exports.now) text.now number processes (option_map cause_of cause)) }
+    ensures { IfOk result (λ cause. IsCountedCause (object_of object.entry) text.now number processes (option_map cause_of cause)) }
 {
     match processes {
         Some(processes) => {
             let words = line_words(alloc, text, number)?;
-            words_cause(alloc, exports, text, number, processes, &words)
+            words_cause(alloc, object, text, number, processes, &words)
         }
         None => Ok(None),
     }
@@ -148,19 +154,19 @@ fn counted_cause(
 /// Why a line of these words can't stand where it does.
 fn words_cause(
     alloc: Global,
-    exports: &[Export],
+    object: Object<'_>,
     text: &[u8],
     number: usize,
     processes: usize,
     words: &[&[u8]],
 ) -> Result<Option<Cause>, AllocError>
-    ensures { IfOk result (λ cause. IsWordsCause (map signature_of exports.now) text.now number processes (map (λ w. w.now) words.now) (option_map cause_of cause)) }
+    ensures { IfOk result (λ cause. IsWordsCause (object_of object.entry) text.now number processes (map (λ w. w.now) words.now) (option_map cause_of cause)) }
 {
     let Some((first, rest)) = words.split_first() else {
         return Ok(None);
     };
     let letter = letter_of(first);
-    letter_cause(alloc, exports, text, number, processes, letter, rest)
+    letter_cause(alloc, object, text, number, processes, letter, rest)
 }
 
 /// What a line tells by its first word.
@@ -178,18 +184,18 @@ fn letter_of(word: &[u8]) -> Letter
 /// Why a line can't stand where it does, by what it tells and by the words behind the first one.
 fn letter_cause(
     alloc: Global,
-    exports: &[Export],
+    object: Object<'_>,
     text: &[u8],
     number: usize,
     processes: usize,
     letter: Letter,
     words: &[&[u8]],
 ) -> Result<Option<Cause>, AllocError>
-    ensures { IfOk result (λ cause. IsLetterCause (map signature_of exports.now) text.now number processes letter (map (λ w. w.now) words.now) (option_map cause_of cause)) }
+    ensures { IfOk result (λ cause. IsLetterCause (object_of object.entry) text.now number processes letter (map (λ w. w.now) words.now) (option_map cause_of cause)) }
 {
     match letter {
-        Letter::Begin => begin_cause(alloc, exports, text, number, processes, words),
-        Letter::End => end_cause(alloc, exports, text, number, processes, words),
+        Letter::Begin => begin_cause(alloc, object, text, number, processes, words),
+        Letter::End => end_cause(alloc, object, text, number, processes, words),
         Letter::Calls => calls_cause(alloc, processes, words),
         Letter::Other => Ok(None),
     }
@@ -249,19 +255,19 @@ fn first_stranger(processes: usize, words: &[&[u8]]) -> Option<usize>
 /// Why a call of these words can't begin, which are its name and the call.
 fn begin_cause(
     alloc: Global,
-    exports: &[Export],
+    object: Object<'_>,
     text: &[u8],
     number: usize,
     processes: usize,
     words: &[&[u8]],
 ) -> Result<Option<Cause>, AllocError>
-    ensures { IfOk result (λ cause. IsBeginCause (map signature_of exports.now) text.now number processes (map (λ w. w.now) words.now) (option_map cause_of cause)) }
+    ensures { IfOk result (λ cause. IsBeginCause (object_of object.entry) text.now number processes (map (λ w. w.now) words.now) (option_map cause_of cause)) }
 {
     let Some((word, _rest)) = words.split_first() else {
         return Ok(None);
     };
     match call_within(processes, word) {
-        Some(id) => placed_begin(alloc, exports, text, number, id, words),
+        Some(id) => placed_begin(alloc, object, text, number, id, words),
         None => told(Spot::Word(1), id_sentence(alloc, processes)?),
     }
 }
@@ -269,29 +275,29 @@ fn begin_cause(
 /// Why a call can't begin there, or what of its words doesn't fit.
 fn placed_begin(
     alloc: Global,
-    exports: &[Export],
+    object: Object<'_>,
     text: &[u8],
     number: usize,
     id: CallId,
     words: &[&[u8]],
 ) -> Result<Option<Cause>, AllocError>
-    ensures { IfOk result (λ cause. (said : Option (List ℕ)) × IsBeginPlace text.now number id said × IsPlacedBegin (map signature_of exports.now) (map (λ w. w.now) words.now) said (option_map cause_of cause)) }
+    ensures { IfOk result (λ cause. IsSaidBegin (object_of object.entry) text.now number id (map (λ w. w.now) words.now) (option_map cause_of cause)) }
 {
     match begin_place(alloc, text, number, id)? {
         Some(sentence) => told(Spot::Word(1), sentence),
-        None => unfit_begin(alloc, exports, words),
+        None => unfit_begin(alloc, object, words),
     }
 }
 
 /// What of the words of a call doesn't fit.
 fn unfit_begin(
     alloc: Global,
-    exports: &[Export],
+    object: Object<'_>,
     words: &[&[u8]],
 ) -> Result<Option<Cause>, AllocError>
-    ensures { IfOk result (λ cause. IsPlacedBegin (map signature_of exports.now) (map (λ w. w.now) words.now) None (option_map cause_of cause)) }
+    ensures { IfOk result (λ cause. IsPlacedBegin (object_of object.entry) (map (λ w. w.now) words.now) None (option_map cause_of cause)) }
 {
-    let told = told_call(alloc, exports, words)?;
+    let told = told_call(alloc, object.text, object.exports, words)?;
     Ok(begin_told(told))
 }
 
@@ -321,19 +327,19 @@ fn told_spot(value: Option<usize>) -> Spot
 /// Why a call of these words can't end, which are its name and its reply.
 fn end_cause(
     alloc: Global,
-    exports: &[Export],
+    object: Object<'_>,
     text: &[u8],
     number: usize,
     processes: usize,
     words: &[&[u8]],
 ) -> Result<Option<Cause>, AllocError>
-    ensures { IfOk result (λ cause. IsEndCause (map signature_of exports.now) text.now number processes (map (λ w. w.now) words.now) (option_map cause_of cause)) }
+    ensures { IfOk result (λ cause. IsEndCause (object_of object.entry) text.now number processes (map (λ w. w.now) words.now) (option_map cause_of cause)) }
 {
     let Some((word, rest)) = words.split_first() else {
         return Ok(None);
     };
     match call_within(processes, word) {
-        Some(id) => named_end(alloc, exports, text, number, id, rest),
+        Some(id) => named_end(alloc, object, text, number, id, rest),
         None => told(Spot::Word(1), id_sentence(alloc, processes)?),
     }
 }
@@ -341,52 +347,52 @@ fn end_cause(
 /// Why this call can't end there.
 fn named_end(
     alloc: Global,
-    exports: &[Export],
+    object: Object<'_>,
     text: &[u8],
     number: usize,
     id: CallId,
     words: &[&[u8]],
 ) -> Result<Option<Cause>, AllocError>
-    ensures { (processes : ℕ) → IfOk result (λ cause. IsNamedEnd (map signature_of exports.now) text.now number processes (map (λ w. w.now) words.now) (Some id) (option_map cause_of cause)) }
+    ensures { IfOk result (λ cause. IsSaidEnd (object_of object.entry) text.now number id (map (λ w. w.now) words.now) (option_map cause_of cause)) }
 {
     let begin = line_before(alloc, text, number, Wanted::Begin(id))?;
     let end = line_before(alloc, text, number, Wanted::End(id))?;
-    placed_end(alloc, exports, text, id, begin, end, words)
+    placed_end(alloc, object, text, id, begin, end, words)
 }
 
 /// Why it can't end, by the lines in which it begins and ends before.
 fn placed_end(
     alloc: Global,
-    exports: &[Export],
+    object: Object<'_>,
     text: &[u8],
     id: CallId,
     begin: Option<usize>,
     end: Option<usize>,
     words: &[&[u8]],
 ) -> Result<Option<Cause>, AllocError>
-    ensures { IfOk result (λ cause. IsPlacedEnd (map signature_of exports.now) text.now id (map (λ w. w.now) words.now) begin end (option_map cause_of cause)) }
+    ensures { IfOk result (λ cause. IsPlacedEnd (object_of object.entry) text.now id (map (λ w. w.now) words.now) begin end (option_map cause_of cause)) }
 {
     match (begin, end) {
         (None, _) => told(Spot::Word(1), not_begun_text(alloc, id)?),
         (Some(_), Some(line)) => told(Spot::Word(1), ended_text(alloc, id, line)?),
-        (Some(line), None) => reply_cause(alloc, exports, text, line, words),
+        (Some(line), None) => reply_cause(alloc, object, text, line, words),
     }
 }
 
 /// Why these words can't be the reply to a call that begins in the line of a number.
 fn reply_cause(
     alloc: Global,
-    exports: &[Export],
+    object: Object<'_>,
     text: &[u8],
     line: usize,
     words: &[&[u8]],
 ) -> Result<Option<Cause>, AllocError>
-    ensures { IfOk result (λ cause. IsReplyCause (map signature_of exports.now) text.now line (map (λ w. w.now) words.now) (option_map cause_of cause)) }
+    ensures { IfOk result (λ cause. IsReplyCause (object_of object.entry) text.now line (map (λ w. w.now) words.now) (option_map cause_of cause)) }
 {
     let Some((word, values)) = words.split_first() else {
         return told(Spot::Word(2), reply_sentence(alloc)?);
     };
-    outcome_cause(alloc, exports, text, line, outcome_of(word), values)
+    outcome_cause(alloc, object, text, line, outcome_of(word), values)
 }
 
 /// What stands behind a call that ends.
@@ -413,16 +419,16 @@ fn outcome_of(word: &[u8]) -> Outcome
 /// Why a call that begins in the line of a number can't have this outcome.
 fn outcome_cause(
     alloc: Global,
-    exports: &[Export],
+    object: Object<'_>,
     text: &[u8],
     line: usize,
     outcome: Outcome,
     values: &[&[u8]],
 ) -> Result<Option<Cause>, AllocError>
-    ensures { IfOk result (λ cause. IsOutcomeCause (map signature_of exports.now) text.now line (map (λ w. w.now) values.now) outcome (option_map cause_of cause)) }
+    ensures { IfOk result (λ cause. IsOutcomeCause (object_of object.entry) text.now line (map (λ w. w.now) values.now) outcome (option_map cause_of cause)) }
 {
     match outcome {
-        Outcome::Done => called_done(alloc, exports, text, line, values),
+        Outcome::Done => called_done(alloc, object, text, line, values),
         Outcome::Trap => told(Spot::Value(0), trap_sentence(alloc)?),
         Outcome::Other => told(Spot::Word(2), reply_sentence(alloc)?),
     }
@@ -441,26 +447,26 @@ fn trap_sentence(alloc: Global) -> Result<String, AllocError>
 /// Why these can't be the values of a call that begins in the line of a number.
 fn called_done(
     alloc: Global,
-    exports: &[Export],
+    object: Object<'_>,
     text: &[u8],
     line: usize,
     values: &[&[u8]],
 ) -> Result<Option<Cause>, AllocError>
-    ensures { IfOk result (λ cause. IsDoneCause (map signature_of exports.now) (called_by (map signature_of exports.now) (line_words text.now line)) (map (λ w. w.now) values.now) (option_map cause_of cause)) }
+    ensures { IfOk result (λ cause. IsDoneCause (called_by (object_of object.entry) (line_words text.now line)) (map (λ w. w.now) values.now) (option_map cause_of cause)) }
 {
     let words = line_words(alloc, text, line)?;
-    match called_by(exports, &words) {
+    match called_by(object, &words) {
         Some(export) => done_cause(alloc, &export.formals, values),
         None => Ok(None),
     }
 }
 
 /// The export that a line of these words calls.
-fn called_by<'a>(exports: &'a [Export], words: &[&[u8]]) -> Option<&'a Export>
-    ensures { option_map (λ e. signature_of e.now) result ≡ called_by (map signature_of exports.now) (map (λ w. w.now) words.now) }
+fn called_by<'a>(object: Object<'a>, words: &[&[u8]]) -> Option<&'a Export>
+    ensures { option_map (λ e. signature_of e.now) result ≡ called_by (object_of object.entry) (map (λ w. w.now) words.now) }
 {
     let name = words.get(2)?;
-    let (_number, export) = export_named(exports, name)?;
+    let (_number, export) = export_named(object.exports, name)?;
     Some(export)
 }
 
