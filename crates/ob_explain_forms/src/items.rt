@@ -1,8 +1,8 @@
 //! Words of a schedule that are no items.
 
 ghost use Rattle.std.specs.Prelude.{◌≡◌, ◌≤◌, length};
-ghost use Rattle.std.specs.Char.{is_ascii_digit};
-ghost use Rattle.std.specs.List.{prefix_len};
+ghost use Rattle.std.specs.Char.{is_ascii_digit, is_ascii_lowercase};
+ghost use Rattle.std.specs.List.{list_any, prefix_len};
 ghost use Rattle.ob_explain_forms.specs.Items.{deed_sentence, item_sentence, label_sentence, numbered_sentence};
 
 use crate::lines::begins_comment;
@@ -71,9 +71,16 @@ fn deed_sentence(behind: &[u8]) -> &'static str
 fn label_sentence(label: &[u8]) -> &'static str
     ensures { result.now ≡ label_sentence label.now }
 {
-    if label.iter().any(|byte| byte.is_ascii_lowercase()) {
+    if has_small_letter(label) {
         "labels are written in capitals, as 0:TRY; they are NEXT, POST, FLIP, TRY, LINK, LOAD, STORE, CHECK1, MINE, SEEN, FETCH, CHECK2, SAVE, ENTER, BODY, UNDO, KEEP, COMMIT, READ, TAKE and GIVE"
     } else {
         "behind : stands a label, with no blank before it; they are NEXT, POST, FLIP, TRY, LINK, LOAD, STORE, CHECK1, MINE, SEEN, FETCH, CHECK2, SAVE, ENTER, BODY, UNDO, KEEP, COMMIT, READ, TAKE and GIVE"
     }
+}
+
+/// Whether a small letter stands in a word.
+fn has_small_letter(word: &[u8]) -> bool
+    ensures { result ≡ list_any is_ascii_lowercase word.now }
+{
+    word.iter().any(|byte| byte.is_ascii_lowercase())
 }

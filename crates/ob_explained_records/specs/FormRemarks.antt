@@ -60,7 +60,11 @@ abbrev pub IsBodyCause : (budget : Bool) → (object text : List ℕ) → (numbe
 IsBodyCause true object text number cause = cause ≡ budget_cause
 IsBodyCause false object text number cause = IsModuleCause object text number cause
 
--- of a line of the head, or one behind the order, or any other
+-- a line of the head, or one behind the order
+abbrev pub is_apart : (number : ℕ) → (behind_order : Bool) → Bool
+is_apart number behind_order = nat_le number 2 || behind_order
+
+-- of such a line, or of any other
 abbrev pub IsFormCause : (apart : Bool) → (object text : List ℕ) → (number : ℕ) → Option Cause → Type 0
 IsFormCause true object text number cause = cause ≡ None
 IsFormCause false object text number cause = IsBodyCause (is_budget_line number (has_budget (line_words text 1))) object text number cause
@@ -75,5 +79,5 @@ pub record IsFormRemark (object text : List ℕ) (number : ℕ) (remark : Option
   pub order : Option ℕ
   pub is_order : IsLine text Wants.Order order
   pub cause : Option Cause
-  pub is_cause : IsFormCause (nat_le number 2 || is_behind order number) object text number cause
+  pub is_cause : IsFormCause (is_apart number (is_behind order number)) object text number cause
   pub says : remark ≡ told_form text number (is_behind order number) cause

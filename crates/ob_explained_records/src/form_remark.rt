@@ -6,7 +6,7 @@ ghost use Rattle.ob_explain.specs.Remarks.{remark_of};
 ghost use Rattle.ob_explained.specs.Marks.{MarksWord};
 ghost use Rattle.ob_explained.specs.ScriptPlaces.{in_line, word_place};
 ghost use Rattle.ob_explained_lines.specs.Causes.{IsLineCause, cause_of, words_before};
-ghost use Rattle.ob_explained_records.specs.FormRemarks.{IsBodyCause, IsFormCause, IsFormRemark, IsModuleCause, budget_cause, form_sentence, is_behind, letter_sentence, told_form};
+ghost use Rattle.ob_explained_records.specs.FormRemarks.{IsBodyCause, IsFormCause, IsFormRemark, IsModuleCause, budget_cause, form_sentence, is_apart, is_behind, is_budget_line, letter_sentence, told_form};
 ghost use Rattle.ob_interface.specs.View.{signature_of};
 ghost use Rattle.ob_typing.specs.ModuleText.{IsModule};
 ghost use Rattle.ob_typing.specs.Program.{Program};
@@ -35,7 +35,8 @@ pub fn form_remark(
 {
     let order = first_line(alloc, text, Wanted::Order)?;
     let behind_order = is_behind(order, number);
-    let cause = form_cause(alloc, object, text, number, number <= 2 || behind_order)?;
+    let apart = is_apart(number, behind_order);
+    let cause = form_cause(alloc, object, text, number, apart)?;
     told_form(alloc, text, number, behind_order, cause)
 }
 
@@ -47,6 +48,20 @@ fn is_behind(other: Option<usize>, number: usize) -> bool
         Some(other) => other < number,
         None => false,
     }
+}
+
+/// Whether the line of a number is one of the head, or stands behind the order.
+fn is_apart(number: usize, behind_order: bool) -> bool
+    ensures { result ≡ is_apart number behind_order }
+{
+    number <= 2 || behind_order
+}
+
+/// Whether the line of a number is that of the budget, in a record with a budget or without.
+fn is_budget_line(number: usize, budget: bool) -> bool
+    ensures { result ≡ is_budget_line number budget }
+{
+    number == 3 && budget
 }
 
 /// Why a line can't stand where it does, where it stands between the head and the order.
@@ -63,7 +78,7 @@ fn form_cause(
         Ok(None)
     } else {
         let budget = has_budget(alloc, text)?;
-        body_cause(alloc, object, text, number, number == 3 && budget)
+        body_cause(alloc, object, text, number, is_budget_line(number, budget))
     }
 }
 
