@@ -5,6 +5,8 @@ use Rattle.std.proofs.lemmas.List.{length-map}
 use Rattle.std.proofs.lemmas.Option.{same_Some, slice_get-get_or, slice_get-map, slice_get_within}
 use Rattle.ob_text_words.specs.Words.{Word, words}
 use Rattle.ob_explained_lines.specs.CallNames.{IsFirstNaming, Names}
+use Rattle.ob_explained_lines.specs.CallPlaces.{NamesNoCall}
+use Rattle.ob_explained_lines.specs.Causes.{IsFirstStranger}
 use Rattle.ob_explained_lines.specs.Lines.{IsFirstLine, Says, SaysCall}
 use Rattle.ob_explained_lines.specs.declared.record_line.Wanted.{Wanted}
 use Rattle.wf_history.specs.declared.event.CallId.{CallId}
@@ -52,6 +54,17 @@ word_found id ws n word d within is before names =
       word = word.now;
       here = item_here (λ (w : Bor Word). w.now) (λ (w : Word). Names w id) ws n word d within is;
       names = names;
+      earlier = before;
+    }
+
+-- the first word that names no call
+pub stranger_found : (processes : ℕ) (ws : List (Bor Word)) (n : ℕ) (word d : Bor Word) → n < length ws → word ≡ get_or ws n d
+    → HoldsOfNone (λ (w : Bor Word). w.now) (NamesNoCall processes) ws n → NamesNoCall processes word.now → IsFirstStranger processes (map (λ (w : Bor Word). w.now) ws) n
+stranger_found processes ws n word d within is before none =
+    record {
+      word = word.now;
+      here = item_here (λ (w : Bor Word). w.now) (NamesNoCall processes) ws n word d within is;
+      names_none = none;
       earlier = before;
     }
 

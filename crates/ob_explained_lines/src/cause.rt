@@ -1,8 +1,9 @@
 //! Why a line of a record can't stand where it does.
 
-ghost use Rattle.std.specs.Prelude.{◌≡◌, ◌<◌, ◌-◌, ℕ, [], IfOk, IfSome, List, None, Option, Some, length, map, option_map, slice_get, string_bytes, unwrap_or};
+ghost use Rattle.std.specs.Prelude.{◌≡◌, ◌↔◌, ◌<◌, ◌-◌, ℕ, [], IfOk, IfSome, IsTrue, List, None, Option, Some, length, map, option_map, slice_get, string_bytes, unwrap_or};
 ghost use Rattle.ob_explain_arguments.specs.Calls.{told_of};
 ghost use Rattle.ob_explain_arguments.specs.Misfits.{TellsMisfit};
+ghost use Rattle.ob_explained_lines.specs.CallPlaces.{NamesNoCall};
 ghost use Rattle.ob_explained_lines.specs.Causes.{IsBeginCause, IsCallsCause, IsCountedCause, IsDoneCause, IsEndCause, IsLetter, IsLetterCause, IsLineCause, IsDoneTold, IsSaidBegin, IsSaidEnd, IsOutcome, IsOutcomeCause, IsPlacedBegin, IsPlacedEnd, IsProcessCount, IsReplyCause, IsStranger, IsWordsCause, begin_told, called_by, cause_at, cause_of, done_told, has_budget, id_sentence, line_words, object_of, reply_sentence, told_spot, trap_sentence};
 ghost use Rattle.ob_interface.specs.Export.{var_types};
 ghost use Rattle.ob_interface.specs.View.{signature_of};
@@ -245,11 +246,21 @@ fn first_stranger(processes: usize, words: &[&[u8]]) -> Option<usize>
     ensures below { IfSome result (λ k. k < length words.now) }
 {
     for (index, word) in words.iter().enumerate() {
-        if call_within(processes, word).is_none() {
+        if is_stranger(processes, word) {
             return Some(index);
         }
     }
     None
+}
+
+/// Whether a word names no call of so many processes.
+fn is_stranger(processes: usize, word: &[u8]) -> bool
+    ensures { IsTrue result ↔ NamesNoCall processes word.now }
+{
+    match call_within(processes, word) {
+        Some(_id) => false,
+        None => true,
+    }
 }
 
 /// Why a call of these words can't begin, which are its name and the call.
