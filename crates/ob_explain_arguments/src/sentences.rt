@@ -39,11 +39,7 @@ fn private_sentence(alloc: Global, exports: &[Export]) -> Result<String, AllocEr
 }
 
 /// Of a name that is none of an export.
-fn unknown_sentence(
-    alloc: Global,
-    exports: &[Export],
-    name: &[u8],
-) -> Result<String, AllocError>
+fn unknown_sentence(alloc: Global, exports: &[Export], name: &[u8]) -> Result<String, AllocError>
     ensures { IfOk result (λ sentence. string_bytes sentence ≡ unknown_sentence (map signature_of exports.now) name.now) }
 {
     let mut sentence = String::from_str(

@@ -16,7 +16,11 @@ pub fn call_within(processes: usize, word: &[u8]) -> Option<CallId>
     ensures { IsCallWithin processes word.now result }
 {
     let id = call_named(word)?;
-    if id.process < processes { Some(id) } else { None }
+    if id.process < processes {
+        Some(id)
+    } else {
+        None
+    }
 }
 
 /// The first line before that of a number which says what is looked for.

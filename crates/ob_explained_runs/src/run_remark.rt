@@ -8,8 +8,8 @@ ghost use Rattle.ob_explained_runs.specs.ItemMarks.{BeginsItem, IsItemMark};
 ghost use Rattle.ob_explained_runs.specs.RunRemarks.{IsRunScriptRemark, long_item_remark, processes_sentence, schedule_remark};
 
 use crate::item_place::{item_at, item_place};
-use ob_explain_forms::items::item_sentence;
 use ob_explain::remark::Remark;
+use ob_explain_forms::items::item_sentence;
 use ob_explained::call_remark::calls_remark;
 use ob_explained::script_place::{first_place, script_line};
 use ob_schedule::ScheduleFault;
