@@ -1,5 +1,6 @@
 -- What the words of the command line ask for, by what clap makes of them.
 use Rattle.std.specs.Prelude.{ℕ, ◌==◌, ◌&&◌, ◌||◌, Bool, true, false, List, [], ◌∷◌, Option, Some, None, is_some, nat_le, option_and_then, option_map, unwrap_or, codes, if◌then◌else◌}
+use Rattle.std.specs.Char.{is_ascii_digit}
 use Rattle.std.specs.List.{after_first, before_first, list_any}
 use Rattle.std.specs.Option.{option_map_or}
 use Rattle.std.specs.Str.{bytes_eq}
@@ -205,10 +206,10 @@ command_of name rows = option_and_then (λ module_name.
     else if bytes_eq name (codes "bound") then bound_of module_name rows
     else None) (first_of (codes "MODULE") rows)
 
--- what is said of words that clap accepts behind `draw`, and that name neither a run nor a record
+-- what is said of words that clap accepts behind `draw`, and that are in none of its forms
 abbrev pub draw_mistake : Text
 draw_mistake =
-    codes "error: a run is drawn by MODULE SCRIPT SCHEDULE -n N, and a record by MODULE RECORD without -n and -b\n\nFor more information, try '--help'.\n"
+    codes "error: these words are in no form of draw, which are\n  obl0 draw MODULE SCRIPT SCHEDULE -n N [-b BUDGET] [--calls FROM-TO]\n  obl0 draw MODULE RECORD [--calls FROM-TO]\n\nFor more information, try '--help'.\n"
 
 -- and of a word behind `--calls` that names no calls
 abbrev pub calls_mistake : Text
@@ -218,11 +219,24 @@ calls_mistake =
 -- and of words behind `explain` that are in none of its forms
 abbrev pub explain_mistake : Text
 explain_mistake =
-    codes "error: a run is explained by MODULE SCRIPT SCHEDULE -n N, a record by MODULE --record RECORD alone, and traps by MODULE SCRIPT --traps\n\nFor more information, try '--help'.\n"
+    codes "error: these words are in no form of explain, which are\n  obl0 explain MODULE\n  obl0 explain MODULE SCRIPT [-b BUDGET] [--traps]\n  obl0 explain MODULE SCRIPT SCHEDULE -n N [-b BUDGET]\n  obl0 explain MODULE --record RECORD\n\nFor more information, try '--help'.\n"
 
 -- and of words behind `run` that ask for own steps by the tree
 abbrev pub run_mistake : Text
 run_mistake = codes "error: --tree and --steps don't stand together\n\nFor more information, try '--help'.\n"
+
+-- and behind which options which numbers stand
+abbrev pub number_sentence : Text
+number_sentence =
+    codes "behind -n stands the number of processes, 1 to 16, and behind -b how many turns each call has, 0 to 1000000\n\nFor more information, try '--help'.\n"
+
+-- a number below 0, or else no word that there is: a `-` and a digit
+abbrev pub is_negative : Text → Bool
+is_negative (b ∷ d ∷ rest) = b == 45 && is_ascii_digit d
+is_negative _ = false
+
+abbrev pub has_negative : List Text → Bool
+has_negative words = list_any is_negative words
 
 -- What is said where the words of a command that has several forms have none of these. Every other command has one form, which clap tests.
 abbrev pub form_mistake : Text → List Row → Option Text

@@ -1,5 +1,6 @@
 -- What `read_command` answers to a request.
-use Rattle.std.specs.Prelude.{◌≡◌, ◌≢◌, ◌⊎◌, List, [], Result, Some, Ok, Err, option_map, string_bytes}
+use Rattle.std.specs.Prelude.{◌≡◌, ◌≢◌, ◌⊎◌, ◌++◌, ◌||◌, Bool, true, false, List, [], Result, Some, Ok, Err, option_map, string_bytes}
+use Rattle.std.specs.List.{list_all}
 use Rattle.clap.specs.Words.{fault_of}
 use Rattle.clap.specs.declared.error.kind.ErrorKind.{ErrorKind}
 use Rattle.clap.specs.declared.error.kind.ErrorKind.TheVariants as kind
@@ -9,7 +10,7 @@ use Rattle.ob_command.specs.declared.command.RunCommand.{RunCommand}
 use Rattle.ob_command.specs.declared.command.Stop.{Stop}
 use Rattle.ob_command.specs.declared.command.Stop.TheVariants as stops
 use Rattle.ob_command_line.specs.ClapCommand.{obl0_app}
-use Rattle.ob_command.specs.CommandLine.{Text, form_mistake_of, Request, RunRequest, Check, Listing, Seq, Run, RunTree, RunSteps, Serve, Draw, DrawRecord, Verify, Explain, ExplainTraps, ExplainRun, ExplainRecord, Bound, Help, Version, Unclear}
+use Rattle.ob_command.specs.CommandLine.{Text, form_mistake_of, has_negative, number_sentence, Request, RunRequest, Check, Listing, Seq, Run, RunTree, RunSteps, Serve, Draw, DrawRecord, Verify, Explain, ExplainTraps, ExplainRun, ExplainRecord, Bound, Help, Version, Unclear}
 
 -- what a command asks for
 abbrev pub run_request_of : RunCommand → RunRequest
@@ -46,14 +47,33 @@ IsReading request (Err stops.Version) = request ≡ Version
 IsReading request (Err (stops.Unclear text)) = request ≡ Unclear
 IsReading request (Err stops.NoMemory) = Unit {0}
 
+-- what is said ends with which numbers there are
+abbrev pub SaysNumbers : Text → Type 0
+SaysNumbers text = (before : Text) × (text ≡ before ++ number_sentence)
+
+-- a value is none of its option's
+abbrev pub is_value : ErrorKind → Bool
+is_value kind.ValueValidation = true
+is_value k = false
+
+-- a mistake is one of a number: of a value, or of words with a number below 0
+abbrev pub is_of_number : (negative : Bool) → ErrorKind → Bool
+is_of_number negative k = is_value k || negative
+
+-- Clap finds a fault in the words, and it is told which numbers there are where each one that it may tell is of a number.
+abbrev pub IsWordFault : List Text → (text : Text) → Type 0
+IsWordFault words text =
+    (fault_of obl0_app words ≢ []) × (list_all (is_of_number (has_negative words)) (fault_of obl0_app words) ≡ true → SaysNumbers text)
+
 -- Where these words are no command, clap finds a fault in them, or they have no form of a command that has several, and that is said.
 abbrev pub IsMistake : List Text → Result command.Command Stop → Type 0
-IsMistake words (Err (stops.Unclear text)) = (fault_of obl0_app words ≢ []) ⊎ (form_mistake_of words ≡ Some (string_bytes text))
+IsMistake words (Err (stops.Unclear text)) = IsWordFault words (string_bytes text) ⊎ (form_mistake_of words ≡ Some (string_bytes text))
 IsMistake words _ = Unit {0}
 
 -- what a kind of error stops for
-abbrev pub IsStopOf : ErrorKind → Stop → Type 0
-IsStopOf k (stops.Help text) = k ≡ kind.DisplayHelp
-IsStopOf k stops.Version = ⊥
-IsStopOf k (stops.Unclear text) = (k ≢ kind.DisplayHelp) × (k ≢ kind.OutOfMemory)
-IsStopOf k stops.NoMemory = k ≡ kind.OutOfMemory
+abbrev pub IsStopOf : (negative : Bool) → ErrorKind → Stop → Type 0
+IsStopOf negative k (stops.Help text) = k ≡ kind.DisplayHelp
+IsStopOf negative k stops.Version = ⊥
+IsStopOf negative k (stops.Unclear text) =
+    (k ≢ kind.DisplayHelp) × (k ≢ kind.OutOfMemory) × (is_of_number negative k ≡ true → SaysNumbers (string_bytes text))
+IsStopOf negative k stops.NoMemory = k ≡ kind.OutOfMemory

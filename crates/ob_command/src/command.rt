@@ -1,9 +1,9 @@
 //! The command line.
 
-ghost use Rattle.std.specs.Prelude.{◌≡◌, IfOk, map, option_map, is_some};
+ghost use Rattle.std.specs.Prelude.{◌≡◌, ◌++◌, IfOk, is_some, map, option_map, string_bytes, true};
 ghost use Rattle.clap.specs.Words.{first_of, found_of, kind_of, rows_of};
-ghost use Rattle.ob_command.specs.CommandLine.{asks_version, bound_of, budget_of, calls_between, calls_in, calls_of, clap_request, clap_words, command_of, draw_of, draw_record_of, explain_calls_of, explain_of, explain_record_of, explain_texts_of, explain_traps_of, form_mistake, help_of_command, help_words, is_set, is_version_option, made_of, place_number, request, run_of, serve_of, traps_of};
-ghost use Rattle.ob_command.specs.Commands.{IsMistake, IsReading, IsStopOf, request_of, run_request_of};
+ghost use Rattle.ob_command.specs.CommandLine.{asks_version, bound_of, budget_of, calls_between, calls_in, calls_of, clap_request, clap_words, command_of, draw_of, draw_record_of, explain_calls_of, explain_of, explain_record_of, explain_texts_of, explain_traps_of, form_mistake, has_negative, help_of_command, help_words, is_negative, is_set, is_version_option, made_of, number_sentence, place_number, request, run_of, serve_of, traps_of};
+ghost use Rattle.ob_command.specs.Commands.{IsMistake, IsReading, IsStopOf, SaysNumbers, is_of_number, is_value, request_of, run_request_of};
 ghost use Rattle.ob_command.specs.declared.command.Stop.TheVariants.{NoMemory};
 
 use clap::ArgMatches;
@@ -125,16 +125,22 @@ impl From<AllocError> for Stop {
 /// How many turns each call has where nothing is said of them.
 const DEFAULT_BUDGET: u32 = 100_000;
 
-/// What is wrong with words for a picture that name neither a run nor a record.
+/// What is wrong with words for a picture that are in none of the forms of `draw`.
 const UNCLEAR_DRAW: &str = "\
-error: a run is drawn by MODULE SCRIPT SCHEDULE -n N, and a record by MODULE RECORD without -n and -b
+error: these words are in no form of draw, which are
+  obl0 draw MODULE SCRIPT SCHEDULE -n N [-b BUDGET] [--calls FROM-TO]
+  obl0 draw MODULE RECORD [--calls FROM-TO]
 
 For more information, try '--help'.
 ";
 
 /// What is wrong with words behind `explain` that are in none of its forms.
 const UNCLEAR_EXPLAIN: &str = "\
-error: a run is explained by MODULE SCRIPT SCHEDULE -n N, a record by MODULE --record RECORD alone, and traps by MODULE SCRIPT --traps
+error: these words are in no form of explain, which are
+  obl0 explain MODULE
+  obl0 explain MODULE SCRIPT [-b BUDGET] [--traps]
+  obl0 explain MODULE SCRIPT SCHEDULE -n N [-b BUDGET]
+  obl0 explain MODULE --record RECORD
 
 For more information, try '--help'.
 ";
@@ -149,6 +155,13 @@ For more information, try '--help'.
 /// What is wrong with a word behind `--calls` that names no calls.
 const UNCLEAR_CALLS: &str = "\
 error: behind --calls stands FROM-TO, the places of the first and the last call, from 1
+
+For more information, try '--help'.
+";
+
+/// Which numbers stand behind options.
+const NUMBERS: &str = "\
+behind -n stands the number of processes, 1 to 16, and behind -b how many turns each call has, 0 to 1000000
 
 For more information, try '--help'.
 ";
@@ -230,7 +243,7 @@ fn read_words<'a>(alloc: Global, words: &'a [&'a str]) -> Result<Command<'a>, St
 {
     let matches = match command_line(alloc)?.try_get_matches_from(words) {
         Ok(matches) => matches,
-        Err(error) => return Err(stop_of(alloc, &error)?),
+        Err(error) => return Err(stop_of(alloc, &error, has_negative(words))?),
     };
     match matches.subcommand() {
         Some((name, matches)) => match command_of(name, matches) {
@@ -520,17 +533,76 @@ fn budget_of(matches: &ArgMatches<'_>) -> Option<u32>
     }
 }
 
-/// What a parse without matches stops for.
-fn stop_of(alloc: Global, error: &clap::Error) -> Result<Stop, AllocError>
-    ensures { IfOk result (IsStopOf (kind_of error.now)) }
+/// What a parse without matches stops for, of words with or without a number below 0.
+fn stop_of(alloc: Global, error: &clap::Error, negative: bool) -> Result<Stop, AllocError>
+    ensures { IfOk result (IsStopOf negative (kind_of error.now)) }
 {
     match error.kind() {
         ErrorKind::OutOfMemory => Ok(Stop::NoMemory),
         ErrorKind::DisplayHelp => Ok(Stop::Help(error.to_string(alloc)?)),
-        _ => {
+        kind => {
             let mistake = error.to_string(alloc)?;
-            Ok(Stop::Unclear(without_tip(alloc, mistake.as_str())?))
+            Ok(Stop::Unclear(mistake_text(alloc, kind, mistake.as_str(), negative)?))
         }
+    }
+}
+
+/// What is said of a mistake of a kind, by what `clap` says of it.
+fn mistake_text(
+    alloc: Global,
+    kind: ErrorKind,
+    mistake: &str,
+    negative: bool,
+) -> Result<String, AllocError>
+    ensures { IfOk result (λ text. is_of_number negative kind ≡ true → SaysNumbers (string_bytes text)) }
+{
+    if is_value(kind) {
+        number_mistake(alloc, before_value_rule(mistake))
+    } else if negative {
+        number_mistake(alloc, "error: there is no number below 0; ")
+    } else {
+        without_tip(alloc, mistake)
+    }
+}
+
+/// Whether a mistake is one of a value.
+fn is_value(kind: ErrorKind) -> bool
+    ensures { result ≡ is_value kind }
+{
+    matches!(kind, ErrorKind::ValueValidation)
+}
+
+/// What is wrong with a number, and which ones there are.
+fn number_mistake(alloc: Global, before: &str) -> Result<String, AllocError>
+    ensures { IfOk result (λ text. string_bytes text ≡ before.now ++ number_sentence) }
+{
+    let mut text = String::from_str(alloc, before)?;
+    text.push_str(NUMBERS)?;
+    Ok(text)
+}
+
+/// What `clap` says of a value, up to the words by which it tells its rule.
+fn before_value_rule(mistake: &str) -> &str {
+    match mistake.split_once(">': ") {
+        Some((before, _rule)) => &mistake[..before.len() + ">': ".len()],
+        None => "error: ",
+    }
+}
+
+/// Whether a number below 0 is among words.
+fn has_negative(words: &[&str]) -> bool
+    ensures { result ≡ has_negative (map (λ word. word.now) words.now) }
+{
+    words.iter().any(|word| is_negative(word))
+}
+
+/// Whether a word is a number below 0: it begins with a `-` and a digit.
+fn is_negative(word: &str) -> bool
+    ensures { result ≡ is_negative word.now }
+{
+    match word.as_bytes() {
+        [sign, digit, ..] => *sign == b'-' && digit.is_ascii_digit(),
+        _ => false,
     }
 }
 

@@ -13,10 +13,13 @@ use std::alloc::{AllocError, Global};
 
 const HELP_SCRIPT: &str = "The file of the calls, one a line: PROCESS PROCEDURE ARGUMENTS";
 
-const HELP_DRAWN: &str = "The file of the calls; or, with no schedule, of a record";
+const HELP_DRAWN: &str =
+    "The file of the calls; or the file of a record, as which it is read where no SCHEDULE stands behind it";
 
 const HELP_SCHEDULE: &str =
-    "The file of the items that say which process steps: PROCESS*STEPS, PROCESS:LABEL or PROCESS!";
+    "The file of the items that say which process steps: PROCESS*STEPS, PROCESS:LABEL or PROCESS!, \
+    as 0*3, 0:TRY or 0!, with blanks between them; the labels are NEXT, POST, FLIP, TRY, LINK, LOAD, \
+    STORE, CHECK1, MINE, SEEN, FETCH, CHECK2, SAVE, ENTER, BODY, UNDO, KEEP, COMMIT, READ, TAKE and GIVE";
 
 const HELP_RECORD: &str = "The file of the record, as `run` prints it";
 

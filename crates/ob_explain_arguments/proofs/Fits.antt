@@ -75,7 +75,3 @@ misfits_here types words n t w typed said says_none wanted here = record {
       (subst (λ (u : ScalarType). IsValue u (get_or words n w).now s)
       (sym (same_type (get_or types n t) wanted (sym (type_there types n (get_or types n t) t typed refl) ∙ here))) h);
 }
-
--- what is told of a name
-pub named_told : (s t : List ℕ) → s ≡ t → Some (name_told s) ≡ Some (name_told t)
-named_told s t e = ap (λ (u : List ℕ). Some (name_told u)) e

@@ -1,3 +1,4 @@
 pub mod Fits
 pub mod Searches
 pub mod Pushes
+pub mod Declares

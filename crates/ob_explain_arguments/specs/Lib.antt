@@ -1,4 +1,5 @@
 pub mod Misfits
 pub mod Near
 pub mod Sentences
+pub mod DeclaredNames
 pub mod Calls

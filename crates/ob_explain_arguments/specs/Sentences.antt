@@ -1,5 +1,5 @@
 -- What is said of a call of no export, and of values that don't fit.
-use Rattle.std.specs.Prelude.{ℕ, ◌==◌, List, [], ◌∷◌, ◌++◌, codes, decimal, length, Option, Some, None, if◌then◌else◌}
+use Rattle.std.specs.Prelude.{ℕ, Bool, ◌==◌, List, [], ◌∷◌, ◌++◌, codes, decimal, length, Option, Some, None, if◌then◌else◌}
 use Rattle.ob_interface.specs.declared.scalar.ScalarType.{ScalarType}
 use Rattle.ob_interface.specs.declared.scalar.ScalarType.TheVariants.{Integer, Boolean}
 use Rattle.ob_interface.specs.Export.{Signature}
@@ -33,6 +33,16 @@ abbrev pub unknown_sentence : List Signature → Word → List ℕ
 unknown_sentence signatures name =
     codes "a call names a procedure that the module exports, which has a * behind its name there" ++ near_or_all signatures (near_export signatures name)
 
+-- of a name that is one of a procedure which is not exported
+abbrev pub private_sentence : List Signature → List ℕ
+private_sentence signatures = codes "the module declares this procedure without a * behind its name, so it isn't exported" ++ listed_names signatures
+
+-- of a name that is none of an export, and that the module declares or not
+abbrev pub unknown_text : (declared : Bool) → List Signature → Word → List ℕ
+unknown_text declared signatures name =
+    if declared then private_sentence signatures
+    else unknown_sentence signatures name
+
 abbrev pub type_name : ScalarType → List ℕ
 type_name Integer = codes "INTEGER"
 type_name Boolean = codes "BOOLEAN"
@@ -60,3 +70,8 @@ count_sentence values types = codes "this call has " ++ decimal values ++ values
 abbrev pub value_sentence : ScalarType → List ℕ
 value_sentence Integer = codes "an INTEGER is wanted here, a number from -2147483648 to 2147483647"
 value_sentence Boolean = codes "a BOOLEAN is wanted here, TRUE or FALSE"
+
+-- how many values stand behind done, and how many the procedure gives
+abbrev pub done_sentence : (values : ℕ) → List ScalarType → List ℕ
+done_sentence values types =
+    codes "done has " ++ decimal values ++ values_noun values ++ codes ", and the procedure gives " ++ decimal (length types) ++ codes " for its parameters with VAR" ++ listed_types types

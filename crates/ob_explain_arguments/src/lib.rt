@@ -2,6 +2,7 @@
 #![tactic(auto)]
 
 pub mod call;
+pub mod declared;
 pub mod misfit;
 pub mod near;
 pub mod sentences;

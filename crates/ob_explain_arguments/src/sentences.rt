@@ -1,7 +1,7 @@
 //! What is said of a call of no export, and of values that don't fit.
 
 ghost use Rattle.std.specs.Prelude.{◌≡◌, ◌∷◌, ◌++◌, IfOk, OnOk, map, option_map, string_bytes};
-ghost use Rattle.ob_explain_arguments.specs.Sentences.{count_sentence, further_names, further_types, listed_names, listed_types, name_text, near_or_all, question_text, taken_text, type_name, unknown_sentence, value_sentence, values_noun};
+ghost use Rattle.ob_explain_arguments.specs.Sentences.{count_sentence, done_sentence, further_names, further_types, listed_names, listed_types, name_text, near_or_all, private_sentence, question_text, taken_text, type_name, unknown_sentence, unknown_text, value_sentence, values_noun};
 ghost use Rattle.ob_interface.specs.View.{signature_of};
 
 use crate::near::near_export;
@@ -10,12 +10,36 @@ use ob_interface::scalar::ScalarType;
 use ob_text_words::numbers::push_number;
 use std::alloc::{AllocError, Global};
 
-/// Of a name that is none of an export.
-pub fn unknown_sentence(
+/// Of a name that is none of an export, and that the module declares or not.
+pub fn unknown_text(
     alloc: Global,
+    declared: bool,
     exports: &[Export],
     name: &[u8],
 ) -> Result<String, AllocError>
+    ensures { IfOk result (λ sentence. string_bytes sentence ≡ unknown_text declared (map signature_of exports.now) name.now) }
+{
+    if declared {
+        private_sentence(alloc, exports)
+    } else {
+        unknown_sentence(alloc, exports, name)
+    }
+}
+
+/// Of a name that is one of a procedure which is not exported.
+fn private_sentence(alloc: Global, exports: &[Export]) -> Result<String, AllocError>
+    ensures { IfOk result (λ sentence. string_bytes sentence ≡ private_sentence (map signature_of exports.now)) }
+{
+    let mut sentence = String::from_str(
+        alloc,
+        "the module declares this procedure without a * behind its name, so it isn't exported",
+    )?;
+    push_names(&mut sentence, exports)?;
+    Ok(sentence)
+}
+
+/// Of a name that is none of an export.
+fn unknown_sentence(alloc: Global, exports: &[Export], name: &[u8]) -> Result<String, AllocError>
     ensures { IfOk result (λ sentence. string_bytes sentence ≡ unknown_sentence (map signature_of exports.now) name.now) }
 {
     let mut sentence = String::from_str(
@@ -114,6 +138,24 @@ fn push_taken(sentence: &mut String, types: &[ScalarType]) -> Result<(), AllocEr
     sentence.push_str(" for its parameters without VAR")?;
     push_types(sentence, types)?;
     Ok(())
+}
+
+/// Of so many values behind done, in the reply of a procedure that gives values of these types.
+pub fn done_sentence(
+    alloc: Global,
+    values: usize,
+    types: &[ScalarType],
+) -> Result<String, AllocError>
+    ensures { IfOk result (λ sentence. string_bytes sentence ≡ done_sentence values types.now) }
+{
+    let mut sentence = String::from_str(alloc, "done has ")?;
+    push_number(&mut sentence, values)?;
+    sentence.push_str(values_noun(values))?;
+    sentence.push_str(", and the procedure gives ")?;
+    push_number(&mut sentence, types.len())?;
+    sentence.push_str(" for its parameters with VAR")?;
+    push_types(&mut sentence, types)?;
+    Ok(sentence)
 }
 
 fn values_noun(values: usize) -> &'static str

@@ -257,6 +257,12 @@ value_word_place n line first second place is_first is_second is =
     ap (λ (k : ℕ). k + (second + place)) is_first ∙ ap (λ (k : ℕ). first_end line + (k + place)) behind
     ∙ ap (λ (k : ℕ). first_end line + (first_end (drop (first_end line) line) + k)) further
 
+-- a value, behind three words
+pub behind_word_place : (n : ℕ) (line : List ℕ) (end place : ℕ) → end ≡ first_end line → place ≡ word_place (suc (suc n)) (drop end line)
+    → end + place ≡ word_place (suc (suc (suc n))) line
+behind_word_place n line end place is_end is =
+    ap (λ (k : ℕ). k + place) is_end ∙ ap (λ (k : ℕ). first_end line + k) (is ∙ ap (λ (k : ℕ). word_place (suc (suc n)) (drop k line)) is_end)
+
 pub told_at : (n : ℕ) (line : List ℕ) (place : ℕ) → place ≡ word_place n line → BeginsWord line n place
 told_at n line place is = subst (λ (k : ℕ). BeginsWord line n k) (sym is) (at_word n line)
 

@@ -19,15 +19,15 @@ told_remark script line fault None = script_remark script fault
 told_remark script line fault (Some told) = at (in_line (told_place told.value) script line) told.sentence
 
 -- where these are the exports
-pub record IsExportsRemark (exports : List Signature) (script : List ℕ) (line : ℕ) (fault : ScriptFault) (remark : Option Remark) : Type 0 where
+pub record IsExportsRemark (text : List ℕ) (exports : List Signature) (script : List ℕ) (line : ℕ) (fault : ScriptFault) (remark : Option Remark) : Type 0 where
   pub told : Option Told
-  pub tells : IsToldOf exports (words (line_from script (line_begin script line))) told
+  pub tells : IsToldOf text exports (words (line_from script (line_begin script line))) told
   pub says : remark ≡ told_remark script line fault told
 
 -- where this is the module's text; where it is none, what the fault says by itself
 pub data IsCallRemark (text script : List ℕ) (line : ℕ) (fault : ScriptFault) : Option Remark → Type 0 where
   of_module : (program : Program) → IsModule text program → {remark : Option Remark} →
-      IsExportsRemark (signatures program) script line fault remark → IsCallRemark text script line fault remark
+      IsExportsRemark text (signatures program) script line fault remark → IsCallRemark text script line fault remark
   of_none : ((program : Program) → IsModule text program → ⊥) → IsCallRemark text script line fault (script_remark script fault)
 
 -- the remark on a fault of a script for the exports of a module's text

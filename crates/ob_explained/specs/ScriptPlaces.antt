@@ -39,6 +39,7 @@ abbrev pub told_place : Option ℕ → List ℕ → ℕ
 told_place None line = second_place line
 told_place (Some number) line = word_place (suc (suc number)) line
 
+-- its first word
 abbrev pub first_word : List ℕ → Word
 first_word line = take (prefix_len is_of_word (drop (first_place line) line)) (drop (first_place line) line)
 

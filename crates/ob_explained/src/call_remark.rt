@@ -56,7 +56,7 @@ fn call_remark(
     ensures marked { IfOk result (λ remark. IfSome remark (λ r. MarksBehindProcess script.now line r.place ⊎ IsMark script.now fault r.place)) }
 {
     match checked_text(alloc, text) {
-        Ok(checked) => exports_remark(alloc, checked.exports(), script, line, fault),
+        Ok(checked) => exports_remark(alloc, text, checked.exports(), script, line, fault),
         Err(text_fault) => no_exports(alloc, text, script, line, fault, text_fault),
     }
 }
@@ -92,16 +92,17 @@ fn is_memory(fault: TextFault) -> bool
 /// The remark where these are the exports.
 fn exports_remark(
     alloc: Global,
+    text: &[u8],
     exports: &[Export],
     script: &[u8],
     line: usize,
     fault: ScriptFault,
 ) -> Result<Option<Remark>, AllocError>
-    ensures remark { IfOk result (λ remark. IsExportsRemark (map signature_of exports.now) script.now line fault (option_map remark_of remark)) }
+    ensures remark { IfOk result (λ remark. IsExportsRemark text.now (map signature_of exports.now) script.now line fault (option_map remark_of remark)) }
     ensures marked { IfOk result (λ remark. IfSome remark (λ r. MarksBehindProcess script.now line r.place ⊎ IsMark script.now fault r.place)) }
 {
     let words = line_words(alloc, script, line)?;
-    let told = told_call(alloc, exports, &words)?;
+    let told = told_call(alloc, text, exports, &words)?;
     told_remark(alloc, script, line, fault, told)
 }
 

@@ -96,6 +96,17 @@ pub fn value_place(line: &[u8], number: usize) -> usize
     first + (second + word_place(&rest[second..], number))
 }
 
+/// Where a value begins in a line, behind three words; the end, where it has fewer words.
+#[tactic(auto, using(crate::proofs::WordPlaces::behind_word_place))]
+pub fn behind_place(line: &[u8], number: usize) -> usize
+    ensures place { result ≡ word_place (suc (suc (suc number))) line.now }
+    ensures word { BeginsWord line.now (suc (suc (suc number))) result }
+    ensures within { result ≤ length line.now }
+{
+    let end = first_end(line);
+    end + value_place(&line[end..], number)
+}
+
 /// Where the first word of a line ends.
 fn first_end(line: &[u8]) -> usize
     ensures place { result ≡ first_end line.now }
@@ -120,7 +131,7 @@ pub fn form_place(line: &[u8]) -> usize
 }
 
 /// The first word of a line; empty where it has none.
-fn first_word(line: &[u8]) -> &[u8]
+pub(crate) fn first_word(line: &[u8]) -> &[u8]
     ensures { result.now ≡ first_word line.now }
 {
     let rest = &line[blanks(line)..];
@@ -128,7 +139,7 @@ fn first_word(line: &[u8]) -> &[u8]
 }
 
 /// Whether a word is a process: one to nine digits.
-fn is_process(word: &[u8]) -> bool
+pub(crate) fn is_process(word: &[u8]) -> bool
     ensures { result ≡ is_process word.now }
 {
     (1 <= word.len() && word.len() <= PROCESS_DIGITS)

@@ -1,13 +1,17 @@
 //! What is wrong in a line of a script, in a sentence.
 
 ghost use Rattle.std.specs.Prelude.{◌≡◌, None, Some, IfOk, IfSome, option_map};
+ghost use Rattle.ob_explain.specs.Places.{line_from};
 ghost use Rattle.ob_explain.specs.Remarks.{remark_of};
 ghost use Rattle.ob_explained.specs.Marks.{IsMark, MarksForm, MarksWord};
-ghost use Rattle.ob_explained.specs.ScriptPlaces.{first_place, form_place, in_line, second_place};
-ghost use Rattle.ob_explained.specs.ScriptRemarks.{script_remark};
+ghost use Rattle.ob_explained.specs.ScriptPlaces.{first_place, form_place, in_line, line_begin, second_place};
+ghost use Rattle.ob_explained.specs.ScriptRemarks.{line_sentence, script_remark};
 
-use crate::script_place::{first_place, form_place, script_line, second_place};
+use crate::script_place::{
+    first_place, first_word, form_place, is_process, script_line, second_place,
+};
 use ob_explain::remark::Remark;
+use ob_explain_forms::lines::{name_sentence, process_sentence};
 use ob_text_scripts::ScriptFault;
 use std::alloc::{AllocError, Global};
 
@@ -26,7 +30,7 @@ pub fn script_remark(
         ScriptFault::Form(line) => told(
             alloc,
             place_of_form(script, line),
-            "a line is a call: a process of one to nine digits, the name of a procedure, and its values, with blanks between them, as 0 Push 1",
+            form_sentence(script, line),
         ),
         ScriptFault::Procedure(line) => told(
             alloc,
@@ -44,6 +48,25 @@ pub fn script_remark(
             "the processes of a script are 0 to 15",
         ),
         ScriptFault::NoMemory => Ok(None),
+    }
+}
+
+/// What is said of the line of a number that is no call.
+fn form_sentence(script: &[u8], line: usize) -> &'static str
+    ensures { result.now ≡ line_sentence (line_from script.now (line_begin script.now line)) }
+{
+    let (_begin, text) = script_line(script, line);
+    line_sentence(text)
+}
+
+/// What is said of a line that is no call.
+fn line_sentence(line: &[u8]) -> &'static str
+    ensures { result.now ≡ line_sentence line.now }
+{
+    if is_process(first_word(line)) {
+        name_sentence(first_word(&line[second_place(line)..]))
+    } else {
+        process_sentence(first_word(line))
     }
 }
 

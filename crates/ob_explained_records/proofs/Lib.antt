@@ -1,2 +1,1 @@
-pub mod SameNames
-pub mod Firsts
+pub mod Somewhere

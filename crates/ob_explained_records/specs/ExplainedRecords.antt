@@ -13,7 +13,7 @@ use Rattle.ob_object_verify.specs.declared.verifying.VerifyFault.TheVariants as 
 abbrev pub IsRecordExplanation : (object record_file : Source) → VerifyFault → Option (List ℕ) → Type 0
 IsRecordExplanation object record_file (Faults.Text e) shown = IsTextExplanation object.name object.text e shown
 IsRecordExplanation object record_file (Faults.Form number) shown =
-    (remark : Option Remark) × IsFormRemark record_file.text number remark × (shown ≡ shown_in record_file remark)
+    (remark : Option Remark) × IsFormRemark object.text record_file.text number remark × (shown ≡ shown_in record_file remark)
 IsRecordExplanation object record_file (Faults.Open e) shown = shown ≡ open_explanation e
 IsRecordExplanation object record_file (Faults.Order e) shown =
     (remark : Option Remark) × IsOrderRemark object.text record_file.text e remark × (shown ≡ shown_in record_file remark)

@@ -1,5 +1,3 @@
-pub mod CallNames
-pub mod Lines
 pub mod FormRemarks
 pub mod OrderPlaces
 pub mod MadeTexts

@@ -2,10 +2,10 @@
 use Rattle.std.specs.Prelude.{◌≡◌, ◌-◌, ℕ, Bool, true, false, List, Option, None, Some, MatchOption, option_map, slice_get}
 use Rattle.ob_explained.specs.Marks.{IsInLine}
 use Rattle.ob_explained.specs.ScriptPlaces.{in_line}
-use Rattle.ob_explained_records.specs.CallNames.{IsNaming, IsNextNaming}
+use Rattle.ob_explained_lines.specs.CallNames.{IsNaming, IsNextNaming}
 use Rattle.ob_explained_records.specs.FormRemarks.{line_at}
-use Rattle.ob_explained_records.specs.Lines.{IsLine}
-use Rattle.ob_explained_records.specs.declared.record_line.Wanted.TheVariants as Wants
+use Rattle.ob_explained_lines.specs.Lines.{IsLine}
+use Rattle.ob_explained_lines.specs.declared.record_line.Wanted.TheVariants as Wants
 use Rattle.ob_explained_runs.specs.ItemMarks.{BeginsItem}
 use Rattle.ob_explained_runs.specs.ItemPlaces.{item_begin}
 use Rattle.ob_text_words.specs.Words.{Word, lines, words}

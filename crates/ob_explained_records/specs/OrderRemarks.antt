@@ -1,10 +1,10 @@
 -- What each fault of a record's order says to people.
 use Rattle.std.specs.Prelude.{◌≡◌, ℕ, Bool, true, false, List, [], ◌++◌, Option, None, Some, MatchOption, codes, decimal, option_map}
 use Rattle.ob_explain.specs.Remarks.{Remark}
-use Rattle.ob_explained_records.specs.Lines.{IsLine}
+use Rattle.ob_explained_lines.specs.Lines.{IsLine}
 use Rattle.ob_explained_records.specs.MadeTexts.{other_reply_text}
 use Rattle.ob_explained_records.specs.OrderPlaces.{IsEndPlace, IsOrderPlace}
-use Rattle.ob_explained_records.specs.declared.record_line.Wanted.TheVariants as Wants
+use Rattle.ob_explained_lines.specs.declared.record_line.Wanted.TheVariants as Wants
 use Rattle.ob_object_order.specs.declared.order.OrderFault.{OrderFault}
 use Rattle.ob_object_order.specs.declared.order.OrderFault.TheVariants as Order
 use Rattle.ob_object_replies.specs.MadeCalls.{MadeCall}

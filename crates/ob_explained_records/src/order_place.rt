@@ -3,9 +3,9 @@
 ghost use Rattle.std.specs.Prelude.{◌≡◌, IfOk, map};
 ghost use Rattle.ob_explained_records.specs.OrderPlaces.{IsEndPlace, IsNamed, IsOrderPlace, IsPlaceNamed, MarksItem, word_place};
 
-use crate::call_name::{first_naming, next_naming};
-use crate::record_line::{Wanted, first_line};
 use ob_explained::script_place::script_line;
+use ob_explained_lines::call_name::{first_naming, next_naming};
+use ob_explained_lines::record_line::{Wanted, first_line};
 use ob_explained_runs::item_place::item_begin;
 use ob_text_words::words::words_of;
 use std::alloc::{AllocError, Global};

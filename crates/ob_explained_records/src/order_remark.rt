@@ -6,8 +6,8 @@ ghost use Rattle.ob_explained_records.specs.OrderRemarks.{IsCallSentence, IsEndL
 
 use crate::made_text::other_reply_text;
 use crate::order_place::{place_in_order, place_of_end};
-use crate::record_line::{Wanted, first_line};
 use ob_explain::remark::Remark;
+use ob_explained_lines::record_line::{Wanted, first_line};
 use ob_object_order::OrderFault;
 use ob_object_replies::{call_made, call_overtaken};
 use ob_text_record::push_id;

@@ -28,7 +28,7 @@ pub fn record_explanation(
             module_explanation(alloc, object.name, object.text, CompileFault::Text(fault))
         }
         VerifyFault::Form(number) => {
-            let remark = form_remark(alloc, record_file.text, number)?;
+            let remark = form_remark(alloc, object.text, record_file.text, number)?;
             shown(alloc, record_file, remark)
         }
         VerifyFault::Open(fault) => open_explanation(alloc, fault),

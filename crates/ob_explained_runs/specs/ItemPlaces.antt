@@ -1,5 +1,5 @@
 -- Where the items of a schedule stand.
-use Rattle.std.specs.Prelude.{ℕ, zero, suc, ◌+◌, ◌-◌, not, Bool, List, drop}
+use Rattle.std.specs.Prelude.{ℕ, zero, suc, ◌+◌, ◌-◌, not, Bool, List, drop, take}
 use Rattle.std.specs.List.{prefix_len}
 use Rattle.ob_schedule.specs.Schedule.{is_separator}
 
@@ -21,3 +21,7 @@ item_begin (suc n) text = item_end text + item_begin n (drop (item_end text) tex
 -- where the item of a number begins, from 1
 abbrev pub item_place : List ℕ → ℕ → ℕ
 item_place text number = item_begin (number - 1) text
+
+-- the item of a number; nothing, where there are fewer
+abbrev pub item_at : List ℕ → (number : ℕ) → List ℕ
+item_at text number = take (prefix_len is_of_item (drop (item_place text number) text)) (drop (item_place text number) text)

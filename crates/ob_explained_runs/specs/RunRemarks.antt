@@ -3,7 +3,8 @@ use Rattle.std.specs.Prelude.{◌≡◌, ℕ, ◌-◌, ◌==◌, ◌++◌, List,
 use Rattle.ob_explain.specs.Remarks.{Remark, at}
 use Rattle.ob_explained.specs.ScriptPlaces.{first_place, in_line}
 use Rattle.ob_explained.specs.CallRemarks.{IsScriptRemark}
-use Rattle.ob_explained_runs.specs.ItemPlaces.{item_place}
+use Rattle.ob_explain_forms.specs.Items.{item_sentence}
+use Rattle.ob_explained_runs.specs.ItemPlaces.{item_at, item_place}
 use Rattle.ob_schedule.specs.declared.schedule.ScheduleFault.{ScheduleFault}
 use Rattle.ob_schedule.specs.declared.schedule.ScheduleFault.TheVariants as Schedule
 use Rattle.ob_text_scripts.specs.declared.script.ScriptFault.{ScriptFault}
@@ -23,7 +24,7 @@ IsRunScriptRemark n text scripts fault remark = IsScriptRemark text scripts faul
 -- at the item
 abbrev pub schedule_remark : (n : ℕ) → List ℕ → ScheduleFault → Option Remark
 schedule_remark n schedule (Schedule.Form item) =
-    at (item_place schedule item) (codes "an item is a process with *STEPS, :LABEL or ! behind it, and no blanks between, as 0*3, 0:TRY or 0!")
+    at (item_place schedule item) (item_sentence (item_at schedule item))
 schedule_remark n schedule (Schedule.Process item) = at (item_place schedule item) (processes_sentence n)
 schedule_remark n schedule Schedule.NoMemory = None
 

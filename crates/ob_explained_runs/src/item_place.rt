@@ -4,7 +4,7 @@ ghost use Rattle.std.specs.Prelude.{◌≡◌, ◌≤◌, ◌-◌, length};
 ghost use Rattle.std.specs.List.{prefix_len};
 ghost use Rattle.ob_schedule.specs.Schedule.{is_separator};
 ghost use Rattle.ob_explained_runs.specs.ItemMarks.{BeginsItem};
-ghost use Rattle.ob_explained_runs.specs.ItemPlaces.{is_of_item, item_begin, item_end, item_place};
+ghost use Rattle.ob_explained_runs.specs.ItemPlaces.{is_of_item, item_at, item_begin, item_end, item_place};
 
 /// Where the item of a number begins, from 1; the text's end, where there are fewer.
 pub fn item_place(text: &[u8], number: usize) -> usize
@@ -13,6 +13,14 @@ pub fn item_place(text: &[u8], number: usize) -> usize
     ensures within { result ≤ length text.now }
 {
     item_begin(text, number.saturating_sub(1))
+}
+
+/// The item of a number, from 1; nothing, where there are fewer.
+pub fn item_at(text: &[u8], number: usize) -> &[u8]
+    ensures { result.now ≡ item_at text.now number }
+{
+    let from = &text[item_place(text, number)..];
+    &from[..item_length(from)]
 }
 
 /// Where an item begins before which so many others stand; the text's end, where there are fewer.

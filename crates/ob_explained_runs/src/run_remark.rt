@@ -7,8 +7,9 @@ ghost use Rattle.ob_explained.specs.ScriptPlaces.{first_place, in_line};
 ghost use Rattle.ob_explained_runs.specs.ItemMarks.{BeginsItem, IsItemMark};
 ghost use Rattle.ob_explained_runs.specs.RunRemarks.{IsRunScriptRemark, long_item_remark, processes_sentence, schedule_remark};
 
-use crate::item_place::item_place;
+use crate::item_place::{item_at, item_place};
 use ob_explain::remark::Remark;
+use ob_explain_forms::items::item_sentence;
 use ob_explained::call_remark::calls_remark;
 use ob_explained::script_place::{first_place, script_line};
 use ob_schedule::ScheduleFault;
@@ -62,10 +63,7 @@ pub fn schedule_remark(
     match fault {
         ScheduleFault::Form(item) => told(
             item_place(schedule, item),
-            String::from_str(
-                alloc,
-                "an item is a process with *STEPS, :LABEL or ! behind it, and no blanks between, as 0*3, 0:TRY or 0!",
-            )?,
+            String::from_str(alloc, item_sentence(item_at(schedule, item)))?,
         ),
         ScheduleFault::Process(item) => {
             told(item_place(schedule, item), processes_sentence(alloc, n)?)

@@ -5,10 +5,12 @@ ghost use Rattle.std.specs.Prelude.{◌≡◌, ◌≢◌, Err, IfErr, IfOk};
 ghost use Rattle.obl0.specs.Refusals.{refusal_status};
 
 mod files;
+mod hint;
 mod refusal;
 
 use crossbeam_channel::{Receiver, RecvTimeoutError, Sender, unbounded};
 use files::HostFiles;
+use hint::{is_fault, more_about};
 use ob_answer::answer::{INPUT_NAME, answer};
 use ob_answer::answered::Answer;
 use refusal::{Refusal, refusal_of_words};
@@ -40,10 +42,24 @@ fn main(rt: HostRuntime) -> ExitCode {
     let worker = thread::Builder::new()
         .stack_size(STACK)
         .spawn(&rt, move || work(&rt, working));
-    if rt.stderr().is_terminal() && !reads_input(&rt) {
+    let terminal = rt.stderr().is_terminal();
+    if terminal && !reads_input(&rt) {
         tell_of_work(&rt, &done);
     }
-    ExitCode::from(end(&rt, joined(&rt, worker)))
+    let status = end(&rt, joined(&rt, worker));
+    if terminal && is_fault(status) {
+        tell_of_more(&rt);
+    }
+    ExitCode::from(status)
+}
+
+/// Tells where more is told of a fault of the command that the words name.
+fn tell_of_more<R: Eprint + Env + AllocGlobal>(rt: &R) {
+    if let Ok(mut words) = env::args(rt) {
+        if let Some(command) = words.nth(1) {
+            let _ = rt.eprint(more_about(command.as_str()));
+        }
+    }
 }
 
 /// Whether a word names standard input, at which somebody may be typing for as long as they like.

@@ -1,9 +1,8 @@
-use Rattle.std.proofs.Common.{◌≡◌, sym}
-use Rattle.ob_explain_arguments.proofs.Fits.{named_told}
+use Rattle.std.proofs.Common.{sym}
 use Rattle.ob_explain_arguments.proofs.call.told_for.Goals as goal
 
 pub returns-in_default : goal.returns-in_default
-returns-in_default c = rw (sym c.in_default.ensures) (named_told _ _ c.in_ok-sentence.ensures)
+returns-in_default c = rw (sym c.in_default.ensures) c.unknown_told.ensures
 
 pub returns : goal.returns
 returns c = rw (sym c.in-Some.ensures) (rw c.deref.ensures.value at c.told_values.ensures)

@@ -10,5 +10,5 @@ pub returns-in-Ok-clause-remark : goal.returns-in-Ok-clause-remark
 returns-in-Ok-clause-remark c =
     IfOk-weaker c.exports_remark.result _ _
     (λ remark e. of_module (program_in c.in-Ok.checked) c.in-Ok.ensures.program
-    (subst (λ (ss : List Signature). IsExportsRemark ss c.args.script.now c.args.line c.args.fault (option_map remark_of remark)) c.exports.ensures e))
+    (subst (λ (ss : List Signature). IsExportsRemark c.args.text.now ss c.args.script.now c.args.line c.args.fault (option_map remark_of remark)) c.exports.ensures e))
     c.exports_remark.ensures.remark

@@ -11,7 +11,7 @@ returns-clause-remark c =
     (λ remark e. record {
       told = option_map told_of c.in_ok-told.told;
       tells =
-          subst (λ (ws : List Word). IsToldOf (map signature_of c.args.exports.now) ws (option_map told_of c.in_ok-told.told))
+          subst (λ (ws : List Word). IsToldOf c.args.text.now (map signature_of c.args.exports.now) ws (option_map told_of c.in_ok-told.told))
           (ap (map (λ (w : Bor Word). w.now)) c.deref.ensures.value ∙ c.in_ok-words.ensures) c.in_ok-told.ensures;
       says = e;
     }) c.told_remark.ensures.remark

@@ -1,20 +1,22 @@
-use Rattle.std.proofs.Common.{◌≡◌, ◌∙◌, ◌+◌, ◌-◌, ℕ, ap, ap₂, drop, length, rules, string_bytes, take}
-use Rattle.std.proofs.lemmas.List.{take_rest}
-use Rattle.ob_explain.specs.Remarks.{at}
-use Rattle.ob_explained.specs.ScriptPlaces.{first_place, in_line}
-use Rattle.ob_explained_records.specs.FormRemarks.{form_sentence, from_word, is_behind, line_at}
+use Rattle.std.proofs.Common.{◌∙◌, Bool, ap, option_map, subst}
+use Rattle.std.proofs.lemmas.Result.{IfOk-weaker}
+use Rattle.ob_explained_lines.specs.Causes.{cause_of}
+use Rattle.ob_explained_records.specs.FormRemarks.{IsFormCause, is_apart, told_form}
 use Rattle.ob_explained_records.proofs.form_remark.form_remark.Goals as goal
 
 pub returns-clause-remark : goal.returns-clause-remark
 returns-clause-remark c =
+    let object = c.args.object.now in
     let text = c.args.text.now in
     let number = c.args.number in
-    let line = c.script_line-begin.result.1.now in
-    let first = c.first_place-first.result in
-    let here : first ≡ first_place (line_at text number) = c.first_place-first.ensures.place ∙ ap first_place c.script_line-begin.ensures.line in
-    let place : c.script_line-begin.result.0 + first ≡ in_line first_place text number = ap₂ (λ (a b : ℕ). a + b) c.script_line-begin.ensures.begin here in
-    let from : take (length line - first) (drop first line) ≡ from_word (line_at text number) = take_rest line first ∙ ap₂ drop here c.script_line-begin.ensures.line in
-    let said : string_bytes c.in_ok-from_str.field-0 ≡ c.form_sentence-sentence.result.now = search rules in
-    let sentence : string_bytes c.in_ok-from_str.field-0 ≡ form_sentence number (is_behind c.in_ok-order.order number) (from_word (line_at text number)) =
-    said ∙ (c.form_sentence-sentence.ensures ∙ ap₂ (form_sentence number) c.is_behind.ensures from) in
-    (c.in_ok-order.order, c.in_ok-order.ensures, ap₂ at place sentence)
+    let cause = option_map cause_of c.in_ok-cause.cause in
+    IfOk-weaker c.told_form.result _ _
+    (λ remark told. record {
+      order = c.in_ok-order.order;
+      is_order = c.in_ok-order.ensures;
+      cause = cause;
+      is_cause =
+          subst (λ (apart : Bool). IsFormCause apart object text number cause) (c.is_apart-apart.ensures ∙ ap (is_apart number) c.is_behind-behind_order.ensures)
+          c.in_ok-cause.ensures;
+      says = told ∙ ap (λ (behind : Bool). told_form text number behind cause) c.is_behind-behind_order.ensures;
+    }) c.told_form.ensures.remark

@@ -1,6 +1,6 @@
 use Rattle.std.proofs.Common.{ℕ, Option, None, Some, ap, refl, subst}
-use Rattle.ob_explained_records.specs.Lines.{IsLine}
-use Rattle.ob_explained_records.specs.declared.record_line.Wanted.TheVariants as Wants
+use Rattle.ob_explained_lines.specs.Lines.{IsLine}
+use Rattle.ob_explained_lines.specs.declared.record_line.Wanted.TheVariants as Wants
 use Rattle.ob_explained_records.proofs.order_place.place_of_end.Goals as goal
 
 pub returns-in-Some : goal.returns-in-Some

@@ -1,7 +1,7 @@
 use Rattle.std.proofs.Common.{ℕ, Option, None, Some, subst}
 use Rattle.std.proofs.lemmas.Result.{IfOk-weaker}
-use Rattle.ob_explained_records.specs.Lines.{IsLine}
-use Rattle.ob_explained_records.specs.declared.record_line.Wanted.TheVariants as Wants
+use Rattle.ob_explained_lines.specs.Lines.{IsLine}
+use Rattle.ob_explained_lines.specs.declared.record_line.Wanted.TheVariants as Wants
 use Rattle.ob_explained_records.proofs.order_remark.unknown_remark.Goals as goal
 
 pub returns-in-Some : goal.returns-in-Some

@@ -1,0 +1,4 @@
+pub mod Marks
+pub mod Items
+pub mod ScriptLines
+pub mod Values

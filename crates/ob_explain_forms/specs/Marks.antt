@@ -1,0 +1,15 @@
+-- Bytes that stand in a word.
+use Rattle.std.specs.Prelude.{ℕ, ◌==◌, ◌||◌, Bool, List, codes, nat_eq}
+use Rattle.std.specs.List.{list_any, starts_with}
+
+-- a byte stands in the word
+abbrev pub has : (byte : ℕ) → List ℕ → Bool
+has byte word = list_any (λ b. b == byte) word
+
+-- the word begins with these bytes
+abbrev pub begins : (bytes word : List ℕ) → Bool
+begins bytes word = starts_with nat_eq word bytes
+
+-- a comment as other languages have them, or as modules have
+abbrev pub begins_comment : List ℕ → Bool
+begins_comment word = begins (codes "//") word || (begins (codes "(*") word || begins (codes "--") word)

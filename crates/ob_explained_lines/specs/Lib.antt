@@ -1,0 +1,4 @@
+pub mod CallNames
+pub mod Lines
+pub mod CallPlaces
+pub mod Causes
