@@ -1,6 +1,6 @@
 //! The names of calls, as words.
 
-ghost use Rattle.std.specs.Prelude.{List, map, IfOk, MatchOption};
+ghost use Rattle.std.specs.Prelude.{List, map, IfOk, IsFalse, IsTrue, MatchOption};
 ghost use Rattle.ob_text_record_reading.specs.RecordLines.{AreIds, IsId};
 ghost use Rattle.wf_history.specs.declared.event.CallId.{CallId};
 
@@ -42,4 +42,17 @@ pub(crate) fn read_ids(
         ids.push(id)?;
     }
     Ok(Some(ids))
+}
+
+/// Whether words name calls.
+pub(crate) fn are_ids(processes: usize, words: &[&[u8]]) -> bool
+    ensures yes { IsTrue result → (ids : List CallId) × AreIds processes (map (λ w. w.now) words.now) ids }
+    ensures no { IsFalse result → (ids : List CallId) → AreIds processes (map (λ w. w.now) words.now) ids → ⊥ }
+{
+    for word in words {
+        let Some(_id) = read_id(processes, word) else {
+            return false;
+        };
+    }
+    true
 }

@@ -11,7 +11,7 @@ ghost use Rattle.wf_history.specs.History as History;
 ghost use Rattle.wf_history.specs.declared.event.CallId as Names;
 
 use crate::calls::Calls;
-use crate::id::{read_id, read_ids};
+use crate::id::{are_ids, read_id, read_ids};
 use crate::number::read_only_number;
 use ob_interface::call::{Call, Reply};
 use ob_interface::export::Export;
@@ -53,26 +53,19 @@ pub(crate) fn read_line(
     match *first {
         b"B" => read_begin(alloc, exports, calls, rest),
         b"E" => read_end(alloc, exports, calls, rest),
-        b"A" => read_applied(alloc, calls.processes(), rest),
+        b"A" => Ok(read_applied(calls.processes(), rest)),
         b"O" => read_order(alloc, calls.processes(), rest),
         _ => Ok(None),
     }
 }
 
 /// What stands behind an `A`.
-fn read_applied(
-    alloc: Global,
-    processes: usize,
-    words: &[&[u8]],
-) -> Result<Option<Line>, AllocError>
-    ensures { IfOk result (λ read. MatchOption read
+fn read_applied(processes: usize, words: &[&[u8]]) -> Option<Line>
+    ensures { MatchOption result
         ((ids : List Names.CallId) → AreIds processes (map (λ w. w.now) words.now) ids → ⊥)
-        (IsAppliedRead processes (map (λ w. w.now) words.now))) }
+        (IsAppliedRead processes (map (λ w. w.now) words.now)) }
 {
-    let Some(_ids) = read_ids(alloc, processes, words)? else {
-        return Ok(None);
-    };
-    Ok(Some(Line::Applied))
+    are_ids(processes, words).then_some(Line::Applied)
 }
 
 /// The order behind an `O`.

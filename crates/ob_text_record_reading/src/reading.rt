@@ -18,7 +18,7 @@ use ob_checked::checked::Checked;
 use ob_interface::NoMemory;
 use ob_interface::export::Export;
 use ob_interpreter::opening::MOST_TURNS;
-use ob_text_words::words::words_of;
+use ob_text_words::words::{put_words, words_of};
 use std::alloc::{AllocError, AllocFailed, Global};
 use thiserror::Error;
 use wf_history::{CallId, History};
@@ -160,8 +160,9 @@ fn read_events(
     ensures record { IfOk result (λ ids. AreLines calls.old.processes (map signature_of exports.now) [] (map (λ l. words l.now) lines.now) calls.new.events ids.items) }
     ensures fault { IfErr result (λ e. FaultBehind calls.old.processes (map signature_of exports.now) head (map (λ l. words l.now) lines.now) e) }
 {
+    let mut words = Vec::new(alloc);
     for (index, line) in lines.iter().enumerate() {
-        let Some(said) = read_words(alloc, exports, calls, line)? else {
+        let Some(said) = read_words(alloc, exports, calls, line, &mut words)? else {
             return Err(RecordFault::Form(head + index + 1));
         };
         match said {
@@ -179,17 +180,19 @@ fn read_events(
     Err(RecordFault::Form(head + lines.len() + 1))
 }
 
-/// What a line says behind the events so far; `None` where it may not stand there.
-fn read_words(
+/// What a line says behind the events so far; `None` where it may not stand there. Its words are put in place of those that the
+/// list has.
+fn read_words<'a>(
     alloc: Global,
     exports: &[Export],
     calls: &Calls,
-    line: &[u8],
+    line: &'a [u8],
+    list: &mut Vec<&'a [u8]>,
 ) -> Result<Option<Line>, AllocError>
     ensures { IfOk result (λ read. MatchOption read
         (SaysNothing calls.now.processes (map signature_of exports.now) calls.now.events (words line.now))
         (HasSaid calls.now.processes (map signature_of exports.now) calls.now.events (words line.now))) }
 {
-    let words = words_of(alloc, line)?;
-    read_line(alloc, exports, calls, &words)
+    put_words(list, line)?;
+    read_line(alloc, exports, calls, list)
 }

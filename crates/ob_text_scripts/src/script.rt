@@ -15,7 +15,7 @@ use ob_checked::checked::Checked;
 use ob_interface::NoMemory;
 use ob_interface::export::Export;
 use ob_text_words::script_call::ScriptCall;
-use ob_text_words::words::words_of;
+use ob_text_words::words::put_words;
 use smallvec::SmallVec;
 use std::alloc::{AllocError, AllocFailed, Global};
 use std::marker::Model;
@@ -148,8 +148,9 @@ fn read_calls(
     ensures fault { IfErr result (λ e. IsScriptFault (map signature_of exports.now) processes text.now e) }
 {
     let mut calls = Vec::new(alloc);
+    let mut words = Vec::new(alloc);
     for (index, line) in text.split(|byte| *byte == b'\n').enumerate() {
-        let words = words_of(alloc, line)?;
+        put_words(&mut words, line)?;
         if let Some(call) = read_line(alloc, exports, processes, index + 1, &words)? {
             calls.push(call)?;
         }

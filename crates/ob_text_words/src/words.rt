@@ -1,6 +1,6 @@
 //! Words, and those that are names.
 
-ghost use Rattle.std.specs.Prelude.{◌≡◌, ◌↔◌, map, IsTrue, IfOk};
+ghost use Rattle.std.specs.Prelude.{◌≡◌, ◌↔◌, map, IsTrue, IfOk, OnOk};
 ghost use Rattle.ob_text_words.specs.Words.{words, is_blank, IsName};
 
 use ob_scan::keyword::keyword;
@@ -13,6 +13,20 @@ pub fn words_of(alloc: Global, line: &[u8]) -> Result<Vec<&[u8]>, AllocError>
     line.split(|byte| is_blank(*byte))
         .filter(|word| !word.is_empty())
         .collect(alloc)
+}
+
+/// What stands between the blanks of a line, in place of what the list has: who reads many lines takes memory for the longest one.
+pub fn put_words<'a>(list: &mut Vec<&'a [u8]>, line: &'a [u8]) -> Result<(), AllocError>
+    ensures { OnOk result (map (λ w. w.now) list.new.items ≡ words line.now) }
+{
+    list.clear();
+    for word in line
+        .split(|byte| is_blank(*byte))
+        .filter(|word| !word.is_empty())
+    {
+        list.push(word)?;
+    }
+    Ok(())
 }
 
 fn is_blank(byte: u8) -> bool
