@@ -4,8 +4,8 @@ use Rattle.ob_explained_lines.specs.Causes.{cause_of}
 use Rattle.ob_explained_records.specs.FormRemarks.{IsBodyCause, is_budget_line}
 use Rattle.ob_explained_records.proofs.form_remark.form_cause.Goals as goal
 
-pub returns-else-apart : goal.returns-else-apart
-returns-else-apart c =
+pub returns-in_ok-budget : goal.returns-in_ok-budget
+returns-in_ok-budget c =
     rw c.if-apart.false
     (IfOk-weaker c.body_cause.result _ _
     (λ cause is. subst (λ (budget : Bool). IsBodyCause budget c.args.object.now c.args.text.now c.args.number (option_map cause_of cause))
