@@ -23,6 +23,7 @@ use Rattle.ob_tree_tasks.specs.Codes.{coded_type, coded_scope}
 use Rattle.ob_tree_law.specs.TreeEngine.{work_room, tree_empty, IsTreeReady}
 use Rattle.ob_tree_law.proofs.Whole.{tree_parts_lawful}
 use Rattle.ob_tree.specs.Procedures.{AreSmallFrames}
+use Rattle.ob_tree.specs.Rooms.{most_room}
 
 -- ---- layouts and lists of exports have a code, so that what is told of them is one fact
 
@@ -91,9 +92,9 @@ empty_ready program r m a b = record {
 pub counted_stack : (program : Program) → ∥ IsWellFormed program ∥₁ → counted (stack_words program.procedures) ≡ stack_words program.procedures
 counted_stack program well = let few = few_in_stack program well in omega (arith, few)
 
--- and that of tasks, where it is not the greatest number
-pub exact : (n m : ℕ) → n ≡ counted m → (n ≡ 18446744073709551615 → ⊥) → n ≡ m
-exact n m a h = omega (arith, a, h)
+-- and that of tasks, which are few
+pub counted_tasks : (n m : ℕ) → n ≡ counted m → m ≤ most_room → n ≡ m
+counted_tasks n m is few = omega (arith, is, few)
 
 pub few_values : (program : Program) (budget n : ℕ) → ∥ IsWellFormed program ∥₁ → n ≡ most value_count (entrances_from 0 program.procedures) → n < 4294967295
 few_values program budget n well e =

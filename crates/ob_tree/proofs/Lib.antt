@@ -7,3 +7,4 @@ mod Stepped
 mod Reserved
 mod Known
 mod Typed
+mod FewTasks

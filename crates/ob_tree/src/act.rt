@@ -1,9 +1,8 @@
 //! What the task in front does.
 
-ghost use Rattle.std.specs.Prelude.{◌≡◌, ◌∷◌, ℤ, List};
-ghost use Rattle.ob_typing.specs.Program as Program;
+ghost use Rattle.ob_typing.specs.Program.{Program};
 ghost use Rattle.ob_checked.specs.View.{branches_in, expression_of, otherwise_of, statements_in};
-ghost use Rattle.ob_tree.specs.Acting.{Comes, HasFirst, rest_of, state_in};
+ghost use Rattle.ob_tree.specs.Acting.{Decides, Does, DoesAlways, HasFirst};
 ghost use Rattle.ob_tree_tasks.specs.Scoped.{own_in};
 ghost use Rattle.ob_tree_work.specs.Work as Work;
 
@@ -21,7 +20,7 @@ impl<'a> TreeRun<'a> {
     #[inline(always)]
     pub(crate) fn compute(&mut self, instr: Instr, block: &mut [i64]) -> EngineTurn
         requires { HasFirst self.old }
-        ensures { (program : Program.Program) → Comes result self.new block.new self.old block.old (Work.does program self.old.reserve (Work.Instruction instr) (rest_of self.old) (state_in self.old block.old)) }
+        ensures { (program : Program) → Does program (Work.Instruction instr) result self.new block.new self.old block.old }
     {
         match effect_at_once(instr, self.fp, block, &mut self.stack) {
             Answer::Done => {
@@ -39,7 +38,7 @@ impl<'a> TreeRun<'a> {
     /// Takes a turn.
     pub(crate) fn take_turn(&mut self) -> EngineTurn
         requires { HasFirst self.old }
-        ensures { (program : Program.Program) (block : List ℤ) → Comes result self.new block self.old block (Work.does program self.old.reserve Work.Taking (rest_of self.old) (state_in self.old block)) }
+        ensures { DoesAlways Work.Taking result self.new self.old }
     {
         if self.turns == 0 {
             self.is_over = true;
@@ -58,7 +57,7 @@ impl<'a> TreeRun<'a> {
         right: &'a Expression,
     ) -> EngineTurn
         requires { HasFirst self.old }
-        ensures { (block : List ℤ) → Comes result self.new block self.old block (Work.decided decides (rest_of self.old) (Work.Value (own_in own.entry) (expression_of right.now) ∷ rest_of self.old) (state_in self.old block)) }
+        ensures { Decides decides (own_in own.entry) (expression_of right.now) result self.new self.old }
     {
         let Some(word) = self.stack.top() else {
             return EngineTurn::Stuck;
@@ -84,7 +83,7 @@ impl<'a> TreeRun<'a> {
         otherwise: &'a Option<Vec<Statement>>,
     ) -> EngineTurn
         requires { HasFirst self.old }
-        ensures { (program : Program.Program) (block : List ℤ) → Comes result self.new block self.old block (Work.does program self.old.reserve (Work.Alternative (own_in own.entry) (statements_in body.now) (branches_in branches.now (otherwise_of otherwise.now))) (rest_of self.old) (state_in self.old block)) }
+        ensures { DoesAlways (Work.Alternative (own_in own.entry) (statements_in body.now) (branches_in branches.now (otherwise_of otherwise.now))) result self.new self.old }
     {
         let Some(word) = self.stack.top() else {
             return EngineTurn::Stuck;
@@ -118,7 +117,7 @@ impl<'a> TreeRun<'a> {
         body: &'a [Statement],
     ) -> EngineTurn
         requires { HasFirst self.old }
-        ensures { (program : Program.Program) (block : List ℤ) → Comes result self.new block self.old block (Work.does program self.old.reserve (Work.Looping (own_in own.entry) (expression_of condition.now) (statements_in body.now)) (rest_of self.old) (state_in self.old block)) }
+        ensures { DoesAlways (Work.Looping (own_in own.entry) (expression_of condition.now) (statements_in body.now)) result self.new self.old }
     {
         let Some(word) = self.stack.top() else {
             return EngineTurn::Stuck;
@@ -149,7 +148,7 @@ impl<'a> TreeRun<'a> {
         body: &'a [Statement],
     ) -> EngineTurn
         requires { HasFirst self.old }
-        ensures { (program : Program.Program) (block : List ℤ) → Comes result self.new block self.old block (Work.does program self.old.reserve (Work.Again (own_in own.entry) (expression_of condition.now) (statements_in body.now)) (rest_of self.old) (state_in self.old block)) }
+        ensures { DoesAlways (Work.Again (own_in own.entry) (expression_of condition.now) (statements_in body.now)) result self.new self.old }
     {
         self.work.remove_first();
         self.work.push(Task::While {
@@ -168,7 +167,7 @@ impl<'a> TreeRun<'a> {
         condition: &'a Expression,
     ) -> EngineTurn
         requires { HasFirst self.old }
-        ensures { (program : Program.Program) (block : List ℤ) → Comes result self.new block self.old block (Work.does program self.old.reserve (Work.Until (own_in own.entry) (statements_in body.now) (expression_of condition.now)) (rest_of self.old) (state_in self.old block)) }
+        ensures { DoesAlways (Work.Until (own_in own.entry) (statements_in body.now) (expression_of condition.now)) result self.new self.old }
     {
         let Some(word) = self.stack.top() else {
             return EngineTurn::Stuck;
@@ -189,7 +188,7 @@ impl<'a> TreeRun<'a> {
     /// The end of an alternative.
     pub(crate) fn pass_over(&mut self) -> EngineTurn
         requires { HasFirst self.old }
-        ensures { (program : Program.Program) (block : List ℤ) → Comes result self.new block self.old block (Work.does program self.old.reserve Work.Over (rest_of self.old) (state_in self.old block)) }
+        ensures { DoesAlways Work.Over result self.new self.old }
     {
         self.work.remove_first();
         EngineTurn::On
@@ -198,7 +197,7 @@ impl<'a> TreeRun<'a> {
     /// The end of a procedure.
     pub(crate) fn leave(&mut self) -> EngineTurn
         requires { HasFirst self.old }
-        ensures { (program : Program.Program) (block : List ℤ) → Comes result self.new block self.old block (Work.does program self.old.reserve Work.Leaving (rest_of self.old) (state_in self.old block)) }
+        ensures { DoesAlways Work.Leaving result self.new self.old }
     {
         if self.stack.height() < self.fp {
             return EngineTurn::Stuck;

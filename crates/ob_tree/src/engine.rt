@@ -10,7 +10,7 @@ ghost use Rattle.ob_code_scheme.specs.WellFormed.{IsWellFormed};
 ghost use Rattle.ob_meaning.specs.Object.{most_turns};
 ghost use Rattle.ob_tree_law.specs.TreeEngine.{work_room};
 
-use crate::reserve::work_tasks;
+use crate::reserve::room_for_work;
 use crate::run::TreeRun;
 use ob_checked::checked::Checked;
 use ob_code_engine::Entrance;
@@ -74,12 +74,8 @@ impl<'a> TreeEngine<'a> {
         ensures { IfOk result (λ e. tree_parts_in e ≡ Compiled.parts_of (program_in checked.now) budget) }
     {
         checked_is_well_formed(checked);
-        let program = checked.program();
-        let tasks = work_tasks(program.procedures.as_slice());
-        if tasks == usize::MAX {
-            return Err(NoMemory);
-        }
-        let exports = entrances(alloc, program)?;
+        let tasks = room_for_work(checked);
+        let exports = entrances(alloc, checked.program())?;
         Ok(TreeEngine {
             alloc,
             checked,

@@ -6,7 +6,7 @@ mod effects;
 pub mod engine;
 pub mod frames;
 pub mod procedures;
-mod reserve;
+pub mod reserve;
 pub mod run;
 pub mod settle;
 pub mod start;

@@ -1,11 +1,15 @@
 //! The tasks that a work list needs room for.
 
-ghost use Rattle.std.specs.Prelude.{◌≡◌, ◌∷◌, [], ◌+◌, ◌*◌, List, map, min};
+ghost use Rattle.std.specs.Prelude.{◌≡◌, ◌≤◌, ◌∷◌, [], ◌+◌, ◌*◌, List, map, min};
 ghost use Rattle.ob_typing.specs.Program.{no_branch};
+ghost use Rattle.ob_tree.specs.Rooms.{most_room};
+ghost use Rattle.ob_tree_law.specs.TreeEngine.{work_room};
 ghost use Rattle.ob_tree_work.specs.Reserve as Counts;
 ghost use Rattle.ob_checked.specs.Types.{Entry};
+ghost use Rattle.ob_checked.specs.CheckedModule.{program_in};
 ghost use Rattle.ob_checked.specs.View.{expression_of, operations_in, selectors_in, designator_of, actual_of, statement_of, statements_in, branches_in, procedure_of};
 
+use ob_checked::checked::Checked;
 use ob_checked::program::{
     Actual, Branch, Designator, Expression, Operation, Procedure, Selector, Statement,
 };
@@ -158,9 +162,25 @@ fn activation_most(procedures: &[Procedure]) -> usize
 }
 
 /// The tasks that a work list needs room for: of 64 activations, and three more; the greatest number where they are more.
-pub fn work_tasks(procedures: &[Procedure]) -> usize
+fn work_tasks(procedures: &[Procedure]) -> usize
     ensures { (types : List Entry) → result ≡ min (64 * Counts.activation_most (map (procedure_of types) procedures.now) + 3) usize.MAX }
 {
     let most = activation_most(procedures);
     most.saturating_mul(64).saturating_add(3)
+}
+
+/// A law, which does nothing: the work list of a checked module needs little room, since constructs of its text stand at most 100 deep.
+pub fn needs_little_room(checked: &Checked)
+    ensures { work_room (program_in checked.now) ≤ most_room }
+{
+    let _typed = checked.program();
+    let _tree = checked.module().tree();
+}
+
+/// The tasks that the work list of a checked module needs room for.
+pub fn room_for_work(checked: &Checked) -> usize
+    ensures { result ≡ work_room (program_in checked.now) }
+{
+    needs_little_room(checked);
+    work_tasks(checked.program().procedures.as_slice())
 }

@@ -4,7 +4,7 @@ ghost use Rattle.std.specs.Prelude.{◌≡◌, ◌+◌, ◌≤◌, ℤ, List, le
 ghost use Rattle.ob_checked.specs.View.{program_of};
 ghost use Rattle.ob_code_layout.specs.Layout.{block_in, parts_of};
 ghost use Rattle.ob_code_scheme.specs.Types.{frame_scope, variables_scope};
-ghost use Rattle.ob_tree.specs.Acting.{Comes, HasFirst, rest_of, state_in};
+ghost use Rattle.ob_tree.specs.Acting.{Does, DoesFirst, HasFirst};
 ghost use Rattle.ob_tree.specs.Procedures.{AreSmallFrames};
 ghost use Rattle.ob_tree.specs.Stepping.{CanStep};
 ghost use Rattle.ob_tree_law.specs.TreeEngine.{tree_step};
@@ -32,7 +32,7 @@ impl<'a> TreeRun<'a> {
         requires first { HasFirst self.old }
         requires frames { (parts_of layout.now).frames ≡ map frame_scope (program_of program.now).procedures }
         requires small { AreSmallFrames (program_of program.now).procedures }
-        ensures { (block : List ℤ) → Comes result self.new block self.old block (Work.does (program_of program.now) self.old.reserve (Work.Calling number parameters) (rest_of self.old) (state_in self.old block)) }
+        ensures { (block : List ℤ) → Does (program_of program.now) (Work.Calling number parameters) result self.new block self.old block }
     {
         if self.frames.len() >= Frames::LIMIT {
             self.is_over = true;
@@ -66,7 +66,7 @@ impl<'a> TreeRun<'a> {
         requires first { HasFirst self.old }
         requires frames { (parts_of layout.now).frames ≡ map frame_scope (program_of program.now).procedures }
         requires small { AreSmallFrames (program_of program.now).procedures }
-        ensures { Comes result self.new block.new self.old block.old (Work.does (program_of program.now) self.old.reserve (task_of task.entry) (rest_of self.old) (state_in self.old block.old)) }
+        ensures { Does (program_of program.now) (task_of task.entry) result self.new block.new self.old block.old }
     {
         match task {
             Task::Instruction(instr) => self.compute(instr, block),
@@ -115,7 +115,7 @@ impl<'a> TreeRun<'a> {
         requires room { length self.old.body.work + 3 ≤ self.old.room }
         requires frames { (parts_of layout.now).frames ≡ map frame_scope (program_of program.now).procedures }
         requires small { AreSmallFrames (program_of program.now).procedures }
-        ensures { Comes result self.new block.new self.old block.old (Work.does_first (program_of program.now) self.old.reserve self.old.body.work (state_in self.old block.old)) }
+        ensures { DoesFirst (program_of program.now) result self.new block.new self.old block.old }
     {
         let Some(task) = self.work.first() else {
             return EngineTurn::Stuck;
