@@ -46,18 +46,15 @@ fn main(rt: HostRuntime) -> ExitCode {
     if terminal && !reads_input(&rt) {
         tell_of_work(&rt, &done);
     }
-    let status = end(&rt, joined(&rt, worker));
-    if terminal && is_fault(status) {
-        tell_of_more(&rt);
-    }
-    ExitCode::from(status)
+    let answer = joined(&rt, worker);
+    ExitCode::from(end(&rt, terminal, answer))
 }
 
-/// Tells where more is told of a fault of the command that the words name.
-fn tell_of_more<R: Eprint + Env + AllocGlobal>(rt: &R) {
+/// Tells more of a fault with this line of the command that the words name, or where more is told.
+fn tell_of_more<R: Eprint + Env + AllocGlobal>(rt: &R, line: &[u8]) {
     if let Ok(mut words) = env::args(rt) {
         if let Some(command) = words.nth(1) {
-            let _ = rt.eprint(more_about(command.as_str()));
+            let _ = rt.eprint(more_about(command.as_str(), line));
         }
     }
 }
@@ -91,13 +88,22 @@ fn joined<R: Threads>(
     }
 }
 
-/// Prints the answer, or tells what the host refused, and gives the exit status.
-fn end<R: Print + Eprint>(rt: &R, answer: Result<Answer, Refusal>) -> u8
+/// Prints the answer, with more of a fault at a terminal, or tells what the host refused, and gives the exit status.
+fn end<R: Print + Eprint + Env + AllocGlobal>(
+    rt: &R,
+    terminal: bool,
+    answer: Result<Answer, Refusal>,
+) -> u8
     ensures { IfErr answer (λ refusal. result ≡ refusal_status refusal) }
 {
     match answer {
         Ok(answer) => match printed(rt, &answer) {
-            Ok(status) => status,
+            Ok(status) => {
+                if terminal && is_fault(status) {
+                    tell_of_more(rt, answer.err.as_bytes());
+                }
+                status
+            }
             Err(refusal) => told(rt, refusal),
         },
         Err(refusal) => told(rt, refusal),
