@@ -1,10 +1,9 @@
 //! The places of operations in statements.
 
-ghost use Rattle.std.specs.Prelude.{◌≡◌, map, option_map};
+ghost use Rattle.std.specs.Prelude.{◌≡◌};
 ghost use Rattle.ob_grammar.specs.View.{expr_of, stmt_of, stmts_in};
-ghost use Rattle.ob_typing.specs.Statements.{listed};
 ghost use Rattle.ob_trap_places.specs.Places as Places;
-ghost use Rattle.ob_trap_lookup.specs.Bodies.{branch_places};
+ghost use Rattle.ob_trap_lookup.specs.Bodies.{actuals_in, branch_places, call_places};
 
 use crate::expressions::{in_expression, in_selectors, itself};
 use ob_grammar::tree::{Branch, Expr, Stmt};
@@ -89,7 +88,7 @@ fn in_statement(statement: &Stmt, path: &[usize]) -> Option<usize>
 
 /// From a call: its name, and the actuals behind it.
 fn in_call(place: usize, actuals: &Option<Vec<Expr>>, path: &[usize]) -> Option<usize>
-    ensures { result ≡ Places.of_parts (Places.before (Places.itself place) (Places.parts_of_actuals (listed (option_map (λ es. map expr_of es.items) actuals.now)))) path.now }
+    ensures { result ≡ call_places place (actuals_in actuals.now) path.now }
 {
     match path.split_first() {
         None => None,
@@ -100,7 +99,7 @@ fn in_call(place: usize, actuals: &Option<Vec<Expr>>, path: &[usize]) -> Option<
 
 /// From the actual of a number.
 fn in_actuals(actuals: &Option<Vec<Expr>>, number: usize, path: &[usize]) -> Option<usize>
-    ensures { result ≡ Places.parts_of_actuals (listed (option_map (λ es. map expr_of es.items) actuals.now)) number path.now }
+    ensures { result ≡ Places.parts_of_actuals (actuals_in actuals.now) number path.now }
 {
     let Some(actuals) = actuals else {
         return None;

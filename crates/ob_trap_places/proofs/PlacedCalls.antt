@@ -17,7 +17,7 @@ use Rattle.ob_positions.specs.Object.{results_begun, outside_handed}
 use Rattle.ob_positions.specs.Evaluation.{by_position}
 use Rattle.ob_trap_sites.specs.Site.{Site, Sited, Yields, TrapsAt, of_procedure, called, site_of}
 use Rattle.ob_trap_sites.specs.OverStore as Sites
-use Rattle.ob_trap_sites.specs.Object.{export_number, site_in_procedure, site_of_call, opening}
+use Rattle.ob_trap_sites.specs.Object.{export_number, site_in_procedure, site_of_call, site_of_opening, opening}
 use Rattle.ob_trap_sites.proofs.CallSites.{export_here}
 use Rattle.ob_trap_places.specs.Places.{Places, Parts, no_part, before, itself, places_in_body, places_in_one, places_in_module, bodies_of, bodies_in, place_of}
 use Rattle.ob_trap_places.proofs.Landing as Landing
@@ -135,7 +135,7 @@ call_placed m program call budget state site (Typing.well_typed declares body) h
     (matched_within declares) (λ q e. export_here program call.export q e) h
 
 pub opening_placed : (m : Module) (program : Program) (turns : ℕ) (site : Site) → WellTyped m program →
-    site_of (opening program turns) ≡ Some site → (place : ℕ) × (place_of m site ≡ Some place)
+    site_of_opening program turns ≡ Some site → (place : ℕ) × (place_of m site ≡ Some place)
 opening_placed m program turns site (Typing.well_typed {inside = inside} declares body) h =
     placed_here m (opening program turns) site
     (of_body (λ n path. places_in_one (slice_get (bodies_of m.declarations) n) path) by_position inside (Sites.calls by_position program most_activations)

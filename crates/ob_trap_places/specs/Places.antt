@@ -2,7 +2,9 @@
 -- empty statements and a sign `+` count for nothing.
 use Rattle.std.specs.Prelude.{ℕ, zero, suc, List, [], ◌∷◌, ◌++◌, Option, Some, None, slice_get, if◌then◌else◌}
 use Rattle.ob_grammar.specs.declared.tree.Sign.{Sign}
-use Rattle.ob_grammar.specs.Tree.{Expr, Number, Named, Parens, Not, Product, Sum, Comparison, Operands, no_operand, operand, Selectors, no_selector, field, index, Stmt, Empty, Assign, Call, If, While, Repeat, Stmts, no_stmt, stmt, Branches, no_branch, branch, Otherwise, no_else, else', Declarations, Declared, Procedures, no_procedure, procedure, Module}
+use Rattle.ob_grammar.specs.Tree.{Expr, Number, Named, Parens, Not, Product, Sum, Comparison, Operands, no_operand, operand}
+use Rattle.ob_grammar.specs.Tree.{Stmt, Empty, Assign, Call, If, While, Repeat, Stmts, no_stmt, stmt, Branches, no_branch, branch, Otherwise, no_else, else'}
+use Rattle.ob_grammar.specs.Tree.{Selectors, no_selector, field, index, Declarations, Declared, Procedures, no_procedure, procedure, Module}
 use Rattle.ob_typing.specs.Statements.{listed}
 use Rattle.ob_trap_sites.specs.Site.{Site}
 

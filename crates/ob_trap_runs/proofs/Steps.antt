@@ -1,9 +1,9 @@
 -- Branches, loops and calls, one step after the other.
-use Rattle.std.proofs.Common.{◌≡◌, refl, ap, sym, subst, ◌∙◌, arith, ℕ, zero, suc, ◌+◌, ◌-◌, ◌<◌, ◌≤◌, Bool, true, false, List, [], ◌∷◌, ◌++◌, map, Some, None, drop, get_or, length, if◌then◌else◌, Result, Ok, Err}
+use Rattle.std.proofs.Common.{◌≡◌, refl, ap, sym, subst, ◌∙◌, arith, ℕ, zero, suc, ◌+◌, ◌-◌, ◌<◌, ◌≤◌, Bool, true, false, List, [], ◌∷◌, ◌++◌, map, Some, None, drop, get_or, length, if◌then◌else◌, Result, Err}
 use Rattle.std.specs.Prelude.{slice_get}
 use Rattle.ob_interface.specs.declared.scalar.Scalar.{Scalar}
 use Rattle.ob_typing.specs.Program as Programs
-use Rattle.ob_typing.specs.Arithmetic.{truth_of, too_many_activations, no_turn_left}
+use Rattle.ob_typing.specs.Arithmetic.{truth_of, no_turn_left}
 use Rattle.ob_checked.specs.declared.program.Branch.{Branch}
 use Rattle.ob_checked.specs.declared.program.Procedure.{Procedure}
 use Rattle.ob_checked.specs.declared.program.Statement.{Statement}
@@ -14,13 +14,13 @@ use Rattle.ob_positions.specs.Store.{Activation, Store, Held}
 use Rattle.ob_positions.specs.Statements.{Done, begun, calls, meaning_of_all}
 use Rattle.ob_trap_sites.proofs.WithoutSites.{body_same}
 use Rattle.ob_positions.specs.Evaluation.{by_position}
-use Rattle.ob_interpreter.proofs.Runs.{drop_here, drop_beyond}
+use Rattle.ob_interpreter.proofs.Runs.{drop_here}
 use Rattle.ob_trap_sites.specs.Site.{Site, Activating, Turning, here, outcome, Sited, Yields, TrapsAt, of_part, of_procedure}
 use Rattle.ob_trap_sites.specs.Site as Sites
 use Rattle.ob_trap_sites.specs.OverStore as Sited
 use Rattle.ob_trap_values.specs.declared.site.Halt.{Halt}
 use Rattle.ob_trap_values.specs.declared.site.Halt.TheVariants as Halts
-use Rattle.ob_trap_values.specs.Reaching.{site_of, HaltsAs, IsInside, IsWithin, Reaches}
+use Rattle.ob_trap_values.specs.Reaching.{site_of, HaltsAs, IsWithin, Reaches}
 use Rattle.ob_trap_runs.specs.Running.{Comes}
 
 abbrev bind : {A B : Type 0} → Sited A → (A → Sited B) → Sited B

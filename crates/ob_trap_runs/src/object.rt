@@ -1,6 +1,6 @@
 //! Where the trap of a call from outside comes from.
 
-ghost use Rattle.std.specs.Prelude.{◌≡◌, Some, None, MatchOption, IfOk, option_map, slice_get};
+ghost use Rattle.std.specs.Prelude.{◌≡◌, None, MatchOption, IfOk, option_map, slice_get};
 ghost use Rattle.ob_checked.specs.CheckedModule.{program_in};
 ghost use Rattle.ob_checked.specs.View.{procedure_of, program_of, table_of};
 ghost use Rattle.ob_interpreter.specs.Outside.{outside_store};
@@ -9,7 +9,7 @@ ghost use Rattle.ob_store.specs.View.{state_of, store_in};
 ghost use Rattle.ob_trap_sites.specs.Object as Sites;
 ghost use Rattle.ob_trap_values.specs.Reaching.{site_of};
 ghost use Rattle.ob_typing.specs.Program.{exports};
-ghost use Rattle.ob_trap_runs.specs.Running.{site_in};
+ghost use Rattle.ob_trap_runs.specs.Running.{IsExport, site_in};
 
 use crate::outside::{outside_handed, results_begun};
 use crate::statements::run;
@@ -29,7 +29,7 @@ use std::alloc::{AllocError, Global};
 /// The export of a number, with its number among all procedures.
 fn export(program: &Program, number: usize) -> Option<(usize, &Procedure)>
     ensures { MatchOption result (slice_get (exports (program_of program.now)) number ≡ None)
-        (λ found. (slice_get (exports (program_of program.now)) number ≡ Some (procedure_of (table_of program.now.types) found.1.now)) × (Sites.export_number (program_of program.now).procedures number ≡ found.0)) }
+        (λ found. IsExport (program_of program.now) number found.0 (procedure_of (table_of program.now.types) found.1.now)) }
 {
     let mut left = number;
     for (position, procedure) in program.procedures.iter().enumerate() {

@@ -1,14 +1,14 @@
 //! The outcomes of statements and of calls in the text.
 
-ghost use Rattle.std.specs.Prelude.{◌≡◌, ◌≤◌, IfOk, Some};
-ghost use Rattle.ob_checked.specs.View.{designator_of, expression_of, statement_of, statements_in, branches_in, otherwise_of, procedure_of, program_of, table_of};
+ghost use Rattle.std.specs.Prelude.{◌≤◌, IfOk};
+ghost use Rattle.ob_checked.specs.View.{designator_of, expression_of, statement_of, statements_in};
 ghost use Rattle.ob_positions.specs.Evaluation.{by_position};
 ghost use Rattle.ob_store.specs.View.{activation_in, store_in};
 ghost use Rattle.ob_trap_sites.specs.Site as Sites;
 ghost use Rattle.ob_trap_sites.specs.OverStore as Sited;
 ghost use Rattle.ob_trap_values.specs.Reaching.{Reaches};
-ghost use Rattle.ob_typing.specs.Program as Programs;
-ghost use Rattle.ob_trap_runs.specs.Running.{Comes, calls_of};
+ghost use Rattle.ob_trap_runs.specs.Running.{AssignComes, Comes};
+ghost use Rattle.ob_trap_runs.specs.Running.{activated_in, all_in, branch_in, calls_of, choice_in, one_in, repeat_in, while_in};
 
 use ob_checked::program::{Branch, Designator, Expression, Procedure, Statement};
 use ob_evaluate::begun::variables_begun;
@@ -30,7 +30,7 @@ fn assign(
     value: &Expression,
     turns: u64,
 ) -> Result<u64, Halt>
-    ensures outcome { (calls : Sited.Calls by_position) → Comes (Sited.meaning by_position calls (Programs.Assign (designator_of target.now) (expression_of value.now)) turns (store_in store.old)) result (store_in store.new) }
+    ensures outcome { AssignComes (designator_of target.now) (expression_of value.now) turns (store_in store.old) result (store_in store.new) }
     ensures turns { IfOk result (λ left. left ≤ turns) }
 {
     let place = place_of_part(alloc, store, 0, target)?;
@@ -62,7 +62,7 @@ pub fn run(
     statements: &[Statement],
     turns: u64,
 ) -> Result<u64, Halt>
-    ensures outcome { Comes (Sited.meaning_of_all by_position (calls_of context.entry) 0 (statements_in statements.now) turns (store_in store.old)) result (store_in store.new) }
+    ensures outcome { Comes (all_in context.entry (statements_in statements.now) turns (store_in store.old)) result (store_in store.new) }
     ensures turns { IfOk result (λ left. left ≤ turns) }
 {
     let mut left = turns;
@@ -81,7 +81,7 @@ fn run_in_part(
     statements: &[Statement],
     turns: u64,
 ) -> Result<u64, Halt>
-    ensures outcome { Comes (Sites.of_part part (Sited.meaning_of_all by_position (calls_of context.entry) 0 (statements_in statements.now) turns (store_in store.old))) result (store_in store.new) }
+    ensures outcome { Comes (Sites.of_part part (all_in context.entry (statements_in statements.now) turns (store_in store.old))) result (store_in store.new) }
     ensures turns { IfOk result (λ left. left ≤ turns) }
 {
     match run(context, store, statements, turns) {
@@ -99,7 +99,7 @@ fn execute_in_part(
     statement: &Statement,
     turns: u64,
 ) -> Result<u64, Halt>
-    ensures outcome { Comes (Sites.of_part part (Sited.meaning by_position (calls_of context.entry) (statement_of statement.now) turns (store_in store.old))) result (store_in store.new) }
+    ensures outcome { Comes (Sites.of_part part (one_in context.entry (statement_of statement.now) turns (store_in store.old))) result (store_in store.new) }
     ensures turns { IfOk result (λ left. left ≤ turns) }
 {
     match execute(context, store, statement, turns) {
@@ -116,7 +116,7 @@ fn execute(
     statement: &Statement,
     turns: u64,
 ) -> Result<u64, Halt>
-    ensures outcome { Comes (Sited.meaning by_position (calls_of context.entry) (statement_of statement.now) turns (store_in store.old)) result (store_in store.new) }
+    ensures outcome { Comes (one_in context.entry (statement_of statement.now) turns (store_in store.old)) result (store_in store.new) }
     ensures turns { IfOk result (λ left. left ≤ turns) }
 {
     match statement {
@@ -147,7 +147,7 @@ fn choose(
     otherwise: &Option<Vec<Statement>>,
     turns: u64,
 ) -> Result<u64, Halt>
-    ensures outcome { Comes (Sited.meaning_of_branches by_position (calls_of context.entry) 0 (branches_in branches.now (otherwise_of otherwise.now)) turns (store_in store.old)) result (store_in store.new) }
+    ensures outcome { Comes (choice_in context.entry branches.now otherwise.now turns (store_in store.old)) result (store_in store.new) }
     ensures turns { IfOk result (λ left. left ≤ turns) }
 {
     for (number, branch) in branches.iter().enumerate() {
@@ -171,7 +171,7 @@ fn run_branch(
     statements: &[Statement],
     turns: u64,
 ) -> Result<u64, Halt>
-    ensures outcome { Comes (Sites.of_part number (Sites.of_part 1 (Sited.meaning_of_all by_position (calls_of context.entry) 0 (statements_in statements.now) turns (store_in store.old)))) result (store_in store.new) }
+    ensures outcome { Comes (branch_in context.entry number (statements_in statements.now) turns (store_in store.old)) result (store_in store.new) }
     ensures turns { IfOk result (λ left. left ≤ turns) }
 {
     match run_in_part(context, store, 1, statements, turns) {
@@ -189,7 +189,7 @@ fn run_while(
     body: &[Statement],
     turns: u64,
 ) -> Result<u64, Halt>
-    ensures outcome { Comes (Sited.meaning by_position (calls_of context.entry) (Programs.While (expression_of condition.now) (statements_in body.now)) turns (store_in store.old)) result (store_in store.new) }
+    ensures outcome { Comes (while_in context.entry condition.now body.now turns (store_in store.old)) result (store_in store.new) }
     ensures turns { IfOk result (λ left. left ≤ turns) }
 {
     let mut left = turns;
@@ -211,7 +211,7 @@ fn run_repeat(
     condition: &Expression,
     turns: u64,
 ) -> Result<u64, Halt>
-    ensures outcome { Comes (Sited.meaning by_position (calls_of context.entry) (Programs.Repeat (statements_in body.now) (expression_of condition.now)) turns (store_in store.old)) result (store_in store.new) }
+    ensures outcome { Comes (repeat_in context.entry body.now condition.now turns (store_in store.old)) result (store_in store.new) }
     ensures turns { IfOk result (λ left. left ≤ turns) }
 {
     let mut left = turns;
@@ -271,7 +271,7 @@ fn activate(
     handed: Vec<Held>,
     turns: u64,
 ) -> Result<u64, Halt>
-    ensures outcome { Comes (Sited.activated by_position (calls_of context.entry) (Some (procedure_of (table_of context.entry.program.now.types) procedure.now)) (activation_in handed) turns (store_in store.old)) result (store_in store.new) }
+    ensures outcome { Comes (activated_in context.entry procedure.now (activation_in handed) turns (store_in store.old)) result (store_in store.new) }
     ensures turns { IfOk result (λ left. left ≤ turns) }
 {
     let activation = variables_begun(

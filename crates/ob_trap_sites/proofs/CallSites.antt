@@ -13,7 +13,7 @@ use Rattle.ob_positions.specs.Object as Objects
 use Rattle.ob_positions.specs.Object.{results_begun, outside_handed}
 use Rattle.ob_positions.specs.Evaluation.{by_position}
 use Rattle.ob_trap_sites.specs.Site.{Explains, Site, Sited, Yields, TrapsAt, of_procedure, site_of, outcome}
-use Rattle.ob_trap_sites.specs.Object.{export_number, run_outside, site_in_procedure, site_of_call, opening, trap_of}
+use Rattle.ob_trap_sites.specs.Object.{export_number, run_outside, site_in_procedure, site_of_call, site_of_opening, opening, trap_of, trap_of_run}
 use Rattle.ob_trap_sites.proofs.WithoutSites.{body_same}
 use Rattle.ob_trap_sites.proofs.Explained.{body_explained, in_procedure, of_site}
 
@@ -40,6 +40,15 @@ call_trap program call budget state =
 pub opening_same : (program : Program) (turns : ℕ) → outcome (opening program turns) ≡ Objects.opening program turns
 opening_same program turns = body_same by_position program most_activations program.body turns (begun program.variables ∷ [])
 
+-- the number of the site of a run is that of the trap by which it ends
+run_trap : (x : Sited (ℕ × Store)) (o : Outcome Store) → outcome x ≡ o → option_map (λ site. site.number) (site_of x) ≡ trap_of_run o
+run_trap (Yields (t, s)) o h = ap trap_of_run h
+run_trap (TrapsAt site) o h = ap trap_of_run h
+
+pub opening_trap : (program : Program) (turns : ℕ) →
+    option_map (λ site. site.number) (site_of_opening program turns) ≡ trap_of_run (Objects.opening program turns)
+opening_trap program turns = run_trap (opening program turns) (Objects.opening program turns) (opening_same program turns)
+
 procedure_explained : (program : Program) (number : ℕ) (p : Option Procedure) (arguments : List Scalar) (budget : ℕ) (state : Activation) (site : Site) →
     site_in_procedure program number p arguments budget state ≡ Some site → Explains site.cause site.number
 procedure_explained program number None arguments budget state site h = absurd cc
@@ -54,7 +63,7 @@ pub call_explained : (program : Program) (call : ObjectCall) (budget : ℕ) (sta
 call_explained program call budget state site h =
     procedure_explained program (export_number program.procedures call.export) (slice_get (exports program) call.export) call.arguments budget state site h
 
-pub opening_explained : (program : Program) (turns : ℕ) (site : Site) → site_of (opening program turns) ≡ Some site → Explains site.cause site.number
+pub opening_explained : (program : Program) (turns : ℕ) (site : Site) → site_of_opening program turns ≡ Some site → Explains site.cause site.number
 opening_explained program turns site h =
     of_site (opening program turns) site (body_explained by_position program most_activations program.body turns (begun program.variables ∷ [])) h
 

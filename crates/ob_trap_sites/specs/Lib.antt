@@ -1,3 +1,4 @@
 pub mod Site
 pub mod OverStore
 pub mod Object
+pub mod Laws

@@ -4,6 +4,7 @@ use Rattle.ob_interface.specs.declared.scalar.Scalar.{Scalar}
 use Rattle.ob_interface.specs.Call.{ObjectCall, Reply, Answers, Trapped}
 use Rattle.ob_typing.specs.Program.{Procedure, Program, exports}
 use Rattle.ob_meaning.specs.Object.{most_activations}
+use Rattle.ob_meaning.specs.OverStore.{Outcome, Done, Trap}
 use Rattle.ob_positions.specs.Store.{Activation, Store}
 use Rattle.ob_positions.specs.Statements.{activation_of, begun}
 use Rattle.ob_positions.specs.Object.{results_begun, outside_handed}
@@ -40,7 +41,16 @@ abbrev pub opening : Program → (turns : ℕ) → Sited (ℕ × Store)
 opening program turns =
     meaning_of_all by_position (calls by_position program most_activations) 0 program.body turns (begun program.variables ∷ [])
 
+-- where the trap of the opening comes from, if it traps
+abbrev pub site_of_opening : Program → (turns : ℕ) → Option Site
+site_of_opening program turns = site_of (opening program turns)
+
 -- the number of the trap that a reply tells, if it tells one
 abbrev pub trap_of : Reply → Option ℕ
 trap_of (Answers values) = None
 trap_of (Trapped k) = Some k
+
+-- the number of the trap by which a run ends, if it traps
+abbrev pub trap_of_run : Outcome Store → Option ℕ
+trap_of_run (Done turns store) = None
+trap_of_run (Trap k) = Some k

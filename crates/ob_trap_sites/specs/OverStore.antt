@@ -2,7 +2,9 @@
 use Rattle.std.specs.Prelude.{ℕ, zero, suc, List, [], ◌∷◌, slice_get, if◌then◌else◌, Option, Some, None}
 use Rattle.ob_interface.specs.declared.scalar.Scalar.{Scalar}
 use Rattle.ob_typing.specs.declared.operator.BinaryOperator.{BinaryOperator}
-use Rattle.ob_typing.specs.Program.{Expression, Literal, ValueOf, Negated, Complement, Computed, Compared, Operations, no_operation, operation, Designator, Designated, Selectors, no_selector, field_of, element_of, Actual, ByValue, ByPlace, Statement, Assign, Call, If, While, Repeat, Statements, no_statement, statement, Branches, no_branch, otherwise, branch, Procedure, Program}
+use Rattle.ob_typing.specs.Program.{Expression, Literal, ValueOf, Negated, Complement, Computed, Compared, Operations, no_operation, operation}
+use Rattle.ob_typing.specs.Program.{Designator, Designated, Selectors, no_selector, field_of, element_of, Actual, ByValue, ByPlace, Procedure, Program}
+use Rattle.ob_typing.specs.Program.{Statement, Assign, Call, If, While, Repeat, Statements, no_statement, statement, Branches, no_branch, otherwise, branch}
 use Rattle.ob_typing.specs.Arithmetic.{number_of, computed, decides, negated, complement, compared, truth_of, too_many_activations, no_turn_left}
 use Rattle.ob_meaning.specs.OverStore.{Stores, within}
 use Rattle.ob_trap_sites.specs.Site.{Operating, Negating, Indexing, Activating, Turning, here, Sited, Yields, TrapsAt, ◌>>=◌, at, of_part, of_procedure}

@@ -1,5 +1,7 @@
 -- What sites and halts stand for, and what evaluations with sites come to.
 use Rattle.std.specs.Prelude.{◌≡◌, ℕ, Result, Ok, Err}
+use Rattle.ob_interface.specs.declared.scalar.Scalar.{Scalar}
+use Rattle.ob_checked.specs.declared.program.Operation.{Operation}
 use Rattle.ob_checked.specs.declared.program.Selector.{Selector}
 use Rattle.ob_checked.specs.declared.program.Selector.TheVariants.{Field, Element}
 use Rattle.ob_checked.specs.View.{expression_of}
@@ -7,7 +9,7 @@ use Rattle.ob_positions.specs.Store.{Store}
 use Rattle.ob_positions.specs.Evaluation.{by_position}
 use Rattle.ob_trap_sites.specs.Site as Sites
 use Rattle.ob_trap_sites.specs.Site.{Sited, Yields, TrapsAt, of_part}
-use Rattle.ob_trap_sites.specs.OverStore.{value_of, indexed}
+use Rattle.ob_trap_sites.specs.OverStore.{value_of, applied, indexed}
 use Rattle.ob_trap_values.specs.declared.site.Cause.{Cause}
 use Rattle.ob_trap_values.specs.declared.site.Cause.TheVariants as Causes
 use Rattle.ob_trap_values.specs.declared.site.Site.{Site}
@@ -54,3 +56,7 @@ Reaches view x (Err Halts.NoMemory) = Unit {0}
 abbrev pub position_in : Store → ℕ → Selector → Sited ℕ
 position_in store part (Field position name) = Yields position
 position_in store part (Element length index) = of_part part (indexed length (value_of by_position store (expression_of index)))
+
+-- what an operator makes of a value, with the operand behind it
+abbrev pub applied_in : Store → Scalar → Operation → Sited Scalar
+applied_in store value operation = applied operation.operator value (value_of by_position store (expression_of operation.operand))

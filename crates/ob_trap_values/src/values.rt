@@ -9,7 +9,7 @@ ghost use Rattle.ob_interface.specs.declared.scalar.ScalarType.TheVariants.{Inte
 ghost use Rattle.ob_typing.specs.Program as Programs;
 ghost use Rattle.ob_trap_sites.specs.Site as Sites;
 ghost use Rattle.ob_trap_sites.specs.OverStore as Sited;
-ghost use Rattle.ob_trap_values.specs.Reaching.{Reaches, position_in};
+ghost use Rattle.ob_trap_values.specs.Reaching.{Reaches, applied_in, position_in};
 
 use crate::site::{Cause, Halt, at, inside};
 use ob_checked::program::{Designator, Expression, Operation, Owner, Selector, Slot};
@@ -105,7 +105,7 @@ fn applied_in_part(
     value: Scalar,
     operation: &Operation,
 ) -> Result<Scalar, Halt>
-    ensures { Reaches (λ s. s) (Sites.of_part part (Sited.applied operation.now.operator value (Sited.value_of by_position (store_in store.now) (expression_of operation.now.operand)))) result }
+    ensures { Reaches (λ s. s) (Sites.of_part part (applied_in (store_in store.now) value operation.now)) result }
 {
     match applied(alloc, store, value, operation) {
         Ok(scalar) => Ok(scalar),
@@ -121,7 +121,7 @@ fn applied(
     value: Scalar,
     operation: &Operation,
 ) -> Result<Scalar, Halt>
-    ensures { Reaches (λ s. s) (Sited.applied operation.now.operator value (Sited.value_of by_position (store_in store.now) (expression_of operation.now.operand))) result }
+    ensures { Reaches (λ s. s) (applied_in (store_in store.now) value operation.now) result }
 {
     if decides(operation.operator, value) {
         return Ok(value);

@@ -1,4 +1,4 @@
-use Rattle.std.proofs.Common.{◌-◌, ◌+◌, ◌*◌, ◌<◌, map, ap, sym, ◌∙◌, arith, subst, length, ◌≡◌, ◌≤◌, Some, Err}
+use Rattle.std.proofs.Common.{◌-◌, ◌*◌, ◌<◌, map, ap, sym, ◌∙◌, arith, subst, length, ◌≡◌, ◌≤◌, Some, Err}
 use Rattle.std.proofs.lemmas.Result.{err_from_is_err_and}
 use Rattle.ob_checked.specs.View.{expression_of, statement_of, statements_in, branches_in, otherwise_of, program_of, procedure_of, table_of}
 use Rattle.ob_checked.proofs.Rows.{statement_of-if, statement_of-while, statement_of-repeat}
