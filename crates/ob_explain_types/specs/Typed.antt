@@ -8,7 +8,7 @@ use Rattle.ob_explain_parts.specs.Forms.{form_before, form_behind, form_instead,
 use Rattle.ob_explain_parts.specs.declared.forms.Form.{Form}
 use Rattle.ob_explain_parts.specs.declared.forms.Form.TheVariants.{Integer, Boolean, Single, Array, Record, Unknown}
 use Rattle.ob_explain_parts.specs.declared.forms.Role.{Role}
-use Rattle.ob_explain_parts.specs.declared.forms.Role.TheVariants.{Compared, Actual, Other}
+use Rattle.ob_explain_parts.specs.declared.forms.Role.TheVariants.{Compared, Actual}
 use Rattle.ob_explain_tokens.specs.Around as Tokens
 use Rattle.ob_explain_types.specs.Types.{begins_with_sign, compares, takes_numbers, takes_truths, types_sentence}
 use Rattle.ob_explain_types.specs.Wanted.{wanted_at, wanted_form}
