@@ -1,13 +1,14 @@
 //! The parameter to which an actual is handed, by the tokens before it.
 
 ghost use Rattle.std.specs.Prelude.{◌≡◌, ◌≤◌, None, IfOk, false, length};
-ghost use Rattle.ob_explain_operands.specs.Parameters.{comma, form_by_sort, form_in_call, form_in_procedure, handed_at, is_outside, is_parameter, is_right, parameter_form, parameter_named, still_in_type, type_behind};
+ghost use Rattle.ob_explain_parts.specs.Parameters.{comma, form_by_sort, form_in_call, form_in_procedure, handed_at, is_outside, is_parameter, parameter_form, parameter_named, parameter_type, still_in_type};
 
-use crate::declarations::{declared_as, type_token};
 use crate::forms::{Form, form_of_type};
-use crate::kinds::{is_colon, is_name, is_semicolon};
+use crate::types::{Standing, declared_type};
 use ob_explain_names::known::{Known, Sort};
 use ob_explain_names::lookup::name_at;
+use ob_explain_operands::declarations::declared_as;
+use ob_explain_operands::kinds::{is_colon, is_name, is_right, is_semicolon};
 use ob_explain_tokens::around::tokens_behind;
 use ob_scan::{Kind, Token};
 use std::alloc::{AllocError, Global};
@@ -137,23 +138,23 @@ fn form_by_sort(
     match sort {
         Sort::Procedure(_) => {
             let behind = tokens_behind(alloc, tokens, place)?;
-            let first = type_behind(alloc, tokens, parameter_named(&behind, number))?;
-            Ok(form_of_type(text, known, first))
+            let declared = parameter_type(alloc, tokens, parameter_named(&behind, number))?;
+            form_of_type(alloc, text, known, tokens, declared)
         }
         _ => Ok(Form::Unknown),
     }
 }
 
-/// The token with which the type of a parameter begins.
-fn type_behind(
+/// The type of a parameter whose name is a token.
+fn parameter_type(
     alloc: Global,
     tokens: &[Token],
     name: Option<Token>,
-) -> Result<Option<Token>, AllocError>
-    ensures { IfOk result (λ t. t ≡ type_behind tokens.now name) }
+) -> Result<Option<Standing>, AllocError>
+    ensures { IfOk result (λ type. type ≡ parameter_type tokens.now name) }
 {
     match name {
-        Some(token) => type_token(alloc, tokens, token.start),
+        Some(token) => declared_type(alloc, tokens, token.start),
         None => Ok(None),
     }
 }
@@ -179,12 +180,6 @@ fn parameter_named(behind: &[Token], number: usize) -> Option<Token>
         }
     }
     None
-}
-
-fn is_right(kind: Kind) -> bool
-    ensures { result ≡ is_right kind }
-{
-    matches!(kind, Kind::RightParen)
 }
 
 fn is_parameter(in_type: bool, kind: Kind) -> bool

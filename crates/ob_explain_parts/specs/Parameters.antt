@@ -8,12 +8,14 @@ use Rattle.ob_explain_names.specs.declared.known.Known.{Known}
 use Rattle.ob_explain_names.specs.declared.known.Sort.{Sort}
 use Rattle.ob_explain_names.specs.declared.known.Sort.TheVariants as Sorts
 use Rattle.ob_explain_tokens.specs.Around as Tokens
-use Rattle.ob_explain_operands.specs.Declarations.{declared_as, type_token}
-use Rattle.ob_explain_operands.specs.Forms.{form_of_type}
-use Rattle.ob_explain_operands.specs.Kinds.{is_colon, is_name, is_semicolon}
-use Rattle.ob_explain_operands.specs.declared.forms.Form.{Form}
-use Rattle.ob_explain_operands.specs.declared.forms.Form.TheVariants as Forms
-use Rattle.ob_explain_operands.specs.declared.parameters.Handed.{Handed}
+use Rattle.ob_explain_operands.specs.Declarations.{declared_as}
+use Rattle.ob_explain_parts.specs.Forms.{form_of_type}
+use Rattle.ob_explain_operands.specs.Kinds.{is_colon, is_name, is_right, is_semicolon}
+use Rattle.ob_explain_parts.specs.Types.{declared_type}
+use Rattle.ob_explain_parts.specs.declared.forms.Form.{Form}
+use Rattle.ob_explain_parts.specs.declared.forms.Form.TheVariants as Forms
+use Rattle.ob_explain_parts.specs.declared.parameters.Handed.{Handed}
+use Rattle.ob_explain_parts.specs.declared.types.Standing.{Standing}
 
 -- a token that stands in no call: the call is what stands behind it
 abbrev pub is_outside : Kind → Bool
@@ -42,10 +44,6 @@ handed_at first commas [] = record { first = None; number = commas }
 handed_at first commas (t ∷ rest) =
     if is_outside t.kind then record { first = first; number = commas } else handed_at (Some t) (commas + comma t.kind) rest
 
-abbrev pub is_right : Kind → Bool
-is_right Kinds.RightParen = true
-is_right _ = false
-
 -- a name behind a `:` is one of a type, up to the `;`
 abbrev pub still_in_type : (in_type : Bool) → Kind → Bool
 still_in_type in_type kind = if is_colon kind then true else if is_semicolon kind then false else in_type
@@ -65,13 +63,13 @@ parameter_named (suc number) in_type (t ∷ rest) =
     else if is_parameter in_type t.kind then parameter_named number in_type rest
     else parameter_named (suc number) (still_in_type in_type t.kind) rest
 
-abbrev pub type_behind : List Token → Option Token → Option Token
-type_behind tokens None = None
-type_behind tokens (Some t) = type_token tokens t.start
+abbrev pub parameter_type : List Token → Option Token → Option Standing
+parameter_type tokens None = None
+parameter_type tokens (Some t) = declared_type tokens t.start
 
 abbrev pub form_by_sort : Sort → (text : List ℕ) → List Known → List Token → (place number : ℕ) → Form
 form_by_sort (Sorts.Procedure parameters) text known tokens place number =
-    form_of_type text known (type_behind tokens (parameter_named number false (Tokens.behind place tokens)))
+    form_of_type text known tokens (parameter_type tokens (parameter_named number false (Tokens.behind place tokens)))
 form_by_sort _ text known tokens place number = Forms.Unknown
 
 abbrev pub form_in_procedure : (text : List ℕ) → List Known → List Token → Option Known → (number : ℕ) → Form
