@@ -113,7 +113,7 @@ behind_few Or n = omega arith
 abbrev Bare : Type 0
 Bare = Option (Tree.Name × Tree.Selectors)
 
-same_selectors : (a b : Tree.Name) (s r : Tree.Selectors) → ◌≡◌ {A = Bare} (Some (a, s)) (Some (b, r)) → s ≡ r
+pub same_selectors : (a b : Tree.Name) (s r : Tree.Selectors) → ◌≡◌ {A = Bare} (Some (a, s)) (Some (b, r)) → s ≡ r
 same_selectors a b s r e = ap selectors_in e
   where
     selectors_in : Bare → Tree.Selectors

@@ -1,6 +1,6 @@
 //! The lock round a floor, and what is known beside it.
 
-ghost use Rattle.std.specs.Prelude.{◌≡◌, ◌-◌, ◌^◌, ◌<◌, ◌≤◌, All, IfErr, IfOk, OnErr, OnOk, map};
+ghost use Rattle.std.specs.Prelude.{◌≡◌, ◌-◌, ◌<◌, ◌≤◌, All, IfErr, IfOk, OnOk, map};
 ghost use Rattle.ob_desk.specs.Desk.{desk_in, seats_of};
 ghost use Rattle.ob_desk_floor.specs.Submission.{submission_of};
 ghost use Rattle.ob_interface.specs.View.{call_of};

@@ -1,7 +1,6 @@
 //! What a desk keeps beside its lock.
 
 ghost use Rattle.std.specs.Prelude.{◌≡◌, IfOk, map};
-ghost use Rattle.ob_desk.specs.Desk.{desk_in};
 ghost use Rattle.ob_desk_floor.specs.Submission.{submission_of};
 
 use ob_desk_floor::Submission;

@@ -3,19 +3,18 @@
 ghost use Rattle.std.specs.Prelude.{◌≡◌, ◌≢◌, ℕ, ◌<◌, ◌≤◌, ◌⊎◌, ◌^◌, All, Err, IfErr, IfOk, length, map, string_bytes};
 ghost use Rattle.ob_code_law.specs.Compiled.{IsFitting};
 ghost use Rattle.ob_meaning.specs.Object.{most_turns};
+ghost use Rattle.ob_object_compile.specs.Compilation.{InRange, too_long};
 ghost use Rattle.ob_object_compile.specs.Sound.{IsSoundObject};
 ghost use Rattle.ob_object_compile.specs.View.{object_in};
 ghost use Rattle.ob_desk_texts.specs.ServedTexts.{AreReadCalls, HasNoCalls, IsOfTexts, IsReadFault, IsServedBy, IsServedPrinted, IsServeTextFault, IsUngatedFault, TellsMemoryApart};
 ghost use Rattle.ob_text_words.specs.ScriptCalls.{object_call, script_call_of};
 
-use ob_check_text::TextFault;
 use ob_code_law::laws::calls_fit;
 use ob_desk_serve::{ServeFault, serve};
 use ob_desk_workers::{Gate, Open};
 use ob_interface::MOST_PROCESSES;
 use ob_object_compile::laws::compilations_are_sound;
 use ob_object_compile::{CompileFault, Object, compile};
-use ob_scan::ScanFault;
 use ob_scan::scanner::LONGEST_TEXT;
 use ob_text_record::write_record;
 use ob_text_scripts::{ScriptFault, read_scripts};
@@ -121,7 +120,7 @@ pub fn serve_text<R: Threads + Wait + Sync>(
     ensures budget { 0 < n → n ≤ MOST_PROCESSES → most_turns < budget → result ≡ Err (ServeTextFault.Compile CompileFault.Budget) }
 
     // A text over the scanner's bound is refused, whatever it says.
-    ensures too_long { 0 < n → n ≤ MOST_PROCESSES → budget ≤ most_turns → LONGEST_TEXT < length text.now → result ≡ Err (ServeTextFault.Compile (CompileFault.Text (TextFault.Scan ScanFault.TooLong))) }
+    ensures too_long { InRange n budget (LONGEST_TEXT < length text.now → result ≡ Err (ServeTextFault.Compile too_long)) }
 {
     serve_text_with(rt, alloc, text, n, budget, scripts, &Open, 1)
 }
@@ -154,7 +153,7 @@ pub fn serve_text_with<R: Threads + Wait + Sync, G: Gate + Sync>(
     ensures budget { 0 < n → n ≤ MOST_PROCESSES → most_turns < budget → result ≡ Err (ServeTextFault.Compile CompileFault.Budget) }
 
     // A text over the scanner's bound is refused, whatever it says.
-    ensures too_long { 0 < n → n ≤ MOST_PROCESSES → budget ≤ most_turns → LONGEST_TEXT < length text.now → result ≡ Err (ServeTextFault.Compile (CompileFault.Text (TextFault.Scan ScanFault.TooLong))) }
+    ensures too_long { InRange n budget (LONGEST_TEXT < length text.now → result ≡ Err (ServeTextFault.Compile too_long)) }
 {
     let (object, calls) = read_calls(alloc, text, n, budget, scripts)?;
     let record = serve(rt, alloc, &object, calls.as_slice(), gate, limit)?;
@@ -186,7 +185,7 @@ pub fn read_calls(
     ensures memory { IfErr result TellsMemoryApart }
     ensures processes { (n ≡ 0) ⊎ (MOST_PROCESSES < n) → result ≡ Err (ServeTextFault.Compile CompileFault.Processes) }
     ensures budget { 0 < n → n ≤ MOST_PROCESSES → most_turns < budget → result ≡ Err (ServeTextFault.Compile CompileFault.Budget) }
-    ensures too_long { 0 < n → n ≤ MOST_PROCESSES → budget ≤ most_turns → LONGEST_TEXT < length text.now → result ≡ Err (ServeTextFault.Compile (CompileFault.Text (TextFault.Scan ScanFault.TooLong))) }
+    ensures too_long { InRange n budget (LONGEST_TEXT < length text.now → result ≡ Err (ServeTextFault.Compile too_long)) }
 {
     let object = compile(alloc, text, n, budget)?;
     let script = read_scripts(alloc, object.checked(), n, scripts)?;

@@ -3,3 +3,4 @@ pub mod View
 pub mod Outside
 pub mod Sequences
 pub mod Faults
+pub mod Written

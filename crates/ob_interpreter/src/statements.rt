@@ -1,12 +1,12 @@
 //! The outcomes of statements and of calls in the text.
 
 ghost use Rattle.std.specs.Prelude.{◌≡◌, ◌≤◌, IfOk};
-ghost use Rattle.ob_checked.specs.View.{designator_of, expression_of, statement_of, statements_in, branches_in, otherwise_of};
+ghost use Rattle.ob_checked.specs.View.{statement_of, statements_in, branches_in, otherwise_of};
 ghost use Rattle.ob_positions.specs.Statements as Statements;
 ghost use Rattle.ob_store.specs.View.{activation_in, store_in};
 ghost use Rattle.ob_store.specs.Begun.{begun_in};
-ghost use Rattle.ob_typing.specs.Program as Programs;
 ghost use Rattle.ob_interpreter.specs.Running.{Comes, calls_of};
+ghost use Rattle.ob_interpreter.specs.Written.{assign_of, repeat_of, while_of};
 
 use ob_checked::program::{Branch, Designator, Expression, Program, Statement};
 use ob_evaluate::begun::variables_begun;
@@ -34,7 +34,7 @@ fn assign(
     value: &Expression,
     turns: u64,
 ) -> Result<u64, Stop>
-    ensures outcome { (calls : Statements.Calls) → Comes (Statements.meaning calls (Programs.Assign (designator_of target.now) (expression_of value.now)) turns (store_in store.old)) result (store_in store.new) }
+    ensures outcome { (calls : Statements.Calls) → Comes (Statements.meaning calls (assign_of target.now value.now) turns (store_in store.old)) result (store_in store.new) }
     ensures turns { IfOk result (λ left. left ≤ turns) }
     ensures begun { begun_in store.new ≡ begun_in store.old }
 {
@@ -55,7 +55,7 @@ fn assign_part(
     value: &Expression,
     turns: u64,
 ) -> Result<u64, Stop>
-    ensures outcome { (calls : Statements.Calls) → Comes (Statements.meaning calls (Programs.Assign (designator_of target.now) (expression_of value.now)) turns (store_in store.old)) result (store_in store.new) }
+    ensures outcome { (calls : Statements.Calls) → Comes (Statements.meaning calls (assign_of target.now value.now) turns (store_in store.old)) result (store_in store.new) }
     ensures turns { IfOk result (λ left. left ≤ turns) }
     ensures begun { begun_in store.new ≡ begun_in store.old }
 {
@@ -158,7 +158,7 @@ fn run_while(
     body: &[Statement],
     turns: u64,
 ) -> Result<u64, Stop>
-    ensures outcome { Comes (Statements.meaning (calls_of context.entry) (Programs.While (expression_of condition.now) (statements_in body.now)) turns (store_in store.old)) result (store_in store.new) }
+    ensures outcome { Comes (Statements.meaning (calls_of context.entry) (while_of condition.now body.now) turns (store_in store.old)) result (store_in store.new) }
     ensures turns { IfOk result (λ left. left ≤ turns) }
     ensures begun { begun_in store.new ≡ begun_in store.old }
 {
@@ -181,7 +181,7 @@ fn run_repeat(
     condition: &Expression,
     turns: u64,
 ) -> Result<u64, Stop>
-    ensures outcome { Comes (Statements.meaning (calls_of context.entry) (Programs.Repeat (statements_in body.now) (expression_of condition.now)) turns (store_in store.old)) result (store_in store.new) }
+    ensures outcome { Comes (Statements.meaning (calls_of context.entry) (repeat_of body.now condition.now) turns (store_in store.old)) result (store_in store.new) }
     ensures turns { IfOk result (λ left. left ≤ turns) }
     ensures begun { begun_in store.new ≡ begun_in store.old }
 {

@@ -3,13 +3,11 @@
 ghost use Rattle.std.specs.Prelude.{◌≡◌, ◌<◌, ◌≤◌, ◌⊎◌, ◌↔◌, ◌++◌, Err, IfOk, IfErr, OnOk, length, string_bytes};
 ghost use Rattle.ob_meaning.specs.Object.{most_turns};
 ghost use Rattle.ob_object_bound.specs.Numbers.{IsBoundText, number_line, numbers_text};
-ghost use Rattle.ob_object_compile.specs.Compilation.{HasNoObject, IsCompileFault, IsNumbered, TellsMemoryApart};
+ghost use Rattle.ob_object_compile.specs.Compilation.{HasNoObject, InRange, IsCompileFault, IsNumbered, TellsMemoryApart, too_long};
 
 use crate::numbers::{Numbers, numbers_of};
-use ob_check_text::TextFault;
 use ob_interface::{MOST_PROCESSES, NoMemory};
 use ob_object_compile::{CompileFault, compile};
-use ob_scan::ScanFault;
 use ob_scan::scanner::LONGEST_TEXT;
 use ob_text_words::numbers::push_number;
 use std::alloc::{AllocError, Global};
@@ -35,8 +33,7 @@ pub fn bound_text(
     ensures budget { 0 < n → n ≤ MOST_PROCESSES → ((result ≡ Err CompileFault.Budget) ↔ (most_turns < budget)) }
 
     // A text over the scanner's bound is refused, whatever it says.
-    ensures too_long { 0 < n → n ≤ MOST_PROCESSES → budget ≤ most_turns → LONGEST_TEXT < length «module».now
-        → result ≡ Err (CompileFault.Text (TextFault.Scan ScanFault.TooLong)) }
+    ensures too_long { InRange n budget (LONGEST_TEXT < length «module».now → result ≡ Err too_long) }
 {
     let object = compile(alloc, module, n, budget)?;
     Ok(numbers_text(alloc, numbers_of(&object))?)

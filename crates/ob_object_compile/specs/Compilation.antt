@@ -130,6 +130,10 @@ IsTreeFault text n budget fault = IsObjectFault IsAny text n budget fault
 abbrev pub too_long : CompileFault
 too_long = Faults.Text (Text.Scan Scan.TooLong)
 
+-- what holds where number of processes and budget, which are looked at before the text, may be so
+abbrev pub InRange : (n budget : ℕ) → Type 0 → Type 0
+InRange n budget Holds = 0 < n → n ≤ most_processes → budget ≤ most_turns → Holds
+
 -- want of memory is told by its own variant alone: a fault of the text has a number
 abbrev pub TellsMemoryApart : CompileFault → Type 0
 TellsMemoryApart (Faults.Text e) = IsNumberedText e

@@ -8,7 +8,7 @@ ghost use Rattle.ob_grammar.specs.Texts.{IsTextOf};
 ghost use Rattle.ob_grammar.specs.Tree as Tree;
 ghost use Rattle.ob_interpreter.specs.Sequences.{IsOpening};
 ghost use Rattle.ob_meaning.specs.Object.{most_turns};
-ghost use Rattle.ob_object_compile.specs.Compilation.{IsCompilation, IsCompileFault, IsNumbered, IsShort, HasNoObject, TellsMemoryApart, default_budget, too_long};
+ghost use Rattle.ob_object_compile.specs.Compilation.{HasNoObject, InRange, IsCompilation, IsCompileFault, IsNumbered, IsShort, TellsMemoryApart, default_budget, too_long};
 ghost use Rattle.ob_object_compile.specs.CompilationParts.{IsEngineFault, IsOpeningFault};
 ghost use Rattle.ob_object_compile.specs.View.{object_in};
 ghost use Rattle.ob_store.specs.View.{state_of};
@@ -139,7 +139,7 @@ pub fn compile(alloc: Global, text: &[u8], n: usize, budget: u64) -> Result<Obje
     ensures memory { IfErr result TellsMemoryApart }
 
     // A text over the scanner's bound is refused, whatever it says.
-    ensures too_long { 0 < n → n ≤ MOST_PROCESSES → budget ≤ most_turns → LONGEST_TEXT < length text.now → result ≡ Err too_long }
+    ensures too_long { InRange n budget (LONGEST_TEXT < length text.now → result ≡ Err too_long) }
 {
     if n == 0 || n > MOST_PROCESSES {
         return Err(CompileFault::Processes);

@@ -4,7 +4,7 @@ ghost use Rattle.std.specs.Prelude.{◌≡◌, ◌<◌, ◌≤◌, ◌⊎◌, �
 ghost use Rattle.ob_grammar.specs.Texts.{IsTextOf};
 ghost use Rattle.ob_grammar.specs.Tree as Tree;
 ghost use Rattle.ob_meaning.specs.Object.{most_turns};
-ghost use Rattle.ob_object_compile.specs.Compilation.{HasNoTreeObject, IsNumbered, IsTreeCompilation, IsTreeFault, TellsMemoryApart, too_long};
+ghost use Rattle.ob_object_compile.specs.Compilation.{HasNoTreeObject, InRange, IsNumbered, IsTreeCompilation, IsTreeFault, TellsMemoryApart, too_long};
 ghost use Rattle.ob_object_compile.specs.View.{tree_object_in};
 ghost use Rattle.ob_typing.specs.ModuleText.{IsModule};
 ghost use Rattle.ob_typing.specs.Program.{Program};
@@ -35,7 +35,7 @@ pub fn compile_tree(
     // With a fault that has a number there is no such object of this text.
     ensures none { IfErr result (λ e. IsNumbered e → HasNoTreeObject text.now n budget) }
     ensures memory { IfErr result TellsMemoryApart }
-    ensures too_long { 0 < n → n ≤ MOST_PROCESSES → budget ≤ most_turns → LONGEST_TEXT < length text.now → result ≡ Err too_long }
+    ensures too_long { InRange n budget (LONGEST_TEXT < length text.now → result ≡ Err too_long) }
 {
     if n == 0 || n > MOST_PROCESSES {
         return Err(CompileFault::Processes);

@@ -3,6 +3,7 @@
 ghost use Rattle.std.specs.Prelude.{◌≡◌, ◌<◌, ◌≤◌, ◌⊎◌, Err, IfErr, IfOk, OnOk, length, string_bytes};
 ghost use Rattle.ob_checked.specs.CheckedModule.{program_in};
 ghost use Rattle.ob_meaning.specs.Object.{most_turns};
+ghost use Rattle.ob_object_compile.specs.Compilation.{InRange, too_long};
 ghost use Rattle.ob_object_perform.specs.Performance as Performance;
 ghost use Rattle.ob_object_perform.specs.Performance.{HasNoPerformance, IsNumbered, IsPerformFault};
 ghost use Rattle.ob_object_perform.specs.Pictured.{IsDrawFault, IsPicturePrinted, IsWithMakers, SaysNoRun, TellsMemoryApart};
@@ -10,12 +11,10 @@ ghost use Rattle.ob_object_record.specs.Record.{record_of};
 
 use crate::performing::{PerformFault, read_texts};
 use crate::running::run_with_makers;
-use ob_check_text::TextFault;
 use ob_checked::checked::Checked;
 use ob_interface::MOST_PROCESSES;
 use ob_object_compile::CompileFault;
 use ob_object_record::Record;
-use ob_scan::ScanFault;
 use ob_scan::scanner::LONGEST_TEXT;
 use ob_text_picture::draw;
 use ob_text_picture_chart::{CallRange, PictureFault, seen_moments};
@@ -94,7 +93,7 @@ pub fn draw_text(
     ensures budget { 0 < n → n ≤ MOST_PROCESSES → most_turns < budget → result ≡ Err (DrawFault.Run (PerformFault.Compile CompileFault.Budget)) }
 
     // A text over the scanner's bound is refused, whatever it says.
-    ensures too_long { 0 < n → n ≤ MOST_PROCESSES → budget ≤ most_turns → LONGEST_TEXT < length text.now → result ≡ Err (DrawFault.Run (PerformFault.Compile (CompileFault.Text (TextFault.Scan ScanFault.TooLong)))) }
+    ensures too_long { InRange n budget (LONGEST_TEXT < length text.now → result ≡ Err (DrawFault.Run (PerformFault.Compile too_long))) }
 {
     let (checked, record, makers) = with_makers(alloc, text, n, budget, scripts, schedule)?;
     let moments = seen_moments(alloc, record.history.events(), &makers)?;
@@ -117,7 +116,7 @@ fn with_makers(
     ensures memory { IfErr result Performance.TellsMemoryApart }
     ensures processes { (n ≡ 0) ⊎ (MOST_PROCESSES < n) → result ≡ Err (PerformFault.Compile CompileFault.Processes) }
     ensures budget { 0 < n → n ≤ MOST_PROCESSES → most_turns < budget → result ≡ Err (PerformFault.Compile CompileFault.Budget) }
-    ensures too_long { 0 < n → n ≤ MOST_PROCESSES → budget ≤ most_turns → LONGEST_TEXT < length text.now → result ≡ Err (PerformFault.Compile (CompileFault.Text (TextFault.Scan ScanFault.TooLong))) }
+    ensures too_long { InRange n budget (LONGEST_TEXT < length text.now → result ≡ Err (PerformFault.Compile too_long)) }
 {
     let (object, calls, items) = read_texts(alloc, text, n, budget, scripts, schedule)?;
     Ok(run_with_makers(alloc, object, calls, items)?)

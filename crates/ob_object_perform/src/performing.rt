@@ -5,6 +5,7 @@ ghost use Rattle.ob_checked.specs.CheckedModule.{program_in};
 ghost use Rattle.ob_code_law.specs.Carried.{BegunFit};
 ghost use Rattle.ob_code_law.specs.Compiled.{Fits};
 ghost use Rattle.ob_meaning.specs.Object.{most_turns};
+ghost use Rattle.ob_object_compile.specs.Compilation.{InRange, too_long};
 ghost use Rattle.ob_object_compile.specs.View.{object_in};
 ghost use Rattle.ob_object_perform.specs.Performance.{AreRead, HasNoPerformance, IsNumbered, IsPerformance, IsPerformFault, IsReady, TellsMemoryApart};
 ghost use Rattle.ob_object_record.specs.Record.{record_of};
@@ -12,14 +13,12 @@ ghost use Rattle.ob_typing.specs.ModuleText.{IsModule};
 ghost use Rattle.ob_typing.specs.Program.{Program};
 
 use crate::running::run_on;
-use ob_check_text::TextFault;
 use ob_checked::checked::Checked;
 use ob_code_law::laws::calls_fit;
 use ob_interface::{MOST_PROCESSES, NoMemory};
 use ob_object_compile::laws::compilations_are_sound;
 use ob_object_compile::{CompileFault, Object, compile};
 use ob_object_record::Record;
-use ob_scan::ScanFault;
 use ob_scan::scanner::LONGEST_TEXT;
 use ob_schedule::{Item, ScheduleFault, read_schedule};
 use ob_text_scripts::{ScriptFault, Scripts, read_scripts};
@@ -149,7 +148,7 @@ pub fn perform(
     ensures budget { 0 < n → n ≤ MOST_PROCESSES → most_turns < budget → result ≡ Err (PerformFault.Compile CompileFault.Budget) }
 
     // A text over the scanner's bound is refused, whatever it says.
-    ensures too_long { 0 < n → n ≤ MOST_PROCESSES → budget ≤ most_turns → LONGEST_TEXT < length text.now → result ≡ Err (PerformFault.Compile (CompileFault.Text (TextFault.Scan ScanFault.TooLong))) }
+    ensures too_long { InRange n budget (LONGEST_TEXT < length text.now → result ≡ Err (PerformFault.Compile too_long)) }
 {
     let (_, record) = performed(alloc, text, n, budget, scripts, schedule)?;
     Ok(record)
@@ -184,7 +183,7 @@ pub fn performed(
     ensures budget { 0 < n → n ≤ MOST_PROCESSES → most_turns < budget → result ≡ Err (PerformFault.Compile CompileFault.Budget) }
 
     // A text over the scanner's bound is refused, whatever it says.
-    ensures too_long { 0 < n → n ≤ MOST_PROCESSES → budget ≤ most_turns → LONGEST_TEXT < length text.now → result ≡ Err (PerformFault.Compile (CompileFault.Text (TextFault.Scan ScanFault.TooLong))) }
+    ensures too_long { InRange n budget (LONGEST_TEXT < length text.now → result ≡ Err (PerformFault.Compile too_long)) }
 {
     let (object, calls, items) = read_texts(alloc, text, n, budget, scripts, schedule)?;
     let (checked, record) = run_on(alloc, object, calls, items)?;
@@ -215,7 +214,7 @@ pub fn read_texts(
     ensures memory { IfErr result TellsMemoryApart }
     ensures processes { (n ≡ 0) ⊎ (MOST_PROCESSES < n) → result ≡ Err (PerformFault.Compile CompileFault.Processes) }
     ensures budget { 0 < n → n ≤ MOST_PROCESSES → most_turns < budget → result ≡ Err (PerformFault.Compile CompileFault.Budget) }
-    ensures too_long { 0 < n → n ≤ MOST_PROCESSES → budget ≤ most_turns → LONGEST_TEXT < length text.now → result ≡ Err (PerformFault.Compile (CompileFault.Text (TextFault.Scan ScanFault.TooLong))) }
+    ensures too_long { InRange n budget (LONGEST_TEXT < length text.now → result ≡ Err (PerformFault.Compile too_long)) }
 {
     let object = compile(alloc, text, n, budget)?;
     let calls = read_scripts(alloc, object.checked(), n, scripts)?;

@@ -2,14 +2,13 @@
 
 ghost use Rattle.std.specs.Prelude.{◌≡◌, ◌<◌, ◌≤◌, ◌⊎◌, Err, IfErr, IfOk, length, string_bytes};
 ghost use Rattle.ob_meaning.specs.Object.{most_turns};
+ghost use Rattle.ob_object_compile.specs.Compilation.{InRange, too_long};
 ghost use Rattle.ob_object_perform.specs.Performance.{HasNoPerformance, IsNumbered, IsPerformFault, TellsMemoryApart};
 ghost use Rattle.ob_object_perform.specs.Printed.{IsRecordPrinted};
 
 use crate::performing::{PerformFault, performed};
-use ob_check_text::TextFault;
 use ob_interface::MOST_PROCESSES;
 use ob_object_compile::CompileFault;
-use ob_scan::ScanFault;
 use ob_scan::scanner::LONGEST_TEXT;
 use ob_text_record::write_record;
 use std::alloc::Global;
@@ -37,7 +36,7 @@ pub fn run_text(
     ensures budget { 0 < n → n ≤ MOST_PROCESSES → most_turns < budget → result ≡ Err (PerformFault.Compile CompileFault.Budget) }
 
     // A text over the scanner's bound is refused, whatever it says.
-    ensures too_long { 0 < n → n ≤ MOST_PROCESSES → budget ≤ most_turns → LONGEST_TEXT < length text.now → result ≡ Err (PerformFault.Compile (CompileFault.Text (TextFault.Scan ScanFault.TooLong))) }
+    ensures too_long { InRange n budget (LONGEST_TEXT < length text.now → result ≡ Err (PerformFault.Compile too_long)) }
 {
     let (checked, record) = performed(alloc, text, n, budget, scripts, schedule)?;
     Ok(write_record(alloc, &checked, &record)?)

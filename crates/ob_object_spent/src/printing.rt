@@ -3,20 +3,19 @@
 ghost use Rattle.std.specs.Prelude.{◌≡◌, ◌<◌, ◌≤◌, ◌^◌, ◌⊎◌, Err, IfErr, IfOk, length, string_bytes};
 ghost use Rattle.ob_checked.specs.CheckedModule.{program_in};
 ghost use Rattle.ob_meaning.specs.Object.{most_turns};
+ghost use Rattle.ob_object_compile.specs.Compilation.{InRange, too_long};
 ghost use Rattle.ob_object_perform.specs.Performance.{HasNoPerformance, IsNumbered, IsPerformFault, TellsMemoryApart};
 ghost use Rattle.ob_object_record.specs.Record.{record_of};
 ghost use Rattle.ob_object_spent.specs.Spent.{IsPrintedWithSteps, IsWithSteps};
 
 use crate::lines::steps_text;
 use crate::running::run_with_steps;
-use ob_check_text::TextFault;
 use ob_checked::checked::Checked;
 use ob_interface::MOST_PROCESSES;
 use ob_object_compile::CompileFault;
 use ob_object_perform::PerformFault;
 use ob_object_perform::performing::read_texts;
 use ob_object_record::Record;
-use ob_scan::ScanFault;
 use ob_scan::scanner::LONGEST_TEXT;
 use ob_text_record::write_record;
 use std::alloc::Global;
@@ -46,7 +45,7 @@ pub fn run_text_with_steps(
     ensures budget { 0 < n → n ≤ MOST_PROCESSES → most_turns < budget → result ≡ Err (PerformFault.Compile CompileFault.Budget) }
 
     // A text over the scanner's bound is refused, whatever it says.
-    ensures too_long { 0 < n → n ≤ MOST_PROCESSES → budget ≤ most_turns → LONGEST_TEXT < length text.now → result ≡ Err (PerformFault.Compile (CompileFault.Text (TextFault.Scan ScanFault.TooLong))) }
+    ensures too_long { InRange n budget (LONGEST_TEXT < length text.now → result ≡ Err (PerformFault.Compile too_long)) }
 {
     let (checked, record, ended) = with_steps(alloc, text, n, budget, scripts, schedule)?;
     count_events(&record.history);
@@ -77,7 +76,7 @@ fn with_steps(
     ensures memory { IfErr result TellsMemoryApart }
     ensures processes { (n ≡ 0) ⊎ (MOST_PROCESSES < n) → result ≡ Err (PerformFault.Compile CompileFault.Processes) }
     ensures budget { 0 < n → n ≤ MOST_PROCESSES → most_turns < budget → result ≡ Err (PerformFault.Compile CompileFault.Budget) }
-    ensures too_long { 0 < n → n ≤ MOST_PROCESSES → budget ≤ most_turns → LONGEST_TEXT < length text.now → result ≡ Err (PerformFault.Compile (CompileFault.Text (TextFault.Scan ScanFault.TooLong))) }
+    ensures too_long { InRange n budget (LONGEST_TEXT < length text.now → result ≡ Err (PerformFault.Compile too_long)) }
 {
     let (object, calls, items) = read_texts(alloc, text, n, budget, scripts, schedule)?;
     Ok(run_with_steps(alloc, object, calls, items)?)

@@ -2,7 +2,7 @@
 
 ghost use Rattle.std.specs.Prelude.{◌≡◌, ◌<◌, ◌≤◌, ◌^◌, ◌⊎◌, Err, IfOk, IfErr, length};
 ghost use Rattle.ob_meaning.specs.Object.{most_turns};
-ghost use Rattle.ob_object_compile.specs.Compilation.{IsAny, too_long};
+ghost use Rattle.ob_object_compile.specs.Compilation.{InRange, IsAny, too_long};
 ghost use Rattle.ob_object_compile.specs.View.{tree_object_in};
 ghost use Rattle.ob_object_perform.specs.Performance.{AreReadOf, HasNoTreePerformance, IsNumbered, IsReady, IsTreePerformance, IsTreePerformFault, TellsMemoryApart};
 ghost use Rattle.ob_object_record.specs.Record.{record_of};
@@ -53,7 +53,7 @@ pub fn perform_tree(
     ensures budget { 0 < n → n ≤ MOST_PROCESSES → most_turns < budget → result ≡ Err (PerformFault.Compile CompileFault.Budget) }
 
     // A text over the scanner's bound is refused, whatever it says.
-    ensures too_long { 0 < n → n ≤ MOST_PROCESSES → budget ≤ most_turns → LONGEST_TEXT < length text.now → result ≡ Err (PerformFault.Compile too_long) }
+    ensures too_long { InRange n budget (LONGEST_TEXT < length text.now → result ≡ Err (PerformFault.Compile too_long)) }
 {
     let (_, record) = performed_tree(alloc, text, n, budget, scripts, schedule)?;
     Ok(record)
@@ -78,7 +78,7 @@ pub(crate) fn performed_tree(
     ensures memory { IfErr result TellsMemoryApart }
     ensures processes { (n ≡ 0) ⊎ (MOST_PROCESSES < n) → result ≡ Err (PerformFault.Compile CompileFault.Processes) }
     ensures budget { 0 < n → n ≤ MOST_PROCESSES → most_turns < budget → result ≡ Err (PerformFault.Compile CompileFault.Budget) }
-    ensures too_long { 0 < n → n ≤ MOST_PROCESSES → budget ≤ most_turns → LONGEST_TEXT < length text.now → result ≡ Err (PerformFault.Compile too_long) }
+    ensures too_long { InRange n budget (LONGEST_TEXT < length text.now → result ≡ Err (PerformFault.Compile too_long)) }
 {
     let (object, calls, items) = read_tree_texts(alloc, text, n, budget, scripts, schedule)?;
     let record = run_on_tree(alloc, &object, calls, items)?;
@@ -111,7 +111,7 @@ fn read_tree_texts(
     ensures memory { IfErr result TellsMemoryApart }
     ensures processes { (n ≡ 0) ⊎ (MOST_PROCESSES < n) → result ≡ Err (PerformFault.Compile CompileFault.Processes) }
     ensures budget { 0 < n → n ≤ MOST_PROCESSES → most_turns < budget → result ≡ Err (PerformFault.Compile CompileFault.Budget) }
-    ensures too_long { 0 < n → n ≤ MOST_PROCESSES → budget ≤ most_turns → LONGEST_TEXT < length text.now → result ≡ Err (PerformFault.Compile too_long) }
+    ensures too_long { InRange n budget (LONGEST_TEXT < length text.now → result ≡ Err (PerformFault.Compile too_long)) }
 {
     let object = compile_tree(alloc, text, n, budget)?;
     let calls = read_scripts(alloc, object.checked(), n, scripts)?;

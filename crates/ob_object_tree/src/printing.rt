@@ -2,7 +2,7 @@
 
 ghost use Rattle.std.specs.Prelude.{◌≡◌, ◌<◌, ◌≤◌, ◌⊎◌, Err, IfErr, IfOk, length, string_bytes};
 ghost use Rattle.ob_meaning.specs.Object.{most_turns};
-ghost use Rattle.ob_object_compile.specs.Compilation.{too_long};
+ghost use Rattle.ob_object_compile.specs.Compilation.{InRange, too_long};
 ghost use Rattle.ob_object_perform.specs.Performance.{HasNoTreePerformance, IsNumbered, IsTreePerformFault, TellsMemoryApart};
 ghost use Rattle.ob_object_perform.specs.Printed.{IsTreeRecordPrinted};
 ghost use Rattle.ob_object_tree.specs.TreeRuns.{IsPrintedOfCode};
@@ -41,7 +41,7 @@ pub fn run_tree_text(
     ensures budget { 0 < n → n ≤ MOST_PROCESSES → most_turns < budget → result ≡ Err (PerformFault.Compile CompileFault.Budget) }
 
     // A text over the scanner's bound is refused, whatever it says.
-    ensures too_long { 0 < n → n ≤ MOST_PROCESSES → budget ≤ most_turns → LONGEST_TEXT < length text.now → result ≡ Err (PerformFault.Compile too_long) }
+    ensures too_long { InRange n budget (LONGEST_TEXT < length text.now → result ≡ Err (PerformFault.Compile too_long)) }
 {
     let (object, record) = performed_tree(alloc, text, n, budget, scripts, schedule)?;
     Ok(write_record(alloc, object.checked(), &record)?)

@@ -3,3 +3,4 @@ pub mod CheckingTypes
 pub mod CheckingVariables
 pub mod Designations
 pub mod CheckingStatements
+pub mod ByScopes

@@ -1,12 +1,11 @@
 //! Declarations, in text order.
 
 ghost use Rattle.std.specs.Prelude.{◌≡◌, true, List, ◌∷◌, ◌++◌, ◌+◌, length, map, nat_le, Some, None, option_map, if◌then◌else◌, OnOk, IfOk, IfErr};
-ghost use Rattle.std.specs.Prelude as Lists;
 ghost use Rattle.ob_grammar.specs.Tree as trees;
 ghost use Rattle.ob_grammar.specs.View.{expr_of, name_of, const_decl_of, type_decl_of, var_decl_of};
 ghost use Rattle.ob_typing.specs.Scopes.{words};
 ghost use Rattle.ob_typing.specs.Declarations as Declared;
-ghost use Rattle.ob_typing.specs.Declarations.{first_beyond, with_variables, room_behind, variables_of};
+ghost use Rattle.ob_typing.specs.Declarations.{first_beyond, with_variables, room_behind};
 ghost use Rattle.ob_typing.specs.declared.rule.Rule.TheVariants.{PassesLimit};
 ghost use Rattle.ob_typing.specs.Verdict.{Right, unless_name};
 ghost use Rattle.ob_typing.specs.TypeVerdicts as Constants;
@@ -14,6 +13,7 @@ ghost use Rattle.ob_typing.specs.ModuleVerdicts as Verdicts;
 ghost use Rattle.ob_checked.specs.Types.{type_in, is_below, Extends};
 ghost use Rattle.ob_checked.specs.View.{variable_of};
 ghost use Rattle.ob_scopes.specs.Names.{types_in, env_of};
+ghost use Rattle.ob_rules.specs.ByScopes.{named_variables, variables_by};
 ghost use Rattle.ob_rules.specs.Checking.{Fails, and_then};
 ghost use Rattle.ob_rules.specs.CheckingVariables.{room_of, known_variables, behind_variables};
 
@@ -181,7 +181,7 @@ fn declare_names(
     ensures fits { OnOk result (first_beyond (room_of room) (words (type_in (types_in scopes.old) data_type)) (map name_of names.now) ≡ None) }
     ensures names { OnOk result (env_of scopes.new ≡ with_variables (env_of scopes.old) (room_of room) (type_in (types_in scopes.old) data_type) (map name_of names.now)) }
     ensures room { IfOk result (λ r. room_of r ≡ room_behind (room_of room) (type_in (types_in scopes.old) data_type) (map name_of names.now)) }
-    ensures variables { OnOk result (map (variable_of (types_in scopes.old)) variables.new.items ≡ map (variable_of (types_in scopes.old)) variables.old.items ++ variables_of (type_in (types_in scopes.old) data_type) (map name_of names.now)) }
+    ensures variables { OnOk result (variables_by scopes.old variables.new.items ≡ variables_by scopes.old variables.old.items ++ named_variables scopes.old data_type names.now) }
     ensures known { OnOk result (known_variables (length (types_in scopes.old)) variables.old.items ≡ true → known_variables (length (types_in scopes.old)) variables.new.items ≡ true) }
     ensures types { OnOk result (types_in scopes.new ≡ types_in scopes.old) }
     ensures fault { IfErr result (λ f. Fails f (unless_name (first_beyond (room_of room) (words (type_in (types_in scopes.old) data_type)) (map name_of names.now)) PassesLimit)) }

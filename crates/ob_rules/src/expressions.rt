@@ -10,8 +10,10 @@ ghost use Rattle.ob_typing.specs.ExpressionVerdicts as Verdicts;
 ghost use Rattle.ob_checked.specs.Types.{type_in};
 ghost use Rattle.ob_scopes.specs.Usages.{use_of};
 ghost use Rattle.ob_checked.specs.View.{table_of};
-ghost use Rattle.ob_scopes.specs.Names.{types_in, env_of, value_of};
-ghost use Rattle.ob_rules.specs.Checking.{Fails, typed_of, chain_of, path_of, literal, complemented, signed, chained, compared, designator_in, selector_before, selected_before, fielded, indexed, and_then};
+ghost use Rattle.ob_scopes.specs.Names.{types_in, env_of};
+ghost use Rattle.ob_rules.specs.ByScopes.{named_value_by, selecting_by};
+ghost use Rattle.ob_rules.specs.Checking.{Fails, and_then, chain_of, chained, compared, complemented, literal, path_of, signed, typed_of};
+ghost use Rattle.ob_rules.specs.Checking.{designator_in, fielded, indexed, selected_before, selector_before};
 
 use ob_checked::program::{Designator, Expression, Operation, Selector, Slot};
 use ob_checked::types::{DataType, Types};
@@ -130,8 +132,8 @@ pub fn selecting(
     usage: Usage,
     whole: DataType,
 ) -> Result<Path, CheckFault>
-    ensures typed { IfOk result (λ x. Verdicts.selecting (env_of scopes.now) (selectors_in selectors.now) (use_of usage) (type_in (types_in scopes.now) whole) ≡ Right (path_of (types_in scopes.now) x)) }
-    ensures fault { IfErr result (λ f. Fails f (Verdicts.selecting (env_of scopes.now) (selectors_in selectors.now) (use_of usage) (type_in (types_in scopes.now) whole))) }
+    ensures typed { IfOk result (λ x. selecting_by scopes.now (selectors_in selectors.now) usage whole ≡ Right (path_of (types_in scopes.now) x)) }
+    ensures fault { IfErr result (λ f. Fails f (selecting_by scopes.now (selectors_in selectors.now) usage whole)) }
 {
     let mut selected = Vec::new(alloc);
     let mut data_type = whole;
@@ -155,9 +157,9 @@ fn selection(
     usage: Usage,
     whole: DataType,
 ) -> Result<(Selector, DataType), CheckFault>
-    ensures typed { IfOk result (λ x. (rest : trees.Selectors) → Verdicts.selecting (env_of scopes.now) (selector_before selector.now rest) (use_of usage) (type_in (types_in scopes.now) whole)
-        ≡ and_then (Verdicts.selecting (env_of scopes.now) rest (use_of usage) (type_in (types_in scopes.now) x.1)) (selected_before x.0)) }
-    ensures fault { IfErr result (λ f. (rest : trees.Selectors) → Fails f (Verdicts.selecting (env_of scopes.now) (selector_before selector.now rest) (use_of usage) (type_in (types_in scopes.now) whole))) }
+    ensures typed { IfOk result (λ x. (rest : trees.Selectors) → selecting_by scopes.now (selector_before selector.now rest) usage whole
+        ≡ and_then (selecting_by scopes.now rest usage x.1) (selected_before x.0)) }
+    ensures fault { IfErr result (λ f. (rest : trees.Selectors) → Fails f (selecting_by scopes.now (selector_before selector.now rest) usage whole)) }
 {
     match selector {
         tree::Selector::Field { place, name } => field(scopes.types(), whole, *place, name),
@@ -352,8 +354,8 @@ fn value_at(
     path: Path,
     usage: Usage,
 ) -> Result<Typed, CheckFault>
-    ensures typed { IfOk result (λ x. Verdicts.named_value (use_of usage) name.now.place (value_of (table_of types.now) (name_of name.now).text value) (path_of (table_of types.now) path) ≡ Right (typed_of x)) }
-    ensures fault { IfErr result (λ f. Fails f (Verdicts.named_value (use_of usage) name.now.place (value_of (table_of types.now) (name_of name.now).text value) (path_of (table_of types.now) path))) }
+    ensures typed { IfOk result (λ x. named_value_by types.now name.now value usage path ≡ Right (typed_of x)) }
+    ensures fault { IfErr result (λ f. Fails f (named_value_by types.now name.now value usage path)) }
 {
     match value {
         Value::Constant(value) => Ok(literal(value, usage)),

@@ -5,7 +5,7 @@ ghost use Rattle.ob_grammar.specs.Tree as trees;
 ghost use Rattle.ob_grammar.specs.View.{name_of, type_of, section_of};
 ghost use Rattle.ob_typing.specs.Scopes.{is_declared, is_simple};
 ghost use Rattle.ob_typing.specs.TypeFaults.{type_place};
-ghost use Rattle.ob_typing.specs.Declarations.{most_parameters, with_parameters, parameters_of};
+ghost use Rattle.ob_typing.specs.Declarations.{most_parameters, with_parameters};
 ghost use Rattle.ob_typing.specs.DeclarationFaults.{parameter_broken};
 ghost use Rattle.ob_typing.specs.Verdict.{Right, unless_broken};
 ghost use Rattle.ob_typing.specs.ModuleVerdicts as Verdicts;
@@ -13,6 +13,7 @@ ghost use Rattle.ob_checked.specs.Types.{type_in, is_below, Extends};
 ghost use Rattle.ob_checked.specs.View.{table_of, parameter_of};
 ghost use Rattle.ob_scopes.specs.Objects.{known_parameters};
 ghost use Rattle.ob_scopes.specs.Names.{types_in, env_of};
+ghost use Rattle.ob_rules.specs.ByScopes.{named_parameters, parameters_by};
 ghost use Rattle.ob_rules.specs.Checking.{Fails, and_then};
 ghost use Rattle.ob_rules.specs.CheckingVariables.{behind_parameters};
 
@@ -119,7 +120,7 @@ fn add_parameters(
 ) -> Result<(), CheckFault>
     requires known { is_below (length (types_in scopes.old)) data_type ≡ true }
     ensures names { OnOk result (env_of scopes.new ≡ with_parameters (env_of scopes.old) (length parameters.old.items) (type_in (types_in scopes.old) data_type) (map name_of names.now)) }
-    ensures parameters { OnOk result (map (parameter_of (types_in scopes.old)) parameters.new.items ≡ map (parameter_of (types_in scopes.old)) parameters.old.items ++ parameters_of is_var (type_in (types_in scopes.old) data_type) (map name_of names.now)) }
+    ensures parameters { OnOk result (parameters_by scopes.old parameters.new.items ≡ parameters_by scopes.old parameters.old.items ++ named_parameters scopes.old is_var data_type names.now) }
     ensures known { OnOk result (known_parameters (length (types_in scopes.old)) parameters.old.items ≡ true → known_parameters (length (types_in scopes.old)) parameters.new.items ≡ true) }
     ensures types { OnOk result (types_in scopes.new ≡ types_in scopes.old) }
     ensures fault { IfErr result (λ f. f ≡ CheckFault.NoMemory) }

@@ -1,14 +1,13 @@
 //! Variables and their parts, as targets of assignments and as actuals for VAR.
 
 ghost use Rattle.std.specs.Prelude.{◌≡◌, ℕ, List, IfOk, IfErr, Some};
-ghost use Rattle.ob_grammar.specs.View.{name_of, selectors_in};
 ghost use Rattle.ob_typing.specs.Scopes.{holds};
 ghost use Rattle.ob_typing.specs.StatementFaults.{place_broken};
 ghost use Rattle.ob_typing.specs.Verdict.{Right};
-ghost use Rattle.ob_typing.specs.StatementVerdicts as Verdicts;
 ghost use Rattle.ob_checked.specs.Types.{Entry, type_in};
 ghost use Rattle.ob_checked.specs.View.{table_of};
-ghost use Rattle.ob_scopes.specs.Names.{types_in, env_of, meant_of};
+ghost use Rattle.ob_scopes.specs.Names.{types_in, meant_of};
+ghost use Rattle.ob_rules.specs.ByScopes.{designated_by};
 ghost use Rattle.ob_rules.specs.Checking.{Fails};
 ghost use Rattle.ob_rules.specs.Designations.{variable_of, designation_of};
 
@@ -67,8 +66,8 @@ pub fn designated(
     scopes: &Scopes,
     designator: &tree::Designator,
 ) -> Result<Designation, CheckFault>
-    ensures typed { IfOk result (λ x. Verdicts.designated (env_of scopes.now) (name_of designator.now.name) (selectors_in designator.now.selectors.items) ≡ Right (designation_of (types_in scopes.now) x)) }
-    ensures fault { IfErr result (λ f. Fails f (Verdicts.designated (env_of scopes.now) (name_of designator.now.name) (selectors_in designator.now.selectors.items))) }
+    ensures typed { IfOk result (λ x. designated_by scopes.now designator.now ≡ Right (designation_of (types_in scopes.now) x)) }
+    ensures fault { IfErr result (λ f. Fails f (designated_by scopes.now designator.now)) }
 {
     let meant = scopes.meant(&designator.name.text);
     let known = match variable_meant(&meant) {

@@ -13,6 +13,7 @@ ghost use Rattle.ob_checked.specs.Types.{Entry};
 ghost use Rattle.ob_checked.specs.View.{parameter_of, actual_of, statement_of, statements_in};
 ghost use Rattle.ob_checked.specs.View as Checked;
 ghost use Rattle.ob_scopes.specs.Names.{types_in, env_of, meant_of};
+ghost use Rattle.ob_rules.specs.ByScopes.{assigned_by, branches_before, place_actual_by};
 ghost use Rattle.ob_rules.specs.Checking.{Fails, and_then};
 ghost use Rattle.ob_rules.specs.CheckingStatements.{condition, called, kept, statement_before};
 
@@ -79,8 +80,8 @@ fn place_actual(
     parameter: &Parameter,
     written: &Expr,
 ) -> Result<Actual, CheckFault>
-    ensures typed { IfOk result (λ x. Verdicts.place_actual (env_of scopes.now) (parameter_of (types_in scopes.now) parameter.now) (expr_of written.now) (Typing.bare (env_of scopes.now) (expr_of written.now)) ≡ Right (actual_of x)) }
-    ensures fault { IfErr result (λ f. Fails f (Verdicts.place_actual (env_of scopes.now) (parameter_of (types_in scopes.now) parameter.now) (expr_of written.now) (Typing.bare (env_of scopes.now) (expr_of written.now)))) }
+    ensures typed { IfOk result (λ x. place_actual_by scopes.now parameter.now written.now ≡ Right (actual_of x)) }
+    ensures fault { IfErr result (λ f. Fails f (place_actual_by scopes.now parameter.now written.now)) }
 {
     let Some(designator) = bare(scopes, written) else {
         let _value = value_actual(alloc, scopes, parameter, written)?;
@@ -185,8 +186,8 @@ fn assignment(
     target: &tree::Designator,
     value: &Expr,
 ) -> Result<Statement, CheckFault>
-    ensures typed { IfOk result (λ x. Verdicts.statement (env_of scopes.now) (trees.Assign (name_of target.now.name) (selectors_in target.now.selectors.items) (expr_of value.now)) ≡ Right (statement_of x)) }
-    ensures fault { IfErr result (λ f. Fails f (Verdicts.statement (env_of scopes.now) (trees.Assign (name_of target.now.name) (selectors_in target.now.selectors.items) (expr_of value.now)))) }
+    ensures typed { IfOk result (λ x. assigned_by scopes.now target.now value.now ≡ Right (statement_of x)) }
+    ensures fault { IfErr result (λ f. Fails f (assigned_by scopes.now target.now value.now)) }
 {
     let place = designated(alloc, scopes, target)?;
     let checked = expression(alloc, scopes, value, Usage::InStatement)?;
@@ -298,7 +299,7 @@ fn if_branches(
     scopes: &Scopes,
     written: &[tree::Branch],
 ) -> Result<Vec<Branch>, CheckFault>
-    ensures typed { IfOk result (λ x. (last : Verdict Programs.Branches) → Verdicts.branches (env_of scopes.now) (branches_in written.now) last ≡ and_then last (λ b. Right (Checked.branches_in x.items b))) }
+    ensures typed { IfOk result (λ x. (last : Verdict Programs.Branches) → Verdicts.branches (env_of scopes.now) (branches_in written.now) last ≡ branches_before x.items last) }
     ensures fault { IfErr result (λ f. (last : Verdict Programs.Branches) → Fails f (Verdicts.branches (env_of scopes.now) (branches_in written.now) last)) }
 {
     let mut checked = Vec::new(alloc);

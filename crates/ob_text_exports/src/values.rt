@@ -2,7 +2,7 @@
 
 ghost use Rattle.std.specs.Prelude.{◌≡◌, Bool, map, IfOk, MatchOption, List};
 ghost use Rattle.ob_interface.specs.declared.scalar.Scalar.{Scalar};
-ghost use Rattle.ob_text_words.specs.ScalarTexts.{scalar_text, truth_text};
+ghost use Rattle.ob_text_words.specs.ScalarTexts.{truth_text};
 ghost use Rattle.ob_text_exports.specs.Values.{AreValues, IsValue, is_of_mode, types_of};
 
 use ob_interface::export::Formal;

@@ -1,6 +1,6 @@
 //! The lines of variables.
 
-ghost use Rattle.std.specs.Prelude.{◌≡◌, ◌++◌, map, OnErr, OnOk, string_bytes};
+ghost use Rattle.std.specs.Prelude.{◌≡◌, ◌++◌, OnErr, OnOk, string_bytes};
 ghost use Rattle.ob_checked.specs.View.{program_of, table_of, variable_of};
 ghost use Rattle.ob_store.specs.View.{state_of, value_in};
 ghost use Rattle.ob_text_words.specs.Appending.{GoesOn};

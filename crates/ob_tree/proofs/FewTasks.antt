@@ -5,6 +5,7 @@ use Rattle.std.proofs.lemmas.Bool.Decides.{nat_tests}
 use Rattle.std.proofs.lemmas.List.Elements.{All-nil, All-cons, All-append, All-head, All-tail}
 use Rattle.ob_scan.specs.declared.token.Kind.{Kind}
 use Rattle.ob_code_scheme.specs.Temporaries.{largest}
+use Rattle.ob_code_well_formed.proofs.Typed.{Deeper, both_none, deeper, same_selectors}
 use Rattle.ob_grammar.specs.Conditions.{too_deep, opening, in_expr, in_operands, in_selectors, in_actuals, in_stmt, in_stmts, in_branches, in_otherwise, in_body, in_constants, in_types, in_variables, in_parameters, in_declarations, in_procedures, differing, KeepsConditions}
 use Rattle.ob_grammar.specs.Grammar as Grammar
 use Rattle.ob_grammar.specs.Grammar.{Lexemes, Separated, Perhaps, BodyPart}
@@ -27,32 +28,6 @@ use Rattle.ob_typing.specs.Scopes.{AConstant, AProcedure, AType, AVariable, Envi
 use Rattle.ob_typing.specs.Statements as Typed
 use Rattle.ob_typing.specs.Statements.{bare, listed, unless_constant}
 
--- ---- nesting
-
-both_none : {A : Type 0} (xs ys : List A) → xs ++ ys ≡ [] → (xs ≡ []) × (ys ≡ [])
-both_none [] ys h = (refl, h)
-both_none (x ∷ xs) ys h = absurd (cc)
-
-opened_by : (b : Bool) (place : ℕ) → (if b then (too_deep place ∷ []) else []) ≡ [] → b ≡ false
-opened_by true place h = absurd (cc)
-opened_by false place h = refl
-
--- a construct that may open within n others, where k more may: within it one less may
-record Deeper (n k : ℕ) : Type 0 where
-  pub left : ℕ
-  pub one_less : k ≡ suc left
-  pub all : n + 1 + left ≡ 100
-
-below_all : (n : ℕ) → nat_le 100 n ≡ false → n < 100
-below_all n h = grind (arith, nat_tests)
-
-less : (n k : ℕ) → n + k ≡ 100 → n < 100 → Deeper n k
-less n zero all below = absurd (omega (arith, all, below))
-less n (suc k) all below = record { left = k; one_less = refl; all = omega (arith, all) }
-
-deeper : (n k place : ℕ) → n + k ≡ 100 → opening n place ≡ [] → Deeper n k
-deeper n k place all h = less n k all (below_all n (opened_by (nat_le 100 n) place h))
-
 -- ---- expressions
 
 -- a sign is a task more
@@ -63,16 +38,6 @@ signed (Some sign) e = by sign.is_minus
     by : (b : Bool) → value_most (if b then Negated e else e) ≤ value_most e + 1
     by true = omega arith
     by false = omega arith
-
-abbrev Bare : Type 0
-Bare = Option (Tree.Name × Tree.Selectors)
-
-same_selectors : (a b : Tree.Name) (s r : Tree.Selectors) → ◌≡◌ {A = Bare} (Some (a, s)) (Some (b, r)) → s ≡ r
-same_selectors a b s r e = ap selectors_in e
-  where
-    selectors_in : Bare → Tree.Selectors
-    selectors_in None = s
-    selectors_in (Some x) = x.1
 
 bare_same : (m : Meant) (a b : Tree.Name) (s r : Tree.Selectors) → unless_constant m a s ≡ Some (b, r) → s ≡ r
 bare_same Nothing a b s r e = same_selectors a b s r e

@@ -1,3 +1,4 @@
 pub mod CheckingProcedures
 pub mod CheckingModules
 pub mod ModuleText
+pub mod ByScopes

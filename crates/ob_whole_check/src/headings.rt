@@ -3,7 +3,7 @@
 ghost use Rattle.std.specs.Prelude.{◌≡◌, ◌+◌, ◌<◌, ◌∷◌, ℕ, true, length, map, List, None, OnOk, IfOk, IfErr};
 ghost use Rattle.ob_grammar.specs.View.{heading_of};
 ghost use Rattle.ob_typing.specs.Declarations as Declared;
-ghost use Rattle.ob_typing.specs.Declarations.{inner_scope, with_procedure, exports_behind};
+ghost use Rattle.ob_typing.specs.Declarations.{with_procedure, exports_behind};
 ghost use Rattle.ob_typing.specs.DeclarationFaults.{heading_broken};
 ghost use Rattle.ob_typing.specs.Scopes.{level, no_names};
 ghost use Rattle.ob_typing.specs.Statements.{listed};
@@ -14,6 +14,7 @@ ghost use Rattle.ob_checked.specs.View.{table_of, parameter_of};
 ghost use Rattle.ob_scopes.specs.Objects.{known_parameters};
 ghost use Rattle.ob_scopes.specs.Names.{types_in, env_of};
 ghost use Rattle.ob_rules.specs.Checking.{Fails};
+ghost use Rattle.ob_whole_check.specs.ByScopes.{declared_around, with_parameters};
 ghost use Rattle.ob_whole_check.specs.CheckingProcedures.{around, headed};
 
 use crate::parts::sections_in;
@@ -74,7 +75,7 @@ pub fn declare_heading(
     tree: &Procedure,
     number: usize,
 ) -> Result<Vec<Parameter>, CheckFault>
-    ensures typed { IfOk result (λ ps. headed (env_of scopes.old) number (heading_of tree.now) ≡ Right (record { env = env_of scopes.new; parameters = map (parameter_of (types_in scopes.new)) ps.items })) }
+    ensures typed { IfOk result (λ ps. headed (env_of scopes.old) number (heading_of tree.now) ≡ Right (with_parameters scopes.new ps.items)) }
     ensures around { IfOk result (λ ps. around (env_of scopes.new) ≡ with_procedure (env_of scopes.old) number (heading_of tree.now) (map (parameter_of (types_in scopes.new)) ps.items)) }
     ensures known { IfOk result (λ ps. known_parameters (length (types_in scopes.new)) ps.items ≡ true) }
     ensures extends { OnOk result (Extends (types_in scopes.old) (types_in scopes.new)) }
@@ -94,7 +95,7 @@ fn enter_parameters(
     scopes: &mut Scopes,
     tree: &Procedure,
 ) -> Result<Vec<Parameter>, CheckFault>
-    ensures typed { IfOk result (λ ps. parameters (listed (heading_of tree.now).parameters) (no_names ∷ env_of scopes.old) 0 ≡ Right (record { env = env_of scopes.new; parameters = map (parameter_of (types_in scopes.new)) ps.items })) }
+    ensures typed { IfOk result (λ ps. parameters (listed (heading_of tree.now).parameters) (no_names ∷ env_of scopes.old) 0 ≡ Right (with_parameters scopes.new ps.items)) }
     ensures around { OnOk result (around (env_of scopes.new) ≡ env_of scopes.old) }
     ensures known { IfOk result (λ ps. known_parameters (length (types_in scopes.new)) ps.items ≡ true) }
     ensures extends { OnOk result (Extends (types_in scopes.old) (types_in scopes.new)) }
@@ -114,7 +115,7 @@ fn declare_around(
 ) -> Result<(), CheckFault>
     requires within { 1 < level (env_of scopes.old) }
     requires known { known_parameters (length (types_in scopes.old)) parameters.now ≡ true }
-    ensures names { OnOk result (env_of scopes.new ≡ inner_scope (env_of scopes.old) (with_procedure (around (env_of scopes.old)) number (heading_of tree.now) (map (parameter_of (types_in scopes.old)) parameters.now))) }
+    ensures names { OnOk result (env_of scopes.new ≡ declared_around scopes.old number tree.now parameters.now) }
     ensures types { OnOk result (types_in scopes.new ≡ types_in scopes.old) }
     ensures fault { IfErr result (λ f. f ≡ CheckFault.NoMemory) }
 {

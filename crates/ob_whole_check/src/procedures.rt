@@ -1,20 +1,20 @@
 //! Procedures in the order of their headings, and the declarations in which they stand.
 
-ghost use Rattle.std.specs.Prelude.{◌≡◌, ◌+◌, true, length, map, OnOk, IfOk, IfErr};
+ghost use Rattle.std.specs.Prelude.{◌≡◌, true, length, OnOk, IfOk, IfErr};
 ghost use Rattle.ob_grammar.specs.Tree as trees;
 ghost use Rattle.ob_grammar.specs.View.{declarations_of, procedures_in, procedure_before, inner_of, body_of};
 ghost use Rattle.ob_typing.specs.Verdict.{Right};
 ghost use Rattle.ob_typing.specs.ModuleVerdicts as Verdicts;
 ghost use Rattle.ob_checked.specs.Types.{Extends};
-ghost use Rattle.ob_checked.specs.View.{variable_of, procedure_of, statements_in};
 ghost use Rattle.ob_scopes.specs.Names.{types_in, env_of};
-ghost use Rattle.ob_rules.specs.Checking.{Fails, and_then};
+ghost use Rattle.ob_rules.specs.Checking.{Fails};
 ghost use Rattle.ob_rules.specs.CheckingVariables.{room_of, known_variables};
-ghost use Rattle.ob_whole_check.specs.CheckingProcedures.{around, known_procedures, behind_procedures, behind_heading};
+ghost use Rattle.ob_whole_check.specs.ByScopes.{further_procedures, procedures_behind, with_all, with_inner, with_procedures};
+ghost use Rattle.ob_whole_check.specs.CheckingProcedures.{around, known_procedures, behind_heading};
 
 use crate::headings::{counted, declare_heading, test_heading};
 use crate::parts::{constants_in, types_in, variables_in};
-use ob_checked::program::{Parameter, Procedure, Statement, Variable};
+use ob_checked::program::{Procedure, Statement, Variable};
 use ob_grammar::tree;
 use ob_grammar::tree::Declarations;
 use ob_rules::declarations::{Room, declare_constants, declare_types, declare_variables};
@@ -51,7 +51,7 @@ pub fn declarations(
     room: Room,
 ) -> Result<Declared, CheckFault>
     ensures typed { IfOk result (λ d. Verdicts.declarations (declarations_of tree.now) (env_of scopes.old) number (room_of room)
-        ≡ Right (record { env = env_of scopes.new; variables = map (variable_of (types_in scopes.new)) d.variables.items; procedures = map (procedure_of (types_in scopes.new)) d.procedures.items })) }
+        ≡ Right (with_all scopes.new d.variables.items d.procedures.items)) }
     ensures variables { IfOk result (λ d. known_variables (length (types_in scopes.new)) d.variables.items ≡ true) }
     ensures procedures { IfOk result (λ d. known_procedures (length (types_in scopes.new)) d.procedures.items ≡ true) }
     ensures extends { OnOk result (Extends (types_in scopes.old) (types_in scopes.new)) }
@@ -76,7 +76,7 @@ fn declare_procedures(
     first: usize,
 ) -> Result<Vec<Procedure>, CheckFault>
     ensures typed { IfOk result (λ ps. Verdicts.procedures (procedures_in trees.now) (env_of scopes.old) first 0
-        ≡ Right (record { env = env_of scopes.new; procedures = map (procedure_of (types_in scopes.new)) ps.items })) }
+        ≡ Right (with_procedures scopes.new ps.items)) }
     ensures known { IfOk result (λ ps. known_procedures (length (types_in scopes.new)) ps.items ≡ true) }
     ensures extends { OnOk result (Extends (types_in scopes.old) (types_in scopes.new)) }
     ensures fault { IfErr result (λ f. Fails f (Verdicts.procedures (procedures_in trees.now) (env_of scopes.old) first 0)) }
@@ -101,11 +101,11 @@ fn declare_procedure(
 ) -> Result<usize, CheckFault>
     requires known { known_procedures (length (types_in scopes.old)) procedures.old.items ≡ true }
     ensures typed { IfOk result (λ e. (rest : trees.Procedures) →
-        and_then (Verdicts.procedures (procedure_before tree.now rest) (env_of scopes.old) (first + length procedures.old.items) exported) (behind_procedures (types_in scopes.old) procedures.old.items)
-        ≡ and_then (Verdicts.procedures rest (env_of scopes.new) (first + length procedures.new.items) e) (behind_procedures (types_in scopes.new) procedures.new.items)) }
+        procedures_behind scopes.old first procedures.old.items exported (procedure_before tree.now rest)
+        ≡ procedures_behind scopes.new first procedures.new.items e rest) }
     ensures known { OnOk result (known_procedures (length (types_in scopes.new)) procedures.new.items ≡ true) }
     ensures extends { OnOk result (Extends (types_in scopes.old) (types_in scopes.new)) }
-    ensures fault { IfErr result (λ f. (rest : trees.Procedures) → Fails f (Verdicts.procedures (procedure_before tree.now rest) (env_of scopes.old) (first + length procedures.old.items) exported)) }
+    ensures fault { IfErr result (λ f. (rest : trees.Procedures) → Fails f (further_procedures scopes.old first procedures.old.items exported (procedure_before tree.now rest))) }
 {
     let number = counted(first, procedures.len())?;
     let exports = test_heading(scopes, tree, exported)?;
@@ -135,7 +135,7 @@ fn behind(
     count: usize,
 ) -> Result<Inner, CheckFault>
     ensures typed { IfOk result (λ i. behind_heading (env_of scopes.old) number count (inner_of tree.now) (body_of tree.now)
-        ≡ Right (record { env = env_of scopes.new; variables = map (variable_of (types_in scopes.new)) i.variables.items; procedures = map (procedure_of (types_in scopes.new)) i.procedures.items; body = statements_in i.body.items })) }
+        ≡ Right (with_inner scopes.new i.variables.items i.procedures.items i.body.items)) }
     ensures variables { IfOk result (λ i. known_variables (length (types_in scopes.new)) i.variables.items ≡ true) }
     ensures procedures { IfOk result (λ i. known_procedures (length (types_in scopes.new)) i.procedures.items ≡ true) }
     ensures around { OnOk result (around (env_of scopes.new) ≡ around (env_of scopes.old)) }

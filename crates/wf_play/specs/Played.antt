@@ -4,7 +4,8 @@ use Rattle.ob_interface.specs.Call.{ObjectCall}
 use Rattle.ob_interface.specs.Processes.{most_processes}
 use Rattle.ob_schedule.specs.declared.item.Item.{Item}
 use Rattle.ob_text_words.specs.ScriptCalls.{ScriptCall}
-use Rattle.ob_text_words.specs.ScriptCalls.{object_call}
+use Rattle.ob_text_words.specs.declared.script_call.ScriptCall as Read
+use Rattle.ob_text_words.specs.ScriptCalls.{object_call, script_call_of}
 use Rattle.wf_object.specs.View.{Object}
 use Rattle.wf_table.specs.declared.process.Sizes.{Sizes}
 use Rattle.wf_table.specs.Meaning.{Meaning}
@@ -25,6 +26,10 @@ most_steps = 1000000
 -- the calls of a script, each with its process
 abbrev pub scripts_of : List ScriptCall → List (ℕ × ObjectCall)
 scripts_of calls = map (λ c. (c.process, object_call c)) calls
+
+-- those of a script as it was read
+abbrev pub scripts_in : List Read.ScriptCall → List (ℕ × ObjectCall)
+scripts_in calls = scripts_of (map script_call_of calls)
 
 -- the same object, in a state of its own
 pub record IsSameObject {E Run : Type 0} (a b : Object E Run) : Type 0 where

@@ -1,9 +1,9 @@
 //! Who made the events of a run.
 
-ghost use Rattle.std.specs.Prelude.{◌≡◌, ◌++◌, ◌<◌, ◌≤◌, All, IfOk, IfErr, OnOk, map, replicate};
+ghost use Rattle.std.specs.Prelude.{◌≡◌, ◌++◌, ◌<◌, ◌≤◌, All, IfOk, IfErr, OnOk, replicate};
 ghost use Rattle.ob_text_words.specs.ScriptCalls.{object_call, script_call_of};
 ghost use Rattle.wf_play.specs.Makers.{AreMakersOf, maker_at, makers_in};
-ghost use Rattle.wf_play.specs.Played.{IsSameObject, scripts_of};
+ghost use Rattle.wf_play.specs.Played.{IsSameObject, scripts_in};
 ghost use Rattle.wf_play.specs.declared.playing.PlayFault.TheVariants as Faults;
 ghost use Rattle.wf_table.specs.Object.{step_of};
 ghost use Rattle.wf_table.specs.Runs.{run, turns};
@@ -30,7 +30,7 @@ pub fn makers<E: Engine>(
     requires callers { All (λ c. c.process < n) calls.items }
     requires fits { All (λ c. E.fits engine (object_call (script_call_of c))) calls.items }
     requires steps { All (λ t. t.process < n) schedule.now }
-    ensures makers { IfOk result (λ v. AreMakersOf (E.meaning engine) (E.ready engine) n opening.now (scripts_of (map script_call_of calls.items)) (steps_of schedule.now) v.items) }
+    ensures makers { IfOk result (λ v. AreMakersOf (E.meaning engine) (E.ready engine) n opening.now (scripts_in calls.items) (steps_of schedule.now) v.items) }
     ensures fault { IfErr result (λ e. e ≡ Faults.NoMemory) }
 {
     let mut machine = Machine::new(alloc, engine, n, opening)?;

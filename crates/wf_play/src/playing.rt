@@ -1,9 +1,9 @@
 //! The calls of scripts and the items of a schedule, played on a machine.
 
-ghost use Rattle.std.specs.Prelude.{◌≡◌, ◌<◌, ◌⊎◌, ◌↔◌, Err, All, IfOk, IfErr, OnOk, map};
+ghost use Rattle.std.specs.Prelude.{◌≡◌, ◌<◌, ◌⊎◌, ◌↔◌, Err, All, IfOk, IfErr, OnOk};
 ghost use Rattle.ob_schedule.specs.Schedule.{process_of};
 ghost use Rattle.ob_text_words.specs.ScriptCalls.{object_call, script_call_of};
-ghost use Rattle.wf_play.specs.Played.{IsItemFault, IsPlayed, IsPlayFault, IsSameObject, scripts_of};
+ghost use Rattle.wf_play.specs.Played.{IsItemFault, IsPlayed, IsPlayFault, IsSameObject, scripts_in};
 ghost use Rattle.wf_play.specs.ItemSteps.{HasPlayed};
 ghost use Rattle.wf_play.specs.declared.playing.PlayFault.TheVariants as Faults;
 ghost use Rattle.wf_table.specs.Runs.{run, submissions};
@@ -78,8 +78,8 @@ pub fn play<E: Engine>(
     ensures engine { IfOk result (λ machine. machine.engine ≡ engine) }
     ensures sizes { IfOk result (λ machine. machine.sizes ≡ sizes_of (E.meaning engine) n) }
     ensures opening { IfOk result (λ machine. machine.opening ≡ opening.now) }
-    ensures played { IfOk result (λ machine. IsPlayed (E.meaning engine) (E.lawful engine) (E.fits engine) (E.ready engine) n opening.now (scripts_of (map script_call_of calls.items)) items.now machine.state) }
-    ensures fault { IfErr result (λ e. IsPlayFault (E.meaning engine) (E.ready engine) n opening.now (scripts_of (map script_call_of calls.items)) items.now e) }
+    ensures played { IfOk result (λ machine. IsPlayed (E.meaning engine) (E.lawful engine) (E.fits engine) (E.ready engine) n opening.now (scripts_in calls.items) items.now machine.state) }
+    ensures fault { IfErr result (λ e. IsPlayFault (E.meaning engine) (E.ready engine) n opening.now (scripts_in calls.items) items.now e) }
 {
     let mut machine = Machine::new(alloc, engine, n, opening)?;
     submit_all(&mut machine, calls)?;
@@ -95,7 +95,7 @@ pub(crate) fn submit_all<E: Engine>(
     requires callers { All (λ c. c.process < machine.old.sizes.processes) calls.items }
     requires fits { All (λ c. E.fits machine.old.engine (object_call (script_call_of c))) calls.items }
     ensures object { OnOk result (IsSameObject machine.new machine.old) }
-    ensures state { OnOk result (machine.new.state ≡ run (E.meaning machine.old.engine) machine.old.sizes (submissions (scripts_of (map script_call_of calls.items))) machine.old.state) }
+    ensures state { OnOk result (machine.new.state ≡ run (E.meaning machine.old.engine) machine.old.sizes (submissions (scripts_in calls.items)) machine.old.state) }
 {
     for ScriptCall {
         process,

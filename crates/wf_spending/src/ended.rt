@@ -1,8 +1,8 @@
 //! The calls that end in a run, and their own steps.
 
-ghost use Rattle.std.specs.Prelude.{◌≡◌, ◌<◌, ◌≤◌, All, IfOk, OnOk, map, replicate};
+ghost use Rattle.std.specs.Prelude.{◌≡◌, ◌<◌, ◌≤◌, All, IfOk, OnOk, replicate};
 ghost use Rattle.ob_text_words.specs.ScriptCalls.{object_call, script_call_of};
-ghost use Rattle.wf_play.specs.Played.{scripts_of};
+ghost use Rattle.wf_play.specs.Played.{scripts_in};
 ghost use Rattle.wf_spending.specs.Ended.{AreEndedOf, Leads, own_steps};
 ghost use Rattle.wf_table.specs.Runs.{run, submissions};
 ghost use Rattle.wf_table.specs.Schedule.{steps_of};
@@ -36,7 +36,7 @@ pub fn ended_calls<E: Engine>(
     requires callers { All (λ c. c.process < n) calls.items }
     requires fits { All (λ c. E.fits engine (object_call (script_call_of c))) calls.items }
     requires steps { All (λ t. t.process < n) schedule.now }
-    ensures { IfOk result (λ v. AreEndedOf (E.meaning engine) (E.ready engine) n opening.now (scripts_of (map script_call_of calls.items)) (steps_of schedule.now) v.items) }
+    ensures { IfOk result (λ v. AreEndedOf (E.meaning engine) (E.ready engine) n opening.now (scripts_in calls.items) (steps_of schedule.now) v.items) }
 {
     let mut machine = match Machine::new(alloc, engine, n, opening) {
         Ok(machine) => machine,
@@ -53,7 +53,7 @@ pub fn ended_calls<E: Engine>(
 fn submit_all<E: Engine>(machine: &mut Machine<E>, calls: Vec<ScriptCall>) -> Result<(), NoMemory>
     requires callers { All (λ c. c.process < machine.old.sizes.processes) calls.items }
     requires fits { All (λ c. E.fits machine.old.engine (object_call (script_call_of c))) calls.items }
-    ensures { OnOk result (machine.new ≡ record machine.old { state = run (E.meaning machine.old.engine) machine.old.sizes (submissions (scripts_of (map script_call_of calls.items))) machine.old.state }) }
+    ensures { OnOk result (machine.new ≡ record machine.old { state = run (E.meaning machine.old.engine) machine.old.sizes (submissions (scripts_in calls.items)) machine.old.state }) }
 {
     for ScriptCall {
         process,
