@@ -1,10 +1,10 @@
 //! The words of a hint.
 
 ghost use Rattle.std.specs.Prelude.{◌≡◌, ◌++◌, OnOk, string_bytes};
-ghost use Rattle.ob_explain.specs.Hints.{closed_text, construct_text, else_if_text, end_closes_text, ended_text, hint_line, hint_text, lacking_text, open_text};
+ghost use Rattle.ob_explain.specs.Hints.{closed_text, construct_text, else_if_text, end_closes_text, ended_text, hint_line, hint_text, inner_text, keyword_text, lacking_text, missing_text, open_text};
 
 use crate::place::place_in;
-use ob_explain_expected::kinds::sample;
+use ob_explain_expected::kinds::{kind_name, sample};
 use ob_explain_hints::tables::slip_hint;
 use ob_explain_slips::causes::{Hint, cause_text};
 use ob_scan::{Kind, Token};
@@ -33,28 +33,47 @@ fn push_hint_text(shown: &mut String, text: &[u8], hint: Hint) -> Result<(), All
     match hint {
         Hint::Known(slip) => shown.push_str(slip_hint(slip)),
         Hint::Told(cause) => shown.push_str(cause_text(cause)),
-        Hint::Open(opening) => push_open(shown, text, opening),
-        Hint::Closed(opening) => push_closed(shown, text, opening),
+        Hint::Open(opening, inner) => push_open(shown, text, opening, inner),
+        Hint::Closed(opening, inner) => push_closed(shown, text, opening, inner),
         Hint::Ended(opening) => push_ended(shown, text, opening),
-        Hint::ElseIf(opening) => push_else_if(shown, text, opening),
+        Hint::Keyword(keyword) => push_keyword(shown, kind_name(keyword)),
     }
 }
 
-/// Appends that a construct is still open.
-fn push_open(shown: &mut String, text: &[u8], opening: Token) -> Result<(), AllocError>
-    ensures { OnOk result (string_bytes shown.new ≡ string_bytes shown.old ++ open_text text.now opening) }
+/// Appends that a construct is still open, in which this is an IF behind an ELSE.
+fn push_open(
+    shown: &mut String,
+    text: &[u8],
+    opening: Token,
+    inner: Option<Token>,
+) -> Result<(), AllocError>
+    ensures { OnOk result (string_bytes shown.new ≡ string_bytes shown.old ++ open_text text.now opening inner) }
 {
     shown.push_str("the ")?;
     push_construct(shown, text, opening)?;
-    shown.push_str(lacking_text(opening.kind))
+    shown.push_str(lacking_text(opening.kind))?;
+    push_else_if(shown, text, inner)
 }
 
-/// Appends that an END closes a statement or a record.
-fn push_closed(shown: &mut String, text: &[u8], opening: Token) -> Result<(), AllocError>
-    ensures { OnOk result (string_bytes shown.new ≡ string_bytes shown.old ++ closed_text text.now opening) }
+/// Appends that an END closes a statement or a record, in which this is an IF behind an ELSE.
+fn push_closed(
+    shown: &mut String,
+    text: &[u8],
+    opening: Token,
+    inner: Option<Token>,
+) -> Result<(), AllocError>
+    ensures { OnOk result (string_bytes shown.new ≡ string_bytes shown.old ++ closed_text text.now opening inner) }
 {
     push_end_closes(shown, text, opening)?;
-    shown.push_str("; is an END missing before that one?")
+    push_missing(shown, text, inner)
+}
+
+/// Appends that an END may be missing before that one.
+fn push_missing(shown: &mut String, text: &[u8], inner: Option<Token>) -> Result<(), AllocError>
+    ensures { OnOk result (string_bytes shown.new ≡ string_bytes shown.old ++ missing_text text.now inner) }
+{
+    shown.push_str("; is an END missing before that one?")?;
+    push_else_if(shown, text, inner)
 }
 
 /// Appends that an END closes a module or a procedure.
@@ -74,15 +93,34 @@ fn push_end_closes(shown: &mut String, text: &[u8], opening: Token) -> Result<()
     push_construct(shown, text, opening)
 }
 
-/// Appends what an IF behind an ELSE is.
-fn push_else_if(shown: &mut String, text: &[u8], opening: Token) -> Result<(), AllocError>
-    ensures { OnOk result (string_bytes shown.new ≡ string_bytes shown.old ++ else_if_text text.now opening) }
+/// Appends what an IF behind an ELSE is, where there is one.
+fn push_else_if(shown: &mut String, text: &[u8], inner: Option<Token>) -> Result<(), AllocError>
+    ensures { OnOk result (string_bytes shown.new ≡ string_bytes shown.old ++ else_if_text text.now inner) }
 {
-    shown.push_str("the ELSE ")?;
-    push_construct(shown, text, opening)?;
+    match inner {
+        Some(inner) => push_inner(shown, text, inner),
+        None => Ok(()),
+    }
+}
+
+/// Appends what this IF is, which stands behind an ELSE.
+fn push_inner(shown: &mut String, text: &[u8], inner: Token) -> Result<(), AllocError>
+    ensures { OnOk result (string_bytes shown.new ≡ string_bytes shown.old ++ inner_text text.now inner) }
+{
+    shown.push_str(" The ELSE ")?;
+    push_construct(shown, text, inner)?;
     shown.push_str(
         " opens another IF, which needs an END of its own; the next case of the same IF is written ELSIF",
     )
+}
+
+/// Appends the question whether a keyword is meant, which is told so.
+fn push_keyword(shown: &mut String, told: &str) -> Result<(), AllocError>
+    ensures { OnOk result (string_bytes shown.new ≡ string_bytes shown.old ++ keyword_text told.now) }
+{
+    shown.push_str("did you mean ")?;
+    shown.push_str(told)?;
+    shown.push_str("?")
 }
 
 /// Appends the keyword with which a construct begins, and its line.

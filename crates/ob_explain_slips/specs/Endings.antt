@@ -12,7 +12,7 @@ use Rattle.ob_explain_tokens.specs.Open.{closed_from, else_if, is_open, is_unit,
 use Rattle.ob_explain_slips.specs.Causes.{either}
 use Rattle.ob_explain_slips.specs.declared.causes.Cause.TheVariants as Causes
 use Rattle.ob_explain_slips.specs.declared.causes.Hint.{Hint}
-use Rattle.ob_explain_slips.specs.declared.causes.Hint.TheVariants.{Told, Open, Closed, Ended, ElseIf}
+use Rattle.ob_explain_slips.specs.declared.causes.Hint.TheVariants.{Told, Open, Closed, Ended}
 
 abbrev pub is_word : (text word : List ℕ) → Option Token → Bool
 is_word text word None = false
@@ -28,13 +28,9 @@ is_open_name text word closed behind [] = false
 is_open_name text word closed behind (t ∷ rest) =
     is_open_unit text word closed behind t || is_open_name text word (closed_from t.kind closed) (Some t) rest
 
-abbrev pub else_if_hint : Option Token → Option Hint
-else_if_hint None = None
-else_if_hint (Some t) = Some (ElseIf t)
-
--- what a statement lacks: an END for an ELSE IF within it, or else this
-abbrev pub lacking : List Token → (opening : Token) → Hint → Option Hint
-lacking before opening hint = either (else_if_hint (else_if opening.start None before)) (Some hint)
+-- the last ELSE IF in a construct, which needs an END of its own
+abbrev pub inner_if : List Token → (opening : Token) → Option Token
+inner_if before opening = else_if opening.start None before
 
 -- IF or WHILE, and behind it no condition
 abbrev pub is_repeated : Kind → Bool
@@ -56,7 +52,7 @@ abbrev pub closed_hint : (text word : List ℕ) → (there next : Option Token) 
 closed_hint text word there next before None = None
 closed_hint text word there next before (Some opening) =
     if is_unit opening.kind then Some (Ended opening)
-    else if is_open_name text word 0 None before then lacking before opening (Closed opening)
+    else if is_open_name text word 0 None before then Some (Closed opening (inner_if before opening))
     else if is_repeated_there there next then Some (Told Causes.EndAlone)
     else None
 
@@ -104,8 +100,8 @@ is_outside_there opening None = true
 is_outside_there opening (Some t) = is_outside opening t.kind
 
 -- a construct is still open
-abbrev pub still_open : List Token → (opening : Token) → Option Hint
-still_open before opening = if is_unit opening.kind then Some (Open opening) else lacking before opening (Open opening)
+abbrev pub still_open : List Token → (opening : Token) → Hint
+still_open before opening = Open opening (if is_unit opening.kind then None else inner_if before opening)
 
 abbrev pub goes_on_if : Kind → Bool
 goes_on_if Kinds.Else = true
@@ -122,7 +118,7 @@ abbrev pub open_hint : (there : Option Token) → (before : List Token) → List
 open_hint there before kinds None = None
 open_hint there before kinds (Some opening) =
     if not (has kinds (closing opening.kind)) then None
-    else if is_outside_there opening.kind there then still_open before opening
+    else if is_outside_there opening.kind there then Some (still_open before opening)
     else if is_else_outside opening.kind there then Some (Told Causes.NoIf)
     else None
 
@@ -133,7 +129,7 @@ ending_hint text word there next before kinds =
 -- of a name behind END that is another than that of what ends there: where one of this name is open around it, that is still open
 abbrev pub outer_hint : (text word : List ℕ) → (before : List Token) → Option Token → Option Hint
 outer_hint text word before None = None
-outer_hint text word before (Some opening) = if is_open_name text word 0 None before then Some (Open opening) else None
+outer_hint text word before (Some opening) = if is_open_name text word 0 None before then Some (Open opening None) else None
 
 abbrev pub name_hint : (text word : List ℕ) → List Token → Option Hint
 name_hint text word [] = None

@@ -2,7 +2,9 @@ pub mod Causes
 pub mod Procedures
 pub mod Signs
 pub mod Declarations
+pub mod Statements
 pub mod Endings
+pub mod Keywords
 pub mod Semicolons
 pub mod Unexpected
 pub mod Rules

@@ -1,23 +1,26 @@
 -- What a sign comes of that can't stand at a place of a text: by its tokens, the last one before the place, the kinds of token
 -- that could stand there, and the bytes before the place and from there on.
-use Rattle.std.specs.Prelude.{ℕ, ◌||◌, ◌&&◌, not, nat_eq, Bool, true, false, List, codes, Option, Some, None, if◌then◌else◌}
+use Rattle.std.specs.Prelude.{ℕ, ◌==◌, ◌||◌, ◌&&◌, not, nat_eq, Bool, true, false, List, codes, length, Option, Some, None, if◌then◌else◌}
 use Rattle.std.specs.List.{starts_with}
 use Rattle.ob_scan.specs.declared.token.Kind.{Kind}
 use Rattle.ob_scan.specs.declared.token.Kind.TheVariants as Kinds
 use Rattle.ob_scan.specs.declared.token.Token.{Token}
 use Rattle.ob_explain_expected.specs.Groups.{has}
-use Rattle.ob_explain_hints.specs.Slips.{begins_with}
+use Rattle.ob_explain_hints.specs.Slips.{begins_with, ends_with}
 use Rattle.ob_explain_hints.specs.Words.{word_before}
 use Rattle.ob_explain_slips.specs.declared.causes.Cause.{Cause}
 use Rattle.ob_explain_slips.specs.declared.causes.Cause.TheVariants as Causes
-use Rattle.ob_explain_slips.specs.Procedures.{declares}
+use Rattle.ob_explain_slips.specs.Procedures.{declares, names_no_array}
 
--- a `(` where a `[` could stand: behind the name of a procedure it is a call in an expression, and else an element in parentheses
+-- behind a name that no array has stands a call in an expression; behind another one, or behind no name, an element in parentheses
+abbrev pub called_cause : (text : List ℕ) → List Token → (word : List ℕ) → Option Cause
+called_cause text tokens word =
+    if not (length word == 0) && names_no_array text word tokens then Some Causes.NoFunction else Some Causes.Index
+
+-- a `(` where a `[` could stand
 abbrev pub call_cause : (text : List ℕ) → List Token → List Kind → (before from : List ℕ) → Option Cause
 call_cause text tokens kinds before from =
-    if begins_with from 40 && has kinds Kinds.LeftBracket
-    then (if declares text (word_before before) false tokens then Some Causes.NoFunction else Some Causes.Index)
-    else None
+    if begins_with from 40 && has kinds Kinds.LeftBracket then called_cause text tokens (word_before before) else None
 
 -- a `:` that is no `:=`
 abbrev pub is_colon : List ℕ → Bool
@@ -75,6 +78,34 @@ abbrev pub comparison_cause : List Kind → (from : List ℕ) → Option Cause
 comparison_cause kinds from =
     if begins_relation from && (has kinds Kinds.And && not (has kinds Kinds.Equal)) then Some Causes.Comparison else None
 
+-- + or -
+abbrev pub begins_sign : List ℕ → Bool
+begins_sign from = begins_with from 43 || begins_with from 45
+
+-- the second one of two -
+abbrev pub is_second_minus : (before from : List ℕ) → Bool
+is_second_minus before from = ends_with before 45 && begins_with from 45
+
+-- a sign where an operand could stand, and no sign: behind an operator
+abbrev pub operand_cause : List Kind → (before from : List ℕ) → Option Cause
+operand_cause kinds before from =
+    if not (begins_sign from && (has kinds Kinds.Number && not (has kinds Kinds.Minus))) then None
+    else if is_second_minus before from then Some Causes.TwoSigns
+    else Some Causes.Sign
+
+-- no operand could stand there, no operator and no `:=`
+abbrev pub is_no_expression : List Kind → Bool
+is_no_expression kinds = not (has kinds Kinds.Number) && (not (has kinds Kinds.And) && not (has kinds Kinds.Assign))
+
+-- there -- or # is to begin a comment, or -- and ++ are to change the variable behind them
+abbrev pub comment_cause : List Kind → (from : List ℕ) → Option Cause
+comment_cause kinds from =
+    if not (is_no_expression kinds) then None
+    else if starts_with nat_eq from (codes "--") then Some Causes.Dashes
+    else if starts_with nat_eq from (codes "++") then Some Causes.Change
+    else if begins_with from 35 then Some Causes.Comment
+    else None
+
 abbrev pub either : Option Cause → Option Cause → Option Cause
 either None other = other
 either (Some cause) other = Some cause
@@ -83,4 +114,5 @@ either (Some cause) other = Some cause
 abbrev pub sign_cause : (text : List ℕ) → List Token → Option Token → List Kind → (before from : List ℕ) → Option Cause
 sign_cause text tokens last kinds before from =
     either (either (call_cause text tokens kinds before from) (result_cause text tokens last kinds before from))
-    (either (element_cause last kinds from) (either (change_cause kinds from) (comparison_cause kinds from)))
+    (either (either (element_cause last kinds from) (either (change_cause kinds from) (comparison_cause kinds from)))
+    (either (operand_cause kinds before from) (comment_cause kinds from)))

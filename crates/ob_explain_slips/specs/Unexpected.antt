@@ -1,5 +1,5 @@
 -- The hint on a token that can't stand at a place.
-use Rattle.std.specs.Prelude.{◌≡◌, ℕ, nat_lt, List, drop, find, reverse, take, Option}
+use Rattle.std.specs.Prelude.{◌≡◌, ℕ, nat_lt, List, drop, find, reverse, take, Option, Some, None}
 use Rattle.ob_scan.specs.declared.token.Kind.{Kind}
 use Rattle.ob_scan.specs.declared.token.Token.{Token}
 use Rattle.ob_explain_hints.specs.Slips.{parse_slip}
@@ -9,9 +9,12 @@ use Rattle.ob_explain_slips.specs.Declarations.{cause_there}
 use Rattle.ob_explain_slips.specs.Endings.{ending_hint}
 use Rattle.ob_explain_slips.specs.declared.causes.Cause.{Cause}
 use Rattle.ob_explain_slips.specs.declared.causes.Hint.{Hint}
+use Rattle.ob_explain_slips.specs.declared.causes.Hint.TheVariants.{Keyword}
+use Rattle.ob_explain_slips.specs.Keywords.{IsKeyword}
 use Rattle.ob_explain_slips.specs.Semicolons.{IsSemicolonCause, token_at}
 use Rattle.ob_explain_slips.specs.Signs as Signs
 use Rattle.ob_explain_slips.specs.Signs.{sign_cause}
+use Rattle.ob_explain_slips.specs.Statements.{actuals_cause, statement_cause}
 use Rattle.ob_explain_tokens.specs.Around.{AreTokens}
 use Rattle.ob_explain_tokens.specs.Around as Tokens
 
@@ -21,28 +24,43 @@ last_before tokens place = find (λ t. nat_lt t.start place) (reverse tokens)
 abbrev pub next_behind : List Token → (place : ℕ) → Option Token
 next_behind tokens place = find (λ t. nat_lt place t.start) tokens
 
--- of a sign by what could stand there, or of a declaration
+-- of a sign by what could stand there, or of a statement, a declaration or a call
 abbrev pub first_cause : (text : List ℕ) → (tokens preceding : List Token) → (place : ℕ) → List Kind → Option Cause
 first_cause text tokens preceding place kinds =
-    Signs.either (sign_cause text tokens (last_before tokens place) kinds (take place text) (drop place text))
-    (cause_there (token_at tokens place) preceding kinds (take place text) (next_behind tokens place))
+    Signs.either (Signs.either (sign_cause text tokens (last_before tokens place) kinds (take place text) (drop place text))
+    (statement_cause (token_at tokens place) preceding kinds (next_behind tokens place)))
+    (Signs.either (cause_there (token_at tokens place) preceding kinds (take place text) (drop place text) (next_behind tokens place))
+    (actuals_cause text tokens (token_at tokens place) kinds (take place text) (drop place text)))
 
 -- of a construct that is open at the place
 abbrev pub construct_hint : (text : List ℕ) → (tokens preceding : List Token) → (place : ℕ) → List Kind → Option Hint
 construct_hint text tokens preceding place kinds =
     ending_hint text (word_at (drop place text)) (token_at tokens place) (next_behind tokens place) preceding kinds
 
--- the first of these; else of signs and words by themselves; else of a `;` that may be missing
+-- the keyword that the token at a place, or the one before it, is meant to be
+abbrev pub IsKeywordThere : (text : List ℕ) → List Token → (place : ℕ) → Option Kind → Type 0
+IsKeywordThere text tokens place meant = IsKeyword text tokens (last_before tokens place) (token_at tokens place) (next_behind tokens place) meant
+
+-- of signs and words by themselves
+abbrev pub slip_there : (text : List ℕ) → (place : ℕ) → Option Hint
+slip_there text place = known (parse_slip (take place text) (word_at (drop place text)) (drop place text))
+
+-- the first of these; else of a `;` that may be missing
 abbrev pub first_hint : (text : List ℕ) → (tokens preceding : List Token) → (place : ℕ) → List Kind → (semicolon : Option Cause) → Option Hint
 first_hint text tokens preceding place kinds semicolon =
     either (told (first_cause text tokens preceding place kinds))
-    (either (construct_hint text tokens preceding place kinds)
-    (either (known (parse_slip (take place text) (word_at (drop place text)) (drop place text))) (told semicolon)))
+    (either (construct_hint text tokens preceding place kinds) (either (slip_there text place) (told semicolon)))
+
+abbrev pub keyword_hint : Option Kind → Option Hint
+keyword_hint None = None
+keyword_hint (Some keyword) = Some (Keyword keyword)
 
 -- of a text where tokens of these kinds could stand
 pub record IsUnexpectedHint (text : List ℕ) (place : ℕ) (kinds : List Kind) (hint : Option Hint) : Type 0 where
   pub tokens : List Token
+  pub keyword : Option Kind
   pub semicolon : Option Cause
   pub are : AreTokens text tokens
+  pub meant : IsKeywordThere text tokens place keyword
   pub missing : IsSemicolonCause text tokens place semicolon
-  pub says : hint ≡ first_hint text tokens (Tokens.before place tokens) place kinds semicolon
+  pub says : hint ≡ either (keyword_hint keyword) (first_hint text tokens (Tokens.before place tokens) place kinds semicolon)

@@ -5,7 +5,7 @@ ghost use Rattle.ob_explain_slips.specs.Causes.{cause_mark, cause_text, either, 
 
 use ob_explain_hints::slips::is_same_in_any_case;
 use ob_explain_hints::tables::Slip;
-use ob_scan::Token;
+use ob_scan::{Kind, Token};
 
 /// What a slip comes of.
 #[derive(Clone, Copy)]
@@ -31,23 +31,37 @@ pub enum Cause {
     NoBegin,
     EndAlone,
     NoIf,
+    NoBlock,
+    LooseSemicolon,
+    Apart,
+    Sign,
+    TwoSigns,
+    Dashes,
+    Comment,
+    Digits,
+    Actuals,
+    ArrayOfArrays,
+    BehindVar,
+    NoExport,
+    ExportBehind,
+    NoType,
     Semicolon,
     FurtherDown,
 }
 
-/// A known slip by its sign or word, or what the tokens around a place show; or what they show of a construct, which this token opens.
+/// A known slip by its sign or word, or what the tokens around a place show; or what they show of a construct, which the first token opens.
 #[derive(Clone, Copy)]
 pub enum Hint {
     Known(Slip),
     Told(Cause),
-    /// It is still open.
-    Open(Token),
-    /// The END before the place closes it.
-    Closed(Token),
+    /// It is still open; the second one is an IF behind an ELSE in it.
+    Open(Token, Option<Token>),
+    /// The END before the place closes it; the second one is an IF behind an ELSE in it.
+    Closed(Token, Option<Token>),
     /// That END closes it, and it is a module or a procedure.
     Ended(Token),
-    /// It is an IF behind an ELSE.
-    ElseIf(Token),
+    /// A name is near to this keyword, which could stand in its place.
+    Keyword(Kind),
 }
 
 /// Names that other languages have, whose letters may be small or large.
@@ -107,6 +121,26 @@ pub fn cause_text(cause: Cause) -> &'static str
         Cause::NoBegin => "statements stand behind BEGIN; is it missing before this one?",
         Cause::EndAlone => "an IF or a WHILE ends with END alone",
         Cause::NoIf => "no IF is open here; is one END too many before it?",
+        Cause::NoBlock =>
+            "there are no blocks: behind THEN, ELSE, DO and REPEAT statements stand without BEGIN",
+        Cause::LooseSemicolon => "no ; stands between a condition and its THEN or DO",
+        Cause::Apart => ":= is one symbol, with no blank in it",
+        Cause::Sign =>
+            "a sign stands only before the first operand of a sum; behind an operator it stands in parentheses, as 3 * (-k)",
+        Cause::TwoSigns =>
+            "a comment is written (* .. *); a sign behind an operator stands in parentheses, as 3 - (-k)",
+        Cause::Dashes =>
+            "a comment is written (* .. *), and a variable is counted down by x := x - 1",
+        Cause::Comment => "a comment is written (* .. *), and # is not equal",
+        Cause::Digits =>
+            "a number has the digits 0 to 9 alone, without hexadecimal digits or exponents; a name begins with a letter",
+        Cause::Actuals => "the actuals of a call stand in parentheses, as P(a, 1)",
+        Cause::ArrayOfArrays => "an array of arrays is written ARRAY 2 OF ARRAY 3 OF INTEGER",
+        Cause::BehindVar =>
+            "a variable is declared behind VAR, its name before its type: VAR x: INTEGER",
+        Cause::NoExport => "only procedures are exported; no * stands behind other names",
+        Cause::ExportBehind => "the * of an export stands behind the name: PROCEDURE Get*",
+        Cause::NoType => "behind names stand : and their type, as k: INTEGER",
         Cause::Semicolon => "is a ; missing before it?",
         Cause::FurtherDown =>
             "a procedure of this name is declared further down; a name is known behind its declaration only",

@@ -1,7 +1,7 @@
 //! Hints on an END that is missing or one too many, by the constructs that are open at a place.
 
 ghost use Rattle.std.specs.Prelude.{◌≡◌, None};
-ghost use Rattle.ob_explain_slips.specs.Endings.{closed_hint, closing, else_if_hint, end_hint, ending_hint, ends_statements, goes_on_if, is_else_outside, is_further_part, is_open_name, is_open_unit, is_outside, is_outside_there, is_part, is_repeated, is_repeated_there, is_word, lacking, name_hint, open_hint, outer_hint, stands_behind, still_open};
+ghost use Rattle.ob_explain_slips.specs.Endings.{closed_hint, closing, end_hint, ending_hint, ends_statements, goes_on_if, inner_if, is_else_outside, is_further_part, is_open_name, is_open_unit, is_outside, is_outside_there, is_part, is_repeated, is_repeated_there, is_word, name_hint, open_hint, outer_hint, stands_behind, still_open};
 
 use crate::causes::{Cause, Hint, either};
 use crate::signs::has;
@@ -43,7 +43,7 @@ fn outer_hint(text: &[u8], word: &[u8], before: &[Token], opening: Option<Token>
     ensures { result ≡ outer_hint text.now word.now before.now opening }
 {
     match opening {
-        Some(opening) if is_open_name(text, word, before) => Some(Hint::Open(opening)),
+        Some(opening) if is_open_name(text, word, before) => Some(Hint::Open(opening, None)),
         _ => None,
     }
 }
@@ -81,7 +81,7 @@ fn closed_hint(
     if is_unit(opening.kind) {
         Some(Hint::Ended(opening))
     } else if is_open_name(text, word, before) {
-        lacking(before, opening, Hint::Closed(opening))
+        Some(Hint::Closed(opening, inner_if(before, opening)))
     } else if is_repeated_there(there, next) {
         Some(Hint::Told(Cause::EndAlone))
     } else {
@@ -102,7 +102,7 @@ fn open_hint(
     if !has(kinds, closing(opening.kind)) {
         None
     } else if is_outside_there(opening.kind, there) {
-        still_open(before, opening)
+        Some(still_open(before, opening))
     } else if is_else_outside(opening.kind, there) {
         Some(Hint::Told(Cause::NoIf))
     } else {
@@ -110,31 +110,23 @@ fn open_hint(
     }
 }
 
-/// That a construct is still open, or what it lacks within.
-fn still_open(before: &[Token], opening: Token) -> Option<Hint>
+/// That a construct is still open.
+fn still_open(before: &[Token], opening: Token) -> Hint
     ensures { result ≡ still_open before.now opening }
 {
-    if is_unit(opening.kind) {
-        Some(Hint::Open(opening))
+    let inner = if is_unit(opening.kind) {
+        None
     } else {
-        lacking(before, opening, Hint::Open(opening))
-    }
+        inner_if(before, opening)
+    };
+    Hint::Open(opening, inner)
 }
 
-/// That an ELSE IF in this construct lacks an END, or else this.
-fn lacking(before: &[Token], opening: Token, hint: Hint) -> Option<Hint>
-    ensures { result ≡ lacking before.now opening hint }
+/// The last IF behind an ELSE in this construct.
+fn inner_if(before: &[Token], opening: Token) -> Option<Token>
+    ensures { result ≡ inner_if before.now opening }
 {
-    either(else_if_hint(else_if(before, opening.start)), Some(hint))
-}
-
-fn else_if_hint(token: Option<Token>) -> Option<Hint>
-    ensures { result ≡ else_if_hint token }
-{
-    match token {
-        Some(token) => Some(Hint::ElseIf(token)),
-        None => None,
-    }
+    else_if(before, opening.start)
 }
 
 /// Whether a module or a procedure of this name is open behind tokens that go back.

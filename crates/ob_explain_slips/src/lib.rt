@@ -4,8 +4,10 @@
 pub mod causes;
 pub mod declarations;
 pub mod endings;
+pub mod keywords;
 pub mod procedures;
 pub mod rules;
 pub mod semicolon;
 pub mod signs;
+pub mod statements;
 pub mod unexpected;

@@ -42,7 +42,7 @@ fn semicolon_before(
 }
 
 /// Whether a text goes on with a token of a kind.
-fn is_expected_behind(alloc: Global, text: &[u8], kind: Kind) -> Result<bool, AllocError>
+pub fn is_expected_behind(alloc: Global, text: &[u8], kind: Kind) -> Result<bool, AllocError>
     ensures { IfOk result (λ is. IsTrue is ↔ IsExpected text.now (length text.now) kind) }
 {
     is_expected(alloc, text, text.len(), kind)

@@ -2,11 +2,11 @@
 
 ghost use Rattle.std.specs.Prelude.{◌≡◌};
 ghost use Rattle.ob_explain_expected.specs.Groups.{has};
-ghost use Rattle.ob_explain_slips.specs.Signs.{begins_change, begins_relation, call_cause, change_cause, comparison_cause, either, element_cause, ends_heading, is_colon, is_right, result_cause, sign_cause};
+ghost use Rattle.ob_explain_slips.specs.Signs.{begins_change, begins_relation, begins_sign, call_cause, called_cause, change_cause, comment_cause, comparison_cause, either, element_cause, ends_heading, is_colon, is_no_expression, is_right, is_second_minus, operand_cause, result_cause, sign_cause};
 
 use crate::causes::Cause;
-use crate::procedures::declares;
-use ob_explain_hints::slips::begins_with;
+use crate::procedures::{declares, names_no_array};
+use ob_explain_hints::slips::{begins_with, ends_with};
 use ob_explain_hints::words::word_before;
 use ob_scan::{Kind, Token};
 
@@ -25,7 +25,14 @@ pub fn sign_cause(
     let of_result = result_cause(text, tokens, last, kinds, before, from);
     let of_element = element_cause(last, kinds, from);
     let of_change = either(change_cause(kinds, from), comparison_cause(kinds, from));
-    either(either(of_call, of_result), either(of_element, of_change))
+    let of_operand = either(
+        operand_cause(kinds, before, from),
+        comment_cause(kinds, from),
+    );
+    either(
+        either(of_call, of_result),
+        either(either(of_element, of_change), of_operand),
+    )
 }
 
 /// The cause of a `(` behind a name where a `[` could stand: a call in an expression, or an element in parentheses.
@@ -39,13 +46,20 @@ fn call_cause(
     ensures { result ≡ call_cause text.now tokens.now kinds.now before.now from.now }
 {
     if begins_with(from, b'(') && has(kinds, Kind::LeftBracket) {
-        if declares(text, tokens, word_before(before)) {
-            Some(Cause::NoFunction)
-        } else {
-            Some(Cause::Index)
-        }
+        called_cause(text, tokens, word_before(before))
     } else {
         None
+    }
+}
+
+/// The cause of a `(` behind this name, which is empty where no name stands before it.
+fn called_cause(text: &[u8], tokens: &[Token], word: &[u8]) -> Option<Cause>
+    ensures { result ≡ called_cause text.now tokens.now word.now }
+{
+    if !word.is_empty() && names_no_array(text, tokens, word) {
+        Some(Cause::NoFunction)
+    } else {
+        Some(Cause::Index)
     }
 }
 
@@ -114,6 +128,55 @@ fn comparison_cause(kinds: &[Kind], from: &[u8]) -> Option<Cause>
     } else {
         None
     }
+}
+
+/// The cause of a sign behind an operator.
+fn operand_cause(kinds: &[Kind], before: &[u8], from: &[u8]) -> Option<Cause>
+    ensures { result ≡ operand_cause kinds.now before.now from.now }
+{
+    if !(begins_sign(from) && (has(kinds, Kind::Number) && !has(kinds, Kind::Minus))) {
+        None
+    } else if is_second_minus(before, from) {
+        Some(Cause::TwoSigns)
+    } else {
+        Some(Cause::Sign)
+    }
+}
+
+fn begins_sign(from: &[u8]) -> bool
+    ensures { result ≡ begins_sign from.now }
+{
+    begins_with(from, b'+') || begins_with(from, b'-')
+}
+
+fn is_second_minus(before: &[u8], from: &[u8]) -> bool
+    ensures { result ≡ is_second_minus before.now from.now }
+{
+    ends_with(before, b'-') && begins_with(from, b'-')
+}
+
+/// The cause of what begins a comment elsewhere, or changes the variable behind it, where it stands in no expression.
+fn comment_cause(kinds: &[Kind], from: &[u8]) -> Option<Cause>
+    ensures { result ≡ comment_cause kinds.now from.now }
+{
+    if !is_no_expression(kinds) {
+        None
+    } else if from.starts_with(b"--") {
+        Some(Cause::Dashes)
+    } else if from.starts_with(b"++") {
+        Some(Cause::Change)
+    } else if begins_with(from, b'#') {
+        Some(Cause::Comment)
+    } else {
+        None
+    }
+}
+
+/// Whether no operand could stand there, no operator and no `:=`.
+fn is_no_expression(kinds: &[Kind]) -> bool
+    ensures { result ≡ is_no_expression kinds.now }
+{
+    !has(kinds, Kind::Number) && (!has(kinds, Kind::And) && !has(kinds, Kind::Assign))
 }
 
 /// The first cause, or else the other one.

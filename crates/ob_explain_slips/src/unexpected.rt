@@ -1,14 +1,16 @@
 //! The hint on a token that can't stand at a place.
 
 ghost use Rattle.std.specs.Prelude.{◌≡◌, IfOk, drop, take};
-ghost use Rattle.ob_explain_slips.specs.Unexpected.{IsUnexpectedHint, construct_hint, first_cause, first_hint, last_before, next_behind};
+ghost use Rattle.ob_explain_slips.specs.Unexpected.{IsKeywordThere, IsUnexpectedHint, construct_hint, first_cause, first_hint, keyword_hint, last_before, next_behind, slip_there};
 
 use crate::causes::{Cause, Hint, either, known, told};
 use crate::declarations::cause_there;
 use crate::endings::ending_hint;
+use crate::keywords::meant_keyword;
 use crate::semicolon::{semicolon_cause, token_at};
 use crate::signs;
 use crate::signs::sign_cause;
+use crate::statements::{actuals_cause, statement_cause};
 use ob_explain_hints::slips::parse_slip;
 use ob_explain_hints::words::word_at;
 use ob_explain_tokens::around::{tokens_before, tokens_of};
@@ -26,11 +28,38 @@ pub fn unexpected_hint(
 {
     let tokens = tokens_of(alloc, text)?;
     let preceding = tokens_before(alloc, &tokens, place)?;
+    let keyword = keyword_there(alloc, text, &tokens, place)?;
     let semicolon = semicolon_cause(alloc, text, &tokens, place)?;
-    Ok(first_hint(text, &tokens, &preceding, place, kinds, semicolon))
+    let of_others = first_hint(text, &tokens, &preceding, place, kinds, semicolon);
+    Ok(either(keyword_hint(keyword), of_others))
 }
 
-/// The first of the hints on a place, before which these tokens stand, the last one first, and of which this is the cause of a `;`.
+/// The keyword that the token at a place, or the one before it, is meant to be.
+fn keyword_there(
+    alloc: Global,
+    text: &[u8],
+    tokens: &[Token],
+    place: usize,
+) -> Result<Option<Kind>, AllocError>
+    ensures { IfOk result (λ meant. IsKeywordThere text.now tokens.now place meant) }
+{
+    let last = last_before(tokens, place);
+    let there = token_at(tokens, place);
+    let next = next_behind(tokens, place);
+    meant_keyword(alloc, text, tokens, last, there, next)
+}
+
+/// The hint on a name near to this keyword.
+fn keyword_hint(keyword: Option<Kind>) -> Option<Hint>
+    ensures { result ≡ keyword_hint keyword }
+{
+    match keyword {
+        Some(keyword) => Some(Hint::Keyword(keyword)),
+        None => None,
+    }
+}
+
+/// The first of the other hints on a place, before which these tokens stand, the last one first, and of which this is the cause of a `;`.
 fn first_hint(
     text: &[u8],
     tokens: &[Token],
@@ -41,17 +70,24 @@ fn first_hint(
 ) -> Option<Hint>
     ensures { result ≡ first_hint text.now tokens.now preceding.now place kinds.now semicolon }
 {
-    let (before, from) = halves(text, place);
     let of_cause = told(first_cause(text, tokens, preceding, place, kinds));
     let of_construct = construct_hint(text, tokens, preceding, place, kinds);
-    let of_slip = known(parse_slip(before, word_at(from), from));
+    let of_slip = slip_there(text, place);
     either(
         of_cause,
         either(of_construct, either(of_slip, told(semicolon))),
     )
 }
 
-/// The cause of a sign, or of what can't stand in a declaration.
+/// The hint on signs and words by themselves.
+fn slip_there(text: &[u8], place: usize) -> Option<Hint>
+    ensures { result ≡ slip_there text.now place }
+{
+    let (before, from) = halves(text, place);
+    known(parse_slip(before, word_at(from), from))
+}
+
+/// The cause of a sign, or of what can't stand among statements or in a declaration.
 fn first_cause(
     text: &[u8],
     tokens: &[Token],
@@ -63,10 +99,16 @@ fn first_cause(
 {
     let (before, from) = halves(text, place);
     let last = last_before(tokens, place);
-    let of_sign = sign_cause(text, tokens, last, kinds, before, from);
     let there = token_at(tokens, place);
     let next = next_behind(tokens, place);
-    signs::either(of_sign, cause_there(there, preceding, kinds, before, next))
+    let of_sign = sign_cause(text, tokens, last, kinds, before, from);
+    let of_statement = statement_cause(there, preceding, kinds, next);
+    let of_declaration = cause_there(there, preceding, kinds, before, from, next);
+    let of_actuals = actuals_cause(text, tokens, there, kinds, before, from);
+    signs::either(
+        signs::either(of_sign, of_statement),
+        signs::either(of_declaration, of_actuals),
+    )
 }
 
 /// The hint on a construct that is open at the place.
