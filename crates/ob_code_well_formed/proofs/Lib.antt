@@ -2,7 +2,7 @@ mod Shapes
 mod Plain
 mod Names
 mod Ranges
-mod Typed
+pub mod Typed
 mod Declared
 mod Formed
 mod Held

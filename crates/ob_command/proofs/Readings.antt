@@ -1,5 +1,5 @@
 -- From what clap answers to a request.
-use Rattle.std.proofs.Common.{◌≡◌, ◌≢◌, ◌∙◌, ◌⊎◌, ◌||◌, ◌&&◌, ℕ, refl, sym, ap, ap₂, subst, List, [], ◌∷◌, true, false, Bool, if◌then◌else◌, Option, Some, None, Err, IsSome, Box, box_value, option_map, option_and_then, is_some, codes, inl, inr}
+use Rattle.std.proofs.Common.{◌≡◌, ◌≢◌, ◌∙◌, ◌⊎◌, ◌||◌, ◌&&◌, ℕ, refl, sym, ap, ap₂, subst, List, [], ◌∷◌, true, false, not, Bool, if◌then◌else◌, Option, Some, None, Err, IsSome, Box, box_value, option_map, option_and_then, is_some, codes, inl, inr}
 use Rattle.clap.specs.Words.{App, Row, Text, rows_of, subcommand_rows_of, IsAmong, HasKind, HasMatchesOf, Kinds, fault_of, is_simple, is_simple_and_free, kind_of, subcommand_of}
 use Rattle.clap.specs.declared.error.Error.{Error}
 use Rattle.clap.specs.declared.error.kind.ErrorKind.{ErrorKind}
@@ -20,10 +20,10 @@ use Rattle.std.specs.Borrow.{Bor}
 use Rattle.clap.specs.Words.{first_of, first_value, one_of}
 use Rattle.clap.specs.declared.parser.matches.Found.{Found}
 use Rattle.clap.proofs.WalkLemmas.{first_value-rows}
-use Rattle.ob_command.specs.CommandLine.{Request, Bound, Check, Draw, DrawRecord, Explain, ExplainRecord, ExplainRun, ExplainTraps, Help, Listing, RunRequest, Seq, Serve, Unclear, Verify, bound_of, budget_number, budget_of, calls_by, calls_of, clap_request, command_of, default_budget, draw_of, draw_record_of, drawn_of, explain_by, explain_calls_of, explain_of, explain_record_of, explain_texts_of, explain_traps_of, form_mistake, form_mistake_of, has_negative, is_set, made_by, made_of, processes_of, request_by, run_of, seq_of, serve_of, traps_of}
+use Rattle.ob_command.specs.CommandLine.{Request, Bound, Check, Draw, DrawRecord, Explain, ExplainRecord, ExplainRun, ExplainTraps, Help, Listing, RunRequest, Seq, Serve, Unclear, Verify, bound_of, budget_number, budget_of, calls_by, calls_of, clap_request, command_of, default_budget, draw_mistake, draw_mistake_of, draw_of, draw_record_of, drawn_of, explain_by, explain_calls_of, explain_of, explain_record_of, explain_texts_of, explain_traps_of, form_mistake, form_mistake_of, has_negative, is_set, loose_number, made_by, made_of, processes_of, range_mistake, request_by, run_of, seq_of, serve_of, traps_of}
 use Rattle.ob_command.specs.declared.command.CallNumbers.{CallNumbers}
 use Rattle.ob_command.specs.PlainForms.{run_with}
-use Rattle.ob_command.specs.Commands.{IsMistake, IsReading, IsStopOf, is_of_number}
+use Rattle.ob_command.specs.Commands.{IsMistake, IsReading, IsStopOf, is_loose, is_of_number, is_unknown}
 use Rattle.std.specs.List.{list_all}
 use Rattle.ob_command.specs.declared.command.Stop.{Stop}
 use Rattle.ob_command.specs.declared.command.Stop.TheVariants as stops
@@ -49,22 +49,22 @@ no_help : (k : ErrorKind) → k ≢ kind.DisplayHelp → is_help k ≡ false
 no_help kind.DisplayHelp h = absurd (h refl)
 no_help _ h = refl
 
-stop_read : (negative : Bool) (kinds : Kinds) (met : Option (Text × List Row)) → OneSort kinds → (k : ErrorKind)
-    → (k ≡ kind.OutOfMemory) ⊎ IsAmong k kinds → (stop : Stop) → IsStopOf negative k stop → IsReading (request_by kinds met) (Err stop)
-stop_read negative kinds met one k any stops.NoMemory is = tt
-stop_read negative kinds met one k any stops.Version is = absurd is
-stop_read negative kinds met one k (inl any) (stops.Help text) is = cc
-stop_read negative [] met one k (inr any) (stops.Help text) is = absurd any
-stop_read negative (x ∷ xs) met one k (inr any) (stops.Help text) is = helps x xs met (sym (of_first x k xs one any) ∙ ap is_help is)
-stop_read negative kinds met one k (inl any) (stops.Unclear text) is = absurd (is.1 any)
-stop_read negative [] met one k (inr any) (stops.Unclear text) is = absurd any
-stop_read negative (x ∷ xs) met one k (inr any) (stops.Unclear text) is = mistakes x xs met (sym (of_first x k xs one any) ∙ no_help k is.0)
+stop_read : (negative : Bool) (number : Option Text) (kinds : Kinds) (met : Option (Text × List Row)) → OneSort kinds → (k : ErrorKind)
+    → (k ≡ kind.OutOfMemory) ⊎ IsAmong k kinds → (stop : Stop) → IsStopOf negative number k stop → IsReading (request_by kinds met) (Err stop)
+stop_read negative number kinds met one k any stops.NoMemory is = tt
+stop_read negative number kinds met one k any stops.Version is = absurd is
+stop_read negative number kinds met one k (inl any) (stops.Help text) is = cc
+stop_read negative number [] met one k (inr any) (stops.Help text) is = absurd any
+stop_read negative number (x ∷ xs) met one k (inr any) (stops.Help text) is = helps x xs met (sym (of_first x k xs one any) ∙ ap is_help is)
+stop_read negative number kinds met one k (inl any) (stops.Unclear text) is = absurd (is.1 any)
+stop_read negative number [] met one k (inr any) (stops.Unclear text) is = absurd any
+stop_read negative number (x ∷ xs) met one k (inr any) (stops.Unclear text) is = mistakes x xs met (sym (of_first x k xs one any) ∙ no_help k is.0)
 
 pub parsed_stop : (a : App) → a ≡ obl0_app → (words : List Text) (e : Error) → (is_simple_and_free a ≡ true → HasKind (fault_of a words) e)
-    → (negative : Bool) (stop : Stop) → IsStopOf negative (kind_of e) stop → IsReading (clap_request words) (Err stop)
+    → (negative : Bool) (number : Option Text) (stop : Stop) → IsStopOf negative number (kind_of e) stop → IsReading (clap_request words) (Err stop)
 unfolding clap_request
-parsed_stop a is words e kinds negative stop h =
-    stop_read negative (fault_of obl0_app words) (subcommand_of obl0_app words) (the_kinds words) (kind_of e)
+parsed_stop a is words e kinds negative number stop h =
+    stop_read negative number (fault_of obl0_app words) (subcommand_of obl0_app words) (the_kinds words) (kind_of e)
     (subst (λ (x : App). HasKind (fault_of x words) e) is (kinds (ap is_simple_and_free is ∙ is_free))) stop h
 
 -- such a stop tells of a fault of the words
@@ -77,22 +77,30 @@ both_true : (a b : Bool) → (a && b) ≡ true → (a ≡ true) × (b ≡ true)
 both_true true b h = (refl, h)
 both_true false b h = cc
 
+-- a mistake among words with a number below 0 is none of a number without its option
+pub not_loose : (k : ErrorKind) (negative : Bool) → negative ≡ true → is_loose negative k ≡ true → ⊥
+not_loose k negative is h = let loose : not negative ≡ true = (both_true (is_unknown k) (not negative) h).1 in cc
+
 of_all : (f : ErrorKind → Bool) (k : ErrorKind) (kinds : Kinds) → IsAmong k kinds → list_all f kinds ≡ true → f k ≡ true
 of_all f k [] any all = absurd any
 of_all f k (x ∷ xs) (inl is) all = ap f is ∙ (both_true (f x) (list_all f xs) all).0
 of_all f k (x ∷ xs) (inr any) all = of_all f k xs any (both_true (f x) (list_all f xs) all).1
 
 stop_mistaken : (words : List Text) (k : ErrorKind) → (k ≡ kind.OutOfMemory) ⊎ IsAmong k (fault_of obl0_app words) → (stop : Stop)
-    → IsStopOf (has_negative words) k stop → IsMistake words (Err stop)
+    → IsStopOf (has_negative words) (loose_number words) k stop → IsMistake words (Err stop)
 stop_mistaken words k any stops.NoMemory is = tt
 stop_mistaken words k any stops.Version is = tt
 stop_mistaken words k any (stops.Help text) is = tt
 stop_mistaken words k (inl any) (stops.Unclear text) is = absurd (is.1 any)
 stop_mistaken words k (inr any) (stops.Unclear text) is =
-    inl (no_faults_here (fault_of obl0_app words) k any, λ all. is.2 (of_all (is_of_number (has_negative words)) k (fault_of obl0_app words) any all))
+    inl (
+      no_faults_here (fault_of obl0_app words) k any,
+      λ all. is.2.0 (of_all (is_of_number (has_negative words)) k (fault_of obl0_app words) any all),
+      λ all. is.2.1 (of_all (is_loose (has_negative words)) k (fault_of obl0_app words) any all),
+    )
 
 pub parsed_mistake : (a : App) → a ≡ obl0_app → (words : List Text) (e : Error) → (is_simple_and_free a ≡ true → HasKind (fault_of a words) e)
-    → (stop : Stop) → IsStopOf (has_negative words) (kind_of e) stop → IsMistake words (Err stop)
+    → (stop : Stop) → IsStopOf (has_negative words) (loose_number words) (kind_of e) stop → IsMistake words (Err stop)
 parsed_mistake a is words e kinds stop h =
     stop_mistaken words (kind_of e) (subst (λ (x : App). HasKind (fault_of x words) e) is (kinds (ap is_simple_and_free is ∙ is_free))) stop h
 
@@ -174,6 +182,11 @@ no_calls m rows none = ap (option_and_then (drawn_of m rows)) none
 -- the calls by the word behind `--calls`
 pub calls_if : (rows : List Row) (text : Option Text) → first_of (codes "FROM-TO") rows ≡ text → calls_of rows ≡ calls_by text
 calls_if rows text is = ap calls_by is
+
+pub unclear_range : (rows : List Row) (text : Option Text) → calls_of rows ≡ None → first_of (codes "FROM-TO") rows ≡ text
+    → draw_mistake_of rows ≡ range_mistake text
+unclear_range rows text none is =
+    ap₂ (λ (o : Option (Option CallNumbers)) (t : Option Text). if is_some o then draw_mistake else range_mistake t) none is
 
 pub neither_given : (n b : Bool) → n ≡ false → b ≡ false → (n || b) ≡ false
 neither_given n b is_n is_b = ap₂ (λ (n b : Bool). n || b) is_n is_b

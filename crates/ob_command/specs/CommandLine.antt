@@ -1,5 +1,5 @@
 -- What the words of the command line ask for, by what clap makes of them.
-use Rattle.std.specs.Prelude.{ℕ, ◌==◌, ◌&&◌, ◌||◌, Bool, true, false, List, [], ◌∷◌, Option, Some, None, is_some, nat_le, option_and_then, option_map, unwrap_or, codes, if◌then◌else◌}
+use Rattle.std.specs.Prelude.{ℕ, ◌==◌, ◌+◌, ◌++◌, ◌&&◌, ◌||◌, Bool, true, false, not, List, [], ◌∷◌, Option, Some, None, is_some, nat_le, nat_lt, slice_get, option_and_then, option_map, unwrap_or, codes, if◌then◌else◌}
 use Rattle.std.specs.Char.{is_ascii_digit}
 use Rattle.std.specs.List.{after_first, before_first, list_any}
 use Rattle.std.specs.Option.{option_map_or}
@@ -74,6 +74,15 @@ is_minus b = b == 45
 -- the calls that a text names: a place, a `-`, and a place behind it
 abbrev pub calls_in : Text → Option CallNumbers
 calls_in text = option_and_then (λ from. option_and_then (calls_between from) (place_number (after_first is_minus text))) (place_number (before_first is_minus text))
+
+-- the first of two places is behind the second
+abbrev pub are_turned : (from to : Option ℕ) → Bool
+are_turned (Some from) (Some to) = nat_lt to from
+are_turned from to = false
+
+-- a text names two places so
+abbrev pub is_turned : Text → Bool
+is_turned text = are_turned (place_number (before_first is_minus text)) (place_number (after_first is_minus text))
 
 -- the budget where nothing is said of it
 abbrev pub default_budget : ℕ
@@ -206,6 +215,11 @@ command_of name rows = option_and_then (λ module_name.
     else if bytes_eq name (codes "bound") then bound_of module_name rows
     else None) (first_of (codes "MODULE") rows)
 
+-- a `-` with something behind it
+abbrev pub is_option : Text → Bool
+is_option (b ∷ c ∷ rest) = b == 45
+is_option _ = false
+
 -- what is said of words that clap accepts behind `draw`, and that are in none of its forms
 abbrev pub draw_mistake : Text
 draw_mistake =
@@ -214,7 +228,12 @@ draw_mistake =
 -- and of a word behind `--calls` that names no calls
 abbrev pub calls_mistake : Text
 calls_mistake =
-    codes "error: behind --calls stands FROM-TO, the places of the first and the last call, from 1\n\nFor more information, try '--help'.\n"
+    codes "error: behind --calls stands FROM-TO, as 3-5: the places of the first and the last call, from 1\n\nFor more information, try '--help'.\n"
+
+-- and of two places there of which the first is behind the second
+abbrev pub turned_mistake : Text
+turned_mistake =
+    codes "error: behind --calls stands FROM-TO, and here FROM is behind TO; the lower place comes first, as in 3-5\n\nFor more information, try '--help'.\n"
 
 -- and of words behind `explain` that are in none of its forms
 abbrev pub explain_mistake : Text
@@ -238,13 +257,43 @@ is_negative _ = false
 abbrev pub has_negative : List Text → Bool
 has_negative words = list_any is_negative words
 
+-- what is said of words behind `--calls` that name no calls
+abbrev pub range_mistake : Option Text → Text
+range_mistake text = if option_map_or is_turned text false then turned_mistake else calls_mistake
+
+-- and of all words behind `draw` that are in none of its forms
+abbrev pub draw_mistake_of : List Row → Text
+draw_mistake_of rows = if is_some (calls_of rows) then draw_mistake else range_mistake (first_of (codes "FROM-TO") rows)
+
 -- What is said where the words of a command that has several forms have none of these. Every other command has one form, which clap tests.
 abbrev pub form_mistake : Text → List Row → Option Text
 form_mistake name rows =
-    if bytes_eq name (codes "draw") then Some (if is_some (calls_of rows) then draw_mistake else calls_mistake)
+    if bytes_eq name (codes "draw") then Some (draw_mistake_of rows)
     else if bytes_eq name (codes "explain") then Some explain_mistake
     else if bytes_eq name (codes "run") then Some run_mistake
     else None
+
+-- How many names of files stand behind a command that has a number of processes.
+abbrev pub names_of : Text → Option ℕ
+names_of name =
+    if bytes_eq name (codes "run") || (bytes_eq name (codes "draw") || bytes_eq name (codes "explain")) then Some 3
+    else if bytes_eq name (codes "serve") then Some 2
+    else if bytes_eq name (codes "bound") then Some 1
+    else None
+
+-- a number behind a word that is no option
+abbrev pub number_behind : (before word : Option Text) → Option Text
+number_behind (Some before) (Some word) = if is_some (place_number word) && not (is_option before) then Some word else None
+number_behind before word = None
+
+-- A number of processes without its `-n`: a number that stands behind the names, where a command has such.
+abbrev pub loose_number : List Text → Option Text
+loose_number words =
+    option_and_then (λ names. number_behind (slice_get words names) (slice_get words (names + 1))) (option_and_then names_of (slice_get words 0))
+
+-- what is said of it
+abbrev pub number_tip : Text → Text
+number_tip number = codes "\n\n  tip: `-n " ++ number ++ codes "` gives the number of processes\n\n"
 
 -- the same of all words, by the command that clap meets in them
 abbrev pub form_mistake_of : List Text → Option Text
@@ -287,17 +336,33 @@ help_of_command name = if is_command name then Some (name ∷ codes "--help" ∷
 abbrev pub help_words : Text → Option (List Text)
 help_words name = if bytes_eq name (codes "help") || bytes_eq name (codes "version") then Some (codes "--help" ∷ []) else help_of_command name
 
+abbrev pub is_help_option : Text → Bool
+is_help_option word = bytes_eq word (codes "--help") || bytes_eq word (codes "-h")
+
+-- what is too much of the words behind `help` and a name: the first one, but not where it asks for help itself and stands alone
+abbrev pub too_much : List Text → Option Text
+too_much [] = None
+too_much (word ∷ []) = if is_help_option word then None else Some word
+too_much (word ∷ rest) = Some word
+
+-- the same of all words
+abbrev pub extra_of_help : List Text → Option Text
+extra_of_help (word ∷ name ∷ rest) = if bytes_eq word (codes "help") then too_much rest else None
+extra_of_help _ = None
+
+-- what is said of it
+abbrev pub help_mistake : Text → Text
+help_mistake word =
+    codes "error: unexpected argument '" ++ word
+    ++ codes "' found: behind help stands the name of one command\n\nUsage: obl0 help COMMAND\n\nFor more information, try '--help'.\n"
+
 -- What clap reads: `help` alone is its option, and before the name of a command it is that option behind the name. Before another word
 -- it is passed over: that word is no command.
 abbrev pub clap_words : List Text → List Text
 clap_words (word ∷ []) = if bytes_eq word (codes "help") then codes "--help" ∷ [] else word ∷ []
-clap_words (word ∷ name ∷ []) = if bytes_eq word (codes "help") then unwrap_or (help_words name) (name ∷ []) else word ∷ name ∷ []
+clap_words (word ∷ name ∷ rest) = if bytes_eq word (codes "help") then unwrap_or (help_words name) (name ∷ []) else word ∷ name ∷ rest
 clap_words words = words
 
 abbrev pub request : List Text → Request
-request words = if asks_version words then Version else clap_request (clap_words words)
-
--- a `-` with something behind it
-abbrev pub is_option : Text → Bool
-is_option (b ∷ c ∷ rest) = b == 45
-is_option _ = false
+request words =
+    if asks_version words then Version else if is_some (extra_of_help words) then Unclear else clap_request (clap_words words)

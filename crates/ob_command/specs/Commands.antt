@@ -1,5 +1,5 @@
 -- What `read_command` answers to a request.
-use Rattle.std.specs.Prelude.{◌≡◌, ◌≢◌, ◌⊎◌, ◌++◌, ◌||◌, Bool, true, false, List, [], Result, Some, Ok, Err, option_map, string_bytes}
+use Rattle.std.specs.Prelude.{◌≡◌, ◌≢◌, ◌⊎◌, ◌++◌, ◌&&◌, ◌||◌, Bool, true, false, not, List, [], Option, Result, None, Some, Ok, Err, option_map, string_bytes}
 use Rattle.std.specs.List.{list_all}
 use Rattle.clap.specs.Words.{fault_of}
 use Rattle.clap.specs.declared.error.kind.ErrorKind.{ErrorKind}
@@ -10,7 +10,7 @@ use Rattle.ob_command.specs.declared.command.RunCommand.{RunCommand}
 use Rattle.ob_command.specs.declared.command.Stop.{Stop}
 use Rattle.ob_command.specs.declared.command.Stop.TheVariants as stops
 use Rattle.ob_command_line.specs.ClapCommand.{obl0_app}
-use Rattle.ob_command.specs.CommandLine.{Text, form_mistake_of, has_negative, number_sentence, Request, RunRequest, Check, Listing, Seq, Run, RunTree, RunSteps, Serve, Draw, DrawRecord, Verify, Explain, ExplainTraps, ExplainRun, ExplainRecord, Bound, Help, Version, Unclear}
+use Rattle.ob_command.specs.CommandLine.{Text, clap_words, extra_of_help, form_mistake_of, has_negative, help_mistake, loose_number, number_sentence, number_tip, Request, RunRequest, Check, Listing, Seq, Run, RunTree, RunSteps, Serve, Draw, DrawRecord, Verify, Explain, ExplainTraps, ExplainRun, ExplainRecord, Bound, Help, Version, Unclear}
 
 -- what a command asks for
 abbrev pub run_request_of : RunCommand → RunRequest
@@ -60,20 +60,53 @@ is_value k = false
 abbrev pub is_of_number : (negative : Bool) → ErrorKind → Bool
 is_of_number negative k = is_value k || negative
 
--- Clap finds a fault in the words, and it is told which numbers there are where each one that it may tell is of a number.
+-- a word is one that clap does not know
+abbrev pub is_unknown : ErrorKind → Bool
+is_unknown kind.UnknownArgument = true
+is_unknown k = false
+
+-- what is said has how a number of processes is given, where one stands there without its option
+abbrev pub SaysTip : (number : Option Text) → Text → Type 0
+SaysTip None text = Unit {0}
+SaysTip (Some number) text = (before behind : Text) × (text ≡ (before ++ number_tip number) ++ behind)
+
+-- a mistake is a word that clap does not know, among words with no number below 0
+abbrev pub is_loose : (negative : Bool) → ErrorKind → Bool
+is_loose negative k = is_unknown k && not negative
+
+-- Clap finds a fault in the words. It is told which numbers there are where each one that it may tell is of a number, and how a number
+-- of processes is given where each is of a word that it does not know.
 abbrev pub IsWordFault : List Text → (text : Text) → Type 0
 IsWordFault words text =
     (fault_of obl0_app words ≢ []) × (list_all (is_of_number (has_negative words)) (fault_of obl0_app words) ≡ true → SaysNumbers text)
+    × (list_all (is_loose (has_negative words)) (fault_of obl0_app words) ≡ true → SaysTip (loose_number words) text)
 
 -- Where these words are no command, clap finds a fault in them, or they have no form of a command that has several, and that is said.
 abbrev pub IsMistake : List Text → Result command.Command Stop → Type 0
 IsMistake words (Err (stops.Unclear text)) = IsWordFault words (string_bytes text) ⊎ (form_mistake_of words ≡ Some (string_bytes text))
 IsMistake words _ = Unit {0}
 
+-- what is said of a word that is too much behind `help` and a name
+abbrev pub IsHelpMistake : (word : Text) → Result command.Command Stop → Type 0
+IsHelpMistake word (Err (stops.Unclear text)) = string_bytes text ≡ help_mistake word
+IsHelpMistake word _ = Unit {0}
+
+-- The mistake of words with a word that is too much behind `help` or with none; clap reads the others.
+abbrev pub IsMistakeBeside : (extra : Option Text) → List Text → Result command.Command Stop → Type 0
+IsMistakeBeside None words result = IsMistake (clap_words words) result
+IsMistakeBeside (Some word) words result = IsHelpMistake word result
+
+abbrev pub IsMistakeOf : List Text → Result command.Command Stop → Type 0
+IsMistakeOf words = IsMistakeBeside (extra_of_help words) words
+
+-- what is said of a mistake of a kind
+abbrev pub IsSaidOf : (negative : Bool) (number : Option Text) → ErrorKind → (text : Text) → Type 0
+IsSaidOf negative number k text = (is_of_number negative k ≡ true → SaysNumbers text) × (is_loose negative k ≡ true → SaysTip number text)
+
 -- what a kind of error stops for
-abbrev pub IsStopOf : (negative : Bool) → ErrorKind → Stop → Type 0
-IsStopOf negative k (stops.Help text) = k ≡ kind.DisplayHelp
-IsStopOf negative k stops.Version = ⊥
-IsStopOf negative k (stops.Unclear text) =
-    (k ≢ kind.DisplayHelp) × (k ≢ kind.OutOfMemory) × (is_of_number negative k ≡ true → SaysNumbers (string_bytes text))
-IsStopOf negative k stops.NoMemory = k ≡ kind.OutOfMemory
+abbrev pub IsStopOf : (negative : Bool) (number : Option Text) → ErrorKind → Stop → Type 0
+IsStopOf negative number k (stops.Help text) = k ≡ kind.DisplayHelp
+IsStopOf negative number k stops.Version = ⊥
+IsStopOf negative number k (stops.Unclear text) =
+    (k ≢ kind.DisplayHelp) × (k ≢ kind.OutOfMemory) × IsSaidOf negative number k (string_bytes text)
+IsStopOf negative number k stops.NoMemory = k ≡ kind.OutOfMemory

@@ -48,11 +48,13 @@ abbrev pub IsBoundAsked : Text → Type 0
 IsBoundAsked flag = (m n b : Text) (k t : ℕ) → is_option m ≡ false → number n ≡ Some k → budget_number b ≡ Some t
     → request (codes "bound" ∷ m ∷ codes "-n" ∷ n ∷ flag ∷ b ∷ []) ≡ Bound m k t
 
--- `help` and the name, and the name with `--help` or `-h`, ask for help.
+-- `help` and the name, the name with `--help` or `-h`, and all three ask for help.
 pub record IsHelpAsked (name : Text) : Type 0 where
   pub before : request (codes "help" ∷ name ∷ []) ≡ Help
   pub long : request (name ∷ codes "--help" ∷ []) ≡ Help
   pub short : request (name ∷ codes "-h" ∷ []) ≡ Help
+  pub before_long : request (codes "help" ∷ name ∷ codes "--help" ∷ []) ≡ Help
+  pub before_short : request (codes "help" ∷ name ∷ codes "-h" ∷ []) ≡ Help
 
 -- The name with `--version` or `-V` asks for the version.
 pub record IsVersionAsked (name : Text) : Type 0 where

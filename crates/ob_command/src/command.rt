@@ -1,9 +1,9 @@
 //! The command line.
 
-ghost use Rattle.std.specs.Prelude.{◌≡◌, ◌++◌, IfOk, is_some, map, option_map, string_bytes, true};
+ghost use Rattle.std.specs.Prelude.{◌≡◌, ◌++◌, IfOk, OnOk, Some, is_some, map, option_map, string_bytes};
 ghost use Rattle.clap.specs.Words.{first_of, found_of, kind_of, rows_of};
-ghost use Rattle.ob_command.specs.CommandLine.{asks_version, bound_of, budget_of, calls_between, calls_in, calls_of, clap_request, clap_words, command_of, draw_of, draw_record_of, explain_calls_of, explain_of, explain_record_of, explain_texts_of, explain_traps_of, form_mistake, has_negative, help_of_command, help_words, is_negative, is_set, is_version_option, made_of, number_sentence, place_number, request, run_of, serve_of, traps_of};
-ghost use Rattle.ob_command.specs.Commands.{IsMistake, IsReading, IsStopOf, SaysNumbers, is_of_number, is_value, request_of, run_request_of};
+ghost use Rattle.ob_command.specs.CommandLine.{are_turned, asks_version, bound_of, budget_of, calls_between, calls_in, calls_of, clap_request, clap_words, command_of, draw_mistake_of, draw_of, draw_record_of, explain_calls_of, explain_of, explain_record_of, explain_texts_of, explain_traps_of, extra_of_help, form_mistake, has_negative, help_mistake, help_of_command, help_words, is_help_option, is_negative, is_option, is_set, is_turned, is_version_option, loose_number, made_of, names_of, number_behind, number_sentence, number_tip, place_number, range_mistake, request, run_of, serve_of, too_much, traps_of};
+ghost use Rattle.ob_command.specs.Commands.{IsMistake, IsMistakeOf, IsReading, IsSaidOf, IsStopOf, SaysTip, is_unknown, is_value, request_of, run_request_of};
 ghost use Rattle.ob_command.specs.declared.command.Stop.TheVariants.{NoMemory};
 
 use clap::ArgMatches;
@@ -154,7 +154,23 @@ For more information, try '--help'.
 
 /// What is wrong with a word behind `--calls` that names no calls.
 const UNCLEAR_CALLS: &str = "\
-error: behind --calls stands FROM-TO, the places of the first and the last call, from 1
+error: behind --calls stands FROM-TO, as 3-5: the places of the first and the last call, from 1
+
+For more information, try '--help'.
+";
+
+/// What is wrong with two places there of which the first is behind the second.
+const TURNED_CALLS: &str = "\
+error: behind --calls stands FROM-TO, and here FROM is behind TO; the lower place comes first, as in 3-5
+
+For more information, try '--help'.
+";
+
+/// What is said behind a word that is too much behind `help` and a name.
+const BEHIND_HELP: &str = "\
+' found: behind help stands the name of one command
+
+Usage: obl0 help COMMAND
 
 For more information, try '--help'.
 ";
@@ -172,10 +188,13 @@ const ASKING_HELP: &[&str] = &["--help"];
 /// The command that the words behind the program's name ask for.
 pub fn read_command<'a>(alloc: Global, words: &'a [&'a str]) -> Result<Command<'a>, Stop>
     ensures reading { IsReading (request (map (λ word. word.now) words.entry.now)) result }
-    ensures mistake { IsMistake (clap_words (map (λ word. word.now) words.entry.now)) result }
+    ensures mistake { IsMistakeOf (map (λ word. word.now) words.entry.now) result }
 {
     if asks_version(words) {
         return Err(Stop::Version);
+    }
+    if let Some(word) = extra_of_help(words) {
+        return Err(Stop::Unclear(help_mistake(alloc, word)?));
     }
     read_words(alloc, clap_words(words))
 }
@@ -197,13 +216,50 @@ fn is_version_option(word: &str) -> bool
     word == "--version" || word == "-V"
 }
 
+/// The first word that is too much behind `help` and a name.
+fn extra_of_help<'a>(words: &[&'a str]) -> Option<&'a str>
+    ensures { option_map (λ word. word.now) result ≡ extra_of_help (map (λ word. word.now) words.now) }
+{
+    match words {
+        [help, _, rest @ ..] if *help == "help" => too_much(rest),
+        _ => None,
+    }
+}
+
+/// What is too much of the words behind `help` and a name; one word may ask for help itself.
+fn too_much<'a>(words: &[&'a str]) -> Option<&'a str>
+    ensures { option_map (λ word. word.now) result ≡ too_much (map (λ word. word.now) words.now) }
+{
+    match words {
+        [] => None,
+        [word] if is_help_option(word) => None,
+        [word, ..] => Some(word),
+    }
+}
+
+fn is_help_option(word: &str) -> bool
+    ensures { result ≡ is_help_option word.now }
+{
+    word == "--help" || word == "-h"
+}
+
+/// What is said of a word that is too much behind `help` and a name.
+fn help_mistake(alloc: Global, word: &str) -> Result<String, AllocError>
+    ensures { IfOk result (λ text. string_bytes text ≡ help_mistake word.now) }
+{
+    let mut text = String::from_str(alloc, "error: unexpected argument '")?;
+    text.push_str(word)?;
+    text.push_str(BEHIND_HELP)?;
+    Ok(text)
+}
+
 /// The words that `clap` reads: `help` as its option, and behind the name of a command.
 fn clap_words<'a>(words: &'a [&'a str]) -> &'a [&'a str]
     ensures { map (λ word. word.now) result.now ≡ clap_words (map (λ word. word.now) words.entry.now) }
 {
     match words {
         [help] if *help == "help" => ASKING_HELP,
-        [help, name] if *help == "help" => help_words(name).unwrap_or(&words[1..]),
+        [help, name, ..] if *help == "help" => help_words(name).unwrap_or(&words[1..2]),
         _ => words,
     }
 }
@@ -243,7 +299,7 @@ fn read_words<'a>(alloc: Global, words: &'a [&'a str]) -> Result<Command<'a>, St
 {
     let matches = match command_line(alloc)?.try_get_matches_from(words) {
         Ok(matches) => matches,
-        Err(error) => return Err(stop_of(alloc, &error, has_negative(words))?),
+        Err(error) => return Err(stop_of(alloc, &error, has_negative(words), loose_number(words))?),
     };
     match matches.subcommand() {
         Some((name, matches)) => match command_of(name, matches) {
@@ -262,13 +318,30 @@ fn form_mistake(name: &str, matches: &ArgMatches<'_>) -> Option<&'static str>
     ensures { option_map (λ text. text.now) result ≡ form_mistake name.now (rows_of (found_of matches.now)) }
 {
     match name {
-        "draw" => match calls_of(matches) {
-            Some(_) => Some(UNCLEAR_DRAW),
-            None => Some(UNCLEAR_CALLS),
-        },
+        "draw" => Some(draw_mistake_of(matches)),
         "explain" => Some(UNCLEAR_EXPLAIN),
         "run" => Some(UNCLEAR_RUN),
         _ => None,
+    }
+}
+
+/// What is said of words that have none of the forms of `draw`.
+fn draw_mistake_of(matches: &ArgMatches<'_>) -> &'static str
+    ensures { result.now ≡ draw_mistake_of (rows_of (found_of matches.now)) }
+{
+    match calls_of(matches) {
+        Some(_) => UNCLEAR_DRAW,
+        None => range_mistake(matches.get_str("FROM-TO")),
+    }
+}
+
+/// What is said of the word behind `--calls` where it names no calls.
+fn range_mistake(text: Option<&str>) -> &'static str
+    ensures { result.now ≡ range_mistake (option_map (λ text. text.now) text.entry) }
+{
+    match text {
+        Some(text) if is_turned(text) => TURNED_CALLS,
+        _ => UNCLEAR_CALLS,
     }
 }
 
@@ -405,6 +478,26 @@ fn calls_between(from: u32, to: u32) -> Option<CallNumbers>
     }
 }
 
+/// Whether a text names two places of which the first is behind the second.
+fn is_turned(text: &str) -> bool
+    ensures { result ≡ is_turned text.now }
+{
+    match text.split_once('-') {
+        Some((first, last)) => are_turned(place_number(first), place_number(last)),
+        None => false,
+    }
+}
+
+/// Whether the first of two places is behind the second.
+fn are_turned(from: Option<u32>, to: Option<u32>) -> bool
+    ensures { result ≡ are_turned from to }
+{
+    match (from, to) {
+        (Some(from), Some(to)) => to < from,
+        _ => false,
+    }
+}
+
 /// The record that is to be drawn, of the same matches.
 fn draw_record_of<'a>(
     module_name: &'a str,
@@ -533,16 +626,22 @@ fn budget_of(matches: &ArgMatches<'_>) -> Option<u32>
     }
 }
 
-/// What a parse without matches stops for, of words with or without a number below 0.
-fn stop_of(alloc: Global, error: &clap::Error, negative: bool) -> Result<Stop, AllocError>
-    ensures { IfOk result (IsStopOf negative (kind_of error.now)) }
+/// What a parse without matches stops for, of words with or without a number below 0, and with or without one that lacks its `-n`.
+fn stop_of(
+    alloc: Global,
+    error: &clap::Error,
+    negative: bool,
+    number: Option<&str>,
+) -> Result<Stop, AllocError>
+    ensures { IfOk result (IsStopOf negative (option_map (λ number. number.now) number.entry) (kind_of error.now)) }
 {
     match error.kind() {
         ErrorKind::OutOfMemory => Ok(Stop::NoMemory),
         ErrorKind::DisplayHelp => Ok(Stop::Help(error.to_string(alloc)?)),
         kind => {
             let mistake = error.to_string(alloc)?;
-            Ok(Stop::Unclear(mistake_text(alloc, kind, mistake.as_str(), negative)?))
+            let text = mistake_text(alloc, kind, mistake.as_str(), negative, number)?;
+            Ok(Stop::Unclear(text))
         }
     }
 }
@@ -553,16 +652,63 @@ fn mistake_text(
     kind: ErrorKind,
     mistake: &str,
     negative: bool,
+    number: Option<&str>,
 ) -> Result<String, AllocError>
-    ensures { IfOk result (λ text. is_of_number negative kind ≡ true → SaysNumbers (string_bytes text)) }
+    ensures { IfOk result (λ text. IsSaidOf negative (option_map (λ number. number.now) number.entry) kind (string_bytes text)) }
 {
     if is_value(kind) {
         number_mistake(alloc, before_value_rule(mistake))
     } else if negative {
         number_mistake(alloc, "error: there is no number below 0; ")
+    } else if is_unknown(kind) {
+        unknown_mistake(alloc, mistake, number)
     } else {
         without_tip(alloc, mistake)
     }
+}
+
+/// Whether a mistake is a word that `clap` does not know.
+fn is_unknown(kind: ErrorKind) -> bool
+    ensures { result ≡ is_unknown kind }
+{
+    matches!(kind, ErrorKind::UnknownArgument)
+}
+
+/// What is said of a word that `clap` does not know, where a number of processes may lack its `-n`.
+fn unknown_mistake(alloc: Global, mistake: &str, number: Option<&str>) -> Result<String, AllocError>
+    ensures { IfOk result (λ text. SaysTip (option_map (λ number. number.now) number.entry) (string_bytes text)) }
+{
+    match number {
+        Some(number) => with_number_tip(alloc, mistake, number),
+        None => without_tip(alloc, mistake),
+    }
+}
+
+/// What is wrong with words, and how a number of processes is given.
+fn with_number_tip(alloc: Global, mistake: &str, number: &str) -> Result<String, AllocError>
+    ensures { IfOk result (λ text. SaysTip (Some number.now) (string_bytes text)) }
+{
+    let (before, behind) = mistake.split_once("\n\n").unwrap_or((mistake, ""));
+    tipped(alloc, before, number, behind)
+}
+
+/// How a number of processes is given, between two texts.
+fn tipped(alloc: Global, before: &str, number: &str, behind: &str) -> Result<String, AllocError>
+    ensures { IfOk result (λ text. string_bytes text ≡ (before.now ++ number_tip number.now) ++ behind.now) }
+{
+    let mut text = String::from_str(alloc, before)?;
+    push_tip(&mut text, number)?;
+    text.push_str(behind)?;
+    Ok(text)
+}
+
+fn push_tip(text: &mut String, number: &str) -> Result<(), AllocError>
+    ensures { OnOk result (string_bytes text.new ≡ string_bytes text.old ++ number_tip number.now) }
+{
+    text.push_str("\n\n  tip: `-n ")?;
+    text.push_str(number)?;
+    text.push_str("` gives the number of processes\n\n")?;
+    Ok(())
 }
 
 /// Whether a mistake is one of a value.
@@ -602,6 +748,48 @@ fn is_negative(word: &str) -> bool
 {
     match word.as_bytes() {
         [sign, digit, ..] => *sign == b'-' && digit.is_ascii_digit(),
+        _ => false,
+    }
+}
+
+/// A number of processes without its `-n`: a number that stands behind the names, where a command has such.
+fn loose_number<'a>(words: &[&'a str]) -> Option<&'a str>
+    ensures { option_map (λ word. word.now) result ≡ loose_number (map (λ word. word.now) words.now) }
+{
+    let names = names_of(words.first()?)?;
+    number_behind(words.get(names).copied(), words.get(names + 1).copied())
+}
+
+/// How many names of files stand behind a command that has a number of processes.
+fn names_of(name: &str) -> Option<usize>
+    ensures { result ≡ names_of name.now }
+{
+    match name {
+        "run" | "draw" | "explain" => Some(3),
+        "serve" => Some(2),
+        "bound" => Some(1),
+        _ => None,
+    }
+}
+
+/// A number behind a word that is no option.
+fn number_behind<'a>(before: Option<&str>, word: Option<&'a str>) -> Option<&'a str>
+    ensures { option_map (λ word. word.now) result ≡ number_behind (option_map (λ word. word.now) before.entry) (option_map (λ word. word.now) word.entry) }
+{
+    match (before, word) {
+        (Some(before), Some(word)) if place_number(word).is_some() && !is_option(before) => {
+            Some(word)
+        }
+        _ => None,
+    }
+}
+
+/// Whether a word is a `-` with something behind it.
+fn is_option(word: &str) -> bool
+    ensures { result ≡ is_option word.now }
+{
+    match word.as_bytes() {
+        [first, _, ..] => *first == b'-',
         _ => false,
     }
 }

@@ -30,8 +30,33 @@ const ABOUT_EXPLAIN: &str =
 const ABOUT_BOUND: &str =
     "Prints how many own steps a call takes at most, and the numbers behind it";
 
+const USAGE_CHECK: &str = "obl0 check MODULE";
+
+const USAGE_LIST: &str = "obl0 list MODULE";
+
+const USAGE_SEQ: &str = "obl0 seq MODULE SCRIPT [-b BUDGET]";
+
+const USAGE_RUN: &str = "obl0 run MODULE SCRIPT SCHEDULE -n N [-b BUDGET] [--tree | --steps]";
+
+const USAGE_SERVE: &str = "obl0 serve MODULE SCRIPT -n N [-b BUDGET]";
+
+const USAGE_DRAW: &str = "\
+obl0 draw MODULE SCRIPT SCHEDULE -n N [-b BUDGET] [--calls FROM-TO]
+       obl0 draw MODULE RECORD [--calls FROM-TO]";
+
+const USAGE_VERIFY: &str = "obl0 verify MODULE RECORD";
+
+const USAGE_EXPLAIN: &str = "\
+obl0 explain MODULE
+       obl0 explain MODULE SCRIPT [-b BUDGET] [--traps]
+       obl0 explain MODULE SCRIPT SCHEDULE -n N [-b BUDGET]
+       obl0 explain MODULE --record RECORD";
+
+const USAGE_BOUND: &str = "obl0 bound MODULE -n N [-b BUDGET]";
+
 /// What stands below the help.
 const AFTER_HELP: &str = "\
+To begin with: `obl0 seq examples/counter.mod examples/counter.calls`.
 `help COMMAND` prints the help of a command, as `COMMAND --help` does.
 `version`, `--version` and `-V` print the version.
 `-` in the place of a file's name is standard input.
@@ -44,27 +69,44 @@ pub fn command_line<'a>(alloc: Global) -> Result<clap::Command<'a>, AllocError>
     // Nothing is held while a command is made, so that want of memory finds nothing to let go.
     let program = program_line(alloc)?;
     let check = module_line(alloc, "check", "Tells whether a module keeps the rules");
-    let program = with_command(program, check)?;
+    let program = with_command(program, USAGE_CHECK, check)?;
     let list = module_line(alloc, "list", "Prints the code of a module");
-    let program = with_command(program, list)?;
-    let program = with_command(program, seq_line(alloc, "seq", ABOUT_SEQ))?;
-    let program = with_command(program, run_line(alloc, "run", ABOUT_RUN))?;
-    let program = with_command(program, serve_line(alloc, "serve", ABOUT_SERVE))?;
-    let program = with_command(program, draw_line(alloc, "draw", ABOUT_DRAW))?;
-    let program = with_command(program, record_line(alloc, "verify", ABOUT_VERIFY))?;
-    let program = with_command(program, explain_line(alloc, "explain", ABOUT_EXPLAIN))?;
-    with_command(program, bound_line(alloc, "bound", ABOUT_BOUND))
+    let program = with_command(program, USAGE_LIST, list)?;
+    let program = with_command(program, USAGE_SEQ, seq_line(alloc, "seq", ABOUT_SEQ))?;
+    let program = with_command(program, USAGE_RUN, run_line(alloc, "run", ABOUT_RUN))?;
+    let program = with_command(
+        program,
+        USAGE_SERVE,
+        serve_line(alloc, "serve", ABOUT_SERVE),
+    )?;
+    let program = with_command(program, USAGE_DRAW, draw_line(alloc, "draw", ABOUT_DRAW))?;
+    let program = with_command(
+        program,
+        USAGE_VERIFY,
+        record_line(alloc, "verify", ABOUT_VERIFY),
+    )?;
+    let program = with_command(
+        program,
+        USAGE_EXPLAIN,
+        explain_line(alloc, "explain", ABOUT_EXPLAIN),
+    )?;
+    with_command(
+        program,
+        USAGE_BOUND,
+        bound_line(alloc, "bound", ABOUT_BOUND),
+    )
 }
 
-/// The command line with one command more, where that could be made.
+/// The command line with one command more, which has these forms, where that could be made.
 fn with_command<'a>(
     program: clap::Command<'a>,
+    usage: &'a str,
     command: Result<clap::Command<'a>, AllocError>,
 ) -> Result<clap::Command<'a>, AllocError>
     requires local { IfOk command (λ c. (fields_of c).has_globals ≡ false) }
     ensures { IfOk result (λ c. IsOkAnd command.entry (λ added. app_of c ≡ with_command (app_of program.entry) (app_of added))) }
 {
-    program.subcommand(command?)
+    program.subcommand(command?.override_usage(usage))
 }
 
 /// The command line before any command.

@@ -17,9 +17,16 @@ const HELP_DRAWN: &str =
     "The file of the calls; or the file of a record, as which it is read where no SCHEDULE stands behind it";
 
 const HELP_SCHEDULE: &str =
-    "The file of the items that say which process steps: PROCESS*STEPS, PROCESS:LABEL or PROCESS!, \
-    as 0*3, 0:TRY or 0!, with blanks between them; the labels are NEXT, POST, FLIP, TRY, LINK, LOAD, \
-    STORE, CHECK1, MINE, SEEN, FETCH, CHECK2, SAVE, ENTER, BODY, UNDO, KEEP, COMMIT, READ, TAKE and GIVE";
+    "The file of the items that say which process steps, with blanks between them";
+
+/// What stands below the help of a command that has a schedule.
+const ITEMS: &str = "\
+The items of a schedule, as 0*3, 0:TRY or 0!:
+  PROCESS*STEPS  the process takes so many steps
+  PROCESS:LABEL  it steps until it stands at the label
+  PROCESS!       it steps until it answers
+The labels are NEXT, POST, FLIP, TRY, LINK, LOAD, STORE, CHECK1, MINE, SEEN, FETCH, CHECK2, SAVE,
+ENTER, BODY, UNDO, KEEP, COMMIT, READ, TAKE and GIVE.";
 
 const HELP_RECORD: &str = "The file of the record, as `run` prints it";
 
@@ -42,6 +49,7 @@ pub fn run_line<'a>(
     ensures local { IfOk result (λ c. (fields_of c).has_globals ≡ false) }
 {
     schedule_line(alloc, command, about)?
+        .after_help(ITEMS)
         .arg(flag(alloc, "tree", HELP_TREE))?
         .arg(flag(alloc, "steps", HELP_STEPS))
 }
@@ -71,6 +79,7 @@ pub fn draw_line<'a>(
     ensures local { IfOk result (λ c. (fields_of c).has_globals ≡ false) }
 {
     drawn_line(alloc, command, about)?
+        .after_help(ITEMS)
         .arg(optional_count(alloc))?
         .arg(call_budget(alloc))?
         .arg(drawn_calls(alloc))
@@ -138,6 +147,7 @@ pub fn explain_line<'a>(
     ensures local { IfOk result (λ c. (fields_of c).has_globals ≡ false) }
 {
     optional_run_line(alloc, command, about)?
+        .after_help(ITEMS)
         .arg(explained_record(alloc))?
         .arg(flag(alloc, "traps", HELP_TRAPS))
 }

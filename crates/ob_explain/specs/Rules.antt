@@ -13,10 +13,11 @@ use Rattle.ob_explain_names.specs.declared.known.Sort.TheVariants as Sorts
 use Rattle.ob_explain_names.specs.declared.need.Need.{Need}
 use Rattle.ob_explain_names.specs.declared.need.Need.TheVariants as Needs
 use Rattle.ob_explain_nearest.specs.Distance.{bytes_of}
-use Rattle.ob_explain_nearest.specs.Nearest.{nearest}
+use Rattle.ob_explain_nearest.specs.Nearest.{nearest, nearest_token}
 use Rattle.ob_explain_nearest.specs.declared.distance.Candidate.{Candidate}
 use Rattle.ob_explain_operands.specs.Declarations.{declared_as, in_record, token_bytes}
 use Rattle.ob_explain_operands.specs.Numerals.{numeral_before, numeral_next}
+use Rattle.ob_explain_parts.specs.FieldNames.{fields_at}
 use Rattle.ob_explain_operands.specs.declared.numerals.Numeral.{Numeral}
 use Rattle.ob_explain_tokens.specs.Actuals.{actual_count}
 use Rattle.ob_explain_tokens.specs.Around as Tokens
@@ -39,9 +40,9 @@ abbrev pub question : (text : List ℕ) → Candidate → List ℕ
 question text near = if near.distance == 3 then [] else near_question (bytes_of text near.named)
 
 -- a field stands behind a `.`
-abbrev pub unknown_sentence : (before text : List ℕ) → Candidate → List ℕ
-unknown_sentence before text near =
-    if ends_with (trimmed before) 46 then codes "the record has no field of this name"
+abbrev pub unknown_sentence : (before text : List ℕ) → (near field : Candidate) → List ℕ
+unknown_sentence before text near field =
+    if ends_with (trimmed before) 46 then (codes "the record has no field of this name" ++ question text field)
     else (codes "a name is declared before it is used, and none of this name is visible here" ++ question text near)
 
 -- of a name that stands there before, in which line
@@ -234,7 +235,8 @@ export_sentence before =
 
 -- what a rule asks, and what stands there
 abbrev pub told_rule : Rule → (text : List ℕ) → (place : ℕ) → List Known → List Token → (before from : List ℕ) → List ℕ
-told_rule Rules.UnknownName text place known tokens before from = unknown_sentence before text (nearest text known (word_at from))
+told_rule Rules.UnknownName text place known tokens before from =
+    unknown_sentence before text (nearest text known (word_at from)) (nearest_token text (fields_at text known tokens place) (word_at from))
 told_rule Rules.DeclaredTwice text place known tokens before from = twice_sentence text known (in_record 0 (Tokens.before place tokens)) (word_at from)
 told_rule Rules.WrongKind text place known tokens before from = kind_sentence before from (sort_of text known (word_at from))
 told_rule Rules.TypesDiffer text place known tokens before from = typed_sentence text known tokens place before from

@@ -1,6 +1,6 @@
 //! What is wrong where a rule is broken, in a sentence.
 
-ghost use Rattle.std.specs.Prelude.{◌≡◌, ◌++◌, IfOk, OnOk, find, string_bytes};
+ghost use Rattle.std.specs.Prelude.{◌≡◌, ◌++◌, IfOk, OnOk, codes, find, string_bytes};
 ghost use Rattle.ob_explain.specs.Rules.{actuals_sentence, before_sentence, behind_word, beyond, binds_closer, constant_sentence, counted_sentence, counts_sentence, divides, divisor_sentence, export_sentence, is_in_procedure, is_inner, is_one_token, is_procedure, is_procedure_there, is_procedure_token, kind_sentence, large_sentence, length_numeral, length_sentence, limit_sentence, most_words, named_sentence, near_question, no_word, opens_type, operands_sentence, operation_from, operation_text, question, range_sentence, rule_sentence, shown_numeral, told_need, told_sort, told_words, twice_sentence, unknown_sentence, variables_limit, variables_sentence};
 
 use crate::counts::push_count;
@@ -12,9 +12,10 @@ use ob_explain_names::known::{Known, Sort};
 use ob_explain_names::lookup::sort_of;
 use ob_explain_names::need::{Need, need_of};
 use ob_explain_nearest::distance::{Candidate, FAR, bytes_of};
-use ob_explain_nearest::nearest::nearest;
+use ob_explain_nearest::nearest::{nearest, nearest_token};
 use ob_explain_operands::declarations::{declared_as, in_record, token_bytes};
 use ob_explain_operands::numerals::{Numeral, numeral_before, numeral_next};
+use ob_explain_parts::field_names::fields_at;
 use ob_explain_tokens::actuals::actual_count;
 use ob_explain_tokens::around::{tokens_before, tokens_behind};
 use ob_explain_tokens::open::open_construct;
@@ -41,12 +42,12 @@ pub fn rule_sentence(
 {
     let (before, from) = halves(text, broken.place);
     match broken.rule {
-        Rule::UnknownName => unknown_sentence(
-            alloc,
-            before,
-            text,
-            nearest(text, known, word_at(from)),
-        ),
+        Rule::UnknownName => {
+            let fields = fields_at(alloc, text, known, tokens, broken.place)?;
+            let near = nearest(text, known, word_at(from));
+            let field = nearest_token(text, &fields, word_at(from));
+            unknown_sentence(alloc, before, text, near, field)
+        }
         Rule::DeclaredTwice => {
             let preceding = tokens_before(alloc, tokens, broken.place)?;
             twice_sentence(alloc, text, known, in_record(&preceding), word_at(from))
@@ -86,17 +87,27 @@ fn unknown_sentence(
     before: &[u8],
     text: &[u8],
     near: Candidate,
+    field: Candidate,
 ) -> Result<String, AllocError>
-    ensures { IfOk result (λ sentence. string_bytes sentence ≡ unknown_sentence before.now text.now near) }
+    ensures { IfOk result (λ sentence. string_bytes sentence ≡ unknown_sentence before.now text.now near field) }
 {
     if ends_with(trimmed(before), b'.') {
-        return String::from_str(alloc, "the record has no field of this name");
+        return field_sentence(alloc, text, field);
     }
     let mut sentence = String::from_str(
         alloc,
         "a name is declared before it is used, and none of this name is visible here",
     )?;
     push_question(&mut sentence, text, near)?;
+    Ok(sentence)
+}
+
+/// Of a field that is not there.
+fn field_sentence(alloc: Global, text: &[u8], field: Candidate) -> Result<String, AllocError>
+    ensures { IfOk result (λ sentence. string_bytes sentence ≡ codes "the record has no field of this name" ++ question text.now field) }
+{
+    let mut sentence = String::from_str(alloc, "the record has no field of this name")?;
+    push_question(&mut sentence, text, field)?;
     Ok(sentence)
 }
 

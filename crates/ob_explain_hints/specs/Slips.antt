@@ -1,5 +1,5 @@
 -- Which known slip is at a place of a text: by what stands before it, the word that stands there, and the bytes from there on.
-use Rattle.std.specs.Prelude.{ℕ, ◌-◌, ◌==◌, ◌&&◌, not, Bool, false, List, length, map, find, slice_get, nat_eq, bytes_eq, Option, Some, None, if◌then◌else◌}
+use Rattle.std.specs.Prelude.{ℕ, ◌-◌, ◌==◌, ◌&&◌, nat_le, not, Bool, false, List, length, map, find, slice_get, nat_eq, bytes_eq, Option, Some, None, if◌then◌else◌}
 use Rattle.std.specs.Char.{to_ascii_lowercase}
 use Rattle.std.specs.List.{list_any, starts_with}
 use Rattle.ob_explain_expected.specs.Kinds.{sample}
@@ -47,9 +47,14 @@ is_small_keyword word = list_any (λ kind. is_same_but_for_case word (sample kin
 abbrev pub word_slip : List ℕ → Option Slip
 word_slip word = either (with_word foreign word) (if is_small_keyword word then Some Slips.SmallKeyword else None)
 
+-- a byte that is no ASCII
+abbrev pub is_other : Option ℕ → Bool
+is_other None = false
+is_other (Some x) = nat_le 128 x
+
 -- of a byte that begins no token
 abbrev pub stray_slip : List ℕ → Option Slip
-stray_slip bytes = with_sign stray bytes
+stray_slip bytes = either (with_sign stray bytes) (if is_other (slice_get bytes 0) then Some Slips.NotAscii else None)
 
 -- of a number that is too large: the one behind a `-`
 abbrev pub number_slip : (before bytes : List ℕ) → Option Slip
@@ -60,6 +65,8 @@ number_slip before bytes =
 abbrev pub pair_slip : (before bytes : List ℕ) → Option Slip
 pair_slip before bytes =
     if ends_with before 60 && begins_with bytes 62 then Some Slips.LessGreater
+    else if ends_with before 61 && begins_with bytes 62 then Some Slips.EqualGreater
+    else if ends_with before 61 && begins_with bytes 60 then Some Slips.EqualLess
     else if ends_with before 61 && begins_with bytes 61 then Some Slips.TwoEquals
     else if ends_with before 38 && begins_with bytes 38 then Some Slips.TwoAnds
     else None

@@ -13,12 +13,16 @@ slip_mark Slips.Apostrophe = codes "'"
 slip_mark Slips.Brace = codes "{"
 slip_mark Slips.ExclamationMark = codes "!"
 slip_mark Slips.TwoSlashes = codes "//"
+slip_mark Slips.SlashStar = codes "/*"
 slip_mark Slips.Slash = codes "/"
 slip_mark Slips.Bar = codes "|"
 slip_mark Slips.Percent = codes "%"
 slip_mark Slips.ByteOrderMark = 239 ∷ 187 ∷ 191 ∷ []
+slip_mark Slips.NotAscii = []
 slip_mark Slips.SmallestNumber = codes "2147483648"
 slip_mark Slips.LessGreater = []
+slip_mark Slips.EqualGreater = []
+slip_mark Slips.EqualLess = []
 slip_mark Slips.TwoEquals = []
 slip_mark Slips.TwoAnds = []
 slip_mark Slips.Assign = codes ":="
@@ -31,6 +35,7 @@ slip_mark Slips.Exit = codes "EXIT"
 slip_mark Slips.Loop = codes "LOOP"
 slip_mark Slips.Pointer = codes "POINTER"
 slip_mark Slips.Nil = codes "NIL"
+slip_mark Slips.Null = codes "NULL"
 slip_mark Slips.And = codes "AND"
 slip_mark Slips.Not = codes "NOT"
 slip_mark Slips.ElseIf = codes "ELSEIF"
@@ -39,6 +44,7 @@ slip_mark Slips.EndIf = codes "ENDIF"
 slip_mark Slips.Break = codes "BREAK"
 slip_mark Slips.Continue = codes "CONTINUE"
 slip_mark Slips.Function = codes "FUNCTION"
+slip_mark Slips.Goto = codes "GOTO"
 slip_mark Slips.SmallKeyword = []
 
 -- the hint on a slip
@@ -49,12 +55,16 @@ slip_hint Slips.Apostrophe = codes "there are no characters; a value is a number
 slip_hint Slips.Brace = codes "there are no sets and no blocks in braces; a comment is written (* .. *)"
 slip_hint Slips.ExclamationMark = codes "not equal is written #, and not is written ~"
 slip_hint Slips.TwoSlashes = codes "a comment is written (* .. *)"
+slip_hint Slips.SlashStar = codes "a comment is written (* .. *)"
 slip_hint Slips.Slash = codes "a quotient is written with DIV"
 slip_hint Slips.Bar = codes "or is written OR, and there is no CASE"
 slip_hint Slips.Percent = codes "a remainder is written with MOD"
 slip_hint Slips.ByteOrderMark = codes "a byte order mark stands there, which no editor shows; save the file without it"
+slip_hint Slips.NotAscii = codes "outside comments all is ASCII: no letters with accents, no typographic quotes or dashes, no special blanks"
 slip_hint Slips.SmallestNumber = codes "the smallest INTEGER is written -2147483647 - 1"
 slip_hint Slips.LessGreater = codes "not equal is written #"
+slip_hint Slips.EqualGreater = codes "greater or equal is written >="
+slip_hint Slips.EqualLess = codes "less or equal is written <="
 slip_hint Slips.TwoEquals = codes "equal is written with one ="
 slip_hint Slips.TwoAnds = codes "and is written with one &"
 slip_hint Slips.Assign = codes ":= assigns, in a statement of its own; = compares, and stands in declarations of constants and types"
@@ -67,6 +77,7 @@ slip_hint Slips.Exit = codes "there is no EXIT; a loop ends by its condition"
 slip_hint Slips.Loop = codes "there is no LOOP; use WHILE or REPEAT"
 slip_hint Slips.Pointer = codes "there are no pointers"
 slip_hint Slips.Nil = codes "there are no pointers"
+slip_hint Slips.Null = codes "there are no pointers"
 slip_hint Slips.And = codes "and is written &"
 slip_hint Slips.Not = codes "not is written ~"
 slip_hint Slips.ElseIf = codes "another case is written ELSIF"
@@ -75,13 +86,14 @@ slip_hint Slips.EndIf = codes "an IF ends with END"
 slip_hint Slips.Break = codes "there is no BREAK; a loop ends by its condition"
 slip_hint Slips.Continue = codes "there is no CONTINUE; put what is left of the turn into an IF"
 slip_hint Slips.Function = codes "there are no functions; a procedure gives its results by VAR parameters"
+slip_hint Slips.Goto = codes "there is no GOTO; use IF, WHILE, REPEAT or a call"
 slip_hint Slips.SmallKeyword = codes "keywords are written in capitals"
 
 -- signs that begin no token
 abbrev pub stray : List Slip
 stray =
-    Slips.Underscore ∷ Slips.Quotes ∷ Slips.Apostrophe ∷ Slips.Brace ∷ Slips.ExclamationMark ∷ Slips.TwoSlashes ∷ Slips.Slash ∷ Slips.Bar
-    ∷ Slips.Percent ∷ Slips.ByteOrderMark ∷ []
+    Slips.Underscore ∷ Slips.Quotes ∷ Slips.Apostrophe ∷ Slips.Brace ∷ Slips.ExclamationMark ∷ Slips.TwoSlashes ∷ Slips.SlashStar ∷ Slips.Slash
+    ∷ Slips.Bar ∷ Slips.Percent ∷ Slips.ByteOrderMark ∷ []
 
 -- signs that stand in place of others
 abbrev pub signs : List Slip
@@ -90,8 +102,8 @@ signs = Slips.Assign ∷ Slips.Equal ∷ []
 -- words of other languages
 abbrev pub foreign : List Slip
 foreign =
-    Slips.For ∷ Slips.Case ∷ Slips.Return ∷ Slips.Import ∷ Slips.Exit ∷ Slips.Loop ∷ Slips.Pointer ∷ Slips.Nil ∷ Slips.And ∷ Slips.Not
-    ∷ Slips.ElseIf ∷ Slips.ElIf ∷ Slips.EndIf ∷ Slips.Break ∷ Slips.Continue ∷ Slips.Function ∷ []
+    Slips.For ∷ Slips.Case ∷ Slips.Return ∷ Slips.Import ∷ Slips.Exit ∷ Slips.Loop ∷ Slips.Pointer ∷ Slips.Nil ∷ Slips.Null ∷ Slips.And
+    ∷ Slips.Not ∷ Slips.ElseIf ∷ Slips.ElIf ∷ Slips.EndIf ∷ Slips.Break ∷ Slips.Continue ∷ Slips.Function ∷ Slips.Goto ∷ []
 
 abbrev pub keywords : List Kind
 keywords =

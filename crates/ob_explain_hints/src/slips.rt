@@ -1,7 +1,7 @@
 //! The known slip at a place of a text.
 
-ghost use Rattle.std.specs.Prelude.{◌≡◌, Some, None, bytes_eq};
-ghost use Rattle.ob_explain_hints.specs.Slips.{begins_with, either, ends_with, is_same_but_for_case, is_same_in_any_case, is_small_keyword, number_slip, pair_slip, parse_slip, stray_slip, with_sign, with_word, word_slip};
+ghost use Rattle.std.specs.Prelude.{◌≡◌, Some, None, bytes_eq, slice_get};
+ghost use Rattle.ob_explain_hints.specs.Slips.{begins_with, either, ends_with, is_same_but_for_case, is_same_in_any_case, is_other, is_small_keyword, number_slip, pair_slip, parse_slip, stray_slip, with_sign, with_word, word_slip};
 
 use crate::tables::{KEYWORDS, SIGNS, STRAY, Slip, WORDS, slip_mark};
 use crate::words::{trimmed, word_before};
@@ -11,7 +11,12 @@ use ob_explain_expected::kinds::sample;
 pub fn stray_slip(bytes: &[u8]) -> Option<Slip>
     ensures { result ≡ stray_slip bytes.now }
 {
-    with_sign(&STRAY, bytes)
+    let of_byte = if begins_other(bytes) {
+        Some(Slip::NotAscii)
+    } else {
+        None
+    };
+    either(with_sign(&STRAY, bytes), of_byte)
 }
 
 /// The slip of a number that is too large.
@@ -54,6 +59,10 @@ fn pair_slip(before: &[u8], bytes: &[u8]) -> Option<Slip>
 {
     if ends_with(before, b'<') && begins_with(bytes, b'>') {
         Some(Slip::LessGreater)
+    } else if ends_with(before, b'=') && begins_with(bytes, b'>') {
+        Some(Slip::EqualGreater)
+    } else if ends_with(before, b'=') && begins_with(bytes, b'<') {
+        Some(Slip::EqualLess)
     } else if ends_with(before, b'=') && begins_with(bytes, b'=') {
         Some(Slip::TwoEquals)
     } else if ends_with(before, b'&') && begins_with(bytes, b'&') {
@@ -127,6 +136,16 @@ pub fn begins_with(bytes: &[u8], byte: u8) -> bool
 {
     match bytes.first() {
         Some(first) => *first == byte,
+        None => false,
+    }
+}
+
+/// Whether the first of some bytes is no ASCII.
+fn begins_other(bytes: &[u8]) -> bool
+    ensures { result ≡ is_other (slice_get bytes.now 0) }
+{
+    match bytes.first() {
+        Some(first) => *first >= 128,
         None => false,
     }
 }

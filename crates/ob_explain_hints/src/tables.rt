@@ -14,12 +14,16 @@ pub enum Slip {
     Brace,
     ExclamationMark,
     TwoSlashes,
+    SlashStar,
     Slash,
     Bar,
     Percent,
     ByteOrderMark,
+    NotAscii,
     SmallestNumber,
     LessGreater,
+    EqualGreater,
+    EqualLess,
     TwoEquals,
     TwoAnds,
     Assign,
@@ -32,6 +36,7 @@ pub enum Slip {
     Loop,
     Pointer,
     Nil,
+    Null,
     And,
     Not,
     ElseIf,
@@ -40,17 +45,19 @@ pub enum Slip {
     Break,
     Continue,
     Function,
+    Goto,
     SmallKeyword,
 }
 
 /// Signs that begin no token.
-pub const STRAY: [Slip; 10] = [
+pub const STRAY: [Slip; 11] = [
     Slip::Underscore,
     Slip::Quotes,
     Slip::Apostrophe,
     Slip::Brace,
     Slip::ExclamationMark,
     Slip::TwoSlashes,
+    Slip::SlashStar,
     Slip::Slash,
     Slip::Bar,
     Slip::Percent,
@@ -61,7 +68,7 @@ pub const STRAY: [Slip; 10] = [
 pub const SIGNS: [Slip; 2] = [Slip::Assign, Slip::Equal];
 
 /// Words of other languages, whose letters may be small or large.
-pub const WORDS: [Slip; 16] = [
+pub const WORDS: [Slip; 18] = [
     Slip::For,
     Slip::Case,
     Slip::Return,
@@ -70,6 +77,7 @@ pub const WORDS: [Slip; 16] = [
     Slip::Loop,
     Slip::Pointer,
     Slip::Nil,
+    Slip::Null,
     Slip::And,
     Slip::Not,
     Slip::ElseIf,
@@ -78,6 +86,7 @@ pub const WORDS: [Slip; 16] = [
     Slip::Break,
     Slip::Continue,
     Slip::Function,
+    Slip::Goto,
 ];
 
 /// Keywords.
@@ -116,12 +125,16 @@ pub fn slip_mark(slip: Slip) -> &'static [u8]
         Slip::Brace => b"{",
         Slip::ExclamationMark => b"!",
         Slip::TwoSlashes => b"//",
+        Slip::SlashStar => b"/*",
         Slip::Slash => b"/",
         Slip::Bar => b"|",
         Slip::Percent => b"%",
         Slip::ByteOrderMark => b"\xef\xbb\xbf",
+        Slip::NotAscii => b"",
         Slip::SmallestNumber => b"2147483648",
         Slip::LessGreater => b"",
+        Slip::EqualGreater => b"",
+        Slip::EqualLess => b"",
         Slip::TwoEquals => b"",
         Slip::TwoAnds => b"",
         Slip::Assign => b":=",
@@ -134,6 +147,7 @@ pub fn slip_mark(slip: Slip) -> &'static [u8]
         Slip::Loop => b"LOOP",
         Slip::Pointer => b"POINTER",
         Slip::Nil => b"NIL",
+        Slip::Null => b"NULL",
         Slip::And => b"AND",
         Slip::Not => b"NOT",
         Slip::ElseIf => b"ELSEIF",
@@ -142,6 +156,7 @@ pub fn slip_mark(slip: Slip) -> &'static [u8]
         Slip::Break => b"BREAK",
         Slip::Continue => b"CONTINUE",
         Slip::Function => b"FUNCTION",
+        Slip::Goto => b"GOTO",
         Slip::SmallKeyword => b"",
     }
 }
@@ -157,13 +172,18 @@ pub fn slip_hint(slip: Slip) -> &'static str
         Slip::Brace => "there are no sets and no blocks in braces; a comment is written (* .. *)",
         Slip::ExclamationMark => "not equal is written #, and not is written ~",
         Slip::TwoSlashes => "a comment is written (* .. *)",
+        Slip::SlashStar => "a comment is written (* .. *)",
         Slip::Slash => "a quotient is written with DIV",
         Slip::Bar => "or is written OR, and there is no CASE",
         Slip::Percent => "a remainder is written with MOD",
         Slip::ByteOrderMark =>
             "a byte order mark stands there, which no editor shows; save the file without it",
+        Slip::NotAscii =>
+            "outside comments all is ASCII: no letters with accents, no typographic quotes or dashes, no special blanks",
         Slip::SmallestNumber => "the smallest INTEGER is written -2147483647 - 1",
         Slip::LessGreater => "not equal is written #",
+        Slip::EqualGreater => "greater or equal is written >=",
+        Slip::EqualLess => "less or equal is written <=",
         Slip::TwoEquals => "equal is written with one =",
         Slip::TwoAnds => "and is written with one &",
         Slip::Assign =>
@@ -178,6 +198,7 @@ pub fn slip_hint(slip: Slip) -> &'static str
         Slip::Loop => "there is no LOOP; use WHILE or REPEAT",
         Slip::Pointer => "there are no pointers",
         Slip::Nil => "there are no pointers",
+        Slip::Null => "there are no pointers",
         Slip::And => "and is written &",
         Slip::Not => "not is written ~",
         Slip::ElseIf => "another case is written ELSIF",
@@ -186,6 +207,7 @@ pub fn slip_hint(slip: Slip) -> &'static str
         Slip::Break => "there is no BREAK; a loop ends by its condition",
         Slip::Continue => "there is no CONTINUE; put what is left of the turn into an IF",
         Slip::Function => "there are no functions; a procedure gives its results by VAR parameters",
+        Slip::Goto => "there is no GOTO; use IF, WHILE, REPEAT or a call",
         Slip::SmallKeyword => "keywords are written in capitals",
     }
 }

@@ -1,3 +1,4 @@
 pub mod Edits
 pub mod Distance
 pub mod Nearest
+pub mod Keywords

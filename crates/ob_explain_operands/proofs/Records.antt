@@ -1,7 +1,8 @@
 -- Tokens before a name that is declared, one by one.
-use Rattle.std.proofs.Common.{◌≡◌, ℕ, zero, suc, ◌+◌, ◌-◌, ◌<◌, ◌≤◌, Bool, true, false, List, length, get_or, drop, refl, sym, ◌∙◌, ap, add-one, drop-cons, drop_of_length-le, arith}
+use Rattle.std.proofs.Common.{◌≡◌, ℕ, zero, suc, ◌+◌, ◌-◌, ◌<◌, ◌≤◌, true, false, List, length, get_or, drop, refl, sym, ◌∙◌, ap, add-one, drop-cons, drop_of_length-le, arith}
 use Rattle.ob_scan.specs.declared.token.Token.{Token}
-use Rattle.ob_explain_operands.specs.Declarations.{begins_part, in_record, is_end, is_record}
+use Rattle.ob_explain_operands.specs.Declarations.{begins_part, in_record}
+use Rattle.ob_explain_operands.specs.Kinds.{is_end, is_record}
 
 pub begins_there : (closed : ℕ) (ts : List Token) (i : ℕ) (d : Token) → i < length ts →
     begins_part (get_or ts i d).kind ≡ true → in_record closed (drop i ts) ≡ false

@@ -6,7 +6,7 @@ use Rattle.ob_scan.specs.declared.token.Token.{Token}
 use Rattle.ob_explain_names.specs.Lookup.{name_at}
 use Rattle.ob_explain_names.specs.declared.known.Known.{Known}
 use Rattle.ob_explain_tokens.specs.Around as Tokens
-use Rattle.ob_explain_operands.specs.Kinds.{is_colon}
+use Rattle.ob_explain_operands.specs.Kinds.{is_colon, is_end, is_record}
 
 -- the bytes of a token
 abbrev pub token_bytes : (text : List ℕ) → Token → List ℕ
@@ -46,14 +46,6 @@ begins_part Kinds.Type = true
 begins_part Kinds.Var = true
 begins_part Kinds.Procedure = true
 begins_part _ = false
-
-abbrev pub is_end : Kind → Bool
-is_end Kinds.End = true
-is_end _ = false
-
-abbrev pub is_record : Kind → Bool
-is_record Kinds.Record = true
-is_record _ = false
 
 -- Whether a name that is declared stands in a record, of the tokens before it, the last one first: a RECORD opens it that so many more
 -- ENDs do not close. Between a keyword that begins a part and the name there are no other ENDs.

@@ -31,9 +31,51 @@ abbrev pub is_left : Kind → Bool
 is_left Kinds.LeftParen = true
 is_left _ = false
 
+abbrev pub is_right : Kind → Bool
+is_right Kinds.RightParen = true
+is_right _ = false
+
+abbrev pub is_comma : Kind → Bool
+is_comma Kinds.Comma = true
+is_comma _ = false
+
 abbrev pub is_minus : Kind → Bool
 is_minus Kinds.Minus = true
 is_minus _ = false
+
+abbrev pub is_array : Kind → Bool
+is_array Kinds.Array = true
+is_array _ = false
+
+abbrev pub is_of : Kind → Bool
+is_of Kinds.Of = true
+is_of _ = false
+
+abbrev pub is_record : Kind → Bool
+is_record Kinds.Record = true
+is_record _ = false
+
+abbrev pub is_end : Kind → Bool
+is_end Kinds.End = true
+is_end _ = false
+
+abbrev pub opens_bracket : Kind → Bool
+opens_bracket Kinds.LeftBracket = true
+opens_bracket _ = false
+
+abbrev pub closes_bracket : Kind → Bool
+closes_bracket Kinds.RightBracket = true
+closes_bracket _ = false
+
+-- = # < <= > >=
+abbrev pub is_relation : Kind → Bool
+is_relation Kinds.Equal = true
+is_relation Kinds.NotEqual = true
+is_relation Kinds.Less = true
+is_relation Kinds.LessOrEqual = true
+is_relation Kinds.Greater = true
+is_relation Kinds.GreaterOrEqual = true
+is_relation _ = false
 
 -- + -
 abbrev pub is_sign : Kind → Bool

@@ -1,9 +1,9 @@
 //! The declarations of names, by the tokens of a text and the names that are visible at a place.
 
 ghost use Rattle.std.specs.Prelude.{◌≡◌, IfOk, find};
-ghost use Rattle.ob_explain_operands.specs.Declarations.{begins_part, behind_token, declared_as, first_of, in_record, is_colon_token, is_end, is_named, is_record, is_there, token_bytes, type_token};
+ghost use Rattle.ob_explain_operands.specs.Declarations.{begins_part, behind_token, declared_as, first_of, in_record, is_colon_token, is_named, is_there, token_bytes, type_token};
 
-use crate::kinds::is_colon;
+use crate::kinds::{is_colon, is_end, is_record};
 use ob_explain_hints::slips::is_same;
 use ob_explain_names::known::Known;
 use ob_explain_names::lookup::name_at;
@@ -32,7 +32,8 @@ pub fn declared_as(text: &[u8], known: &[Known], word: &[u8]) -> Option<Known>
         .find(|name| is_named(text, word, *name))
 }
 
-fn is_named(text: &[u8], word: &[u8], name: Known) -> bool
+/// Whether a word is this one of the names of a text.
+pub fn is_named(text: &[u8], word: &[u8], name: Known) -> bool
     ensures { result ≡ is_named text.now word.now name }
 {
     is_same(name_at(text, name.place), word)
@@ -69,7 +70,7 @@ fn first_colon(tokens: &[Token]) -> Option<Token>
 }
 
 /// The token behind one.
-fn behind_token(
+pub fn behind_token(
     alloc: Global,
     tokens: &[Token],
     token: Option<Token>,
@@ -85,7 +86,8 @@ fn behind_token(
     }
 }
 
-fn first_of(tokens: &[Token]) -> Option<Token>
+/// The first of tokens.
+pub fn first_of(tokens: &[Token]) -> Option<Token>
     ensures { result ≡ first_of tokens.now }
 {
     tokens.first().copied()
@@ -118,16 +120,4 @@ fn begins_part(kind: Kind) -> bool
     ensures { result ≡ begins_part kind }
 {
     matches!(kind, Kind::Const | Kind::Type | Kind::Var | Kind::Procedure)
-}
-
-fn is_end(kind: Kind) -> bool
-    ensures { result ≡ is_end kind }
-{
-    matches!(kind, Kind::End)
-}
-
-fn is_record(kind: Kind) -> bool
-    ensures { result ≡ is_record kind }
-{
-    matches!(kind, Kind::Record)
 }

@@ -1,7 +1,7 @@
 //! What tokens are beside an operand.
 
 ghost use Rattle.std.specs.Prelude.{◌≡◌};
-ghost use Rattle.ob_explain_operands.specs.Kinds.{ends_operand, is_colon, is_dot, is_left, is_minus, is_name, is_not, is_number, is_semicolon, is_sign, multiplies, selects};
+ghost use Rattle.ob_explain_operands.specs.Kinds.{closes_bracket, ends_operand, is_array, is_colon, is_comma, is_dot, is_end, is_left, is_minus, is_name, is_not, is_number, is_of, is_record, is_relation, is_right, is_semicolon, is_sign, multiplies, opens_bracket, selects};
 
 use ob_scan::Kind;
 
@@ -47,10 +47,73 @@ pub fn is_left(kind: Kind) -> bool
     matches!(kind, Kind::LeftParen)
 }
 
+pub fn is_right(kind: Kind) -> bool
+    ensures { result ≡ is_right kind }
+{
+    matches!(kind, Kind::RightParen)
+}
+
+pub fn is_comma(kind: Kind) -> bool
+    ensures { result ≡ is_comma kind }
+{
+    matches!(kind, Kind::Comma)
+}
+
 pub fn is_minus(kind: Kind) -> bool
     ensures { result ≡ is_minus kind }
 {
     matches!(kind, Kind::Minus)
+}
+
+pub fn is_array(kind: Kind) -> bool
+    ensures { result ≡ is_array kind }
+{
+    matches!(kind, Kind::Array)
+}
+
+pub fn is_of(kind: Kind) -> bool
+    ensures { result ≡ is_of kind }
+{
+    matches!(kind, Kind::Of)
+}
+
+pub fn is_record(kind: Kind) -> bool
+    ensures { result ≡ is_record kind }
+{
+    matches!(kind, Kind::Record)
+}
+
+pub fn is_end(kind: Kind) -> bool
+    ensures { result ≡ is_end kind }
+{
+    matches!(kind, Kind::End)
+}
+
+pub fn opens_bracket(kind: Kind) -> bool
+    ensures { result ≡ opens_bracket kind }
+{
+    matches!(kind, Kind::LeftBracket)
+}
+
+pub fn closes_bracket(kind: Kind) -> bool
+    ensures { result ≡ closes_bracket kind }
+{
+    matches!(kind, Kind::RightBracket)
+}
+
+/// An operator that compares: = # < <= > >=.
+pub fn is_relation(kind: Kind) -> bool
+    ensures { result ≡ is_relation kind }
+{
+    matches!(
+        kind,
+        Kind::Equal
+            | Kind::NotEqual
+            | Kind::Less
+            | Kind::LessOrEqual
+            | Kind::Greater
+            | Kind::GreaterOrEqual
+    )
 }
 
 /// A sign.

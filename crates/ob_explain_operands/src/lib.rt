@@ -2,7 +2,5 @@
 #![tactic(auto)]
 
 pub mod declarations;
-pub mod forms;
 pub mod kinds;
 pub mod numerals;
-pub mod parameters;

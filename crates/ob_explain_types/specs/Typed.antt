@@ -1,12 +1,14 @@
 -- What is said where a type differs: which type stands there, and which is needed, as far as tokens and declarations tell both. An
 -- operator does not take one of its operands; else it is the first byte of what is of another type than is needed.
-use Rattle.std.specs.Prelude.{ℕ, ◌-◌, ◌++◌, Bool, true, false, List, codes, if◌then◌else◌}
+use Rattle.std.specs.Prelude.{ℕ, ◌-◌, ◌++◌, ◌&&◌, Bool, true, false, List, [], codes, if◌then◌else◌}
 use Rattle.ob_scan.specs.declared.token.Token.{Token}
 use Rattle.ob_explain_hints.specs.Slips.{begins_with}
 use Rattle.ob_explain_names.specs.declared.known.Known.{Known}
-use Rattle.ob_explain_operands.specs.Forms.{form_before, form_behind, form_instead, other}
-use Rattle.ob_explain_operands.specs.declared.forms.Form.{Form}
-use Rattle.ob_explain_operands.specs.declared.forms.Form.TheVariants.{Integer, Boolean, Whole, Unknown}
+use Rattle.ob_explain_parts.specs.Forms.{form_before, form_behind, form_instead, other, role_of}
+use Rattle.ob_explain_parts.specs.declared.forms.Form.{Form}
+use Rattle.ob_explain_parts.specs.declared.forms.Form.TheVariants.{Integer, Boolean, Single, Array, Record, Unknown}
+use Rattle.ob_explain_parts.specs.declared.forms.Role.{Role}
+use Rattle.ob_explain_parts.specs.declared.forms.Role.TheVariants.{Compared, Actual}
 use Rattle.ob_explain_tokens.specs.Around as Tokens
 use Rattle.ob_explain_types.specs.Types.{begins_with_sign, compares, takes_numbers, takes_truths, types_sentence}
 use Rattle.ob_explain_types.specs.Wanted.{wanted_at, wanted_form}
@@ -18,7 +20,9 @@ use Rattle.ob_explain_types.specs.declared.wanted.Wanted.TheVariants as Wants
 abbrev pub form_noun : Form → List ℕ
 form_noun Integer = codes "an INTEGER"
 form_noun Boolean = codes "a BOOLEAN"
-form_noun Whole = codes "a whole array or record"
+form_noun Single = codes "an INTEGER or a BOOLEAN"
+form_noun Array = codes "a whole array"
+form_noun Record = codes "a whole record"
 form_noun Unknown = codes "something else"
 
 abbrev pub is_integer : Form → Bool
@@ -92,28 +96,64 @@ wanted_text wanted = codes ", and " ++ wanted_thing wanted ++ codes " is " ++ fo
 abbrev pub there_text : (wanted there : Form) → List ℕ
 there_text wanted Integer = codes "the expression that begins here is an INTEGER"
 there_text wanted Boolean = codes "the expression that begins here is a BOOLEAN"
-there_text wanted Whole = codes "this is a whole array or record"
+there_text wanted Single = codes "the expression that begins here is an INTEGER or a BOOLEAN"
+there_text wanted Array = codes "this is a whole array"
+there_text wanted Record = codes "this is a whole record"
 there_text wanted Unknown = codes "the expression that begins here is " ++ form_noun (other wanted) ++ codes ", or a whole array or record"
 
 abbrev pub instead_sentence : Wanted → (there : Form) → List ℕ
 instead_sentence wanted there = there_text (wanted_form wanted) there ++ wanted_text wanted
 
--- where a whole array or record is wanted
-abbrev pub whole_sentence : Wanted → (else_said : List ℕ) → List ℕ
-whole_sentence (Wants.Assigned target) else_said =
-    codes "the variable before it is a whole array or record; assign element by element, or field by field"
-whole_sentence _ else_said = else_said
+-- where it is not known what is wanted
+abbrev pub operand_there : (there : Form) → (else_said : List ℕ) → List ℕ
+operand_there Array else_said = codes "a whole array stands in no expression; take an element"
+operand_there Record else_said = codes "a whole record stands in no expression; take a field"
+operand_there there else_said = else_said
 
--- by the type that is wanted; `else_said` is what is said where it is not known
-abbrev pub by_form : (form : Form) → Wanted → (there : Form) → (else_said : List ℕ) → List ℕ
-by_form Integer wanted there else_said = instead_sentence wanted there
-by_form Boolean wanted there else_said = instead_sentence wanted there
-by_form Whole wanted there else_said = whole_sentence wanted else_said
-by_form Unknown wanted there else_said = else_said
+-- two arrays or two records are of two types where a whole actual is not of the type of its parameter, and else stand in an expression
+abbrev pub alike_sentence : Wanted → Role → (both : List ℕ) → (else_said : List ℕ) → List ℕ
+alike_sentence wanted Actual both else_said =
+    codes "this and " ++ wanted_thing wanted ++ both ++ codes ", but of two types; two types are the same only where one name declares them"
+alike_sentence wanted role both else_said = else_said
 
-abbrev pub wanted_sentence : (text : List ℕ) → List Known → List Token → Wanted → (from : List Token) → (else_said : List ℕ) → List ℕ
-wanted_sentence text known tokens wanted from else_said =
-    by_form (wanted_form wanted) wanted (form_instead text known tokens (wanted_form wanted) from) else_said
+-- where a whole array is wanted
+abbrev pub array_sentence : Wanted → Role → (there : Form) → List ℕ
+array_sentence (Wants.Assigned target) role there = codes "the variable before it is a whole array; assign element by element"
+array_sentence wanted role Array = alike_sentence wanted role (codes " are both arrays") (operand_there Array [])
+array_sentence wanted role there = instead_sentence wanted there
+
+-- where a whole record is wanted
+abbrev pub record_sentence : Wanted → Role → (there : Form) → List ℕ
+record_sentence (Wants.Assigned target) role there = codes "the variable before it is a whole record; assign field by field"
+record_sentence wanted role Record = alike_sentence wanted role (codes " are both records") (operand_there Record [])
+record_sentence wanted role there = instead_sentence wanted there
+
+-- by the type that is wanted; `else_said` is what is said where neither type is known
+abbrev pub by_form : (form : Form) → Wanted → Role → (there : Form) → (else_said : List ℕ) → List ℕ
+by_form Integer wanted role there else_said = instead_sentence wanted there
+by_form Boolean wanted role there else_said = instead_sentence wanted there
+by_form Array wanted role there else_said = array_sentence wanted role there
+by_form Record wanted role there else_said = record_sentence wanted role there
+by_form _ wanted role there else_said = operand_there there else_said
+
+abbrev pub is_whole : Form → Bool
+is_whole Array = true
+is_whole Record = true
+is_whole _ = false
+
+abbrev pub is_compared : Role → Bool
+is_compared Compared = true
+is_compared _ = false
+
+abbrev pub there_sentence : Wanted → Role → (there : Form) → (else_said : List ℕ) → List ℕ
+there_sentence wanted role there else_said =
+    if is_compared role && is_whole there then codes "arrays and records are not compared; compare element by element, or field by field"
+    else by_form (wanted_form wanted) wanted role there else_said
+
+-- of what begins with these tokens, in this role
+abbrev pub wanted_sentence : (text : List ℕ) → List Known → List Token → Wanted → Role → (from : List Token) → (else_said : List ℕ) → List ℕ
+wanted_sentence text known tokens wanted role from else_said =
+    there_sentence wanted role (form_instead text known tokens (wanted_form wanted) role from) else_said
 
 -- at a sign or at `~`, which takes one type: where what stands behind it is of the other one, it does not take it, and else the
 -- expression that begins with it is not the wanted one
@@ -130,7 +170,8 @@ tokens_from place tokens = Tokens.behind (place - 1) tokens
 
 abbrev pub at_expression : (text : List ℕ) → List Known → List Token → (place : ℕ) → (before from : List ℕ) → List ℕ
 at_expression text known tokens place before from =
-    wanted_sentence text known tokens (wanted_at text known tokens (Tokens.before place tokens)) (tokens_from place tokens) (types_sentence before from)
+    wanted_sentence text known tokens (wanted_at text known tokens (Tokens.before place tokens))
+    (role_of text known tokens (Tokens.before place tokens) (tokens_from place tokens)) (tokens_from place tokens) (types_sentence before from)
 
 abbrev pub at_sign : (taken behind : Form) → (else_said : List ℕ) → (before from : List ℕ) → List ℕ
 at_sign taken behind else_said before from =

@@ -4,10 +4,10 @@ use Rattle.ob_scan.specs.declared.token.Kind.{Kind}
 use Rattle.ob_scan.specs.declared.token.Kind.TheVariants as Kinds
 use Rattle.ob_scan.specs.declared.token.Token.{Token}
 use Rattle.ob_explain_names.specs.declared.known.Known.{Known}
-use Rattle.ob_explain_operands.specs.Forms.{form_before}
-use Rattle.ob_explain_operands.specs.Parameters.{parameter_form}
-use Rattle.ob_explain_operands.specs.declared.forms.Form.{Form}
-use Rattle.ob_explain_operands.specs.declared.forms.Form.TheVariants as Forms
+use Rattle.ob_explain_parts.specs.Forms.{form_before}
+use Rattle.ob_explain_parts.specs.Parameters.{parameter_form}
+use Rattle.ob_explain_parts.specs.declared.forms.Form.{Form}
+use Rattle.ob_explain_parts.specs.declared.forms.Form.TheVariants as Forms
 use Rattle.ob_explain_types.specs.declared.wanted.Wanted.{Wanted}
 use Rattle.ob_explain_types.specs.declared.wanted.Wanted.TheVariants.{Assigned, Handed, Condition, Length, Index, Unknown}
 

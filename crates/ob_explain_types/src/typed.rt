@@ -1,15 +1,15 @@
 //! Which type stands at a place, and which is needed there, in a sentence.
 
 ghost use Rattle.std.specs.Prelude.{◌≡◌, ◌++◌, IfOk, OnOk, string_bytes};
-ghost use Rattle.ob_explain_operands.specs.Forms.{form_instead};
-ghost use Rattle.ob_explain_types.specs.Typed.{at_expression, at_sign, by_form, by_operands, compared_forms, compared_sentence, either, form_noun, instead_sentence, is_boolean, is_form, is_integer, numbers_sentence, side_text, sign_sentence, taken_form, there_text, tokens_from, truths_sentence, typed_sentence, wanted_sentence, wanted_text, wanted_thing, whole_sentence, wrong_operand, wrong_side};
+ghost use Rattle.ob_explain_parts.specs.Forms.{form_instead, role_of};
+ghost use Rattle.ob_explain_types.specs.Typed.{alike_sentence, array_sentence, at_expression, at_sign, by_form, by_operands, compared_forms, compared_sentence, either, form_noun, instead_sentence, is_boolean, is_compared, is_form, is_integer, is_whole, numbers_sentence, operand_there, record_sentence, side_text, sign_sentence, taken_form, there_sentence, there_text, tokens_from, truths_sentence, typed_sentence, wanted_sentence, wanted_text, wanted_thing, wrong_operand, wrong_side};
 ghost use Rattle.ob_explain_types.specs.Wanted.{wanted_form};
 
 use crate::types::{begins_with_sign, compares, takes_numbers, takes_truths, types_sentence};
 use crate::wanted::{Wanted, wanted_at, wanted_form};
 use ob_explain_hints::slips::begins_with;
 use ob_explain_names::known::Known;
-use ob_explain_operands::forms::{Form, form_before, form_behind, form_instead, other};
+use ob_explain_parts::forms::{Form, Role, form_before, form_behind, form_instead, other, role_of};
 use ob_explain_tokens::around::{tokens_before, tokens_behind};
 use ob_scan::Token;
 use std::alloc::{AllocError, Global};
@@ -183,12 +183,14 @@ fn at_expression(
     let preceding = tokens_before(alloc, tokens, place)?;
     let wanted = wanted_at(alloc, text, known, tokens, &preceding)?;
     let of_expression = tokens_from(alloc, tokens, place)?;
+    let role = role_of(alloc, text, known, tokens, &preceding, &of_expression)?;
     wanted_sentence(
         alloc,
         text,
         known,
         tokens,
         wanted,
+        role,
         &of_expression,
         types_sentence(before, from),
     )
@@ -201,21 +203,54 @@ fn tokens_from(alloc: Global, tokens: &[Token], place: usize) -> Result<Vec<Toke
     tokens_behind(alloc, tokens, place.saturating_sub(1))
 }
 
-/// Of an expression that begins with these tokens, where this is wanted.
+/// Of an expression that begins with these tokens, where this is wanted and its first operand has this role.
 fn wanted_sentence(
     alloc: Global,
     text: &[u8],
     known: &[Known],
     tokens: &[Token],
     wanted: Wanted,
+    role: Role,
     from: &[Token],
     else_said: &'static str,
 ) -> Result<String, AllocError>
-    ensures { IfOk result (λ sentence. string_bytes sentence ≡ wanted_sentence text.now known.now tokens.now wanted from.now else_said.now) }
+    ensures { IfOk result (λ sentence. string_bytes sentence ≡ wanted_sentence text.now known.now tokens.now wanted role from.now else_said.now) }
 {
     let form = wanted_form(wanted);
-    let there = form_instead(alloc, text, known, tokens, form, from)?;
-    by_form(alloc, form, wanted, there, else_said)
+    let there = form_instead(alloc, text, known, tokens, form, role, from)?;
+    there_sentence(alloc, wanted, role, there, else_said)
+}
+
+/// The same of what is of this type.
+fn there_sentence(
+    alloc: Global,
+    wanted: Wanted,
+    role: Role,
+    there: Form,
+    else_said: &'static str,
+) -> Result<String, AllocError>
+    ensures { IfOk result (λ sentence. string_bytes sentence ≡ there_sentence wanted role there else_said.now) }
+{
+    if is_compared(role) && is_whole(there) {
+        String::from_str(
+            alloc,
+            "arrays and records are not compared; compare element by element, or field by field",
+        )
+    } else {
+        by_form(alloc, wanted_form(wanted), wanted, role, there, else_said)
+    }
+}
+
+fn is_compared(role: Role) -> bool
+    ensures { result ≡ is_compared role }
+{
+    matches!(role, Role::Compared)
+}
+
+fn is_whole(form: Form) -> bool
+    ensures { result ≡ is_whole form }
+{
+    matches!(form, Form::Array | Form::Record)
 }
 
 /// The same by the type that is wanted.
@@ -223,26 +258,105 @@ fn by_form(
     alloc: Global,
     form: Form,
     wanted: Wanted,
+    role: Role,
     there: Form,
     else_said: &'static str,
 ) -> Result<String, AllocError>
-    ensures { IfOk result (λ sentence. string_bytes sentence ≡ by_form form wanted there else_said.now) }
+    ensures { IfOk result (λ sentence. string_bytes sentence ≡ by_form form wanted role there else_said.now) }
 {
     match form {
         Form::Integer | Form::Boolean => instead_sentence(alloc, wanted, there),
-        Form::Whole => String::from_str(alloc, whole_sentence(wanted, else_said)),
-        Form::Unknown => String::from_str(alloc, else_said),
+        Form::Array => array_sentence(alloc, wanted, role, there),
+        Form::Record => record_sentence(alloc, wanted, role, there),
+        Form::Single | Form::Unknown => String::from_str(alloc, operand_there(there, else_said)),
     }
 }
 
-/// Where a whole array or record is wanted.
-fn whole_sentence(wanted: Wanted, else_said: &'static str) -> &'static str
-    ensures { result.now ≡ whole_sentence wanted else_said.now }
+/// Where a whole array is wanted.
+fn array_sentence(
+    alloc: Global,
+    wanted: Wanted,
+    role: Role,
+    there: Form,
+) -> Result<String, AllocError>
+    ensures { IfOk result (λ sentence. string_bytes sentence ≡ array_sentence wanted role there) }
 {
     match wanted {
-        Wanted::Assigned(_) => {
-            "the variable before it is a whole array or record; assign element by element, or field by field"
+        Wanted::Assigned(_) => String::from_str(
+            alloc,
+            "the variable before it is a whole array; assign element by element",
+        ),
+        _ => match there {
+            Form::Array => alike_sentence(
+                alloc,
+                wanted,
+                role,
+                " are both arrays",
+                operand_there(there, ""),
+            ),
+            _ => instead_sentence(alloc, wanted, there),
+        },
+    }
+}
+
+/// Where a whole record is wanted.
+fn record_sentence(
+    alloc: Global,
+    wanted: Wanted,
+    role: Role,
+    there: Form,
+) -> Result<String, AllocError>
+    ensures { IfOk result (λ sentence. string_bytes sentence ≡ record_sentence wanted role there) }
+{
+    match wanted {
+        Wanted::Assigned(_) => String::from_str(
+            alloc,
+            "the variable before it is a whole record; assign field by field",
+        ),
+        _ => match there {
+            Form::Record => alike_sentence(
+                alloc,
+                wanted,
+                role,
+                " are both records",
+                operand_there(there, ""),
+            ),
+            _ => instead_sentence(alloc, wanted, there),
+        },
+    }
+}
+
+/// Of two arrays or two records of two types.
+fn alike_sentence(
+    alloc: Global,
+    wanted: Wanted,
+    role: Role,
+    both: &'static str,
+    else_said: &'static str,
+) -> Result<String, AllocError>
+    ensures { IfOk result (λ sentence. string_bytes sentence ≡ alike_sentence wanted role both.now else_said.now) }
+{
+    match role {
+        Role::Actual => {
+            let mut sentence = String::from_str(alloc, "this and ")?;
+            sentence.push_str(wanted_thing(wanted))?;
+            sentence.push_str(both)?;
+            sentence.push_str(
+                ", but of two types; two types are the same only where one name declares them",
+            )?;
+            Ok(sentence)
         }
+        _ => String::from_str(alloc, else_said),
+    }
+}
+
+/// Where it is not known what is wanted.
+fn operand_there(there: Form, else_said: &'static str) -> &'static str
+    ensures { result.now ≡ operand_there there else_said.now }
+{
+    match there {
+        Form::Array => "a whole array stands in no expression; take an element",
+        Form::Record => "a whole record stands in no expression; take a field",
         _ => else_said,
     }
 }
@@ -263,7 +377,12 @@ fn there_text(alloc: Global, wanted: Form, there: Form) -> Result<String, AllocE
     match there {
         Form::Integer => String::from_str(alloc, "the expression that begins here is an INTEGER"),
         Form::Boolean => String::from_str(alloc, "the expression that begins here is a BOOLEAN"),
-        Form::Whole => String::from_str(alloc, "this is a whole array or record"),
+        Form::Single => String::from_str(
+            alloc,
+            "the expression that begins here is an INTEGER or a BOOLEAN",
+        ),
+        Form::Array => String::from_str(alloc, "this is a whole array"),
+        Form::Record => String::from_str(alloc, "this is a whole record"),
         Form::Unknown => {
             let mut sentence = String::from_str(alloc, "the expression that begins here is ")?;
             sentence.push_str(form_noun(other(wanted)))?;
@@ -344,7 +463,9 @@ fn form_noun(form: Form) -> &'static str
     match form {
         Form::Integer => "an INTEGER",
         Form::Boolean => "a BOOLEAN",
-        Form::Whole => "a whole array or record",
+        Form::Single => "an INTEGER or a BOOLEAN",
+        Form::Array => "a whole array",
+        Form::Record => "a whole record",
         Form::Unknown => "something else",
     }
 }

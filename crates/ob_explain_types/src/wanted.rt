@@ -4,8 +4,8 @@ ghost use Rattle.std.specs.Prelude.{◌≡◌, IfOk};
 ghost use Rattle.ob_explain_types.specs.Wanted.{wanted_at, wanted_by, wanted_form};
 
 use ob_explain_names::known::Known;
-use ob_explain_operands::forms::{Form, form_before};
-use ob_explain_operands::parameters::parameter_form;
+use ob_explain_parts::forms::{Form, form_before};
+use ob_explain_parts::parameters::parameter_form;
 use ob_scan::{Kind, Token};
 use std::alloc::{AllocError, Global};
 

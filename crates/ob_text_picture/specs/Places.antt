@@ -1,5 +1,5 @@
 -- Where things stand in a picture, in pixels from the left and from the top. The columns of a run stand in bands, one below the other.
-use Rattle.std.specs.Prelude.{ℕ, ◌+◌, ◌-◌, ◌*◌, ◌/◌, ◌%◌, ◌==◌, ◌&&◌, cond, nat_le, nat_lt, Bool, min, max}
+use Rattle.std.specs.Prelude.{ℕ, ◌+◌, ◌-◌, ◌*◌, ◌/◌, ◌%◌, ◌==◌, ◌&&◌, cond, length, nat_le, nat_lt, position, unwrap_or, Bool, List, min, max}
 use Rattle.ob_text_picture.specs.declared.places.Frame.{Frame}
 use Rattle.ob_text_picture.specs.declared.places.Point.{Point}
 
@@ -41,31 +41,46 @@ lead band = cond (band == 0) 130 230
 unfoldable pub x_of : Frame → (band column : ℕ) → ℕ
 x_of f band column = lead band + min (column - first f band) (columns_in f band) * column_width f
 
--- the height of a band: the time, and the processes
-unfoldable pub band_height : Frame → ℕ
-band_height f = 48 + 56 * f.processes
-
--- from the top: where a band begins; the processes of a band
-unfoldable pub top_of : Frame → ℕ → ℕ
-top_of f band = 164 + band * band_height f
-
-unfoldable pub y_of : Frame → (band process : ℕ) → ℕ
-y_of f band process = top_of f band + 48 + 56 * process
-
 -- how far words may go on behind the end of a band
 abbrev pub beyond : ℕ
 beyond = 200
 
-unfoldable pub width : Frame → ℕ
-width f = max (lead (bands f - 1) + beyond + 10 + min f.columns (most f) * column_width f) 780
+-- a band: its number, from 0; where it begins, from the top; the processes that have a row there, in their order; and how far the words of
+-- calls go on behind its end
+pub record Band : Type 0 where
+  pub frame : Frame
+  pub number : ℕ
+  pub top : ℕ
+  pub rows : List ℕ
+  pub spill : ℕ
 
--- the calls of the order: how many stand in a line, and where
+-- the height of a band: the numbers of its events, and so many rows
+abbrev pub band_height : (rows : ℕ) → ℕ
+band_height rows = 48 + 56 * rows
+
+-- from the top: where the next band begins
+unfoldable pub below : Band → ℕ
+below band = band.top + band_height (length band.rows)
+
+-- where the row of a process stands among those of a band
+abbrev pub row_of : (rows : List ℕ) (process : ℕ) → ℕ
+row_of rows process = unwrap_or (position (λ other. other == process) rows) 0
+
+-- from the top: a process, in a band
+unfoldable pub y_of : Band → (process : ℕ) → ℕ
+y_of band process = band.top + 48 + 56 * row_of band.rows process
+
+-- the width of a picture: behind the words that go on behind a band there is room for the name of a process
+unfoldable pub width : Frame → ℕ
+width f = max (lead (bands f - 1) + min f.columns (most f) * column_width f + beyond + 110) 780
+
+-- the calls of the order, below the bands: how many stand in a line, and where
 unfoldable pub in_line : Frame → ℕ
 in_line f = (width f - 80) / 90
 
-unfoldable pub cell : Frame → (place : ℕ) → Point
-cell f place = at (70 + 90 * (place % in_line f)) (top_of f (bands f) + 20 + 18 * (place / in_line f))
+unfoldable pub cell : Frame → (below place : ℕ) → Point
+cell f below place = at (70 + 90 * (place % in_line f)) (below + 20 + 18 * (place / in_line f))
 
 -- the height of a picture, with so many calls in the order
-unfoldable pub height : Frame → (calls : ℕ) → ℕ
-height f calls = (cell f (calls - 1)).y + 16
+unfoldable pub height : Frame → (below calls : ℕ) → ℕ
+height f below calls = (cell f below (calls - 1)).y + 16

@@ -1,10 +1,10 @@
 -- The shapes of a picture, by what is seen of a run.
-use Rattle.std.specs.Prelude.{ℕ, zero, suc, ◌+◌, ◌-◌, ◌*◌, ◌/◌, ◌%◌, ◌==◌, ◌&&◌, ◌||◌, not, List, [], ◌∷◌, ◌++◌, Bool, false, cond, Option, Some, None, codes, decimal, length, max, nat_le, nat_lt, slice_get, unwrap_or}
+use Rattle.std.specs.Prelude.{ℕ, zero, suc, ◌+◌, ◌-◌, ◌*◌, ◌/◌, ◌%◌, ◌==◌, ◌&&◌, ◌||◌, not, List, [], ◌∷◌, ◌++◌, Bool, false, cond, Option, Some, None, codes, decimal, length, max, min, nat_le, nat_lt, slice_get, unwrap_or}
 use Rattle.std.specs.List.{flat_map}
 use Rattle.ob_interface.specs.Call.{ObjectCall, Reply, Answers, Trapped}
 use Rattle.ob_interface.specs.Export.{Signature}
 use Rattle.ob_text_picture.specs.Labels.{answer_words, call_words, dots, id_words, reply_words, short, short_again, short_call}
-use Rattle.ob_text_picture.specs.Places.{at, band_height, bands, beyond, cell, columns_in, first, height, is_in, top_of, width, x_of, y_of}
+use Rattle.ob_text_picture.specs.Places.{Band, at, band_height, bands, below, beyond, cell, columns_in, first, height, is_in, width, x_of, y_of}
 use Rattle.ob_text_picture.specs.Svg.{Shape, Line, Box, Circle, Words, Group, EndGroup, svg_text}
 use Rattle.ob_text_picture.specs.declared.places.Frame.{Frame}
 use Rattle.ob_text_picture.specs.declared.places.Point.{Point}
@@ -19,7 +19,7 @@ abbrev pub each : (ℕ → List Shape) → ℕ → List Shape
 each f zero = []
 each f (suc n) = each f n ++ f n
 
--- ---- the ground, the time and the processes
+-- ---- the ground, the events and the processes
 
 -- which calls are shown, of how many
 abbrev pub calls_words : (total : ℕ) → CallRange → List ℕ
@@ -38,24 +38,27 @@ has_tick place = (place == 1) || (place % 5 == 0)
 abbrev pub time_of : (times : List ℕ) (column : ℕ) → ℕ
 time_of times column = unwrap_or (slice_get times column) 0
 
--- the time of a column, counted in the band, and a line for it
-unfoldable pub tick : (times : List ℕ) → Frame → (band : ℕ) → ℕ → List Shape
-tick times f band index =
-    let column = first f band + index in let x = x_of f band column in
+-- the number of the event of a column, counted in the band, and a line for it
+unfoldable pub tick : (times : List ℕ) → Band → ℕ → List Shape
+tick times band index =
+    let column = first band.frame band.number + index in let x = x_of band.frame band.number column in
     cond (has_tick (column + 1))
-    (Line (codes "tick") (at x (top_of f band + 20)) (at x (top_of f band + band_height f - 14)) ∷ Words (codes "faint middle") (at x (top_of f band + 14)) (decimal (time_of times column)) ∷ []) []
+    (Line (codes "tick") (at x (band.top + 20)) (at x (below band - 14))
+    ∷ Words (codes "faint middle") (at x (band.top + 14)) (decimal (time_of times column)) ∷ []) []
 
-unfoldable pub ticks : (times : List ℕ) → Frame → (band : ℕ) → List Shape
-ticks times f band = Words (codes "faint") (at 12 (top_of f band + 14)) (codes "time") ∷ each (tick times f band) (columns_in f band)
+unfoldable pub ticks : (times : List ℕ) → Band → List Shape
+ticks times band = Words (codes "faint") (at 12 (band.top + 14)) (codes "event") ∷ each (tick times band) (columns_in band.frame band.number)
 
--- the line of a process, with its name at both ends
+-- the line of a process, with its name at both ends, at the right one behind the words that go on there, and a faint line up to it
 abbrev pub name : ℕ → List ℕ
 name process = codes "process " ++ decimal process
 
-unfoldable pub row : Frame → (band : ℕ) → ℕ → List Shape
-row f band process =
-    let y = y_of f band process in let right = x_of f band f.columns in
-    Words (codes "bold") (at 12 (y + 4)) (name process) ∷ Line (codes "row") (at 100 y) (at right y) ∷ Words (codes "bold") (at (right + 20) (y + 4)) (name process) ∷ []
+unfoldable pub row : Band → ℕ → List Shape
+row band process =
+    let y = y_of band process in let end = x_of band.frame band.number band.frame.columns in
+    Words (codes "bold") (at 12 (y + 4)) (name process) ∷ Line (codes "row") (at 100 y) (at end y)
+    ∷ Line (codes "tick") (at end y) (at (end + band.spill + 14) y)
+    ∷ Words (codes "bold") (at (end + band.spill + 20) (y + 4)) (name process) ∷ []
 
 -- ---- calls
 
@@ -157,6 +160,18 @@ is_seen f band b = nat_lt b.begin (first f band + columns_in f band) && nat_le (
 unfoldable pub left : Frame → (band : ℕ) → Bar → ℕ
 left f band b = cond (nat_le (first f band) b.begin) (x_of f band b.begin) 104
 
+-- the band has the last column
+abbrev pub is_last : Frame → (band : ℕ) → Bool
+is_last f band = nat_le f.columns (first f band + columns_in f band)
+
+-- a call goes on in the next band
+unfoldable pub goes_on : Frame → (band : ℕ) → Bar → Bool
+goes_on f band b = nat_le (first f band + columns_in f band) b.end && not (is_last f band)
+
+-- where its bar ends in a band; one that goes on in the next band reaches a little behind the end of this one
+unfoldable pub right : Frame → (band : ℕ) → Bar → ℕ
+right f band b = x_of f band b.end + cond (goes_on f band b) 16 0
+
 -- for how many letters there is room: up to the next call, or beyond the end of the band where that doesn't begin in it
 unfoldable pub letters : Frame → (band : ℕ) → Bar → ℕ
 letters f band b = (x_of f band b.next + cond (is_in f band b.next) 0 beyond - left f band b) / 7 - 1
@@ -165,10 +180,6 @@ letters f band b = (x_of f band b.next + cond (is_in f band b.next) 0 beyond - l
 unfoldable pub cross : (x y : ℕ) → List Shape
 cross x y = Line (codes "cross") (at (x - 8) (y - 8)) (at (x + 8) (y + 8)) ∷ Line (codes "cross") (at (x - 8) (y + 8)) (at (x + 8) (y - 8)) ∷ []
 
--- the band has the last column
-abbrev pub is_last : Frame → (band : ℕ) → Bool
-is_last f band = nat_le f.columns (first f band + columns_in f band)
-
 -- the call, which stands again in a band to which it goes on
 unfoldable pub label_words : List Signature → Frame → (band : ℕ) → Bar → List ℕ
 label_words exports f band b =
@@ -176,37 +187,49 @@ label_words exports f band b =
     (short_again (letters f band b) exports b.id b.call)
 
 -- the call, above its bar; the reply, below it
-abbrev pub label : List Signature → Frame → (band : ℕ) → Bar → Shape
-label exports f band b = Words (codes "label") (at (left f band b) (y_of f band b.id.process - 15)) (label_words exports f band b)
+abbrev pub label : List Signature → Band → Bar → Shape
+label exports band b =
+    Words (codes "label") (at (left band.frame band.number b) (y_of band b.id.process - 15)) (label_words exports band.frame band.number b)
 
-abbrev pub answer : Frame → (band : ℕ) → Bar → Reply → Shape
-answer f band b reply = Words (reply_class reply) (at (left f band b) (y_of f band b.id.process + 22)) (short (letters f band b) (answer_words reply))
+abbrev pub answer : Band → Bar → Reply → Shape
+answer band b reply =
+    Words (reply_class reply) (at (left band.frame band.number b) (y_of band b.id.process + 22))
+    (short (letters band.frame band.number b) (answer_words reply))
 
 -- below a bar stands the reply, in the band of the end; a bar without one has a cross at the end of the picture
-abbrev pub ending_of : Frame → (band : ℕ) → Bar → Option Reply → List Shape
-ending_of f band b None = cond (is_last f band) (cross (x_of f band b.end) (y_of f band b.id.process)) []
-ending_of f band b (Some reply) =
-    cond (is_in f band b.end) (answer f band b reply ∷ []) []
+abbrev pub ending_of : Band → Bar → Option Reply → List Shape
+ending_of band b None = cond (is_last band.frame band.number) (cross (x_of band.frame band.number b.end) (y_of band b.id.process)) []
+ending_of band b (Some reply) = cond (is_in band.frame band.number b.end) (answer band b reply ∷ []) []
 
-unfoldable pub ending : Frame → (band : ℕ) → Bar → List Shape
-ending f band b = ending_of f band b b.reply
+unfoldable pub ending : Band → Bar → List Shape
+ending band b = ending_of band b b.reply
+
+-- a bar fades where the call comes from the band before, and where it goes on in the next one
+unfoldable pub fade_before : Band → Bar → List Shape
+fade_before band b =
+    cond (nat_le (first band.frame band.number) b.begin) [] (Box (codes "before") (at 100 (y_of band b.id.process - 11)) (at 28 22) ∷ [])
+
+unfoldable pub fade_behind : Band → Bar → List Shape
+fade_behind band b =
+    cond (goes_on band.frame band.number b)
+    (Box (codes "behind") (at (right band.frame band.number b - 24) (y_of band b.id.process - 11)) (at 25 22) ∷ []) []
 
 -- the bar of a call in a band, with the call above it
-unfoldable pub bar : List Signature → Frame → (band : ℕ) → Bar → List Shape
-bar exports f band b =
-    let x = left f band b in let y = y_of f band b.id.process in
-    cond (is_seen f band b)
-    (Group (title exports b) ∷ Box (bar_class b.reply) (at x (y - 10)) (at (x_of f band b.end - x) 20)
-    ∷ label exports f band b ∷ ending f band b ++ EndGroup ∷ []) []
+unfoldable pub bar : List Signature → Band → Bar → List Shape
+bar exports band b =
+    let x = left band.frame band.number b in
+    cond (is_seen band.frame band.number b)
+    (Group (title exports b) ∷ Box (bar_class b.reply) (at x (y_of band b.id.process - 10)) (at (right band.frame band.number b - x) 20)
+    ∷ fade_before band b ++ (fade_behind band b ++ (label exports band b ∷ ending band b ++ EndGroup ∷ []))) []
 
-abbrev pub bar_at : List Signature → Frame → (band : ℕ) → Sight → Happening → List Sight → List Shape
-bar_at exports f band s (Begun call) behind = bar exports f band (bar_of f.columns s call behind)
-bar_at exports f band s (Taken number maker) behind = []
-bar_at exports f band s (Ended reply) behind = []
+abbrev pub bar_at : List Signature → Band → Sight → Happening → List Sight → List Shape
+bar_at exports band s (Begun call) behind = bar exports band (bar_of band.frame.columns s call behind)
+bar_at exports band s (Taken number maker) behind = []
+bar_at exports band s (Ended reply) behind = []
 
-abbrev pub bars : List Signature → Frame → (band : ℕ) → List Sight → List Shape
-bars exports f band [] = []
-bars exports f band (s ∷ behind) = bar_at exports f band s s.happening behind ++ bars exports f band behind
+abbrev pub bars : List Signature → Band → List Sight → List Shape
+bars exports band [] = []
+bars exports band (s ∷ behind) = bar_at exports band s s.happening behind ++ bars exports band behind
 
 -- ---- where calls take effect
 
@@ -216,49 +239,103 @@ is_helped id None = false
 is_helped id (Some maker) = not (maker == id.process)
 
 -- a line from the process whose step it is to the call, where that is of another process
-abbrev pub help_of : Frame → (band : ℕ) → Sight → Happening → List Shape
-help_of f band s (Begun call) = []
-help_of f band s (Taken number None) = []
-help_of f band s (Taken number (Some maker)) =
-    let x = x_of f band s.column in
-    cond (is_in f band s.column && not (maker == s.id.process))
-    (Line (codes "help") (at x (y_of f band maker)) (at x (y_of f band s.id.process)) ∷ Circle (codes "step") (at x (y_of f band maker)) 3 ∷ []) []
-help_of f band s (Ended reply) = []
+abbrev pub help_of : Band → Sight → Happening → List Shape
+help_of band s (Begun call) = []
+help_of band s (Taken number None) = []
+help_of band s (Taken number (Some maker)) =
+    let x = x_of band.frame band.number s.column in
+    cond (is_in band.frame band.number s.column && not (maker == s.id.process))
+    (Line (codes "help") (at x (y_of band maker)) (at x (y_of band s.id.process)) ∷ Circle (codes "step") (at x (y_of band maker)) 3 ∷ []) []
+help_of band s (Ended reply) = []
 
-unfoldable pub help : Frame → (band : ℕ) → Sight → List Shape
-help f band s = help_of f band s s.happening
+unfoldable pub help : Band → Sight → List Shape
+help band s = help_of band s s.happening
 
 -- the number of the call in the order, in a circle, which is dark where another process makes it
-abbrev pub mark_of : Frame → (band : ℕ) → Sight → Happening → List Shape
-mark_of f band s (Begun call) = []
-mark_of f band s (Taken number maker) =
-    let x = x_of f band s.column in let y = y_of f band s.id.process in
-    cond (is_in f band s.column)
+abbrev pub mark_of : Band → Sight → Happening → List Shape
+mark_of band s (Begun call) = []
+mark_of band s (Taken number maker) =
+    let x = x_of band.frame band.number s.column in let y = y_of band s.id.process in
+    cond (is_in band.frame band.number s.column)
     (Circle (cond (is_helped s.id maker) (codes "helped") (codes "own")) (at x y) 9
     ∷ Words (cond (is_helped s.id maker) (codes "number light") (codes "number")) (at x (y + 3)) (decimal number) ∷ []) []
-mark_of f band s (Ended reply) = []
+mark_of band s (Ended reply) = []
 
-unfoldable pub mark : Frame → (band : ℕ) → Sight → List Shape
-mark f band s = mark_of f band s s.happening
+unfoldable pub mark : Band → Sight → List Shape
+mark band s = mark_of band s s.happening
+
+-- ---- the bands
+
+-- the step is of this process
+abbrev pub is_maker : (process : ℕ) → (maker : Option ℕ) → Bool
+is_maker process None = false
+is_maker process (Some maker) = maker == process
+
+-- a process has something in a band: a call of its own that is seen there or takes effect, or a step by which another one does
+abbrev pub is_busy_at : Frame → (band process : ℕ) → Sight → Happening → List Sight → Bool
+is_busy_at f band process s (Begun call) behind = (s.id.process == process) && is_seen f band (bar_of f.columns s call behind)
+is_busy_at f band process s (Taken number maker) behind = is_in f band s.column && ((s.id.process == process) || is_maker process maker)
+is_busy_at f band process s (Ended reply) behind = false
+
+abbrev pub is_busy : Frame → (band process : ℕ) → List Sight → Bool
+is_busy f band process [] = false
+is_busy f band process (s ∷ behind) = is_busy_at f band process s s.happening behind || is_busy f band process behind
+
+-- of the first processes, so many, those that have something in a band: each has a row there, and no other process
+abbrev pub rows : Frame → (band : ℕ) → List Sight → (processes : ℕ) → List ℕ
+rows f band sights zero = []
+rows f band sights (suc process) = rows f band sights process ++ cond (is_busy f band process sights) (process ∷ []) []
+
+-- how far the words of a call go on behind the end of a band: at most as many letters as have room there
+unfoldable pub overhang : List Signature → Frame → (band : ℕ) → Bar → ℕ
+overhang exports f band b =
+    cond (is_seen f band b && not (is_in f band b.next))
+    (left f band b + 7 * min (letters f band b) (most_letters exports b) - x_of f band f.columns) 0
+
+abbrev pub overhang_at : List Signature → Frame → (band : ℕ) → Sight → Happening → List Sight → ℕ
+overhang_at exports f band s (Begun call) behind = overhang exports f band (bar_of f.columns s call behind)
+overhang_at exports f band s (Taken number maker) behind = 0
+overhang_at exports f band s (Ended reply) behind = 0
+
+abbrev pub spill : List Signature → Frame → (band : ℕ) → List Sight → ℕ
+spill exports f band [] = 0
+spill exports f band (s ∷ behind) = max (overhang_at exports f band s s.happening behind) (spill exports f band behind)
+
+-- from the top: where a band begins, each below the one before it
+abbrev pub top_of : Frame → Chart → (band : ℕ) → ℕ
+top_of f c zero = 214
+top_of f c (suc band) = top_of f c band + band_height (length (rows f band c.sights c.processes))
+
+abbrev pub band_of : List Signature → Frame → Chart → (band : ℕ) → Band
+band_of exports f c band =
+    record {
+      frame = f;
+      number = band;
+      top = top_of f c band;
+      rows = rows f band c.sights c.processes;
+      spill = spill exports f band c.sights;
+    }
+
+-- what stands in a band: the events, the processes, and then what is seen, the bars above the lines and the marks above the bars
+unfoldable pub shapes_in : List Signature → Chart → Band → List Shape
+shapes_in exports c band =
+    ticks c.times band ++ flat_map (row band) band.rows ++ flat_map (help band) c.sights ++ bars exports band c.sights ++ flat_map (mark band) c.sights
+
+abbrev pub band_shapes : List Signature → Frame → Chart → (band : ℕ) → List Shape
+band_shapes exports f c band = shapes_in exports c (band_of exports f c band)
 
 -- ---- the picture
-
--- a band: the time, the processes, and then what is seen, the bars above the lines and the marks above the bars
-unfoldable pub band_shapes : List Signature → Frame → Chart → (band : ℕ) → List Shape
-band_shapes exports f c band =
-    ticks c.times f band ++ each (row f band) f.processes ++ flat_map (help f band) c.sights ++ bars exports f band c.sights
-    ++ flat_map (mark f band) c.sights
 
 -- the order: of each call its number and its id
 unfoldable pub cell_words : Placed → List ℕ
 cell_words p = decimal p.number ++ codes ": " ++ id_words p.id
 
-abbrev pub cells : Frame → (place : ℕ) → List Placed → List Shape
-cells f place [] = []
-cells f place (p ∷ ps) = Words (codes "cell") (cell f place) (cell_words p) ∷ cells f (place + 1) ps
+abbrev pub cells : Frame → (below place : ℕ) → List Placed → List Shape
+cells f below place [] = []
+cells f below place (p ∷ ps) = Words (codes "cell") (cell f below place) (cell_words p) ∷ cells f below (place + 1) ps
 
-unfoldable pub order_shapes : Frame → List Placed → List Shape
-order_shapes f order = Words (codes "bold") (at 12 (cell f 0).y) (codes "order") ∷ cells f 0 order
+unfoldable pub order_shapes : Frame → (below : ℕ) → List Placed → List Shape
+order_shapes f below order = Words (codes "bold") (at 12 (cell f below 0).y) (codes "order") ∷ cells f below 0 order
 
 -- what a bar is, and what the bars are
 unfoldable pub bar_key : (class : List ℕ) (y : ℕ) (words : List ℕ) → List Shape
@@ -269,11 +346,21 @@ bar_keys =
     bar_key (codes "done") 36 (codes "a call, from its begin to its end") ++ bar_key (codes "trap") 64 (codes "a call that trapped")
     ++ bar_key (codes "open") 92 (codes "a call that does not end here") ++ cross 46 102
 
+-- the bar of a call that has no room for its end
+unfoldable pub fade_keys : List Shape
+fade_keys = bar_key (codes "done") 120 (codes "a call that goes on in the next band") ++ Box (codes "behind") (at 24 119) (at 25 22) ∷ []
+
 -- what words below a bar are, and what dots stand for
 unfoldable pub word_keys : List Shape
 word_keys =
-    Words (codes "reply") (at 12 134) (codes "= 7") ∷ Words (codes "key") (at 64 134) (codes "below it the values of its reply, or done")
-    ∷ Words (codes "label") (at 396 134) dots ∷ Words (codes "key") (at 418 134) (codes "the rest, which the pointer on the bar shows") ∷ []
+    Words (codes "reply") (at 12 162) (codes "= 7") ∷ Words (codes "key") (at 64 162) (codes "below it the values of its reply, or done")
+    ∷ Words (codes "label") (at 396 162) dots ∷ Words (codes "key") (at 418 162) (codes "cut here; whole in the SVG, as the bar's title") ∷ []
+
+-- what the numbers above the columns are, and which processes have a row
+unfoldable pub event_keys : List Shape
+event_keys =
+    Words (codes "faint middle") (at 400 134) (codes "5") ∷ Words (codes "key") (at 418 134) (codes "each column is one event of the run, here event 5")
+    ∷ Words (codes "key") (at 12 190) (codes "A process has a row in those bands alone in which it has a call, or makes one of another process.") ∷ []
 
 -- what a mark is, and what the marks are
 unfoldable pub mark_key : (circle numeral : List ℕ) (y number : ℕ) (words : List ℕ) → List Shape
@@ -289,26 +376,42 @@ helped_keys =
 unfoldable pub mark_keys : List Shape
 mark_keys = mark_key (codes "own") (codes "number") 46 1 (codes "took effect, as number 1 of the order") ++ helped_keys
 
+-- what is seen of calls, and what the words of a picture are
+unfoldable pub call_keys : List Shape
+call_keys = bar_keys ++ fade_keys
+
+unfoldable pub text_keys : List Shape
+text_keys = word_keys ++ event_keys
+
 -- the ground, which is as large as the picture, and what stands above the bands
 unfoldable pub head_shapes : Chart → (size : Point) → List Shape
-head_shapes c size = Box (codes "ground") (at 0 0) size ∷ Words (codes "head") (at 12 22) (heading_words c) ∷ bar_keys ++ mark_keys ++ word_keys
+head_shapes c size =
+    Box (codes "ground") (at 0 0) size ∷ Words (codes "head") (at 12 22) (heading_words c) ∷ call_keys ++ mark_keys ++ text_keys
 
 abbrev pub frame_of : List Signature → Chart → Frame
 frame_of exports c =
     record {
-      processes = c.processes;
       columns = length c.times;
       wanted = wanted exports (length c.times) c.sights;
     }
 
+-- where the bands end, and the order begins
+abbrev pub below_bands : Frame → Chart → ℕ
+below_bands f c = top_of f c (bands f)
+
+abbrev pub size_in : Frame → Chart → Point
+size_in f c = at (width f) (height f (below_bands f c) (length c.order))
+
 abbrev pub size_of : List Signature → Chart → Point
-size_of exports c = at (width (frame_of exports c)) (height (frame_of exports c) (length c.order))
+size_of exports c = size_in (frame_of exports c) c
 
 -- all shapes of a picture, one above the other
+abbrev pub shapes_of : List Signature → Frame → Chart → List Shape
+shapes_of exports f c =
+    head_shapes c (size_in f c) ++ each (band_shapes exports f c) (bands f) ++ order_shapes f (below_bands f c) c.order
+
 abbrev pub shapes : List Signature → Chart → List Shape
-shapes exports c =
-    head_shapes c (size_of exports c) ++ each (band_shapes exports (frame_of exports c) c) (bands (frame_of exports c))
-    ++ order_shapes (frame_of exports c) c.order
+shapes exports c = shapes_of exports (frame_of exports c) c
 
 -- the text of a picture
 abbrev pub picture_text : List Signature → Chart → List ℕ

@@ -3,23 +3,19 @@
 ghost use Rattle.std.specs.Prelude.{◌≡◌, ◌++◌, ◌≤◌, OnOk, ◌+◌, ◌<◌, ◌^◌, map, option_map, string_bytes};
 ghost use Rattle.ob_interface.specs.View.{signature_of};
 ghost use Rattle.ob_text_picture.specs.Shapes as Shapes;
-ghost use Rattle.ob_text_picture.specs.Shapes.{bar_class, bar_of, begin_of, cross, end_of, ending, is_last, is_seen, label_words, left, letters, reply_behind, reply_class};
+ghost use Rattle.ob_text_picture.specs.Shapes.{bar_class, bar_of, begin_of, cross, end_of, ending, fade_before, fade_behind, goes_on, is_last, is_seen, label_words, left, letters, reply_behind, reply_class, right};
 ghost use Rattle.ob_text_picture.specs.Svg.{EndGroup, Group, shape_text, shapes_text};
-ghost use Rattle.ob_text_picture.specs.View.{bar_in};
+ghost use Rattle.ob_text_picture.specs.View.{band_in, bar_in};
 ghost use Rattle.ob_text_picture_chart.specs.View.{sight_of};
 ghost use Rattle.wf_history.specs.View.{kept_call, kept_reply};
 
 use crate::labels::{push_call, push_reply, push_short_again, push_short_answer, push_short_call};
-use crate::places::{BEYOND, Frame, Point};
+use crate::places::{BEYOND, Band, Frame, LETTER, Point};
 use crate::svg::{close_words, open_words, push_box, push_line};
-use ob_interface::MOST_PROCESSES;
 use ob_interface::export::Export;
 use ob_text_picture_chart::{Happening, Sight};
 use std::alloc::{AllocError, Global};
 use wf_history::{CallId, KeptCall, KeptReply};
-
-/// The width of a letter.
-pub(crate) const LETTER: u128 = 7;
 
 /// A call from its begin on.
 #[derive(Clone, Copy)]
@@ -88,33 +84,69 @@ pub(crate) fn push_bar(
     alloc: Global,
     text: &mut String,
     exports: &[Export],
-    frame: Frame,
-    band: usize,
+    band: &Band,
     bar: &Bar,
 ) -> Result<(), AllocError>
-    requires { frame.processes ≤ MOST_PROCESSES }
-    ensures { OnOk result (string_bytes text.new ≡ string_bytes text.old ++ shapes_text (Shapes.bar (map signature_of exports.now) frame band (bar_in bar.now))) }
+    requires { band.now.top < 2 ^ 77 }
+    ensures { OnOk result (string_bytes text.new
+        ≡ string_bytes text.old ++ shapes_text (Shapes.bar (map signature_of exports.now) (band_in band.now) (bar_in bar.now))) }
 {
-    if !is_seen(frame, band, bar) {
+    if !is_seen(band.frame, band.number, bar) {
         return Ok(());
     }
-    let x = left(frame, band, bar);
-    let y = frame.y(band, bar.id.process);
-    let corner = Point { x, y: y - 10 };
+    let x = left(band.frame, band.number, bar);
+    let corner = Point {
+        x,
+        y: band.y(bar.id.process) - 10,
+    };
     let size = Point {
-        x: frame.x(band, bar.end as u128).saturating_sub(x),
+        x: right(band.frame, band.number, bar).saturating_sub(x),
         y: 20,
     };
     push_title(text, exports, bar)?;
     push_box(text, bar_class(bar.reply), corner, size)?;
-    push_label(alloc, text, exports, frame, band, bar)?;
-    push_ending(alloc, text, frame, band, bar)?;
+    push_fade_before(text, band, bar)?;
+    push_fade_behind(text, band, bar)?;
+    push_label(alloc, text, exports, band, bar)?;
+    push_ending(alloc, text, band, bar)?;
     end_group(text)
+}
+
+/// Where a call comes from the band before, its bar fades.
+#[tactic(auto, unfolding(crate::specs::Shapes::fade_before))]
+fn push_fade_before(text: &mut String, band: &Band, bar: &Bar) -> Result<(), AllocError>
+    requires { band.now.top < 2 ^ 77 }
+    ensures { OnOk result (string_bytes text.new ≡ string_bytes text.old ++ shapes_text (fade_before (band_in band.now) (bar_in bar.now))) }
+{
+    if band.frame.first(band.number) <= bar.begin as u128 {
+        return Ok(());
+    }
+    let corner = Point {
+        x: 100,
+        y: band.y(bar.id.process) - 11,
+    };
+    push_box(text, "before", corner, Point { x: 28, y: 22 })
+}
+
+/// Where a call goes on in the next band, its bar fades.
+#[tactic(auto, unfolding(crate::specs::Shapes::fade_behind))]
+fn push_fade_behind(text: &mut String, band: &Band, bar: &Bar) -> Result<(), AllocError>
+    requires { band.now.top < 2 ^ 77 }
+    ensures { OnOk result (string_bytes text.new ≡ string_bytes text.old ++ shapes_text (fade_behind (band_in band.now) (bar_in bar.now))) }
+{
+    if !goes_on(band.frame, band.number, bar) {
+        return Ok(());
+    }
+    let corner = Point {
+        x: right(band.frame, band.number, bar) - 24,
+        y: band.y(bar.id.process) - 11,
+    };
+    push_box(text, "behind", corner, Point { x: 25, y: 22 })
 }
 
 /// Whether a call is seen in a band.
 #[tactic(auto, unfolding(crate::specs::Shapes::is_seen))]
-fn is_seen(frame: Frame, band: usize, bar: &Bar) -> bool
+pub(crate) fn is_seen(frame: Frame, band: usize, bar: &Bar) -> bool
     ensures { result ≡ is_seen frame band (bar_in bar.now) }
 {
     let first = frame.first(band);
@@ -123,8 +155,9 @@ fn is_seen(frame: Frame, band: usize, bar: &Bar) -> bool
 
 /// Where a bar begins in a band, or goes on.
 #[tactic(auto, unfolding(crate::specs::Shapes::left))]
-fn left(frame: Frame, band: usize, bar: &Bar) -> u128
-    ensures { result ≡ left frame band (bar_in bar.now) }
+pub(crate) fn left(frame: Frame, band: usize, bar: &Bar) -> u128
+    ensures value { result ≡ left frame band (bar_in bar.now) }
+    ensures largest { result < 2 ^ 76 }
 {
     if frame.first(band) <= bar.begin as u128 {
         frame.x(band, bar.begin as u128)
@@ -133,9 +166,28 @@ fn left(frame: Frame, band: usize, bar: &Bar) -> u128
     }
 }
 
+/// Whether a call goes on in the next band.
+#[tactic(auto, unfolding(crate::specs::Shapes::goes_on))]
+fn goes_on(frame: Frame, band: usize, bar: &Bar) -> bool
+    ensures { result ≡ goes_on frame band (bar_in bar.now) }
+{
+    let behind = frame.first(band) + frame.columns_in(band) as u128;
+    behind <= bar.end as u128 && !is_last(frame, band)
+}
+
+/// Where a bar ends in a band, or a little behind it, where it goes on in the next one.
+#[tactic(auto, unfolding(crate::specs::Shapes::right))]
+fn right(frame: Frame, band: usize, bar: &Bar) -> u128
+    ensures value { result ≡ right frame band (bar_in bar.now) }
+    ensures least { 130 ≤ result }
+{
+    let more = if goes_on(frame, band, bar) { 16 } else { 0 };
+    frame.x(band, bar.end as u128) + more
+}
+
 /// For how many letters there is room: up to the next call, or beyond the end of the band where that doesn't begin in it.
 #[tactic(auto, unfolding(crate::specs::Shapes::letters))]
-fn letters(frame: Frame, band: usize, bar: &Bar) -> u128
+pub(crate) fn letters(frame: Frame, band: usize, bar: &Bar) -> u128
     ensures { result ≡ letters frame band (bar_in bar.now) }
 {
     let beyond = if frame.is_in(band, bar.next) {
@@ -223,41 +275,33 @@ fn push_label(
     alloc: Global,
     text: &mut String,
     exports: &[Export],
-    frame: Frame,
-    band: usize,
+    band: &Band,
     bar: &Bar,
 ) -> Result<(), AllocError>
-    requires { frame.processes ≤ MOST_PROCESSES }
-    ensures { OnOk result (string_bytes text.new ≡ string_bytes text.old ++ shape_text (Shapes.label (map signature_of exports.now) frame band (bar_in bar.now))) }
+    requires { band.now.top < 2 ^ 77 }
+    ensures { OnOk result (string_bytes text.new
+        ≡ string_bytes text.old ++ shape_text (Shapes.label (map signature_of exports.now) (band_in band.now) (bar_in bar.now))) }
 {
     let at = Point {
-        x: left(frame, band, bar),
-        y: frame.y(band, bar.id.process) - 15,
+        x: left(band.frame, band.number, bar),
+        y: band.y(bar.id.process) - 15,
     };
     open_words(text, "label", at)?;
-    push_label_words(alloc, text, exports, frame, band, bar)?;
+    push_label_words(alloc, text, exports, band.frame, band.number, bar)?;
     close_words(text)
 }
 
 /// What stands at the end of a bar: the reply below it, in the band of the end, or a cross at the end of the picture.
 #[tactic(auto, unfolding(crate::specs::Shapes::ending))]
-fn push_ending(
-    alloc: Global,
-    text: &mut String,
-    frame: Frame,
-    band: usize,
-    bar: &Bar,
-) -> Result<(), AllocError>
-    requires { frame.processes ≤ MOST_PROCESSES }
-    ensures { OnOk result (string_bytes text.new ≡ string_bytes text.old ++ shapes_text (ending frame band (bar_in bar.now))) }
+fn push_ending(alloc: Global, text: &mut String, band: &Band, bar: &Bar) -> Result<(), AllocError>
+    requires { band.now.top < 2 ^ 77 }
+    ensures { OnOk result (string_bytes text.new ≡ string_bytes text.old ++ shapes_text (ending (band_in band.now) (bar_in bar.now))) }
 {
     match bar.reply {
-        Some(reply) if frame.is_in(band, bar.end) => {
-            push_answer(alloc, text, frame, band, bar, reply)
-        }
-        None if is_last(frame, band) => {
-            let x = frame.x(band, bar.end as u128);
-            push_cross(text, x, frame.y(band, bar.id.process))
+        Some(reply) if band.is_in(bar.end) => push_answer(alloc, text, band, bar, reply),
+        None if is_last(band.frame, band.number) => {
+            let x = band.x(bar.end as u128);
+            push_cross(text, x, band.y(bar.id.process))
         }
         _ => Ok(()),
     }
@@ -275,20 +319,21 @@ fn is_last(frame: Frame, band: usize) -> bool
 fn push_answer(
     alloc: Global,
     text: &mut String,
-    frame: Frame,
-    band: usize,
+    band: &Band,
     bar: &Bar,
     reply: &KeptReply,
 ) -> Result<(), AllocError>
-    requires { frame.processes ≤ MOST_PROCESSES }
-    ensures { OnOk result (string_bytes text.new ≡ string_bytes text.old ++ shape_text (Shapes.answer frame band (bar_in bar.now) (kept_reply reply.now))) }
+    requires { band.now.top < 2 ^ 77 }
+    ensures { OnOk result (string_bytes text.new
+        ≡ string_bytes text.old ++ shape_text (Shapes.answer (band_in band.now) (bar_in bar.now) (kept_reply reply.now))) }
 {
     let at = Point {
-        x: left(frame, band, bar),
-        y: frame.y(band, bar.id.process) + 22,
+        x: left(band.frame, band.number, bar),
+        y: band.y(bar.id.process) + 22,
     };
+    let room = letters(band.frame, band.number, bar);
     open_words(text, reply_class(reply), at)?;
-    push_short_answer(alloc, text, reply, letters(frame, band, bar))?;
+    push_short_answer(alloc, text, reply, room)?;
     close_words(text)
 }
 

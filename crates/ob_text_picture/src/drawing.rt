@@ -1,8 +1,8 @@
 //! A run as a picture that a browser shows.
 
-ghost use Rattle.std.specs.Prelude.{◌≡◌, ◌++◌, ◌≤◌, IfErr, IfOk, OnOk, codes, length, map, string_bytes};
+ghost use Rattle.std.specs.Prelude.{◌≡◌, ◌+◌, ◌++◌, ◌<◌, ◌≤◌, ◌^◌, IfErr, IfOk, OnOk, codes, length, map, string_bytes};
 ghost use Rattle.ob_interface.specs.View.{signature_of};
-ghost use Rattle.ob_text_picture.specs.Shapes.{band_shapes, calls_words, each, frame_of, head_shapes, heading_words, picture_text};
+ghost use Rattle.ob_text_picture.specs.Shapes.{band_shapes, below_bands, calls_words, each, frame_of, head_shapes, heading_words, picture_text, top_of};
 ghost use Rattle.ob_text_picture.specs.Places.{at, bands};
 ghost use Rattle.ob_text_picture.specs.Svg.{Words, shape_text, shapes_text};
 ghost use Rattle.ob_text_picture_chart.specs.Charts.{begun, chart_of, range_of};
@@ -10,9 +10,11 @@ ghost use Rattle.ob_text_picture_chart.specs.Faults.{IsRangeFault, MayBeShown};
 ghost use Rattle.ob_text_picture_chart.specs.View.{chart_in, moment_of};
 
 use crate::bands::push_band;
-use crate::legend::{push_bar_keys, push_mark_keys, push_word_keys};
+use crate::legend::{push_call_keys, push_mark_keys, push_text_keys};
 use crate::order::push_order;
-use crate::places::{Frame, Point};
+use crate::places::{Band, Frame, Point, TOP};
+use crate::rows::rows_of;
+use crate::spill::spill_of;
 use crate::svg::{close_words, open_picture, open_words, push_box};
 use crate::widths::wanted;
 use ob_interface::MOST_PROCESSES;
@@ -47,15 +49,17 @@ pub fn picture(alloc: Global, exports: &[Export], chart: &Chart) -> Result<Strin
     ensures { IfOk result (λ text. string_bytes text ≡ picture_text (map signature_of exports.now) (chart_in chart.now)) }
 {
     let frame = frame_of(alloc, exports, chart)?;
+    let mut bands = String::new(alloc);
+    let below = push_bands(alloc, &mut bands, exports, frame, chart)?;
     let size = Point {
         x: frame.width(),
-        y: frame.height(chart.order.as_slice().len()),
+        y: frame.height(below, chart.order.as_slice().len()),
     };
     let mut text = String::new(alloc);
     open_picture(&mut text, size)?;
     push_head(&mut text, chart, size)?;
-    push_bands(alloc, &mut text, exports, frame, chart)?;
-    push_order(&mut text, frame, &chart.order)?;
+    text.push_str(bands.as_str())?;
+    push_order(&mut text, frame, below, &chart.order)?;
     text.push_str("</svg>\n")?;
     Ok(text)
 }
@@ -66,7 +70,6 @@ fn frame_of(alloc: Global, exports: &[Export], chart: &Chart) -> Result<Frame, A
 {
     let columns = chart.times.as_slice().len();
     Ok(Frame {
-        processes: chart.processes,
         columns,
         wanted: wanted(alloc, exports, columns, &chart.sights)?,
     })
@@ -79,9 +82,9 @@ fn push_head(text: &mut String, chart: &Chart, size: Point) -> Result<(), AllocE
 {
     push_box(text, "ground", Point { x: 0, y: 0 }, size)?;
     push_heading(text, chart)?;
-    push_bar_keys(text)?;
+    push_call_keys(text)?;
     push_mark_keys(text)?;
-    push_word_keys(text)
+    push_text_keys(text)
 }
 
 /// How many processes there are, and which calls are shown.
@@ -119,7 +122,7 @@ fn push_calls(text: &mut String, total: usize, range: CallRange) -> Result<(), A
     push_number(text, total)
 }
 
-/// The bands, one below the other.
+/// The bands, one below the other; tells where they end.
 #[tactic(auto, using(crate::proofs::Each::each_more))]
 fn push_bands(
     alloc: Global,
@@ -127,13 +130,49 @@ fn push_bands(
     exports: &[Export],
     frame: Frame,
     chart: &Chart,
-) -> Result<(), AllocError>
-    requires { frame.processes ≤ MOST_PROCESSES }
-    ensures { OnOk result (string_bytes text.new
+) -> Result<u128, AllocError>
+    requires { chart.now.processes ≤ MOST_PROCESSES }
+    ensures text { OnOk result (string_bytes text.new
         ≡ string_bytes text.old ++ shapes_text (each (band_shapes (map signature_of exports.now) frame (chart_in chart.now)) (bands frame))) }
+    ensures below { IfOk result (λ below. below ≡ below_bands frame (chart_in chart.now)) }
+    ensures small { IfOk result (λ below. below < 2 ^ 77) }
 {
+    let mut top = TOP;
     for band in 0..frame.bands() {
-        push_band(alloc, text, exports, frame, chart, band)?;
+        top = push_band_at(alloc, text, exports, frame, chart, band, top)?;
     }
-    Ok(())
+    Ok(top)
+}
+
+/// The band of a number, from a height on; tells where it ends.
+#[tactic(auto, using(crate::proofs::Tops::top_more), unfolding(crate::specs::Places::below))]
+fn push_band_at(
+    alloc: Global,
+    text: &mut String,
+    exports: &[Export],
+    frame: Frame,
+    chart: &Chart,
+    number: usize,
+    top: u128,
+) -> Result<u128, AllocError>
+    requires few { chart.now.processes ≤ MOST_PROCESSES }
+    requires small { top < 2 ^ 77 }
+    requires here { top ≡ top_of frame (chart_in chart.now) number }
+    ensures text { OnOk result (string_bytes text.new
+        ≡ string_bytes text.old ++ shapes_text (band_shapes (map signature_of exports.now) frame (chart_in chart.now) number)) }
+    ensures below { IfOk result (λ below. below ≡ top_of frame (chart_in chart.now) (number + 1)) }
+    ensures small { IfOk result (λ below. below ≤ top + 1000) }
+{
+    let sights = chart.sights.as_slice();
+    let rows = rows_of(alloc, frame, number, sights, chart.processes)?;
+    let spill = spill_of(alloc, exports, frame, number, sights)?;
+    let band = Band {
+        frame,
+        number,
+        top,
+        rows: rows.as_slice(),
+        spill,
+    };
+    push_band(alloc, text, exports, &band, chart)?;
+    Ok(band.below())
 }

@@ -2,7 +2,7 @@
 
 ghost use Rattle.std.specs.Prelude.{◌≡◌, ◌+◌, ◌++◌, ◌<◌, OnOk, string_bytes};
 ghost use Rattle.ob_text_picture.specs.Places as Places;
-ghost use Rattle.ob_text_picture.specs.Shapes.{bar_key, bar_keys, helped_keys, mark_key, mark_keys, word_keys};
+ghost use Rattle.ob_text_picture.specs.Shapes.{bar_key, bar_keys, call_keys, event_keys, fade_keys, helped_keys, mark_key, mark_keys, text_keys, word_keys};
 ghost use Rattle.ob_text_picture.specs.Svg.{shapes_text};
 
 use crate::bars::push_cross;
@@ -16,15 +16,42 @@ fn at(x: u128, y: u128) -> Point
     Point { x, y }
 }
 
+/// What is seen of calls.
+#[tactic(auto, unfolding(crate::specs::Shapes::call_keys))]
+pub(crate) fn push_call_keys(text: &mut String) -> Result<(), AllocError>
+    ensures { OnOk result (string_bytes text.new ≡ string_bytes text.old ++ shapes_text call_keys) }
+{
+    push_bar_keys(text)?;
+    push_fade_keys(text)
+}
+
+/// What the words of a picture are.
+#[tactic(auto, unfolding(crate::specs::Shapes::text_keys))]
+pub(crate) fn push_text_keys(text: &mut String) -> Result<(), AllocError>
+    ensures { OnOk result (string_bytes text.new ≡ string_bytes text.old ++ shapes_text text_keys) }
+{
+    push_word_keys(text)?;
+    push_event_keys(text)
+}
+
 /// What the bars are.
 #[tactic(auto, unfolding(crate::specs::Shapes::bar_keys))]
-pub(crate) fn push_bar_keys(text: &mut String) -> Result<(), AllocError>
+fn push_bar_keys(text: &mut String) -> Result<(), AllocError>
     ensures { OnOk result (string_bytes text.new ≡ string_bytes text.old ++ shapes_text bar_keys) }
 {
     push_bar_key(text, "done", 36, "a call, from its begin to its end")?;
     push_bar_key(text, "trap", 64, "a call that trapped")?;
     push_bar_key(text, "open", 92, "a call that does not end here")?;
     push_cross(text, 46, 102)
+}
+
+/// What the bar of a call is that has no room for its end.
+#[tactic(auto, unfolding(crate::specs::Shapes::fade_keys))]
+fn push_fade_keys(text: &mut String) -> Result<(), AllocError>
+    ensures { OnOk result (string_bytes text.new ≡ string_bytes text.old ++ shapes_text fade_keys) }
+{
+    push_bar_key(text, "done", 120, "a call that goes on in the next band")?;
+    push_box(text, "behind", at(24, 119), at(25, 22))
 }
 
 #[tactic(auto, unfolding(crate::specs::Shapes::bar_key))]
@@ -81,14 +108,28 @@ fn push_mark_key(
 
 /// What words below a bar are, and what dots stand for.
 #[tactic(auto, unfolding(crate::specs::Shapes::word_keys))]
-pub(crate) fn push_word_keys(text: &mut String) -> Result<(), AllocError>
+fn push_word_keys(text: &mut String) -> Result<(), AllocError>
     ensures { OnOk result (string_bytes text.new ≡ string_bytes text.old ++ shapes_text word_keys) }
 {
     let values = "below it the values of its reply, or done";
-    let rest = "the rest, which the pointer on the bar shows";
-    push_words(text, "reply", Point { x: 12, y: 134 }, "= 7")?;
-    push_words(text, "key", Point { x: 64, y: 134 }, values)?;
-    push_words(text, "label", Point { x: 396, y: 134 }, "\u{2026}")?;
-    push_words(text, "key", Point { x: 418, y: 134 }, rest)?;
+    let rest = "cut here; whole in the SVG, as the bar's title";
+    push_words(text, "reply", Point { x: 12, y: 162 }, "= 7")?;
+    push_words(text, "key", Point { x: 64, y: 162 }, values)?;
+    push_words(text, "label", Point { x: 396, y: 162 }, "\u{2026}")?;
+    push_words(text, "key", Point { x: 418, y: 162 }, rest)?;
+    Ok(())
+}
+
+/// What the numbers above the columns are, and which processes have a row.
+#[tactic(auto, unfolding(crate::specs::Shapes::event_keys))]
+fn push_event_keys(text: &mut String) -> Result<(), AllocError>
+    ensures { OnOk result (string_bytes text.new ≡ string_bytes text.old ++ shapes_text event_keys) }
+{
+    let event = "each column is one event of the run, here event 5";
+    let row =
+        "A process has a row in those bands alone in which it has a call, or makes one of another process.";
+    push_words(text, "faint middle", Point { x: 400, y: 134 }, "5")?;
+    push_words(text, "key", Point { x: 418, y: 134 }, event)?;
+    push_words(text, "key", Point { x: 12, y: 190 }, row)?;
     Ok(())
 }

@@ -9,6 +9,8 @@ mod legend;
 mod marks;
 mod order;
 mod places;
+mod rows;
+mod spill;
 mod svg;
 mod widths;
 

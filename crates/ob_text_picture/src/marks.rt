@@ -1,42 +1,37 @@
 //! The marks of calls that take effect.
 
-ghost use Rattle.std.specs.Prelude.{◌≡◌, ◌++◌, ◌≤◌, OnOk, string_bytes};
+ghost use Rattle.std.specs.Prelude.{◌≡◌, ◌++◌, ◌<◌, ◌^◌, OnOk, string_bytes};
 ghost use Rattle.ob_text_picture.specs.Shapes.{help, is_helped, mark};
 ghost use Rattle.ob_text_picture.specs.Svg.{shapes_text};
+ghost use Rattle.ob_text_picture.specs.View.{band_in};
 ghost use Rattle.ob_text_picture_chart.specs.View.{sight_of};
 
-use crate::places::{Frame, Point};
+use crate::places::{Band, Point};
 use crate::svg::{push_circle, push_line, push_numeral};
-use ob_interface::MOST_PROCESSES;
 use ob_text_picture_chart::{Happening, Sight};
 use std::alloc::AllocError;
 use wf_history::CallId;
 
 /// The line from the process whose step makes a call to the call, where that is of another process.
 #[tactic(auto, unfolding(crate::specs::Shapes::help))]
-pub(crate) fn push_help(
-    text: &mut String,
-    frame: Frame,
-    band: usize,
-    sight: &Sight,
-) -> Result<(), AllocError>
-    requires { frame.processes ≤ MOST_PROCESSES }
-    ensures { OnOk result (string_bytes text.new ≡ string_bytes text.old ++ shapes_text (help frame band (sight_of sight.now))) }
+pub(crate) fn push_help(text: &mut String, band: &Band, sight: &Sight) -> Result<(), AllocError>
+    requires { band.now.top < 2 ^ 77 }
+    ensures { OnOk result (string_bytes text.new ≡ string_bytes text.old ++ shapes_text (help (band_in band.now) (sight_of sight.now))) }
 {
     let Happening::Taken(_, Some(maker)) = sight.happening else {
         return Ok(());
     };
-    if !frame.is_in(band, sight.column) || maker == sight.id.process {
+    if !band.is_in(sight.column) || maker == sight.id.process {
         return Ok(());
     }
-    let x = frame.x(band, sight.column as u128);
+    let x = band.x(sight.column as u128);
     let from = Point {
         x,
-        y: frame.y(band, maker),
+        y: band.y(maker),
     };
     let to = Point {
         x,
-        y: frame.y(band, sight.id.process),
+        y: band.y(sight.id.process),
     };
     push_line(text, "help", from, to)?;
     push_circle(text, "step", from, 3)
@@ -44,23 +39,18 @@ pub(crate) fn push_help(
 
 /// The number of a call in the order, where it takes effect.
 #[tactic(auto, unfolding(crate::specs::Shapes::mark))]
-pub(crate) fn push_mark(
-    text: &mut String,
-    frame: Frame,
-    band: usize,
-    sight: &Sight,
-) -> Result<(), AllocError>
-    requires { frame.processes ≤ MOST_PROCESSES }
-    ensures { OnOk result (string_bytes text.new ≡ string_bytes text.old ++ shapes_text (mark frame band (sight_of sight.now))) }
+pub(crate) fn push_mark(text: &mut String, band: &Band, sight: &Sight) -> Result<(), AllocError>
+    requires { band.now.top < 2 ^ 77 }
+    ensures { OnOk result (string_bytes text.new ≡ string_bytes text.old ++ shapes_text (mark (band_in band.now) (sight_of sight.now))) }
 {
     let Happening::Taken(number, maker) = sight.happening else {
         return Ok(());
     };
-    if !frame.is_in(band, sight.column) {
+    if !band.is_in(sight.column) {
         return Ok(());
     }
-    let x = frame.x(band, sight.column as u128);
-    let y = frame.y(band, sight.id.process);
+    let x = band.x(sight.column as u128);
+    let y = band.y(sight.id.process);
     let (circle, words) = if is_helped(sight.id, maker) {
         ("helped", "number light")
     } else {

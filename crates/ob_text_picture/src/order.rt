@@ -1,6 +1,6 @@
 //! The order, below the bands.
 
-ghost use Rattle.std.specs.Prelude.{◌≡◌, ◌++◌, ◌≤◌, OnOk, codes, string_bytes};
+ghost use Rattle.std.specs.Prelude.{◌≡◌, ◌++◌, ◌<◌, ◌^◌, OnOk, codes, string_bytes};
 ghost use Rattle.ob_text_picture.specs.Places.{cell};
 ghost use Rattle.ob_text_picture.specs.Shapes.{cell_words, order_shapes};
 ghost use Rattle.ob_text_picture.specs.Svg.{Words, shape_text, shapes_text};
@@ -8,7 +8,6 @@ ghost use Rattle.ob_text_picture.specs.Svg.{Words, shape_text, shapes_text};
 use crate::labels::push_id;
 use crate::places::{Frame, Point};
 use crate::svg::{close_words, open_words, push_words};
-use ob_interface::MOST_PROCESSES;
 use ob_text_picture_chart::Placed;
 use ob_text_words::numbers::push_number;
 use std::alloc::AllocError;
@@ -18,18 +17,19 @@ use std::alloc::AllocError;
 pub(crate) fn push_order(
     text: &mut String,
     frame: Frame,
+    below: u128,
     order: &[Placed],
 ) -> Result<(), AllocError>
-    requires { frame.processes ≤ MOST_PROCESSES }
-    ensures { OnOk result (string_bytes text.new ≡ string_bytes text.old ++ shapes_text (order_shapes frame order.now)) }
+    requires { below < 2 ^ 77 }
+    ensures { OnOk result (string_bytes text.new ≡ string_bytes text.old ++ shapes_text (order_shapes frame below order.now)) }
 {
     let at = Point {
         x: 12,
-        y: frame.cell(0).y,
+        y: frame.cell(below, 0).y,
     };
     push_words(text, "bold", at, "order")?;
     for (place, placed) in order.iter().enumerate() {
-        push_cell(text, frame.cell(place), *placed)?;
+        push_cell(text, frame.cell(below, place), *placed)?;
     }
     Ok(())
 }

@@ -1,9 +1,8 @@
 //! Where things stand in a picture, in pixels.
 
-ghost use Rattle.std.specs.Prelude.{◌≡◌, ◌+◌, ◌-◌, ◌*◌, ◌<◌, ◌≤◌, ◌^◌};
-ghost use Rattle.ob_text_picture.specs.Places.{band_height, bands, beyond, cell, column_width, columns_in, first, height, in_line, is_in, lead, most, room, top_of, width, x_of, y_of};
-
-use ob_interface::MOST_PROCESSES;
+ghost use Rattle.std.specs.Prelude.{◌≡◌, ◌+◌, ◌-◌, ◌*◌, ◌<◌, ◌≤◌, ◌==◌, ◌^◌, length, position};
+ghost use Rattle.ob_text_picture.specs.Places.{bands, below, beyond, cell, column_width, columns_in, first, height, in_line, is_in, lead, most, room, row_of, width, x_of, y_of};
+ghost use Rattle.ob_text_picture.specs.View.{band_in};
 
 /// A place, from the left and from the top.
 #[derive(Clone, Copy)]
@@ -12,16 +11,35 @@ pub struct Point {
     pub y: u128,
 }
 
+/// The width of a letter.
+pub(crate) const LETTER: u128 = 7;
+
 /// How far words may go on behind the end of a band.
 pub(crate) const BEYOND: u128 = 200;
+
+/// From the top: where the first band begins.
+pub(crate) const TOP: u128 = 214;
 
 /// The sizes by which things are placed: the columns of a run stand in bands, one below the other.
 #[derive(Clone, Copy)]
 pub struct Frame {
-    pub processes: usize,
     pub columns: usize,
     /// How wide columns have to be for the words of all calls.
     pub wanted: u128,
+}
+
+/// A band of a picture.
+#[derive(Clone, Copy)]
+pub struct Band<'a> {
+    pub frame: Frame,
+    /// Its number, from 0.
+    pub number: usize,
+    /// From the top: where it begins.
+    pub top: u128,
+    /// The processes that have a row there, in their order.
+    pub rows: &'a [usize],
+    /// How far the words of calls go on behind its end.
+    pub spill: u128,
 }
 
 /// A product that fits.
@@ -43,7 +61,7 @@ fn lead(band: usize) -> u128
     if band == 0 { 130 } else { 230 }
 }
 
-#[tactic(auto, unfolding(crate::specs::Places::column_width, crate::specs::Places::room, crate::specs::Places::bands, crate::specs::Places::most, crate::specs::Places::first, crate::specs::Places::columns_in, crate::specs::Places::is_in, crate::specs::Places::x_of, crate::specs::Places::band_height, crate::specs::Places::top_of, crate::specs::Places::y_of, crate::specs::Places::width, crate::specs::Places::in_line, crate::specs::Places::cell, crate::specs::Places::height))]
+#[tactic(auto, unfolding(crate::specs::Places::column_width, crate::specs::Places::room, crate::specs::Places::bands, crate::specs::Places::most, crate::specs::Places::first, crate::specs::Places::columns_in, crate::specs::Places::is_in, crate::specs::Places::x_of, crate::specs::Places::width, crate::specs::Places::in_line, crate::specs::Places::cell, crate::specs::Places::height))]
 impl Frame {
     /// As wide as words want it, up to a limit; and a few columns are a little wider.
     fn column_width(self) -> usize
@@ -116,48 +134,12 @@ impl Frame {
         lead(band) + times(before as usize, self.column_width())
     }
 
-    fn band_height(self) -> usize
-        requires { self.processes ≤ MOST_PROCESSES }
-        ensures value { result ≡ band_height self }
-        ensures small { result ≤ 1000 }
-    {
-        48 + 56 * self.processes
-    }
-
-    /// From the top: where a band begins.
-    pub(crate) fn top(self, band: usize) -> u128
-        requires { self.processes ≤ MOST_PROCESSES }
-        ensures value { result ≡ top_of self band }
-        ensures least { 164 ≤ result }
-        ensures largest { result < 2 ^ 76 }
-    {
-        164 + times(band, self.band_height())
-    }
-
-    /// Where the lines of a band's columns end.
-    pub(crate) fn bottom(self, band: usize) -> u128
-        requires { self.processes ≤ MOST_PROCESSES }
-        ensures { result ≡ top_of self band + band_height self - 14 }
-    {
-        self.top(band) + self.band_height() as u128 - 14
-    }
-
-    /// From the top: a process, in a band.
-    pub(crate) fn y(self, band: usize, process: usize) -> u128
-        requires { self.processes ≤ MOST_PROCESSES }
-        ensures value { result ≡ y_of self band process }
-        ensures least { 212 ≤ result }
-        ensures largest { result < 2 ^ 77 }
-    {
-        self.top(band) + 48 + 56 * process as u128
-    }
-
     pub(crate) fn width(self) -> u128
         ensures value { result ≡ width self }
         ensures least { 780 ≤ result }
     {
         let columns = times(self.columns.min(self.most()), self.column_width());
-        (lead(self.bands() - 1) + BEYOND + 10 + columns).max(780)
+        (lead(self.bands() - 1) + columns + BEYOND + 110).max(780)
     }
 
     /// How many calls of the order stand in a line.
@@ -168,23 +150,78 @@ impl Frame {
         (self.width() - 80) / 90
     }
 
-    /// Where a call of the order stands.
-    pub(crate) fn cell(self, place: usize) -> Point
-        requires { self.processes ≤ MOST_PROCESSES }
-        ensures value { result ≡ cell self place }
+    /// Where a call of the order stands, below the bands.
+    pub(crate) fn cell(self, below: u128, place: usize) -> Point
+        requires { below < 2 ^ 77 }
+        ensures value { result ≡ cell self below place }
         ensures largest { result.y < 2 ^ 78 }
     {
         let in_line = self.in_line();
         Point {
             x: 70 + 90 * (place as u128 % in_line),
-            y: self.top(self.bands()) + 20 + 18 * (place as u128 / in_line),
+            y: below + 20 + 18 * (place as u128 / in_line),
         }
     }
 
-    pub(crate) fn height(self, calls: usize) -> u128
-        requires { self.processes ≤ MOST_PROCESSES }
-        ensures { result ≡ height self calls }
+    pub(crate) fn height(self, below: u128, calls: usize) -> u128
+        requires { below < 2 ^ 77 }
+        ensures { result ≡ height self below calls }
     {
-        self.cell(calls.saturating_sub(1)).y + 16
+        self.cell(below, calls.saturating_sub(1)).y + 16
     }
+}
+
+#[tactic(auto, unfolding(crate::specs::Places::below, crate::specs::Places::y_of))]
+impl Band<'_> {
+    /// From the left: a column, in its band.
+    pub(crate) fn x(&self, column: u128) -> u128
+        ensures value { result ≡ x_of self.now.frame self.now.number column }
+        ensures least { 130 ≤ result }
+        ensures largest { result < 2 ^ 76 }
+    {
+        self.frame.x(self.number, column)
+    }
+
+    /// Whether a column stands in the band.
+    pub(crate) fn is_in(&self, column: usize) -> bool
+        ensures { result ≡ is_in self.now.frame self.now.number column }
+    {
+        self.frame.is_in(self.number, column)
+    }
+
+    /// From the top: where the next band begins.
+    pub(crate) fn below(&self) -> u128
+        requires { self.now.top < 2 ^ 77 }
+        ensures value { result ≡ below (band_in self.now) }
+        ensures least { self.now.top + 48 ≤ result }
+        ensures largest { result ≤ self.now.top + 48 + 56 * length self.now.rows.now }
+    {
+        self.top + 48 + 56 * self.rows.len() as u128
+    }
+
+    /// From the top: a process.
+    pub(crate) fn y(&self, process: usize) -> u128
+        requires { self.now.top < 2 ^ 77 }
+        ensures value { result ≡ y_of (band_in self.now) process }
+        ensures least { 48 ≤ result }
+        ensures largest { result < 2 ^ 78 }
+    {
+        self.top + 48 + 56 * row_of(self.rows, process) as u128
+    }
+}
+
+/// Where the row of a process stands among those of a band.
+fn row_of(rows: &[usize], process: usize) -> usize
+    ensures { result ≡ row_of rows.now process }
+{
+    match row_among(rows, process) {
+        Some(row) => row,
+        None => 0,
+    }
+}
+
+fn row_among(rows: &[usize], process: usize) -> Option<usize>
+    ensures { result ≡ position (λ other. other == process) rows.now }
+{
+    rows.iter().position(|other| *other == process)
 }

@@ -10,7 +10,15 @@ use std::alloc::AllocError;
 
 /// How the classes of elements look.
 const STYLE: &str =
-    "<style>text{font:11px Menlo,Consolas,'DejaVu Sans Mono',monospace;fill:#1b1b1b;stroke:#fff;stroke-width:4px;stroke-linejoin:round;paint-order:stroke}.ground{fill:#fff}.head{font-size:13px;font-weight:bold}.bold{font-weight:bold}.faint{fill:#777}.middle{text-anchor:middle}.row{stroke:#bbb}.tick{stroke:#eee}.done{fill:#d3e6f8;stroke:#3d77ab}.trap{fill:#fbd9b5;stroke:#b3570b}.open{fill:#e9e9e9;stroke:#777}.trapped{fill:#a34a00}.help{stroke:#999;stroke-dasharray:4 3;shape-rendering:crispEdges}.step{fill:#444}.own{fill:#fff;stroke:#222}.helped{fill:#222;stroke:#222}.number{font-size:9px;text-anchor:middle;stroke:none}.light{fill:#fff}.cross{stroke:#c21f1f;stroke-width:3}</style>\n";
+    "<style>text{font:11px Menlo,Consolas,'DejaVu Sans Mono',monospace;fill:#1b1b1b;stroke:#fff;stroke-width:4px;stroke-linejoin:round;paint-order:stroke}.ground{fill:#fff}.head{font-size:13px;font-weight:bold}.bold{font-weight:bold}.faint{fill:#777}.middle{text-anchor:middle}.row{stroke:#bbb}.tick{stroke:#eee}.done{fill:#d3e6f8;stroke:#3d77ab}.trap{fill:#fbd9b5;stroke:#b3570b}.open{fill:#e9e9e9;stroke:#777}.trapped{fill:#a34a00}.help{stroke:#999;stroke-dasharray:4 3;shape-rendering:crispEdges}.step{fill:#444}.own{fill:#fff;stroke:#222}.helped{fill:#222;stroke:#222}.number{font-size:9px;text-anchor:middle;stroke:none}.light{fill:#fff}.before{fill:url(#before)}.behind{fill:url(#behind)}stop{stop-color:#fff}.clear{stop-opacity:0}.cross{stroke:#c21f1f;stroke-width:3}</style>\n";
+
+/// White that goes over into nothing.
+const BEFORE: &str =
+    "<linearGradient id=\"before\"><stop offset=\"0.2\"/><stop class=\"clear\" offset=\"1\"/></linearGradient>\n";
+
+/// Nothing that goes over into white.
+const BEHIND: &str =
+    "<linearGradient id=\"behind\"><stop class=\"clear\" offset=\"0\"/><stop offset=\"0.9\"/></linearGradient>\n";
 
 /// Begins a picture of this size.
 #[tactic(auto, unfolding(crate::specs::Svg::opening_text))]
@@ -41,7 +49,9 @@ fn push_view_box(text: &mut String, size: Point) -> Result<(), AllocError>
 fn push_style(text: &mut String) -> Result<(), AllocError>
     ensures { OnOk result (string_bytes text.new ≡ string_bytes text.old ++ style_text) }
 {
-    text.push_str(STYLE)
+    text.push_str(STYLE)?;
+    text.push_str(BEFORE)?;
+    text.push_str(BEHIND)
 }
 
 /// A line from one place to another.

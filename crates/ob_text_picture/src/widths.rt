@@ -1,14 +1,15 @@
 //! How wide columns have to be for the words of calls.
 
-ghost use Rattle.std.specs.Prelude.{◌≡◌, ◌++◌, ◌<◌, ◌^◌, IfOk, OnOk, map, option_map, string_bytes};
+ghost use Rattle.std.specs.Prelude.{◌≡◌, ◌++◌, IfOk, OnOk, map, option_map, string_bytes};
 ghost use Rattle.ob_interface.specs.View.{signature_of};
 ghost use Rattle.ob_text_picture.specs.Shapes.{most_letters, wanted, width_at, width_for, words_below};
 ghost use Rattle.ob_text_picture.specs.View.{bar_in};
 ghost use Rattle.ob_text_picture_chart.specs.View.{sight_of};
 ghost use Rattle.wf_history.specs.View.{kept_reply};
 
-use crate::bars::{Bar, LETTER, bar_of};
+use crate::bars::{Bar, bar_of};
 use crate::labels::{push_answer_words, push_call};
+use crate::places::LETTER;
 use ob_interface::export::Export;
 use ob_text_picture_chart::{Happening, Sight};
 use std::alloc::{AllocError, Global};
@@ -63,22 +64,25 @@ fn width_for(
     if bar.next >= columns {
         return Ok(0);
     }
-    let room = LETTER * (most_letters(alloc, exports, bar)? + 1);
+    let room = LETTER * (most_letters(alloc, exports, bar)? as u128 + 1);
     let span = bar.next.saturating_sub(bar.begin).max(1);
     Ok(room / span as u128 + 1)
 }
 
 /// For how many letters there has to be room: for the words above a bar and for those below it.
 #[tactic(auto, unfolding(crate::specs::Shapes::most_letters))]
-fn most_letters(alloc: Global, exports: &[Export], bar: &Bar) -> Result<u128, AllocError>
-    ensures letters { IfOk result (λ count. count ≡ most_letters (map signature_of exports.now) (bar_in bar.now)) }
-    ensures few { IfOk result (λ count. count < 2 ^ 64) }
+pub(crate) fn most_letters(
+    alloc: Global,
+    exports: &[Export],
+    bar: &Bar,
+) -> Result<usize, AllocError>
+    ensures { IfOk result (λ count. count ≡ most_letters (map signature_of exports.now) (bar_in bar.now)) }
 {
     let mut above = String::new(alloc);
     push_call(&mut above, exports, bar.id, bar.call)?;
     let mut below = String::new(alloc);
     push_words_below(&mut below, bar.reply)?;
-    Ok(above.as_str().len().max(below.as_str().len()) as u128)
+    Ok(above.as_str().len().max(below.as_str().len()))
 }
 
 /// The words below a bar: none without a reply.

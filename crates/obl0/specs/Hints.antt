@@ -1,33 +1,163 @@
 -- What a terminal is told behind a fault.
-use Rattle.std.specs.Prelude.{ℕ, ◌==◌, ◌||◌, nat_eq, Bool, List, [], codes, if◌then◌else◌}
-use Rattle.std.specs.List.{starts_with}
-use Rattle.std.specs.Str.{bytes_eq}
+use Rattle.std.specs.Prelude.{ℕ, ◌==◌, ◌&&◌, ◌||◌, ◌++◌, nat_eq, Bool, true, false, not, [], ◌∷◌, Option, Some, None, codes, if◌then◌else◌}
+use Rattle.std.specs.Char.{is_ascii_alphanumeric, is_ascii_digit, is_ascii_uppercase}
+use Rattle.std.specs.Fmt.{decimal}
+use Rattle.std.specs.List.{list_all, starts_with}
+use Rattle.std.specs.declared.io.ErrorKind.{ErrorKind}
+use Rattle.std.specs.declared.io.ErrorKind.TheVariants as Kind
+use Rattle.ob_command.specs.CommandLine.{Text, Request, RunRequest, Check, Listing, Seq, Run, RunTree, RunSteps, Serve, Draw, DrawRecord, Verify, Explain, ExplainTraps, ExplainRun, ExplainRecord, Bound, default_budget}
 
 -- the exit status of a fault with a number
 abbrev pub is_fault : (status : ℕ) → Bool
 is_fault status = status == 1
 
 -- the line of a fault begins so
-abbrev pub begins : (number line : List ℕ) → Bool
+abbrev pub begins : (number line : Text) → Bool
 begins number line = starts_with nat_eq line number
 
--- which form of `explain` tells more of a fault of a command; nothing behind `explain` itself
-abbrev pub form_about : (command : List ℕ) → List ℕ
-form_about command =
-    if bytes_eq command (codes "check") || (bytes_eq command (codes "list") || bytes_eq command (codes "bound")) then codes "`obl0 explain MODULE` tells more\n"
-    else if bytes_eq command (codes "seq") then codes "`obl0 explain MODULE SCRIPT` tells more\n"
-    else if bytes_eq command (codes "serve") then codes "`obl0 explain MODULE SCRIPT /dev/null -n N` tells more\n"
-    else if bytes_eq command (codes "run") then codes "`obl0 explain MODULE SCRIPT SCHEDULE -n N` tells more\n"
-    else if bytes_eq command (codes "draw") then codes "`obl0 explain MODULE SCRIPT SCHEDULE -n N` tells more, and of a record `obl0 explain MODULE --record RECORD`; without a schedule the second file is a record\n"
-    else if bytes_eq command (codes "verify") then codes "`obl0 explain MODULE --record RECORD` tells more\n"
-    else []
+-- ---- the form of `explain` that tells more
 
--- Behind the line of a fault of a command: what a number of the command line may be, or which calls are drawn, since no file is wrong
--- there; nothing of a desk's faults; else the form of `explain`.
-abbrev pub more_about : (command line : List ℕ) → List ℕ
-more_about command line =
-    if begins (codes "N1") line then codes "behind -n stands how many processes there are, 1 to 16\n"
-    else if begins (codes "N3") line then codes "behind -b stands how many turns each call has, 0 to 1000000\n"
-    else if begins (codes "I") line then codes "a picture shows at most 400 calls; --calls FROM-TO says which of those that there are\n"
-    else if begins (codes "V") line || begins (codes "K") line then []
-    else form_about command
+-- a letter, a digit, or one of `-`, `.`, `/` and `_`
+abbrev pub is_plain_byte : ℕ → Bool
+is_plain_byte b = is_ascii_alphanumeric b || (b == 45 || (b == 46 || (b == 47 || b == 95)))
+
+-- The name of a file as it can be typed again: of such characters, and not with a `-` at its beginning, as options have and standard
+-- input.
+abbrev pub is_plain : (name : Text) → Bool
+is_plain [] = false
+is_plain (b ∷ rest) = not (b == 45) && (is_plain_byte b && list_all is_plain_byte rest)
+
+-- the name of a file, or in place of one that is not plain what the file is
+abbrev pub named : (what name : Text) → Text
+named what name = if is_plain name then name else what
+
+-- the name as a word behind others
+abbrev pub name_word : (what name : Text) → Text
+name_word what name = codes " " ++ named what name
+
+-- a budget behind its option, where it is not the one that there is where nothing is said of it
+abbrev pub budget_words : (budget : ℕ) → Text
+budget_words budget = if budget == default_budget then [] else codes " -b " ++ decimal budget
+
+-- a number of processes behind its option
+abbrev pub count_words : (processes : ℕ) → Text
+count_words processes = codes " -n " ++ decimal processes
+
+-- `explain` of a module, of a module and a script, and of a run
+abbrev pub module_words : (module_name : Text) → Text
+module_words module_name = codes "`obl0 explain" ++ name_word (codes "MODULE") module_name
+
+abbrev pub script_words : (module_name script_name : Text) → Text
+script_words module_name script_name = module_words module_name ++ name_word (codes "SCRIPT") script_name
+
+abbrev pub run_words : RunRequest → Text
+run_words run =
+    (script_words run.module_name run.script_name ++ name_word (codes "SCHEDULE") run.schedule_name) ++ count_words run.processes
+
+-- what is said of such words
+abbrev pub telling : Text
+telling = codes "` tells more\n"
+
+abbrev pub module_form : (module_name : Text) → Text
+module_form module_name = module_words module_name ++ telling
+
+abbrev pub calls_form : (module_name script_name : Text) (budget : ℕ) → Text
+calls_form module_name script_name budget = (script_words module_name script_name ++ budget_words budget) ++ telling
+
+abbrev pub run_form : RunRequest → Text
+run_form run = (run_words run ++ budget_words run.budget) ++ telling
+
+-- calls that workers make are explained as a run by a schedule with no items
+abbrev pub served : (module_name script_name : Text) (processes budget : ℕ) → RunRequest
+served module_name script_name processes budget = record {
+  module_name = module_name;
+  script_name = script_name;
+  schedule_name = codes "/dev/null";
+  processes = processes;
+  budget = budget;
+}
+
+abbrev pub record_form : (module_name record_name : Text) → Text
+record_form module_name record_name =
+    ((module_words module_name ++ codes " --record") ++ name_word (codes "RECORD") record_name) ++ telling
+
+-- of `draw` of a record, which its second file is where there is no schedule
+abbrev pub drawn_form : (module_name record_name : Text) → Text
+drawn_form module_name record_name =
+    record_form module_name record_name ++ codes "without a SCHEDULE the second file is read as a record\n"
+
+-- which form of `explain` tells more of a fault of a command; nothing behind `explain` itself
+abbrev pub form_about : Request → Text
+form_about (Check module_name) = module_form module_name
+form_about (Listing module_name) = module_form module_name
+form_about (Bound module_name processes budget) = module_form module_name
+form_about (Seq module_name script_name budget) = calls_form module_name script_name budget
+form_about (Run run) = run_form run
+form_about (RunTree run) = run_form run
+form_about (RunSteps run) = run_form run
+form_about (Draw run calls) = run_form run
+form_about (Serve module_name script_name processes budget) = run_form (served module_name script_name processes budget)
+form_about (DrawRecord module_name record_name calls) = drawn_form module_name record_name
+form_about (Verify module_name record_name) = record_form module_name record_name
+form_about request = []
+
+-- What is told of a fault of no text, whichever the command is: what a number of the command line may be, or which calls are drawn;
+-- nothing of a desk's faults.
+abbrev pub beside_texts : (line : Text) → Option Text
+beside_texts line =
+    if begins (codes "N1") line then Some (codes "behind -n stands how many processes there are, 1 to 16\n")
+    else if begins (codes "N3") line then Some (codes "behind -b stands how many turns each call has, 0 to 1000000\n")
+    else if begins (codes "I") line then Some (codes "a picture shows at most 400 calls; --calls FROM-TO says which of those that there are\n")
+    else if begins (codes "V") line || begins (codes "K") line then Some []
+    else None
+
+-- the same, or else the form of `explain`
+abbrev pub told_by : Option Text → Request → Text
+told_by (Some text) request = text
+told_by None request = form_about request
+
+-- a command shows its faults to people itself
+abbrev pub is_explain : Request → Bool
+is_explain (Explain module_name script_name budget) = true
+is_explain (ExplainTraps module_name script_name budget) = true
+is_explain (ExplainRun run) = true
+is_explain (ExplainRecord module_name record_name) = true
+is_explain request = false
+
+-- behind the line of a fault of a command that does not
+abbrev pub more_about : Request → (line : Text) → Text
+more_about request line = if is_explain request then [] else told_by (beside_texts line) request
+
+-- ---- a file that can't be read
+
+-- the number of a fault: a capital letter and a digit, or two
+abbrev pub is_fault_name : Text → Bool
+is_fault_name (b ∷ d ∷ []) = is_ascii_uppercase b && is_ascii_digit d
+is_fault_name (b ∷ d ∷ e ∷ []) = is_ascii_uppercase b && (is_ascii_digit d && is_ascii_digit e)
+is_fault_name name = false
+
+-- `explain` and such a number
+abbrev pub asks_of_fault : Request → Bool
+asks_of_fault (Explain name None budget) = is_fault_name name
+asks_of_fault request = false
+
+-- why the host gives no bytes of a file
+abbrev pub cause : ErrorKind → Text
+cause Kind.NotFound = codes "there is no file of this name\n"
+cause Kind.NotADirectory = codes "there is no file of this name: what stands before a / is no folder\n"
+cause Kind.IsADirectory = codes "it is a folder\n"
+cause Kind.PermissionDenied = codes "you may not read it\n"
+cause kind = []
+
+-- behind the line that tells that a file can't be read
+abbrev pub more_about_unread : Request → ErrorKind → Text
+more_about_unread request kind =
+    if asks_of_fault request then codes "`explain` takes the file of a module, as `obl0 explain a.mod`; docs/FAULTS.md tells what a fault means\n"
+    else cause kind
+
+-- ---- both
+
+-- Behind an answer with this exit status and this line on standard error, where the host gave no bytes of a file, or gave those of all.
+abbrev pub more_of : Request → (status : ℕ) → (line : Text) → (refusal : Option ErrorKind) → Text
+more_of request status line (Some kind) = more_about_unread request kind
+more_of request status line None = if is_fault status then more_about request line else []

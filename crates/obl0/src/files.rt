@@ -1,6 +1,6 @@
 //! The files of the host.
 
-ghost use Rattle.std.specs.Prelude.{◌≡◌, ◌≤◌, length, IfOk};
+ghost use Rattle.std.specs.Prelude.{◌≡◌, ◌≤◌, length, IfOk, Some};
 ghost use Rattle.std.specs.IoError.{error_kind};
 ghost use Rattle.obl0.specs.Refusals.{file_fault};
 
@@ -14,20 +14,36 @@ use std::{fs, io};
 #[derive(Clone, Copy)]
 pub struct HostFiles<'a, R> {
     pub rt: &'a R,
+    /// What the host said of the last file that it gave no bytes of.
+    pub refusal: Option<io::ErrorKind>,
+}
+
+impl<R> HostFiles<'_, R> {
+    /// Keeps what the host said of a file, and gives the fault that it is.
+    fn refused(&mut self, error: io::Error) -> FileFault
+        ensures fault { result ≡ file_fault (error_kind error) }
+        ensures kept { self.new.refusal ≡ Some (error_kind error) }
+    {
+        self.refusal = Some(error.kind());
+        fault_of(error)
+    }
 }
 
 impl<R: HostRead + Input + AllocGlobal> Files for HostFiles<'_, R> {
     ghost reads = { λ _ _ _ _. Unit {0} };
 
     fn read(&mut self, name: &str) -> Result<Vec<u8>, FileFault> {
-        whole(self.rt, name).map_err(fault_of)
+        match whole(self.rt, name) {
+            Ok(bytes) => Ok(bytes),
+            Err(error) => Err(self.refused(error)),
+        }
     }
 
     /// No byte behind the beginning is read, so a file without end is fine.
     fn read_beginning(&mut self, name: &str, most: usize) -> Result<Vec<u8>, FileFault> {
         match beginning(self.rt, name, most) {
             Ok(bytes) => Ok(bytes),
-            Err(error) => Err(fault_of(error)),
+            Err(error) => Err(self.refused(error)),
         }
     }
 }

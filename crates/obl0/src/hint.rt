@@ -1,49 +1,340 @@
 //! What a terminal is told behind a fault.
 
-ghost use Rattle.std.specs.Prelude.{◌≡◌, ◌==◌};
-ghost use Rattle.obl0.specs.Hints.{form_about, is_fault, more_about};
+ghost use Rattle.std.specs.Prelude.{◌≡◌, ◌++◌, IfOk, OnOk, option_map, string_bytes};
+ghost use Rattle.std.specs.List.{list_all};
+ghost use Rattle.obl0.specs.Hints.{asks_of_fault, beside_texts, budget_words, calls_form, cause, count_words, drawn_form, form_about, is_explain, is_fault, is_fault_name, is_plain, is_plain_byte, module_form, module_words, more_about, more_about_unread, more_of, name_word, named, record_form, run_form, run_words, script_words, served};
+ghost use Rattle.ob_command.specs.Commands.{request_of, run_request_of};
+
+use ob_command::command::{Command, RunCommand};
+use ob_text_words::numbers::push_number;
+use std::alloc::{AllocError, Global};
+use std::io;
 
 /// The exit status of a fault with a number.
 const FAULT: u8 = 1;
 
+/// How many turns each call has where nothing is said of them.
+const DEFAULT_BUDGET: u32 = 100_000;
+
+/// A schedule with no items.
+const NO_ITEMS: &str = "/dev/null";
+
+/// What stands behind words that tell more.
+const TELLING: &str = "` tells more\n";
+
 /// Whether an exit status is that of a fault with a number.
-pub fn is_fault(status: u8) -> bool
+fn is_fault(status: u8) -> bool
     ensures { result ≡ is_fault status }
 {
     status == FAULT
 }
 
+/// What is told behind an answer to a command with this exit status and this line, and where the host gave no bytes of a file.
+pub fn more_of(
+    alloc: Global,
+    command: Command<'_>,
+    status: u8,
+    line: &[u8],
+    refusal: Option<io::ErrorKind>,
+) -> Result<String, AllocError>
+    ensures { IfOk result (λ text. string_bytes text ≡ more_of (request_of command.entry) status line.now refusal) }
+{
+    match refusal {
+        Some(kind) => String::from_str(alloc, more_about_unread(command, kind)),
+        None if is_fault(status) => more_about(alloc, command, line),
+        None => Ok(String::new(alloc)),
+    }
+}
+
 /// What is told behind the line of a fault of a command: what a number of the command line may be, which calls are drawn, or which
 /// form of `explain` tells more.
-pub fn more_about(command: &str, line: &[u8]) -> &'static str
-    ensures { result.now ≡ more_about command.now line.now }
+fn more_about(alloc: Global, command: Command<'_>, line: &[u8]) -> Result<String, AllocError>
+    ensures { IfOk result (λ text. string_bytes text ≡ more_about (request_of command.entry) line.now) }
+{
+    if is_explain(command) {
+        return Ok(String::new(alloc));
+    }
+    match beside_texts(line) {
+        Some(text) => String::from_str(alloc, text),
+        None => form_about(alloc, command),
+    }
+}
+
+/// Whether a command shows its faults to people itself.
+fn is_explain(command: Command<'_>) -> bool
+    ensures { result ≡ is_explain (request_of command.entry) }
+{
+    matches!(
+        command,
+        Command::Explain { .. }
+            | Command::ExplainTraps { .. }
+            | Command::ExplainRun(_)
+            | Command::ExplainRecord { .. }
+    )
+}
+
+/// What is told of a fault of no text, whichever the command is.
+fn beside_texts(line: &[u8]) -> Option<&'static str>
+    ensures { option_map (λ text. text.now) result ≡ beside_texts line.now }
 {
     if line.starts_with(b"N1") {
-        "behind -n stands how many processes there are, 1 to 16\n"
+        Some("behind -n stands how many processes there are, 1 to 16\n")
     } else if line.starts_with(b"N3") {
-        "behind -b stands how many turns each call has, 0 to 1000000\n"
+        Some("behind -b stands how many turns each call has, 0 to 1000000\n")
     } else if line.starts_with(b"I") {
-        "a picture shows at most 400 calls; --calls FROM-TO says which of those that there are\n"
+        Some(
+            "a picture shows at most 400 calls; --calls FROM-TO says which of those that there are\n",
+        )
     } else if line.starts_with(b"V") || line.starts_with(b"K") {
-        ""
+        Some("")
     } else {
-        form_about(command)
+        None
     }
 }
 
 /// Which form of `explain` tells more of a fault of a command; nothing behind `explain` itself.
-fn form_about(command: &str) -> &'static str
-    ensures { result.now ≡ form_about command.now }
+fn form_about(alloc: Global, command: Command<'_>) -> Result<String, AllocError>
+    ensures { IfOk result (λ text. string_bytes text ≡ form_about (request_of command.entry)) }
 {
     match command {
-        "check" | "list" | "bound" => "`obl0 explain MODULE` tells more\n",
-        "seq" => "`obl0 explain MODULE SCRIPT` tells more\n",
-        "serve" => "`obl0 explain MODULE SCRIPT /dev/null -n N` tells more\n",
-        "run" => "`obl0 explain MODULE SCRIPT SCHEDULE -n N` tells more\n",
-        "draw" => {
-            "`obl0 explain MODULE SCRIPT SCHEDULE -n N` tells more, and of a record `obl0 explain MODULE --record RECORD`; without a schedule the second file is a record\n"
+        Command::Check { module_name } => module_form(alloc, module_name),
+        Command::List { module_name } => module_form(alloc, module_name),
+        Command::Bound { module_name, .. } => module_form(alloc, module_name),
+        Command::Seq {
+            module_name,
+            script_name,
+            budget,
+        } => calls_form(alloc, module_name, script_name, budget),
+        Command::Run(run) => run_form(alloc, run),
+        Command::RunTree(run) => run_form(alloc, run),
+        Command::RunSteps(run) => run_form(alloc, run),
+        Command::Draw { run, .. } => run_form(alloc, run),
+        Command::Serve {
+            module_name,
+            script_name,
+            processes,
+            budget,
+        } => run_form(alloc, served(module_name, script_name, processes, budget)),
+        Command::DrawRecord {
+            module_name,
+            record_name,
+            ..
+        } => drawn_form(alloc, module_name, record_name),
+        Command::Verify {
+            module_name,
+            record_name,
+        } => record_form(alloc, module_name, record_name),
+        Command::Explain { .. }
+        | Command::ExplainTraps { .. }
+        | Command::ExplainRun(_)
+        | Command::ExplainRecord { .. } => Ok(String::new(alloc)),
+    }
+}
+
+/// The run by a schedule with no items as which calls that workers make are explained.
+fn served<'a>(
+    module_name: &'a str,
+    script_name: &'a str,
+    processes: usize,
+    budget: u32,
+) -> RunCommand<'a>
+    ensures { run_request_of result ≡ served module_name.entry.now script_name.entry.now processes budget }
+{
+    RunCommand {
+        module_name,
+        script_name,
+        schedule_name: NO_ITEMS,
+        processes,
+        budget,
+    }
+}
+
+fn module_form(alloc: Global, module_name: &str) -> Result<String, AllocError>
+    ensures { IfOk result (λ text. string_bytes text ≡ module_form module_name.now) }
+{
+    let mut text = module_words(alloc, module_name)?;
+    text.push_str(TELLING)?;
+    Ok(text)
+}
+
+fn calls_form(
+    alloc: Global,
+    module_name: &str,
+    script_name: &str,
+    budget: u32,
+) -> Result<String, AllocError>
+    ensures { IfOk result (λ text. string_bytes text ≡ calls_form module_name.now script_name.now budget) }
+{
+    let mut text = script_words(alloc, module_name, script_name)?;
+    push_budget(&mut text, budget)?;
+    text.push_str(TELLING)?;
+    Ok(text)
+}
+
+fn run_form(alloc: Global, run: RunCommand<'_>) -> Result<String, AllocError>
+    ensures { IfOk result (λ text. string_bytes text ≡ run_form (run_request_of run.entry)) }
+{
+    let mut text = run_words(alloc, run)?;
+    push_budget(&mut text, run.budget)?;
+    text.push_str(TELLING)?;
+    Ok(text)
+}
+
+fn record_form(alloc: Global, module_name: &str, record_name: &str) -> Result<String, AllocError>
+    ensures { IfOk result (λ text. string_bytes text ≡ record_form module_name.now record_name.now) }
+{
+    let mut text = module_words(alloc, module_name)?;
+    text.push_str(" --record")?;
+    push_name(&mut text, "RECORD", record_name)?;
+    text.push_str(TELLING)?;
+    Ok(text)
+}
+
+/// The same of `draw` of a record, and which file it read as one.
+fn drawn_form(alloc: Global, module_name: &str, record_name: &str) -> Result<String, AllocError>
+    ensures { IfOk result (λ text. string_bytes text ≡ drawn_form module_name.now record_name.now) }
+{
+    let mut text = record_form(alloc, module_name, record_name)?;
+    text.push_str("without a SCHEDULE the second file is read as a record\n")?;
+    Ok(text)
+}
+
+/// `explain` of a module.
+fn module_words(alloc: Global, module_name: &str) -> Result<String, AllocError>
+    ensures { IfOk result (λ text. string_bytes text ≡ module_words module_name.now) }
+{
+    let mut text = String::from_str(alloc, "`obl0 explain")?;
+    push_name(&mut text, "MODULE", module_name)?;
+    Ok(text)
+}
+
+/// `explain` of a module and a script.
+fn script_words(alloc: Global, module_name: &str, script_name: &str) -> Result<String, AllocError>
+    ensures { IfOk result (λ text. string_bytes text ≡ script_words module_name.now script_name.now) }
+{
+    let mut text = module_words(alloc, module_name)?;
+    push_name(&mut text, "SCRIPT", script_name)?;
+    Ok(text)
+}
+
+/// `explain` of a run.
+fn run_words(alloc: Global, run: RunCommand<'_>) -> Result<String, AllocError>
+    ensures { IfOk result (λ text. string_bytes text ≡ run_words (run_request_of run.entry)) }
+{
+    let mut text = script_words(alloc, run.module_name, run.script_name)?;
+    push_name(&mut text, "SCHEDULE", run.schedule_name)?;
+    push_count(&mut text, run.processes)?;
+    Ok(text)
+}
+
+/// Appends the name of a file as a word.
+fn push_name(text: &mut String, what: &str, name: &str) -> Result<(), AllocError>
+    ensures { OnOk result (string_bytes text.new ≡ string_bytes text.old ++ name_word what.now name.now) }
+{
+    text.push_str(" ")?;
+    text.push_str(named(what, name))?;
+    Ok(())
+}
+
+/// Appends a number of processes behind its option.
+fn push_count(text: &mut String, processes: usize) -> Result<(), AllocError>
+    ensures { OnOk result (string_bytes text.new ≡ string_bytes text.old ++ count_words processes) }
+{
+    text.push_str(" -n ")?;
+    push_number(text, processes)?;
+    Ok(())
+}
+
+/// Appends a budget behind its option, where it is not the one that there is where nothing is said of it.
+fn push_budget(text: &mut String, budget: u32) -> Result<(), AllocError>
+    ensures { OnOk result (string_bytes text.new ≡ string_bytes text.old ++ budget_words budget) }
+{
+    if budget == DEFAULT_BUDGET {
+        return Ok(());
+    }
+    text.push_str(" -b ")?;
+    push_number(text, budget)?;
+    Ok(())
+}
+
+/// The name of a file, or in place of one that is not plain what the file is.
+fn named<'a>(what: &'a str, name: &'a str) -> &'a str
+    ensures { result.now ≡ named what.now name.now }
+{
+    if is_plain(name) { name } else { what }
+}
+
+/// Whether the name of a file can be typed again as it is.
+fn is_plain(name: &str) -> bool
+    ensures { result ≡ is_plain name.now }
+{
+    match name.as_bytes() {
+        [] => false,
+        [first, rest @ ..] => *first != b'-' && is_plain_byte(*first) && are_plain(rest),
+    }
+}
+
+fn are_plain(bytes: &[u8]) -> bool
+    ensures { result ≡ list_all is_plain_byte bytes.now }
+{
+    bytes.iter().all(|byte| is_plain_byte(*byte))
+}
+
+/// Whether a character is a letter, a digit, or one of `-`, `.`, `/` and `_`.
+fn is_plain_byte(byte: u8) -> bool
+    ensures { result ≡ is_plain_byte byte }
+{
+    byte.is_ascii_alphanumeric() || matches!(byte, b'-' | b'.' | b'/' | b'_')
+}
+
+/// What is told behind the line that a file of a command can't be read, by what the host said.
+fn more_about_unread(command: Command<'_>, kind: io::ErrorKind) -> &'static str
+    ensures { result.now ≡ more_about_unread (request_of command.entry) kind }
+{
+    if asks_of_fault(command) {
+        return "`explain` takes the file of a module, as `obl0 explain a.mod`; docs/FAULTS.md tells what a fault means\n";
+    }
+    cause(kind)
+}
+
+/// Whether a command is `explain` of the number of a fault.
+fn asks_of_fault(command: Command<'_>) -> bool
+    ensures { result ≡ asks_of_fault (request_of command.entry) }
+{
+    match command {
+        Command::Explain {
+            module_name,
+            script_name: None,
+            ..
+        } => is_fault_name(module_name),
+        _ => false,
+    }
+}
+
+/// Whether a name is the number of a fault: a capital letter and a digit, or two.
+fn is_fault_name(name: &str) -> bool
+    ensures { result ≡ is_fault_name name.now }
+{
+    match name.as_bytes() {
+        [letter, digit] => letter.is_ascii_uppercase() && digit.is_ascii_digit(),
+        [letter, ten, digit] => {
+            letter.is_ascii_uppercase() && ten.is_ascii_digit() && digit.is_ascii_digit()
         }
-        "verify" => "`obl0 explain MODULE --record RECORD` tells more\n",
+        _ => false,
+    }
+}
+
+/// Why the host gives no bytes of a file.
+fn cause(kind: io::ErrorKind) -> &'static str
+    ensures { result.now ≡ cause kind }
+{
+    match kind {
+        io::ErrorKind::NotFound => "there is no file of this name\n",
+        io::ErrorKind::NotADirectory => {
+            "there is no file of this name: what stands before a / is no folder\n"
+        }
+        io::ErrorKind::IsADirectory => "it is a folder\n",
+        io::ErrorKind::PermissionDenied => "you may not read it\n",
         _ => "",
     }
 }

@@ -10,9 +10,10 @@ mod refusal;
 
 use crossbeam_channel::{Receiver, RecvTimeoutError, Sender, unbounded};
 use files::HostFiles;
-use hint::{is_fault, more_about};
+use hint::more_of;
 use ob_answer::answer::{INPUT_NAME, answer};
 use ob_answer::answered::Answer;
+use ob_command::command::read_command;
 use refusal::{Refusal, refusal_of_words};
 use std::alloc::Global;
 use std::io::IsTerminal;
@@ -33,6 +34,13 @@ const PATIENCE: u64 = 1;
 /// What a terminal is told then.
 const WORKING: &str = "working ..\n";
 
+/// What came of the work: the answer, and what the host said where it gave no bytes of a file.
+#[derive(Drop)]
+struct Outcome {
+    answer: Answer,
+    refusal: Option<io::ErrorKind>,
+}
+
 /// The work is done on a stack of its own, so that it doesn't matter how much the system grants for the first one. That thread
 /// has the sender for as long as it works; this one tells of long work, and then prints the answer.
 fn main(rt: HostRuntime) -> ExitCode {
@@ -46,17 +54,35 @@ fn main(rt: HostRuntime) -> ExitCode {
     if terminal && !reads_input(&rt) {
         tell_of_work(&rt, &done);
     }
-    let answer = joined(&rt, worker);
-    ExitCode::from(end(&rt, terminal, answer))
+    let outcome = joined(&rt, worker);
+    ExitCode::from(end(&rt, terminal, outcome))
 }
 
-/// Tells more of a fault with this line of the command that the words name, or where more is told.
-fn tell_of_more<R: Eprint + Env + AllocGlobal>(rt: &R, line: &[u8]) {
-    if let Ok(mut words) = env::args(rt) {
-        if let Some(command) = words.nth(1) {
-            let _ = rt.eprint(more_about(command.as_str(), line));
-        }
+/// Tells more of an outcome, where there is more to tell.
+fn tell_of_more<R: Eprint + Env + AllocGlobal>(rt: &R, outcome: &Outcome) {
+    if let Ok(more) = more_told(rt, outcome) {
+        let _ = rt.eprint(more.as_str());
     }
+}
+
+/// What more is told of an outcome, of the command that the words ask for.
+fn more_told<R: Env + AllocGlobal>(rt: &R, outcome: &Outcome) -> Result<String, Refusal> {
+    let alloc = rt.alloc();
+    let given = given_words(rt)?;
+    let words: Vec<&str> = given.iter().map(|word| word.as_str()).collect(alloc)?;
+    let Ok(command) = read_command(alloc, words.as_slice()) else {
+        return Ok(String::new(alloc));
+    };
+    let line = outcome.answer.err.as_bytes();
+    let more = more_of(alloc, command, outcome.answer.status, line, outcome.refusal)?;
+    Ok(more)
+}
+
+/// The words behind the program's name.
+fn given_words<R: Env + AllocGlobal>(rt: &R) -> Result<Vec<String>, Refusal> {
+    let arguments = env::args(rt).map_err(refusal_of_words)?;
+    let given: Vec<String> = arguments.skip(1).collect(rt.alloc())?;
+    Ok(given)
 }
 
 /// Whether a word names standard input, at which somebody may be typing for as long as they like.
@@ -78,8 +104,8 @@ fn tell_of_work<R: Eprint + Wait + Clock>(rt: &R, done: &Receiver<(), Global>) {
 /// What came of the thread that does the work. One that can't be started is want of memory.
 fn joined<R: Threads>(
     rt: &R,
-    worker: io::Result<JoinHandle<Result<Answer, Refusal>>>,
-) -> Result<Answer, Refusal>
+    worker: io::Result<JoinHandle<Result<Outcome, Refusal>>>,
+) -> Result<Outcome, Refusal>
     ensures { IfErr worker (λ _. result ≡ Err Refusal.NoMemory) }
 {
     match worker {
@@ -88,19 +114,19 @@ fn joined<R: Threads>(
     }
 }
 
-/// Prints the answer, with more of a fault at a terminal, or tells what the host refused, and gives the exit status.
+/// Prints the answer, with more of it at a terminal, or tells what the host refused, and gives the exit status.
 fn end<R: Print + Eprint + Env + AllocGlobal>(
     rt: &R,
     terminal: bool,
-    answer: Result<Answer, Refusal>,
+    outcome: Result<Outcome, Refusal>,
 ) -> u8
-    ensures { IfErr answer (λ refusal. result ≡ refusal_status refusal) }
+    ensures { IfErr outcome (λ refusal. result ≡ refusal_status refusal) }
 {
-    match answer {
-        Ok(answer) => match printed(rt, &answer) {
+    match outcome {
+        Ok(outcome) => match printed(rt, &outcome.answer) {
             Ok(status) => {
-                if terminal && is_fault(status) {
-                    tell_of_more(rt, answer.err.as_bytes());
+                if terminal {
+                    tell_of_more(rt, &outcome);
                 }
                 status
             }
@@ -118,37 +144,39 @@ fn told<R: Eprint>(rt: &R, refusal: Refusal) -> u8
     refusal.status()
 }
 
-/// The answer to the words of the command line. Whoever waits for the work has no more to tell where the sender is gone.
+/// What comes of the words of the command line. Whoever waits for the work has no more to tell where the sender is gone.
 fn work<R: Env + Files + Input + AllocGlobal + Threads + Wait + Sync>(
     rt: &R,
     working: Sender<(), Global>,
-) -> Result<Answer, Refusal> {
-    let answer = answered(rt);
+) -> Result<Outcome, Refusal> {
+    let outcome = answered(rt);
     drop(working);
-    answer
+    outcome
 }
 
-/// The answer to the words of the command line.
+/// What comes of the words of the command line.
 fn answered<R: Env + Files + Input + AllocGlobal + Threads + Wait + Sync>(
     rt: &R,
-) -> Result<Answer, Refusal> {
-    let alloc = rt.alloc();
-    let arguments = env::args(rt).map_err(refusal_of_words)?;
-    let given: Vec<String> = arguments.skip(1).collect(alloc)?;
-    let words: Vec<&str> = given.iter().map(|word| word.as_str()).collect(alloc)?;
+) -> Result<Outcome, Refusal> {
+    let given = given_words(rt)?;
+    let words: Vec<&str> = given.iter().map(|word| word.as_str()).collect(rt.alloc())?;
     obeyed(rt, words.as_slice())
 }
 
-/// The answer to words.
+/// What comes of words.
 fn obeyed<R: Files + Input + AllocGlobal + Threads + Wait + Sync>(
     rt: &R,
     words: &[&str],
-) -> Result<Answer, Refusal>
+) -> Result<Outcome, Refusal>
     // Want of memory is never told as a mistake in the words.
     ensures { IfErr result (λ refusal. refusal ≢ Refusal.Words) }
 {
-    let mut files = HostFiles { rt };
-    Ok(answer(rt, words, &mut files)?)
+    let mut files = HostFiles { rt, refusal: None };
+    let answer = answer(rt, words, &mut files)?;
+    Ok(Outcome {
+        answer,
+        refusal: files.refusal,
+    })
 }
 
 /// Prints an answer, and gives its exit status.

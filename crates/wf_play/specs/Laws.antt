@@ -1,5 +1,5 @@
 -- What holds of items and of runs by them, over each meaning of an engine.
-use Rattle.std.specs.Prelude.{◌≡◌, ℕ, ℤ, List, ⊥}
+use Rattle.std.specs.Prelude.{◌≡◌, ℕ, ℤ, List}
 use Rattle.ob_interface.specs.Call.{ObjectCall}
 use Rattle.ob_schedule.specs.declared.item.Item.{Item}
 use Rattle.wf_play.specs.ItemSteps.{AreItemSteps, StandsFor}

@@ -1,16 +1,20 @@
-use Rattle.std.proofs.Common.{◌≡◌, ◌∙◌, ℕ, List, Some, ap, inr, map, option_map, rules, string_bytes, subst, sym, Bool}
+use Rattle.std.proofs.Common.{◌≡◌, ◌∙◌, ℕ, List, Option, Some, ap, inr, map, option_map, rules, string_bytes, subst, sym, Bool}
 use Rattle.clap.specs.Words.{found_of, kind_of, rows_of}
+use Rattle.ob_command.specs.CommandLine.{Text, has_negative}
 use Rattle.ob_command.specs.Commands.{IsStopOf, request_of}
 use Rattle.ob_command.proofs.Readings.{asked_is, form_known, form_said, mapped, nothing_asked, parsed_mistake, parsed_stop}
 use Rattle.ob_command.proofs.command.read_words.Goals as goal
 
 pub returns-in-Err-clause-reading : goal.returns-in-Err-clause-reading
 returns-in-Err-clause-reading c = parsed_stop _ c.in_ok-command_line.ensures (map (λ w. w.now) c.args.words.now) c.in-Err.error c.in-Err.ensures.kinds
-    c.has_negative.result c.in_ok-stop_of-in-Err.field-0 c.in_ok-stop_of-in-Err.ensures
+    c.has_negative.result (option_map (λ word. word.now) c.loose_number.result) c.in_ok-stop_of-in-Err.field-0 c.in_ok-stop_of-in-Err.ensures
 
 pub returns-in-Err-clause-mistake : goal.returns-in-Err-clause-mistake
 returns-in-Err-clause-mistake c = parsed_mistake _ c.in_ok-command_line.ensures (map (λ w. w.now) c.args.words.now) c.in-Err.error c.in-Err.ensures.kinds
-    c.in_ok-stop_of-in-Err.field-0 (subst (λ (negative : Bool). IsStopOf negative (kind_of c.in-Err.error) c.in_ok-stop_of-in-Err.field-0) c.has_negative.ensures c.in_ok-stop_of-in-Err.ensures)
+    c.in_ok-stop_of-in-Err.field-0 (subst (λ (number : Option Text). IsStopOf (has_negative (map (λ w. w.now) c.args.words.now)) number (kind_of c.in-Err.error) c.in_ok-stop_of-in-Err.field-0)
+    c.loose_number.ensures
+    (subst (λ (negative : Bool). IsStopOf negative (option_map (λ word. word.now) c.loose_number.result) (kind_of c.in-Err.error) c.in_ok-stop_of-in-Err.field-0)
+    c.has_negative.ensures c.in_ok-stop_of-in-Err.ensures))
 
 pub returns-in-Some-command_of-clause-reading : goal.returns-in-Some-command_of-clause-reading
 returns-in-Some-command_of-clause-reading c =

@@ -6,5 +6,5 @@ use Rattle.ob_text_picture.proofs.order.push_order.Given as goal
 
 abbrev pub invariant-loop-place : goal.invariant-loop-place
 invariant-loop-place l =
-    string_bytes l.text ++ shapes_text (cells l.frame l.place (drop l.place l.order))
-    ≡ string_bytes l.fn.text ++ shapes_text (order_shapes l.frame l.order)
+    string_bytes l.text ++ shapes_text (cells l.frame l.below l.place (drop l.place l.order))
+    ≡ string_bytes l.fn.text ++ shapes_text (order_shapes l.frame l.below l.order)

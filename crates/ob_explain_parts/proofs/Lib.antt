@@ -1,0 +1,4 @@
+pub mod Steps
+pub mod FieldSteps
+pub mod PartSteps
+pub mod OperandSteps

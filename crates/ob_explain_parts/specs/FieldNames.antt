@@ -1,0 +1,39 @@
+-- The fields of the record of which a place selects one.
+use Rattle.std.specs.Prelude.{ℕ, nat_lt, List, [], drop, filter, Option, Some, None}
+use Rattle.ob_scan.specs.declared.token.Token.{Token}
+use Rattle.ob_explain_names.specs.Lookup.{name_at}
+use Rattle.ob_explain_names.specs.declared.known.Known.{Known}
+use Rattle.ob_explain_names.specs.declared.known.Sort.{Sort}
+use Rattle.ob_explain_names.specs.declared.known.Sort.TheVariants as Sorts
+use Rattle.ob_explain_tokens.specs.Around as Tokens
+use Rattle.ob_explain_operands.specs.Declarations.{declared_as}
+use Rattle.ob_explain_parts.specs.Parts.{operand_start, selected}
+use Rattle.ob_explain_parts.specs.Types.{declared_type, fields_of, meant}
+use Rattle.ob_explain_parts.specs.declared.parts.Selecting.TheVariants.{Part}
+use Rattle.ob_explain_parts.specs.declared.types.Standing.{Standing}
+
+-- the tokens behind a name, up to a place
+abbrev pub between : List Token → (used place : ℕ) → List Token
+between tokens used place = filter (λ t. nat_lt t.start place) (Tokens.behind used tokens)
+
+abbrev pub fields_of_part : (text : List ℕ) → List Known → List Token → Option Standing → List Token
+fields_of_part text known tokens None = []
+fields_of_part text known tokens (Some type) = fields_of tokens (meant text known tokens type)
+
+-- of a variable that is declared at a place and used at another one, with its selectors before the place
+abbrev pub fields_by : Sort → (text : List ℕ) → List Known → List Token → (declared used place : ℕ) → List Token
+fields_by Sorts.Variable text known tokens declared used place =
+    fields_of_part text known tokens (selected text known tokens Part (declared_type tokens declared) (between tokens used place)).part
+fields_by _ text known tokens declared used place = []
+
+abbrev pub fields_of_name : (text : List ℕ) → List Known → List Token → Option Known → (used place : ℕ) → List Token
+fields_of_name text known tokens None used place = []
+fields_of_name text known tokens (Some name) used place = fields_by name.sort text known tokens name.place used place
+
+abbrev pub fields_from : (text : List ℕ) → List Known → List Token → Option Token → (place : ℕ) → List Token
+fields_from text known tokens None place = []
+fields_from text known tokens (Some t) place = fields_of_name text known tokens (declared_as text known (name_at text t.start)) t.start place
+
+-- a dot stands before the place, and before that the variable with selectors
+abbrev pub fields_at : (text : List ℕ) → List Known → List Token → (place : ℕ) → List Token
+fields_at text known tokens place = fields_from text known tokens (operand_start 0 None (drop 1 (Tokens.before place tokens))) place
