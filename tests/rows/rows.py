@@ -25,6 +25,8 @@ REFUSAL = re.compile(rb"(NoMemory|cannot [^\n]*)\n")
 EXPLAINED = re.compile(r"shown in (\w+) at (\d+): (.*)")
 # that a call traps, at a place of a file
 TRAPPED = re.compile(r"(call \d+\.\d+, line \d+ of \w+: trap \d), shown in (\w+) at (\d+): (.*)")
+# that an opening traps, at a place of a file
+OPENED = re.compile(r"(O2 trap \d), shown in (\w+) at (\d+): (.*)")
 WORD = re.compile(rb"[A-Za-z][A-Za-z0-9]*")
 NO_MEMORY = b"NoMemory\n"
 
@@ -163,6 +165,10 @@ def answered(row, answer):
     if trap:
         shown = explained(trap[2], expand(row.files[trap[2]]), int(trap[3]), trap[4])
         return replace(row, out=trap[1].encode() + b"\n" + shown, err=b"")
+    opened = OPENED.fullmatch(answer)
+    if opened:
+        shown = explained(opened[2], expand(row.files[opened[2]]), int(opened[3]), opened[4])
+        return replace(row, out=b"", err=opened[1].encode() + b"\n" + shown)
     lines = expand(answer.replace(" / ", "\n") + "\n")
     is_fault = FAULT.fullmatch(lines) or REFUSAL.fullmatch(lines)
     return replace(row, out=b"", err=lines) if is_fault else replace(row, out=lines, err=b"")

@@ -3,7 +3,6 @@ use Rattle.std.specs.Prelude.{◌≡◌, ℕ, List, Option, None, Some, option_m
 use Rattle.ob_scan.specs.declared.fault.ScanFault.TheVariants as Scan
 use Rattle.ob_explain.specs.Explanations.{explanation}
 use Rattle.ob_explain.specs.Remarks.{Remark, IsCheckRemark, IsParseRemark, scan_remark}
-use Rattle.ob_explained.specs.OpenFaults.{open_explanation}
 use Rattle.ob_explained.specs.NumberFaults.{budget_explanation, processes_explanation}
 use Rattle.ob_explained.specs.CallRemarks.{IsScriptRemark}
 use Rattle.ob_check_text.specs.declared.checked_text.TextFault.{TextFault}
@@ -13,6 +12,7 @@ use Rattle.ob_object_compile.specs.declared.compiling.CompileFault.TheVariants a
 use Rattle.ob_object_sequence.specs.declared.sequential.SeqTextFault.{SeqTextFault}
 use Rattle.ob_object_sequence.specs.declared.sequential.SeqTextFault.TheVariants as Runs
 use Rattle.ob_text_scripts.specs.declared.script.ScriptFault.{ScriptFault}
+use Rattle.ob_trap_told.specs.Openings.{IsOpenExplanation}
 
 -- the remark on a fault of a module's text; none where it is too long, which is a matter of no place, or memory wants
 abbrev pub IsTextRemark : List ℕ → TextFault → Option Remark → Type 0
@@ -34,10 +34,10 @@ pub record IsScriptExplanation (text name script : List ℕ) (fault : ScriptFaul
   pub remarked : IsScriptRemark text script fault remark
   pub shows : shown ≡ option_map (explanation name script) remark
 
--- of a module by itself; neither the length of its code has a place nor its opening, of which the trap is told
+-- of a module by itself; the length of its code has no place, and of its opening the operation is told that traps
 abbrev pub IsModuleExplanation : (name text : List ℕ) → CompileFault → Option (List ℕ) → Type 0
 IsModuleExplanation name text (Modules.Text e) shown = IsTextExplanation name text e shown
-IsModuleExplanation name text (Modules.Open e) shown = shown ≡ open_explanation e
+IsModuleExplanation name text (Modules.Open e) shown = IsOpenExplanation name text e shown
 IsModuleExplanation name text _ shown = shown ≡ None
 
 -- of a module that so many processes share, each of whose calls has a budget: of a number that may not be which it may

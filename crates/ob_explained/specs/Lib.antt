@@ -2,6 +2,5 @@ pub mod Marks
 pub mod ScriptPlaces
 pub mod ScriptRemarks
 pub mod CallRemarks
-pub mod OpenFaults
 pub mod NumberFaults
 pub mod Explained

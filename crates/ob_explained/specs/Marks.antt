@@ -1,5 +1,5 @@
 -- At which word of a script a mark stands, by what stands between line feeds and between blanks.
-use Rattle.std.specs.Prelude.{◌≡◌, ◌≤◌, ◌-◌, ℕ, List, [], ◌∷◌, ◌++◌, Some, false, drop, length, slice_get, take}
+use Rattle.std.specs.Prelude.{◌≡◌, ◌≤◌, ◌+◌, ◌-◌, ℕ, List, [], ◌∷◌, ◌++◌, Some, false, drop, length, slice_get, take}
 use Rattle.ob_text_scripts.specs.declared.script.ScriptFault.{ScriptFault}
 use Rattle.ob_text_scripts.specs.declared.script.ScriptFault.TheVariants as Script
 use Rattle.ob_text_words.specs.Words.{IsProcess, Word, is_blank, lines, words}
@@ -15,6 +15,11 @@ pub record BeginsWord (line : List ℕ) (number place : ℕ) : Type 0 where
 -- A place in a text, at a place in its line of a number, counted from 1: up to there stand the lines before it, and then its beginning.
 abbrev pub IsInLine : (text : List ℕ) (number : ℕ) (line : List ℕ) (at place : ℕ) → Type 0
 IsInLine text number line at place = lines (take place text) ≡ take (number - 1) (lines text) ++ take at line ∷ []
+
+-- in the line of a number, which begins there in the text: each place in it, its end too
+abbrev pub AreInLine : (text : List ℕ) (number begin : ℕ) → Type 0
+AreInLine text number begin =
+    (line : List ℕ) (at : ℕ) → slice_get (lines text) (number - 1) ≡ Some line → at ≤ length line → IsInLine text number line at (begin + at)
 
 -- a place in a text at which a word of a line begins
 abbrev pub MarksWord : (text : List ℕ) (number word place : ℕ) → Type 0

@@ -19,6 +19,7 @@ script_remark script (Script.Form line) =
 script_remark script (Script.Procedure line) =
     at (in_line second_place script line) (codes "a call names a procedure that the module exports, which has a * behind its name there")
 script_remark script (Script.Arguments line) =
-    at (in_line second_place script line) (codes "a call has a value for each parameter but those with VAR: a number from -2147483648 to 2147483647, or TRUE or FALSE")
+    at (in_line second_place script line)
+    (codes "a call has a value for each parameter but those with VAR: a number from -2147483648 to 2147483647, or TRUE or FALSE")
 script_remark script (Script.Process line) = at (in_line first_place script line) (codes "the processes of a script are 0 to 15")
 script_remark script Script.NoMemory = None

@@ -7,13 +7,13 @@ ghost use Rattle.ob_explained.specs.Explained.{IsCallsExplanation, IsModuleExpla
 
 use crate::call_remark::calls_remark;
 use crate::number_fault::{budget_explanation, processes_explanation};
-use crate::open_fault::open_explanation;
 use ob_check_text::TextFault;
 use ob_explain::explanation::explanation;
 use ob_explain::remark::{Remark, check_remark, parse_remark, scan_remark};
 use ob_object_compile::CompileFault;
 use ob_object_sequence::SeqTextFault;
 use ob_scan::ScanFault;
+use ob_trap_told::opening::open_explanation;
 use std::alloc::{AllocError, Global};
 
 /// The processes that make the calls of a script one at a time.
@@ -30,7 +30,7 @@ pub fn module_explanation(
 {
     match fault {
         CompileFault::Text(fault) => shown(alloc, name, text, text_remark(alloc, text, fault)?),
-        CompileFault::Open(fault) => open_explanation(alloc, fault),
+        CompileFault::Open(fault) => open_explanation(alloc, name, text, fault),
         _ => Ok(None),
     }
 }

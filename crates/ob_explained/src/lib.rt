@@ -4,7 +4,6 @@
 pub mod call_remark;
 pub mod explained;
 pub mod number_fault;
-pub mod open_fault;
 pub mod script_place;
 pub mod script_remark;
 

@@ -4,8 +4,9 @@ ghost use Rattle.std.specs.Prelude.{◌≡◌, ◌≤◌, ◌+◌, ◌-◌, ℕ,
 ghost use Rattle.std.specs.List.{prefix_len};
 ghost use Rattle.ob_text_words.specs.Words.{is_blank, lines};
 ghost use Rattle.ob_explain.specs.Places.{line_from, place_in};
-ghost use Rattle.ob_explained.specs.Marks.{BeginsWord, HasProcess, IsInLine};
-ghost use Rattle.ob_explained.specs.ScriptPlaces.{behind_feeds, first_end, first_place, first_word, form_place, is_of_word, is_process, line_begin, second_place, word_place};
+ghost use Rattle.ob_explained.specs.Marks.{AreInLine, BeginsWord, HasProcess};
+ghost use Rattle.ob_explained.specs.ScriptPlaces.{behind_feeds, first_end, first_place, first_word, form_place, is_of_word, is_process, line_begin};
+ghost use Rattle.ob_explained.specs.ScriptPlaces.{second_place, word_place};
 
 use ob_explain::place::line_around;
 
@@ -22,7 +23,7 @@ pub fn script_line(text: &[u8], line: usize) -> (usize, &[u8])
     ensures counted { (bytes : List ℕ) → slice_get (lines text.now) (line - 1) ≡ Some bytes → result.1.now ≡ bytes }
 
     // A place in it, its end too, is behind the lines before it and behind what it begins with there.
-    ensures placed { (bytes : List ℕ) (at : ℕ) → slice_get (lines text.now) (line - 1) ≡ Some bytes → at ≤ length bytes → IsInLine text.now line bytes at (result.0 + at) }
+    ensures placed { AreInLine text.now line result.0 }
 
     // What stands in it, its end too, is shown as of this line.
     ensures shown { (bytes : List ℕ) (at : ℕ) → 1 ≤ line → slice_get (lines text.now) (line - 1) ≡ Some bytes → at ≤ length bytes

@@ -42,7 +42,8 @@ gap_text id = codes "call " ++ id_text id ++ codes " comes behind call " ++ id_t
 
 abbrev pub open_text : CallId → (line : ℕ) → List ℕ
 open_text id line =
-    codes "call " ++ id_text (previous id) ++ codes ", which begins in line " ++ decimal line ++ codes ", has no end before this line, and a process has one call open"
+    codes "call " ++ id_text (previous id) ++ codes ", which begins in line " ++ decimal line
+    ++ codes ", has no end before this line, and a process has one call open"
 
 -- by the lines in which the call before it begins and ends
 abbrev pub behind_text : CallId → (begin end : Option ℕ) → Option (List ℕ)

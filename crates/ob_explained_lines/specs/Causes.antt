@@ -1,5 +1,6 @@
 -- Why a line of a record can't stand where it does, by the lines before it and by the exports of the module.
-use Rattle.std.specs.Prelude.{◌≡◌, ◌≢◌, ◌⊎◌, ◌<◌, ◌^◌, ◌+◌, ◌-◌, ◌==◌, ℕ, suc, Bool, false, List, [], ◌∷◌, ◌++◌, Option, None, Some, MatchOption, codes, decimal, if◌then◌else◌, length, map, option_and_then, option_map, slice_get, string_bytes, unwrap_or}
+use Rattle.std.specs.Prelude.{◌≡◌, ◌≢◌, ◌⊎◌, ◌<◌, ◌^◌, ◌+◌, ◌-◌, ◌==◌, ℕ, suc, Bool, false, List, [], ◌∷◌, ◌++◌, Option, None, Some, MatchOption, codes}
+use Rattle.std.specs.Prelude.{decimal, if◌then◌else◌, length, map, option_and_then, option_map, slice_get, string_bytes, unwrap_or}
 use Rattle.std.specs.Option.{option_map_or}
 use Rattle.std.specs.Str.{bytes_eq}
 use Rattle.ob_explain_arguments.specs.Calls.{IsToldOf, Told}
@@ -64,7 +65,8 @@ abbrev pub reply_sentence : List ℕ
 reply_sentence = codes "behind a call that ends stands done and the values of its parameters with VAR, or trap and 1 to 5"
 
 abbrev pub trap_sentence : List ℕ
-trap_sentence = codes "behind trap stands what trapped: a number out of range (1), an index (2), a divisor (3), too many calls within one another (4) or no turn left (5)"
+trap_sentence =
+    codes "behind trap stands what trapped: a number out of range (1), an index (2), a divisor (3), too many calls within one another (4) or no turn left (5)"
 
 -- the first word that names no call of so many processes
 module _ (processes : ℕ) (ws : List Word) where

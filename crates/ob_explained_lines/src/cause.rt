@@ -1,10 +1,14 @@
 //! Why a line of a record can't stand where it does.
 
-ghost use Rattle.std.specs.Prelude.{◌≡◌, ◌↔◌, ◌<◌, ◌-◌, ℕ, [], IfOk, IfSome, IsTrue, List, None, Option, Some, length, map, option_map, slice_get, string_bytes, unwrap_or};
+ghost use Rattle.std.specs.Prelude.{◌≡◌, ◌↔◌, ◌<◌, ◌-◌, ℕ, [], IfOk, IfSome, IsTrue, List, None, Option, Some, length, map, option_map, slice_get};
+ghost use Rattle.std.specs.Prelude.{string_bytes, unwrap_or};
 ghost use Rattle.ob_explain_arguments.specs.Calls.{told_of};
 ghost use Rattle.ob_explain_arguments.specs.Misfits.{TellsMisfit};
 ghost use Rattle.ob_explained_lines.specs.CallPlaces.{NamesNoCall};
-ghost use Rattle.ob_explained_lines.specs.Causes.{IsBeginCause, IsCallsCause, IsCountedCause, IsDoneCause, IsEndCause, IsLetter, IsLetterCause, IsLineCause, IsDoneTold, IsSaidBegin, IsSaidEnd, IsOutcome, IsOutcomeCause, IsPlacedBegin, IsPlacedEnd, IsProcessCount, IsReplyCause, IsStranger, IsWordsCause, begin_told, called_by, cause_at, cause_of, done_told, has_budget, id_sentence, line_words, object_of, reply_sentence, told_spot, trap_sentence};
+ghost use Rattle.ob_explained_lines.specs.Causes.{IsBeginCause, IsCallsCause, IsCountedCause, IsDoneCause, IsEndCause, IsLetter, IsLetterCause, IsLineCause};
+ghost use Rattle.ob_explained_lines.specs.Causes.{IsDoneTold, IsSaidBegin, IsSaidEnd, IsOutcome, IsOutcomeCause, IsPlacedBegin, IsPlacedEnd, IsProcessCount};
+ghost use Rattle.ob_explained_lines.specs.Causes.{IsReplyCause, IsStranger, IsWordsCause, begin_told, called_by, cause_at, cause_of, done_told, has_budget};
+ghost use Rattle.ob_explained_lines.specs.Causes.{id_sentence, line_words, object_of, reply_sentence, told_spot, trap_sentence};
 ghost use Rattle.ob_interface.specs.Export.{var_types};
 ghost use Rattle.ob_interface.specs.View.{signature_of};
 
@@ -192,7 +196,8 @@ fn letter_cause(
     letter: Letter,
     words: &[&[u8]],
 ) -> Result<Option<Cause>, AllocError>
-    ensures { IfOk result (λ cause. IsLetterCause (object_of object.entry) text.now number processes letter (map (λ w. w.now) words.now) (option_map cause_of cause)) }
+    ensures { IfOk result (λ cause. IsLetterCause (object_of object.entry) text.now number processes letter
+        (map (λ w. w.now) words.now) (option_map cause_of cause)) }
 {
     match letter {
         Letter::Begin => begin_cause(alloc, object, text, number, processes, words),
@@ -463,7 +468,8 @@ fn called_done(
     line: usize,
     values: &[&[u8]],
 ) -> Result<Option<Cause>, AllocError>
-    ensures { IfOk result (λ cause. IsDoneCause (called_by (object_of object.entry) (line_words text.now line)) (map (λ w. w.now) values.now) (option_map cause_of cause)) }
+    ensures { IfOk result (λ cause.
+        IsDoneCause (called_by (object_of object.entry) (line_words text.now line)) (map (λ w. w.now) values.now) (option_map cause_of cause)) }
 {
     let words = line_words(alloc, text, line)?;
     match called_by(object, &words) {

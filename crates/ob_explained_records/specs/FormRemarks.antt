@@ -16,8 +16,10 @@ use Rattle.ob_typing.specs.Program.{Program}
 abbrev pub letter_sentence : List ℕ → List ℕ
 letter_sentence from =
     if length from == 0 then codes "here a line is missing or empty: an event stands here (B, A, E), or behind all events the order, as O 0.1"
-    else if begins_with from 66 then codes "behind B stand a process's next call, as 0.1, a procedure that the module exports, and its arguments, as B 0.1 Add 3"
-    else if begins_with from 69 then codes "behind E stand a call that has begun and not ended, as 0.1, and done and its values, or trap and 1 to 5, as E 0.1 done 3"
+    else if begins_with from 66
+    then codes "behind B stand a process's next call, as 0.1, a procedure that the module exports, and its arguments, as B 0.1 Add 3"
+    else if begins_with from 69
+    then codes "behind E stand a call that has begun and not ended, as 0.1, and done and its values, or trap and 1 to 5, as E 0.1 done 3"
     else if begins_with from 65 || begins_with from 79 then codes "behind A and O stand calls, as 0.1, of processes that there are"
     else if begins_with from 98 then codes "the third line of version 2 is b and the budget, 0 to 1000000, and no other line is"
     else codes "here stands an event (B, A, E) or the order (O)"

@@ -6,7 +6,8 @@ ghost use Rattle.ob_explain.specs.Remarks.{remark_of};
 ghost use Rattle.ob_explained.specs.Marks.{MarksWord};
 ghost use Rattle.ob_explained.specs.ScriptPlaces.{in_line, word_place};
 ghost use Rattle.ob_explained_lines.specs.Causes.{IsLineCause, cause_of, words_before};
-ghost use Rattle.ob_explained_records.specs.FormRemarks.{IsBodyCause, IsFormCause, IsFormRemark, IsModuleCause, budget_cause, form_sentence, is_apart, is_behind, is_budget_line, letter_sentence, told_form};
+ghost use Rattle.ob_explained_records.specs.FormRemarks.{IsBodyCause, IsFormCause, IsFormRemark, IsModuleCause, budget_cause, form_sentence, is_apart};
+ghost use Rattle.ob_explained_records.specs.FormRemarks.{is_behind, is_budget_line, letter_sentence, told_form};
 ghost use Rattle.ob_interface.specs.View.{signature_of};
 ghost use Rattle.ob_typing.specs.ModuleText.{IsModule};
 ghost use Rattle.ob_typing.specs.Program.{Program};
@@ -136,7 +137,8 @@ fn exports_cause(
     text: &[u8],
     number: usize,
 ) -> Result<Option<Cause>, AllocError>
-    ensures { IfOk result (λ cause. IsLineCause (record { text = object.now; exports = map signature_of exports.now }) text.now number (option_map cause_of cause)) }
+    ensures { IfOk result (λ cause.
+        IsLineCause (record { text = object.now; exports = map signature_of exports.now }) text.now number (option_map cause_of cause)) }
 {
     let object = Object {
         text: object,

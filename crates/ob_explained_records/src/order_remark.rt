@@ -2,7 +2,8 @@
 
 ghost use Rattle.std.specs.Prelude.{◌≡◌, ◌++◌, IfOk, OnOk, option_map, string_bytes};
 ghost use Rattle.ob_explain.specs.Remarks.{remark_of};
-ghost use Rattle.ob_explained_records.specs.OrderRemarks.{IsCallSentence, IsEndLine, IsEndRemark, IsOrderLineRemark, IsOrderRemark, IsOtherReplyRemark, IsTooEarlyRemark, IsUnknownRemark, early_text, line_text, told_at};
+ghost use Rattle.ob_explained_records.specs.OrderRemarks.{IsCallSentence, IsEndLine, IsEndRemark, IsOrderLineRemark, IsOrderRemark, IsOtherReplyRemark};
+ghost use Rattle.ob_explained_records.specs.OrderRemarks.{IsTooEarlyRemark, IsUnknownRemark, early_text, line_text, told_at};
 
 use crate::made_text::other_reply_text;
 use crate::order_place::{place_in_order, place_of_end};

@@ -7,7 +7,6 @@ ghost use Rattle.ob_explained_runs.specs.Sources.{source_of};
 use crate::form_remark::form_remark;
 use crate::order_remark::order_remark;
 use ob_explained::module_explanation;
-use ob_explained::open_fault::open_explanation;
 use ob_explained_runs::source::{Source, shown};
 use ob_object_compile::CompileFault;
 use ob_object_verify::VerifyFault;
@@ -31,7 +30,9 @@ pub fn record_explanation(
             let remark = form_remark(alloc, object.text, record_file.text, number)?;
             shown(alloc, record_file, remark)
         }
-        VerifyFault::Open(fault) => open_explanation(alloc, fault),
+        VerifyFault::Open(fault) => {
+            module_explanation(alloc, object.name, object.text, CompileFault::Open(fault))
+        }
         VerifyFault::Order(fault) => {
             let remark = order_remark(alloc, object.text, record_file.text, fault)?;
             shown(alloc, record_file, remark)

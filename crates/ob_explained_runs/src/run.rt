@@ -22,7 +22,8 @@ pub fn run_explanation(
     budget: u64,
     fault: PerformFault,
 ) -> Result<Option<String>, AllocError>
-    ensures { IfOk result (λ shown. IsRunExplanation (source_of object.entry) (source_of scripts.entry) (source_of schedule.entry) n budget fault (option_map string_bytes shown)) }
+    ensures { IfOk result (λ shown.
+        IsRunExplanation (source_of object.entry) (source_of scripts.entry) (source_of schedule.entry) n budget fault (option_map string_bytes shown)) }
 {
     match fault {
         PerformFault::Compile(fault) => {

@@ -1,4 +1,3 @@
-pub mod TrapSentences
 pub mod CallLines
 pub mod TrapLines
 pub mod TrapsText

@@ -9,7 +9,8 @@ use Rattle.ob_trap_places.specs.Places.{place_of}
 use Rattle.ob_trap_sites.specs.Site.{Site}
 use Rattle.ob_explained_traps.specs.declared.told.CallName.{CallName}
 use Rattle.ob_explained_traps.specs.declared.told.Setting as Rust
-use Rattle.ob_explained_traps.specs.TrapSentences.{cause_sentence}
+use Rattle.ob_trap_told.specs.TrapSentences.{cause_sentence}
+use Rattle.ob_trap_told.specs.declared.cause.Runner.TheVariants as Runners
 
 -- the text of the module with its tree, the name by which the script is shown, and the budget of each call
 pub record Setting : Type 0 where
@@ -46,11 +47,15 @@ abbrev pub place_lines : Setting → Site → Option ℕ → List ℕ
 place_lines setting site None = []
 place_lines setting site (Some place) =
     explanation setting.object.name setting.object.text
-    (record { place = place; sentence = cause_sentence setting.budget site.cause; hint = None })
+    (record { place = place; sentence = cause_sentence (Runners.Call setting.budget) site.cause; hint = None })
+
+-- of the operation that a trap comes from
+abbrev pub site_place_lines : Setting → Site → List ℕ
+site_place_lines setting site = place_lines setting site (place_of setting.tree site)
 
 -- of a call that traps there
 abbrev pub trap_lines : Setting → CallName → Site → List ℕ
-trap_lines setting call site = heading setting.script_name call site.number ++ place_lines setting site (place_of setting.tree site)
+trap_lines setting call site = heading setting.script_name call site.number ++ site_place_lines setting site
 
 -- of a call that may trap
 abbrev pub site_lines : Setting → CallName → Option Site → List ℕ

@@ -2,7 +2,6 @@
 #![tactic(auto)]
 
 mod call_lines;
-mod cause;
 pub mod laws;
 mod told;
 pub mod traps;

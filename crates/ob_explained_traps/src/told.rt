@@ -1,17 +1,17 @@
 //! The lines that tell of the traps of calls.
 
 ghost use Rattle.std.specs.Prelude.{◌≡◌, ◌++◌, ◌<◌, All, IfOk, OnOk, length, map, option_map, string_bytes};
-ghost use Rattle.ob_explained_traps.specs.TrapLines.{call_text, heading, line_text, place_lines, setting_of, site_lines, trap_text, traps_lines};
+ghost use Rattle.ob_explained_traps.specs.TrapLines.{call_text, heading, line_text, setting_of, site_lines, site_place_lines, trap_text, traps_lines};
 ghost use Rattle.ob_trap_places.specs.Places.{place_of};
 ghost use Rattle.ob_trap_values.specs.Reaching.{site_of};
 
-use crate::cause::cause_sentence;
 use ob_explain::explanation::explanation;
 use ob_explain::remark::Remark;
 use ob_explained_runs::Source;
 use ob_grammar::tree::ModuleTree;
 use ob_text_words::numbers::push_number;
 use ob_trap_lookup::places::place_of;
+use ob_trap_told::cause::{Runner, cause_sentence};
 use ob_trap_values::site::Site;
 use std::alloc::{AllocError, Global};
 
@@ -135,13 +135,13 @@ fn push_place(
     setting: Setting<'_>,
     site: &Site,
 ) -> Result<(), AllocError>
-    ensures { OnOk result (string_bytes told.new ≡ string_bytes told.old ++ place_lines (setting_of setting.entry) (site_of site.now) (place_of (setting_of setting.entry).tree (site_of site.now))) }
+    ensures { OnOk result (string_bytes told.new ≡ string_bytes told.old ++ site_place_lines (setting_of setting.entry) (site_of site.now)) }
 {
     match place_of(setting.tree, site.procedure, site.path.as_slice()) {
         Some(place) => {
             let remark = Remark {
                 place,
-                sentence: cause_sentence(alloc, setting.budget, site.cause)?,
+                sentence: cause_sentence(alloc, Runner::Call(setting.budget), site.cause)?,
                 hint: None,
             };
             let source = setting.object;

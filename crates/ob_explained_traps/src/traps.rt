@@ -63,7 +63,8 @@ fn told_of_calls(
 ) -> Result<String, NoMemory>
     requires processes { All (λ c. c.process < MOST_PROCESSES) calls.now }
     requires lined { length (call_lines script.text.now) ≡ length calls.now }
-    ensures { IfOk result (λ text. string_bytes text ≡ traps_text (source_of object.entry) (source_of script.entry) budget (object_in compiled.now) (map script_call_of calls.now)) }
+    ensures { IfOk result (λ text. string_bytes text
+        ≡ traps_text (source_of object.entry) (source_of script.entry) budget (object_in compiled.now) (map script_call_of calls.now)) }
 {
     let callers = callers(alloc, calls)?;
     let asked = object_calls(alloc, calls)?;

@@ -1,8 +1,8 @@
 use Rattle.std.proofs.Common.{◌≡◌, ◌∙◌, ◌++◌, ap, append_assoc, arith, codes, of_z, string_bytes, to_z, to_z-of_z, w32}
 use Rattle.std.proofs.lemmas.Result.{on_ok_weaker}
 use Rattle.std.specs.Fmt.{signed_decimal}
-use Rattle.ob_explained_traps.specs.TrapSentences.{index_text}
-use Rattle.ob_explained_traps.proofs.cause.push_given.Goals as goal
+use Rattle.ob_trap_told.specs.TrapSentences.{index_text}
+use Rattle.ob_trap_told.proofs.cause.push_given.Goals as goal
 
 pub returns : goal.returns
 unfolding index_text

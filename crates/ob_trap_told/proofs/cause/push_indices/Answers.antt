@@ -1,8 +1,8 @@
 use Rattle.std.proofs.Common.{◌≡◌, ◌∙◌, ◌++◌, ◌-◌, ap, append_assoc, codes, rules, string_bytes}
 use Rattle.std.proofs.lemmas.Result.{on_ok_weaker}
 use Rattle.std.specs.Prelude.{decimal}
-use Rattle.ob_explained_traps.specs.TrapSentences.{indices_text}
-use Rattle.ob_explained_traps.proofs.cause.push_indices.Goals as goal
+use Rattle.ob_trap_told.specs.TrapSentences.{indices_text}
+use Rattle.ob_trap_told.proofs.cause.push_indices.Goals as goal
 
 pub returns : goal.returns
 unfolding indices_text

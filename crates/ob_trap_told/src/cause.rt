@@ -1,12 +1,12 @@
 //! What is said of an operation that traps.
 
-ghost use Rattle.std.specs.Prelude.{◌≡◌, ◌++◌, codes, IfOk, OnOk, string_bytes};
-ghost use Rattle.ob_explained_traps.specs.TrapSentences.{cause_sentence, index_text, indices_text, operand_text, operator_text, range_text, reason_text};
-ghost use Rattle.ob_text_words.specs.ScalarTexts.{scalar_text};
-ghost use Rattle.ob_trap_sites.specs.Site as Sites;
+ghost use Rattle.std.specs.Prelude.{◌≡◌, ◌++◌, IfOk, OnOk, string_bytes};
+ghost use Rattle.ob_trap_told.specs.TrapSentences.{cause_sentence, index_sentence, negation_sentence, operation_sentence, turns_sentence};
+ghost use Rattle.ob_trap_told.specs.TrapSentences.{index_text, indices_text, operand_text, operator_text, reason_text, runner_text, turns_of};
 ghost use Rattle.ob_trap_values.specs.Reaching.{cause_of};
 
 use ob_interface::scalar::Scalar;
+use ob_interpreter::opening::MOST_TURNS;
 use ob_text_words::numbers::push_number;
 use ob_text_words::values::push_value;
 use ob_trap_values::site::Cause;
@@ -19,18 +19,31 @@ const OUTSIDE: &str = " is outside the range of INTEGER, -2147483648 to 21474836
 /// Of a divisor that is too small.
 const DIVISOR: &str = " has no value, since a divisor is at least 1";
 
-/// What could not be done, with its values, by a call with this budget.
-pub(crate) fn cause_sentence(alloc: Global, budget: u64, cause: Cause) -> Result<String, AllocError>
-    ensures { IfOk result (λ sentence. string_bytes sentence ≡ cause_sentence budget (cause_of cause)) }
+/// Who runs, and has the turns of which none is left.
+#[derive(Clone, Copy)]
+pub enum Runner {
+    /// A call from outside, with this budget.
+    Call(u64),
+    /// The module's body, of which the sentence speaks.
+    Body,
+}
+
+/// What could not be done, with its values.
+pub fn cause_sentence(alloc: Global, runner: Runner, cause: Cause) -> Result<String, AllocError>
+    ensures { IfOk result (λ sentence. string_bytes sentence ≡ cause_sentence runner (cause_of cause)) }
 {
     let mut sentence = String::new(alloc);
-    push_cause(&mut sentence, budget, cause)?;
+    push_cause(&mut sentence, runner, cause)?;
     Ok(sentence)
 }
 
 /// Appends what could not be done.
-fn push_cause(sentence: &mut String, budget: u64, cause: Cause) -> Result<(), AllocError>
-    ensures { OnOk result (string_bytes sentence.new ≡ string_bytes sentence.old ++ cause_sentence budget (cause_of cause)) }
+pub(crate) fn push_cause(
+    sentence: &mut String,
+    runner: Runner,
+    cause: Cause,
+) -> Result<(), AllocError>
+    ensures { OnOk result (string_bytes sentence.new ≡ string_bytes sentence.old ++ cause_sentence runner (cause_of cause)) }
 {
     match cause {
         Cause::Operating {
@@ -43,7 +56,7 @@ fn push_cause(sentence: &mut String, budget: u64, cause: Cause) -> Result<(), Al
         Cause::Activating => {
             sentence.push_str("at most 64 calls are active at a time, and this would be the 65th")
         }
-        Cause::Turning => push_turns(sentence, budget),
+        Cause::Turning => push_turns(sentence, runner),
     }
 }
 
@@ -54,7 +67,7 @@ fn push_operation(
     left: Scalar,
     right: Scalar,
 ) -> Result<(), AllocError>
-    ensures { OnOk result (string_bytes sentence.new ≡ string_bytes sentence.old ++ cause_sentence 0 (Sites.Operating operator left right)) }
+    ensures { OnOk result (string_bytes sentence.new ≡ string_bytes sentence.old ++ operation_sentence operator left right) }
 {
     push_value(sentence, left)?;
     sentence.push_str(operator_text(operator))?;
@@ -106,7 +119,7 @@ fn push_operand(sentence: &mut String, operand: Scalar) -> Result<(), AllocError
 
 /// Appends a minus sign before its operand, and why it has no result.
 fn push_negation(sentence: &mut String, operand: Scalar) -> Result<(), AllocError>
-    ensures { OnOk result (string_bytes sentence.new ≡ string_bytes sentence.old ++ cause_sentence 0 (Sites.Negating operand)) }
+    ensures { OnOk result (string_bytes sentence.new ≡ string_bytes sentence.old ++ negation_sentence operand) }
 {
     sentence.push_str("-")?;
     push_operand(sentence, operand)?;
@@ -115,7 +128,7 @@ fn push_negation(sentence: &mut String, operand: Scalar) -> Result<(), AllocErro
 
 /// Appends an index, and those that an array of so many elements has.
 fn push_index(sentence: &mut String, length: usize, index: i32) -> Result<(), AllocError>
-    ensures { OnOk result (string_bytes sentence.new ≡ string_bytes sentence.old ++ cause_sentence 0 (Sites.Indexing length index)) }
+    ensures { OnOk result (string_bytes sentence.new ≡ string_bytes sentence.old ++ index_sentence length index) }
 {
     push_given(sentence, index)?;
     push_indices(sentence, length)
@@ -139,11 +152,31 @@ fn push_indices(sentence: &mut String, length: usize) -> Result<(), AllocError>
     push_number(sentence, length.saturating_sub(1))
 }
 
-/// Appends how many turns a call has, of which none is left.
-fn push_turns(sentence: &mut String, budget: u64) -> Result<(), AllocError>
-    ensures { OnOk result (string_bytes sentence.new ≡ string_bytes sentence.old ++ cause_sentence budget Sites.Turning) }
+/// Appends how many turns there are, of which none is left.
+fn push_turns(sentence: &mut String, runner: Runner) -> Result<(), AllocError>
+    ensures { OnOk result (string_bytes sentence.new ≡ string_bytes sentence.old ++ turns_sentence runner) }
 {
     sentence.push_str("no turn is left of the ")?;
-    push_number(sentence, budget)?;
-    sentence.push_str(" that a call has for its loops and calls")
+    push_number(sentence, turns_of(runner))?;
+    sentence.push_str(runner_text(runner))
+}
+
+/// How many turns there are.
+fn turns_of(runner: Runner) -> u64
+    ensures { result ≡ turns_of runner }
+{
+    match runner {
+        Runner::Call(budget) => budget,
+        Runner::Body => MOST_TURNS,
+    }
+}
+
+/// Who has these turns.
+fn runner_text(runner: Runner) -> &'static str
+    ensures { result.now ≡ runner_text runner }
+{
+    match runner {
+        Runner::Call(_) => " that a call has for its loops and calls",
+        Runner::Body => " that it has for its loops and calls",
+    }
 }

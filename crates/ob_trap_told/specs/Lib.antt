@@ -1,0 +1,2 @@
+pub mod TrapSentences
+pub mod Openings
