@@ -5,9 +5,9 @@ use Rattle.ob_scan.specs.declared.token.Kind.TheVariants as Kinds
 use Rattle.ob_scan.specs.declared.token.Token.{Token}
 use Rattle.ob_explain_expected.specs.Kinds.{kind_name, sample}
 use Rattle.ob_explain_hints.specs.Tables.{slip_hint}
-use Rattle.ob_explain_slips.specs.Causes.{cause_text}
-use Rattle.ob_explain_slips.specs.declared.causes.Hint.{Hint}
-use Rattle.ob_explain_slips.specs.declared.causes.Hint.TheVariants.{Known, Told, Open, Closed, Ended, Keyword}
+use Rattle.ob_explain_causes.specs.Causes.{cause_text}
+use Rattle.ob_explain_causes.specs.declared.causes.Hint.{Hint}
+use Rattle.ob_explain_causes.specs.declared.causes.Hint.TheVariants.{Known, Told, Open, Closed, Ended, Keyword}
 use Rattle.ob_explain.specs.Places.{place_in}
 
 -- the keyword with which a construct begins, and its line

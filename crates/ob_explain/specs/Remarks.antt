@@ -13,8 +13,8 @@ use Rattle.ob_explain_names.specs.Lookup.{name_at, sort_of}
 use Rattle.ob_explain_names.specs.Needs.{need_of}
 use Rattle.ob_explain_names.specs.Visible.{AreVisible}
 use Rattle.ob_explain_names.specs.declared.known.Known.{Known}
-use Rattle.ob_explain_slips.specs.Causes.{known}
-use Rattle.ob_explain_slips.specs.declared.causes.Hint.{Hint}
+use Rattle.ob_explain_causes.specs.Causes.{known}
+use Rattle.ob_explain_causes.specs.declared.causes.Hint.{Hint}
 use Rattle.ob_explain_slips.specs.Endings.{name_hint}
 use Rattle.ob_explain_slips.specs.Rules.{kind_hint, types_hint, unknown_hint}
 use Rattle.ob_explain_slips.specs.Unexpected.{IsUnexpectedHint}

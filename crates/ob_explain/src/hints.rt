@@ -4,9 +4,9 @@ ghost use Rattle.std.specs.Prelude.{◌≡◌, ◌++◌, OnOk, string_bytes};
 ghost use Rattle.ob_explain.specs.Hints.{closed_text, construct_text, else_if_text, end_closes_text, ended_text, hint_line, hint_text, inner_text, keyword_text, lacking_text, missing_text, open_text};
 
 use crate::place::place_in;
+use ob_explain_causes::causes::{Hint, cause_text};
 use ob_explain_expected::kinds::{kind_name, sample};
 use ob_explain_hints::tables::slip_hint;
-use ob_explain_slips::causes::{Hint, cause_text};
 use ob_scan::{Kind, Token};
 use ob_text_words::numbers::push_number;
 use std::alloc::AllocError;

@@ -6,6 +6,7 @@ ghost use Rattle.ob_explain.specs.Remarks.{IsCheckRemark, IsParseRemark, IsUnexp
 use crate::place::halves;
 use crate::rules::{behind_word, rule_sentence};
 use crate::shown::push_line;
+use ob_explain_causes::causes::{Hint, known};
 use ob_explain_expected::expected::expected_kinds;
 use ob_explain_expected::phrases::expected_sentence;
 use ob_explain_hints::slips::{number_slip, stray_slip};
@@ -14,7 +15,6 @@ use ob_explain_names::known::Known;
 use ob_explain_names::lookup::{name_at, sort_of};
 use ob_explain_names::need::need_of;
 use ob_explain_names::visible::visible_names;
-use ob_explain_slips::causes::{Hint, known};
 use ob_explain_slips::endings::name_hint;
 use ob_explain_slips::rules::{kind_hint, types_hint, unknown_hint};
 use ob_explain_slips::unexpected::unexpected_hint;

@@ -9,10 +9,10 @@ use Rattle.ob_explain_names.specs.Lookup.{name_at}
 use Rattle.ob_explain_tokens.specs.Actuals.{ends_call}
 use Rattle.ob_explain_tokens.specs.Ends.{closes}
 use Rattle.ob_explain_tokens.specs.Open.{closed_from, else_if, is_open, is_unit, open_construct}
-use Rattle.ob_explain_slips.specs.Causes.{either}
-use Rattle.ob_explain_slips.specs.declared.causes.Cause.TheVariants as Causes
-use Rattle.ob_explain_slips.specs.declared.causes.Hint.{Hint}
-use Rattle.ob_explain_slips.specs.declared.causes.Hint.TheVariants.{Told, Open, Closed, Ended}
+use Rattle.ob_explain_causes.specs.Causes.{either}
+use Rattle.ob_explain_causes.specs.declared.causes.Cause.TheVariants as Causes
+use Rattle.ob_explain_causes.specs.declared.causes.Hint.{Hint}
+use Rattle.ob_explain_causes.specs.declared.causes.Hint.TheVariants.{Told, Open, Closed, Ended}
 
 abbrev pub is_word : (text word : List ℕ) → Option Token → Bool
 is_word text word None = false

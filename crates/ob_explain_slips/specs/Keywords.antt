@@ -8,7 +8,7 @@ use Rattle.ob_explain_expected.specs.Kinds.{sample}
 use Rattle.ob_explain_hints.specs.Slips.{word_slip}
 use Rattle.ob_explain_names.specs.Lookup.{name_at}
 use Rattle.ob_explain_nearest.specs.Keywords.{near_keywords}
-use Rattle.ob_explain_slips.specs.Declarations.{is_name}
+use Rattle.ob_explain_causes.specs.Declarations.{is_name}
 
 -- what stands before a place, and this keyword
 abbrev pub with_keyword : (text : List ℕ) → (place : ℕ) → Kind → List ℕ

@@ -1,8 +1,3 @@
-pub mod Causes
-pub mod Procedures
-pub mod Signs
-pub mod Declarations
-pub mod Statements
 pub mod Endings
 pub mod Keywords
 pub mod Semicolons

@@ -9,11 +9,11 @@ use Rattle.ob_explain_names.specs.declared.known.Sort.{Sort}
 use Rattle.ob_explain_names.specs.declared.known.Sort.TheVariants as Sorts
 use Rattle.ob_explain_names.specs.declared.need.Need.{Need}
 use Rattle.ob_explain_names.specs.declared.need.Need.TheVariants as Needs
-use Rattle.ob_explain_slips.specs.Causes.{either, known, name_cause, told}
-use Rattle.ob_explain_slips.specs.declared.causes.Cause.TheVariants as Causes
-use Rattle.ob_explain_slips.specs.declared.causes.Hint.{Hint}
-use Rattle.ob_explain_slips.specs.declared.causes.Hint.TheVariants.{Told}
-use Rattle.ob_explain_slips.specs.Procedures.{declares}
+use Rattle.ob_explain_causes.specs.Causes.{either, known, name_cause, told}
+use Rattle.ob_explain_causes.specs.declared.causes.Cause.TheVariants as Causes
+use Rattle.ob_explain_causes.specs.declared.causes.Hint.{Hint}
+use Rattle.ob_explain_causes.specs.declared.causes.Hint.TheVariants.{Told}
+use Rattle.ob_explain_causes.specs.Procedures.{declares}
 
 -- of a name that is not there: a procedure that is declared behind the place, or a name of another language; a field has no slip
 abbrev pub unknown_hint : (text before : List ℕ) → (behind : List Token) → (word : List ℕ) → Option Hint

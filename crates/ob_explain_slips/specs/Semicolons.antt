@@ -2,8 +2,8 @@
 use Rattle.std.specs.Prelude.{◌≡◌, ℕ, ◌==◌, List, ◌++◌, codes, find, length, take, Option, Some, None}
 use Rattle.ob_scan.specs.declared.token.Token.{Token}
 use Rattle.ob_explain_expected.specs.Expected.{IsExpected}
-use Rattle.ob_explain_slips.specs.declared.causes.Cause.{Cause}
-use Rattle.ob_explain_slips.specs.declared.causes.Cause.TheVariants as Causes
+use Rattle.ob_explain_causes.specs.declared.causes.Cause.{Cause}
+use Rattle.ob_explain_causes.specs.declared.causes.Cause.TheVariants as Causes
 
 -- what stands before a place, and a `;`
 abbrev pub with_semicolon : (text : List ℕ) → (place : ℕ) → List ℕ

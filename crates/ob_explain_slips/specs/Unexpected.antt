@@ -4,17 +4,17 @@ use Rattle.ob_scan.specs.declared.token.Kind.{Kind}
 use Rattle.ob_scan.specs.declared.token.Token.{Token}
 use Rattle.ob_explain_hints.specs.Slips.{parse_slip}
 use Rattle.ob_explain_hints.specs.Words.{word_at}
-use Rattle.ob_explain_slips.specs.Causes.{either, known, told}
-use Rattle.ob_explain_slips.specs.Declarations.{cause_there}
+use Rattle.ob_explain_causes.specs.Causes.{either, known, told}
+use Rattle.ob_explain_causes.specs.Declarations.{cause_there}
+use Rattle.ob_explain_causes.specs.declared.causes.Cause.{Cause}
+use Rattle.ob_explain_causes.specs.declared.causes.Hint.{Hint}
+use Rattle.ob_explain_causes.specs.declared.causes.Hint.TheVariants.{Keyword}
+use Rattle.ob_explain_causes.specs.Signs as Signs
+use Rattle.ob_explain_causes.specs.Signs.{sign_cause}
+use Rattle.ob_explain_causes.specs.Statements.{actuals_cause, statement_cause}
 use Rattle.ob_explain_slips.specs.Endings.{ending_hint}
-use Rattle.ob_explain_slips.specs.declared.causes.Cause.{Cause}
-use Rattle.ob_explain_slips.specs.declared.causes.Hint.{Hint}
-use Rattle.ob_explain_slips.specs.declared.causes.Hint.TheVariants.{Keyword}
 use Rattle.ob_explain_slips.specs.Keywords.{IsKeyword}
 use Rattle.ob_explain_slips.specs.Semicolons.{IsSemicolonCause, token_at}
-use Rattle.ob_explain_slips.specs.Signs as Signs
-use Rattle.ob_explain_slips.specs.Signs.{sign_cause}
-use Rattle.ob_explain_slips.specs.Statements.{actuals_cause, statement_cause}
 use Rattle.ob_explain_tokens.specs.Around.{AreTokens}
 use Rattle.ob_explain_tokens.specs.Around as Tokens
 

@@ -3,8 +3,8 @@
 ghost use Rattle.std.specs.Prelude.{◌≡◌, None};
 ghost use Rattle.ob_explain_slips.specs.Endings.{closed_hint, closing, end_hint, ending_hint, ends_statements, goes_on_if, inner_if, is_else_outside, is_further_part, is_open_name, is_open_unit, is_outside, is_outside_there, is_part, is_repeated, is_repeated_there, is_word, name_hint, open_hint, outer_hint, stands_behind, still_open};
 
-use crate::causes::{Cause, Hint, either};
-use crate::signs::has;
+use ob_explain_causes::causes::{Cause, Hint, either};
+use ob_explain_causes::signs::has;
 use ob_explain_hints::slips::is_same;
 use ob_explain_names::lookup::name_at;
 use ob_explain_tokens::actuals::ends_call;

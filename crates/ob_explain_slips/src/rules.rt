@@ -3,8 +3,8 @@
 ghost use Rattle.std.specs.Prelude.{◌≡◌, find};
 ghost use Rattle.ob_explain_slips.specs.Rules.{ends_operands, is_of_operand, is_relation, is_value, kind_hint, meets_relation, takes_comparisons, types_hint, unknown_hint};
 
-use crate::causes::{Cause, Hint, either, known, name_cause, told};
-use crate::procedures::declares;
+use ob_explain_causes::causes::{Cause, Hint, either, known, name_cause, told};
+use ob_explain_causes::procedures::declares;
 use ob_explain_hints::slips::{begins_with, ends_with, is_same, word_slip};
 use ob_explain_hints::words::{trimmed, word_at};
 use ob_explain_names::known::Sort;

@@ -4,7 +4,7 @@ ghost use Rattle.std.specs.Prelude.{◌≡◌, ◌↔◌, IfOk, IsTrue, length};
 ghost use Rattle.ob_explain_expected.specs.Expected.{IsExpected};
 ghost use Rattle.ob_explain_slips.specs.Semicolons.{IsSemicolonAt, IsSemicolonCause, token_at, with_semicolon};
 
-use crate::causes::Cause;
+use ob_explain_causes::causes::Cause;
 use ob_explain_expected::expected::is_expected;
 use ob_scan::{Kind, Token};
 use std::alloc::{AllocError, Global};

@@ -3,14 +3,14 @@
 ghost use Rattle.std.specs.Prelude.{◌≡◌, IfOk, drop, take};
 ghost use Rattle.ob_explain_slips.specs.Unexpected.{IsKeywordThere, IsUnexpectedHint, construct_hint, first_cause, first_hint, keyword_hint, last_before, next_behind, slip_there};
 
-use crate::causes::{Cause, Hint, either, known, told};
-use crate::declarations::cause_there;
 use crate::endings::ending_hint;
 use crate::keywords::meant_keyword;
 use crate::semicolon::{semicolon_cause, token_at};
-use crate::signs;
-use crate::signs::sign_cause;
-use crate::statements::{actuals_cause, statement_cause};
+use ob_explain_causes::causes::{Cause, Hint, either, known, told};
+use ob_explain_causes::declarations::cause_there;
+use ob_explain_causes::signs;
+use ob_explain_causes::signs::sign_cause;
+use ob_explain_causes::statements::{actuals_cause, statement_cause};
 use ob_explain_hints::slips::parse_slip;
 use ob_explain_hints::words::word_at;
 use ob_explain_tokens::around::{tokens_before, tokens_of};

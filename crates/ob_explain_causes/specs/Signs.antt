@@ -8,9 +8,9 @@ use Rattle.ob_scan.specs.declared.token.Token.{Token}
 use Rattle.ob_explain_expected.specs.Groups.{has}
 use Rattle.ob_explain_hints.specs.Slips.{begins_with, ends_with}
 use Rattle.ob_explain_hints.specs.Words.{word_before}
-use Rattle.ob_explain_slips.specs.declared.causes.Cause.{Cause}
-use Rattle.ob_explain_slips.specs.declared.causes.Cause.TheVariants as Causes
-use Rattle.ob_explain_slips.specs.Procedures.{declares, names_no_array}
+use Rattle.ob_explain_causes.specs.declared.causes.Cause.{Cause}
+use Rattle.ob_explain_causes.specs.declared.causes.Cause.TheVariants as Causes
+use Rattle.ob_explain_causes.specs.Procedures.{declares, names_no_array}
 
 -- behind a name that no array has stands a call in an expression; behind another one, or behind no name, an element in parentheses
 abbrev pub called_cause : (text : List ℕ) → List Token → (word : List ℕ) → Option Cause

@@ -1,7 +1,7 @@
 //! Hints on slips that show by the tokens around a place.
 
 ghost use Rattle.std.specs.Prelude.{◌≡◌};
-ghost use Rattle.ob_explain_slips.specs.Causes.{cause_mark, cause_text, either, known, name_cause, told, with_mark};
+ghost use Rattle.ob_explain_causes.specs.Causes.{cause_mark, cause_text, either, known, name_cause, told, with_mark};
 
 use ob_explain_hints::slips::is_same_in_any_case;
 use ob_explain_hints::tables::Slip;

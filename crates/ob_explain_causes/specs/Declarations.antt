@@ -7,11 +7,11 @@ use Rattle.ob_scan.specs.declared.token.Token.{Token}
 use Rattle.ob_explain_expected.specs.Groups.{has}
 use Rattle.ob_explain_hints.specs.Slips.{is_same_in_any_case}
 use Rattle.ob_explain_hints.specs.Words.{word_at, word_before}
-use Rattle.ob_explain_slips.specs.Causes.{name_cause}
-use Rattle.ob_explain_slips.specs.Procedures.{is_procedure}
-use Rattle.ob_explain_slips.specs.Signs.{either}
-use Rattle.ob_explain_slips.specs.declared.causes.Cause.{Cause}
-use Rattle.ob_explain_slips.specs.declared.causes.Cause.TheVariants as Causes
+use Rattle.ob_explain_causes.specs.Causes.{name_cause}
+use Rattle.ob_explain_causes.specs.Procedures.{is_procedure}
+use Rattle.ob_explain_causes.specs.Signs.{either}
+use Rattle.ob_explain_causes.specs.declared.causes.Cause.{Cause}
+use Rattle.ob_explain_causes.specs.declared.causes.Cause.TheVariants as Causes
 
 abbrev pub only : Bool → Cause → Option Cause
 only is cause = if is then Some cause else None

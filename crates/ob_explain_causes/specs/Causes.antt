@@ -2,10 +2,10 @@
 use Rattle.std.specs.Prelude.{ℕ, List, [], ◌∷◌, codes, find, Option, Some, None}
 use Rattle.ob_explain_hints.specs.Slips.{is_same_in_any_case}
 use Rattle.ob_explain_hints.specs.declared.tables.Slip.{Slip}
-use Rattle.ob_explain_slips.specs.declared.causes.Cause.{Cause}
-use Rattle.ob_explain_slips.specs.declared.causes.Cause.TheVariants as Causes
-use Rattle.ob_explain_slips.specs.declared.causes.Hint.{Hint}
-use Rattle.ob_explain_slips.specs.declared.causes.Hint.TheVariants.{Known, Told}
+use Rattle.ob_explain_causes.specs.declared.causes.Cause.{Cause}
+use Rattle.ob_explain_causes.specs.declared.causes.Cause.TheVariants as Causes
+use Rattle.ob_explain_causes.specs.declared.causes.Hint.{Hint}
+use Rattle.ob_explain_causes.specs.declared.causes.Hint.TheVariants.{Known, Told}
 
 -- the name of another language that is written there
 abbrev pub cause_mark : Cause → List ℕ

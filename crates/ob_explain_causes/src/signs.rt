@@ -2,7 +2,7 @@
 
 ghost use Rattle.std.specs.Prelude.{◌≡◌};
 ghost use Rattle.ob_explain_expected.specs.Groups.{has};
-ghost use Rattle.ob_explain_slips.specs.Signs.{begins_change, begins_relation, begins_sign, call_cause, called_cause, change_cause, comment_cause, comparison_cause, either, element_cause, ends_heading, is_colon, is_no_expression, is_right, is_second_minus, operand_cause, result_cause, sign_cause};
+ghost use Rattle.ob_explain_causes.specs.Signs.{begins_change, begins_relation, begins_sign, call_cause, called_cause, change_cause, comment_cause, comparison_cause, either, element_cause, ends_heading, is_colon, is_no_expression, is_right, is_second_minus, operand_cause, result_cause, sign_cause};
 
 use crate::causes::Cause;
 use crate::procedures::{declares, names_no_array};

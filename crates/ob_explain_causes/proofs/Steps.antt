@@ -1,7 +1,7 @@
 -- Tokens one by one.
 use Rattle.std.proofs.Common.{◌≡◌, ℕ, ◌+◌, ◌<◌, ◌≤◌, ◌||◌, Bool, true, false, List, length, get_or, drop, sym, ◌∙◌, ap, add-one, drop-cons, drop_of_length-le}
 use Rattle.ob_scan.specs.declared.token.Token.{Token}
-use Rattle.ob_explain_slips.specs.Procedures.{declares, is_named_here, is_procedure}
+use Rattle.ob_explain_causes.specs.Procedures.{declares, is_named_here, is_procedure}
 
 step : (text word : List ℕ) (behind : Bool) (ts : List Token) (i : ℕ) (d : Token) → i < length ts →
     declares text word behind (drop i ts)

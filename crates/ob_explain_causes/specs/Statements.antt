@@ -8,10 +8,10 @@ use Rattle.ob_explain_expected.specs.Groups.{has}
 use Rattle.ob_explain_hints.specs.Words.{word_at, word_before}
 use Rattle.ob_explain_tokens.specs.Actuals.{ends_call}
 use Rattle.ob_explain_tokens.specs.Open.{open_construct}
-use Rattle.ob_explain_slips.specs.Declarations.{only}
-use Rattle.ob_explain_slips.specs.Procedures.{declares}
-use Rattle.ob_explain_slips.specs.declared.causes.Cause.{Cause}
-use Rattle.ob_explain_slips.specs.declared.causes.Cause.TheVariants as Causes
+use Rattle.ob_explain_causes.specs.Declarations.{only}
+use Rattle.ob_explain_causes.specs.Procedures.{declares}
+use Rattle.ob_explain_causes.specs.declared.causes.Cause.{Cause}
+use Rattle.ob_explain_causes.specs.declared.causes.Cause.TheVariants as Causes
 
 -- statements stand behind these, and no BEGIN
 abbrev pub leads_to_statements : Kind → Bool

@@ -1,7 +1,7 @@
 -- Names and what stands behind them, one by one.
 use Rattle.std.proofs.Common.{◌≡◌, ℕ, ◌+◌, ◌<◌, ◌≤◌, ◌||◌, Bool, true, false, List, length, get_or, drop, sym, ◌∙◌, ap, add-one, drop-cons, drop_of_length-le}
 use Rattle.ob_scan.specs.declared.token.Token.{Token}
-use Rattle.ob_explain_slips.specs.Procedures.{is_listed_here, is_named, lists}
+use Rattle.ob_explain_causes.specs.Procedures.{is_listed_here, is_named, lists}
 
 step : (text word : List ℕ) (named : Bool) (ts : List Token) (i : ℕ) (d : Token) → i < length ts →
     lists text word named (drop i ts)

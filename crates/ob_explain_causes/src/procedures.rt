@@ -1,7 +1,7 @@
 //! Whether tokens declare a procedure or a variable of a name.
 
 ghost use Rattle.std.specs.Prelude.{◌≡◌, false};
-ghost use Rattle.ob_explain_slips.specs.Procedures.{declares, is_behind_name, is_listed_here, is_named, is_named_here, is_procedure, lists, names_no_array};
+ghost use Rattle.ob_explain_causes.specs.Procedures.{declares, is_behind_name, is_listed_here, is_named, is_named_here, is_procedure, lists, names_no_array};
 
 use ob_explain_hints::slips::is_same;
 use ob_explain_names::lookup::name_at;
