@@ -4,9 +4,6 @@ use Rattle.std.proofs.Common.{◌≡◌, ℕ, List, [], ◌++◌, append_assoc, 
 pub four_parts : (old a b c d p q r s : List ℕ) → p ≡ old ++ a → q ≡ p ++ b → r ≡ q ++ c → s ≡ r ++ d → s ≡ old ++ (a ++ b ++ c ++ d)
 four_parts old a b c d p q r s ap bp cp dp = rw (dp, cp, bp, ap) (simp append_assoc)
 
-pub five_parts : (old a b c d e p q r s t : List ℕ) → p ≡ old ++ a → q ≡ p ++ b → r ≡ q ++ c → s ≡ r ++ d → t ≡ s ++ e → t ≡ old ++ (a ++ b ++ c ++ d ++ e)
-five_parts old a b c d e p q r s t ap bp cp dp ep = rw (ep, dp, cp, bp, ap) (simp append_assoc)
-
 pub three_and_more : (old a b c d p q r s : List ℕ) → p ≡ old ++ a → q ≡ p ++ b → r ≡ q ++ c → s ≡ r ++ d → s ≡ old ++ (a ++ (b ++ (c ++ d)))
 three_and_more old a b c d p q r s ap bp cp dp = rw (dp, cp, bp, ap) (simp append_assoc)
 

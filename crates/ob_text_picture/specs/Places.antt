@@ -1,7 +1,7 @@
 -- Where things stand in a picture, in pixels from the left and from the top. The columns of a run stand in bands, one below the other.
 use Rattle.std.specs.Prelude.{ℕ, ◌+◌, ◌-◌, ◌*◌, ◌/◌, ◌%◌, ◌==◌, ◌&&◌, cond, length, nat_le, nat_lt, position, unwrap_or, Bool, List, min, max}
 use Rattle.ob_text_picture.specs.declared.places.Frame.{Frame}
-use Rattle.ob_text_picture.specs.declared.places.Point.{Point}
+use Rattle.ob_text_picture_svg.specs.declared.svg.Point.{Point}
 
 abbrev pub at : ℕ → ℕ → Point
 at x y = record { x = x; y = y }

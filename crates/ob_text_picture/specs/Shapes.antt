@@ -1,17 +1,18 @@
 -- The shapes of a picture, by what is seen of a run.
 use Rattle.std.specs.Prelude.{ℕ, zero, suc, ◌+◌, ◌-◌, ◌*◌, ◌/◌, ◌%◌, ◌==◌, ◌&&◌, ◌||◌, not, List, [], ◌∷◌, ◌++◌, Bool, false, cond, Option, Some, None, codes, decimal, length, max, min, nat_le, nat_lt, slice_get, unwrap_or}
 use Rattle.std.specs.List.{flat_map}
-use Rattle.ob_interface.specs.Call.{ObjectCall, Reply, Answers, Trapped}
+use Rattle.ob_interface.specs.Call.{Reply, Answers, Trapped}
 use Rattle.ob_interface.specs.Export.{Signature}
-use Rattle.ob_text_picture.specs.Labels.{answer_words, call_words, dots, id_words, reply_words, short, short_again, short_call}
 use Rattle.ob_text_picture.specs.Places.{Band, at, band_height, bands, below, beyond, cell, columns_in, first, height, is_in, width, x_of, y_of}
-use Rattle.ob_text_picture.specs.Svg.{Shape, Line, Box, Circle, Words, Group, EndGroup, svg_text}
 use Rattle.ob_text_picture.specs.declared.places.Frame.{Frame}
-use Rattle.ob_text_picture.specs.declared.places.Point.{Point}
 use Rattle.ob_text_picture_chart.specs.Charts.{Chart, Happening, Begun, Taken, Ended, Sight}
-use Rattle.ob_text_picture_chart.specs.Same.{is_same}
 use Rattle.ob_text_picture_chart.specs.declared.charts.CallRange.{CallRange}
 use Rattle.ob_text_picture_chart.specs.declared.charts.Placed.{Placed}
+use Rattle.ob_text_picture_labels.specs.Bars.{Bar, bar_of}
+use Rattle.ob_text_picture_labels.specs.Labels.{answer_words, call_words, dots, id_words, reply_words, short, short_again, short_call}
+use Rattle.ob_text_picture_labels.specs.Widths.{most_letters, wanted}
+use Rattle.ob_text_picture_svg.specs.Svg.{Shape, Line, Box, Circle, Words, Group, EndGroup, svg_text}
+use Rattle.ob_text_picture_svg.specs.declared.svg.Point.{Point}
 use Rattle.wf_history.specs.declared.event.CallId.{CallId}
 
 -- the shapes of 0, of 1 and so on, so many
@@ -62,56 +63,6 @@ row band process =
 
 -- ---- calls
 
--- a call: its begin and its end, by their columns, where a call that doesn't end goes on to the end of the picture; its reply; and the
--- column in which its process begins its next call, or the end of the picture
-pub record Bar : Type 0 where
-  pub id : CallId
-  pub call : ObjectCall
-  pub begin : ℕ
-  pub end : ℕ
-  pub reply : Option Reply
-  pub next : ℕ
-
--- where a call ends: the column, and the reply
-abbrev pub end_here : CallId → Sight → Happening → Option (ℕ × Reply) → Option (ℕ × Reply)
-end_here id s (Begun call) behind = behind
-end_here id s (Taken number maker) behind = behind
-end_here id s (Ended reply) behind = cond (is_same s.id id) (Some (s.column, reply)) behind
-
-abbrev pub end_of : CallId → List Sight → Option (ℕ × Reply)
-end_of id [] = None
-end_of id (s ∷ behind) = end_here id s s.happening (end_of id behind)
-
--- where a process begins a call
-abbrev pub begin_here : (process : ℕ) → Sight → Happening → Option ℕ → Option ℕ
-begin_here process s (Begun call) behind = cond (s.id.process == process) (Some s.column) behind
-begin_here process s (Taken number maker) behind = behind
-begin_here process s (Ended reply) behind = behind
-
-abbrev pub begin_of : (process : ℕ) → List Sight → Option ℕ
-begin_of process [] = None
-begin_of process (s ∷ behind) = begin_here process s s.happening (begin_of process behind)
-
-abbrev pub end_column : (columns : ℕ) → Option (ℕ × Reply) → ℕ
-end_column columns None = columns
-end_column columns (Some end) = end.0
-
-abbrev pub end_reply : Option (ℕ × Reply) → Option Reply
-end_reply None = None
-end_reply (Some end) = Some end.1
-
--- the call that begins, by what is seen behind that
-abbrev pub bar_of : (columns : ℕ) → Sight → ObjectCall → List Sight → Bar
-bar_of columns s call behind =
-    record {
-      id = s.id;
-      call = call;
-      begin = s.column;
-      end = end_column columns (end_of s.id behind);
-      reply = end_reply (end_of s.id behind);
-      next = unwrap_or (begin_of s.id.process behind) columns;
-    }
-
 abbrev pub bar_class : Option Reply → List ℕ
 bar_class None = codes "open"
 bar_class (Some (Answers values)) = codes "done"
@@ -128,29 +79,6 @@ reply_behind (Some reply) = codes ": " ++ reply_words reply
 
 abbrev pub title : List Signature → Bar → List ℕ
 title exports b = call_words exports b.id b.call ++ reply_behind b.reply
-
--- the words below a bar; none without a reply
-abbrev pub words_below : Option Reply → List ℕ
-words_below None = codes ""
-words_below (Some reply) = answer_words reply
-
--- for how many letters there has to be room: for the words above the bar and for those below it
-unfoldable pub most_letters : List Signature → Bar → ℕ
-most_letters exports b = max (length (call_words exports b.id b.call)) (length (words_below b.reply))
-
--- how wide columns have to be so that these words end before the next call of the process; any width is enough where there is none
-unfoldable pub width_for : List Signature → (columns : ℕ) → Bar → ℕ
-width_for exports columns b = cond (nat_lt b.next columns) (7 * (most_letters exports b + 1) / max (b.next - b.begin) 1 + 1) 0
-
-abbrev pub width_at : List Signature → (columns : ℕ) → Sight → Happening → List Sight → ℕ
-width_at exports columns s (Begun call) behind = width_for exports columns (bar_of columns s call behind)
-width_at exports columns s (Taken number maker) behind = 0
-width_at exports columns s (Ended reply) behind = 0
-
--- how wide columns have to be for the words of all calls
-abbrev pub wanted : List Signature → (columns : ℕ) → List Sight → ℕ
-wanted exports columns [] = 0
-wanted exports columns (s ∷ behind) = max (width_at exports columns s s.happening behind) (wanted exports columns behind)
 
 -- a call is seen in a band: it begins in it or before, and ends in it or behind
 unfoldable pub is_seen : Frame → (band : ℕ) → Bar → Bool

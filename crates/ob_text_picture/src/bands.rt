@@ -6,16 +6,17 @@ ghost use Rattle.ob_interface.specs.View.{signature_of};
 ghost use Rattle.ob_text_picture.specs.Places.{columns_in};
 ghost use Rattle.ob_text_picture.specs.Shapes.{bar_at, bars, help, mark, row, shapes_in, tick, ticks, time_of};
 ghost use Rattle.ob_text_picture.specs.Shapes as Shapes;
-ghost use Rattle.ob_text_picture.specs.Svg.{Words, shape_text, shapes_text};
 ghost use Rattle.ob_text_picture.specs.View.{band_in};
 ghost use Rattle.ob_text_picture_chart.specs.View.{chart_in, sight_of};
+ghost use Rattle.ob_text_picture_svg.specs.Svg.{Words, shape_text, shapes_text};
 
-use crate::bars::{bar_of, push_bar};
+use crate::bars::push_bar;
 use crate::marks::{push_help, push_mark};
-use crate::places::{Band, Point};
-use crate::svg::{close_words, open_words, push_line, push_numeral, push_words};
+use crate::places::Band;
 use ob_interface::export::Export;
 use ob_text_picture_chart::{Chart, Happening, Sight};
+use ob_text_picture_labels::bar_of;
+use ob_text_picture_svg::{Point, close_words, open_words, push_line, push_numeral, push_words};
 use ob_text_words::numbers::push_number;
 use std::alloc::{AllocError, Global};
 
@@ -133,7 +134,7 @@ fn push_row(text: &mut String, band: &Band, process: usize) -> Result<(), AllocE
     push_name(text, at, process)
 }
 
-#[tactic(auto, unfolding(crate::specs::Svg::shape_text))]
+#[tactic(auto, unfolding(ob_text_picture_svg::specs::Svg::shape_text))]
 fn push_name(text: &mut String, at: Point, process: usize) -> Result<(), AllocError>
     ensures { OnOk result (string_bytes text.new ≡ string_bytes text.old ++ shape_text (Words (codes "bold") at (Shapes.name process))) }
 {

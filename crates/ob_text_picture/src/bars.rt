@@ -3,80 +3,20 @@
 ghost use Rattle.std.specs.Prelude.{◌≡◌, ◌++◌, ◌≤◌, OnOk, ◌+◌, ◌<◌, ◌^◌, map, option_map, string_bytes};
 ghost use Rattle.ob_interface.specs.View.{signature_of};
 ghost use Rattle.ob_text_picture.specs.Shapes as Shapes;
-ghost use Rattle.ob_text_picture.specs.Shapes.{bar_class, bar_of, begin_of, cross, end_of, ending, fade_before, fade_behind, goes_on, is_last, is_seen, label_words, left, letters, reply_behind, reply_class, right};
-ghost use Rattle.ob_text_picture.specs.Svg.{EndGroup, Group, shape_text, shapes_text};
-ghost use Rattle.ob_text_picture.specs.View.{band_in, bar_in};
-ghost use Rattle.ob_text_picture_chart.specs.View.{sight_of};
+ghost use Rattle.ob_text_picture.specs.Shapes.{bar_class, cross, ending, fade_before, fade_behind, goes_on, is_last, is_seen, label_words, left, letters, reply_behind, reply_class, right};
+ghost use Rattle.ob_text_picture.specs.View.{band_in};
+ghost use Rattle.ob_text_picture_labels.specs.View.{bar_in};
+ghost use Rattle.ob_text_picture_svg.specs.Svg.{EndGroup, Group, shape_text, shapes_text};
 ghost use Rattle.wf_history.specs.View.{kept_call, kept_reply};
 
-use crate::labels::{push_call, push_reply, push_short_again, push_short_answer, push_short_call};
-use crate::places::{BEYOND, Band, Frame, LETTER, Point};
-use crate::svg::{close_words, open_words, push_box, push_line};
+use crate::places::{BEYOND, Band, Frame};
 use ob_interface::export::Export;
-use ob_text_picture_chart::{Happening, Sight};
+use ob_text_picture_labels::{
+    Bar, LETTER, push_call, push_reply, push_short_again, push_short_answer, push_short_call,
+};
+use ob_text_picture_svg::{Point, close_words, open_words, push_box, push_line};
 use std::alloc::{AllocError, Global};
-use wf_history::{CallId, KeptCall, KeptReply};
-
-/// A call from its begin on.
-#[derive(Clone, Copy)]
-pub(crate) struct Bar<'a> {
-    pub id: CallId,
-    pub call: &'a KeptCall,
-    pub begin: usize,
-    /// The column of its end, or of the end of the picture.
-    pub end: usize,
-    pub reply: Option<&'a KeptReply>,
-    /// The column in which its process begins its next call, or that of the end of the picture.
-    pub next: usize,
-}
-
-/// The bar of a call that begins, by what is seen behind that.
-pub(crate) fn bar_of<'a>(
-    sight: &Sight,
-    call: &'a KeptCall,
-    behind: &[Sight<'a>],
-    columns: usize,
-) -> Bar<'a>
-    ensures { bar_in result ≡ bar_of columns (sight_of sight.now) (kept_call call.now) (map sight_of behind.now) }
-{
-    let end = end_of(behind, sight.id);
-    Bar {
-        id: sight.id,
-        call,
-        begin: sight.column,
-        end: end.map_or(columns, |end| end.0),
-        reply: end.map(|end| end.1),
-        next: begin_of(behind, sight.id.process).unwrap_or(columns),
-    }
-}
-
-/// The column in which a call ends, with its reply.
-fn end_of<'a>(sights: &[Sight<'a>], id: CallId) -> Option<(usize, &'a KeptReply)>
-    ensures { option_map (λ end. (end.0, kept_reply end.1.now)) result ≡ end_of id (map sight_of sights.now) }
-{
-    for sight in sights {
-        if let Happening::Ended(reply) = sight.happening
-            && sight.id == id
-        {
-            return Some((sight.column, reply));
-        }
-    }
-    None
-}
-
-/// The column in which a process begins a call.
-fn begin_of(sights: &[Sight], process: usize) -> Option<usize>
-    ensures { result ≡ begin_of process (map sight_of sights.now) }
-{
-    for sight in sights {
-        if let Happening::Begun(_) = sight.happening
-            && sight.id.process == process
-        {
-            return Some(sight.column);
-        }
-    }
-    None
-}
+use wf_history::KeptReply;
 
 /// The bar of a call in a band, with the call above it.
 #[tactic(auto, unfolding(crate::specs::Shapes::bar))]
@@ -201,7 +141,7 @@ pub(crate) fn letters(frame: Frame, band: usize, bar: &Bar) -> u128
 }
 
 /// What a browser shows of a call: it, and its reply.
-#[tactic(auto, unfolding(crate::specs::Svg::shape_text))]
+#[tactic(auto, unfolding(ob_text_picture_svg::specs::Svg::shape_text))]
 fn push_title(text: &mut String, exports: &[Export], bar: &Bar) -> Result<(), AllocError>
     ensures { OnOk result (string_bytes text.new ≡ string_bytes text.old ++ shape_text (Group (Shapes.title (map signature_of exports.now) (bar_in bar.now)))) }
 {
@@ -223,7 +163,7 @@ fn push_reply_behind(text: &mut String, reply: Option<&KeptReply>) -> Result<(),
     }
 }
 
-#[tactic(auto, unfolding(crate::specs::Svg::shape_text))]
+#[tactic(auto, unfolding(ob_text_picture_svg::specs::Svg::shape_text))]
 fn end_group(text: &mut String) -> Result<(), AllocError>
     ensures { OnOk result (string_bytes text.new ≡ string_bytes text.old ++ shape_text EndGroup) }
 {
@@ -270,7 +210,7 @@ fn push_label_words(
 }
 
 /// The words above a bar, at their place.
-#[tactic(auto, unfolding(crate::specs::Svg::shape_text))]
+#[tactic(auto, unfolding(ob_text_picture_svg::specs::Svg::shape_text))]
 fn push_label(
     alloc: Global,
     text: &mut String,
@@ -315,7 +255,7 @@ fn is_last(frame: Frame, band: usize) -> bool
 }
 
 /// The reply, below its bar.
-#[tactic(auto, unfolding(crate::specs::Svg::shape_text))]
+#[tactic(auto, unfolding(ob_text_picture_svg::specs::Svg::shape_text))]
 fn push_answer(
     alloc: Global,
     text: &mut String,

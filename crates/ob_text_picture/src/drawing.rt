@@ -4,22 +4,22 @@ ghost use Rattle.std.specs.Prelude.{◌≡◌, ◌+◌, ◌++◌, ◌<◌, ◌�
 ghost use Rattle.ob_interface.specs.View.{signature_of};
 ghost use Rattle.ob_text_picture.specs.Shapes.{band_shapes, below_bands, calls_words, each, frame_of, head_shapes, heading_words, picture_text, top_of};
 ghost use Rattle.ob_text_picture.specs.Places.{at, bands};
-ghost use Rattle.ob_text_picture.specs.Svg.{Words, shape_text, shapes_text};
 ghost use Rattle.ob_text_picture_chart.specs.Charts.{begun, chart_of, range_of};
 ghost use Rattle.ob_text_picture_chart.specs.Faults.{IsRangeFault, MayBeShown};
 ghost use Rattle.ob_text_picture_chart.specs.View.{chart_in, moment_of};
+ghost use Rattle.ob_text_picture_svg.specs.Svg.{Words, shape_text, shapes_text};
 
 use crate::bands::push_band;
 use crate::legend::{push_call_keys, push_mark_keys, push_text_keys};
 use crate::order::push_order;
-use crate::places::{Band, Frame, Point, TOP};
+use crate::places::{Band, Frame, TOP};
 use crate::rows::rows_of;
 use crate::spill::spill_of;
-use crate::svg::{close_words, open_picture, open_words, push_box};
-use crate::widths::wanted;
 use ob_interface::MOST_PROCESSES;
 use ob_interface::export::Export;
 use ob_text_picture_chart::{CallRange, Chart, Moment, PictureFault, chart_of};
+use ob_text_picture_labels::wanted;
+use ob_text_picture_svg::{Point, close_words, open_picture, open_words, push_box};
 use ob_text_words::numbers::push_number;
 use std::alloc::{AllocError, Global};
 use wf_history::CallId;
@@ -88,7 +88,7 @@ fn push_head(text: &mut String, chart: &Chart, size: Point) -> Result<(), AllocE
 }
 
 /// How many processes there are, and which calls are shown.
-#[tactic(auto, unfolding(crate::specs::Svg::shape_text))]
+#[tactic(auto, unfolding(ob_text_picture_svg::specs::Svg::shape_text))]
 fn push_heading(text: &mut String, chart: &Chart) -> Result<(), AllocError>
     ensures { OnOk result (string_bytes text.new ≡ string_bytes text.old ++ shape_text (Words (codes "head") (at 12 22) (heading_words (chart_in chart.now)))) }
 {

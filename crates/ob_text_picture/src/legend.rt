@@ -3,11 +3,10 @@
 ghost use Rattle.std.specs.Prelude.{◌≡◌, ◌+◌, ◌++◌, ◌<◌, OnOk, string_bytes};
 ghost use Rattle.ob_text_picture.specs.Places as Places;
 ghost use Rattle.ob_text_picture.specs.Shapes.{bar_key, bar_keys, call_keys, event_keys, fade_keys, helped_keys, mark_key, mark_keys, text_keys, word_keys};
-ghost use Rattle.ob_text_picture.specs.Svg.{shapes_text};
+ghost use Rattle.ob_text_picture_svg.specs.Svg.{shapes_text};
 
 use crate::bars::push_cross;
-use crate::places::Point;
-use crate::svg::{push_box, push_circle, push_line, push_numeral, push_words};
+use ob_text_picture_svg::{Point, push_box, push_circle, push_line, push_numeral, push_words};
 use std::alloc::AllocError;
 
 fn at(x: u128, y: u128) -> Point

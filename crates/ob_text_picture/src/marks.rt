@@ -2,13 +2,13 @@
 
 ghost use Rattle.std.specs.Prelude.{◌≡◌, ◌++◌, ◌<◌, ◌^◌, OnOk, string_bytes};
 ghost use Rattle.ob_text_picture.specs.Shapes.{help, is_helped, mark};
-ghost use Rattle.ob_text_picture.specs.Svg.{shapes_text};
 ghost use Rattle.ob_text_picture.specs.View.{band_in};
 ghost use Rattle.ob_text_picture_chart.specs.View.{sight_of};
+ghost use Rattle.ob_text_picture_svg.specs.Svg.{shapes_text};
 
-use crate::places::{Band, Point};
-use crate::svg::{push_circle, push_line, push_numeral};
+use crate::places::Band;
 use ob_text_picture_chart::{Happening, Sight};
+use ob_text_picture_svg::{Point, push_circle, push_line, push_numeral};
 use std::alloc::AllocError;
 use wf_history::CallId;
 

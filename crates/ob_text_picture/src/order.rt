@@ -3,12 +3,12 @@
 ghost use Rattle.std.specs.Prelude.{◌≡◌, ◌++◌, ◌<◌, ◌^◌, OnOk, codes, string_bytes};
 ghost use Rattle.ob_text_picture.specs.Places.{cell};
 ghost use Rattle.ob_text_picture.specs.Shapes.{cell_words, order_shapes};
-ghost use Rattle.ob_text_picture.specs.Svg.{Words, shape_text, shapes_text};
+ghost use Rattle.ob_text_picture_svg.specs.Svg.{Words, shape_text, shapes_text};
 
-use crate::labels::push_id;
-use crate::places::{Frame, Point};
-use crate::svg::{close_words, open_words, push_words};
+use crate::places::Frame;
 use ob_text_picture_chart::Placed;
+use ob_text_picture_labels::push_id;
+use ob_text_picture_svg::{Point, close_words, open_words, push_words};
 use ob_text_words::numbers::push_number;
 use std::alloc::AllocError;
 
@@ -35,7 +35,7 @@ pub(crate) fn push_order(
 }
 
 /// A call of the order, with its number.
-#[tactic(auto, unfolding(crate::specs::Shapes::cell_words, crate::specs::Svg::shape_text))]
+#[tactic(auto, unfolding(crate::specs::Shapes::cell_words, ob_text_picture_svg::specs::Svg::shape_text))]
 fn push_cell(text: &mut String, at: Point, placed: Placed) -> Result<(), AllocError>
     ensures { OnOk result (string_bytes text.new ≡ string_bytes text.old ++ shape_text (Words (codes "cell") at (cell_words placed))) }
 {

@@ -4,15 +4,7 @@ ghost use Rattle.std.specs.Prelude.{◌≡◌, ◌+◌, ◌-◌, ◌*◌, ◌<�
 ghost use Rattle.ob_text_picture.specs.Places.{bands, below, beyond, cell, column_width, columns_in, first, height, in_line, is_in, lead, most, room, row_of, width, x_of, y_of};
 ghost use Rattle.ob_text_picture.specs.View.{band_in};
 
-/// A place, from the left and from the top.
-#[derive(Clone, Copy)]
-pub struct Point {
-    pub x: u128,
-    pub y: u128,
-}
-
-/// The width of a letter.
-pub(crate) const LETTER: u128 = 7;
+use ob_text_picture_svg::Point;
 
 /// How far words may go on behind the end of a band.
 pub(crate) const BEYOND: u128 = 200;

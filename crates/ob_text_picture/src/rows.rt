@@ -4,9 +4,10 @@ ghost use Rattle.std.specs.Prelude.{◌≡◌, ◌≤◌, IfOk, length, map};
 ghost use Rattle.ob_text_picture.specs.Shapes.{is_busy, is_busy_at, is_maker, rows};
 ghost use Rattle.ob_text_picture_chart.specs.View.{sight_of};
 
-use crate::bars::{bar_of, is_seen};
+use crate::bars::is_seen;
 use crate::places::Frame;
 use ob_text_picture_chart::{Happening, Sight};
+use ob_text_picture_labels::bar_of;
 use std::alloc::{AllocError, Global};
 
 /// Of the first processes, so many, those that have something in a band.

@@ -3,14 +3,14 @@
 ghost use Rattle.std.specs.Prelude.{◌≡◌, ◌<◌, ◌^◌, IfOk, map};
 ghost use Rattle.ob_interface.specs.View.{signature_of};
 ghost use Rattle.ob_text_picture.specs.Shapes.{overhang, overhang_at, spill};
-ghost use Rattle.ob_text_picture.specs.View.{bar_in};
 ghost use Rattle.ob_text_picture_chart.specs.View.{sight_of};
+ghost use Rattle.ob_text_picture_labels.specs.View.{bar_in};
 
-use crate::bars::{Bar, bar_of, is_seen, left, letters};
-use crate::places::{Frame, LETTER};
-use crate::widths::most_letters;
+use crate::bars::{is_seen, left, letters};
+use crate::places::Frame;
 use ob_interface::export::Export;
 use ob_text_picture_chart::{Happening, Sight};
+use ob_text_picture_labels::{Bar, LETTER, bar_of, most_letters};
 use std::alloc::{AllocError, Global};
 
 /// How far the words of calls go on behind the end of a band.

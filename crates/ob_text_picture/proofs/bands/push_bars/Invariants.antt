@@ -2,9 +2,9 @@
 use Rattle.std.proofs.Common.{◌≡◌, ◌++◌, drop, map, string_bytes}
 use Rattle.ob_interface.specs.View.{signature_of}
 use Rattle.ob_text_picture.specs.Shapes.{bars}
-use Rattle.ob_text_picture.specs.Svg.{shapes_text}
 use Rattle.ob_text_picture.specs.View.{band_in}
 use Rattle.ob_text_picture_chart.specs.View.{sight_of}
+use Rattle.ob_text_picture_svg.specs.Svg.{shapes_text}
 use Rattle.ob_text_picture.proofs.bands.push_bars.Given as goal
 
 abbrev pub invariant-loop-index : goal.invariant-loop-index

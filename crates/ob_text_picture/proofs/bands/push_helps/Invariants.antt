@@ -2,9 +2,9 @@
 use Rattle.std.proofs.Common.{◌≡◌, ◌++◌, map, take, string_bytes}
 use Rattle.std.specs.List.{flat_map}
 use Rattle.ob_text_picture.specs.Shapes.{help}
-use Rattle.ob_text_picture.specs.Svg.{shapes_text}
 use Rattle.ob_text_picture.specs.View.{band_in}
 use Rattle.ob_text_picture_chart.specs.View.{sight_of}
+use Rattle.ob_text_picture_svg.specs.Svg.{shapes_text}
 use Rattle.ob_text_picture.proofs.bands.push_helps.Given as goal
 
 abbrev pub invariant-loop-sight : goal.invariant-loop-sight

@@ -2,8 +2,8 @@
 use Rattle.std.proofs.Common.{◌≡◌, ◌++◌, take, string_bytes}
 use Rattle.std.specs.List.{flat_map}
 use Rattle.ob_text_picture.specs.Shapes.{row}
-use Rattle.ob_text_picture.specs.Svg.{shapes_text}
 use Rattle.ob_text_picture.specs.View.{band_in}
+use Rattle.ob_text_picture_svg.specs.Svg.{shapes_text}
 use Rattle.ob_text_picture.proofs.bands.push_rows.Given as goal
 
 abbrev pub invariant-loop-process : goal.invariant-loop-process

@@ -2,8 +2,8 @@
 use Rattle.std.proofs.Common.{◌≡◌, ◌∷◌, ◌++◌, ◌+◌, codes, string_bytes}
 use Rattle.ob_text_picture.specs.Places.{at}
 use Rattle.ob_text_picture.specs.Shapes.{each, tick}
-use Rattle.ob_text_picture.specs.Svg.{Words, shapes_text}
 use Rattle.ob_text_picture.specs.View.{band_in}
+use Rattle.ob_text_picture_svg.specs.Svg.{Words, shapes_text}
 use Rattle.ob_text_picture.proofs.bands.push_ticks.Given as goal
 
 abbrev pub invariant-loop-index : goal.invariant-loop-index

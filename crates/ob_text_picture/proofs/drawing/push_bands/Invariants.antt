@@ -2,8 +2,8 @@
 use Rattle.std.proofs.Common.{◌≡◌, ◌≤◌, ◌+◌, ◌*◌, ◌++◌, map, string_bytes}
 use Rattle.ob_interface.specs.View.{signature_of}
 use Rattle.ob_text_picture.specs.Shapes.{band_shapes, each, top_of}
-use Rattle.ob_text_picture.specs.Svg.{shapes_text}
 use Rattle.ob_text_picture_chart.specs.View.{chart_in}
+use Rattle.ob_text_picture_svg.specs.Svg.{shapes_text}
 use Rattle.ob_text_picture.proofs.drawing.push_bands.Given as goal
 
 abbrev pub invariant-loop-band : goal.invariant-loop-band

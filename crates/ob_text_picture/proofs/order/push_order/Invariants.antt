@@ -1,7 +1,7 @@
 -- The calls so far, and those from the next place on.
 use Rattle.std.proofs.Common.{◌≡◌, ◌++◌, drop, string_bytes}
 use Rattle.ob_text_picture.specs.Shapes.{cells, order_shapes}
-use Rattle.ob_text_picture.specs.Svg.{shapes_text}
+use Rattle.ob_text_picture_svg.specs.Svg.{shapes_text}
 use Rattle.ob_text_picture.proofs.order.push_order.Given as goal
 
 abbrev pub invariant-loop-place : goal.invariant-loop-place

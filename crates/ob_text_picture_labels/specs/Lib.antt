@@ -1,0 +1,4 @@
+pub mod Labels
+pub mod Bars
+pub mod Widths
+pub mod View

@@ -1,0 +1,2 @@
+pub mod Style
+pub mod Svg
