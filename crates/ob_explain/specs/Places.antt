@@ -1,6 +1,7 @@
 -- Lines and columns of a text.
-use Rattle.std.specs.Prelude.{ℕ, ◌+◌, ◌-◌, ◌==◌, not, Bool, List, length, take, drop, if◌then◌else◌}
-use Rattle.std.specs.List.{fold, take_while}
+use Rattle.std.specs.Prelude.{ℕ, ◌+◌, ◌-◌, ◌==◌, nat_lt, not, Bool, List, length, take, drop, if◌then◌else◌}
+use Rattle.std.specs.Char.{is_ascii_whitespace}
+use Rattle.std.specs.List.{fold, suffix_len, take_while}
 use Rattle.ob_explain.specs.declared.place.Place.{Place}
 
 abbrev pub is_line_feed : ℕ → Bool
@@ -26,3 +27,7 @@ up_to_line_feed bytes = take_while (λ b. not (is_line_feed b)) bytes
 -- the bytes of its line from an offset on
 abbrev pub line_from : List ℕ → ℕ → List ℕ
 line_from text at = up_to_line_feed (drop at text)
+
+-- Where a place is shown: the end of a text behind its last byte that is no blank, in whose line people look for what is missing.
+abbrev pub shown_place : List ℕ → ℕ → ℕ
+shown_place text at = if nat_lt at (length text) then at else length text - suffix_len is_ascii_whitespace text

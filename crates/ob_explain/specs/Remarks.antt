@@ -28,6 +28,7 @@ use Rattle.ob_explain_expected.specs.Expected.{AreExpected}
 use Rattle.ob_explain_expected.specs.Groups.{expected_sentence}
 use Rattle.ob_scan.specs.declared.token.Kind.{Kind}
 use Rattle.ob_scan.specs.declared.token.Token.{Token}
+use Rattle.ob_explain.specs.Places.{shown_place}
 use Rattle.ob_explain.specs.Rules.{behind_word, rule_sentence}
 use Rattle.ob_explain.specs.Shown.{shown_byte}
 use Rattle.ob_explain.specs.declared.remark.Remark as Told
@@ -69,13 +70,14 @@ abbrev pub name_remark : (text : List ℕ) → (place : ℕ) → List Token → 
 name_remark text place before =
     hinting place (end_sentence text (name_of_end 0 None before)) (name_hint text (word_at (drop place text)) before)
 
--- of a token that can't stand there, or the end, what could: the kinds of token with which the text before it goes on
+-- of a token that can't stand there, or the end, what could: the kinds of token with which the text before it goes on; the end is shown
+-- behind the last byte that is no blank
 pub record IsUnexpectedRemark (text : List ℕ) (place : ℕ) (remark : Option Remark) : Type 0 where
   pub kinds : List Kind
   pub hint : Option Hint
   pub expected : AreExpected text place kinds
   pub hinted : IsUnexpectedHint text place kinds hint
-  pub says : remark ≡ hinting place (expected_sentence kinds) hint
+  pub says : remark ≡ hinting (shown_place text place) (expected_sentence kinds) hint
 
 -- of a fault of the grammar
 abbrev pub IsParseRemark : List ℕ → ParseFault → Option Remark → Type 0

@@ -1,7 +1,7 @@
 //! Lines and columns of a text.
 
 ghost use Rattle.std.specs.Prelude.{◌≡◌, ◌+◌, ◌≤◌, ◌<◌, ◌^◌, drop, length, take};
-ghost use Rattle.ob_explain.specs.Places.{behind_byte, line_before, line_from, place_in, up_to_line_feed};
+ghost use Rattle.ob_explain.specs.Places.{behind_byte, line_before, line_from, place_in, shown_place, up_to_line_feed};
 
 /// A place as people count: its line from 1, and its column, which is one more than the bytes before it in its line.
 #[derive(Clone, Copy)]
@@ -56,6 +56,17 @@ fn up_to_line_feed(text: &[u8]) -> &[u8]
 {
     let length = text.iter().take_while(|byte| **byte != b'\n').count();
     &text[..length]
+}
+
+/// Where a place of a text is shown: its end behind the last byte that is no blank.
+pub fn shown_place(text: &[u8], at: usize) -> usize
+    ensures { result ≡ shown_place text.now at }
+{
+    if at < text.len() {
+        at
+    } else {
+        text.trim_ascii_end().len()
+    }
 }
 
 /// What stands before a place of a text, and what from there on.

@@ -3,7 +3,7 @@
 ghost use Rattle.std.specs.Prelude.{◌≡◌, Some, IfOk, option_map, string_bytes};
 ghost use Rattle.ob_explain.specs.Remarks.{IsCheckRemark, IsParseRemark, IsUnexpectedRemark, broken_remark, end_sentence, remark_of, rule_hint, scan_remark};
 
-use crate::place::halves;
+use crate::place::{halves, shown_place};
 use crate::rules::{behind_word, rule_sentence};
 use crate::shown::push_line;
 use ob_explain_causes::causes::{Hint, known};
@@ -116,7 +116,7 @@ fn unexpected_remark(alloc: Global, text: &[u8], place: usize) -> Result<Option<
     let hint = unexpected_hint(alloc, text, place, &kinds)?;
     let sentence = expected_sentence(alloc, kinds)?;
     Ok(Some(Remark {
-        place,
+        place: shown_place(text, place),
         sentence,
         hint,
     }))
