@@ -1,6 +1,6 @@
 //! The answers of `explain` on traps. Of a module's text they have the beginning: a module of more bytes is too long.
 
-ghost use Rattle.std.specs.Prelude.{◌≡◌, IfOk};
+ghost use Rattle.std.specs.Prelude.{IfOk};
 ghost use Rattle.ob_answer.specs.Answers.{IsObeyed};
 ghost use Rattle.ob_answer.specs.Explains.{AreTrapsExplained};
 ghost use Rattle.ob_answer.specs.Reads.{OfWhole};

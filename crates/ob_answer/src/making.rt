@@ -1,6 +1,6 @@
 //! Answers made of the bytes of files. Of a module's text they have the beginning: a module of more bytes is too long.
 
-ghost use Rattle.std.specs.Prelude.{◌≡◌, ◌≢◌, ◌<◌, ◌≤◌, ◌++◌, ◌⊎◌, false, Err, IfErr, IfOk, codes, length, string_bytes};
+ghost use Rattle.std.specs.Prelude.{◌≡◌, ◌≢◌, ◌<◌, ◌++◌, false, Err, IfOk, codes, string_bytes};
 ghost use Rattle.ob_answer.specs.Answers.{IsBoundAnswer, IsCheckAnswer, IsListAnswer, IsPictureAnswer, IsRecordAnswer, IsRecordPictureAnswer, IsRunAnswer, IsSeqAnswer, IsServeAnswer, IsStepsAnswer, IsTreeRecordAnswer, IsVerifyAnswer};
 ghost use Rattle.ob_answer.specs.Reads.{OfWhole};
 ghost use Rattle.ob_answer.specs.Printed.{IsRefused};
@@ -10,14 +10,12 @@ ghost use Rattle.ob_fault_lines.specs.RunFaultLines.{run_fault_line};
 ghost use Rattle.ob_fault_lines.specs.SequentialFaultLines.{seq_fault_line};
 ghost use Rattle.ob_fault_lines.specs.ServeFaultLines.{serve_fault_line};
 ghost use Rattle.ob_fault_lines.specs.VerifyFaultLines.{verify_fault_line};
-ghost use Rattle.ob_meaning.specs.Object.{most_turns};
 ghost use Rattle.ob_object_compile.specs.Compilation as Compiles;
 ghost use Rattle.ob_object_perform.specs.Performance as Performs;
 ghost use Rattle.ob_object_sequence.specs.SequentialRun.{is_want_of_memory};
 
 use crate::answered::Answer;
 use crate::product::Product;
-use ob_check_text::TextFault;
 use ob_desk_texts::{ServeTextFault, serve_text};
 use ob_fault_lines::compile_faults::compile_fault_line;
 use ob_fault_lines::draw_faults::{draw_fault_line, draw_record_fault_line};
@@ -25,7 +23,7 @@ use ob_fault_lines::run_faults::run_fault_line;
 use ob_fault_lines::sequential_faults::seq_fault_line;
 use ob_fault_lines::serve_faults::serve_fault_line;
 use ob_fault_lines::verify_faults::verify_fault_line;
-use ob_interface::{MOST_PROCESSES, NoMemory};
+use ob_interface::NoMemory;
 use ob_object_bound::bound_text;
 use ob_object_compile::{CompileFault, list_text};
 use ob_object_draw::{DrawRecordFault, draw_record_text};
@@ -34,7 +32,6 @@ use ob_object_sequence::{SeqTextFault, check_text, seq_text};
 use ob_object_spent::run_text_with_steps;
 use ob_object_tree::run_tree_text;
 use ob_object_verify::{VerifyFault, verify_text};
-use ob_scan::ScanFault;
 use ob_text_picture_chart::CallRange;
 use std::alloc::{AllocError, Global};
 use std::sync::Wait;

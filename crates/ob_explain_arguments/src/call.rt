@@ -1,6 +1,6 @@
 //! What is told of the words of a line that makes a call.
 
-ghost use Rattle.std.specs.Prelude.{◌≡◌, IfOk, length, map, option_map};
+ghost use Rattle.std.specs.Prelude.{◌≡◌, IfOk, map, option_map};
 ghost use Rattle.ob_interface.specs.Export.{value_types};
 ghost use Rattle.ob_interface.specs.View.{signature_of};
 ghost use Rattle.ob_text_exports.specs.ExportNames.{export_named};

@@ -1,9 +1,7 @@
 //! The tokens before a place of a text, and those behind it.
 
-ghost use Rattle.std.specs.Prelude.{◌≡◌, ◌≤◌, List, IfOk, length};
-ghost use Rattle.ob_scan.specs.Limits.{longest_text};
+ghost use Rattle.std.specs.Prelude.{◌≡◌, IfOk};
 ghost use Rattle.ob_scan.specs.ScanFaults.{IsScanFault};
-ghost use Rattle.ob_scan.specs.Tokens.{HasTokens};
 ghost use Rattle.ob_scan.specs.declared.token.Token.{Token};
 ghost use Rattle.ob_explain_tokens.specs.Around.{AreTokens, before, behind, is_memory};
 

@@ -8,7 +8,7 @@ use Rattle.ob_explain_operands.specs.Declarations.{token_bytes}
 use Rattle.ob_explain_operands.specs.Numerals.{numeral_next}
 use Rattle.ob_explain_operands.specs.declared.numerals.Numeral.{Numeral}
 use Rattle.ob_explain_words.specs.Counts.{fitting}
-use Rattle.ob_explain_words.specs.Kinds.{is_of}
+use Rattle.ob_explain_operands.specs.Kinds.{is_of}
 use Rattle.ob_explain_words.specs.Scopes.{Scope}
 
 abbrev pub are_digits : List ℕ → Bool

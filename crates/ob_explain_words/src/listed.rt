@@ -7,12 +7,12 @@ ghost use Rattle.ob_explain_words.specs.Scopes.{scope_of};
 ghost use Rattle.ob_explain_words.specs.Types.{begins_type, behind_name, behind_part, counted, ends_lists, list_words, names_of, reading_behind, simple_words, size_of, type_words, with_list};
 
 use crate::counts::{at_least_one, product_of, sum_of};
-use crate::kinds::{is_array, is_end, is_listed, is_record};
+use crate::kinds::is_listed;
 use crate::lengths::length_behind;
 use crate::named::named_words;
 use crate::scope::Scope;
 use ob_explain_names::lookup::name_at;
-use ob_explain_operands::kinds::{is_colon, is_name, is_semicolon};
+use ob_explain_operands::kinds::{is_array, is_colon, is_end, is_name, is_record, is_semicolon};
 use ob_scan::{Kind, Token};
 use std::alloc::{AllocError, Global};
 

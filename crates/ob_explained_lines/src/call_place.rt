@@ -1,9 +1,8 @@
 //! Where calls may begin and end in a record.
 
-ghost use Rattle.std.specs.Prelude.{◌≡◌, ◌++◌, IfOk, MatchOption, OnOk, Some, option_map, string_bytes};
+ghost use Rattle.std.specs.Prelude.{◌≡◌, IfOk, Some, option_map, string_bytes};
 ghost use Rattle.ob_explained_lines.specs.CallPlaces.{IsBeginPlace, IsCallWithin, IsLineBefore, before, begin_text, begun_text, behind_text, ended_text};
 ghost use Rattle.ob_explained_lines.specs.CallPlaces.{first_text, gap_text, not_begun_text, open_text, previous};
-ghost use Rattle.ob_text_record.specs.RecordText.{id_text};
 
 use crate::call_name::call_named;
 use crate::record_line::{Wanted, first_line};

@@ -1,9 +1,8 @@
 //! Why a line of a record can't stand where it does.
 
-ghost use Rattle.std.specs.Prelude.{◌≡◌, ◌↔◌, ◌<◌, ◌-◌, ℕ, [], IfOk, IfSome, IsTrue, List, None, Option, Some, length, map, option_map, slice_get};
+ghost use Rattle.std.specs.Prelude.{◌≡◌, ◌↔◌, ◌<◌, ◌-◌, [], IfOk, IfSome, IsTrue, None, Option, Some, length, map, option_map, slice_get};
 ghost use Rattle.std.specs.Prelude.{string_bytes, unwrap_or};
 ghost use Rattle.ob_explain_arguments.specs.Calls.{told_of};
-ghost use Rattle.ob_explain_arguments.specs.Misfits.{TellsMisfit};
 ghost use Rattle.ob_explained_lines.specs.CallPlaces.{NamesNoCall};
 ghost use Rattle.ob_explained_lines.specs.Causes.{IsBeginCause, IsCallsCause, IsCountedCause, IsDoneCause, IsEndCause, IsLetter, IsLetterCause, IsLineCause};
 ghost use Rattle.ob_explained_lines.specs.Causes.{IsDoneTold, IsSaidBegin, IsSaidEnd, IsOutcome, IsOutcomeCause, IsPlacedBegin, IsPlacedEnd, IsProcessCount};

@@ -1,6 +1,6 @@
 //! What is shown of a fault of a run.
 
-ghost use Rattle.std.specs.Prelude.{◌≡◌, IfOk, option_map, string_bytes};
+ghost use Rattle.std.specs.Prelude.{IfOk, option_map, string_bytes};
 ghost use Rattle.ob_explained_runs.specs.ExplainedRuns.{IsRunExplanation, IsRunScriptExplanation};
 ghost use Rattle.ob_explained_runs.specs.Sources.{source_of};
 

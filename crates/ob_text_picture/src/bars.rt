@@ -7,7 +7,7 @@ ghost use Rattle.ob_text_picture.specs.Shapes.{bar_class, cross, ending, fade_be
 ghost use Rattle.ob_text_picture.specs.View.{band_in};
 ghost use Rattle.ob_text_picture_labels.specs.View.{bar_in};
 ghost use Rattle.ob_text_picture_svg.specs.Svg.{EndGroup, Group, shape_text, shapes_text};
-ghost use Rattle.wf_history.specs.View.{kept_call, kept_reply};
+ghost use Rattle.wf_history.specs.View.{kept_reply};
 
 use crate::places::{BEYOND, Band, Frame};
 use ob_interface::export::Export;
