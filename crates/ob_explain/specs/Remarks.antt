@@ -13,7 +13,8 @@ use Rattle.ob_explain_names.specs.Lookup.{name_at, sort_of}
 use Rattle.ob_explain_names.specs.Needs.{need_of}
 use Rattle.ob_explain_names.specs.Visible.{AreVisible}
 use Rattle.ob_explain_names.specs.declared.known.Known.{Known}
-use Rattle.ob_explain_causes.specs.Causes.{known}
+use Rattle.ob_explain_causes.specs.Causes.{either, known, told}
+use Rattle.ob_explain_causes.specs.Signs.{number_cause}
 use Rattle.ob_explain_causes.specs.declared.causes.Hint.{Hint}
 use Rattle.ob_explain_slips.specs.Endings.{name_hint}
 use Rattle.ob_explain_slips.specs.Rules.{kind_hint, types_hint, unknown_hint}
@@ -48,10 +49,14 @@ at place sentence = Some (record { place = place; sentence = sentence; hint = No
 abbrev pub hinting : ℕ → List ℕ → Option Hint → Option Remark
 hinting place sentence hint = Some (record { place = place; sentence = sentence; hint = hint })
 
+-- of a byte that begins no token: in a number, or by itself
+abbrev pub stray_hint : List ℕ → ℕ → Option Hint
+stray_hint text place = either (told (number_cause (take place text) (drop place text))) (known (stray_slip (drop place text)))
+
 abbrev pub scan_remark : List ℕ → ScanFault → Option Remark
 scan_remark text (Scan.StrayByte place) =
     hinting place (codes "no token begins with this byte; a module has ASCII letters, digits, blanks and the symbols of the language")
-    (known (stray_slip (drop place text)))
+    (stray_hint text place)
 scan_remark text (Scan.NumberTooLarge place) =
     hinting place (codes "a number is at most 2147483647") (known (number_slip (take place text) (drop place text)))
 scan_remark text (Scan.OpenComment place) = at place (codes "this comment has no end; comments nest, and each (* has its own *)")

@@ -1,12 +1,14 @@
 //! What is wrong at a place of a module, in a sentence.
 
 ghost use Rattle.std.specs.Prelude.{◌≡◌, Some, IfOk, option_map, string_bytes};
-ghost use Rattle.ob_explain.specs.Remarks.{IsCheckRemark, IsParseRemark, IsUnexpectedRemark, broken_remark, end_sentence, remark_of, rule_hint, scan_remark};
+ghost use Rattle.ob_explain.specs.Remarks.{IsCheckRemark, IsParseRemark, IsUnexpectedRemark, broken_remark, end_sentence, remark_of, rule_hint, scan_remark, stray_hint};
 
 use crate::place::{halves, shown_place};
 use crate::rules::{behind_word, rule_sentence};
 use crate::shown::push_line;
+use ob_explain_causes::causes;
 use ob_explain_causes::causes::{Hint, known};
+use ob_explain_causes::signs::number_cause;
 use ob_explain_expected::expected::expected_kinds;
 use ob_explain_expected::phrases::expected_sentence;
 use ob_explain_hints::slips::{number_slip, stray_slip};
@@ -48,7 +50,7 @@ pub fn scan_remark(
             alloc,
             place,
             "no token begins with this byte; a module has ASCII letters, digits, blanks and the symbols of the language",
-            known(stray_slip(halves(text, place).1)),
+            stray_hint(text, place),
         ),
         ScanFault::NumberTooLarge(place) => {
             let (before, behind) = halves(text, place);
@@ -76,6 +78,17 @@ pub fn scan_remark(
         ),
         ScanFault::NoMemory => Ok(None),
     }
+}
+
+/// The hint on a byte that begins no token, in a number or by itself.
+fn stray_hint(text: &[u8], place: usize) -> Option<Hint>
+    ensures { result ≡ stray_hint text.now place }
+{
+    let (before, from) = halves(text, place);
+    causes::either(
+        causes::told(number_cause(before, from)),
+        known(stray_slip(from)),
+    )
 }
 
 /// The remark on a fault of the text's grammar; `None` for want of memory.

@@ -55,6 +55,12 @@ cause_text Causes.ExportBehind = codes "the * of an export stands behind the nam
 cause_text Causes.NoType = codes "behind names stand : and their type, as k: INTEGER"
 cause_text Causes.Semicolon = codes "is a ; missing before it?"
 cause_text Causes.FurtherDown = codes "a procedure of this name is declared further down; a name is known behind its declaration only"
+cause_text Causes.HeadingEnd = codes "the heading of a procedure ends with ;, as PROCEDURE P(k: INTEGER);"
+cause_text Causes.Leader = codes "behind the condition of IF and ELSIF stands THEN, behind that of WHILE stands DO"
+cause_text Causes.NoThen = codes "is THEN missing before it?"
+cause_text Causes.NoDo = codes "is DO missing before it?"
+cause_text Causes.RepeatEnd = codes "a REPEAT ends with UNTIL and its condition, without an END"
+cause_text Causes.PartedNumber = codes "a number has digits alone, and no underscores"
 
 -- names that other languages have
 abbrev pub names : List Cause

@@ -1,21 +1,29 @@
 -- What a sign comes of that can't stand at a place of a text: by its tokens, the last one before the place, the kinds of token
 -- that could stand there, and the bytes before the place and from there on.
-use Rattle.std.specs.Prelude.{ℕ, ◌==◌, ◌||◌, ◌&&◌, not, nat_eq, Bool, true, false, List, codes, length, Option, Some, None, if◌then◌else◌}
+use Rattle.std.specs.Prelude.{ℕ, ◌==◌, ◌||◌, ◌&&◌, not, nat_eq, Bool, true, false, List, codes, is_some, length, slice_get, Option, Some, None, if◌then◌else◌}
+use Rattle.std.specs.Char.{is_ascii_digit}
 use Rattle.std.specs.List.{starts_with}
 use Rattle.ob_scan.specs.declared.token.Kind.{Kind}
 use Rattle.ob_scan.specs.declared.token.Kind.TheVariants as Kinds
 use Rattle.ob_scan.specs.declared.token.Token.{Token}
 use Rattle.ob_explain_expected.specs.Groups.{has}
-use Rattle.ob_explain_hints.specs.Slips.{begins_with, ends_with}
+use Rattle.ob_explain_hints.specs.Slips.{begins_with, ends_with, word_slip}
 use Rattle.ob_explain_hints.specs.Words.{word_before}
 use Rattle.ob_explain_causes.specs.declared.causes.Cause.{Cause}
 use Rattle.ob_explain_causes.specs.declared.causes.Cause.TheVariants as Causes
-use Rattle.ob_explain_causes.specs.Procedures.{declares, names_no_array}
+use Rattle.ob_explain_causes.specs.Procedures.{declares, lists, names_no_array}
 
--- behind a name that no array has stands a call in an expression; behind another one, or behind no name, an element in parentheses
+-- a word of the table of slips, which the tokens declare as no procedure and no variable
+abbrev pub is_foreign : (text word : List ℕ) → List Token → Bool
+is_foreign text word tokens = is_some (word_slip word) && not (declares text word false tokens || lists text word false tokens)
+
+-- Behind a name that no array has stands a call in an expression; behind another one, or behind no name, an element in parentheses. Of a
+-- word of the table of slips that tells more.
 abbrev pub called_cause : (text : List ℕ) → List Token → (word : List ℕ) → Option Cause
 called_cause text tokens word =
-    if not (length word == 0) && names_no_array text word tokens then Some Causes.NoFunction else Some Causes.Index
+    if is_foreign text word tokens then None
+    else if not (length word == 0) && names_no_array text word tokens then Some Causes.NoFunction
+    else Some Causes.Index
 
 -- a `(` where a `[` could stand
 abbrev pub call_cause : (text : List ℕ) → List Token → List Kind → (before from : List ℕ) → Option Cause
@@ -34,22 +42,32 @@ abbrev pub is_right : Option Token → Bool
 is_right None = false
 is_right (Some t) = is_right_kind t.kind
 
-abbrev pub ends_heading_kind : Kind → Bool
-ends_heading_kind Kinds.RightParen = true
-ends_heading_kind Kinds.Times = true
-ends_heading_kind _ = false
+-- END or UNTIL could stand there
+abbrev pub ends_statement : List Kind → Bool
+ends_statement kinds = has kinds Kinds.End || has kinds Kinds.Until
 
--- the parameters of a procedure end there, or the `*` of an export stands there
-abbrev pub ends_heading : Option Token → Bool
-ends_heading None = false
-ends_heading (Some t) = ends_heading_kind t.kind
+-- The heading of a procedure could end there: a `;` could stand, but no operator and no end of statements, and what is before it are its
+-- parameters in parentheses, or they could stand there.
+abbrev pub ends_heading : Option Token → List Kind → Bool
+ends_heading last kinds =
+    (has kinds Kinds.Semicolon && not (has kinds Kinds.And || ends_statement kinds)) && (is_right last || has kinds Kinds.LeftParen)
 
--- a `:` behind the heading of a procedure, where its `;` could stand
-abbrev pub result_cause : (text : List ℕ) → List Token → Option Token → List Kind → (before from : List ℕ) → Option Cause
-result_cause text tokens last kinds before from =
-    if (is_colon from && has kinds Kinds.Semicolon) && (ends_heading last || declares text (word_before before) false tokens)
-    then Some Causes.NoFunction
-    else None
+abbrev pub begins_type_kind : Kind → Bool
+begins_type_kind Kinds.Ident = true
+begins_type_kind Kinds.Array = true
+begins_type_kind Kinds.Record = true
+begins_type_kind _ = false
+
+abbrev pub begins_type : Option Token → Bool
+begins_type None = false
+begins_type (Some t) = begins_type_kind t.kind
+
+-- a `:` or `=` behind the heading of a procedure: a `:` before a type is to give it a result, and else there is one in place of its `;`
+abbrev pub result_cause : Option Token → List Kind → (from : List ℕ) → (next : Option Token) → Option Cause
+result_cause last kinds from next =
+    if not ((is_colon from || begins_with from 61) && ends_heading last kinds) then None
+    else if is_colon from && begins_type next then Some Causes.NoFunction
+    else Some Causes.HeadingEnd
 
 -- a `:=` behind the `)` of a call, behind which no operator could stand
 abbrev pub element_cause : Option Token → List Kind → (from : List ℕ) → Option Cause
@@ -110,9 +128,18 @@ abbrev pub either : Option Cause → Option Cause → Option Cause
 either None other = other
 either (Some cause) other = Some cause
 
--- the first of these
-abbrev pub sign_cause : (text : List ℕ) → List Token → Option Token → List Kind → (before from : List ℕ) → Option Cause
-sign_cause text tokens last kinds before from =
-    either (either (call_cause text tokens kinds before from) (result_cause text tokens last kinds before from))
+-- a `_` behind a word that begins with a digit
+abbrev pub is_digit : Option ℕ → Bool
+is_digit None = false
+is_digit (Some x) = is_ascii_digit x
+
+abbrev pub number_cause : (before from : List ℕ) → Option Cause
+number_cause before from =
+    if begins_with from 95 && is_digit (slice_get (word_before before) 0) then Some Causes.PartedNumber else None
+
+-- the first of these, where this token is next
+abbrev pub sign_cause : (text : List ℕ) → List Token → Option Token → List Kind → (before from : List ℕ) → (next : Option Token) → Option Cause
+sign_cause text tokens last kinds before from next =
+    either (either (call_cause text tokens kinds before from) (result_cause last kinds from next))
     (either (either (element_cause last kinds from) (either (change_cause kinds from) (comparison_cause kinds from)))
     (either (operand_cause kinds before from) (comment_cause kinds from)))

@@ -72,6 +72,8 @@ touches_number (t ∷ rest) there = is_number t.kind && (t.end == there.start)
 -- of a token of this kind
 abbrev pub kind_cause : Kind → (there : Token) → (tokens : List Token) → List Kind → (next : Option Token) → Option Cause
 kind_cause Kinds.Begin there tokens kinds next = only (is_behind_leader tokens) Causes.NoBlock
+kind_cause Kinds.Then there tokens kinds next = only (has kinds Kinds.Do) Causes.Leader
+kind_cause Kinds.Do there tokens kinds next = only (has kinds Kinds.Then) Causes.Leader
 kind_cause Kinds.Procedure there tokens kinds next = only (has kinds Kinds.While && is_in_module (open_construct 0 tokens)) Causes.Order
 kind_cause Kinds.Semicolon there tokens kinds next = only (is_awaited kinds next) Causes.LooseSemicolon
 kind_cause Kinds.Colon there tokens kinds next = only (has kinds Kinds.Assign && is_equal_next next) Causes.Apart

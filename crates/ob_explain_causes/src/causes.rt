@@ -47,6 +47,12 @@ pub enum Cause {
     NoType,
     Semicolon,
     FurtherDown,
+    HeadingEnd,
+    Leader,
+    NoThen,
+    NoDo,
+    RepeatEnd,
+    PartedNumber,
 }
 
 /// A known slip by its sign or word, or what the tokens around a place show; or what they show of a construct, which the first token opens.
@@ -144,6 +150,13 @@ pub fn cause_text(cause: Cause) -> &'static str
         Cause::Semicolon => "is a ; missing before it?",
         Cause::FurtherDown =>
             "a procedure of this name is declared further down; a name is known behind its declaration only",
+        Cause::HeadingEnd => "the heading of a procedure ends with ;, as PROCEDURE P(k: INTEGER);",
+        Cause::Leader =>
+            "behind the condition of IF and ELSIF stands THEN, behind that of WHILE stands DO",
+        Cause::NoThen => "is THEN missing before it?",
+        Cause::NoDo => "is DO missing before it?",
+        Cause::RepeatEnd => "a REPEAT ends with UNTIL and its condition, without an END",
+        Cause::PartedNumber => "a number has digits alone, and no underscores",
     }
 }
 

@@ -51,7 +51,7 @@ pub fn names_no_array(text: &[u8], tokens: &[Token], word: &[u8]) -> bool
 
 /// Whether a `:` or a `,` stands behind this name among these tokens of a text.
 #[tactic(auto, using(crate::proofs::ListSteps::listed_here, crate::proofs::ListSteps::passed_over, crate::proofs::ListSteps::none_left))]
-fn lists(text: &[u8], tokens: &[Token], word: &[u8]) -> bool
+pub fn lists(text: &[u8], tokens: &[Token], word: &[u8]) -> bool
     ensures { result ≡ lists text.now word.now false tokens.now }
 {
     let mut named = false;

@@ -1,16 +1,16 @@
 //! Causes of a sign that can't stand at a place, by the tokens around it and by what could stand there.
 
-ghost use Rattle.std.specs.Prelude.{◌≡◌};
+ghost use Rattle.std.specs.Prelude.{◌≡◌, slice_get};
 ghost use Rattle.ob_explain_expected.specs.Groups.{has};
-ghost use Rattle.ob_explain_causes.specs.Signs.{begins_change, begins_relation, begins_sign, call_cause, called_cause, change_cause, comment_cause, comparison_cause, either, element_cause, ends_heading, is_colon, is_no_expression, is_right, is_second_minus, operand_cause, result_cause, sign_cause};
+ghost use Rattle.ob_explain_causes.specs.Signs.{begins_change, begins_relation, begins_sign, begins_type, call_cause, called_cause, change_cause, comment_cause, comparison_cause, either, element_cause, ends_heading, ends_statement, is_colon, is_digit, is_foreign, is_no_expression, is_right, is_second_minus, number_cause, operand_cause, result_cause, sign_cause};
 
 use crate::causes::Cause;
-use crate::procedures::{declares, names_no_array};
-use ob_explain_hints::slips::{begins_with, ends_with};
+use crate::procedures::{declares, lists, names_no_array};
+use ob_explain_hints::slips::{begins_with, ends_with, word_slip};
 use ob_explain_hints::words::word_before;
 use ob_scan::{Kind, Token};
 
-/// The cause of a sign that can't stand between these bytes of a text, where tokens of these kinds could.
+/// The cause of a sign that can't stand between these bytes of a text, where tokens of these kinds could and this one is next.
 pub fn sign_cause(
     text: &[u8],
     tokens: &[Token],
@@ -18,11 +18,12 @@ pub fn sign_cause(
     kinds: &[Kind],
     before: &[u8],
     from: &[u8],
+    next: Option<Token>,
 ) -> Option<Cause>
-    ensures { result ≡ sign_cause text.now tokens.now last kinds.now before.now from.now }
+    ensures { result ≡ sign_cause text.now tokens.now last kinds.now before.now from.now next }
 {
     let of_call = call_cause(text, tokens, kinds, before, from);
-    let of_result = result_cause(text, tokens, last, kinds, before, from);
+    let of_result = result_cause(last, kinds, from, next);
     let of_element = element_cause(last, kinds, from);
     let of_change = either(change_cause(kinds, from), comparison_cause(kinds, from));
     let of_operand = either(
@@ -56,30 +57,57 @@ fn call_cause(
 fn called_cause(text: &[u8], tokens: &[Token], word: &[u8]) -> Option<Cause>
     ensures { result ≡ called_cause text.now tokens.now word.now }
 {
-    if !word.is_empty() && names_no_array(text, tokens, word) {
+    if is_foreign(text, tokens, word) {
+        None
+    } else if !word.is_empty() && names_no_array(text, tokens, word) {
         Some(Cause::NoFunction)
     } else {
         Some(Cause::Index)
     }
 }
 
-/// The cause of a `:` behind the heading of a procedure.
+/// Whether this is a word of the table of slips, which the tokens declare as no procedure and no variable.
+fn is_foreign(text: &[u8], tokens: &[Token], word: &[u8]) -> bool
+    ensures { result ≡ is_foreign text.now word.now tokens.now }
+{
+    word_slip(word).is_some() && !(declares(text, tokens, word) || lists(text, tokens, word))
+}
+
+/// The cause of a `:` or `=` behind the heading of a procedure.
 fn result_cause(
-    text: &[u8],
-    tokens: &[Token],
     last: Option<Token>,
     kinds: &[Kind],
-    before: &[u8],
     from: &[u8],
+    next: Option<Token>,
 ) -> Option<Cause>
-    ensures { result ≡ result_cause text.now tokens.now last kinds.now before.now from.now }
+    ensures { result ≡ result_cause last kinds.now from.now next }
 {
-    if (is_colon(from) && has(kinds, Kind::Semicolon))
-        && (ends_heading(last) || declares(text, tokens, word_before(before)))
-    {
+    if !((is_colon(from) || begins_with(from, b'=')) && ends_heading(last, kinds)) {
+        None
+    } else if is_colon(from) && begins_type(next) {
         Some(Cause::NoFunction)
     } else {
+        Some(Cause::HeadingEnd)
+    }
+}
+
+/// The cause of a `_` behind the digits of a number.
+pub fn number_cause(before: &[u8], from: &[u8]) -> Option<Cause>
+    ensures { result ≡ number_cause before.now from.now }
+{
+    if begins_with(from, b'_') && begins_with_digit(word_before(before)) {
+        Some(Cause::PartedNumber)
+    } else {
         None
+    }
+}
+
+fn begins_with_digit(word: &[u8]) -> bool
+    ensures { result ≡ is_digit (slice_get word.now 0) }
+{
+    match word.first() {
+        Some(first) => first.is_ascii_digit(),
+        None => false,
     }
 }
 
@@ -211,7 +239,8 @@ fn begins_relation(from: &[u8]) -> bool
         || begins_with(from, b'>')
 }
 
-fn is_right(token: Option<Token>) -> bool
+/// Whether a token is a `)`.
+pub fn is_right(token: Option<Token>) -> bool
     ensures { result ≡ is_right token }
 {
     match token {
@@ -220,12 +249,26 @@ fn is_right(token: Option<Token>) -> bool
     }
 }
 
-/// Whether the heading of a procedure ends with this token, if it does not end with a name.
-fn ends_heading(token: Option<Token>) -> bool
-    ensures { result ≡ ends_heading token }
+/// Whether the heading of a procedure could end behind this token.
+fn ends_heading(last: Option<Token>, kinds: &[Kind]) -> bool
+    ensures { result ≡ ends_heading last kinds.now }
+{
+    (has(kinds, Kind::Semicolon) && !(has(kinds, Kind::And) || ends_statement(kinds)))
+        && (is_right(last) || has(kinds, Kind::LeftParen))
+}
+
+/// Whether END or UNTIL is among these.
+pub fn ends_statement(kinds: &[Kind]) -> bool
+    ensures { result ≡ ends_statement kinds.now }
+{
+    has(kinds, Kind::End) || has(kinds, Kind::Until)
+}
+
+fn begins_type(token: Option<Token>) -> bool
+    ensures { result ≡ begins_type token }
 {
     match token {
-        Some(token) => matches!(token.kind, Kind::RightParen | Kind::Times),
+        Some(token) => matches!(token.kind, Kind::Ident | Kind::Array | Kind::Record),
         None => false,
     }
 }

@@ -37,6 +37,8 @@ fn kind_cause(
 {
     match kind {
         Kind::Begin => only(is_behind_leader(tokens), Cause::NoBlock),
+        Kind::Then => only(has(kinds, Kind::Do), Cause::Leader),
+        Kind::Do => only(has(kinds, Kind::Then), Cause::Leader),
         Kind::Procedure => only(
             has(kinds, Kind::While) && is_in_module(open_construct(tokens)),
             Cause::Order,

@@ -52,7 +52,7 @@ abbrev pub slip_hint : Slip → List ℕ
 slip_hint Slips.Underscore = codes "a name has letters and digits, and no underscores"
 slip_hint Slips.Quotes = codes "there are no strings; a value is a number, TRUE or FALSE"
 slip_hint Slips.Apostrophe = codes "there are no characters; a value is a number, TRUE or FALSE"
-slip_hint Slips.Brace = codes "there are no sets and no blocks in braces; a comment is written (* .. *)"
+slip_hint Slips.Brace = codes "there are no sets and no blocks in braces; statements stand between THEN, DO or BEGIN and END, and a comment is written (* .. *)"
 slip_hint Slips.ExclamationMark = codes "not equal is written #, and not is written ~"
 slip_hint Slips.TwoSlashes = codes "a comment is written (* .. *)"
 slip_hint Slips.SlashStar = codes "a comment is written (* .. *)"

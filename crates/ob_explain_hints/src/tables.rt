@@ -169,7 +169,8 @@ pub fn slip_hint(slip: Slip) -> &'static str
         Slip::Underscore => "a name has letters and digits, and no underscores",
         Slip::Quotes => "there are no strings; a value is a number, TRUE or FALSE",
         Slip::Apostrophe => "there are no characters; a value is a number, TRUE or FALSE",
-        Slip::Brace => "there are no sets and no blocks in braces; a comment is written (* .. *)",
+        Slip::Brace =>
+            "there are no sets and no blocks in braces; statements stand between THEN, DO or BEGIN and END, and a comment is written (* .. *)",
         Slip::ExclamationMark => "not equal is written #, and not is written ~",
         Slip::TwoSlashes => "a comment is written (* .. *)",
         Slip::SlashStar => "a comment is written (* .. *)",

@@ -1,6 +1,6 @@
 -- The hint on an END that is missing or one too many, by the constructs that are open at a place: by the token there and the one behind
 -- it, the tokens before it, the last one first, and the kinds of token that could stand there.
-use Rattle.std.specs.Prelude.{ℕ, ◌||◌, ◌&&◌, not, Bool, true, false, List, [], ◌∷◌, bytes_eq, Option, Some, None, if◌then◌else◌}
+use Rattle.std.specs.Prelude.{ℕ, ◌||◌, ◌&&◌, not, Bool, true, false, List, [], ◌∷◌, bytes_eq, find, Option, Some, None, if◌then◌else◌}
 use Rattle.ob_scan.specs.declared.token.Kind.{Kind}
 use Rattle.ob_scan.specs.declared.token.Kind.TheVariants as Kinds
 use Rattle.ob_scan.specs.declared.token.Token.{Token}
@@ -46,12 +46,24 @@ abbrev pub is_repeated_there : (there next : Option Token) → Bool
 is_repeated_there None next = false
 is_repeated_there (Some t) next = is_repeated t.kind && stands_behind next
 
+abbrev pub closes_repeat : Kind → Bool
+closes_repeat Kinds.Until = true
+closes_repeat _ = false
+
+abbrev pub is_until : Option Token → Bool
+is_until None = false
+is_until (Some t) = closes_repeat t.kind
+
+-- before an END of a module or a procedure the condition of an UNTIL alone stands: it is to end the REPEAT
+abbrev pub unit_hint : (before : List Token) → (opening : Token) → Hint
+unit_hint before opening = if is_until (find (λ t. ends_call t.kind) before) then Told Causes.RepeatEnd else Ended opening
+
 -- Behind an END that closes what is open before it: where that is a module or a procedure, its name is missing. Where the word there is the
 -- name of one that is open, an END before this one is missing.
 abbrev pub closed_hint : (text word : List ℕ) → (there next : Option Token) → (before : List Token) → Option Token → Option Hint
 closed_hint text word there next before None = None
 closed_hint text word there next before (Some opening) =
-    if is_unit opening.kind then Some (Ended opening)
+    if is_unit opening.kind then Some (unit_hint before opening)
     else if is_open_name text word 0 None before then Some (Closed opening (inner_if before opening))
     else if is_repeated_there there next then Some (Told Causes.EndAlone)
     else None

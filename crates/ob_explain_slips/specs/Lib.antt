@@ -1,5 +1,7 @@
 pub mod Endings
 pub mod Keywords
-pub mod Semicolons
+pub mod Missing
+pub mod Calls
+pub mod Loops
 pub mod Unexpected
 pub mod Rules

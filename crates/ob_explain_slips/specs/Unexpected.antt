@@ -12,22 +12,25 @@ use Rattle.ob_explain_causes.specs.declared.causes.Hint.TheVariants.{Keyword}
 use Rattle.ob_explain_causes.specs.Signs as Signs
 use Rattle.ob_explain_causes.specs.Signs.{sign_cause}
 use Rattle.ob_explain_causes.specs.Statements.{actuals_cause, statement_cause}
+use Rattle.ob_explain_slips.specs.Calls.{call_hint, called_there, next_behind}
 use Rattle.ob_explain_slips.specs.Endings.{ending_hint}
 use Rattle.ob_explain_slips.specs.Keywords.{IsKeyword}
-use Rattle.ob_explain_slips.specs.Semicolons.{IsSemicolonCause, token_at}
+use Rattle.ob_explain_slips.specs.Loops.{loop_cause}
+use Rattle.ob_explain_slips.specs.Missing.{IsMissingCause, token_at}
 use Rattle.ob_explain_tokens.specs.Around.{AreTokens}
 use Rattle.ob_explain_tokens.specs.Around as Tokens
 
 abbrev pub last_before : List Token → (place : ℕ) → Option Token
 last_before tokens place = find (λ t. nat_lt t.start place) (reverse tokens)
 
-abbrev pub next_behind : List Token → (place : ℕ) → Option Token
-next_behind tokens place = find (λ t. nat_lt place t.start) tokens
+abbrev pub of_sign : (text : List ℕ) → List Token → (place : ℕ) → List Kind → Option Cause
+of_sign text tokens place kinds =
+    sign_cause text tokens (last_before tokens place) kinds (take place text) (drop place text) (next_behind tokens place)
 
 -- of a sign by what could stand there, or of a statement, a declaration or a call
 abbrev pub first_cause : (text : List ℕ) → (tokens preceding : List Token) → (place : ℕ) → List Kind → Option Cause
 first_cause text tokens preceding place kinds =
-    Signs.either (Signs.either (sign_cause text tokens (last_before tokens place) kinds (take place text) (drop place text))
+    Signs.either (Signs.either (of_sign text tokens place kinds)
     (statement_cause (token_at tokens place) preceding kinds (next_behind tokens place)))
     (Signs.either (cause_there (token_at tokens place) preceding kinds (take place text) (drop place text) (next_behind tokens place))
     (actuals_cause text tokens (token_at tokens place) kinds (take place text) (drop place text)))
@@ -45,11 +48,17 @@ IsKeywordThere text tokens place meant = IsKeyword text tokens (last_before toke
 abbrev pub slip_there : (text : List ℕ) → (place : ℕ) → Option Hint
 slip_there text place = known (parse_slip (take place text) (word_at (drop place text)) (drop place text))
 
--- the first of these; else of a `;` that may be missing
-abbrev pub first_hint : (text : List ℕ) → (tokens preceding : List Token) → (place : ℕ) → List Kind → (semicolon : Option Cause) → Option Hint
-first_hint text tokens preceding place kinds semicolon =
+-- behind a call, or of what may be missing
+abbrev pub missing_hint : (text : List ℕ) → (tokens preceding : List Token) → (place : ℕ) → List Kind → (missing : Option Cause) → Option Hint
+missing_hint text tokens preceding place kinds missing =
+    call_hint text (called_there text tokens preceding (last_before tokens place) kinds) tokens missing
+
+-- the first of these
+abbrev pub first_hint : (text : List ℕ) → (tokens preceding : List Token) → (place : ℕ) → List Kind → (missing : Option Cause) → Option Hint
+first_hint text tokens preceding place kinds missing =
     either (told (first_cause text tokens preceding place kinds))
-    (either (construct_hint text tokens preceding place kinds) (either (slip_there text place) (told semicolon)))
+    (either (construct_hint text tokens preceding place kinds)
+    (either (slip_there text place) (missing_hint text tokens preceding place kinds missing)))
 
 abbrev pub keyword_hint : Option Kind → Option Hint
 keyword_hint None = None
@@ -59,8 +68,9 @@ keyword_hint (Some keyword) = Some (Keyword keyword)
 pub record IsUnexpectedHint (text : List ℕ) (place : ℕ) (kinds : List Kind) (hint : Option Hint) : Type 0 where
   pub tokens : List Token
   pub keyword : Option Kind
-  pub semicolon : Option Cause
+  pub missing : Option Cause
   pub are : AreTokens text tokens
   pub meant : IsKeywordThere text tokens place keyword
-  pub missing : IsSemicolonCause text tokens place semicolon
-  pub says : hint ≡ either (keyword_hint keyword) (first_hint text tokens (Tokens.before place tokens) place kinds semicolon)
+  pub lacks : IsMissingCause text tokens place kinds missing
+  pub says : hint ≡ either (keyword_hint keyword) (first_hint text tokens (Tokens.before place tokens) place kinds
+      (Signs.either (loop_cause tokens (Tokens.before place tokens) place kinds) missing))

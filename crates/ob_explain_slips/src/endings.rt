@@ -1,7 +1,8 @@
 //! Hints on an END that is missing or one too many, by the constructs that are open at a place.
 
-ghost use Rattle.std.specs.Prelude.{◌≡◌, None};
-ghost use Rattle.ob_explain_slips.specs.Endings.{closed_hint, closing, end_hint, ending_hint, ends_statements, goes_on_if, inner_if, is_else_outside, is_further_part, is_open_name, is_open_unit, is_outside, is_outside_there, is_part, is_repeated, is_repeated_there, is_word, name_hint, open_hint, outer_hint, stands_behind, still_open};
+ghost use Rattle.std.specs.Prelude.{◌≡◌, None, find};
+ghost use Rattle.ob_explain_tokens.specs.Actuals.{ends_call};
+ghost use Rattle.ob_explain_slips.specs.Endings.{closed_hint, closing, end_hint, ending_hint, ends_statements, goes_on_if, inner_if, is_else_outside, is_further_part, is_open_name, is_open_unit, is_outside, is_outside_there, is_part, is_repeated, is_repeated_there, is_until, is_word, name_hint, open_hint, outer_hint, stands_behind, still_open, unit_hint};
 
 use ob_explain_causes::causes::{Cause, Hint, either};
 use ob_explain_causes::signs::has;
@@ -79,13 +80,40 @@ fn closed_hint(
 {
     let opening = opening?;
     if is_unit(opening.kind) {
-        Some(Hint::Ended(opening))
+        Some(unit_hint(before, opening))
     } else if is_open_name(text, word, before) {
         Some(Hint::Closed(opening, inner_if(before, opening)))
     } else if is_repeated_there(there, next) {
         Some(Hint::Told(Cause::EndAlone))
     } else {
         None
+    }
+}
+
+/// The hint behind an END of this module or procedure, of the tokens before that END.
+fn unit_hint(before: &[Token], opening: Token) -> Hint
+    ensures { result ≡ unit_hint before.now opening }
+{
+    if is_until(last_end(before)) {
+        Hint::Told(Cause::RepeatEnd)
+    } else {
+        Hint::Ended(opening)
+    }
+}
+
+/// The last of these tokens, which go back, that ends statements.
+fn last_end(before: &[Token]) -> Option<Token>
+    ensures { result ≡ find (λ t. ends_call t.kind) before.now }
+{
+    before.iter().copied().find(|token| ends_call(token.kind))
+}
+
+fn is_until(token: Option<Token>) -> bool
+    ensures { result ≡ is_until token }
+{
+    match token {
+        Some(token) => matches!(token.kind, Kind::Until),
+        None => false,
     }
 }
 

@@ -3,7 +3,7 @@
 ghost use Rattle.std.specs.Prelude.{◌≡◌, ◌↔◌, IfOk, IsTrue};
 ghost use Rattle.ob_explain_slips.specs.Keywords.{GoesOnWith, IsFirst, IsKeyword, IsMeant, either, is_new, possible, stands_before, with_keyword};
 
-use crate::semicolon::is_expected_behind;
+use crate::missing::is_expected_behind;
 use ob_explain_causes::declarations::is_name;
 use ob_explain_causes::procedures::is_named;
 use ob_explain_expected::kinds::sample;

@@ -1,11 +1,13 @@
 //! The hint on a token that can't stand at a place.
 
 ghost use Rattle.std.specs.Prelude.{◌≡◌, IfOk, drop, take};
-ghost use Rattle.ob_explain_slips.specs.Unexpected.{IsKeywordThere, IsUnexpectedHint, construct_hint, first_cause, first_hint, keyword_hint, last_before, next_behind, slip_there};
+ghost use Rattle.ob_explain_slips.specs.Unexpected.{IsKeywordThere, IsUnexpectedHint, construct_hint, first_cause, first_hint, keyword_hint, last_before, missing_hint, slip_there};
 
+use crate::calls::{call_hint, called_there, next_behind};
 use crate::endings::ending_hint;
 use crate::keywords::meant_keyword;
-use crate::semicolon::{semicolon_cause, token_at};
+use crate::loops::loop_cause;
+use crate::missing::{missing_there, token_at};
 use ob_explain_causes::causes::{Cause, Hint, either, known, told};
 use ob_explain_causes::declarations::cause_there;
 use ob_explain_causes::signs;
@@ -29,8 +31,16 @@ pub fn unexpected_hint(
     let tokens = tokens_of(alloc, text)?;
     let preceding = tokens_before(alloc, &tokens, place)?;
     let keyword = keyword_there(alloc, text, &tokens, place)?;
-    let semicolon = semicolon_cause(alloc, text, &tokens, place)?;
-    let of_others = first_hint(text, &tokens, &preceding, place, kinds, semicolon);
+    let missing = missing_there(alloc, text, &tokens, place, kinds)?;
+    let of_loop = loop_cause(alloc, &tokens, &preceding, place, kinds)?;
+    let of_others = first_hint(
+        text,
+        &tokens,
+        &preceding,
+        place,
+        kinds,
+        signs::either(of_loop, missing),
+    );
     Ok(either(keyword_hint(keyword), of_others))
 }
 
@@ -59,24 +69,37 @@ fn keyword_hint(keyword: Option<Kind>) -> Option<Hint>
     }
 }
 
-/// The first of the other hints on a place, before which these tokens stand, the last one first, and of which this is the cause of a `;`.
+/// The first of the other hints on a place, before which these tokens stand, the last one first, and before which this may be missing.
 fn first_hint(
     text: &[u8],
     tokens: &[Token],
     preceding: &[Token],
     place: usize,
     kinds: &[Kind],
-    semicolon: Option<Cause>,
+    missing: Option<Cause>,
 ) -> Option<Hint>
-    ensures { result ≡ first_hint text.now tokens.now preceding.now place kinds.now semicolon }
+    ensures { result ≡ first_hint text.now tokens.now preceding.now place kinds.now missing }
 {
     let of_cause = told(first_cause(text, tokens, preceding, place, kinds));
     let of_construct = construct_hint(text, tokens, preceding, place, kinds);
     let of_slip = slip_there(text, place);
-    either(
-        of_cause,
-        either(of_construct, either(of_slip, told(semicolon))),
-    )
+    let of_missing = missing_hint(text, tokens, preceding, place, kinds, missing);
+    either(of_cause, either(of_construct, either(of_slip, of_missing)))
+}
+
+/// The hint behind a call, or on what may be missing.
+fn missing_hint(
+    text: &[u8],
+    tokens: &[Token],
+    preceding: &[Token],
+    place: usize,
+    kinds: &[Kind],
+    missing: Option<Cause>,
+) -> Option<Hint>
+    ensures { result ≡ missing_hint text.now tokens.now preceding.now place kinds.now missing }
+{
+    let word = called_there(text, tokens, preceding, last_before(tokens, place), kinds);
+    call_hint(text, tokens, word, missing)
 }
 
 /// The hint on signs and words by themselves.
@@ -101,7 +124,7 @@ fn first_cause(
     let last = last_before(tokens, place);
     let there = token_at(tokens, place);
     let next = next_behind(tokens, place);
-    let of_sign = sign_cause(text, tokens, last, kinds, before, from);
+    let of_sign = sign_cause(text, tokens, last, kinds, before, from, next);
     let of_statement = statement_cause(there, preceding, kinds, next);
     let of_declaration = cause_there(there, preceding, kinds, before, from, next);
     let of_actuals = actuals_cause(text, tokens, there, kinds, before, from);
@@ -136,13 +159,6 @@ fn last_before(tokens: &[Token], place: usize) -> Option<Token>
         .rev()
         .copied()
         .find(|token| token.start < place)
-}
-
-/// The first token behind a place.
-fn next_behind(tokens: &[Token], place: usize) -> Option<Token>
-    ensures { result ≡ next_behind tokens.now place }
-{
-    tokens.iter().copied().find(|token| place < token.start)
 }
 
 /// What stands before a place of a text, and what from there on.

@@ -1,0 +1,44 @@
+-- Whether a `;`, a THEN or a DO is missing before a token.
+use Rattle.std.specs.Prelude.{◌≡◌, ℕ, ◌==◌, List, ◌∷◌, ◌++◌, find, length, take, Option, Some, None, if◌then◌else◌}
+use Rattle.ob_scan.specs.declared.token.Kind.{Kind}
+use Rattle.ob_scan.specs.declared.token.Kind.TheVariants as Kinds
+use Rattle.ob_scan.specs.declared.token.Token.{Token}
+use Rattle.ob_explain_expected.specs.Expected.{IsExpected}
+use Rattle.ob_explain_expected.specs.Groups.{has}
+use Rattle.ob_explain_expected.specs.Kinds.{sample}
+use Rattle.ob_explain_causes.specs.declared.causes.Cause.{Cause}
+use Rattle.ob_explain_causes.specs.declared.causes.Cause.TheVariants as Causes
+
+-- behind a condition that of THEN and DO which could stand there, and elsewhere `;`
+abbrev pub awaited : List Kind → Kind
+awaited kinds = if has kinds Kinds.Then then Kinds.Then else if has kinds Kinds.Do then Kinds.Do else Kinds.Semicolon
+
+-- that it is missing
+abbrev pub missing_cause : Kind → Cause
+missing_cause Kinds.Then = Causes.NoThen
+missing_cause Kinds.Do = Causes.NoDo
+missing_cause _ = Causes.Semicolon
+
+-- what stands before a place, a blank, and a token of this kind
+abbrev pub with_token : (text : List ℕ) → (place : ℕ) → Kind → List ℕ
+with_token text place kind = take place text ++ (32 ∷ sample kind)
+
+abbrev pub token_at : List Token → (place : ℕ) → Option Token
+token_at tokens place = find (λ t. t.start == place) tokens
+
+-- behind them a token of this one's kind is expected, by the grammar
+abbrev pub IsBehindToken : (text : List ℕ) → (place : ℕ) → Kind → Token → Type 0
+IsBehindToken text place kind token = IsExpected (with_token text place kind) (length (with_token text place kind)) token.kind
+
+-- so one is missing; and else not
+pub data IsMissingAt (text : List ℕ) (place : ℕ) (kind : Kind) (token : Token) : Option Cause → Type 0 where
+  missing : IsBehindToken text place kind token → IsMissingAt text place kind token (Some (missing_cause kind))
+  other : ¬ IsBehindToken text place kind token → IsMissingAt text place kind token None
+
+abbrev pub IsMissingFor : (text : List ℕ) → (place : ℕ) → Kind → Option Token → Option Cause → Type 0
+IsMissingFor text place kind None cause = cause ≡ None
+IsMissingFor text place kind (Some token) cause = IsMissingAt text place kind token cause
+
+-- of the token that begins there, where tokens of these kinds could stand
+abbrev pub IsMissingCause : (text : List ℕ) → List Token → (place : ℕ) → List Kind → Option Cause → Type 0
+IsMissingCause text tokens place kinds cause = IsMissingFor text place (awaited kinds) (token_at tokens place) cause
