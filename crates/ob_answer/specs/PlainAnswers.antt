@@ -3,7 +3,8 @@ use Rattle.std.specs.Prelude.{◌≡◌, ℕ, List, [], ◌∷◌, Some, false, 
 use Rattle.ob_answer.specs.Answers.{IsAnswer}
 use Rattle.ob_answer.specs.declared.answered.Answer.{Answer}
 use Rattle.ob_answer.specs.declared.files.FileFault.{FileFault}
-use Rattle.ob_command.specs.CommandLine.{Draw, DrawRecord, ExplainRecord, ExplainTraps, Request, RunRequest, Text, budget_number, calls_in, default_budget, is_option, number}
+use Rattle.ob_command.specs.CommandLine.{Draw, DrawRecord, ExplainRecord, ExplainTraps, Request, RunRequest, Text, budget_number, calls_in}
+use Rattle.ob_command.specs.CommandLine.{default_budget, is_option, number}
 use Rattle.ob_command.specs.declared.command.CallNumbers.{CallNumbers}
 use Rattle.ob_command.specs.PlainForms.{run_with}
 

@@ -3,8 +3,11 @@
 ghost use Rattle.std.specs.Prelude.{◌≡◌, ◌∷◌, [], None, Some, IfOk, map, codes, count_by, nat_lt};
 ghost use Rattle.std.specs.Str.{bytes_eq};
 ghost use Rattle.ob_answer.specs.Answers.{IsAnswer, IsObeyed, IsRunObeyed, files_of, files_of_run, input_name, range_of, reads_input_twice};
-ghost use Rattle.ob_answer.specs.PlainAnswers.{AreBudgetCallsDrawn, AreCallsDrawn, AreRecordCallsDrawn, AreTrapsShown, IsBudgetNumbersAnswered, IsBudgetRunAnswered, IsBudgetWorkersAnswered, IsCallsAnswered, IsModuleAnswered, IsNumbersAnswered, IsPairAnswered, IsRecordShown, IsRunAnswered, IsWorkersAnswered};
-ghost use Rattle.ob_command.specs.CommandLine.{Bound, Check, Draw, DrawRecord, Explain, ExplainRun, ExplainTraps, Listing, Run, RunSteps, RunTree, Seq, Serve, Verify, request};
+ghost use Rattle.ob_answer.specs.PlainAnswers.{AreBudgetCallsDrawn, AreCallsDrawn, AreRecordCallsDrawn, AreTrapsShown, IsBudgetNumbersAnswered};
+ghost use Rattle.ob_answer.specs.PlainAnswers.{IsBudgetRunAnswered, IsBudgetWorkersAnswered, IsCallsAnswered, IsModuleAnswered, IsNumbersAnswered};
+ghost use Rattle.ob_answer.specs.PlainAnswers.{IsPairAnswered, IsRecordShown, IsRunAnswered, IsWorkersAnswered};
+ghost use Rattle.ob_command.specs.CommandLine.{Bound, Check, Draw, DrawRecord, Explain, ExplainRun, ExplainTraps, Listing, Run, RunSteps, RunTree};
+ghost use Rattle.ob_command.specs.CommandLine.{Seq, Serve, Verify, request};
 ghost use Rattle.ob_command.specs.Commands.{request_of, run_request_of};
 
 use crate::answered::Answer;

@@ -1,7 +1,8 @@
 //! Answers made of the bytes of files. Of a module's text they have the beginning: a module of more bytes is too long.
 
 ghost use Rattle.std.specs.Prelude.{◌≡◌, ◌≢◌, ◌<◌, ◌++◌, false, Err, IfOk, codes, string_bytes};
-ghost use Rattle.ob_answer.specs.Answers.{IsBoundAnswer, IsCheckAnswer, IsListAnswer, IsPictureAnswer, IsRecordAnswer, IsRecordPictureAnswer, IsRunAnswer, IsSeqAnswer, IsServeAnswer, IsStepsAnswer, IsTreeRecordAnswer, IsVerifyAnswer};
+ghost use Rattle.ob_answer.specs.Answers.{IsBoundAnswer, IsCheckAnswer, IsListAnswer, IsPictureAnswer, IsRecordAnswer, IsRecordPictureAnswer};
+ghost use Rattle.ob_answer.specs.Answers.{IsRunAnswer, IsSeqAnswer, IsServeAnswer, IsStepsAnswer, IsTreeRecordAnswer, IsVerifyAnswer};
 ghost use Rattle.ob_answer.specs.Reads.{OfWhole};
 ghost use Rattle.ob_answer.specs.Printed.{IsRefused};
 ghost use Rattle.ob_fault_lines.specs.CompileFaultLines.{compile_line};

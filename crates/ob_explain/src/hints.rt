@@ -1,7 +1,8 @@
 //! The words of a hint.
 
 ghost use Rattle.std.specs.Prelude.{◌≡◌, ◌++◌, OnOk, string_bytes};
-ghost use Rattle.ob_explain.specs.Hints.{closed_text, construct_text, else_if_text, end_closes_text, ended_text, hint_line, hint_text, inner_text, keyword_text, lacking_text, missing_text, open_text};
+ghost use Rattle.ob_explain.specs.Hints.{closed_text, construct_text, else_if_text, end_closes_text, ended_text, hint_line, hint_text, inner_text};
+ghost use Rattle.ob_explain.specs.Hints.{keyword_text, lacking_text, missing_text, open_text};
 
 use crate::place::place_in;
 use ob_explain_causes::causes::{Hint, cause_text};

@@ -1,7 +1,8 @@
 //! What is wrong at a place of a module, in a sentence.
 
 ghost use Rattle.std.specs.Prelude.{◌≡◌, Some, IfOk, option_map, string_bytes};
-ghost use Rattle.ob_explain.specs.Remarks.{IsCheckRemark, IsParseRemark, IsUnexpectedRemark, broken_remark, end_sentence, remark_of, rule_hint, scan_remark, stray_hint};
+ghost use Rattle.ob_explain.specs.Remarks.{IsCheckRemark, IsParseRemark, IsUnexpectedRemark, broken_remark, end_sentence, remark_of, rule_hint};
+ghost use Rattle.ob_explain.specs.Remarks.{scan_remark, stray_hint};
 
 use crate::place::{halves, shown_place};
 use crate::rules::{behind_word, rule_sentence};

@@ -1,7 +1,12 @@
 //! What is wrong where a rule is broken, in a sentence.
 
 ghost use Rattle.std.specs.Prelude.{◌≡◌, ◌++◌, IfOk, OnOk, codes, find, string_bytes};
-ghost use Rattle.ob_explain.specs.Rules.{actuals_sentence, before_sentence, behind_word, beyond, binds_closer, constant_sentence, counted_sentence, counts_sentence, divides, divisor_sentence, export_sentence, is_in_procedure, is_inner, is_one_token, is_procedure, is_procedure_there, is_procedure_token, kind_sentence, large_sentence, length_numeral, length_sentence, limit_sentence, most_words, named_sentence, near_question, no_word, opens_type, operands_sentence, operation_from, operation_text, question, range_sentence, rule_sentence, shown_numeral, told_need, told_sort, told_words, twice_sentence, unknown_sentence, variables_limit, variables_sentence};
+ghost use Rattle.ob_explain.specs.Rules.{actuals_sentence, before_sentence, behind_word, beyond, binds_closer, constant_sentence, counted_sentence};
+ghost use Rattle.ob_explain.specs.Rules.{counts_sentence, divides, divisor_sentence, export_sentence, is_in_procedure, is_inner, is_one_token};
+ghost use Rattle.ob_explain.specs.Rules.{is_procedure, is_procedure_there, is_procedure_token, kind_sentence, large_sentence, length_numeral};
+ghost use Rattle.ob_explain.specs.Rules.{length_sentence, limit_sentence, most_words, named_sentence, near_question, no_word, opens_type};
+ghost use Rattle.ob_explain.specs.Rules.{operands_sentence, operation_from, operation_text, question, range_sentence, rule_sentence, shown_numeral};
+ghost use Rattle.ob_explain.specs.Rules.{told_need, told_sort, told_words, twice_sentence, unknown_sentence, variables_limit, variables_sentence};
 
 use crate::counts::push_count;
 use crate::place::{halves, place_in};

@@ -4,7 +4,8 @@ ghost use Rattle.std.specs.Prelude.{◌≡◌, IfOk, map, option_map};
 ghost use Rattle.ob_interface.specs.Export.{value_types};
 ghost use Rattle.ob_interface.specs.View.{signature_of};
 ghost use Rattle.ob_text_exports.specs.ExportNames.{export_named};
-ghost use Rattle.ob_explain_arguments.specs.Calls.{IsMisfitTold, IsToldBehind, IsToldFor, IsToldOf, IsUnknownTold, misfit_told, told_of, value_told, value_word};
+ghost use Rattle.ob_explain_arguments.specs.Calls.{IsMisfitTold, IsToldBehind, IsToldFor, IsToldOf, IsUnknownTold, misfit_told, told_of, value_told};
+ghost use Rattle.ob_explain_arguments.specs.Calls.{value_word};
 
 use crate::declared::is_declared;
 use crate::misfit::{Misfit, first_misfit};

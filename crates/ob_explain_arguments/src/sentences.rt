@@ -1,7 +1,9 @@
 //! What is said of a call of no export, and of values that don't fit.
 
 ghost use Rattle.std.specs.Prelude.{◌≡◌, ◌∷◌, ◌++◌, IfOk, OnOk, map, option_map, string_bytes};
-ghost use Rattle.ob_explain_arguments.specs.Sentences.{count_sentence, done_sentence, further_names, further_types, listed_names, listed_types, name_text, near_or_all, private_sentence, question_text, taken_text, type_name, unknown_sentence, unknown_text, value_sentence, values_noun};
+ghost use Rattle.ob_explain_arguments.specs.Sentences.{count_sentence, done_sentence, further_names, further_types, listed_names, listed_types};
+ghost use Rattle.ob_explain_arguments.specs.Sentences.{name_text, near_or_all, private_sentence, question_text, taken_text, type_name};
+ghost use Rattle.ob_explain_arguments.specs.Sentences.{unknown_sentence, unknown_text, value_sentence, values_noun};
 ghost use Rattle.ob_interface.specs.View.{signature_of};
 
 use crate::near::near_export;

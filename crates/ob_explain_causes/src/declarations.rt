@@ -1,7 +1,10 @@
 //! Causes of a token that can't stand in a declaration or behind one.
 
 ghost use Rattle.std.specs.Prelude.{◌≡◌};
-ghost use Rattle.ob_explain_causes.specs.Declarations.{awaits_equal, begins_statement, cause_there, comma_cause, ends_declared, ends_type, export_cause, is_behind_array, is_behind_parts, is_behind_target, is_dot, is_name, is_procedure_before, is_type_name, leads_to_type, name_cause_there, only, symbol_cause, type_cause, word_cause};
+ghost use Rattle.ob_explain_causes.specs.Declarations.{awaits_equal, begins_statement, cause_there, comma_cause, ends_declared, ends_type};
+ghost use Rattle.ob_explain_causes.specs.Declarations.{export_cause, is_behind_array, is_behind_parts, is_behind_target, is_dot, is_name};
+ghost use Rattle.ob_explain_causes.specs.Declarations.{is_procedure_before, is_type_name, leads_to_type, name_cause_there, only, symbol_cause};
+ghost use Rattle.ob_explain_causes.specs.Declarations.{type_cause, word_cause};
 
 use crate::causes::{Cause, name_cause};
 use crate::procedures::is_procedure;

@@ -2,7 +2,10 @@
 
 ghost use Rattle.std.specs.Prelude.{◌≡◌, slice_get};
 ghost use Rattle.ob_explain_expected.specs.Groups.{has};
-ghost use Rattle.ob_explain_causes.specs.Signs.{begins_change, begins_relation, begins_sign, begins_type, call_cause, called_cause, change_cause, comment_cause, comparison_cause, either, element_cause, ends_heading, ends_statement, is_colon, is_digit, is_foreign, is_no_expression, is_right, is_second_minus, number_cause, operand_cause, result_cause, sign_cause};
+ghost use Rattle.ob_explain_causes.specs.Signs.{begins_change, begins_relation, begins_sign, begins_type, call_cause, called_cause, change_cause};
+ghost use Rattle.ob_explain_causes.specs.Signs.{comment_cause, comparison_cause, either, element_cause, ends_heading, ends_statement, is_colon};
+ghost use Rattle.ob_explain_causes.specs.Signs.{is_digit, is_foreign, is_no_expression, is_right, is_second_minus, number_cause, operand_cause};
+ghost use Rattle.ob_explain_causes.specs.Signs.{result_cause, sign_cause};
 
 use crate::causes::Cause;
 use crate::procedures::{declares, lists, names_no_array};

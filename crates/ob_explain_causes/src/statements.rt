@@ -1,7 +1,9 @@
 //! Causes of a token that can't stand among statements.
 
 ghost use Rattle.std.specs.Prelude.{◌≡◌, ◌&&◌, find, nat_lt};
-ghost use Rattle.ob_explain_causes.specs.Statements.{actuals_cause, begins_actual, ends_condition, ends_target, is_assign, is_assigned, is_awaited, is_behind_call, is_behind_leader, is_behind_number, is_equal_next, is_in_module, is_number, is_number_next, kind_cause, leads_to_statements, statement_cause, touches_number};
+ghost use Rattle.ob_explain_causes.specs.Statements.{actuals_cause, begins_actual, ends_condition, ends_target, is_assign, is_assigned, is_awaited};
+ghost use Rattle.ob_explain_causes.specs.Statements.{is_behind_call, is_behind_leader, is_behind_number, is_equal_next, is_in_module, is_number};
+ghost use Rattle.ob_explain_causes.specs.Statements.{is_number_next, kind_cause, leads_to_statements, statement_cause, touches_number};
 
 use crate::causes::Cause;
 use crate::declarations::only;

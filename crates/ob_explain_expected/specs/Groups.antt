@@ -3,7 +3,8 @@ use Rattle.std.specs.Prelude.{ℕ, Bool, not, List, [], ◌∷◌, ◌++◌, map
 use Rattle.std.specs.List.{list_all, list_any}
 use denote.Enum.Bare.{sameb}
 use Rattle.ob_scan.specs.declared.token.Kind.{Kind}
-use Rattle.ob_scan.specs.declared.token.Kind.TheVariants.{Ident, Number, If, While, Repeat, Array, Record, LeftParen, Not, Plus, Minus, Or, Times, Div, Mod, And, Equal, NotEqual, Less, LessOrEqual, Greater, GreaterOrEqual}
+use Rattle.ob_scan.specs.declared.token.Kind.TheVariants.{Ident, Number, If, While, Repeat, Array, Record, LeftParen, Not, Plus, Minus, Or, Times}
+use Rattle.ob_scan.specs.declared.token.Kind.TheVariants.{Div, Mod, And, Equal, NotEqual, Less, LessOrEqual, Greater, GreaterOrEqual}
 use Rattle.ob_scan.specs.contracts.token.Kind.{the_type}
 use Rattle.ob_explain_expected.specs.declared.groups.Group.{Group}
 use Rattle.ob_explain_expected.specs.declared.groups.Group.TheVariants as Groups

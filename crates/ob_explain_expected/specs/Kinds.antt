@@ -1,7 +1,10 @@
 -- Kinds of token: all of them, one token of each to try, and how each is told.
 use Rattle.std.specs.Prelude.{ℕ, List, [], ◌∷◌, ◌++◌, Option, Some, None, codes}
 use Rattle.ob_scan.specs.declared.token.Kind.{Kind}
-use Rattle.ob_scan.specs.declared.token.Kind.TheVariants.{Ident, Number, Module, Const, «Type», Var, Procedure, Begin, End, Array, Of, Record, If, Then, Elsif, Else, While, Do, Repeat, Until, Assign, Equal, NotEqual, Less, LessOrEqual, Greater, GreaterOrEqual, Plus, Minus, Or, Times, Div, Mod, And, Not, LeftParen, RightParen, LeftBracket, RightBracket, Colon, Comma, Semicolon, Dot}
+use Rattle.ob_scan.specs.declared.token.Kind.TheVariants.{Ident, Number, Module, Const, «Type», Var, Procedure, Begin, End, Array, Of, Record, If}
+use Rattle.ob_scan.specs.declared.token.Kind.TheVariants.{Then, Elsif, Else, While, Do, Repeat, Until, Assign, Equal, NotEqual, Less, LessOrEqual}
+use Rattle.ob_scan.specs.declared.token.Kind.TheVariants.{Greater, GreaterOrEqual, Plus, Minus, Or, Times, Div, Mod, And, Not, LeftParen, RightParen}
+use Rattle.ob_scan.specs.declared.token.Kind.TheVariants.{LeftBracket, RightBracket, Colon, Comma, Semicolon, Dot}
 use Rattle.ob_scan.specs.Spelling.{fixed_spelling}
 
 -- all kinds of token

@@ -1,5 +1,6 @@
 -- Which known slip is at a place of a text: by what stands before it, the word that stands there, and the bytes from there on.
-use Rattle.std.specs.Prelude.{ℕ, ◌-◌, ◌==◌, ◌&&◌, nat_le, not, Bool, false, List, length, map, find, slice_get, nat_eq, bytes_eq, Option, Some, None, if◌then◌else◌}
+use Rattle.std.specs.Prelude.{ℕ, ◌-◌, ◌==◌, ◌&&◌, nat_le, not, Bool, false, List, length, map, find, slice_get, nat_eq, bytes_eq, Option, Some, None}
+use Rattle.std.specs.Prelude.{if◌then◌else◌}
 use Rattle.std.specs.Char.{to_ascii_lowercase}
 use Rattle.std.specs.List.{list_any, starts_with}
 use Rattle.ob_explain_expected.specs.Kinds.{sample}

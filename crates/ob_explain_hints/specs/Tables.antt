@@ -1,7 +1,8 @@
 -- The table of known slips: what is written there, and the hint.
 use Rattle.std.specs.Prelude.{ℕ, List, [], ◌∷◌, codes}
 use Rattle.ob_scan.specs.declared.token.Kind.{Kind}
-use Rattle.ob_scan.specs.declared.token.Kind.TheVariants.{Module, Begin, End, Const, «Type», Var, Procedure, Array, Of, Record, If, Then, Elsif, Else, While, Do, Repeat, Until, Div, Mod, Or}
+use Rattle.ob_scan.specs.declared.token.Kind.TheVariants.{Module, Begin, End, Const, «Type», Var, Procedure, Array, Of, Record, If, Then, Elsif, Else}
+use Rattle.ob_scan.specs.declared.token.Kind.TheVariants.{While, Do, Repeat, Until, Div, Mod, Or}
 use Rattle.ob_explain_hints.specs.declared.tables.Slip.{Slip}
 use Rattle.ob_explain_hints.specs.declared.tables.Slip.TheVariants as Slips
 

@@ -1,7 +1,8 @@
 //! The known slip at a place of a text.
 
 ghost use Rattle.std.specs.Prelude.{◌≡◌, Some, None, bytes_eq, slice_get};
-ghost use Rattle.ob_explain_hints.specs.Slips.{begins_with, either, ends_with, is_same_but_for_case, is_same_in_any_case, is_other, is_small_keyword, number_slip, pair_slip, parse_slip, stray_slip, with_sign, with_word, word_slip};
+ghost use Rattle.ob_explain_hints.specs.Slips.{begins_with, either, ends_with, is_same_but_for_case, is_same_in_any_case, is_other, is_small_keyword};
+ghost use Rattle.ob_explain_hints.specs.Slips.{number_slip, pair_slip, parse_slip, stray_slip, with_sign, with_word, word_slip};
 
 use crate::tables::{KEYWORDS, SIGNS, STRAY, Slip, WORDS, slip_mark};
 use crate::words::{trimmed, word_before};

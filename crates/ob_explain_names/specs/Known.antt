@@ -1,7 +1,8 @@
 -- The names that declarations declare, each with its place and what it is declared as.
 use Rattle.std.specs.Prelude.{ℕ, nat_lt, List, [], ◌∷◌, ◌++◌, flat_map, length, map, Option, if◌then◌else◌}
 use Rattle.std.specs.Option.{option_map_or}
-use Rattle.ob_grammar.specs.Tree.{Name, ConstDecl, TypeDecl, VarDecl, DeclarationPart, Section, Heading, Declarations, Declared, Procedures, no_procedure, procedure}
+use Rattle.ob_grammar.specs.Tree.{Name, ConstDecl, TypeDecl, VarDecl, DeclarationPart, Section, Heading, Declarations, Declared, Procedures}
+use Rattle.ob_grammar.specs.Tree.{no_procedure, procedure}
 use Rattle.ob_explain_names.specs.declared.known.Known.{Known}
 use Rattle.ob_explain_names.specs.declared.known.Sort.{Sort}
 use Rattle.ob_explain_names.specs.declared.known.Sort.TheVariants.{Constant, TypeName, Variable, Procedure}

@@ -1,6 +1,7 @@
 -- What has to stand at a place, as far as the bytes before it and those behind the word there tell. Blanks are passed over, and
 -- comments are not: beside one, less is told.
-use Rattle.std.specs.Prelude.{ℕ, ◌-◌, ◌==◌, ◌||◌, ◌&&◌, not, Bool, true, false, List, [], ◌∷◌, length, take, drop, slice_get, nat_eq, codes, bytes_eq, Option, Some, None, if◌then◌else◌}
+use Rattle.std.specs.Prelude.{ℕ, ◌-◌, ◌==◌, ◌||◌, ◌&&◌, not, Bool, true, false, List, [], ◌∷◌, length, take, drop, slice_get, nat_eq, codes, bytes_eq}
+use Rattle.std.specs.Prelude.{Option, Some, None, if◌then◌else◌}
 use Rattle.std.specs.List.{list_any, prefix_len, starts_with}
 use Rattle.ob_scan.specs.declared.token.Kind.{Kind}
 use Rattle.ob_scan.specs.declared.token.Kind.TheVariants.{Begin, Then, Else, Do, Repeat, End, Elsif, Until, If, While, Array, Div, Mod, Or}

@@ -2,7 +2,8 @@
 
 ghost use Rattle.std.specs.Prelude.{◌≡◌, [], ◌∷◌, ◌++◌, length, map, option_map, IfOk, OnOk};
 ghost use Rattle.ob_grammar.specs.View.{name_of, section_of, heading_of, constants_of, types_of, variables_of, declarations_of, procedures_in};
-ghost use Rattle.ob_explain_names.specs.Known.{known_as, known_constants, known_heading, known_in, known_parameters, known_procedures, known_types, known_variables};
+ghost use Rattle.ob_explain_names.specs.Known.{known_as, known_constants, known_heading, known_in, known_parameters, known_procedures, known_types};
+ghost use Rattle.ob_explain_names.specs.Known.{known_variables};
 
 use crate::known::{Known, Sort};
 use ob_grammar::tree::{Constants, Declarations, Name, Procedure, Section, Types, Variables};

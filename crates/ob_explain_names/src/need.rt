@@ -3,7 +3,8 @@
 ghost use Rattle.std.specs.Prelude.{◌≡◌, ◌≤◌, length};
 ghost use Rattle.std.specs.List.{prefix_len};
 ghost use Rattle.ob_explain_hints.specs.Words.{is_blank};
-ghost use Rattle.ob_explain_names.specs.Needs.{begins_call, begins_statement, begins_target, but_last, has_keyword, is_value_end, is_value_sign, need_of, need_of_statement, next_bytes, ends_with_value_sign, takes_value, names_type};
+ghost use Rattle.ob_explain_names.specs.Needs.{begins_call, begins_statement, begins_target, but_last, has_keyword, is_value_end, is_value_sign};
+ghost use Rattle.ob_explain_names.specs.Needs.{need_of, need_of_statement, next_bytes, ends_with_value_sign, takes_value, names_type};
 
 use ob_explain_expected::kinds::sample;
 use ob_explain_hints::slips::{begins_with, ends_with, is_same};

@@ -1,7 +1,8 @@
 //! The declarations of names, by the tokens of a text and the names that are visible at a place.
 
 ghost use Rattle.std.specs.Prelude.{◌≡◌, IfOk, find};
-ghost use Rattle.ob_explain_operands.specs.Declarations.{begins_part, behind_token, declared_as, first_of, in_record, is_colon_token, is_named, is_there, token_bytes, type_token};
+ghost use Rattle.ob_explain_operands.specs.Declarations.{begins_part, behind_token, declared_as, first_of, in_record, is_colon_token, is_named};
+ghost use Rattle.ob_explain_operands.specs.Declarations.{is_there, token_bytes, type_token};
 
 use crate::kinds::{is_colon, is_end, is_record};
 use ob_explain_hints::slips::is_same;

@@ -1,7 +1,9 @@
 //! What tokens are beside an operand.
 
 ghost use Rattle.std.specs.Prelude.{◌≡◌};
-ghost use Rattle.ob_explain_operands.specs.Kinds.{closes_bracket, ends_operand, is_array, is_colon, is_comma, is_dot, is_end, is_left, is_minus, is_name, is_not, is_number, is_of, is_record, is_relation, is_right, is_semicolon, is_sign, multiplies, opens_bracket, selects};
+ghost use Rattle.ob_explain_operands.specs.Kinds.{closes_bracket, ends_operand, is_array, is_colon, is_comma, is_dot, is_end, is_left, is_minus};
+ghost use Rattle.ob_explain_operands.specs.Kinds.{is_name, is_not, is_number, is_of, is_record, is_relation, is_right, is_semicolon, is_sign};
+ghost use Rattle.ob_explain_operands.specs.Kinds.{multiplies, opens_bracket, selects};
 
 use ob_scan::Kind;
 

@@ -2,7 +2,8 @@
 
 ghost use Rattle.std.specs.Prelude.{◌≡◌, IfOk};
 ghost use Rattle.ob_explain_operands.specs.Declarations.{declared_as};
-ghost use Rattle.ob_explain_operands.specs.Numerals.{is_constant, negated, negated_too, negative, numeral_before, numeral_behind, numeral_declared, numeral_next, numeral_of, plain, signed};
+ghost use Rattle.ob_explain_operands.specs.Numerals.{is_constant, negated, negated_too, negative, numeral_before, numeral_behind, numeral_declared};
+ghost use Rattle.ob_explain_operands.specs.Numerals.{numeral_next, numeral_of, plain, signed};
 
 use crate::declarations::declared_as;
 use crate::kinds::{ends_operand, is_minus, is_name, is_number, is_semicolon, is_sign, multiplies};

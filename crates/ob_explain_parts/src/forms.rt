@@ -2,7 +2,10 @@
 
 ghost use Rattle.std.specs.Prelude.{◌≡◌, IfOk};
 ghost use Rattle.ob_explain_operands.specs.Declarations.{declared_as};
-ghost use Rattle.ob_explain_parts.specs.Forms.{begins_actual, behind_operand, constant_form, ends_actual, form_before, form_behind, form_by, form_instead, form_of_name, form_of_type, is_own, is_relation_there, operand_form, or_single, other, other_of, own_form, role_between, role_of, told_form, truth_behind, truth_form, type_form, variable_at};
+ghost use Rattle.ob_explain_parts.specs.Forms.{begins_actual, behind_operand, constant_form, ends_actual, form_before, form_behind, form_by};
+ghost use Rattle.ob_explain_parts.specs.Forms.{form_instead, form_of_name, form_of_type, is_own, is_relation_there, operand_form, or_single, other};
+ghost use Rattle.ob_explain_parts.specs.Forms.{other_of, own_form, role_between, role_of, told_form, truth_behind, truth_form, type_form};
+ghost use Rattle.ob_explain_parts.specs.Forms.{variable_at};
 
 use crate::parts::{Selection, is_value, operand_start, selected};
 use crate::types::{Standing, declared_type, meant};

@@ -1,7 +1,8 @@
 //! The parameter to which an actual is handed, by the tokens before it.
 
 ghost use Rattle.std.specs.Prelude.{◌≡◌, ◌≤◌, None, IfOk, false};
-ghost use Rattle.ob_explain_parts.specs.Parameters.{comma, form_by_sort, form_in_call, form_in_procedure, handed_at, is_outside, is_parameter, parameter_form, parameter_named, parameter_type, still_in_type};
+ghost use Rattle.ob_explain_parts.specs.Parameters.{comma, form_by_sort, form_in_call, form_in_procedure, handed_at, is_outside, is_parameter};
+ghost use Rattle.ob_explain_parts.specs.Parameters.{parameter_form, parameter_named, parameter_type, still_in_type};
 
 use crate::forms::{Form, form_of_type};
 use crate::types::{Standing, declared_type};

@@ -1,7 +1,8 @@
 //! The parts of variables to which selectors lead.
 
 ghost use Rattle.std.specs.Prelude.{◌≡◌, ◌≤◌, ◌<◌, ◌+◌, ◌^◌, None, IfOk};
-ghost use Rattle.ob_explain_parts.specs.Parts.{brackets_before, ends_index, ends_part, ends_parts, goes_back, index_behind, is_value, name_before, open_brackets, operand_start, part_at, part_behind, selected, selecting_behind, stands_before};
+ghost use Rattle.ob_explain_parts.specs.Parts.{brackets_before, ends_index, ends_part, ends_parts, goes_back, index_behind, is_value, name_before};
+ghost use Rattle.ob_explain_parts.specs.Parts.{open_brackets, operand_start, part_at, part_behind, selected, selecting_behind, stands_before};
 
 use crate::types::{Standing, element_of, field_of, meant};
 use ob_explain_names::known::Known;

@@ -2,7 +2,8 @@
 
 ghost use Rattle.std.specs.Prelude.{◌≡◌, IfOk, find};
 ghost use Rattle.std.specs.List.{fold};
-ghost use Rattle.ob_explain_parts.specs.Types.{declared_type, element_of, field_of, fields_of, followed, is_name_of, is_of_token, is_type, is_word, meant, named_type, second_of, type_from, type_behind};
+ghost use Rattle.ob_explain_parts.specs.Types.{declared_type, element_of, field_of, fields_of, followed, is_name_of, is_of_token, is_type, is_word};
+ghost use Rattle.ob_explain_parts.specs.Types.{meant, named_type, second_of, type_from, type_behind};
 
 use crate::fields::fields_behind;
 use ob_explain_hints::slips::is_same;

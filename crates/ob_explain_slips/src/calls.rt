@@ -1,7 +1,7 @@
 //! What a call comes of whose name no procedure has.
 
 ghost use Rattle.std.specs.Prelude.{◌≡◌, find};
-ghost use Rattle.ob_explain_slips.specs.Calls.{behind_leader, call_hint, called_there, ends_as_call, is_undeclared, leads_to_statement, name_of, next_behind, statement_start};
+ghost use Rattle.ob_explain_slips.specs.Calls.{call_hint, called_there, ends_as_call, is_undeclared, leads_to_statement, name_of, next_behind, statement_start};
 
 use ob_explain_causes::causes::{Cause, Hint, known, told};
 use ob_explain_causes::procedures::declares;

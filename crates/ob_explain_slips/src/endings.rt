@@ -2,7 +2,10 @@
 
 ghost use Rattle.std.specs.Prelude.{◌≡◌, None, find};
 ghost use Rattle.ob_explain_tokens.specs.Actuals.{ends_call};
-ghost use Rattle.ob_explain_slips.specs.Endings.{closed_hint, closing, end_hint, ending_hint, ends_statements, goes_on_if, inner_if, is_else_outside, is_further_part, is_open_name, is_open_unit, is_outside, is_outside_there, is_part, is_repeated, is_repeated_there, is_until, is_word, name_hint, open_hint, outer_hint, stands_behind, still_open, unit_hint};
+ghost use Rattle.ob_explain_slips.specs.Endings.{closed_hint, closing, end_hint, ending_hint, ends_statements, goes_on_if, inner_if, is_else_outside};
+ghost use Rattle.ob_explain_slips.specs.Endings.{is_further_part, is_open_name, is_open_unit, is_outside, is_outside_there, is_part, is_repeated};
+ghost use Rattle.ob_explain_slips.specs.Endings.{is_repeated_there, is_until, is_word, name_hint, open_hint, outer_hint, stands_behind, still_open};
+ghost use Rattle.ob_explain_slips.specs.Endings.{unit_hint};
 
 use ob_explain_causes::causes::{Cause, Hint, either};
 use ob_explain_causes::signs::has;

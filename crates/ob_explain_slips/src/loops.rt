@@ -2,7 +2,8 @@
 
 ghost use Rattle.std.specs.Prelude.{◌≡◌, ◌||◌, ◌&&◌, IfOk, find, nat_lt};
 ghost use Rattle.ob_explain_tokens.specs.Actuals.{ends_call};
-ghost use Rattle.ob_explain_slips.specs.Loops.{construct_around, is_do, is_do_there, is_end_of_repeat, is_for_until, is_repeat_there, is_while, leads_on, loop_cause, repeat_cause};
+ghost use Rattle.ob_explain_slips.specs.Loops.{construct_around, is_do, is_end_of_repeat, is_for_until, is_repeat_there, is_while, leads_on};
+ghost use Rattle.ob_explain_slips.specs.Loops.{loop_cause, repeat_cause};
 
 use crate::missing::token_at;
 use ob_explain_causes::causes::Cause;

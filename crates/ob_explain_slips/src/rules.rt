@@ -1,7 +1,8 @@
 //! Hints where a rule is broken, by the tokens around the place.
 
 ghost use Rattle.std.specs.Prelude.{◌≡◌, find};
-ghost use Rattle.ob_explain_slips.specs.Rules.{ends_operands, is_of_operand, is_relation, is_value, kind_hint, meets_relation, takes_comparisons, types_hint, unknown_hint};
+ghost use Rattle.ob_explain_slips.specs.Rules.{ends_operands, is_of_operand, is_relation, is_value, kind_hint, meets_relation, takes_comparisons};
+ghost use Rattle.ob_explain_slips.specs.Rules.{types_hint, unknown_hint};
 
 use ob_explain_causes::causes::{Cause, Hint, either, known, name_cause, told};
 use ob_explain_causes::procedures::declares;

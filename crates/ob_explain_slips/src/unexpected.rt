@@ -1,7 +1,8 @@
 //! The hint on a token that can't stand at a place.
 
 ghost use Rattle.std.specs.Prelude.{◌≡◌, IfOk, drop, take};
-ghost use Rattle.ob_explain_slips.specs.Unexpected.{IsKeywordThere, IsUnexpectedHint, construct_hint, first_cause, first_hint, keyword_hint, last_before, missing_hint, slip_there};
+ghost use Rattle.ob_explain_slips.specs.Unexpected.{IsKeywordThere, IsUnexpectedHint, construct_hint, first_cause, first_hint, keyword_hint};
+ghost use Rattle.ob_explain_slips.specs.Unexpected.{last_before, missing_hint, slip_there};
 
 use crate::calls::{call_hint, called_there, next_behind};
 use crate::endings::ending_hint;

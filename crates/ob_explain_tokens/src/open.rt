@@ -1,7 +1,8 @@
 //! The construct that is open at a place, and the ELSE IF in it.
 
 ghost use Rattle.std.specs.Prelude.{◌≡◌, ◌≤◌, ◌<◌, ◌+◌, ◌^◌, None};
-ghost use Rattle.ob_explain_tokens.specs.Open.{begins_construct, closed_from, else_if, ends_construct, is_before, is_else_if, is_if_there, is_open, is_unit, open_construct};
+ghost use Rattle.ob_explain_tokens.specs.Open.{begins_construct, closed_from, else_if, ends_construct, is_before, is_else_if, is_if_there, is_open};
+ghost use Rattle.ob_explain_tokens.specs.Open.{is_unit, open_construct};
 
 use ob_scan::{Kind, Token};
 

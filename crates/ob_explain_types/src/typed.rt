@@ -2,7 +2,11 @@
 
 ghost use Rattle.std.specs.Prelude.{◌≡◌, ◌++◌, IfOk, OnOk, string_bytes};
 ghost use Rattle.ob_explain_parts.specs.Forms.{form_instead, role_of};
-ghost use Rattle.ob_explain_types.specs.Typed.{alike_sentence, array_sentence, at_expression, at_sign, by_form, by_operands, compared_forms, compared_sentence, either, form_noun, instead_sentence, is_boolean, is_compared, is_form, is_integer, is_whole, numbers_sentence, operand_there, record_sentence, side_text, sign_sentence, taken_form, there_sentence, there_text, tokens_from, truths_sentence, typed_sentence, wanted_sentence, wanted_text, wanted_thing, wrong_operand, wrong_side};
+ghost use Rattle.ob_explain_types.specs.Typed.{alike_sentence, array_sentence, at_expression, at_sign, by_form, by_operands, compared_forms};
+ghost use Rattle.ob_explain_types.specs.Typed.{compared_sentence, either, form_noun, instead_sentence, is_boolean, is_compared, is_form, is_integer};
+ghost use Rattle.ob_explain_types.specs.Typed.{is_whole, numbers_sentence, operand_there, record_sentence, side_text, sign_sentence, taken_form};
+ghost use Rattle.ob_explain_types.specs.Typed.{there_sentence, there_text, tokens_from, truths_sentence, typed_sentence, wanted_sentence};
+ghost use Rattle.ob_explain_types.specs.Typed.{wanted_text, wanted_thing, wrong_operand, wrong_side};
 ghost use Rattle.ob_explain_types.specs.Wanted.{wanted_form};
 
 use crate::types::{begins_with_sign, compares, takes_numbers, takes_truths, types_sentence};

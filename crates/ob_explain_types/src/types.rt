@@ -1,7 +1,9 @@
 //! Which type is needed at a place.
 
 ghost use Rattle.std.specs.Prelude.{◌≡◌};
-ghost use Rattle.ob_explain_types.specs.Types.{begins_with_sign, compares, context_sentence, ends_operand, is_assigned, is_behind_operand, is_behind_operator, is_operand_end, is_operator_sign, operand_sentence, takes_numbers, takes_truths, types_sentence};
+ghost use Rattle.ob_explain_types.specs.Types.{begins_with_sign, compares, context_sentence, ends_operand, is_assigned, is_behind_operand};
+ghost use Rattle.ob_explain_types.specs.Types.{is_behind_operator, is_operand_end, is_operator_sign, operand_sentence, takes_numbers, takes_truths};
+ghost use Rattle.ob_explain_types.specs.Types.{types_sentence};
 
 use ob_explain_hints::slips::{begins_with, ends_with, is_same};
 use ob_explain_hints::words::{trimmed, word_at, word_before};

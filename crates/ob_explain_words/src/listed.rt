@@ -4,7 +4,8 @@ ghost use Rattle.std.specs.Prelude.{◌≡◌, ◌≤◌, ◌<◌, ◌+◌, ◌^
 ghost use Rattle.ob_explain_words.specs.Counts.{at_least_one, product_of};
 ghost use Rattle.ob_explain_words.specs.Lengths.{length_behind};
 ghost use Rattle.ob_explain_words.specs.Scopes.{scope_of};
-ghost use Rattle.ob_explain_words.specs.Types.{begins_type, behind_name, behind_part, counted, ends_lists, list_words, names_of, reading_behind, simple_words, size_of, type_words, with_list};
+ghost use Rattle.ob_explain_words.specs.Types.{begins_type, behind_name, behind_part, counted, ends_lists, list_words, names_of, reading_behind};
+ghost use Rattle.ob_explain_words.specs.Types.{simple_words, size_of, type_words, with_list};
 
 use crate::counts::{at_least_one, product_of, sum_of};
 use crate::kinds::is_listed;

@@ -1,7 +1,8 @@
 //! The words of the type at a place, and those of the variables of a scope up to one.
 
 ghost use Rattle.std.specs.Prelude.{◌≡◌, IfOk, OnOk, find, reverse};
-ghost use Rattle.ob_explain_words.specs.Words.{behind_one, earlier, is_procedure, is_procedure_name, is_type, is_var_token, named_type, parameters_by, parameters_of, types_of, variables_before, with_type, words_of_type, words_with};
+ghost use Rattle.ob_explain_words.specs.Words.{behind_one, earlier, is_procedure, is_procedure_name, is_type, is_var_token, named_type};
+ghost use Rattle.ob_explain_words.specs.Words.{parameters_by, parameters_of, types_of, variables_before, with_type, words_of_type, words_with};
 
 use crate::counts::sum_of;
 use crate::kinds::is_var;

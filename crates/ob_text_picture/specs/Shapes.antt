@@ -1,5 +1,6 @@
 -- The shapes of a picture, by what is seen of a run.
-use Rattle.std.specs.Prelude.{ℕ, zero, suc, ◌+◌, ◌-◌, ◌*◌, ◌/◌, ◌%◌, ◌==◌, ◌&&◌, ◌||◌, not, List, [], ◌∷◌, ◌++◌, Bool, false, cond, Option, Some, None, codes, decimal, length, max, min, nat_le, nat_lt, slice_get, unwrap_or}
+use Rattle.std.specs.Prelude.{ℕ, zero, suc, ◌+◌, ◌-◌, ◌*◌, ◌/◌, ◌%◌, ◌==◌, ◌&&◌, ◌||◌, not, List, [], ◌∷◌, ◌++◌, Bool, false, cond, Option, Some}
+use Rattle.std.specs.Prelude.{None, codes, decimal, length, max, min, nat_le, nat_lt, slice_get, unwrap_or}
 use Rattle.std.specs.List.{flat_map}
 use Rattle.ob_interface.specs.Call.{Reply, Answers, Trapped}
 use Rattle.ob_interface.specs.Export.{Signature}

@@ -3,7 +3,8 @@
 ghost use Rattle.std.specs.Prelude.{◌≡◌, ◌++◌, ◌≤◌, OnOk, ◌+◌, ◌<◌, ◌^◌, map, option_map, string_bytes};
 ghost use Rattle.ob_interface.specs.View.{signature_of};
 ghost use Rattle.ob_text_picture.specs.Shapes as Shapes;
-ghost use Rattle.ob_text_picture.specs.Shapes.{bar_class, cross, ending, fade_before, fade_behind, goes_on, is_last, is_seen, label_words, left, letters, reply_behind, reply_class, right};
+ghost use Rattle.ob_text_picture.specs.Shapes.{bar_class, cross, ending, fade_before, fade_behind, goes_on, is_last, is_seen, label_words, left};
+ghost use Rattle.ob_text_picture.specs.Shapes.{letters, reply_behind, reply_class, right};
 ghost use Rattle.ob_text_picture.specs.View.{band_in};
 ghost use Rattle.ob_text_picture_labels.specs.View.{bar_in};
 ghost use Rattle.ob_text_picture_svg.specs.Svg.{EndGroup, Group, shape_text, shapes_text};

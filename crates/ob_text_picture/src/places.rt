@@ -1,7 +1,8 @@
 //! Where things stand in a picture, in pixels.
 
 ghost use Rattle.std.specs.Prelude.{◌≡◌, ◌+◌, ◌-◌, ◌*◌, ◌<◌, ◌≤◌, ◌==◌, ◌^◌, length, position};
-ghost use Rattle.ob_text_picture.specs.Places.{bands, below, cell, column_width, columns_in, first, height, in_line, is_in, lead, most, room, row_of, width, x_of, y_of};
+ghost use Rattle.ob_text_picture.specs.Places.{bands, below, cell, column_width, columns_in, first, height, in_line, is_in, lead, most, room, row_of};
+ghost use Rattle.ob_text_picture.specs.Places.{width, x_of, y_of};
 ghost use Rattle.ob_text_picture.specs.View.{band_in};
 
 use ob_text_picture_svg::Point;

@@ -2,7 +2,8 @@
 
 ghost use Rattle.std.specs.Prelude.{◌≡◌, ◌++◌, OnOk, decimal, string_bytes};
 ghost use Rattle.ob_text_picture_svg.specs.Style.{style_text};
-ghost use Rattle.ob_text_picture_svg.specs.Svg.{Line, Box, Circle, Words, attribute, attributes, element, open_text, close_text, opening_text, shape_text, view_box};
+ghost use Rattle.ob_text_picture_svg.specs.Svg.{Line, Box, Circle, Words, attribute, attributes, element, open_text, close_text, opening_text};
+ghost use Rattle.ob_text_picture_svg.specs.Svg.{shape_text, view_box};
 
 use ob_text_words::numbers::push_number;
 use std::alloc::AllocError;

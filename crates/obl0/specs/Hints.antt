@@ -5,7 +5,8 @@ use Rattle.std.specs.Fmt.{decimal}
 use Rattle.std.specs.List.{list_all, starts_with}
 use Rattle.std.specs.declared.io.ErrorKind.{ErrorKind}
 use Rattle.std.specs.declared.io.ErrorKind.TheVariants as Kind
-use Rattle.ob_command.specs.CommandLine.{Text, Request, RunRequest, Check, Listing, Seq, Run, RunTree, RunSteps, Serve, Draw, DrawRecord, Verify, Explain, ExplainTraps, ExplainRun, ExplainRecord, Bound, default_budget}
+use Rattle.ob_command.specs.CommandLine.{Text, Request, RunRequest, Check, Listing, Seq, Run, RunTree, RunSteps, Serve, Draw, DrawRecord, Verify}
+use Rattle.ob_command.specs.CommandLine.{Explain, ExplainTraps, ExplainRun, ExplainRecord, Bound, default_budget}
 
 -- the exit status of a fault with a number
 abbrev pub is_fault : (status : ℕ) → Bool

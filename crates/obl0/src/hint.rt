@@ -2,7 +2,9 @@
 
 ghost use Rattle.std.specs.Prelude.{◌≡◌, ◌++◌, IfOk, OnOk, option_map, string_bytes};
 ghost use Rattle.std.specs.List.{list_all};
-ghost use Rattle.obl0.specs.Hints.{asks_of_fault, beside_texts, budget_words, calls_form, cause, count_words, drawn_form, form_about, is_explain, is_fault, is_fault_name, is_plain, is_plain_byte, module_form, module_words, more_about, more_about_unread, more_of, name_word, named, record_form, run_form, run_words, script_words, served};
+ghost use Rattle.obl0.specs.Hints.{asks_of_fault, beside_texts, budget_words, calls_form, cause, count_words, drawn_form, form_about, is_explain};
+ghost use Rattle.obl0.specs.Hints.{is_fault, is_fault_name, is_plain, is_plain_byte, module_form, module_words, more_about, more_about_unread};
+ghost use Rattle.obl0.specs.Hints.{more_of, name_word, named, record_form, run_form, run_words, script_words, served};
 ghost use Rattle.ob_command.specs.Commands.{request_of, run_request_of};
 
 use ob_command::command::{Command, RunCommand};
