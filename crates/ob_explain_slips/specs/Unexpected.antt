@@ -48,17 +48,17 @@ IsKeywordThere text tokens place meant = IsKeyword text tokens (last_before toke
 abbrev pub slip_there : (text : List ℕ) → (place : ℕ) → Option Hint
 slip_there text place = known (parse_slip (take place text) (word_at (drop place text)) (drop place text))
 
--- behind a call, or of what may be missing
-abbrev pub missing_hint : (text : List ℕ) → (tokens preceding : List Token) → (place : ℕ) → List Kind → (missing : Option Cause) → Option Hint
-missing_hint text tokens preceding place kinds missing =
-    call_hint text (called_there text tokens preceding (last_before tokens place) kinds) tokens missing
+-- of the end of a loop, else behind a call, or of what may be missing
+abbrev pub missing_hint : (text : List ℕ) → (tokens preceding : List Token) → (place : ℕ) → List Kind → (looped missing : Option Cause) → Option Hint
+missing_hint text tokens preceding place kinds looped missing =
+    either (told looped) (call_hint text (called_there text tokens preceding (last_before tokens place) kinds) tokens missing)
 
--- the first of these
-abbrev pub first_hint : (text : List ℕ) → (tokens preceding : List Token) → (place : ℕ) → List Kind → (missing : Option Cause) → Option Hint
-first_hint text tokens preceding place kinds missing =
+-- the first of these, or else that one
+abbrev pub first_hint : (text : List ℕ) → (tokens preceding : List Token) → (place : ℕ) → List Kind → (last : Option Hint) → Option Hint
+first_hint text tokens preceding place kinds last =
     either (told (first_cause text tokens preceding place kinds))
     (either (construct_hint text tokens preceding place kinds)
-    (either (slip_there text place) (missing_hint text tokens preceding place kinds missing)))
+    (either (slip_there text place) last))
 
 abbrev pub keyword_hint : Option Kind → Option Hint
 keyword_hint None = None
@@ -73,4 +73,4 @@ pub record IsUnexpectedHint (text : List ℕ) (place : ℕ) (kinds : List Kind) 
   pub meant : IsKeywordThere text tokens place keyword
   pub lacks : IsMissingCause text tokens place kinds missing
   pub says : hint ≡ either (keyword_hint keyword) (first_hint text tokens (Tokens.before place tokens) place kinds
-      (Signs.either (loop_cause tokens (Tokens.before place tokens) place kinds) missing))
+      (missing_hint text tokens (Tokens.before place tokens) place kinds (loop_cause tokens (Tokens.before place tokens) place kinds) missing))

@@ -34,14 +34,8 @@ pub fn unexpected_hint(
     let keyword = keyword_there(alloc, text, &tokens, place)?;
     let missing = missing_there(alloc, text, &tokens, place, kinds)?;
     let of_loop = loop_cause(alloc, &tokens, &preceding, place, kinds)?;
-    let of_others = first_hint(
-        text,
-        &tokens,
-        &preceding,
-        place,
-        kinds,
-        signs::either(of_loop, missing),
-    );
+    let of_missing = missing_hint(text, &tokens, &preceding, place, kinds, of_loop, missing);
+    let of_others = first_hint(text, &tokens, &preceding, place, kinds, of_missing);
     Ok(either(keyword_hint(keyword), of_others))
 }
 
@@ -70,37 +64,37 @@ fn keyword_hint(keyword: Option<Kind>) -> Option<Hint>
     }
 }
 
-/// The first of the other hints on a place, before which these tokens stand, the last one first, and before which this may be missing.
+/// The first of the other hints on a place, before which these tokens stand, the last one first, or else the last one.
 fn first_hint(
     text: &[u8],
     tokens: &[Token],
     preceding: &[Token],
     place: usize,
     kinds: &[Kind],
-    missing: Option<Cause>,
+    last: Option<Hint>,
 ) -> Option<Hint>
-    ensures { result ≡ first_hint text.now tokens.now preceding.now place kinds.now missing }
+    ensures { result ≡ first_hint text.now tokens.now preceding.now place kinds.now last }
 {
     let of_cause = told(first_cause(text, tokens, preceding, place, kinds));
     let of_construct = construct_hint(text, tokens, preceding, place, kinds);
     let of_slip = slip_there(text, place);
-    let of_missing = missing_hint(text, tokens, preceding, place, kinds, missing);
-    either(of_cause, either(of_construct, either(of_slip, of_missing)))
+    either(of_cause, either(of_construct, either(of_slip, last)))
 }
 
-/// The hint behind a call, or on what may be missing.
+/// The hint on the end of a loop, else behind a call, or on what may be missing.
 fn missing_hint(
     text: &[u8],
     tokens: &[Token],
     preceding: &[Token],
     place: usize,
     kinds: &[Kind],
+    looped: Option<Cause>,
     missing: Option<Cause>,
 ) -> Option<Hint>
-    ensures { result ≡ missing_hint text.now tokens.now preceding.now place kinds.now missing }
+    ensures { result ≡ missing_hint text.now tokens.now preceding.now place kinds.now looped missing }
 {
     let word = called_there(text, tokens, preceding, last_before(tokens, place), kinds);
-    call_hint(text, tokens, word, missing)
+    either(told(looped), call_hint(text, tokens, word, missing))
 }
 
 /// The hint on signs and words by themselves.
