@@ -1,13 +1,19 @@
 //! The command line.
 
-ghost use Rattle.std.specs.Prelude.{◌≡◌, ◌++◌, IfOk, OnOk, Some, is_some, map, option_map, string_bytes};
-ghost use Rattle.clap.specs.Words.{first_of, found_of, kind_of, rows_of};
-ghost use Rattle.ob_command.specs.CommandLine.{are_turned, asks_version, bound_of, budget_of, calls_between, calls_in, calls_of, clap_request, clap_words, command_of, draw_mistake_of, draw_of, draw_record_of, explain_calls_of, explain_of, explain_record_of, explain_texts_of, explain_traps_of, extra_of_help, form_mistake, has_negative, help_mistake, help_of_command, help_words, is_help_option, is_negative, is_option, is_set, is_turned, is_version_option, loose_number, made_of, names_of, number_behind, number_sentence, number_tip, place_number, range_mistake, request, run_of, serve_of, too_much, traps_of};
-ghost use Rattle.ob_command.specs.Commands.{IsMistake, IsMistakeOf, IsReading, IsSaidOf, IsStopOf, SaysTip, is_unknown, is_value, request_of, run_request_of};
+ghost use Rattle.std.specs.Prelude.{◌≡◌, Some, is_some, map, option_map};
+ghost use Rattle.clap.specs.Words.{first_of, found_of, rows_of};
+ghost use Rattle.ob_command.specs.CommandLine.{asks_version, bound_of, budget_of, calls_of, clap_request, clap_words, command_of, draw_of};
+ghost use Rattle.ob_command.specs.CommandLine.{draw_record_of, explain_calls_of, explain_of, explain_record_of, explain_texts_of, explain_traps_of};
+ghost use Rattle.ob_command.specs.CommandLine.{extra_of_help, form_mistake, has_negative, help_mistake, is_set, loose_number, made_of, request};
+ghost use Rattle.ob_command.specs.CommandLine.{run_of, serve_of, traps_of};
+ghost use Rattle.ob_command.specs.Commands.{IsMistake, IsMistakeOf, IsReading, request_of, run_request_of};
 ghost use Rattle.ob_command.specs.declared.command.Stop.TheVariants.{NoMemory};
 
+use crate::call_range::calls_of;
+use crate::forms::form_mistake;
+use crate::help::{asks_version, clap_words, extra_of_help, help_mistake};
+use crate::mistakes::{has_negative, loose_number, stop_of};
 use clap::ArgMatches;
-use clap::error::ErrorKind;
 use ob_command_line::command_line::command_line;
 use std::alloc::{AllocError, Global};
 
@@ -125,66 +131,6 @@ impl From<AllocError> for Stop {
 /// How many turns each call has where nothing is said of them.
 const DEFAULT_BUDGET: u32 = 100_000;
 
-/// What is wrong with words for a picture that are in none of the forms of `draw`.
-const UNCLEAR_DRAW: &str = "\
-error: these words are in no form of draw, which are
-  obl0 draw MODULE SCRIPT SCHEDULE -n N [-b BUDGET] [--calls FROM-TO]
-  obl0 draw MODULE RECORD [--calls FROM-TO]
-
-For more information, try '--help'.
-";
-
-/// What is wrong with words behind `explain` that are in none of its forms.
-const UNCLEAR_EXPLAIN: &str = "\
-error: these words are in no form of explain, which are
-  obl0 explain MODULE
-  obl0 explain MODULE SCRIPT [-b BUDGET] [--traps]
-  obl0 explain MODULE SCRIPT SCHEDULE -n N [-b BUDGET]
-  obl0 explain MODULE --record RECORD
-
-For more information, try '--help'.
-";
-
-/// What is wrong with words behind `run` that ask for own steps by the tree.
-const UNCLEAR_RUN: &str = "\
-error: --tree and --steps don't stand together
-
-For more information, try '--help'.
-";
-
-/// What is wrong with a word behind `--calls` that names no calls.
-const UNCLEAR_CALLS: &str = "\
-error: behind --calls stands FROM-TO, as 3-5: the places of the first and the last call, from 1
-
-For more information, try '--help'.
-";
-
-/// What is wrong with two places there of which the first is behind the second.
-const TURNED_CALLS: &str = "\
-error: behind --calls stands FROM-TO, and here FROM is behind TO; the lower place comes first, as in 3-5
-
-For more information, try '--help'.
-";
-
-/// What is said behind a word that is too much behind `help` and a name.
-const BEHIND_HELP: &str = "\
-' found: behind help stands the name of one command
-
-Usage: obl0 help COMMAND
-
-For more information, try '--help'.
-";
-
-/// Which numbers stand behind options.
-const NUMBERS: &str = "\
-behind -n stands the number of processes, 1 to 16, and behind -b how many turns each call has, 0 to 1000000
-
-For more information, try '--help'.
-";
-
-/// Words that ask for help.
-const ASKING_HELP: &[&str] = &["--help"];
-
 /// The command that the words behind the program's name ask for.
 pub fn read_command<'a>(alloc: Global, words: &'a [&'a str]) -> Result<Command<'a>, Stop>
     ensures reading { IsReading (request (map (λ word. word.now) words.entry.now)) result }
@@ -197,99 +143,6 @@ pub fn read_command<'a>(alloc: Global, words: &'a [&'a str]) -> Result<Command<'
         return Err(Stop::Unclear(help_mistake(alloc, word)?));
     }
     read_words(alloc, clap_words(words))
-}
-
-/// Whether words ask for the version.
-fn asks_version(words: &[&str]) -> bool
-    ensures { result ≡ asks_version (map (λ word. word.now) words.now) }
-{
-    match words {
-        [word] => *word == "version" || is_version_option(word),
-        [name, word] => is_version_option(word) && help_of_command(name).is_some(),
-        _ => false,
-    }
-}
-
-fn is_version_option(word: &str) -> bool
-    ensures { result ≡ is_version_option word.now }
-{
-    word == "--version" || word == "-V"
-}
-
-/// The first word that is too much behind `help` and a name.
-fn extra_of_help<'a>(words: &[&'a str]) -> Option<&'a str>
-    ensures { option_map (λ word. word.now) result ≡ extra_of_help (map (λ word. word.now) words.now) }
-{
-    match words {
-        [help, _, rest @ ..] if *help == "help" => too_much(rest),
-        _ => None,
-    }
-}
-
-/// What is too much of the words behind `help` and a name; one word may ask for help itself.
-fn too_much<'a>(words: &[&'a str]) -> Option<&'a str>
-    ensures { option_map (λ word. word.now) result ≡ too_much (map (λ word. word.now) words.now) }
-{
-    match words {
-        [] => None,
-        [word] if is_help_option(word) => None,
-        [word, ..] => Some(word),
-    }
-}
-
-fn is_help_option(word: &str) -> bool
-    ensures { result ≡ is_help_option word.now }
-{
-    word == "--help" || word == "-h"
-}
-
-/// What is said of a word that is too much behind `help` and a name.
-fn help_mistake(alloc: Global, word: &str) -> Result<String, AllocError>
-    ensures { IfOk result (λ text. string_bytes text ≡ help_mistake word.now) }
-{
-    let mut text = String::from_str(alloc, "error: unexpected argument '")?;
-    text.push_str(word)?;
-    text.push_str(BEHIND_HELP)?;
-    Ok(text)
-}
-
-/// The words that `clap` reads: `help` as its option, and behind the name of a command.
-fn clap_words<'a>(words: &'a [&'a str]) -> &'a [&'a str]
-    ensures { map (λ word. word.now) result.now ≡ clap_words (map (λ word. word.now) words.entry.now) }
-{
-    match words {
-        [help] if *help == "help" => ASKING_HELP,
-        [help, name, ..] if *help == "help" => help_words(name).unwrap_or(&words[1..2]),
-        _ => words,
-    }
-}
-
-/// The words that ask for what `help` says before a word, where that is one that there is.
-fn help_words(name: &str) -> Option<&'static [&'static str]>
-    ensures { option_map (λ words. map (λ word. word.now) words.now) result ≡ help_words name.now }
-{
-    if name == "help" || name == "version" {
-        return Some(ASKING_HELP);
-    }
-    help_of_command(name)
-}
-
-/// The words that ask for the help of a command, where there is one of this name.
-fn help_of_command(name: &str) -> Option<&'static [&'static str]>
-    ensures { option_map (λ words. map (λ word. word.now) words.now) result ≡ help_of_command name.now }
-{
-    match name {
-        "check" => Some(&["check", "--help"]),
-        "list" => Some(&["list", "--help"]),
-        "seq" => Some(&["seq", "--help"]),
-        "run" => Some(&["run", "--help"]),
-        "serve" => Some(&["serve", "--help"]),
-        "draw" => Some(&["draw", "--help"]),
-        "verify" => Some(&["verify", "--help"]),
-        "explain" => Some(&["explain", "--help"]),
-        "bound" => Some(&["bound", "--help"]),
-        _ => None,
-    }
 }
 
 /// The command that words ask for, in the reading of `clap`.
@@ -310,38 +163,6 @@ fn read_words<'a>(alloc: Global, words: &'a [&'a str]) -> Result<Command<'a>, St
             }
         },
         None => unreachable!(),
-    }
-}
-
-/// What is said of words that have none of the forms of a command, where it has several.
-fn form_mistake(name: &str, matches: &ArgMatches<'_>) -> Option<&'static str>
-    ensures { option_map (λ text. text.now) result ≡ form_mistake name.now (rows_of (found_of matches.now)) }
-{
-    match name {
-        "draw" => Some(draw_mistake_of(matches)),
-        "explain" => Some(UNCLEAR_EXPLAIN),
-        "run" => Some(UNCLEAR_RUN),
-        _ => None,
-    }
-}
-
-/// What is said of words that have none of the forms of `draw`.
-fn draw_mistake_of(matches: &ArgMatches<'_>) -> &'static str
-    ensures { result.now ≡ draw_mistake_of (rows_of (found_of matches.now)) }
-{
-    match calls_of(matches) {
-        Some(_) => UNCLEAR_DRAW,
-        None => range_mistake(matches.get_str("FROM-TO")),
-    }
-}
-
-/// What is said of the word behind `--calls` where it names no calls.
-fn range_mistake(text: Option<&str>) -> &'static str
-    ensures { result.now ≡ range_mistake (option_map (λ text. text.now) text.entry) }
-{
-    match text {
-        Some(text) if is_turned(text) => TURNED_CALLS,
-        _ => UNCLEAR_CALLS,
     }
 }
 
@@ -435,67 +256,6 @@ fn draw_of<'a>(module_name: &'a str, matches: &ArgMatches<'a>) -> Option<Command
         return Some(Command::Draw { run, calls });
     }
     draw_record_of(module_name, matches, calls)
-}
-
-/// The calls of a picture, of the same matches.
-fn calls_of(matches: &ArgMatches<'_>) -> Option<Option<CallNumbers>>
-    ensures { result ≡ calls_of (rows_of (found_of matches.now)) }
-{
-    match matches.get_str("FROM-TO") {
-        None => Some(None),
-        Some(text) => Some(Some(calls_in(text)?)),
-    }
-}
-
-/// The calls that a text names as `FROM-TO`.
-fn calls_in(text: &str) -> Option<CallNumbers>
-    ensures { result ≡ calls_in text.now }
-{
-    let (first, last) = text.split_once('-')?;
-    let from = place_number(first)?;
-    let to = place_number(last)?;
-    calls_between(from, to)
-}
-
-/// The place of a call.
-fn place_number(text: &str) -> Option<u32>
-    ensures { result ≡ place_number text.now }
-{
-    match text.parse::<u32>() {
-        Ok(place) => Some(place),
-        Err(_) => None,
-    }
-}
-
-/// The calls between two places, where there are such.
-fn calls_between(from: u32, to: u32) -> Option<CallNumbers>
-    ensures { result ≡ calls_between from to }
-{
-    if 1 <= from && from <= to {
-        Some(CallNumbers { from, to })
-    } else {
-        None
-    }
-}
-
-/// Whether a text names two places of which the first is behind the second.
-fn is_turned(text: &str) -> bool
-    ensures { result ≡ is_turned text.now }
-{
-    match text.split_once('-') {
-        Some((first, last)) => are_turned(place_number(first), place_number(last)),
-        None => false,
-    }
-}
-
-/// Whether the first of two places is behind the second.
-fn are_turned(from: Option<u32>, to: Option<u32>) -> bool
-    ensures { result ≡ are_turned from to }
-{
-    match (from, to) {
-        (Some(from), Some(to)) => to < from,
-        _ => false,
-    }
 }
 
 /// The record that is to be drawn, of the same matches.
@@ -623,188 +383,5 @@ fn budget_of(matches: &ArgMatches<'_>) -> Option<u32>
     match matches.get_str("BUDGET") {
         Some(_) => matches.get_one::<u32>("BUDGET"),
         None => Some(DEFAULT_BUDGET),
-    }
-}
-
-/// What a parse without matches stops for, of words with or without a number below 0, and with or without one that lacks its `-n`.
-fn stop_of(
-    alloc: Global,
-    error: &clap::Error,
-    negative: bool,
-    number: Option<&str>,
-) -> Result<Stop, AllocError>
-    ensures { IfOk result (IsStopOf negative (option_map (λ number. number.now) number.entry) (kind_of error.now)) }
-{
-    match error.kind() {
-        ErrorKind::OutOfMemory => Ok(Stop::NoMemory),
-        ErrorKind::DisplayHelp => Ok(Stop::Help(error.to_string(alloc)?)),
-        kind => {
-            let mistake = error.to_string(alloc)?;
-            let text = mistake_text(alloc, kind, mistake.as_str(), negative, number)?;
-            Ok(Stop::Unclear(text))
-        }
-    }
-}
-
-/// What is said of a mistake of a kind, by what `clap` says of it.
-fn mistake_text(
-    alloc: Global,
-    kind: ErrorKind,
-    mistake: &str,
-    negative: bool,
-    number: Option<&str>,
-) -> Result<String, AllocError>
-    ensures { IfOk result (λ text. IsSaidOf negative (option_map (λ number. number.now) number.entry) kind (string_bytes text)) }
-{
-    if is_value(kind) {
-        number_mistake(alloc, before_value_rule(mistake))
-    } else if negative {
-        number_mistake(alloc, "error: there is no number below 0; ")
-    } else if is_unknown(kind) {
-        unknown_mistake(alloc, mistake, number)
-    } else {
-        without_tip(alloc, mistake)
-    }
-}
-
-/// Whether a mistake is a word that `clap` does not know.
-fn is_unknown(kind: ErrorKind) -> bool
-    ensures { result ≡ is_unknown kind }
-{
-    matches!(kind, ErrorKind::UnknownArgument)
-}
-
-/// What is said of a word that `clap` does not know, where a number of processes may lack its `-n`.
-fn unknown_mistake(alloc: Global, mistake: &str, number: Option<&str>) -> Result<String, AllocError>
-    ensures { IfOk result (λ text. SaysTip (option_map (λ number. number.now) number.entry) (string_bytes text)) }
-{
-    match number {
-        Some(number) => with_number_tip(alloc, mistake, number),
-        None => without_tip(alloc, mistake),
-    }
-}
-
-/// What is wrong with words, and how a number of processes is given.
-fn with_number_tip(alloc: Global, mistake: &str, number: &str) -> Result<String, AllocError>
-    ensures { IfOk result (λ text. SaysTip (Some number.now) (string_bytes text)) }
-{
-    let (before, behind) = mistake.split_once("\n\n").unwrap_or((mistake, ""));
-    tipped(alloc, before, number, behind)
-}
-
-/// How a number of processes is given, between two texts.
-fn tipped(alloc: Global, before: &str, number: &str, behind: &str) -> Result<String, AllocError>
-    ensures { IfOk result (λ text. string_bytes text ≡ (before.now ++ number_tip number.now) ++ behind.now) }
-{
-    let mut text = String::from_str(alloc, before)?;
-    push_tip(&mut text, number)?;
-    text.push_str(behind)?;
-    Ok(text)
-}
-
-fn push_tip(text: &mut String, number: &str) -> Result<(), AllocError>
-    ensures { OnOk result (string_bytes text.new ≡ string_bytes text.old ++ number_tip number.now) }
-{
-    text.push_str("\n\n  tip: `-n ")?;
-    text.push_str(number)?;
-    text.push_str("` gives the number of processes\n\n")?;
-    Ok(())
-}
-
-/// Whether a mistake is one of a value.
-fn is_value(kind: ErrorKind) -> bool
-    ensures { result ≡ is_value kind }
-{
-    matches!(kind, ErrorKind::ValueValidation)
-}
-
-/// What is wrong with a number, and which ones there are.
-fn number_mistake(alloc: Global, before: &str) -> Result<String, AllocError>
-    ensures { IfOk result (λ text. string_bytes text ≡ before.now ++ number_sentence) }
-{
-    let mut text = String::from_str(alloc, before)?;
-    text.push_str(NUMBERS)?;
-    Ok(text)
-}
-
-/// What `clap` says of a value, up to the words by which it tells its rule.
-fn before_value_rule(mistake: &str) -> &str {
-    match mistake.split_once(">': ") {
-        Some((before, _rule)) => &mistake[..before.len() + ">': ".len()],
-        None => "error: ",
-    }
-}
-
-/// Whether a number below 0 is among words.
-fn has_negative(words: &[&str]) -> bool
-    ensures { result ≡ has_negative (map (λ word. word.now) words.now) }
-{
-    words.iter().any(|word| is_negative(word))
-}
-
-/// Whether a word is a number below 0: it begins with a `-` and a digit.
-fn is_negative(word: &str) -> bool
-    ensures { result ≡ is_negative word.now }
-{
-    match word.as_bytes() {
-        [sign, digit, ..] => *sign == b'-' && digit.is_ascii_digit(),
-        _ => false,
-    }
-}
-
-/// A number of processes without its `-n`: a number that stands behind the names, where a command has such.
-fn loose_number<'a>(words: &[&'a str]) -> Option<&'a str>
-    ensures { option_map (λ word. word.now) result ≡ loose_number (map (λ word. word.now) words.now) }
-{
-    let names = names_of(words.first()?)?;
-    number_behind(words.get(names).copied(), words.get(names + 1).copied())
-}
-
-/// How many names of files stand behind a command that has a number of processes.
-fn names_of(name: &str) -> Option<usize>
-    ensures { result ≡ names_of name.now }
-{
-    match name {
-        "run" | "draw" | "explain" => Some(3),
-        "serve" => Some(2),
-        "bound" => Some(1),
-        _ => None,
-    }
-}
-
-/// A number behind a word that is no option.
-fn number_behind<'a>(before: Option<&str>, word: Option<&'a str>) -> Option<&'a str>
-    ensures { option_map (λ word. word.now) result ≡ number_behind (option_map (λ word. word.now) before.entry) (option_map (λ word. word.now) word.entry) }
-{
-    match (before, word) {
-        (Some(before), Some(word)) if place_number(word).is_some() && !is_option(before) => {
-            Some(word)
-        }
-        _ => None,
-    }
-}
-
-/// Whether a word is a `-` with something behind it.
-fn is_option(word: &str) -> bool
-    ensures { result ≡ is_option word.now }
-{
-    match word.as_bytes() {
-        [first, _, ..] => *first == b'-',
-        _ => false,
-    }
-}
-
-/// What is wrong with words, without the tip to pass an option that there is not as the name of a file.
-fn without_tip(alloc: Global, mistake: &str) -> Result<String, AllocError> {
-    match mistake.split_once("\n\n  tip: to pass ") {
-        None => String::from_str(alloc, mistake),
-        Some((before, tip)) => {
-            let mut kept = String::from_str(alloc, before)?;
-            if let Some((_, behind)) = tip.split_once("\n\n") {
-                kept.push_str("\n\n")?;
-                kept.push_str(behind)?;
-            }
-            Ok(kept)
-        }
     }
 }

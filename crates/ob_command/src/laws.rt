@@ -3,8 +3,11 @@
 ghost use Rattle.std.specs.Prelude.{◌≡◌, ◌⊎◌, ℕ, List, Some, None, [], ◌∷◌, false, true, All, codes, is_some};
 ghost use Rattle.clap.specs.Words.{fault_of};
 ghost use Rattle.ob_command_line.specs.ClapCommand.{obl0_app};
-ghost use Rattle.ob_command.specs.CommandLine.{Bound, Check, Draw, Explain, ExplainRecord, ExplainRun, ExplainTraps, Help, Listing, Run, RunSteps, RunTree, Seq, Serve, Text, Unclear, Verify, Version, asks_command, command_names, form_mistake_of, is_option, number, request};
-ghost use Rattle.ob_command.specs.PlainForms.{IsBoundAsked, IsBudgetRunAsked, IsCallsAsked, IsHelpAsked, IsRecordAsked, IsRunAsked, IsServeAsked, IsVersionAsked, WithCalls};
+ghost use Rattle.ob_command.specs.CommandLine.{Bound, Check, Draw, Explain, ExplainRecord, ExplainRun, ExplainTraps, Help, Listing, Run, RunSteps};
+ghost use Rattle.ob_command.specs.CommandLine.{RunTree, Seq, Serve, Text, Unclear, Verify, Version, asks_command, command_names, form_mistake_of};
+ghost use Rattle.ob_command.specs.CommandLine.{is_option, number, request};
+ghost use Rattle.ob_command.specs.PlainForms.{IsBoundAsked, IsBudgetRunAsked, IsCallsAsked, IsHelpAsked, IsRecordAsked, IsRunAsked, IsServeAsked};
+ghost use Rattle.ob_command.specs.PlainForms.{IsVersionAsked, WithCalls};
 
 /// `check` and a name that is no option.
 pub fn check_is_asked()

@@ -9,6 +9,7 @@ use Rattle.ob_explain_names.specs.declared.known.Sort.{Sort}
 use Rattle.ob_explain_names.specs.declared.known.Sort.TheVariants as Sorts
 use Rattle.ob_explain_names.specs.declared.need.Need.{Need}
 use Rattle.ob_explain_names.specs.declared.need.Need.TheVariants as Needs
+use Rattle.ob_explain_operands.specs.Kinds.{is_relation}
 use Rattle.ob_explain_causes.specs.Causes.{either, known, name_cause, told}
 use Rattle.ob_explain_causes.specs.declared.causes.Cause.TheVariants as Causes
 use Rattle.ob_explain_causes.specs.declared.causes.Hint.{Hint}
@@ -50,15 +51,6 @@ is_of_operand _ = false
 
 abbrev pub ends_operands : Token → Bool
 ends_operands t = not (is_of_operand t.kind)
-
-abbrev pub is_relation : Kind → Bool
-is_relation Kinds.Equal = true
-is_relation Kinds.NotEqual = true
-is_relation Kinds.Less = true
-is_relation Kinds.LessOrEqual = true
-is_relation Kinds.Greater = true
-is_relation Kinds.GreaterOrEqual = true
-is_relation _ = false
 
 abbrev pub is_relation_there : Option Token → Bool
 is_relation_there None = false

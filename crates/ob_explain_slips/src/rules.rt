@@ -1,7 +1,7 @@
 //! Hints where a rule is broken, by the tokens around the place.
 
 ghost use Rattle.std.specs.Prelude.{◌≡◌, find};
-ghost use Rattle.ob_explain_slips.specs.Rules.{ends_operands, is_of_operand, is_relation, is_value, kind_hint, meets_relation, takes_comparisons};
+ghost use Rattle.ob_explain_slips.specs.Rules.{ends_operands, is_of_operand, is_value, kind_hint, meets_relation, takes_comparisons};
 ghost use Rattle.ob_explain_slips.specs.Rules.{types_hint, unknown_hint};
 
 use ob_explain_causes::causes::{Cause, Hint, either, known, name_cause, told};
@@ -10,6 +10,7 @@ use ob_explain_hints::slips::{begins_with, ends_with, is_same, word_slip};
 use ob_explain_hints::words::{trimmed, word_at};
 use ob_explain_names::known::Sort;
 use ob_explain_names::need::Need;
+use ob_explain_operands::kinds::is_relation;
 use ob_scan::{Kind, Token};
 
 /// The hint on a name that is not there, where these bytes stand before it, and these tokens behind it. A field has none.
@@ -101,19 +102,5 @@ fn is_of_operand(kind: Kind) -> bool
             | Kind::Mod
             | Kind::And
             | Kind::Not
-    )
-}
-
-fn is_relation(kind: Kind) -> bool
-    ensures { result ≡ is_relation kind }
-{
-    matches!(
-        kind,
-        Kind::Equal
-            | Kind::NotEqual
-            | Kind::Less
-            | Kind::LessOrEqual
-            | Kind::Greater
-            | Kind::GreaterOrEqual
     )
 }

@@ -1,7 +1,7 @@
 use Rattle.std.proofs.Common.{◌≡◌, codes, rules, true}
 use Rattle.std.proofs.lemmas.Result.{IfOk-weaker}
 use Rattle.ob_command.proofs.Readings.{not_loose}
-use Rattle.ob_command.proofs.command.mistake_text.Goals as goal
+use Rattle.ob_command.proofs.mistakes.mistake_text.Goals as goal
 
 pub returns-then-negative : goal.returns-then-negative
 returns-then-negative c =

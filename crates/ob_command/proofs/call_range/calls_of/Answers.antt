@@ -1,7 +1,7 @@
 use Rattle.std.proofs.Common.{◌∙◌, Some, ap, codes, option_map, sym}
 use Rattle.clap.specs.Words.{found_of, rows_of}
 use Rattle.ob_command.proofs.Readings.{calls_if, first_row}
-use Rattle.ob_command.proofs.command.calls_of.Goals as goal
+use Rattle.ob_command.proofs.call_range.calls_of.Goals as goal
 
 pub returns-in-None : goal.returns-in-None
 returns-in-None c =

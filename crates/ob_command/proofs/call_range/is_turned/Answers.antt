@@ -1,7 +1,7 @@
 use Rattle.std.proofs.Common.{◌∙◌, ap₂, sym}
 use Rattle.ob_command.specs.CommandLine.{are_turned}
 use Rattle.ob_command.proofs.CallPlaces.{turned_as, unsplit_unturned}
-use Rattle.ob_command.proofs.command.is_turned.Goals as goal
+use Rattle.ob_command.proofs.call_range.is_turned.Goals as goal
 
 pub returns-in-Some : goal.returns-in-Some
 returns-in-Some c =

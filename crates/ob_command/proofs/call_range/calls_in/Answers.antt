@@ -1,6 +1,6 @@
 use Rattle.std.proofs.Common.{◌∙◌, refl, sym}
 use Rattle.ob_command.proofs.CallPlaces.{split_as, unsplit}
-use Rattle.ob_command.proofs.command.calls_in.Goals as goal
+use Rattle.ob_command.proofs.call_range.calls_in.Goals as goal
 
 pub returns-in_err-first : goal.returns-in_err-first
 returns-in_err-first c = c.from_residual.ensures ∙ sym (unsplit c.args.text.now c.split_once.result c.split_once.ensures.cases c.in_err-first.was)

@@ -4,7 +4,7 @@ use Rattle.std.proofs.lemmas.Iterator.{YieldsList-from_slice}
 use Rattle.std.proofs.lemmas.Iterator.Search.{any_from_yields_List}
 use Rattle.clap.proofs.WalkLemmas.{list_any-map}
 use Rattle.ob_command.specs.CommandLine.{is_negative}
-use Rattle.ob_command.proofs.command.has_negative.Goals as goal
+use Rattle.ob_command.proofs.mistakes.has_negative.Goals as goal
 
 pub returns : goal.returns
 returns c =

@@ -2,7 +2,7 @@ use Rattle.std.proofs.Common.{◌≡◌, ◌∙◌, None, codes, refl, sym}
 use Rattle.clap.specs.Words.{found_of, rows_of}
 use Rattle.ob_command.specs.CommandLine.{calls_of}
 use Rattle.ob_command.proofs.Readings.{first_row, unclear_range}
-use Rattle.ob_command.proofs.command.draw_mistake_of.Goals as goal
+use Rattle.ob_command.proofs.forms.draw_mistake_of.Goals as goal
 
 pub returns-in-None : goal.returns-in-None
 returns-in-None c =

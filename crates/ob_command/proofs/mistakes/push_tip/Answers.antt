@@ -1,5 +1,5 @@
 use Rattle.std.proofs.Common.{◌++◌, ◌∙◌, List, ℕ, ap, append_assoc, codes, string_bytes}
-use Rattle.ob_command.proofs.command.push_tip.Goals as goal
+use Rattle.ob_command.proofs.mistakes.push_tip.Goals as goal
 
 pub returns : goal.returns
 returns c =
