@@ -237,6 +237,7 @@ impl Engine for CodeEngine {
         }
     }
 
+    #[inline(always)]
     fn step(&self, run: &mut Body, block: &mut [i64]) -> EngineTurn {
         turn_of(run.step(&self.code, block))
     }

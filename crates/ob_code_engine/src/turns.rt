@@ -7,6 +7,7 @@ use ob_code_machine::BodyTurn;
 use wf_object::EngineTurn;
 
 /// What a body's step answers, as an engine's.
+#[inline(always)]
 pub fn turn_of(turn: BodyTurn) -> EngineTurn
     ensures { result ≡ Words.turn_of turn }
 {

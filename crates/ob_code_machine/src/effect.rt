@@ -175,6 +175,7 @@ fn store(block: &mut [i64], stack: &mut Stack) -> Answer
 }
 
 /// What an instruction does that leaves the block as it is.
+#[inline(always)]
 fn stack_effect(instr: Instr, fp: usize, block: &[i64], stack: &mut Stack) -> Answer
     ensures { LeavesStack result stack.old stack.new (Effects.stack_effect stack.old.reserve fp instr block.now stack.old.words) }
 {
@@ -203,7 +204,8 @@ fn stack_effect(instr: Instr, fp: usize, block: &[i64], stack: &mut Stack) -> An
     }
 }
 
-/// What an instruction without a jump does to the block and the stack.
+/// What an instruction without a jump does to the block and the stack. It stands within its callers, which look at the instruction too.
+#[inline(always)]
 pub fn effect(instr: Instr, fp: usize, block: &mut [i64], stack: &mut Stack) -> Answer
     ensures { HasEffect result block.old block.new stack.old stack.new (Effects.effect stack.old.reserve fp instr block.old stack.old.words) }
 {
