@@ -1,8 +1,7 @@
 -- Announcements that lie one behind the other.
-use Rattle.std.proofs.Common.{◌≡◌, ℕ, ◌+◌, ◌*◌, ◌-◌, ◌<◌, List, [], length, set, get_or, replicate, refl, sym, ap, ap₂, ◌∙◌, ◌^◌, arith}
+use Rattle.std.proofs.Common.{◌≡◌, ℕ, ◌+◌, ◌*◌, ◌<◌, List, [], length, set, get_or, replicate, refl, sym, ap, ap₂, ◌∙◌, ◌^◌, arith}
 use Rattle.std.specs.Prelude.{ℤ, pos, nat_le, Bool, true, false, cond}
 use Rattle.std.specs.List.{range_with_len}
-use Rattle.std.proofs.Math.Nat.{add-mul}
 use Rattle.std.proofs.lemmas.List.FromFn.{length-range_with_len}
 use Rattle.std.proofs.lemmas.Nat.{row_fits, same_from_place}
 use Rattle.std.proofs.lemmas.List.{get_or-set_same, get_or-set_other, get_or-replicate}
@@ -68,13 +67,16 @@ module _ (root : ℕ) (own : List ℕ) (blocks announcements : Rows) (words : �
   pub below : p * words + i < 2 ^ 64
   below = omega (arith, within, h.long, h.fits)
 
-  -- the last word of a part is the last one of an announcement
-  pub last_word : (q : ℕ) → announcements.form.head ≡ 0 → announcements.form.part ≡ words → p * words + i + 1 ≡ announcements.form.head + (q + 1) * announcements.form.part → i + 1 ≡ words
-  last_word q none part e =
-      let turned : announcements.form.head + (q + 1) * announcements.form.part ≡ 0 + (q + 1) * words = ap₂ (λ a b. a + (q + 1) * b) none part in
-      let more = add-mul q 1 words in
-      let both = same_from_place p i q (words - 1) words word_in (omega (arith, word_in)) (omega (arith, e, turned, more, word_in)) in
-      omega (arith, both.1, word_in)
+  -- in an announcement that is a part
+  module _ (none : announcements.form.head ≡ 0) (part : announcements.form.part ≡ words) where
+    pub word_in_part : i < announcements.form.part
+    word_in_part = omega (arith, part, word_in)
+
+    pub place_is : announcements.form.head + p * announcements.form.part + i ≡ p * words + i
+    place_is = ap₂ (λ (a b : ℕ). a + p * b + i) none part ∙ omega arith
+
+    pub within_part : announcements.form.head + p * announcements.form.part + i < length (row_of announcements 0)
+    within_part = omega (arith, place_is, within)
 
   pub announce_set : (w : ℤ) → announced (length own) words (row_of (record announcements { rows = set announcements.rows 0 (set (row_of announcements 0) (p * words + i) w) }) 0) ≡ set (announced (length own) words (row_of announcements 0)) p (set (get_or (announced (length own) words (row_of announcements 0)) p []) i w)
   announce_set w =

@@ -1,11 +1,11 @@
 -- Where a row and a word of it lie among the words.
 use Rattle.std.proofs.Common.{◌≡◌, ℕ, ◌+◌, ◌*◌, ◌<◌, ◌≤◌, List, [], length, get_or, ap, arith}
 use Rattle.std.specs.Prelude.{ℤ}
+use Rattle.std.proofs.lemmas.Nat.{mul-add-lt}
 use Rattle.ll_cell.specs.declared.form.Form.{Form}
-use Rattle.ll_cell.specs.declared.form.Place.TheVariants.{Word}
-use Rattle.ll_cell.specs.Form.{row_words, kept_words, place_of}
+use Rattle.ll_cell.specs.Form.{row_words, kept_words}
 use Rattle.ll_cell.specs.Rows.{IsTable, rows_kept}
-use Rattle.ll_cell.proofs.Kept.{rows_length, row_length, row_ends, place_below}
+use Rattle.ll_cell.proofs.Kept.{rows_length, row_length, row_ends}
 
 module _ (f : Form) (stride : ℕ) (words : List ℤ) (bits : List ℕ) (h : IsTable f stride words bits) (row : ℕ) (lt : row < length (rows_kept f words bits)) where
   pub row_in : row < length bits
@@ -21,5 +21,9 @@ module _ (f : Form) (stride : ℕ) (words : List ℤ) (bits : List ℕ) (h : IsT
     pub word_in : i < row_words f
     word_in = omega (arith, within, row_length f words bits row row_in)
 
-    pub kept_in : (k : ℕ) → place_of f i ≡ Word k → row * stride + k < length words
-    kept_in k at = omega (arith, same_first, place_below f h.part words bits h.filled row i row_in word_in k at)
+  -- a place is one of the words
+  pub kept_in : (k : ℕ) → k < kept_words f → row * stride + k < length words
+  kept_in k lt = omega (arith, same_first, h.filled, mul-add-lt row (kept_words f) k (length bits) row_in lt)
+
+  pub block_in : kept_words f ≤ length words
+  block_in = omega (arith, row_ends f words bits row h.filled row_in)

@@ -68,12 +68,6 @@ module _ (f : Form) (part : 0 < f.part) (words : List ℤ) (bits : List ℕ) (fi
     last : IsLast f i q
     last = subst (Stands f i) at (stands_at f part i within)
 
-    pub bit_in : q < f.parts
-    bit_in = last.part_in
-
-    pub bit_last : i + 1 ≡ f.head + (q + 1) * f.part
-    bit_last = omega (arith, last.stands, part)
-
     module _ (few : f.parts ≤ 16) (w : ℤ) (n : ℕ) (here : pos (bit_at n q) ≡ w) (others : (j : ℕ) → j < 16 → j ≢ q → bit_at n j ≡ bit_at (get_or bits b 0) j) where
       beside : (c j : ℕ) (p : Place) → (c ≡ b → j ≡ i → ⊥) → Stands f j p → kept_at words (set bits b n) (kept_words f) c p ≡ kept_at words bits (kept_words f) c p
       beside c j (Word m) other s = refl

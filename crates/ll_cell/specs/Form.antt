@@ -23,9 +23,19 @@ place_of f i =
     then Word i
     else (if nat_eq ((i - f.head) % f.part + 1) f.part then Bit ((i - f.head) / f.part) else Word (i - (i - f.head) / f.part))
 
+-- a place of a block
+abbrev pub IsPlace : Form → Place → Type 0
+IsPlace f (Word k) = k < kept_words f
+IsPlace f (Bit q) = q < f.parts
+
 abbrev pub IsBit : ℤ → Type 0
 IsBit w = (w ≡ pos 0) ⊎ (w ≡ pos 1)
 
 -- w may stand at word i of a block: the last word of a part is 0 or 1
 abbrev pub MayStand : Form → ℕ → ℤ → Type 0
 MayStand f i w = (q : ℕ) → q < f.parts → i + 1 ≡ f.head + (q + 1) * f.part → IsBit w
+
+-- w may stand at a place of a block
+abbrev pub MayStandAt : Place → ℤ → Type 0
+MayStandAt (Word k) w = Unit {0}
+MayStandAt (Bit q) w = IsBit w

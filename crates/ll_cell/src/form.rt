@@ -1,6 +1,6 @@
 //! How the words of a block are kept.
 
-ghost use Rattle.std.specs.Prelude.{◌≡◌, ◌*◌, ◌<◌, IfSome};
+ghost use Rattle.std.specs.Prelude.{◌≡◌, ◌+◌, ◌-◌, ◌*◌, ◌^◌, ◌<◌, IfSome};
 ghost use Rattle.ll_cell.specs.Form.{place_of, kept_words};
 
 /// A block has `head` words and behind them `parts` parts of `part` words each. The last word of
@@ -23,6 +23,7 @@ pub enum Place {
 
 impl Form {
     /// Where word i is kept.
+    #[inline]
     pub fn place(self, i: usize) -> Place
         requires { 0 < self.part }
         ensures { result ≡ place_of self i }
@@ -31,11 +32,24 @@ impl Form {
             return Place::Word(i);
         }
         let behind = i - self.head;
-        let q = behind / self.part;
-        if behind % self.part + 1 == self.part {
+        // Nothing is divided for a word of part 0.
+        if behind < self.part {
+            return self.place_in(0, behind);
+        }
+        self.place_in(behind / self.part, behind % self.part)
+    }
+
+    /// Where word i of part q is kept.
+    #[inline]
+    pub fn place_in(self, q: usize, i: usize) -> Place
+        requires word { i < self.part }
+        requires fits { self.head + q * (self.part - 1) + i < 2 ^ 64 }
+        ensures { result ≡ place_of self (self.head + q * self.part + i) }
+    {
+        if i + 1 == self.part {
             Place::Bit(q)
         } else {
-            Place::Word(i - q)
+            Place::Word(self.head + q * (self.part - 1) + i)
         }
     }
 

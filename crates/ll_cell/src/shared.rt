@@ -46,7 +46,7 @@ impl Model for Shared {
 
 impl Shared {
     ghost use Rattle.ll_cell.specs.Cell.{fresh, own_of, is_linked, block_of, announcement_of, word_at, link, exchange, write_own, announce_word};
-    ghost use Rattle.ll_cell.specs.Form.{whole, kept_words, MayStand};
+    ghost use Rattle.ll_cell.specs.Form.{whole, kept_words, IsBit, MayStand};
     ghost use Rattle.ll_cell.specs.Memory.{with_cell, MayAnnounce};
     ghost use Rattle.ll_cell.specs.Lending.{LendsOwnWords};
     ghost use Rattle.ll_cell.specs.declared.fault.CellFault as CellFault;
@@ -167,6 +167,17 @@ impl Shared {
         self.blocks.word(block, i)
     }
 
+    /// Word i of part q of a block, whoever owns it.
+    #[inline]
+    pub fn read_part(&self, block: usize, q: usize, i: usize) -> i64
+        requires block { block < length self.now.cell.blocks }
+        requires part { i < self.now.form.part }
+        requires word { self.now.form.head + q * self.now.form.part + i < length (block_of self.now.cell block) }
+        ensures { result ≡ word_at (block_of self.now.cell block) (self.now.form.head + q * self.now.form.part + i) }
+    {
+        self.blocks.part_word(block, q, i)
+    }
+
     /// Writes word i of p's own block.
     pub fn write_word(&mut self, p: usize, i: usize, w: i64)
         requires owns { p < length self.old.cell.own }
@@ -179,12 +190,29 @@ impl Shared {
         self.blocks.write(own, i, w);
     }
 
+    /// Writes word i of part q of p's own block.
+    #[inline]
+    pub fn write_part(&mut self, p: usize, q: usize, i: usize, w: i64)
+        requires owns { p < length self.old.cell.own }
+        requires block { own_of self.old.cell p < length self.old.cell.blocks }
+        requires part { i < self.old.form.part }
+        requires word { self.old.form.head + q * self.old.form.part + i < length (block_of self.old.cell (own_of self.old.cell p)) }
+        requires bit { i + 1 ≡ self.old.form.part → IsBit w }
+        ensures { self.new ≡ with_cell self.old (write_own self.old.cell p (self.old.form.head + q * self.old.form.part + i) w) }
+    {
+        let own = self.own[p];
+        self.blocks.write_part(own, q, i, w);
+    }
+
     /// Word i of p's announcement.
     pub fn read_announce(&self, p: usize, i: usize) -> i64
         requires process { p < length self.now.cell.announcements }
         requires word { i < length (announcement_of self.now.cell p) }
         ensures { result ≡ word_at (announcement_of self.now.cell p) i }
     {
+        if self.announcements.has_parts() {
+            return self.announcements.part_word(0, p, i);
+        }
         self.announcements.word(0, p * self.announce + i)
     }
 
@@ -195,8 +223,12 @@ impl Shared {
         requires bit { MayAnnounce self.old p i w }
         ensures { self.new ≡ with_cell self.old (announce_word self.old.cell p i w) }
     {
-        let place = p * self.announce + i;
-        self.announcements.write(0, place, w);
+        if self.announcements.has_parts() {
+            self.announcements.write_part(0, p, i, w);
+        } else {
+            let place = p * self.announce + i;
+            self.announcements.write(0, place, w);
+        }
     }
 
     /// The first words of the root's block, which are no bits.

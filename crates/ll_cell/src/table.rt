@@ -1,10 +1,10 @@
 //! Blocks of one form, whose words lie side by side.
 
-ghost use Rattle.std.specs.Prelude.{◌≡◌, ◌≢◌, ℕ, ◌+◌, ◌*◌, ◌<◌, ◌≤◌, IfOk, length, take, drop, replicate, pos, slice_index_or, slice_set, []};
+ghost use Rattle.std.specs.Prelude.{◌≡◌, ◌≢◌, ◌↔◌, IsTrue, ℕ, ◌+◌, ◌*◌, ◌<◌, ◌≤◌, IfOk, length, take, drop, replicate, pos, slice_index_or, slice_set, []};
 ghost use Rattle.std.specs.Borrow.{sem};
 ghost use Rattle.std.specs.Int.{bit_at};
 ghost use Rattle.ll_cell.specs.Cell.{word_at};
-ghost use Rattle.ll_cell.specs.Form.{row_words, kept_words, IsBit, MayStand};
+ghost use Rattle.ll_cell.specs.Form.{row_words, kept_words, place_of, IsBit, IsPlace, MayStand, MayStandAt};
 
 use crate::fault::CellFault;
 use crate::form::{Form, Place};
@@ -67,26 +67,82 @@ impl Table {
         self.words.len()
     }
 
+    /// Whether its blocks have parts.
+    #[inline]
+    pub fn has_parts(&self) -> bool
+        ensures { IsTrue result ↔ 0 < self.now.form.parts }
+    {
+        self.form.parts > 0
+    }
+
     /// Word i of a block.
+    #[inline]
     pub fn word(&self, row: usize, i: usize) -> i64
         requires row { row < length self.now.rows }
         requires word { i < length (row_of self.now row) }
         ensures { result ≡ word_at (row_of self.now row) i }
     {
-        match self.form.place(i) {
-            Place::Word(k) => self.words[row * self.stride + k],
-            Place::Bit(q) => i64::from(self.bits[row] >> q & 1),
-        }
+        self.kept(row, self.form.place(i))
+    }
+
+    /// Word i of part q of a block.
+    #[inline]
+    pub fn part_word(&self, row: usize, q: usize, i: usize) -> i64
+        requires row { row < length self.now.rows }
+        requires part { i < self.now.form.part }
+        requires word { self.now.form.head + q * self.now.form.part + i < length (row_of self.now row) }
+        ensures { result ≡ word_at (row_of self.now row) (self.now.form.head + q * self.now.form.part + i) }
+    {
+        self.kept(row, self.form.place_in(q, i))
     }
 
     /// Writes word i of a block.
+    #[inline]
     pub fn write(&mut self, row: usize, i: usize, w: i64)
         requires row { row < length self.old.rows }
         requires word { i < length (row_of self.old row) }
         requires bit { MayStand self.old.form i w }
         ensures { self.new ≡ record self.old { rows = slice_set self.old.rows row (slice_set (row_of self.old row) i w) } }
     {
-        match self.form.place(i) {
+        let place = self.form.place(i);
+        self.keep(row, place, w);
+    }
+
+    /// Writes word i of part q of a block.
+    #[inline]
+    pub fn write_part(&mut self, row: usize, q: usize, i: usize, w: i64)
+        requires row { row < length self.old.rows }
+        requires part { i < self.old.form.part }
+        requires word { self.old.form.head + q * self.old.form.part + i < length (row_of self.old row) }
+        requires bit { i + 1 ≡ self.old.form.part → IsBit w }
+        ensures { self.new ≡ record self.old { rows = slice_set self.old.rows row (slice_set (row_of self.old row) (self.old.form.head + q * self.old.form.part + i) w) } }
+    {
+        let place = self.form.place_in(q, i);
+        self.keep(row, place, w);
+    }
+
+    /// What is kept at a place of a block.
+    #[inline(always)]
+    fn kept(&self, row: usize, place: Place) -> i64
+        requires row { row < length self.now.rows }
+        requires place { IsPlace self.now.form place }
+        ensures { (i : ℕ) → i < length (row_of self.now row) → place_of self.now.form i ≡ place → result ≡ word_at (row_of self.now row) i }
+    {
+        match place {
+            Place::Word(k) => self.words[row * self.stride + k],
+            Place::Bit(q) => i64::from(self.bits[row] >> q & 1),
+        }
+    }
+
+    /// Keeps w at a place of a block.
+    #[inline(always)]
+    fn keep(&mut self, row: usize, place: Place, w: i64)
+        requires row { row < length self.old.rows }
+        requires place { IsPlace self.old.form place }
+        requires bit { MayStandAt place w }
+        ensures { (i : ℕ) → i < length (row_of self.old row) → place_of self.old.form i ≡ place → self.new ≡ record self.old { rows = slice_set self.old.rows row (slice_set (row_of self.old row) i w) } }
+    {
+        match place {
             Place::Word(k) => {
                 self.words[row * self.stride + k] = w;
             }
