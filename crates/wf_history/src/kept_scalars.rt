@@ -53,7 +53,9 @@ impl KeptScalars {
             [first, second] => Ok(KeptScalars {
                 place: Place::Two([*first, *second]),
             }),
-            [_, _, ..] => many(alloc, items),
+            [_, _, ..] => Ok(KeptScalars {
+                place: Place::Many(boxed(alloc, items)?),
+            }),
         }
     }
 
@@ -92,11 +94,9 @@ impl DerefSlice for KeptScalars {
 
 /// A copy of the scalars in memory of their own.
 #[inline(never)]
-fn many(alloc: Global, items: &[Scalar]) -> Result<KeptScalars, NoMemory>
-    ensures { IfOk result (λ k. k.items ≡ items.now) }
+fn boxed(alloc: Global, items: &[Scalar]) -> Result<Box<SmallVec<Scalar, 6>>, NoMemory>
+    ensures { IfOk result (λ copy. copy.value.items ≡ items.now) }
 {
     let copy = SmallVec::from_slice(alloc, items)?;
-    Ok(KeptScalars {
-        place: Place::Many(Box::new(alloc, copy)?),
-    })
+    Ok(Box::new(alloc, copy)?)
 }

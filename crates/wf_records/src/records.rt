@@ -108,6 +108,7 @@ impl Records {
     }
 
     /// Process p begins a call. Nothing changes where memory runs out.
+    #[inline(always)]
     pub fn note_begin(&mut self, p: usize, id: CallId, call: KeptCall) -> Result<(), NoMemory>
         requires { IsHistory (self.old.history ++ Begin id (kept_call call) ∷ []) }
         ensures ok { OnOk result (self.new ≡ noted self.old p At.Next 0 (Some (Begin id (kept_call call)))) }
@@ -120,6 +121,7 @@ impl Records {
     }
 
     /// Process p makes its block the root, and these calls take effect. Nothing changes where memory runs out.
+    #[inline(always)]
     pub fn note_commit(
         &mut self,
         p: usize,
@@ -139,6 +141,7 @@ impl Records {
     }
 
     /// Process p's call ends. Nothing changes where memory runs out.
+    #[inline(always)]
     pub fn note_end(&mut self, p: usize, id: CallId, reply: KeptReply) -> Result<(), NoMemory>
         requires { IsHistory (self.old.history ++ End id (kept_reply reply) ∷ []) }
         ensures ok { OnOk result (self.new ≡ noted self.old p At.Give 0 (Some (End id (kept_reply reply)))) }
@@ -202,6 +205,7 @@ fn note_flip(flip_marks: &mut Vec<usize>, p: usize, label: Label, seen: usize)
 }
 
 /// Calls that took effect, at the end of the history and of the order.
+#[inline(always)]
 fn note_applied(
     history: &mut History,
     order: &mut Vec<CallId>,
