@@ -9,7 +9,7 @@ abbrev pub placed_items : Place → List Scalar
 placed_items None = []
 placed_items (One item) = item ∷ []
 placed_items (Two items) = items
-placed_items (Many more) = more.value.items
+placed_items (Many apart) = apart.items.value.items
 
 abbrev pub placed : Place → Scalars
 placed place = record { items = placed_items place }

@@ -19,13 +19,27 @@ pub struct KeptScalars {
     place: Place,
 }
 
-/// Where they lie: more than two stand behind one pointer, as long as they are not many.
+/// Where they lie.
 #[derive(Drop)]
 enum Place {
     None,
     One(Scalar),
     Two([Scalar; 2]),
-    Many(Box<SmallVec<Scalar, 6>>),
+    Many(Apart),
+}
+
+/// Scalars in memory of their own: one piece of it for up to 6, and two for more.
+struct Apart {
+    items: Box<SmallVec<Scalar, 6>>,
+}
+
+impl Drop for Apart {
+    /// Not inlined, since few events have so many scalars, and all are dropped.
+    #[inline(never)]
+    fn drop(self) {
+        let Apart { items } = self;
+        drop(items);
+    }
 }
 
 impl Model for KeptScalars {
@@ -54,7 +68,7 @@ impl KeptScalars {
                 place: Place::Two([*first, *second]),
             }),
             [_, _, ..] => Ok(KeptScalars {
-                place: Place::Many(boxed(alloc, items)?),
+                place: Place::Many(Apart::from_slice(alloc, items)?),
             }),
         }
     }
@@ -68,7 +82,7 @@ impl KeptScalars {
             Place::None => &[],
             Place::One(item) => slice::from_ref(item),
             Place::Two(items) => items.as_slice(),
-            Place::Many(items) => items.as_slice(),
+            Place::Many(apart) => apart.items.as_slice(),
         }
     }
 
@@ -81,6 +95,19 @@ impl KeptScalars {
     }
 }
 
+impl Apart {
+    /// A copy of the scalars.
+    #[inline(never)]
+    fn from_slice(alloc: Global, items: &[Scalar]) -> Result<Apart, NoMemory>
+        ensures { IfOk result (λ apart. apart.items.value.items ≡ items.now) }
+    {
+        let copy = SmallVec::from_slice(alloc, items)?;
+        Ok(Apart {
+            items: Box::new(alloc, copy)?,
+        })
+    }
+}
+
 impl DerefSlice for KeptScalars {
     type Elem = Scalar;
 
@@ -90,13 +117,4 @@ impl DerefSlice for KeptScalars {
     fn deref(&self) -> &[Scalar] {
         self.as_slice()
     }
-}
-
-/// A copy of the scalars in memory of their own.
-#[inline(never)]
-fn boxed(alloc: Global, items: &[Scalar]) -> Result<Box<SmallVec<Scalar, 6>>, NoMemory>
-    ensures { IfOk result (λ copy. copy.value.items ≡ items.now) }
-{
-    let copy = SmallVec::from_slice(alloc, items)?;
-    Ok(Box::new(alloc, copy)?)
 }
