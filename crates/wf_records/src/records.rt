@@ -218,7 +218,7 @@ fn note_applied(
     ensures no_order { OnErr result (order.new.items ≡ order.old.items) }
 {
     let before = order.len();
-    order.extend_from_slice(ids.as_slice())?;
+    append(order, ids.as_slice())?;
     match history.push(Event::Applied(ids)) {
         Ok(()) => Ok(()),
         Err(fault) => {
@@ -226,6 +226,28 @@ fn note_applied(
             Err(fault)
         }
     }
+}
+
+/// These calls at the end of the order. Mostly it is one.
+#[inline(always)]
+fn append(order: &mut Vec<CallId>, ids: &[CallId]) -> Result<(), NoMemory>
+    ensures ok { OnOk result (order.new.items ≡ order.old.items ++ ids.now) }
+    ensures err { OnErr result (order.new.items ≡ order.old.items) }
+{
+    match ids {
+        [id] => order.push(*id)?,
+        ids => append_all(order, ids)?,
+    }
+    Ok(())
+}
+
+#[inline(never)]
+fn append_all(order: &mut Vec<CallId>, ids: &[CallId]) -> Result<(), NoMemory>
+    ensures ok { OnOk result (order.new.items ≡ order.old.items ++ ids.now) }
+    ensures err { OnErr result (order.new.items ≡ order.old.items) }
+{
+    order.extend_from_slice(ids)?;
+    Ok(())
 }
 
 /// One more turn of p: in the last run of turns, where that is p's and not full, else in a new one.
