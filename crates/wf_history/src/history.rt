@@ -40,6 +40,7 @@ impl History {
     }
 
     /// One more event, which is its process's next one where it is a Begin or an End.
+    #[inline(always)]
     pub fn push(&mut self, event: Event) -> Result<(), NoMemory>
         requires { IsHistory (self.old ++ event_of event ∷ []) }
         ensures ok { OnOk result (self.new ≡ self.old ++ event_of event ∷ []) }

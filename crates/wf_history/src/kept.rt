@@ -1,23 +1,22 @@
 //! Calls and replies as events keep them: in place as far as they are common.
 
+use crate::kept_scalars::KeptScalars;
 use ob_interface::NoMemory;
 use ob_interface::call::{Call, Reply};
-use ob_interface::scalar::Scalar;
-use smallvec::SmallVec;
 use std::alloc::Global;
 
 /// A call of an event. It takes memory of its own only where it has more than 2 arguments.
 #[derive(Drop)]
 pub struct KeptCall {
     pub proc: usize,
-    pub args: SmallVec<Scalar, 2>,
+    pub args: KeptScalars,
 }
 
 /// A reply of an event. It takes memory of its own only where it has more than 2 values.
 #[derive(Drop)]
 pub enum KeptReply {
     /// The final values of the VAR parameters, in text order.
-    Done(SmallVec<Scalar, 2>),
+    Done(KeptScalars),
     /// The number of a trap.
     Trap(u8),
 }
@@ -28,13 +27,14 @@ impl KeptCall {
     ghost use Rattle.wf_history.specs.View.{kept_call};
 
     /// The call, to be kept.
+    #[inline(always)]
     pub fn keep(alloc: Global, call: &Call) -> Result<KeptCall, NoMemory>
         ensures kept { IfOk result (λ k. kept_call k ≡ call_of call.now) }
         ensures in_place { length call.now.args.items ≤ 2 → IsOk result }
     {
         Ok(KeptCall {
             proc: call.proc,
-            args: SmallVec::from_slice(alloc, call.args.as_slice())?,
+            args: KeptScalars::from_slice(alloc, call.args.as_slice())?,
         })
     }
 }
@@ -45,11 +45,12 @@ impl KeptReply {
     ghost use Rattle.wf_history.specs.View.{kept_reply};
 
     /// The reply, to be kept.
+    #[inline(always)]
     pub fn keep(alloc: Global, reply: &Reply) -> Result<KeptReply, NoMemory>
         ensures { IfOk result (λ k. kept_reply k ≡ reply_of reply.now) }
     {
         match reply {
-            Reply::Done(values) => Ok(KeptReply::Done(SmallVec::from_slice(
+            Reply::Done(values) => Ok(KeptReply::Done(KeptScalars::from_slice(
                 alloc,
                 values.as_slice(),
             )?)),

@@ -108,6 +108,7 @@ impl Records {
     }
 
     /// Process p begins a call. Nothing changes where memory runs out.
+    #[inline(always)]
     pub fn note_begin(&mut self, p: usize, id: CallId, call: KeptCall) -> Result<(), NoMemory>
         requires { IsHistory (self.old.history ++ Begin id (kept_call call) ∷ []) }
         ensures ok { OnOk result (self.new ≡ noted self.old p At.Next 0 (Some (Begin id (kept_call call)))) }
@@ -120,6 +121,7 @@ impl Records {
     }
 
     /// Process p makes its block the root, and these calls take effect. Nothing changes where memory runs out.
+    #[inline(always)]
     pub fn note_commit(
         &mut self,
         p: usize,
@@ -139,6 +141,7 @@ impl Records {
     }
 
     /// Process p's call ends. Nothing changes where memory runs out.
+    #[inline(always)]
     pub fn note_end(&mut self, p: usize, id: CallId, reply: KeptReply) -> Result<(), NoMemory>
         requires { IsHistory (self.old.history ++ End id (kept_reply reply) ∷ []) }
         ensures ok { OnOk result (self.new ≡ noted self.old p At.Give 0 (Some (End id (kept_reply reply)))) }
@@ -202,6 +205,7 @@ fn note_flip(flip_marks: &mut Vec<usize>, p: usize, label: Label, seen: usize)
 }
 
 /// Calls that took effect, at the end of the history and of the order.
+#[inline(always)]
 fn note_applied(
     history: &mut History,
     order: &mut Vec<CallId>,
@@ -214,7 +218,7 @@ fn note_applied(
     ensures no_order { OnErr result (order.new.items ≡ order.old.items) }
 {
     let before = order.len();
-    order.extend_from_slice(ids.as_slice())?;
+    append(order, ids.as_slice())?;
     match history.push(Event::Applied(ids)) {
         Ok(()) => Ok(()),
         Err(fault) => {
@@ -222,6 +226,28 @@ fn note_applied(
             Err(fault)
         }
     }
+}
+
+/// These calls at the end of the order. Mostly it is one.
+#[inline(always)]
+fn append(order: &mut Vec<CallId>, ids: &[CallId]) -> Result<(), NoMemory>
+    ensures ok { OnOk result (order.new.items ≡ order.old.items ++ ids.now) }
+    ensures err { OnErr result (order.new.items ≡ order.old.items) }
+{
+    match ids {
+        [id] => order.push(*id)?,
+        ids => append_all(order, ids)?,
+    }
+    Ok(())
+}
+
+#[inline(never)]
+fn append_all(order: &mut Vec<CallId>, ids: &[CallId]) -> Result<(), NoMemory>
+    ensures ok { OnOk result (order.new.items ≡ order.old.items ++ ids.now) }
+    ensures err { OnErr result (order.new.items ≡ order.old.items) }
+{
+    order.extend_from_slice(ids)?;
+    Ok(())
 }
 
 /// One more turn of p: in the last run of turns, where that is p's and not full, else in a new one.
