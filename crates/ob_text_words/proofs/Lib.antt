@@ -1,3 +1,4 @@
+pub mod DigitPairs
 pub mod Numerals
 pub mod Appended
 pub mod DigitParts
