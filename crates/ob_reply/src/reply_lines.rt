@@ -10,6 +10,7 @@ ghost use Rattle.ob_text_words.specs.Appending.{GoesOn};
 
 use ob_interface::call::Reply;
 use ob_interface::scalar::Scalar;
+use ob_text_words::counts::push_count;
 use ob_text_words::numbers::push_number;
 use ob_text_words::values::push_value;
 use std::alloc::AllocError;
@@ -61,14 +62,15 @@ pub fn push_trap_line(
 }
 
 /// Appends what says which call has ended.
+#[inline]
 fn push_ended(text: &mut String, process: usize, number: u64) -> Result<(), AllocError>
     ensures ok { OnOk result (string_bytes text.new ≡ string_bytes text.old ++ (codes "E " ++ decimal process ++ codes "." ++ decimal number)) }
     ensures left { OnErr result (GoesOn (string_bytes text.old) (string_bytes text.new)) }
 {
     text.push_str("E ")?;
-    push_number(text, process)?;
+    push_count(text, process as u64)?;
     text.push_str(".")?;
-    push_number(text, number)
+    push_count(text, number)
 }
 
 /// Appends what stands behind the id of a call that traps.

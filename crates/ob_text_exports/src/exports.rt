@@ -7,6 +7,7 @@ ghost use Rattle.ob_text_exports.specs.ExportNames.{export_named};
 use ob_interface::export::Export;
 
 /// The export of a name, with its number.
+#[inline]
 pub fn export_named<'a>(exports: &'a [Export], name: &[u8]) -> Option<(usize, &'a Export)>
     ensures { option_map (λ e. (e.0, signature_of e.1.now)) result ≡ export_named (map signature_of exports.now) name.now }
 {

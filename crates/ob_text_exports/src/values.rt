@@ -33,6 +33,7 @@ pub fn read_value(scalar_type: ScalarType, word: &[u8]) -> Option<Scalar>
 }
 
 /// The values that words say for the parameters of one mode, VAR or not; `None` where they don't fit.
+#[inline]
 pub fn read_values(
     alloc: Global,
     formals: &[Formal],
@@ -55,7 +56,11 @@ pub fn read_values(
             values.push(value)?;
         }
     }
-    Ok((values.len() == words.len()).then_some(values))
+    if values.len() == words.len() {
+        Ok(Some(values))
+    } else {
+        Ok(None)
+    }
 }
 
 /// Whether a parameter is a VAR parameter, or is none, as is asked.

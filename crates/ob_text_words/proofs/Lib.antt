@@ -1,3 +1,5 @@
+pub mod DigitPairs
+pub mod LineWords
 pub mod Numerals
 pub mod Appended
 pub mod DigitParts

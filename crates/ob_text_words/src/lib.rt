@@ -1,6 +1,7 @@
 //! The words of texts: numbers, names and scalars, and the calls that scripts say.
 #![tactic(auto)]
 
+pub mod counts;
 pub mod numbers;
 pub mod script_call;
 pub mod values;

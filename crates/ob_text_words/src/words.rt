@@ -1,6 +1,6 @@
 //! Words, and those that are names.
 
-ghost use Rattle.std.specs.Prelude.{◌≡◌, ◌↔◌, map, IsTrue, IfOk, OnOk};
+ghost use Rattle.std.specs.Prelude.{◌≡◌, ◌↔◌, ◌++◌, ◌∷◌, [], ◌==◌, filter, length, map, not, IsTrue, IfOk, OnOk};
 ghost use Rattle.ob_text_words.specs.Words.{words, is_blank, IsName};
 
 use ob_scan::keyword::keyword;
@@ -20,10 +20,22 @@ pub fn put_words<'a>(list: &mut Vec<&'a [u8]>, line: &'a [u8]) -> Result<(), All
     ensures { OnOk result (map (λ w. w.now) list.new.items ≡ words line.now) }
 {
     list.clear();
-    for word in line
-        .split(|byte| is_blank(*byte))
-        .filter(|word| !word.is_empty())
-    {
+    let mut start = 0;
+    for (index, byte) in line.iter().enumerate() {
+        if is_blank(*byte) {
+            push_word(list, &line[start..index])?;
+            start = index + 1;
+        }
+    }
+    push_word(list, &line[start..])
+}
+
+/// Appends a word, where it is something.
+#[inline(always)]
+fn push_word<'a>(list: &mut Vec<&'a [u8]>, word: &'a [u8]) -> Result<(), AllocError>
+    ensures { OnOk result (map (λ w. w.now) list.new.items ≡ map (λ w. w.now) list.old.items ++ filter (λ w. not (length w == 0)) (word.now ∷ [])) }
+{
+    if !word.is_empty() {
         list.push(word)?;
     }
     Ok(())

@@ -1,7 +1,6 @@
 use Rattle.std.proofs.Common.{◌≤◌, ◌<◌, ◌≡◌, length, get_or, rules, arith, refl, sym, ◌∙◌}
 use Rattle.std.proofs.lemmas.List.{length-map}
-use Rattle.std.proofs.lemmas.Bool.{false≢true, eqb-true, eq-eqb}
-use Rattle.ob_text_words.proofs.Reading.{word_at, by_then_some}
+use Rattle.ob_text_words.proofs.Reading.{word_at}
 use Rattle.ob_text_exports.proofs.ValueReading.{HasRead-none, HasRead-skip, HasRead-more, no_word, no_value, HasRead-all, left_over}
 use Rattle.ob_text_exports.proofs.values.read_values.Goals as goal
 use Rattle.ob_text_exports.proofs.values.read_values.Goals.{then-is_of_mode+in-Some+in-Some-read_value+in_ok-push, else-is_of_mode}
@@ -40,9 +39,10 @@ loop-formal-preserved c =
           rw w.values-is (HasRead-skip _ _ _ _ _ _ _ c.loop-formal-test.true refl c.loop-formal.invariant (sym c.is_of_mode.ensures ∙ w.if-is_of_mode.false))
     ]
 
-pub returns : goal.returns
-returns c =
-    rw c.then_some.ensures (by_then_some _ _ _ _
-    (λ f. left_over _ _ _ _ _ c.loop-formal-test.false
-    (λ e. false≢true (sym f ∙ eq-eqb _ _ (c.len-2.ensures.value ∙ e ∙ length-map _ _))) c.loop-formal.invariant)
-    (λ t. HasRead-all _ _ _ _ _ c.loop-formal-test.false (rw length-map (omega (arith, c.len-2.ensures.value, eqb-true _ _ t))) c.loop-formal.invariant))
+pub returns-then-len-words : goal.returns-then-len-words
+returns-then-len-words c =
+    HasRead-all _ _ _ _ _ c.loop-formal-test.false (rw length-map (omega (arith, c.len-2.ensures.value))) c.loop-formal.invariant
+
+pub returns-else-len-words : goal.returns-else-len-words
+returns-else-len-words c =
+    left_over _ _ _ _ _ c.loop-formal-test.false (λ e. c.if-len-words.false (c.len-2.ensures.value ∙ e ∙ length-map _ _)) c.loop-formal.invariant

@@ -1,23 +1,29 @@
-use Rattle.std.proofs.Common.{rules, tests, ap, ◌∙◌, ◌++◌, ◌∷◌, [], ◌==◌, map, not, length}
-use Rattle.std.proofs.lemmas.Iterator.Consumers.{YieldsList-at, YieldsList-end, YieldsList-from_filter}
-use Rattle.std.proofs.lemmas.Iterator.Splits.{YieldsList-from_slice_split}
-use Rattle.ob_text_words.specs.Words.{is_blank}
+use Rattle.std.proofs.Common.{◌+◌, ◌<◌, length, sym, ◌∙◌, arith}
+use Rattle.ob_text_words.proofs.LineWords.{no_blank_more, no_blank_yet, said_all, said_more}
 use Rattle.ob_text_words.proofs.words.put_words.Goals as goal
+use Rattle.ob_text_words.proofs.words.put_words.Goals.{then-is_blank+in_ok-push_word, else-is_blank}
 
-pub loop-word-init : goal.loop-word-init
-loop-word-init c = c.clear.ensures.items
-
-pub loop-word-preserved : goal.loop-word-preserved
-loop-word-preserved c = c.in_ok-push.ensures.items ∙ ap (λ l. l ++ c.in-Some.word ∷ []) c.loop-word.invariant
+pub loop-index-preserved : goal.loop-index-preserved
+loop-index-preserved c =
+    let line = c.args.line.now in
+    let start = c.loop-index.start in
+    let i = c.loop-index.index in
+    let before = c.loop-index.invariant in
+    let within : i < length line = omega arith in
+    elim c.if-is_blank.branch [
+      | then-is_blank+in_ok-push_word w ↦ record {
+        started = omega (arith, w.start-is);
+        unbroken = rw w.start-is (no_blank_yet line (i + 1));
+        said = rw (w.list-is, w.start-is) (said_more line start i _ _ before.started within (sym c.is_blank.ensures ∙ w.if-is_blank.true) before.unbroken w.in_ok-push_word.ensures before.said);
+      }
+      | else-is_blank w ↦ record {
+        started = omega (arith, w.start-is, before.started);
+        unbroken = rw w.start-is (no_blank_more line start i before.started within (sym c.is_blank.ensures ∙ w.if-is_blank.false) before.unbroken);
+        said = rw (w.list-is, w.start-is) before.said;
+      }
+    ]
 
 pub returns : goal.returns
 returns c =
-    let end =
-    YieldsList-end (YieldsList-at c.into_iter-word-iterator.ensures.into_iter_gives
-    (YieldsList-from_filter _ (λ w. not (length w == 0))
-    (YieldsList-at c.filter-word-items.ensures.source
-    (YieldsList-from_slice_split _ is_blank c.args.line.now c.split.ensures.rest c.split.ensures.done c.split.ensures.closure
-    (λ x b q k. search (rules, tests))))
-    c.filter-word-items.ensures.closure (λ x b q k. search (rules, tests))))
-    c.loop-word.yielded _ c.loop-word.yielded_by _ _ c.in-None.is c.next.ensures.steps in
-    ap (map (λ w. w.now)) c.loop-word.invariant ∙ end.0
+    let before = c.loop-index.invariant in
+    said_all c.args.line.now c.loop-index.start c.loop-index.index _ _ c.push_word-2.result (omega arith) before.unbroken before.said c.push_word-2.ensures
