@@ -10,8 +10,7 @@ ghost use Rattle.ob_text_words.specs.Appending.{GoesOn};
 
 use ob_interface::call::Reply;
 use ob_interface::scalar::Scalar;
-use ob_text_words::counts::push_count;
-use ob_text_words::numbers::push_number;
+use ob_text_words::numbers::{push_count, push_number};
 use ob_text_words::values::push_value;
 use std::alloc::AllocError;
 

@@ -1,4 +1,3 @@
-pub mod DigitPairs
 pub mod LineWords
 pub mod Numerals
 pub mod Appended

@@ -2,4 +2,3 @@ pub mod Words
 pub mod Appending
 pub mod ScalarTexts
 pub mod ScriptCalls
-pub mod DigitPairs

@@ -1,7 +1,6 @@
 //! The words of texts: numbers, names and scalars, and the calls that scripts say.
 #![tactic(auto)]
 
-pub mod counts;
 pub mod numbers;
 pub mod script_call;
 pub mod values;

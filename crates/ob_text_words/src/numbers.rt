@@ -1,6 +1,6 @@
 //! Numbers in decimal digits.
 
-ghost use Rattle.std.specs.Prelude.{◌≡◌, ℕ, ℤ, ◌+◌, ◌*◌, ◌≤◌, ◌<◌, ◌^◌, ◌++◌, ◌∷◌, List, false, IsTrue, MatchOption, IfSome, OnErr, OnOk, string_bytes};
+ghost use Rattle.std.specs.Prelude.{◌≡◌, ℕ, ℤ, ◌+◌, ◌*◌, ◌≤◌, ◌<◌, ◌^◌, ◌++◌, ◌∷◌, List, false, IsTrue, MatchOption, IfSome, OnErr, OnOk, decimal, string_bytes};
 ghost use Rattle.std.specs.Char.{digit_value, is_ascii_digit};
 ghost use Rattle.std.specs.List.{list_all};
 ghost use Rattle.ob_text_words.specs.Words.{IsDigits, IsNumeral, IsProcess, IsInteger};
@@ -101,4 +101,16 @@ pub fn push_number<I: Integer>(text: &mut String, number: I) -> Result<(), Alloc
 {
     let mut buffer = Buffer::new();
     text.push_str(buffer.format(number))
+}
+
+/// Appends a count in decimal digits. One digit, as the number of a process mostly has, needs no buffer.
+#[inline]
+pub fn push_count(text: &mut String, count: u64) -> Result<(), AllocError>
+    ensures ok { OnOk result (string_bytes text.new ≡ string_bytes text.old ++ decimal count) }
+    ensures unchanged { OnErr result (string_bytes text.new ≡ string_bytes text.old) }
+{
+    if count < 10 {
+        return text.push(char::from(b'0' + count as u8));
+    }
+    push_number(text, count)
 }
