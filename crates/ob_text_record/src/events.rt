@@ -11,7 +11,7 @@ ghost use Rattle.ob_text_words.specs.Appending.{GoesOn};
 use ob_interface::export::Export;
 use ob_interface::scalar::Scalar;
 use ob_reply::reply_lines::{push_done_line, push_trap_line};
-use ob_text_words::numbers::push_number;
+use ob_text_words::counts::push_count;
 use ob_text_words::values::push_value;
 use std::alloc::AllocError;
 use wf_history::{CallId, Event, KeptCall, KeptReply};
@@ -109,11 +109,12 @@ pub(crate) fn push_ids(text: &mut String, ids: &[CallId]) -> Result<(), AllocErr
 }
 
 /// Appends the id of a call, as `0.2` for the second call of process 0.
+#[inline]
 pub fn push_id(text: &mut String, id: CallId) -> Result<(), AllocError>
     ensures ok { OnOk result (string_bytes text.new ≡ string_bytes text.old ++ id_text id) }
     ensures left { OnErr result (GoesOn (string_bytes text.old) (string_bytes text.new)) }
 {
-    push_number(text, id.process)?;
+    push_count(text, id.process as u64)?;
     text.push_str(".")?;
-    push_number(text, id.number)
+    push_count(text, id.number)
 }

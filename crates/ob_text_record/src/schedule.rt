@@ -4,7 +4,7 @@ ghost use Rattle.std.specs.Prelude.{◌≡◌, ◌++◌, OnErr, OnOk, string_byt
 ghost use Rattle.ob_text_record.specs.RecordText.{schedule_text, turns_text};
 ghost use Rattle.ob_text_words.specs.Appending.{GoesOn};
 
-use ob_text_words::numbers::push_number;
+use ob_text_words::counts::push_count;
 use std::alloc::AllocError;
 use wf_table::Turns;
 
@@ -25,7 +25,7 @@ fn push_turns(text: &mut String, turns: Turns) -> Result<(), AllocError>
     ensures left { OnErr result (GoesOn (string_bytes text.old) (string_bytes text.new)) }
 {
     text.push_str(" ")?;
-    push_number(text, turns.process)?;
+    push_count(text, turns.process as u64)?;
     text.push_str("*")?;
-    push_number(text, turns.count)
+    push_count(text, turns.count)
 }
