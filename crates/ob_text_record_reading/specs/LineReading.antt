@@ -1,5 +1,6 @@
 -- What is read of one line behind a record's head, and of all of them.
-use Rattle.std.specs.Prelude.{◌≡◌, ℕ, ◌+◌, List, [], ◌∷◌, ◌++◌, length, All}
+use Rattle.std.specs.Prelude.{◌≡◌, ℕ, ◌+◌, List, [], ◌∷◌, ◌++◌, length, map, All, Option, Some, None}
+use Rattle.std.specs.Borrow.{Bor}
 use Rattle.ob_interface.specs.Call.{ObjectCall, Reply}
 use Rattle.ob_interface.specs.Export.{Signature}
 use Rattle.ob_interface.specs.View.{call_of, reply_of}
@@ -8,9 +9,14 @@ use Rattle.ob_text_record_reading.specs.declared.line.Line.TheVariants as Says
 use Rattle.ob_text_record_reading.specs.declared.reading.RecordFault.{RecordFault}
 use Rattle.ob_text_record_reading.specs.declared.reading.RecordFault.TheVariants as Faults
 use Rattle.ob_text_record_reading.specs.RecordLines.{AreIds, AreLines, IsApplied, IsNextEvent, IsOrder, IsTail, Line}
-use Rattle.ob_text_words.specs.Words.{Word}
+use Rattle.ob_text_words.specs.Words.{Word, lines, words}
 use Rattle.wf_history.specs.declared.event.CallId.{CallId}
 use Rattle.wf_history.specs.History.{Event, Begin, End}
+
+-- what stands behind a line feed, if there is one, as lines
+abbrev pub lines_behind : Option (Bor (List ℕ)) → List Line
+lines_behind None = []
+lines_behind (Some text) = map words (lines text.now)
 
 -- these words behind an O say this order
 abbrev pub IsOrderRead : ℕ → List Word → Rust.Line → Type 0
