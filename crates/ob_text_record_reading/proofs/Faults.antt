@@ -1,5 +1,5 @@
 -- Faults of lines, from where they are found to where they stand in a text.
-use Rattle.std.proofs.Common.{◌≡◌, ◌∙◌, ℕ, ◌+◌, ◌<◌, zero, suc, List, [], ◌∷◌, ◌++◌, All, Result, Ok, Err, IfOk, IfErr, ◌⊎◌, inl, inr, length, take, get_or, drop, codes, refl, sym, ap, subst, arith, append_assoc, append-nil, length-append}
+use Rattle.std.proofs.Common.{◌≡◌, ◌∙◌, ℕ, ◌+◌, ◌<◌, suc, List, [], ◌∷◌, ◌++◌, All, Result, Ok, Err, IfOk, IfErr, ◌⊎◌, inl, inr, length, codes, refl, sym, ap, subst, arith, append_assoc, append-nil, length-append}
 use Rattle.ob_meaning.specs.Object.{most_turns}
 use Rattle.ob_interface.specs.Call.{ObjectCall, Reply}
 use Rattle.ob_interface.specs.Export.{Signature}

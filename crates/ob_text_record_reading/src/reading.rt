@@ -171,8 +171,8 @@ fn read_events<'a>(
             return Err(RecordFault::Form(number));
         };
         match said {
-            Line::Begin(id, call) => calls.begin(alloc, id, &call)?,
-            Line::End(id, reply) => calls.end(alloc, id, &reply)?,
+            Line::Begin(id, call) => calls.begin(id, call)?,
+            Line::End(id, reply) => calls.end(id, reply)?,
             Line::Applied => {}
             Line::Order(order) => {
                 return match first_other(alloc, rest)? {
@@ -194,7 +194,7 @@ fn read_words<'a>(
     calls: &Calls,
     line: &'a [u8],
     list: &mut Vec<&'a [u8]>,
-) -> Result<Option<Line>, AllocError>
+) -> Result<Option<Line>, NoMemory>
     ensures { IfOk result (λ read. MatchOption read
         (SaysNothing calls.now.processes (map signature_of exports.now) calls.now.events (words line.now))
         (HasSaid calls.now.processes (map signature_of exports.now) calls.now.events (words line.now))) }

@@ -1,4 +1,4 @@
-use Rattle.std.proofs.Common.{◌≡◌, ◌∙◌, ap, length, arith}
+use Rattle.std.proofs.Common.{◌∙◌, ap, length, arith}
 use Rattle.ob_text_record_reading.specs.LineReading.{lines_behind}
 use Rattle.ob_text_record_reading.proofs.Faults.{budget_missing, fault_result, no_budget, second_head, told_result}
 use Rattle.ob_text_record_reading.proofs.reading.read_budgeted.Goals as goal

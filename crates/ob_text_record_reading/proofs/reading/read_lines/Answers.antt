@@ -1,4 +1,4 @@
-use Rattle.std.proofs.Common.{◌≡◌, ◌∙◌, ap, length, arith}
+use Rattle.std.proofs.Common.{◌∙◌, ap, length, arith}
 use Rattle.ob_text_record_reading.specs.LineReading.{lines_behind}
 use Rattle.ob_text_record_reading.proofs.Faults.{count_missing, fault_result, first_head, no_count, no_title, told_result}
 use Rattle.ob_text_record_reading.proofs.FirstLines.{few_lines}
