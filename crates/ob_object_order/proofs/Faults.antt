@@ -1,7 +1,7 @@
 -- A history and a list have one fault at most, and none where the list is a legal order.
 use Rattle.std.proofs.Common.{◌≡◌, refl, sym, ap, ◌∙◌, subst, ℕ, ◌+◌, ◌<◌, ◌≤◌, zero, suc, List, [], ◌∷◌, length, map, take, Some, Ok, Err, arith, ◌⊎◌, inl, inr}
 use Rattle.std.proofs.lemmas.Bool.{cases_lt}
-use Rattle.std.proofs.lemmas.List.{take-take, take_all, length-map}
+use Rattle.std.proofs.lemmas.List.{take-take, take_all}
 use Rattle.std.proofs.lemmas.Option.{same_Some}
 use Rattle.std.specs.List.{slice_get, Contains}
 use Rattle.std.specs.Prelude.{Result, IfErr, IfOk, MatchResult}
@@ -13,7 +13,6 @@ use Rattle.ob_store.specs.View.{state_of}
 use Rattle.ob_interface.specs.Call.{ObjectCall, Reply}
 use Rattle.wf_history.specs.declared.event.CallId.{CallId}
 use Rattle.ob_object_order.specs.declared.order.OrderFault.{OrderFault}
-use Rattle.ob_object_order.specs.declared.places.Placed.{Placed}
 use Rattle.ob_object_order.specs.declared.order.OrderFault.TheVariants as F
 use Rattle.wf_history.specs.History.{Event, Begin, Applied, End, IsHistory}
 use Rattle.wf_history.specs.Legal.{OneAtATime, HasBegun, RepliesAgree, IsLegal, more}
@@ -194,13 +193,6 @@ module _ (program : Program) (budget : ℕ) (opening : Activation) (history : Li
           | Ok s ↦ λ h l. inl (legal_fault (state_of s) l f g)
           | Err e ↦ λ h l. one_fault e f h g
         ] fault legal
-
-pub leads_same : {State Call Reply : Type 0} (Effect : Call → State → State → Reply → Type 0) (opening last : State) (events history : List (Event Call Reply)) (placed : List Placed) (order : List CallId) → events ≡ history → map (λ (x : Placed). x.id) placed ≡ order →
-    LeadsTo Effect opening events (map (λ (x : Placed). x.id) placed) (length placed) last → LeadsTo Effect opening history order (length order) last
-leads_same Effect opening last events history placed order same ids h =
-    let whole = subst (λ (n : ℕ). LeadsTo Effect opening events (map (λ (x : Placed). x.id) placed) n last) (sym (length-map placed (λ (x : Placed). x.id))) h in
-    let listed = subst (λ (is : List CallId). LeadsTo Effect opening events is (length is) last) ids whole in
-    subst (λ (es : List (Event _ _)). LeadsTo Effect opening es order (length order) last) same listed
 
 pub err_weaker : {T : Type 0} (result : Result T OrderFault) (P Q : OrderFault → Type 0) → ((e : OrderFault) → P e → Q e) → IfErr result P → IfErr result Q
 err_weaker (Ok u) P Q up h = tt

@@ -6,6 +6,8 @@ use Rattle.std.proofs.lemmas.Option.{slice_get_within, slice_get-map, slice_get_
 use Rattle.std.specs.Prelude.{slice_get, IsTrue, Contains, ◌&&◌, nat_eq}
 use Rattle.wf_history.specs.declared.event.CallId.{CallId}
 use Rattle.ob_object_order.specs.declared.places.Placed.{Placed}
+use Rattle.ob_object_order.specs.declared.places.Places.{Places}
+use Rattle.ob_object_order.specs.PlacedCalls.{place_in, placed_all, placed_at}
 use Rattle.wf_history.specs.History.{Event, Begin, Applied, End}
 use Rattle.wf_history.specs.Legal.{HasBegun}
 use Rattle.ob_object_order.specs.OrderFaults.{IsUnknown, IsNowhere}
@@ -128,6 +130,22 @@ module _ {Call Reply : Type 0} (history : List (Event Call Reply)) (begins ends 
           ends = subst (λ (o : Option ℕ). IsPlaceOf (EndsAt history x.id) o) (sym e) (places.end x.id);
         })
       ])
+
+pub begun_at : (o : Option ℕ) (k : ℕ) → Some k ≡ o → Some (place_in o) ≡ o
+begun_at o k e = subst (λ (p : Option ℕ). Some (place_in p) ≡ p) e refl
+
+-- the calls of a list have their names
+pub ids_of : (places : Places) (order : List CallId) → map (λ (x : Placed). x.id) (placed_all places order) ≡ order
+ids_of places [] = refl
+ids_of places (id ∷ order) = ap (λ (ids : List CallId). id ∷ ids) (ids_of places order)
+
+-- a call of a list, and the name there
+pub call_of_list : (places : Places) (order : List CallId) (i : ℕ) (id : CallId) (x : Placed) → slice_get order i ≡ Some id → x ≡ placed_at places id →
+    (slice_get (placed_all places order) i ≡ Some x) × (slice_get order i ≡ Some x.id)
+call_of_list places order i id x here is = (
+  slice_get-map (placed_at places) order i ∙ ap (option_map (placed_at places)) here ∙ ap (λ (p : Placed). Some p) (sym is),
+  here ∙ ap (λ (p : Placed). Some p.id) (sym is),
+)
 
 module _ {A : Type 0} (Fact : ℕ → A → Type 0) (items : List A) where
   -- nowhere so far, and not here

@@ -3,3 +3,4 @@ pub mod Noted
 pub mod OrderFaults
 pub mod Places
 pub mod Rows
+pub mod PlacedCalls

@@ -1,6 +1,8 @@
 //! Numbers noted at the names of calls.
 
-ghost use Rattle.std.specs.Prelude.{◌≡◌, ◌↔◌, ◌+◌, IsTrue, IfOk, None, length, map};
+ghost use Rattle.std.specs.HashMap as hash;
+ghost use Rattle.std.specs.Prelude.{◌≡◌, ◌↔◌, ◌+◌, if◌then◌else◌, IsTrue, IfOk, OnOk, None, Some, length, map};
+ghost use Rattle.ob_object_order.specs.Places.{same_id};
 ghost use Rattle.ob_object_order.specs.Rows.{in_rows};
 ghost use Rattle.wf_history.specs.declared.event.CallId.{CallId};
 
@@ -34,12 +36,21 @@ impl Noted {
     }
 
     /// What is noted at a name.
+    #[inline]
     pub(crate) fn get(&self, id: CallId) -> Option<usize>
         ensures { result ≡ noted_in self.now id }
     {
         if self.others.is_empty() {
             return in_rows(&self.rows, id);
         }
+        self.look_up(id)
+    }
+
+    /// What is noted at a name, where some are looked up by their hash. It stands apart, since histories need it seldom.
+    #[inline(never)]
+    fn look_up(&self, id: CallId) -> Option<usize>
+        ensures { result ≡ noted_in self.now id }
+    {
         match self.others.get(&id) {
             Some(number) => Some(*number),
             None => in_rows(&self.rows, id),
@@ -57,9 +68,18 @@ impl Noted {
             row.push(number)?;
             return Ok(());
         }
-        self.others.insert(id, number)?;
+        insert(&mut self.others, id, number)?;
         Ok(())
     }
+}
+
+/// From now on the name is looked up by its hash. It stands apart, since histories need it seldom.
+#[inline(never)]
+fn insert(others: &mut HashMap<CallId, usize>, id: CallId, number: usize) -> Result<(), NoMemory>
+    ensures { OnOk result ((q : CallId) → hash.get same_id others.new q ≡ if same_id id q then Some number else hash.get same_id others.old q) }
+{
+    others.insert(id, number)?;
+    Ok(())
 }
 
 /// A row without names for each process that an object may have.

@@ -14,10 +14,11 @@ ghost use Rattle.ob_object_order.specs.declared.places.Placed.{Placed};
 ghost use Rattle.ob_object_order.specs.LegalOrder.{CallEnds, IsLegalOrder};
 ghost use Rattle.ob_object_order.specs.OrderFaults.{IsFirst, IsNowhere, IsUnknown, IsListFault, EndsUnlisted, IsFirstUnlisted, IsArranged, LeadsTo, IsReplayFault, IsOrderFault};
 ghost use Rattle.ob_object_order.specs.Noted.{noted_in};
+ghost use Rattle.ob_object_order.specs.PlacedCalls.{placed_all};
 ghost use Rattle.ob_object_order.specs.Places.{ArePlaced, BeginsAt, EndsAt, BeginsTooLate};
 
 use crate::noted::Noted;
-use crate::places::{Placed, places_of};
+use crate::places::{Places, places_of};
 use crate::replies::{call_in, is_same_reply};
 use ob_checked::checked::Checked;
 use ob_interface::NoMemory;
@@ -80,16 +81,14 @@ impl<T: Drop> From<AllocFailed<T>> for OrderFault {
     }
 }
 
-/// Each id of the list with its places, where all have begun and none stands in it twice.
-fn placed(alloc: Global, events: &[Event], order: &[CallId]) -> Result<Vec<Placed>, OrderFault>
-    ensures ids { IfOk result (λ ps. map (λ x. x.id) ps.items ≡ order.now) }
-    ensures placed { IfOk result (λ ps. ArePlaced (map event_of events.now) ps.items) }
+/// The places of all calls, where each id of the list has begun and none stands in it twice.
+fn known_places(alloc: Global, events: &[Event], order: &[CallId]) -> Result<Places, OrderFault>
+    ensures placed { IfOk result (λ p. ArePlaced (map event_of events.now) (placed_all p order.now)) }
     ensures known { OnOk result (IsNowhere (IsUnknown (map event_of events.now) order.now) order.now) }
     ensures fault { IfErr result (IsListFault (map event_of events.now) order.now) }
 {
     let places = places_of(alloc, events)?;
     let mut seen = Noted::new(alloc)?;
-    let mut placed = Vec::with_capacity(alloc, order.len())?;
     for id in order {
         let Some(begin) = places.begins.get(*id) else {
             return Err(OrderFault::Unknown(*id));
@@ -98,13 +97,8 @@ fn placed(alloc: Global, events: &[Event], order: &[CallId]) -> Result<Vec<Place
             return Err(OrderFault::Unknown(*id));
         }
         seen.note(*id, begin)?;
-        placed.push(Placed {
-            id: *id,
-            begin,
-            end: places.ends.get(*id),
-        })?;
     }
-    Ok(placed)
+    Ok(places)
 }
 
 /// The ids of a list, each with its place in it.
@@ -152,15 +146,15 @@ fn first_missing(
 }
 
 /// The first call that began after the end of one that stands behind it.
-fn first_too_early(placed: &[Placed]) -> Option<CallId>
+fn first_too_early(places: &Places, order: &[CallId]) -> Option<CallId>
     ensures { MatchOption result
-        (IsNowhere (BeginsTooLate placed.now) placed.now)
-        (λ id. (x : Placed) × (x.id ≡ id) × IsFirst (BeginsTooLate placed.now) placed.now x) }
+        (IsNowhere (BeginsTooLate (placed_all places.now order.now)) (placed_all places.now order.now))
+        (λ id. (x : Placed) × (x.id ≡ id) × IsFirst (BeginsTooLate (placed_all places.now order.now)) (placed_all places.now order.now) x) }
 {
     let mut first = None;
     let mut least = usize::MAX;
-    for k in (0..placed.len()).rev() {
-        let x = placed[k];
+    for k in (0..order.len()).rev() {
+        let x = places.placed(order[k]);
         if least < x.begin {
             first = Some(x.id);
         }
@@ -171,22 +165,21 @@ fn first_too_early(placed: &[Placed]) -> Option<CallId>
     first
 }
 
-/// Each id of the list with its places, where the list is right but for the replies.
-fn arranged(alloc: Global, events: &[Event], order: &[CallId]) -> Result<Vec<Placed>, OrderFault>
+/// The places of all calls, where the list is right but for the replies.
+fn arranged(alloc: Global, events: &[Event], order: &[CallId]) -> Result<Places, OrderFault>
     requires { IsHistory (map event_of events.now) }
-    ensures ids { IfOk result (λ ps. map (λ x. x.id) ps.items ≡ order.now) }
-    ensures placed { IfOk result (λ ps. ArePlaced (map event_of events.now) ps.items) }
+    ensures placed { IfOk result (λ p. ArePlaced (map event_of events.now) (placed_all p order.now)) }
     ensures arranged { OnOk result (IsArranged (map event_of events.now) order.now) }
     ensures fault { IfErr result (IsListFault (map event_of events.now) order.now) }
 {
-    let placed = placed(alloc, events, order)?;
+    let places = known_places(alloc, events, order)?;
     if let Some(id) = first_missing(alloc, events, order)? {
         return Err(OrderFault::Missing(id));
     }
-    if let Some(id) = first_too_early(&placed) {
+    if let Some(id) = first_too_early(&places, order) {
         return Err(OrderFault::TooEarly(id));
     }
-    Ok(placed)
+    Ok(places)
 }
 
 /// The call that begins at a place.
@@ -215,18 +208,20 @@ fn reply_at(events: &[Event], place: usize) -> &KeptReply
 fn replay(
     alloc: Global,
     events: &[Event],
-    placed: &[Placed],
+    places: &Places,
+    order: &[CallId],
     checked: &Checked,
     opening: &State,
     budget: u64,
 ) -> Result<State, OrderFault>
     requires history { IsHistory (map event_of events.now) }
-    requires placed { ArePlaced (map event_of events.now) placed.now }
-    ensures made { IfOk result (λ last. LeadsTo (CallEnds (program_in checked.now) budget) (state_of opening.now) (map event_of events.now) (map (λ x. x.id) placed.now) (length placed.now) (state_of last)) }
-    ensures fault { IfErr result (IsReplayFault (program_in checked.now) budget (state_of opening.now) (map event_of events.now) (map (λ x. x.id) placed.now)) }
+    requires placed { ArePlaced (map event_of events.now) (placed_all places.now order.now) }
+    ensures made { IfOk result (λ last. LeadsTo (CallEnds (program_in checked.now) budget) (state_of opening.now) (map event_of events.now) order.now (length order.now) (state_of last)) }
+    ensures fault { IfErr result (IsReplayFault (program_in checked.now) budget (state_of opening.now) (map event_of events.now) order.now) }
 {
     let mut state = opening.copy(alloc)?;
-    for x in placed {
+    for id in order {
+        let x = places.placed(*id);
         let call = call_in(alloc, call_at(events, x.begin))?;
         let (next, reply) = step(alloc, checked.program(), state, &call, budget)?;
         if let Some(end) = x.end
@@ -260,6 +255,6 @@ pub fn check_order(
         → IfErr result (λ e. e ≡ Faults.NoMemory) }
 {
     let events = history.events();
-    let arranged = arranged(alloc, events, order)?;
-    replay(alloc, events, &arranged, checked, opening, budget)
+    let places = arranged(alloc, events, order)?;
+    replay(alloc, events, &places, order, checked, opening, budget)
 }

@@ -31,6 +31,18 @@ impl Places {
     ghost use Rattle.wf_history.specs.View.{event_of};
     ghost use Rattle.ob_object_order.specs.Noted.{noted_in};
     ghost use Rattle.ob_object_order.specs.Places.{begin_noted, end_noted};
+    ghost use Rattle.ob_object_order.specs.PlacedCalls.{placed_at};
+
+    /// A call with its places, where that of its Begin is 0 if it never began.
+    pub(crate) fn placed(&self, id: CallId) -> Placed
+        ensures { result ≡ placed_at self.now id }
+    {
+        Placed {
+            id,
+            begin: self.begins.get(id).unwrap_or(0),
+            end: self.ends.get(id),
+        }
+    }
 
     /// Takes up the event at a place.
     fn note(&mut self, place: usize, event: &Event) -> Result<(), NoMemory>

@@ -1,5 +1,5 @@
 -- Faults of lines, from where they are found to where they stand in a text.
-use Rattle.std.proofs.Common.{◌≡◌, ◌∙◌, ℕ, ◌+◌, ◌<◌, zero, suc, List, [], ◌∷◌, ◌++◌, All, Result, Ok, Err, IfOk, IfErr, ◌⊎◌, inl, inr, length, take, get_or, drop, codes, refl, sym, ap, subst, arith, append_assoc, append-nil, length-append}
+use Rattle.std.proofs.Common.{◌≡◌, ◌∙◌, ℕ, ◌+◌, ◌<◌, suc, List, [], ◌∷◌, ◌++◌, All, Result, Ok, Err, IfOk, IfErr, ◌⊎◌, inl, inr, length, codes, refl, sym, ap, subst, arith, append_assoc, append-nil, length-append}
 use Rattle.ob_meaning.specs.Object.{most_turns}
 use Rattle.ob_interface.specs.Call.{ObjectCall, Reply}
 use Rattle.ob_interface.specs.Export.{Signature}
@@ -20,61 +20,42 @@ use Rattle.wf_history.specs.declared.event.CallId.{CallId}
 use Rattle.wf_history.specs.History.{Event, Begin, Applied, End}
 use Rattle.ob_text_record_reading.proofs.Ids.{id_below}
 
--- the place of a line of a list
-pub parts_at : {X : Type 0} (xs : List X) (i : ℕ) (x d : X) → i < length xs → x ≡ get_or xs i d → xs ≡ take i xs ++ x ∷ drop (i + 1) xs
-parts_at [] i x d within at = absurd (omega arith)
-parts_at (y ∷ xs) zero x d within at = rw at refl
-parts_at (y ∷ xs) (suc i) x d within at =
-    let next : suc i + 1 ≡ suc (i + 1) = omega arith in
-    rw next (ap (λ (ys : List _). y ∷ ys) (parts_at xs i x d (omega arith) at))
-
-pub length_before : {X : Type 0} (xs : List X) (i : ℕ) → i < length xs → length (take i xs) ≡ i
-length_before [] i within = absurd (omega arith)
-length_before (y ∷ xs) zero within = refl
-length_before (y ∷ xs) (suc i) within = ap suc (length_before xs i (omega arith))
-
 all_first : (P : Line → Type 0) (xs : List Line) (x : Line) (ys : List Line) → All P (xs ++ x ∷ ys) → P x
 all_first P [] x ys h = h 0 x (omega arith)
 all_first P (y ∷ xs) x ys h = all_first P xs x ys (λ i d within. let next : i + 1 ≡ suc i = omega arith in rw next at (h (i + 1) d (omega arith)))
 
 module _ (processes : ℕ) (signatures : List Signature) (head : ℕ) where
-  module _ (ls : List Line) (i : ℕ) (line d : Line) (b : List (Event ObjectCall Reply)) (within : i < length ls) (at : line ≡ get_or ls i d) (so_far : AreEvents processes signatures [] (take i ls) b) where
-    number_here : head + length (take i ls) + 1 ≡ head + i + 1
-    number_here = ap (λ (n : ℕ). head + n + 1) (length_before ls i within)
-
+  module _ (before : List Line) (line : Line) (rest : List Line) (b : List (Event ObjectCall Reply)) (so_far : AreEvents processes signatures [] before b) where
     -- a line that says nothing
-    pub fails_here : SaysNothing processes signatures b line → FailsBehind processes signatures head ls (head + i + 1)
-    fails_here s =
-        subst (λ (n : ℕ). FailsBehind processes signatures head ls n) number_here
-        (subst (λ (all : List Line). FailsBehind processes signatures head all (head + length (take i ls) + 1)) (sym (parts_at ls i line d within at))
-        (Reading.misplaced (take i ls) line (drop (i + 1) ls) (begins processes signatures so_far) (ends_here processes signatures so_far s)))
+    pub fails_here : SaysNothing processes signatures b line → FailsBehind processes signatures head (before ++ line ∷ rest) (head + length before + 1)
+    fails_here s = Reading.misplaced before line rest (begins processes signatures so_far) (ends_here processes signatures so_far s)
 
     -- the O line
-    pub told_here : (ids : List CallId) → IsOrder processes line ids → All IsTail (drop (i + 1) ls) → AreLines processes signatures [] ls b ids
-    told_here ids order tails =
-        subst (λ (all : List Line). AreLines processes signatures [] all b ids) (sym (parts_at ls i line d within at)) (whole processes signatures so_far (Lines.order order tails))
+    pub told_here : (ids : List CallId) → IsOrder processes line ids → All IsTail rest → AreLines processes signatures [] (before ++ line ∷ rest) b ids
+    told_here ids order tails = whole processes signatures so_far (Lines.order order tails)
 
-    bad_tail : {all : List (Event ObjectCall Reply)} {ids ids' : List CallId} (tail : List Line) (other : Line) (rest : List Line) → IsOrder processes line ids → ¬ IsTail other →
-        AreLines processes signatures b (line ∷ ((tail ++ other ∷ []) ++ rest)) all ids' → ⊥
-    bad_tail tail other rest order bad (Lines.event m h) = event_not_order processes signatures b m.form order
-    bad_tail tail other rest order bad (Lines.applied m h) = applied_not_order processes signatures b m order
-    bad_tail tail other rest order bad (Lines.order m tails) = bad (all_first IsTail tail other rest (subst (λ (ls : List Line). All IsTail ls) (append_assoc tail (other ∷ []) rest) tails))
+    bad_tail : {all : List (Event ObjectCall Reply)} {ids ids' : List CallId} (tail : List Line) (other : Line) (more : List Line) → IsOrder processes line ids → ¬ IsTail other →
+        AreLines processes signatures b (line ∷ ((tail ++ other ∷ []) ++ more)) all ids' → ⊥
+    bad_tail tail other more order bad (Lines.event m h) = event_not_order processes signatures b m.form order
+    bad_tail tail other more order bad (Lines.applied m h) = applied_not_order processes signatures b m order
+    bad_tail tail other more order bad (Lines.order m tails) = bad (all_first IsTail tail other more (subst (λ (ls : List Line). All IsTail ls) (append_assoc tail (other ∷ []) more) tails))
 
     -- a line behind the O line
-    pub fails_behind_order : (ids : List CallId) (k number : ℕ) → IsOrder processes line ids → IsFirstOther (drop (i + 1) ls) k → number ≡ head + i + k + 2 → FailsBehind processes signatures head ls number
+    pub fails_behind_order : (ids : List CallId) (k number : ℕ) → IsOrder processes line ids → IsFirstOther rest k → number ≡ head + length before + k + 2 →
+        FailsBehind processes signatures head (before ++ line ∷ rest) number
     fails_behind_order ids k number order first n =
-        let front : List Line = take i ls ++ line ∷ first.before in
-        let parts : ls ≡ front ++ first.line ∷ first.rest =
-        parts_at ls i line d within at ∙ ap (λ (more : List Line). take i ls ++ line ∷ more) first.parts ∙ sym (append_assoc (take i ls) (line ∷ first.before) (first.line ∷ first.rest)) in
+        let front : List Line = before ++ line ∷ first.before in
+        let parts : before ++ line ∷ rest ≡ front ++ first.line ∷ first.rest =
+        ap (λ (more : List Line). before ++ line ∷ more) first.parts ∙ sym (append_assoc before (line ∷ first.before) (first.line ∷ first.rest)) in
         let here : head + length front + 1 ≡ number =
-        let long = length-append (take i ls) (line ∷ first.before) in let short = length_before ls i within in omega (arith, long, short, first.counted, n) in
+        let long = length-append before (line ∷ first.before) in omega (arith, long, first.counted, n) in
         let good : BeginsLines processes signatures front =
         record { rest = []; all = b; ids = ids; whole = subst (λ (all : List Line). AreLines processes signatures [] all b ids) (sym (append-nil front)) (whole processes signatures so_far (Lines.order order first.tails)) } in
         let bad : ¬ BeginsLines processes signatures (front ++ first.line ∷ []) =
         λ h. bad_tail first.before first.line h.rest order first.other
-        (lines_behind processes signatures (take i ls) (line ∷ (first.before ++ first.line ∷ [])) h.rest so_far
-        (subst (λ (all : List Line). AreLines processes signatures [] (all ++ h.rest) h.all h.ids) (append_assoc (take i ls) (line ∷ first.before) (first.line ∷ [])) h.whole)) in
-        subst (λ (m : ℕ). FailsBehind processes signatures head ls m) here
+        (lines_behind processes signatures before (line ∷ (first.before ++ first.line ∷ [])) h.rest so_far
+        (subst (λ (all : List Line). AreLines processes signatures [] (all ++ h.rest) h.all h.ids) (append_assoc before (line ∷ first.before) (first.line ∷ [])) h.whole)) in
+        subst (λ (m : ℕ). FailsBehind processes signatures head (before ++ line ∷ rest) m) here
         (subst (λ (all : List Line). FailsBehind processes signatures head all (head + length front + 1)) (sym parts)
         (Reading.misplaced front first.line first.rest good bad))
 

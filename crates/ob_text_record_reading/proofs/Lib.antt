@@ -5,3 +5,5 @@ pub mod LineRuns
 pub mod Faults
 pub mod Places
 mod Fronts
+pub mod FirstLines
+pub mod Numbers

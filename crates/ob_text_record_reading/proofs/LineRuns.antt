@@ -1,6 +1,5 @@
 -- Lines of events one after the other: what they lead to, and what the lines behind them are.
-use Rattle.std.proofs.Common.{◌≡◌, ℕ, ◌+◌, ◌<◌, List, [], ◌∷◌, ◌++◌, All, length, take, get_or, codes, refl, sym, ap, subst, arith, append_assoc, append-nil}
-use Rattle.std.proofs.lemmas.List.{take_more}
+use Rattle.std.proofs.Common.{◌≡◌, ℕ, List, [], ◌∷◌, ◌++◌, All, codes, refl, sym, ap, subst, arith, append_assoc, append-nil}
 use Rattle.ob_interface.specs.Call.{ObjectCall, Reply}
 use Rattle.ob_interface.specs.Export.{Signature}
 use Rattle.ob_text_record_reading.specs.RecordLines as Lines
@@ -22,7 +21,7 @@ module _ (processes : ℕ) (signatures : List Signature) where
     applied : {before after : List (Event ObjectCall Reply)} {line : Line} {rest : List Line} →
         IsApplied processes line → AreEvents before rest after → AreEvents before (line ∷ rest) after
 
-  joined : {a b c : List (Event ObjectCall Reply)} {xs ys : List Line} → AreEvents a xs b → AreEvents b ys c → AreEvents a (xs ++ ys) c
+  pub joined : {a b c : List (Event ObjectCall Reply)} {xs ys : List Line} → AreEvents a xs b → AreEvents b ys c → AreEvents a (xs ++ ys) c
   joined nothing h = h
   joined (event n rest) h = event n (joined rest h)
   joined (applied n rest) h = applied n (joined rest h)
@@ -59,11 +58,6 @@ module _ (processes : ℕ) (signatures : List Signature) where
   one_told {a} (Lines.order n h) (Lines.event m k) = absurd (event_not_order processes signatures a m.form n)
   one_told {a} (Lines.order n h) (Lines.applied m k) = absurd (applied_not_order processes signatures a m n)
   one_told (Lines.order n h) (Lines.order m k) = (refl, one_order processes n m)
-
-  -- one line more
-  pub one_more : (ls : List Line) (i : ℕ) (line d : Line) {a b c : List (Event ObjectCall Reply)} → i < length ls → line ≡ get_or ls i d →
-      AreEvents a (take i ls) b → AreEvents b (line ∷ []) c → AreEvents a (take (i + 1) ls) c
-  one_more ls i line d within at h k = rw (take_more ls i d, ← at) (joined h k)
 
   pub begins : {ls : List Line} {b : List (Event ObjectCall Reply)} → AreEvents [] ls b → BeginsLines processes signatures ls
   begins {ls} {b} h = record { rest = (codes "O" ∷ []) ∷ []; all = b; ids = []; whole = whole h (Lines.order (Lines.order Lines.none) no_tails) }

@@ -1,16 +1,22 @@
 -- What is read of one line behind a record's head, and of all of them.
-use Rattle.std.specs.Prelude.{◌≡◌, ℕ, ◌+◌, List, [], ◌∷◌, ◌++◌, length, All}
+use Rattle.std.specs.Prelude.{◌≡◌, ℕ, ◌+◌, List, [], ◌∷◌, ◌++◌, length, map, All, Option, Some, None}
+use Rattle.std.specs.Borrow.{Bor}
 use Rattle.ob_interface.specs.Call.{ObjectCall, Reply}
 use Rattle.ob_interface.specs.Export.{Signature}
-use Rattle.ob_interface.specs.View.{call_of, reply_of}
 use Rattle.ob_text_record_reading.specs.declared.line.Line as Rust
 use Rattle.ob_text_record_reading.specs.declared.line.Line.TheVariants as Says
 use Rattle.ob_text_record_reading.specs.declared.reading.RecordFault.{RecordFault}
 use Rattle.ob_text_record_reading.specs.declared.reading.RecordFault.TheVariants as Faults
 use Rattle.ob_text_record_reading.specs.RecordLines.{AreIds, AreLines, IsApplied, IsNextEvent, IsOrder, IsTail, Line}
-use Rattle.ob_text_words.specs.Words.{Word}
+use Rattle.ob_text_words.specs.Words.{Word, lines, words}
 use Rattle.wf_history.specs.declared.event.CallId.{CallId}
 use Rattle.wf_history.specs.History.{Event, Begin, End}
+use Rattle.wf_history.specs.View.{kept_call, kept_reply}
+
+-- what stands behind a line feed, if there is one, as lines
+abbrev pub lines_behind : Option (Bor (List ℕ)) → List Line
+lines_behind None = []
+lines_behind (Some text) = map words (lines text.now)
 
 -- these words behind an O say this order
 abbrev pub IsOrderRead : ℕ → List Word → Rust.Line → Type 0
@@ -30,15 +36,15 @@ module _ (processes : ℕ) (signatures : List Signature) where
   module _ (before : List (Event ObjectCall Reply)) (line : Line) where
     -- the line says this
     abbrev pub HasSaid : Rust.Line → Type 0
-    HasSaid (Says.Begin id call) = IsNextEvent processes signatures before line (Begin id (call_of call))
-    HasSaid (Says.End id reply) = IsNextEvent processes signatures before line (End id (reply_of reply))
+    HasSaid (Says.Begin id call) = IsNextEvent processes signatures before line (Begin id (kept_call call))
+    HasSaid (Says.End id reply) = IsNextEvent processes signatures before line (End id (kept_reply reply))
     HasSaid Says.Applied = IsApplied processes line
     HasSaid (Says.Order ids) = IsOrder processes line ids.items
 
     -- the line is one of an event, and says this
     abbrev pub IsEventRead : Rust.Line → Type 0
-    IsEventRead (Says.Begin id call) = IsNextEvent processes signatures before line (Begin id (call_of call))
-    IsEventRead (Says.End id reply) = IsNextEvent processes signatures before line (End id (reply_of reply))
+    IsEventRead (Says.Begin id call) = IsNextEvent processes signatures before line (Begin id (kept_call call))
+    IsEventRead (Says.End id reply) = IsNextEvent processes signatures before line (End id (kept_reply reply))
     IsEventRead Says.Applied = ⊥
     IsEventRead (Says.Order ids) = ⊥
 

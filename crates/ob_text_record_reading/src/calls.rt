@@ -2,12 +2,11 @@
 
 ghost use Rattle.std.specs.Prelude.{◌≡◌, ◌↔◌, ◌<◌, ◌+◌, [], ◌∷◌, ◌++◌, length, OnOk, IfOk, IsTrue, MatchOption};
 ghost use Rattle.ob_interface.specs.Call as Object;
-ghost use Rattle.ob_interface.specs.View.{call_of, reply_of};
 ghost use Rattle.ob_text_record_reading.specs.Seats.{EndsCall};
 ghost use Rattle.wf_history.specs.History.{Begin, End, IsHistory};
+ghost use Rattle.wf_history.specs.View.{kept_call, kept_reply};
 
 use ob_interface::NoMemory;
-use ob_interface::call::{Call, Reply};
 use std::alloc::{AllocError, Global};
 use std::marker::Model;
 use wf_history::{CallId, Event, History, KeptCall, KeptReply};
@@ -89,14 +88,13 @@ impl Calls {
     }
 
     /// The call begins.
-    pub(crate) fn begin(&mut self, alloc: Global, id: CallId, call: &Call) -> Result<(), NoMemory>
+    pub(crate) fn begin(&mut self, id: CallId, call: KeptCall) -> Result<(), NoMemory>
         requires below { id.process < self.old.processes }
-        requires next { IsHistory (self.old.events ++ Begin id (call_of call.now) ∷ []) }
-        ensures { OnOk result ((self.new.events ≡ self.old.events ++ Begin id (call_of call.now) ∷ []) × (self.new.processes ≡ self.old.processes)) }
+        requires next { IsHistory (self.old.events ++ Begin id (kept_call call) ∷ []) }
+        ensures { OnOk result ((self.new.events ≡ self.old.events ++ Begin id (kept_call call) ∷ []) × (self.new.processes ≡ self.old.processes)) }
     {
         let proc = call.proc;
-        let kept = KeptCall::keep(alloc, call)?;
-        self.history.push(Event::Begin(id, kept))?;
+        self.history.push(Event::Begin(id, call))?;
         self.seats[id.process] = Seat {
             begun: id.number,
             pending: Some(proc),
@@ -105,13 +103,12 @@ impl Calls {
     }
 
     /// The call ends.
-    pub(crate) fn end(&mut self, alloc: Global, id: CallId, reply: &Reply) -> Result<(), NoMemory>
+    pub(crate) fn end(&mut self, id: CallId, reply: KeptReply) -> Result<(), NoMemory>
         requires below { id.process < self.old.processes }
-        requires next { IsHistory (self.old.events ++ End id (reply_of reply.now) ∷ []) }
-        ensures { OnOk result ((self.new.events ≡ self.old.events ++ End id (reply_of reply.now) ∷ []) × (self.new.processes ≡ self.old.processes)) }
+        requires next { IsHistory (self.old.events ++ End id (kept_reply reply) ∷ []) }
+        ensures { OnOk result ((self.new.events ≡ self.old.events ++ End id (kept_reply reply) ∷ []) × (self.new.processes ≡ self.old.processes)) }
     {
-        let kept = KeptReply::keep(alloc, reply)?;
-        self.history.push(Event::End(id, kept))?;
+        self.history.push(Event::End(id, reply))?;
         self.seats[id.process] = Seat {
             begun: id.number,
             pending: None,

@@ -4,7 +4,8 @@ ghost use Rattle.std.specs.Prelude.{List, map, IfOk, IsFalse, IsTrue, MatchOptio
 ghost use Rattle.ob_text_record_reading.specs.RecordLines.{AreIds, IsId};
 ghost use Rattle.wf_history.specs.declared.event.CallId.{CallId};
 
-use ob_text_words::numbers::{read_numeral, split_digits};
+use crate::number::read_number;
+use ob_text_words::numbers::split_digits;
 use std::alloc::{AllocError, Global};
 use wf_history::CallId;
 
@@ -16,8 +17,8 @@ pub(crate) fn read_id(processes: usize, word: &[u8]) -> Option<CallId>
     let Some((b'.', rest)) = behind.split_first() else {
         return None;
     };
-    let process = usize::try_from(read_numeral(digits)?).ok()?;
-    let number = read_numeral(rest)?;
+    let process = usize::try_from(read_number(digits)?).ok()?;
+    let number = read_number(rest)?;
     if process >= processes {
         return None;
     }

@@ -13,12 +13,13 @@ ghost use Rattle.wf_history.specs.declared.event.CallId as Names;
 use crate::calls::Calls;
 use crate::id::{are_ids, read_id, read_ids};
 use crate::number::read_only_number;
+use ob_interface::NoMemory;
 use ob_interface::call::{Call, Reply};
 use ob_interface::export::Export;
 use ob_text_exports::exports::export_named;
 use ob_text_exports::values::read_values;
 use std::alloc::{AllocError, Global};
-use wf_history::CallId;
+use wf_history::{CallId, KeptCall, KeptReply};
 
 /// The greatest number of a trap.
 const LAST_TRAP: u64 = 5;
@@ -27,9 +28,9 @@ const LAST_TRAP: u64 = 5;
 #[derive(Drop)]
 pub(crate) enum Line {
     /// A call begins.
-    Begin(CallId, Call),
+    Begin(CallId, KeptCall),
     /// A call ends.
-    End(CallId, Reply),
+    End(CallId, KeptReply),
     /// Calls took effect.
     Applied,
     /// The order of all calls that took effect.
@@ -42,7 +43,7 @@ pub(crate) fn read_line(
     exports: &[Export],
     calls: &Calls,
     words: &[&[u8]],
-) -> Result<Option<Line>, AllocError>
+) -> Result<Option<Line>, NoMemory>
     ensures { IfOk result (λ read. MatchOption read
         (SaysNothing calls.now.processes (map signature_of exports.now) calls.now.events (map (λ w. w.now) words.now))
         (HasSaid calls.now.processes (map signature_of exports.now) calls.now.events (map (λ w. w.now) words.now))) }
@@ -60,7 +61,7 @@ pub(crate) fn read_line(
 }
 
 /// What stands behind an `A`.
-fn read_applied(processes: usize, words: &[&[u8]]) -> Result<Option<Line>, AllocError>
+fn read_applied(processes: usize, words: &[&[u8]]) -> Result<Option<Line>, NoMemory>
     ensures { IfOk result (λ read. MatchOption read
         ((ids : List Names.CallId) → AreIds processes (map (λ w. w.now) words.now) ids → ⊥)
         (IsAppliedRead processes (map (λ w. w.now) words.now))) }
@@ -69,7 +70,7 @@ fn read_applied(processes: usize, words: &[&[u8]]) -> Result<Option<Line>, Alloc
 }
 
 /// The order behind an `O`.
-fn read_order(alloc: Global, processes: usize, words: &[&[u8]]) -> Result<Option<Line>, AllocError>
+fn read_order(alloc: Global, processes: usize, words: &[&[u8]]) -> Result<Option<Line>, NoMemory>
     ensures { IfOk result (λ read. MatchOption read
         ((ids : List Names.CallId) → AreIds processes (map (λ w. w.now) words.now) ids → ⊥)
         (IsOrderRead processes (map (λ w. w.now) words.now))) }
@@ -86,7 +87,7 @@ fn read_begin(
     exports: &[Export],
     calls: &Calls,
     words: &[&[u8]],
-) -> Result<Option<Line>, AllocError>
+) -> Result<Option<Line>, NoMemory>
     ensures { IfOk result (λ read. MatchOption read
         ((e : History.Event Object.ObjectCall Object.Reply) → IsNextEvent calls.now.processes (map signature_of exports.now) calls.now.events (codes "B" ∷ map (λ w. w.now) words.now) e → ⊥)
         (IsEventRead calls.now.processes (map signature_of exports.now) calls.now.events (codes "B" ∷ map (λ w. w.now) words.now))) }
@@ -109,7 +110,8 @@ fn read_begin(
     let Some(args) = read_values(alloc, &export.formals, false, rest)? else {
         return Ok(None);
     };
-    Ok(Some(Line::Begin(id, Call { proc, args })))
+    let kept = KeptCall::keep(alloc, &Call { proc, args })?;
+    Ok(Some(Line::Begin(id, kept)))
 }
 
 /// The reply behind an `E`.
@@ -118,7 +120,7 @@ fn read_end(
     exports: &[Export],
     calls: &Calls,
     words: &[&[u8]],
-) -> Result<Option<Line>, AllocError>
+) -> Result<Option<Line>, NoMemory>
     ensures { IfOk result (λ read. MatchOption read
         ((e : History.Event Object.ObjectCall Object.Reply) → IsNextEvent calls.now.processes (map signature_of exports.now) calls.now.events (codes "E" ∷ map (λ w. w.now) words.now) e → ⊥)
         (IsEventRead calls.now.processes (map signature_of exports.now) calls.now.events (codes "E" ∷ map (λ w. w.now) words.now))) }
@@ -135,7 +137,8 @@ fn read_end(
     let Some(reply) = read_reply(alloc, exports, proc, rest)? else {
         return Ok(None);
     };
-    Ok(Some(Line::End(id, reply)))
+    let kept = KeptReply::keep(alloc, &reply)?;
+    Ok(Some(Line::End(id, kept)))
 }
 
 /// The reply of an export's call: `done` and the values of its VAR parameters, or `trap` and a number.

@@ -1,19 +1,19 @@
 //! Records read back.
 
-ghost use Rattle.std.specs.Prelude.{◌≡◌, ◌≤◌, ◌∷◌, [], codes, map, IfOk, IfErr, MatchOption};
+ghost use Rattle.std.specs.Prelude.{◌≡◌, ◌+◌, ◌<◌, ◌^◌, ◌∷◌, [], codes, length, map, IfOk, IfErr, MatchOption};
 ghost use Rattle.ob_checked.specs.CheckedModule.{program_in};
 ghost use Rattle.ob_checked.specs.Exports.{signatures};
 ghost use Rattle.ob_interface.specs.View.{signature_of};
-ghost use Rattle.ob_text_record_reading.specs.LineReading.{FaultBehind, HasSaid, SaysNothing};
+ghost use Rattle.ob_text_record_reading.specs.LineReading.{FaultBehind, HasSaid, SaysNothing, lines_behind};
 ghost use Rattle.ob_text_record_reading.specs.RecordLines as Records;
 ghost use Rattle.ob_text_record_reading.specs.RecordLines.{AreLines, FaultStands, IsCount, IsRecord, IsRecordFault, IsRecordOf, IsTitle, Told};
 ghost use Rattle.ob_text_record_reading.specs.Told.{told_of};
-ghost use Rattle.ob_text_words.specs.Words.{words};
+ghost use Rattle.ob_text_words.specs.Words.{lines, words};
 
 use crate::calls::Calls;
 use crate::head::{Version, read_budget, read_count, read_title};
 use crate::line::{Line, read_line};
-use crate::splitting::{first_other, lines_of};
+use crate::splitting::{first_other, split_line, without_last_feed};
 use ob_checked::checked::Checked;
 use ob_interface::NoMemory;
 use ob_interface::export::Export;
@@ -72,25 +72,23 @@ pub fn read_record(alloc: Global, checked: &Checked, text: &[u8]) -> Result<Read
     ensures alone { IfOk result (λ r. (other : Told) → IsRecord (signatures (program_in checked.now)) text.now other → other ≡ told_of «r») }
     ensures fault { IfErr result (λ e. IsRecordFault (signatures (program_in checked.now)) text.now e) }
 {
-    let lines = lines_of(alloc, text)?;
-    read_lines(alloc, checked.exports(), &lines)
+    read_lines(alloc, checked.exports(), without_last_feed(text))
 }
 
-/// What lines tell.
-fn read_lines(alloc: Global, exports: &[Export], lines: &[&[u8]]) -> Result<ReadRecord, RecordFault>
-    ensures record { IfOk result (λ r. IsRecordOf (map signature_of exports.now) (map (λ l. words l.now) lines.now) (told_of «r»)) }
-    ensures fault { IfErr result (λ e. FaultStands (map signature_of exports.now) (map (λ l. words l.now) lines.now) e) }
+/// What the lines of a text tell.
+fn read_lines(alloc: Global, exports: &[Export], text: &[u8]) -> Result<ReadRecord, RecordFault>
+    ensures record { IfOk result (λ r. IsRecordOf (map signature_of exports.now) (map words (lines text.now)) (told_of «r»)) }
+    ensures fault { IfErr result (λ e. FaultStands (map signature_of exports.now) (map words (lines text.now)) e) }
 {
-    let Some((title, behind)) = lines.split_first() else {
-        return Err(RecordFault::Form(1));
-    };
+    let (title, behind) = split_line(text);
     let first = words_of(alloc, title)?;
     let Some(version) = read_title(&first) else {
         return Err(RecordFault::Form(1));
     };
-    let Some((count, rest)) = behind.split_first() else {
+    let Some(others) = behind else {
         return Err(RecordFault::Form(2));
     };
+    let (count, rest) = split_line(others);
     let second = words_of(alloc, count)?;
     let Some(processes) = read_count(&second) else {
         return Err(RecordFault::Form(2));
@@ -106,16 +104,18 @@ fn read_budgeted(
     alloc: Global,
     exports: &[Export],
     processes: usize,
-    lines: &[&[u8]],
+    behind: Option<&[u8]>,
 ) -> Result<ReadRecord, RecordFault>
+    requires { length (lines_behind behind) + 3 < 2 ^ 64 }
     ensures record { (title second : Records.Line) → IsTitle (codes "2") title → IsCount second processes
-        → IfOk result (λ r. IsRecordOf (map signature_of exports.now) (title ∷ second ∷ map (λ l. words l.now) lines.now) (told_of «r»)) }
+        → IfOk result (λ r. IsRecordOf (map signature_of exports.now) (title ∷ second ∷ lines_behind behind.entry) (told_of «r»)) }
     ensures fault { (title second : Records.Line) → IsTitle (codes "2") title → IsCount second processes
-        → IfErr result (λ e. FaultStands (map signature_of exports.now) (title ∷ second ∷ map (λ l. words l.now) lines.now) e) }
+        → IfErr result (λ e. FaultStands (map signature_of exports.now) (title ∷ second ∷ lines_behind behind.entry) e) }
 {
-    let Some((line, rest)) = lines.split_first() else {
+    let Some(text) = behind else {
         return Err(RecordFault::Form(3));
     };
+    let (line, rest) = split_line(text);
     let third = words_of(alloc, line)?;
     let Some(budget) = read_budget(&third) else {
         return Err(RecordFault::Form(3));
@@ -130,16 +130,16 @@ fn read_behind(
     processes: usize,
     budget: u64,
     head: usize,
-    lines: &[&[u8]],
+    behind: Option<&[u8]>,
 ) -> Result<ReadRecord, RecordFault>
-    requires { head ≤ 3 }
+    requires { head + length (lines_behind behind) + 1 < 2 ^ 64 }
     ensures told { IfOk result (λ r. (r.processes ≡ processes) × (r.budget ≡ budget)) }
-    ensures record { IfOk result (λ r. AreLines processes (map signature_of exports.now) [] (map (λ l. words l.now) lines.now) r.history r.order.items) }
-    ensures fault { IfErr result (λ e. FaultBehind processes (map signature_of exports.now) head (map (λ l. words l.now) lines.now) e) }
+    ensures record { IfOk result (λ r. AreLines processes (map signature_of exports.now) [] (lines_behind behind.entry) r.history r.order.items) }
+    ensures fault { IfErr result (λ e. FaultBehind processes (map signature_of exports.now) head (lines_behind behind.entry) e) }
 {
     let mut calls = Calls::new(alloc, processes)?;
     let mut words = Vec::new(alloc);
-    let order = read_events(alloc, exports, &mut calls, head, lines, &mut words)?;
+    let order = read_events(alloc, exports, &mut calls, head, behind, &mut words)?;
     Ok(ReadRecord {
         processes,
         budget,
@@ -154,31 +154,36 @@ fn read_events<'a>(
     exports: &[Export],
     calls: &mut Calls,
     head: usize,
-    lines: &[&'a [u8]],
+    behind: Option<&'a [u8]>,
     list: &mut Vec<&'a [u8]>,
 ) -> Result<Vec<CallId>, RecordFault>
     requires none { calls.old.events ≡ [] }
-    requires small { head ≤ 3 }
-    ensures record { IfOk result (λ ids. AreLines calls.old.processes (map signature_of exports.now) [] (map (λ l. words l.now) lines.now) calls.new.events ids.items) }
-    ensures fault { IfErr result (λ e. FaultBehind calls.old.processes (map signature_of exports.now) head (map (λ l. words l.now) lines.now) e) }
+    requires few { head + length (lines_behind behind) + 1 < 2 ^ 64 }
+    ensures record { IfOk result (λ ids. AreLines calls.old.processes (map signature_of exports.now) [] (lines_behind behind.entry) calls.new.events ids.items) }
+    ensures fault { IfErr result (λ e. FaultBehind calls.old.processes (map signature_of exports.now) head (lines_behind behind.entry) e) }
 {
-    for (index, line) in lines.iter().enumerate() {
+    let mut left = behind;
+    let mut number = head;
+    while let Some(text) = left {
+        let (line, rest) = split_line(text);
+        number += 1;
         let Some(said) = read_words(alloc, exports, calls, line, list)? else {
-            return Err(RecordFault::Form(head + index + 1));
+            return Err(RecordFault::Form(number));
         };
         match said {
-            Line::Begin(id, call) => calls.begin(alloc, id, &call)?,
-            Line::End(id, reply) => calls.end(alloc, id, &reply)?,
+            Line::Begin(id, call) => calls.begin(id, call)?,
+            Line::End(id, reply) => calls.end(id, reply)?,
             Line::Applied => {}
             Line::Order(order) => {
-                return match first_other(alloc, &lines[index + 1..])? {
-                    Some(other) => Err(RecordFault::Form(head + index + other + 2)),
+                return match first_other(alloc, rest)? {
+                    Some(other) => Err(RecordFault::Form(number + other + 1)),
                     None => Ok(order),
                 };
             }
         }
+        left = rest;
     }
-    Err(RecordFault::Form(head + lines.len() + 1))
+    Err(RecordFault::Form(number + 1))
 }
 
 /// What a line says behind the events so far; `None` where it may not stand there. Its words are put in place of those that the
@@ -189,7 +194,7 @@ fn read_words<'a>(
     calls: &Calls,
     line: &'a [u8],
     list: &mut Vec<&'a [u8]>,
-) -> Result<Option<Line>, AllocError>
+) -> Result<Option<Line>, NoMemory>
     ensures { IfOk result (λ read. MatchOption read
         (SaysNothing calls.now.processes (map signature_of exports.now) calls.now.events (words line.now))
         (HasSaid calls.now.processes (map signature_of exports.now) calls.now.events (words line.now))) }

@@ -1,31 +1,17 @@
-//! The lines of a text, as words.
+//! The lines of a text, taken off one at a time.
 
-ghost use Rattle.std.specs.Prelude.{◌≡◌, ◌↔◌, All, IfOk, IfSome, IsTrue, MatchOption, ◌<◌, length, map};
+ghost use Rattle.std.specs.Prelude.{◌≡◌, ◌↔◌, ◌<◌, ◌^◌, ◌∷◌, ◌==◌, All, IfOk, IfSome, IsTrue, MatchOption, length, map};
+ghost use Rattle.std.specs.List.{position};
 ghost use Rattle.std.specs.Io.BufRead.{strip_last};
 ghost use Rattle.ob_text_words.specs.Words.{lines, words};
-ghost use Rattle.ob_text_record_reading.specs.LineReading.{IsFirstOther};
-ghost use Rattle.ob_text_record_reading.specs.RecordLines.{IsTail, record_lines};
+ghost use Rattle.ob_text_record_reading.specs.LineReading.{IsFirstOther, lines_behind};
+ghost use Rattle.ob_text_record_reading.specs.RecordLines.{IsTail};
 
 use ob_text_words::words::words_of;
 use std::alloc::{AllocError, Global};
 
-/// The lines of a text.
-#[tactic(auto, using(crate::proofs::Places::words_of_each))]
-pub(crate) fn lines_of(alloc: Global, text: &[u8]) -> Result<Vec<&[u8]>, AllocError>
-    ensures { IfOk result (λ ls. map (λ l. words l.now) ls.items ≡ record_lines text.now) }
-{
-    split_lines(alloc, without_last_feed(text))
-}
-
-/// What stands between the line feeds of a text.
-fn split_lines(alloc: Global, text: &[u8]) -> Result<Vec<&[u8]>, AllocError>
-    ensures { IfOk result (λ ls. map (λ l. l.now) ls.items ≡ lines text.now) }
-{
-    text.split(|byte| *byte == b'\n').collect(alloc)
-}
-
 /// A text without the line feed at its end, if it has one.
-fn without_last_feed(text: &[u8]) -> &[u8]
+pub(crate) fn without_last_feed(text: &[u8]) -> &[u8]
     ensures { result.now ≡ strip_last 10 text.now }
 {
     match text.split_last() {
@@ -34,17 +20,40 @@ fn without_last_feed(text: &[u8]) -> &[u8]
     }
 }
 
-/// The place of the first line whose first byte is neither `S` nor `V`.
-pub(crate) fn first_other(alloc: Global, lines: &[&[u8]]) -> Result<Option<usize>, AllocError>
-    ensures below { IfOk result (λ other. IfSome other (λ k. k < length lines.now)) }
-    ensures place { IfOk result (λ other. MatchOption other
-        (All IsTail (map (λ l. words l.now) lines.now))
-        (λ k. IsFirstOther (map (λ l. words l.now) lines.now) k)) }
+/// The first line of a text, and the text behind its line feed, if it has one.
+pub(crate) fn split_line(text: &[u8]) -> (&[u8], Option<&[u8]>)
+    ensures { map words (lines text.now) ≡ words result.0.now ∷ lines_behind result.1 }
 {
-    for (index, line) in lines.iter().enumerate() {
+    match feed_in(text) {
+        Some(place) => (&text[..place], Some(&text[place + 1..])),
+        None => (text, None),
+    }
+}
+
+/// The place of the first line feed.
+fn feed_in(text: &[u8]) -> Option<usize>
+    ensures { result ≡ position (λ b. b == 10) text.now }
+{
+    text.iter().position(|byte| *byte == b'\n')
+}
+
+/// The place of the first line whose first byte is neither `S` nor `V`, among those behind a line feed.
+pub(crate) fn first_other(alloc: Global, behind: Option<&[u8]>) -> Result<Option<usize>, AllocError>
+    requires { length (lines_behind behind) < 2 ^ 64 }
+    ensures below { IfOk result (λ other. IfSome other (λ k. k < length (lines_behind behind.entry))) }
+    ensures place { IfOk result (λ other. MatchOption other
+        (All IsTail (lines_behind behind.entry))
+        (λ k. IsFirstOther (lines_behind behind.entry) k)) }
+{
+    let mut left = behind;
+    let mut place = 0;
+    while let Some(text) = left {
+        let (line, rest) = split_line(text);
         if !is_tail_line(alloc, line)? {
-            return Ok(Some(index));
+            return Ok(Some(place));
         }
+        place += 1;
+        left = rest;
     }
     Ok(None)
 }

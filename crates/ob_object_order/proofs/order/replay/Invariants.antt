@@ -7,5 +7,5 @@ use Rattle.ob_object_order.specs.OrderFaults.{LeadsTo}
 use Rattle.ob_object_order.specs.LegalOrder.{CallEnds}
 use Rattle.wf_history.specs.View.{event_of}
 
-abbrev pub invariant-loop-x : goal.invariant-loop-x
-invariant-loop-x l = LeadsTo (CallEnds (program_in l.checked) l.budget) (state_of l.fn.opening) (map event_of l.events) (map (λ x. x.id) l.placed) l.x-index (state_of l.state)
+abbrev pub invariant-loop-id : goal.invariant-loop-id
+invariant-loop-id l = LeadsTo (CallEnds (program_in l.checked) l.budget) (state_of l.fn.opening) (map event_of l.events) l.order l.id-index (state_of l.state)

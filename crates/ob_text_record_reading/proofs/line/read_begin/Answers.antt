@@ -23,7 +23,7 @@ pub returns : goal.returns
 returns c =
     let parts : c.args.words.now ≡ c.in-Some.word.now ∷ c.in-Some.behind.now = search rules in
     let more : c.in-Some.behind.now ≡ c.in-Some-split_first.name.now ∷ c.in-Some-split_first.rest.now = search rules in
-    rw (parts, more)
+    rw (parts, more, c.in_ok-kept.ensures.kept)
     (record {
       form = begin (rw c.processes.ensures at c.in-Some-read_id.ensures) (sym c.in-Some-export_named.ensures) (rw (c.in-Some-2.is, c.deref.ensures.value) at c.in_ok-args.ensures);
       place = (c.may_begin.ensures _).0 c.if-not-may_begin.false;

@@ -17,6 +17,6 @@ returns-in_default-2 c =
 pub returns : goal.returns
 returns c =
     let parts : c.args.words.now ≡ c.in-Some.word.now ∷ c.in-Some.rest.now = search rules in
-    rw parts
+    rw (parts, c.in_ok-kept.ensures)
     (ended _ _ _ _ _ c.in-Some-read_id.id c.in-Some-export_to_end.proc _ (rw c.processes.ensures at c.in-Some-read_id.ensures) c.in-Some-export_to_end.ensures
     (rw c.in-Some-2.is at c.in_ok-reply.ensures))

@@ -1,13 +1,16 @@
 -- The events of the lines so far.
-use Rattle.std.proofs.Common.{◌≡◌, [], map, take}
+use Rattle.std.proofs.Common.{◌≡◌, length, map}
 use Rattle.ob_interface.specs.View.{signature_of}
-use Rattle.ob_text_words.specs.Words.{words}
-use Rattle.ob_text_record_reading.proofs.LineRuns.{AreEvents}
+use Rattle.ob_text_record_reading.specs.LineReading.{lines_behind}
+use Rattle.ob_text_record_reading.proofs.Places.{ReadTo}
 use Rattle.ob_text_record_reading.proofs.reading.read_events.Given as goal
 
-abbrev pub invariant-loop-index : goal.invariant-loop-index
-invariant-loop-index l =
+abbrev pub invariant-loop-left : goal.invariant-loop-left
+invariant-loop-left l =
     record {
-      events : AreEvents l.initial.calls.processes (map signature_of l.exports) [] (take l.index (map (λ p. words p.now) l.lines)) l.calls.events;
+      read : ReadTo l.initial.calls.processes (map signature_of l.exports) l.fn.head (lines_behind l.fn.behind) (lines_behind l.left) l.calls.events l.number;
       processes : l.calls.processes ≡ l.initial.calls.processes;
     }
+
+abbrev pub decreases-loop-left : goal.decreases-loop-left
+decreases-loop-left l = length (lines_behind l.left)

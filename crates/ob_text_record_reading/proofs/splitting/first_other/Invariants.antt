@@ -1,8 +1,11 @@
 -- The lines so far begin with S or V.
-use Rattle.std.proofs.Common.{All, map, take}
-use Rattle.ob_text_record_reading.specs.RecordLines.{IsTail}
-use Rattle.ob_text_words.specs.Words.{words}
+use Rattle.std.proofs.Common.{length}
+use Rattle.ob_text_record_reading.specs.LineReading.{lines_behind}
+use Rattle.ob_text_record_reading.proofs.Places.{TailsTo}
 use Rattle.ob_text_record_reading.proofs.splitting.first_other.Given as goal
 
-abbrev pub invariant-loop-index : goal.invariant-loop-index
-invariant-loop-index l = All IsTail (take l.index (map (λ p. words p.now) l.lines))
+abbrev pub invariant-loop-left : goal.invariant-loop-left
+invariant-loop-left l = TailsTo (lines_behind l.fn.behind) (lines_behind l.left) l.place
+
+abbrev pub decreases-loop-left : goal.decreases-loop-left
+decreases-loop-left l = length (lines_behind l.left)

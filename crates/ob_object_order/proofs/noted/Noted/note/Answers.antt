@@ -35,5 +35,5 @@ returns-2 c =
           ∙ ap (λ (rows : List (List ℕ)). first_of (hash.get same_id noted.others q) (in_rows rows q)) (rows_kept noted.rows.items c.args.id.process w.in-Some.row.now w.in-Some.ensures.value)
     ] in
     λ (q : CallId).
-    noted_by_hash (hash.get same_id kept.others) (hash.get same_id c.insert.new.self) (map (λ row. row.items) kept.rows.items) c.args.id c.args.number c.in_ok-insert.ensures.updates.0 q
+    noted_by_hash (hash.get same_id kept.others) (hash.get same_id c.insert.new.others) (map (λ row. row.items) kept.rows.items) c.args.id c.args.number c.in_ok-insert.ensures q
     ∙ ap (λ (o : Option ℕ). cond (same_id c.args.id q) (Some c.args.number) o) (same q)
