@@ -11,7 +11,7 @@ ghost use Rattle.ob_text_words.specs.Appending.{GoesOn};
 use ob_interface::export::Export;
 use ob_interface::scalar::Scalar;
 use ob_reply::reply_lines::{push_done_line, push_trap_line};
-use ob_text_words::counts::push_count;
+use ob_text_words::numbers::push_count;
 use ob_text_words::values::push_value;
 use std::alloc::AllocError;
 use wf_history::{CallId, Event, KeptCall, KeptReply};

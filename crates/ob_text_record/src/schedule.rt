@@ -4,7 +4,7 @@ ghost use Rattle.std.specs.Prelude.{◌≡◌, ◌++◌, OnErr, OnOk, string_byt
 ghost use Rattle.ob_text_record.specs.RecordText.{schedule_text, turns_text};
 ghost use Rattle.ob_text_words.specs.Appending.{GoesOn};
 
-use ob_text_words::counts::push_count;
+use ob_text_words::numbers::push_count;
 use std::alloc::AllocError;
 use wf_table::Turns;
 
