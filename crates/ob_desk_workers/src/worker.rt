@@ -5,9 +5,8 @@ ghost use Rattle.ob_desk_workers.specs.Rounds.{AreCounted, AreLet, AreRefused, H
 ghost use Rattle.ob_desk_workers.specs.declared.worker.Ended.TheVariants as Ended;
 
 use crate::gate::Gate;
-use crossbeam_channel::Sender;
-use ob_desk_floor::{CallAnswer, Seat, TakeTurn};
-use std::alloc::Global;
+use crate::told::Told;
+use ob_desk_floor::{Seat, TakeTurn};
 use std::snapshot::Snapshot;
 use std::sync::{RwLock, Wait};
 use std::thread::Promise;
@@ -69,31 +68,32 @@ pub fn work_once_begun<R: Wait, D: TakeTurn, G: Gate>(
     gate: &G,
     limit: u64,
     seat: Seat,
-    answers: Sender<CallAnswer, Global>,
+    told: Told,
 ) -> Worked
     requires { 1 ≤ limit }
     ensures { HasWorked (G.passes gate.now) (G.refuses gate.now) limit seat result.seat result.ended }
 {
     drop(begun.read(rt));
-    work(rt, desk, gate, limit, seat, answers)
+    work(rt, desk, gate, limit, seat, told)
 }
 
 /// Takes steps of the seat's process, as the gate lets it, until the process is halted or its seat can count no more of them,
-/// and sends each answer. The desk's lock is free between two steps.
+/// and then sends the answers that it was given. The desk's lock is free between two steps.
 pub fn work<R: Wait, D: TakeTurn, G: Gate>(
     rt: &R,
     desk: &D,
     gate: &G,
     limit: u64,
     mut seat: Seat,
-    answers: Sender<CallAnswer, Global>,
+    mut told: Told,
 ) -> Worked
     requires { 1 ≤ limit }
     ensures { HasWorked (G.passes gate.now) (G.refuses gate.now) limit seat result.seat result.ended }
 {
     let mut refusals = 0u64;
     for _ in rt.forever() {
-        if let Some(ended) = go_round(rt, desk, gate, limit, &mut seat, &mut refusals, &answers) {
+        if let Some(ended) = go_round(rt, desk, gate, limit, &mut seat, &mut refusals, &mut told) {
+            let ended = told.send(rt, ended);
             return Worked { seat, ended };
         }
     }
@@ -108,7 +108,7 @@ fn go_round<R: Wait, D: TakeTurn, G: Gate>(
     limit: u64,
     seat: &mut Seat,
     refusals: &mut u64,
-    answers: &Sender<CallAnswer, Global>,
+    told: &mut Told,
 ) -> Option<Ended>
     requires few { refusals.old < limit }
     requires refused { AreRefused (G.refuses gate.now) seat.old refusals.old }
@@ -131,17 +131,17 @@ fn go_round<R: Wait, D: TakeTurn, G: Gate>(
         };
     }
     *refusals = 0;
-    take_turn(rt, desk, gate, seat, answers)
+    take_turn(rt, desk, gate, seat, told)
 }
 
-/// One step of the seat's process, whose answer, if there is one, is told to the gate and sent. Answers how the worker ends, if
-/// it does.
+/// One step of the seat's process, whose answer, if there is one, is told to the gate and kept to be sent. Answers how the worker
+/// ends, if it does.
 fn take_turn<R: Wait, D: TakeTurn, G: Gate>(
     rt: &R,
     desk: &D,
     gate: &G,
     seat: &mut Seat,
-    answers: &Sender<CallAnswer, Global>,
+    told: &mut Told,
 ) -> Option<Ended>
     requires { seat.old.turns < 2 ^ 128 - 1 }
     ensures seat { IsAfterTurns seat.old seat.new }
@@ -151,19 +151,14 @@ fn take_turn<R: Wait, D: TakeTurn, G: Gate>(
     match desk.advance(rt, seat) {
         Err(_) => Some(Ended::NoMemory),
         Ok(Seen::Halted) => Some(Ended::Done),
-        Ok(Seen::Answered) => tell_answer(rt, gate, seat, answers),
+        Ok(Seen::Answered) => tell_answer(gate, seat, told),
         Ok(_) => None,
     }
 }
 
-/// The seat's last answer is told to the gate and sent. Answers how the worker ends, if it does.
+/// The seat's last answer is told to the gate and kept to be sent. Answers how the worker ends, if it does.
 #[inline(never)]
-fn tell_answer<R: Wait, G: Gate>(
-    rt: &R,
-    gate: &G,
-    seat: &Seat,
-    answers: &Sender<CallAnswer, Global>,
-) -> Option<Ended>
+fn tell_answer<G: Gate>(gate: &G, seat: &Seat, told: &mut Told) -> Option<Ended>
     ensures { result ≢ Some Ended.Refused }
 {
     let Ok(last) = seat.last_answer() else {
@@ -173,7 +168,7 @@ fn tell_answer<R: Wait, G: Gate>(
         return None;
     };
     gate.answered(answer.id.process, answer.id.number);
-    if answers.send(rt, answer).is_err() {
+    if told.add(answer).is_err() {
         return Some(Ended::NoMemory);
     }
     None

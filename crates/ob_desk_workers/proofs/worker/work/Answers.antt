@@ -11,5 +11,5 @@ returns-in-Some-go_round g c =
     record {
       seat = turns;
       are_let = λ so. round.are_let (c.loop.invariant.are_let so);
-      refused = λ is. refused_as_often (g.G.Gate.refuses c.args.gate.now) c.args.limit before after c.go_round.new.refusals turns.process (round.ends (ap Some is)) round.are_refused;
+      refused = λ is. refused_as_often (g.G.Gate.refuses c.args.gate.now) c.args.limit before after c.go_round.new.refusals turns.process (round.ends (ap Some (c.send-ended.ensures is))) round.are_refused;
     }
