@@ -190,15 +190,23 @@ fn copied_answer(alloc: Global, answer: &CallAnswer) -> Result<CallAnswer, NoMem
     ensures { IfOk result (λ a. answered_call a ≡ answered_call answer.now) }
 {
     let reply = match &answer.reply {
-        KeptReply::Done(values) => {
-            KeptReply::Done(SmallVec::from_slice(alloc, values.as_slice())?)
-        }
+        KeptReply::Done(values) => KeptReply::Done(copied(alloc, values.as_slice())?),
         KeptReply::Trap(number) => KeptReply::Trap(*number),
     };
     Ok(CallAnswer {
         id: answer.id,
         reply,
     })
+}
+
+/// Equal values, in place where there are few.
+fn copied(alloc: Global, values: &[Scalar]) -> Result<SmallVec<Scalar, 2>, AllocError>
+    ensures { IfOk result (λ v. v.items ≡ values.now) }
+{
+    if values.len() <= 2 {
+        return Ok(in_place(alloc, values));
+    }
+    SmallVec::from_slice(alloc, values)
 }
 
 /// Makes room for the values of any reply.
@@ -248,8 +256,9 @@ fn in_place(alloc: Global, values: &[Scalar]) -> SmallVec<Scalar, 2>
     requires { length values.now ≤ 2 }
     ensures { result.items ≡ values.now }
 {
-    match SmallVec::from_slice(alloc, values) {
-        Ok(values) => values,
-        Err(_) => unreachable!(),
+    let mut kept = SmallVec::new(alloc);
+    for value in values {
+        kept.push_reserved(*value);
     }
+    kept
 }
