@@ -34,6 +34,7 @@ impl Told {
     }
 
     /// Sends the answers of a worker that ended so. Answers how it ended: by want of memory where they could not be sent.
+    #[inline(never)]
     pub fn send<R: Wait>(self, rt: &R, ended: Ended) -> Ended
         ensures { result ≡ Ended.Refused → ended ≡ Ended.Refused }
     {

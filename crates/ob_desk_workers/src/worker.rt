@@ -123,6 +123,7 @@ enum Next {
 }
 
 /// Asks the gate for one more step of the seat's process.
+#[inline]
 fn ask<G: Gate>(gate: &G, limit: u64, seat: &Seat, refusals: &mut u64) -> Next
     requires few { refusals.old < limit }
     requires refused { AreRefused (G.refuses gate.now) seat.now refusals.old }
@@ -150,6 +151,7 @@ fn ask<G: Gate>(gate: &G, limit: u64, seat: &Seat, refusals: &mut u64) -> Next
 }
 
 /// How the worker ends behind this turn, if it does. The turn's answer, if there is one, is told to the gate and kept to be sent.
+#[inline]
 fn end_of<G: Gate>(
     gate: &G,
     seat: &Seat,
