@@ -1,8 +1,7 @@
 -- What the comparisons of a closing show together.
-use Rattle.std.proofs.Common.{◌≡◌, ◌∙◌, ℕ, ◌<◌, List, All, ap, get_or, refl, subst, sym}
+use Rattle.std.proofs.Common.{◌∙◌, ℕ, ◌<◌, List, All, ap, get_or, refl, subst, sym}
 use Rattle.std.specs.Prelude.{ℤ}
 use Rattle.ob_interface.specs.Call.{ObjectCall}
-use Rattle.wf_object.specs.View.{Object}
 use Rattle.wf_table.specs.Meaning.{Meaning}
 use Rattle.wf_table.specs.Runs.{IsRun, performed}
 use Rattle.wf_table.specs.Start.{sizes_of}

@@ -13,7 +13,7 @@ use ob_interface::{MOST_PROCESSES, NoMemory};
 use std::alloc::{AllocError, Global};
 use std::hint::spin_loop;
 use std::marker::Model;
-use std::sync::{Mutex, MutexGuard, Wait};
+use std::sync::{Arc, Mutex, MutexGuard, Wait};
 use wf_coded::CodedEngine;
 use wf_object::{Machine, Seen, StepOut};
 
@@ -64,8 +64,10 @@ impl<E: CodedEngine> Desk<E> {
     {
         let seats = seats(alloc, processes, tag)?;
         let own = engine.copy(alloc)?;
-        let terms = Terms::new(alloc, engine, processes, opening, scripts.as_slice(), tag)?;
-        let floor = Floor::new(alloc, own, processes, terms.opening(), scripts)?;
+        let scripts = Arc::new(alloc, scripts)?;
+        let kept = Arc::try_clone(&scripts)?;
+        let terms = Terms::sharing(engine, processes, opening, kept, tag);
+        let floor = Floor::sharing(alloc, own, processes, terms.opening(), scripts)?;
         let floor = Mutex::new(floor);
         Ok((Desk { floor, terms }, seats))
     }
@@ -89,7 +91,7 @@ impl<E: CodedEngine> TakeTurn for Desk<E> {
     /// Takes the lock for one turn of the seat's process. Where the floor has no such process the answer is that of a process
     /// without calls. Nothing changes on the seat where memory runs out.
     fn turn<R: Wait>(&self, rt: &R, seat: &mut Seat) -> Result<StepOut, NoMemory> {
-        let mut floor = enter(rt, &self.floor, seat.turns());
+        let mut floor = enter(rt, &self.floor, seat);
         if seat.process() < floor.processes() {
             floor.turn(seat)
         } else {
@@ -100,7 +102,7 @@ impl<E: CodedEngine> TakeTurn for Desk<E> {
 
     /// The same turn, whose answer is found on the seat.
     fn advance<R: Wait>(&self, rt: &R, seat: &mut Seat) -> Result<Seen, NoMemory> {
-        let mut floor = enter(rt, &self.floor, seat.turns());
+        let mut floor = enter(rt, &self.floor, seat);
         if seat.process() < floor.processes() {
             floor.advance(seat)
         } else {
@@ -110,16 +112,16 @@ impl<E: CodedEngine> TakeTurn for Desk<E> {
     }
 }
 
-/// Takes the lock for a seat that took so many turns.
+/// Takes the lock for a turn of the seat.
 #[inline(always)]
 fn enter<'a, E: CodedEngine, R: Wait>(
     rt: &R,
     floor: &'a Mutex<Floor<E>>,
-    turns: u128,
+    seat: &Seat,
 ) -> MutexGuard<'a, Floor<E>> {
     match floor.try_lock() {
         Some(guard) => guard,
-        None => wait_for(rt, floor, turns),
+        None => wait_for(rt, floor, seat),
     }
 }
 
@@ -130,9 +132,9 @@ fn enter<'a, E: CodedEngine, R: Wait>(
 fn wait_for<'a, E: CodedEngine, R: Wait>(
     rt: &R,
     floor: &'a Mutex<Floor<E>>,
-    turns: u128,
+    seat: &Seat,
 ) -> MutexGuard<'a, Floor<E>> {
-    let pauses = (turns >> FEWER).min(MOST_PAUSES) as u32;
+    let pauses = (seat.turns() >> FEWER).min(MOST_PAUSES) as u32;
     for _ in 0..TRIES {
         pause(pauses);
         if let Some(guard) = floor.try_lock() {

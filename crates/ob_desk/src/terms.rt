@@ -8,6 +8,7 @@ use ob_desk_floor::submission::copied_submissions;
 use ob_interface::NoMemory;
 use std::alloc::Global;
 use std::marker::Model;
+use std::sync::Arc;
 use wf_coded::CodedEngine;
 
 /// An engine, the number of processes, the words with which their object begins, the calls that were submitted before any
@@ -17,21 +18,24 @@ pub struct Terms<E: CodedEngine> {
     engine: E,
     processes: usize,
     opening: Vec<i64>,
-    scripts: Vec<Submission>,
+    scripts: Arc<Vec<Submission>, Global>,
     tag: u64,
 }
 
 impl<E: CodedEngine> Model for Terms<E> {
+    ghost use Rattle.std.specs.Arc.{arc_value};
     ghost use Rattle.std.specs.Prelude.{map};
     ghost use Rattle.ob_desk.specs.Desk as desk;
     ghost use Rattle.ob_desk_floor.specs.Submission.{submission_of};
 
     ghost Value = { desk.Terms E };
 
-    ghost view = { λ t. record { engine = t.engine; processes = t.processes; opening = t.opening.items; scripts = map submission_of t.scripts.items; tag = t.tag } };
+    ghost view = { λ t. record { engine = t.engine; processes = t.processes; opening = t.opening.items; scripts = map submission_of (arc_value t.scripts).items; tag = t.tag } };
 }
 
 impl<E: CodedEngine> Terms<E> {
+    ghost use Rattle.std.specs.Arc.{arc_value};
+
     /// The engine and the opening, and copies of the calls.
     pub fn new(
         alloc: Global,
@@ -43,14 +47,27 @@ impl<E: CodedEngine> Terms<E> {
     ) -> Result<Terms<E>, NoMemory>
         ensures { IfOk result (λ t. t ≡ record { engine = engine; processes = processes; opening = opening.items; scripts = map submission_of scripts.now; tag = tag }) }
     {
-        let scripts = copied_submissions(alloc, scripts)?;
-        Ok(Terms {
+        let scripts = Arc::new(alloc, copied_submissions(alloc, scripts)?)?;
+        Ok(Terms::sharing(engine, processes, opening, scripts, tag))
+    }
+
+    /// The engine, the opening and the calls, which are shared with others.
+    pub fn sharing(
+        engine: E,
+        processes: usize,
+        opening: Vec<i64>,
+        scripts: Arc<Vec<Submission>, Global>,
+        tag: u64,
+    ) -> Terms<E>
+        ensures { result ≡ record { engine = engine; processes = processes; opening = opening.items; scripts = map submission_of (arc_value scripts).items; tag = tag } }
+    {
+        Terms {
             engine,
             processes,
             opening,
             scripts,
             tag,
-        })
+        }
     }
 
     pub fn engine(&self) -> &E

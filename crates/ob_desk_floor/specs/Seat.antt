@@ -1,8 +1,8 @@
 -- What a seat stands for, and what a turn does to it.
 use Rattle.std.specs.Prelude.{◌≡◌, ℕ, ◌+◌, List, [], ◌∷◌, ◌++◌, MatchOption, Option}
 use Rattle.ob_interface.specs.Call.{Reply}
-use Rattle.ob_interface.specs.View.{reply_of}
 use Rattle.wf_history.specs.declared.event.CallId.{CallId}
+use Rattle.wf_history.specs.View.{kept_reply}
 use Rattle.wf_object.specs.View.{seen_in}
 use Rattle.wf_records.specs.declared.records.Seen.{Seen}
 use Rattle.wf_table.specs.Object.{Answer, Replies}
@@ -10,7 +10,7 @@ use Rattle.ob_desk_floor.specs.declared.seat.CallAnswer.{CallAnswer}
 
 -- a call that ended, with its reply, as histories show it
 abbrev pub answered_call : CallAnswer → CallId × Reply
-answered_call a = (a.id, reply_of a.reply)
+answered_call a = (a.id, kept_reply a.reply)
 
 -- the process, the desk's tag, and the turns and answers so far
 pub record Seat : Type 0 where

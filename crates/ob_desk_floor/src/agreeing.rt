@@ -1,15 +1,15 @@
 //! Whether seats have what events show of their processes.
 
-ghost use Rattle.std.specs.Prelude.{◌≡◌, ◌≢◌, ◌++◌, All, IfNone, IfSome, IsFalse, IsTrue, List, map};
+ghost use Rattle.std.specs.Prelude.{◌≡◌, ◌≢◌, ◌++◌, ◌↔◌, All, IfNone, IfSome, IsFalse, IsTrue, List, map};
 ghost use Rattle.ob_desk_floor.specs.Agreeing.{AgreesAt};
 ghost use Rattle.ob_desk_floor.specs.Seat.{answered_call};
 ghost use Rattle.ob_interface.specs.Call.{Reply};
 ghost use Rattle.wf_history.specs.History.{own_answer, own_answers};
-ghost use Rattle.wf_history.specs.View.{event_of};
+ghost use Rattle.wf_history.specs.View.{event_of, kept_reply};
 ghost use Rattle.wf_history.specs.declared.event.CallId.{CallId};
 
 use crate::seat::{CallAnswer, Seat};
-use wf_history::{Event, same_reply};
+use wf_history::{Event, KeptReply};
 
 /// Whether each seat of the process took so many turns, and has the answers that the events show.
 pub fn agree(process: usize, turns: u128, events: &[Event], seats: &[Seat]) -> bool
@@ -67,5 +67,18 @@ fn behind<'a>(process: usize, answers: &'a [CallAnswer], event: &Event) -> Optio
     match answers.split_first() {
         Some((first, others)) if first.id == *id && same_reply(&first.reply, reply) => Some(others),
         _ => None,
+    }
+}
+
+/// Whether two replies are the same.
+fn same_reply(reply: &KeptReply, other: &KeptReply) -> bool
+    ensures { IsTrue result ↔ (kept_reply reply.now ≡ kept_reply other.now) }
+{
+    match (reply, other) {
+        (KeptReply::Done(values), KeptReply::Done(others)) => {
+            values.as_slice() == others.as_slice()
+        }
+        (KeptReply::Trap(number), KeptReply::Trap(other)) => number == other,
+        _ => false,
     }
 }

@@ -10,6 +10,7 @@ use crate::submission::{Submission, copied_call};
 use ob_interface::NoMemory;
 use std::alloc::Global;
 use std::marker::Model;
+use std::sync::Arc;
 use wf_object::{Engine, Machine, NewFault, Seen, StepOut, Turns};
 use wf_theorems::runs::every_turn;
 
@@ -17,23 +18,25 @@ use wf_theorems::runs::every_turn;
 #[derive(Drop)]
 pub struct Floor<E: Engine> {
     machine: Machine<E>,
-    scripts: Vec<Submission>,
+    scripts: Arc<Vec<Submission>, Global>,
     counts: Vec<u128>,
 }
 
 impl<E: Engine> Model for Floor<E> {
+    ghost use Rattle.std.specs.Arc.{arc_value};
     ghost use Rattle.std.specs.Prelude.{map};
     ghost use Rattle.ob_desk_floor.specs.Floor as floor;
     ghost use Rattle.ob_desk_floor.specs.Submission.{submission_of};
 
     ghost Value = { floor.Floor E E.Run };
 
-    ghost view = { λ f. record { machine = f.machine; scripts = map submission_of f.scripts.items; counts = f.counts.items } };
+    ghost view = { λ f. record { machine = f.machine; scripts = map submission_of (arc_value f.scripts).items; counts = f.counts.items } };
 
-    ghost invariant = { λ f. floor.IsFloor (E.meaning f.machine.engine) (E.lawful f.machine.engine) (E.fits f.machine.engine) (E.ready f.machine.engine) (record { machine = f.machine; scripts = map submission_of f.scripts.items; counts = f.counts.items }) };
+    ghost invariant = { λ f. floor.IsFloor (E.meaning f.machine.engine) (E.lawful f.machine.engine) (E.fits f.machine.engine) (E.ready f.machine.engine) (record { machine = f.machine; scripts = map submission_of (arc_value f.scripts).items; counts = f.counts.items }) };
 }
 
 impl<E: Engine> Floor<E> {
+    ghost use Rattle.std.specs.Arc.{arc_value};
     ghost use Rattle.ob_desk_floor.specs.Floor.{IsFloor, HasNoTurns, floor_after};
     ghost use Rattle.ob_desk_floor.specs.Seat.{seat_after};
     ghost use Rattle.wf_object.specs.View.{answer_in, seen_in};
@@ -58,6 +61,29 @@ impl<E: Engine> Floor<E> {
         ensures sizes { IfOk result (λ f. f.machine.sizes ≡ sizes_of (E.meaning engine) n) }
         ensures opening { IfOk result (λ f. f.machine.opening ≡ opening.now) }
         ensures scripts { IfOk result (λ f. f.scripts ≡ map submission_of scripts.items) }
+        ensures no_turns { IfOk result HasNoTurns }
+        ensures floor { IfOk result (IsFloor (E.meaning engine) (E.lawful engine) (E.fits engine) (E.ready engine)) }
+    {
+        Floor::sharing(alloc, engine, n, opening, Arc::new(alloc, scripts)?)
+    }
+
+    /// The same with calls that are shared with others.
+    pub fn sharing(
+        alloc: Global,
+        engine: E,
+        n: usize,
+        opening: &[i64],
+        scripts: Arc<Vec<Submission>, Global>,
+    ) -> Result<Floor<E>, NoMemory>
+        requires some { 0 < n }
+        requires few { n ≤ 16 }
+        requires opening { E.lawful engine opening.now }
+        requires callers { All (λ c. c.process < n) (arc_value scripts).items }
+        requires fits { All (λ c. E.fits engine (call_of c.call)) (arc_value scripts).items }
+        ensures engine { IfOk result (λ f. f.machine.engine ≡ engine) }
+        ensures sizes { IfOk result (λ f. f.machine.sizes ≡ sizes_of (E.meaning engine) n) }
+        ensures opening { IfOk result (λ f. f.machine.opening ≡ opening.now) }
+        ensures scripts { IfOk result (λ f. f.scripts ≡ map submission_of (arc_value scripts).items) }
         ensures no_turns { IfOk result HasNoTurns }
         ensures floor { IfOk result (IsFloor (E.meaning engine) (E.lawful engine) (E.fits engine) (E.ready engine)) }
     {

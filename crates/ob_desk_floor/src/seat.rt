@@ -3,22 +3,29 @@
 ghost use Rattle.std.specs.Prelude.{◌≡◌, ◌+◌, ◌-◌, ◌^◌, ◌<◌, ◌≤◌, [], ◌++◌, ◌∷◌, IfOk, OnOk, OnErr, length, map};
 ghost use Rattle.ob_desk_floor.specs.Seat.{answered_call};
 ghost use Rattle.ob_interface.specs.View.{reply_of};
+ghost use Rattle.smallvec.specs.SmallVec.{HasRoomFor};
+ghost use Rattle.wf_history.specs.View.{kept_reply};
 ghost use Rattle.wf_object.specs.View.{answer_in, seen_in};
 ghost use Rattle.wf_table.specs.Meaning.{values_in};
 
 use ob_interface::NoMemory;
 use ob_interface::call::Reply;
+use ob_interface::scalar::Scalar;
 use smallvec::SmallVec;
-use std::alloc::Global;
+use std::alloc::{AllocError, Global};
 use std::marker::Model;
-use wf_history::CallId;
+use std::mem::replace;
+use wf_history::{CallId, KeptReply};
 use wf_object::{Engine, Label, Machine, Seen, StepOut};
 
-/// A call that ended, with its reply.
+/// The most values that a reply has.
+const MOST_VALUES: usize = 8;
+
+/// A call that ended, with its reply, as events keep it.
 #[derive(Drop)]
 pub struct CallAnswer {
     pub id: CallId,
-    pub reply: Reply,
+    pub reply: KeptReply,
 }
 
 /// A process's seat: the turns that it took, and the answers that it was given. The tag tells the seats of one desk from
@@ -30,6 +37,8 @@ pub struct Seat {
     tag: u64,
     turns: u128,
     answers: Vec<CallAnswer>,
+    /// Room for the values of an answer that do not stand in place.
+    spare: SmallVec<Scalar, 2>,
 }
 
 impl Model for Seat {
@@ -58,6 +67,7 @@ impl Seat {
             tag,
             turns: 0,
             answers: Vec::new(alloc),
+            spare: SmallVec::new(alloc),
         }
     }
 
@@ -98,10 +108,11 @@ impl Seat {
         ensures no_seat { OnErr result (self.new ≡ self.old) }
     {
         self.answers.try_reserve(1)?;
+        make_room(&mut self.spare)?;
         let out = machine.step(self.process)?;
         self.turns += 1;
         if let StepOut::Answered(id, reply) = &out {
-            let reply = copied(self.alloc, reply);
+            let reply = kept(self.alloc, reply, &mut self.spare);
             self.answers.push_reserved(CallAnswer { id: *id, reply });
         }
         Ok(out)
@@ -179,8 +190,8 @@ fn copied_answer(alloc: Global, answer: &CallAnswer) -> Result<CallAnswer, NoMem
     ensures { IfOk result (λ a. answered_call a ≡ answered_call answer.now) }
 {
     let reply = match &answer.reply {
-        Reply::Done(values) => Reply::Done(SmallVec::from_slice(alloc, values.as_slice())?),
-        Reply::Trap(number) => Reply::Trap(*number),
+        KeptReply::Done(values) => KeptReply::Done(copied(alloc, values.as_slice())?),
+        KeptReply::Trap(number) => KeptReply::Trap(*number),
     };
     Ok(CallAnswer {
         id: answer.id,
@@ -188,16 +199,66 @@ fn copied_answer(alloc: Global, answer: &CallAnswer) -> Result<CallAnswer, NoMem
     })
 }
 
-/// An equal reply. At most 8 values stand in place, so that no memory is taken.
-fn copied(alloc: Global, reply: &Reply) -> Reply
-    requires { length (values_in (reply_of reply.now)) ≤ 8 }
-    ensures { reply_of result ≡ reply_of reply.now }
+/// Equal values, in place where there are few.
+fn copied(alloc: Global, values: &[Scalar]) -> Result<SmallVec<Scalar, 2>, AllocError>
+    ensures { IfOk result (λ v. v.items ≡ values.now) }
+{
+    if values.len() <= 2 {
+        return Ok(in_place(alloc, values));
+    }
+    SmallVec::from_slice(alloc, values)
+}
+
+/// Makes room for the values of any reply.
+fn make_room(spare: &mut SmallVec<Scalar, 2>) -> Result<(), AllocError>
+    ensures empty { spare.new.items ≡ [] }
+    ensures room { OnOk result (HasRoomFor spare.new 8) }
+{
+    spare.clear();
+    spare.reserve(MOST_VALUES)
+}
+
+/// An equal reply, to be kept. At most 8 values stand in place or in the room that was made for them, so that no memory is taken.
+fn kept(alloc: Global, reply: &Reply, spare: &mut SmallVec<Scalar, 2>) -> KeptReply
+    requires few { length (values_in (reply_of reply.now)) ≤ 8 }
+    requires empty { spare.old.items ≡ [] }
+    requires room { HasRoomFor spare.old 8 }
+    ensures { kept_reply result ≡ reply_of reply.now }
 {
     match reply {
-        Reply::Done(values) => match SmallVec::from_slice(alloc, values.as_slice()) {
-            Ok(values) => Reply::Done(values),
-            Err(_) => unreachable!(),
-        },
-        Reply::Trap(number) => Reply::Trap(*number),
+        Reply::Done(values) => KeptReply::Done(kept_values(alloc, values.as_slice(), spare)),
+        Reply::Trap(number) => KeptReply::Trap(*number),
     }
+}
+
+/// Equal values, in place where there are few, and else in the room.
+fn kept_values(
+    alloc: Global,
+    values: &[Scalar],
+    spare: &mut SmallVec<Scalar, 2>,
+) -> SmallVec<Scalar, 2>
+    requires few { length values.now ≤ 8 }
+    requires empty { spare.old.items ≡ [] }
+    requires room { HasRoomFor spare.old 8 }
+    ensures { result.items ≡ values.now }
+{
+    if values.len() <= 2 {
+        return in_place(alloc, values);
+    }
+    if spare.extend_from_slice(values).is_err() {
+        unreachable!();
+    }
+    replace(spare, SmallVec::new(alloc))
+}
+
+/// Equal values, in place.
+fn in_place(alloc: Global, values: &[Scalar]) -> SmallVec<Scalar, 2>
+    requires { length values.now ≤ 2 }
+    ensures { result.items ≡ values.now }
+{
+    let mut kept = SmallVec::new(alloc);
+    for value in values {
+        kept.push_reserved(*value);
+    }
+    kept
 }

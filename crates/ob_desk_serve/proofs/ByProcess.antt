@@ -1,5 +1,5 @@
 -- Answers by their processes, one answer more.
-use Rattle.std.proofs.Common.{◌≡◌, ◌∙◌, ℕ, ◌<◌, ◌++◌, ⊎_elim, Bool, true, false, List, [], ◌∷◌, ap, arith, cond, filter, get_or, length, nat_eq, replicate, set, sym}
+use Rattle.std.proofs.Common.{◌≡◌, ◌∙◌, ℕ, ◌<◌, ◌++◌, ⊎_elim, Bool, true, false, List, [], ◌∷◌, ap, arith, cond, filter, get_or, length, nat_eq, refl, replicate, set, subst, sym}
 use Rattle.std.proofs.lemmas.Bool.{cases_eq}
 use Rattle.std.proofs.lemmas.Bool.Decides.{nat_tests}
 use Rattle.std.proofs.lemmas.List.{append-nil, get_or-replicate, get_or-set_other, get_or-set_same, length-replicate, length-set}
@@ -21,6 +21,21 @@ same_is a b h = grind (arith, nat_tests)
 
 other_is : (a b : ℕ) → (a ≡ b → ⊥) → nat_eq a b ≡ false
 other_is a b h = grind (arith, nat_tests)
+
+-- of one process all answers are its own
+own_all : (answers : List CallAnswer) → filter (is_of 1 0) answers ≡ answers
+own_all [] = refl
+own_all (a ∷ answers) =
+    let own : nat_eq (owner_of 1 a) 0 ≡ true = same_is (owner_of 1 a) 0 (omega arith) in
+    ap (λ (t : Bool). cond t (a ∷ filter (is_of 1 0) answers) (filter (is_of 1 0) answers)) own ∙ ap (λ (l : List CallAnswer). a ∷ l) (own_all answers)
+
+pub all_of_one : (answers : List CallAnswer) → AreByProcess 1 answers (answers ∷ [])
+all_of_one answers = record {
+  each = refl;
+  own = λ p d lt.
+      let first : 0 ≡ p = omega (arith, lt) in
+      subst (λ (k : ℕ). get_or (answers ∷ []) k d ≡ filter (is_of 1 k) answers) first (sym (own_all answers));
+}
 
 module _ (processes : ℕ) (sent : List CallAnswer) (a : CallAnswer) (below : owner_of processes a < processes) where
   -- what one more answer adds to the answers of a process

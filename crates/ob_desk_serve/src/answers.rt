@@ -23,6 +23,30 @@ pub fn by_process(
     requires { 0 < processes }
     ensures { IfOk result (λ lists. AreByProcess processes answers.items (map (λ list. list.items) lists.items)) }
 {
+    if processes == 1 {
+        return of_one(alloc, answers);
+    }
+    parted(alloc, processes, answers)
+}
+
+/// All answers are those of the one process there is.
+fn of_one(alloc: Global, answers: Vec<CallAnswer>) -> Result<Vec<Vec<CallAnswer>>, NoMemory>
+    ensures { IfOk result (λ lists. AreByProcess 1 answers.items (map (λ list. list.items) lists.items)) }
+{
+    let mut lists = Vec::with_capacity(alloc, 1)?;
+    lists.push(answers)?;
+    Ok(lists)
+}
+
+/// Each answer is put behind those of its process.
+fn parted(
+    alloc: Global,
+    processes: usize,
+    answers: Vec<CallAnswer>,
+) -> Result<Vec<Vec<CallAnswer>>, NoMemory>
+    requires { 0 < processes }
+    ensures { IfOk result (λ lists. AreByProcess processes answers.items (map (λ list. list.items) lists.items)) }
+{
     let mut lists = empty_lists(alloc, processes)?;
     for answer in answers {
         let process = owner(processes, &answer);

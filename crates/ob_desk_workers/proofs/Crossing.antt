@@ -11,32 +11,24 @@ use denote.Struct.Tuple.{TupleAt, type_at}
 use mir.Syntax.{Lifetime}
 use Rattle.std.specs.Prelude.{◌∷◌, [], List, ℕ}
 use Rattle.std.proofs.Crossing.{crosses}
-use Rattle.std.proofs.alloc.Global.TheSendSync as global
 use Rattle.std.proofs.sync.RwLock.TheSendSync as locks
-use Rattle.std.specs.contracts.alloc.Global as Global
-use Rattle.std.specs.contracts.impls.GlobalAllocator.TheImpl.{ghosts}
 use Rattle.std.specs.contracts.sync.RwLock as RwLock
-use Rattle.crossbeam_channel.specs.contracts.channel.Sender as Sender
-use Rattle.crossbeam_channel.proofs.channel.Sender.TheSendSync as senders
-use Rattle.ob_desk_floor.specs.contracts.seat.CallAnswer as CallAnswer
 use Rattle.ob_desk_floor.specs.contracts.seat.Seat as Seat
-use Rattle.ob_desk_floor.proofs.seat.CallAnswer.TheSendSync as answers
 use Rattle.ob_desk_floor.proofs.seat.Seat.TheSendSync as seats
-
-answer_row : IsSend CallAnswer.the_row
-answer_row = search (answers.the_send, crosses, sendable) depth 20
+use Rattle.ob_desk_workers.specs.contracts.told.Told as Told
+use Rattle.ob_desk_workers.proofs.told.Told.TheSendSync as tolds
 
 pub seat_row : IsSend Seat.the_row
 seat_row = search (seats.the_send, crosses, sendable) depth 20
 
-pub sender_row : IsSend (Sender.the_row CallAnswer.the_row Global.the_row ghosts)
-sender_row = search (senders.the_send, answer_row, global.the_send, global.the_sync, crosses, sendable) depth 20
+pub told_row : IsSend Told.the_row
+told_row = search (tolds.the_send, crosses, sendable) depth 20
 
 -- the lock that holds the workers back is shared
 pub lock_row : IsSync (RwLock.the_row unit)
 lock_row = search (locks.the_sync, crosses, sendable) depth 20
 
--- what a worker's closure captures: the runtime, the lock, the desk, the gate, the limit, the seat and the sender
+-- what a worker's closure captures: the runtime, the lock, the desk, the gate, the limit, the seat and what it was told
 module _ (ℓ₀ ℓ₁ ℓ₂ ℓ₃ : Lifetime) (κ₀ κ₁ κ₂ κ₃ : Lft) (R D G : RattleType) where
   abbrev pub runtime : RattleType
   runtime = ShrRef ℓ₀ κ₀ (param 0 R)
@@ -51,7 +43,7 @@ module _ (ℓ₀ ℓ₁ ℓ₂ ℓ₃ : Lifetime) (κ₀ κ₁ κ₂ κ₃ : Lft
   gate = ShrRef ℓ₃ κ₃ (param 2 G)
 
   abbrev pub captured : List RattleType
-  captured = runtime ∷ lock ∷ desk ∷ gate ∷ u64 ∷ Seat.the_row ∷ Sender.the_row CallAnswer.the_row Global.the_row ghosts ∷ []
+  captured = runtime ∷ lock ∷ desk ∷ gate ∷ u64 ∷ Seat.the_row ∷ Told.the_row ∷ []
 
   -- it may go to a thread where runtime, desk and gate are shared
   pub work_row : (ν : List ℕ) → IsSync (param 0 R) → IsSync (param 1 D) → IsSync (param 2 G) → IsSend (TupleAt ν captured)
@@ -68,7 +60,7 @@ module _ (ℓ₀ ℓ₁ ℓ₂ ℓ₃ : Lifetime) (κ₀ κ₁ κ₂ κ₃ : Lft
                 as_row_send (row_field u64) (search sendable),
                 (
                   as_row_send (row_field Seat.the_row) seat_row,
-                  (as_row_send (row_field (Sender.the_row CallAnswer.the_row Global.the_row ghosts)) sender_row, tt),
+                  (as_row_send (row_field Told.the_row) told_row, tt),
                 ),
               ),
             ),

@@ -1,11 +1,14 @@
 -- A seat after turns, and what the gate said of them.
 use Rattle.std.proofs.Common.{◌≡◌, ℕ, ◌<◌, ◌≤◌, ◌+◌, ◌++◌, ◌∙◌, [], List, ap, arith, length, refl, subst, sym, ⊎_elim}
+use Rattle.std.specs.Prelude.{Err, IfOk, Ok, OnErr, Result}
 use Rattle.std.proofs.lemmas.Bool.{cases_lt}
 use Rattle.std.proofs.lemmas.List.{append-nil, append_assoc, length-append}
-use Rattle.ob_desk_floor.specs.Seat.{Seat, answers_in, seat_after}
+use Rattle.ob_desk_floor.specs.Seat.{HasTurned, Seat, answers_in, seat_after}
 use Rattle.ob_interface.specs.Call.{Reply}
+use Rattle.ob_interface.specs.declared.no_memory.NoMemory.{NoMemory}
 use Rattle.ob_desk_workers.specs.Rounds.{AreLet, AreRefused, IsAfterTurns, IsLet, IsRefused, Says}
 use Rattle.wf_history.specs.declared.event.CallId.{CallId}
+use Rattle.wf_records.specs.declared.records.Seen.{Seen}
 use Rattle.wf_table.specs.Object.{Answer, Begins, GoesOn, Halts, Replies}
 
 pub no_turn : (s : Seat) → IsAfterTurns s s
@@ -48,3 +51,19 @@ one_refused_more refuses s count said so k lt =
 pub refused_as_often : (refuses : Says) (limit : ℕ) (before after : Seat) (count : ℕ) → after.process ≡ before.process → count ≡ limit → AreRefused refuses after count → IsRefused refuses limit before.process
 refused_as_often refuses limit before after count same all so =
     (after.turns, λ k lt. subst (λ (p : ℕ). refuses p after.turns k) same (so k (subst (λ (n : ℕ). k < n) (sym all) lt)))
+
+-- a turn that was taken or not is one turn more at most
+pub turned : (r : Result Seen NoMemory) (before after : Seat) → IfOk r (λ seen. HasTurned seen before after) → OnErr r (after ≡ before) → IsAfterTurns before after × (after.turns ≤ before.turns + 1)
+turned (Ok seen) before after taken none =
+    let steps : (s : Seat) → s ≡ seat_after taken.answer before → IsAfterTurns before s × (s.turns ≤ before.turns + 1) =
+    λ s is. subst (λ (x : Seat). IsAfterTurns before x × (x.turns ≤ before.turns + 1)) (sym is) (one_turn taken.answer before, omega arith) in
+    steps after taken.turned
+turned (Err e) before after taken none = subst (λ (x : Seat). IsAfterTurns before x × (x.turns ≤ before.turns + 1)) (sym none) (no_turn before, omega arith)
+
+-- the gate let the process take that turn
+pub turn_is_let : (passes : Says) (limit : ℕ) (before after : Seat) → after.process ≡ before.process → after.turns ≤ before.turns + 1 → IsLet passes limit before.process before.turns → AreLet passes limit before → AreLet passes limit after
+turn_is_let passes limit before after same few said so = one_let_more passes limit before after said.0 same few said.1 said.2 so
+
+-- nothing was refused yet
+pub none_refused : (refuses : Says) (s : Seat) (count : ℕ) → count ≡ 0 → AreRefused refuses s count
+none_refused refuses s count none k lt = absurd (omega (arith, lt, none))

@@ -1,4 +1,4 @@
--- What a worker's rounds come to: its seat, how often in a row the gate has refused, and what the gate says of that.
+-- What a worker's rounds come to: its seat, and what the gate says of its steps and of how often in a row it has refused one.
 use Rattle.std.specs.Prelude.{◌≡◌, ℕ, ◌+◌, ◌<◌, ◌≤◌, ◌++◌, List, length}
 use Rattle.ob_desk_floor.specs.Seat.{Seat}
 use Rattle.ob_desk_workers.specs.declared.worker.Ended.{Ended}
@@ -14,11 +14,6 @@ pub record IsAfterTurns (before after : Seat) : Type 0 where
   pub later : List (CallId × Reply)
   pub answers : after.answers ≡ before.answers ++ later
   pub turns : before.turns + length later ≤ after.turns
-
--- Refusals in a row, one round later: at most one more, and none where the seat took a step.
-pub record AreCounted (before after : Seat) (refusals now : ℕ) : Type 0 where
-  pub more : now ≤ refusals + 1
-  pub anew : before.turns < after.turns → now ≡ 0
 
 -- ---- the gate
 

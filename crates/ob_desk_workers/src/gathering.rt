@@ -8,6 +8,7 @@ ghost use Rattle.ob_desk_workers.specs.Joined.{AreJoined};
 ghost use Rattle.ob_desk_workers.specs.declared.worker.Ended.TheVariants as Ended;
 
 use crate::gate::Gate;
+use crate::told::Told;
 use crate::worker::{Ended, PassedBy, Worked, promise, work_once_begun};
 use crossbeam_channel::{Receiver, unbounded};
 use ob_desk_floor::{CallAnswer, Seat, TakeTurn};
@@ -17,7 +18,7 @@ use std::thread;
 use std::thread::{PromisedHandle, Threads};
 
 /// What came of the workers: how each ended, in the order of their seats; the seats that they handed back, in that order; the
-/// answers in the order in which they came; and whether memory wanted.
+/// answers of one worker behind those of another, each worker's in the order in which it was given them; and whether memory wanted.
 #[derive(Drop)]
 pub struct Gathered {
     pub ended: Vec<Ended>,
@@ -63,9 +64,10 @@ pub fn gather<R: Threads + Wait + Sync, D: TakeTurn + Sync, G: Gate + Sync>(
                     gathered.is_short |= !add_start(&mut starts, Err(Ended::NoMemory));
                     continue;
                 };
+                let told = Told::new(alloc, answers);
                 let kept = promise(gate, limit, &seat);
                 let started = scope.spawn_with(kept, move || {
-                    work_once_begun(rt, begun, desk, gate, limit, seat, answers)
+                    work_once_begun(rt, begun, desk, gate, limit, seat, told)
                 });
                 gathered.is_short |= !add_start(&mut starts, start_of(started));
             }
@@ -122,6 +124,20 @@ impl Gathered {
         self.is_short |= self.ended.push(ended).is_err();
     }
 
+    /// One more worker's answers came. The first list is kept as it is.
+    fn keep(&mut self, mut answers: Vec<CallAnswer>)
+        ensures ended { self.new.ended ≡ self.old.ended }
+        ensures seats { self.new.seats ≡ self.old.seats }
+        ensures answers { (later : List CallAnswer) × (self.new.answers.items ≡ self.old.answers.items ++ later) }
+        ensures short { self.new.is_short ≡ false → self.old.is_short ≡ false }
+    {
+        if self.answers.is_empty() {
+            self.answers = answers;
+            return;
+        }
+        self.is_short |= self.answers.append(&mut answers).is_err();
+    }
+
     /// One more seat was handed back.
     fn take_back(&mut self, seat: Seat)
         ensures ended { self.new.ended ≡ self.old.ended }
@@ -132,16 +148,16 @@ impl Gathered {
     }
 }
 
-/// Keeps each answer that was sent; every sender is gone. Where memory wants it goes on without keeping.
-fn collect<R: Wait>(rt: &R, receiver: Receiver<CallAnswer, Global>, gathered: &mut Gathered)
+/// Keeps the answers that were sent; every sender is gone. Where memory wants it goes on without keeping.
+fn collect<R: Wait>(rt: &R, receiver: Receiver<Vec<CallAnswer>, Global>, gathered: &mut Gathered)
     ensures ended { gathered.new.ended ≡ gathered.old.ended }
     ensures seats { gathered.new.seats ≡ gathered.old.seats }
     ensures answers { (later : List CallAnswer) × (gathered.new.answers.items ≡ gathered.old.answers.items ++ later) }
     ensures short { gathered.new.is_short ≡ false → gathered.old.is_short ≡ false }
 {
-    for answer in receiver.iter(rt) {
-        if !gathered.is_short && gathered.answers.push(answer).is_err() {
-            gathered.is_short = true;
+    for answers in receiver.iter(rt) {
+        if !gathered.is_short {
+            gathered.keep(answers);
         }
     }
 }

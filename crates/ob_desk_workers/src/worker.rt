@@ -1,13 +1,14 @@
 //! One worker.
 
-ghost use Rattle.std.specs.Prelude.{◌≡◌, ◌≢◌, ◌+◌, ◌<◌, ◌≤◌, ◌-◌, ◌^◌, IfNone, Some};
-ghost use Rattle.ob_desk_workers.specs.Rounds.{AreCounted, AreLet, AreRefused, HasWorked, IsAfterTurns};
+ghost use Rattle.std.specs.Prelude.{◌≡◌, ◌≢◌, ◌+◌, ◌<◌, ◌≤◌, ◌-◌, ◌^◌, Some};
+ghost use Rattle.ob_desk_workers.specs.Rounds.{AreRefused, HasWorked, IsLet};
+ghost use Rattle.ob_desk_workers.specs.declared.worker.Next.TheVariants as Next;
 ghost use Rattle.ob_desk_workers.specs.declared.worker.Ended.TheVariants as Ended;
 
 use crate::gate::Gate;
-use crossbeam_channel::Sender;
-use ob_desk_floor::{CallAnswer, Seat, TakeTurn};
-use std::alloc::Global;
+use crate::told::Told;
+use ob_desk_floor::{Seat, TakeTurn};
+use ob_interface::NoMemory;
 use std::snapshot::Snapshot;
 use std::sync::{RwLock, Wait};
 use std::thread::Promise;
@@ -69,101 +70,107 @@ pub fn work_once_begun<R: Wait, D: TakeTurn, G: Gate>(
     gate: &G,
     limit: u64,
     seat: Seat,
-    answers: Sender<CallAnswer, Global>,
+    told: Told,
 ) -> Worked
     requires { 1 ≤ limit }
     ensures { HasWorked (G.passes gate.now) (G.refuses gate.now) limit seat result.seat result.ended }
 {
     drop(begun.read(rt));
-    work(rt, desk, gate, limit, seat, answers)
+    work(rt, desk, gate, limit, seat, told)
 }
 
 /// Takes steps of the seat's process, as the gate lets it, until the process is halted or its seat can count no more of them,
-/// and sends each answer. The desk's lock is free between two steps.
+/// and then sends the answers that it was given. The desk's lock is free between two steps.
 pub fn work<R: Wait, D: TakeTurn, G: Gate>(
     rt: &R,
     desk: &D,
     gate: &G,
     limit: u64,
     mut seat: Seat,
-    answers: Sender<CallAnswer, Global>,
+    mut told: Told,
 ) -> Worked
     requires { 1 ≤ limit }
     ensures { HasWorked (G.passes gate.now) (G.refuses gate.now) limit seat result.seat result.ended }
 {
     let mut refusals = 0u64;
     for _ in rt.forever() {
-        if let Some(ended) = go_round(rt, desk, gate, limit, &mut seat, &mut refusals, &answers) {
-            return Worked { seat, ended };
+        match ask(gate, limit, &seat, &mut refusals) {
+            Next::Turn => {
+                let turn = desk.advance(rt, &mut seat);
+                if let Some(ended) = end_of(gate, &seat, &mut told, turn) {
+                    let ended = told.send(rt, ended);
+                    return Worked { seat, ended };
+                }
+            }
+            Next::Ask => {}
+            Next::End(ended) => {
+                let ended = told.send(rt, ended);
+                return Worked { seat, ended };
+            }
         }
     }
     unreachable!()
 }
 
-/// One round: the gate is asked, and where it passes a step is taken. Answers how the worker ends, if it does.
-fn go_round<R: Wait, D: TakeTurn, G: Gate>(
-    rt: &R,
-    desk: &D,
-    gate: &G,
-    limit: u64,
-    seat: &mut Seat,
-    refusals: &mut u64,
-    answers: &Sender<CallAnswer, Global>,
-) -> Option<Ended>
+/// What a worker does next.
+enum Next {
+    /// It takes a step.
+    Turn,
+    /// It asks the gate again.
+    Ask,
+    /// It ends so.
+    End(Ended),
+}
+
+/// Asks the gate for one more step of the seat's process.
+#[inline]
+fn ask<G: Gate>(gate: &G, limit: u64, seat: &Seat, refusals: &mut u64) -> Next
     requires few { refusals.old < limit }
-    requires refused { AreRefused (G.refuses gate.now) seat.old refusals.old }
-    ensures seat { IsAfterTurns seat.old seat.new }
-    ensures counted { AreCounted seat.old seat.new refusals.old refusals.new }
-    ensures are_let { AreLet (G.passes gate.now) limit seat.old → AreLet (G.passes gate.now) limit seat.new }
-    ensures are_refused { AreRefused (G.refuses gate.now) seat.new refusals.new }
-    ensures ends { result ≡ Some Ended.Refused → refusals.new ≡ limit }
-    ensures on { IfNone result (refusals.new < limit) }
+    requires refused { AreRefused (G.refuses gate.now) seat.now refusals.old }
+    ensures room { result ≡ Next.Turn → seat.now.turns < 2 ^ 128 - 1 }
+    ensures is_let { result ≡ Next.Turn → IsLet (G.passes gate.now) limit seat.now.process seat.now.turns }
+    ensures more { refusals.new ≤ refusals.old + 1 }
+    ensures anew { result ≡ Next.Turn → refusals.new ≡ 0 }
+    ensures are_refused { AreRefused (G.refuses gate.now) seat.now refusals.new }
+    ensures ends { result ≡ Next.End Ended.Refused → refusals.new ≡ limit }
+    ensures on { result ≡ Next.Ask → refusals.new < limit }
 {
     if seat.turns() == u128::MAX {
-        return Some(Ended::Done);
+        return Next::End(Ended::Done);
     }
     if !gate.pass(seat.process(), seat.turns(), *refusals) {
         *refusals += 1;
         return if *refusals == limit {
-            Some(Ended::Refused)
+            Next::End(Ended::Refused)
         } else {
-            None
+            Next::Ask
         };
     }
     *refusals = 0;
-    take_turn(rt, desk, gate, seat, answers)
+    Next::Turn
 }
 
-/// One step of the seat's process, whose answer, if there is one, is told to the gate and sent. Answers how the worker ends, if
-/// it does.
-fn take_turn<R: Wait, D: TakeTurn, G: Gate>(
-    rt: &R,
-    desk: &D,
+/// How the worker ends behind this turn, if it does. The turn's answer, if there is one, is told to the gate and kept to be sent.
+#[inline]
+fn end_of<G: Gate>(
     gate: &G,
-    seat: &mut Seat,
-    answers: &Sender<CallAnswer, Global>,
+    seat: &Seat,
+    told: &mut Told,
+    turn: Result<Seen, NoMemory>,
 ) -> Option<Ended>
-    requires { seat.old.turns < 2 ^ 128 - 1 }
-    ensures seat { IsAfterTurns seat.old seat.new }
-    ensures turns { seat.new.turns ≤ seat.old.turns + 1 }
-    ensures passed { result ≢ Some Ended.Refused }
+    ensures { result ≢ Some Ended.Refused }
 {
-    match desk.advance(rt, seat) {
+    match turn {
         Err(_) => Some(Ended::NoMemory),
         Ok(Seen::Halted) => Some(Ended::Done),
-        Ok(Seen::Answered) => tell_answer(rt, gate, seat, answers),
+        Ok(Seen::Answered) => tell_answer(gate, seat, told),
         Ok(_) => None,
     }
 }
 
-/// The seat's last answer is told to the gate and sent. Answers how the worker ends, if it does.
+/// The seat's last answer is told to the gate and kept to be sent. Answers how the worker ends, if it does.
 #[inline(never)]
-fn tell_answer<R: Wait, G: Gate>(
-    rt: &R,
-    gate: &G,
-    seat: &Seat,
-    answers: &Sender<CallAnswer, Global>,
-) -> Option<Ended>
+fn tell_answer<G: Gate>(gate: &G, seat: &Seat, told: &mut Told) -> Option<Ended>
     ensures { result ≢ Some Ended.Refused }
 {
     let Ok(last) = seat.last_answer() else {
@@ -173,7 +180,7 @@ fn tell_answer<R: Wait, G: Gate>(
         return None;
     };
     gate.answered(answer.id.process, answer.id.number);
-    if answers.send(rt, answer).is_err() {
+    if told.add(answer).is_err() {
         return Some(Ended::NoMemory);
     }
     None

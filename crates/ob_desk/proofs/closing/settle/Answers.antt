@@ -1,4 +1,4 @@
-use Rattle.std.proofs.Common.{ℕ, ◌≡◌, ◌<◌, All, refl, subst, sym}
+use Rattle.std.proofs.Common.{ℕ, ◌<◌, All, refl, subst, sym}
 use Rattle.wf_object.specs.View.{Object}
 use Rattle.ob_desk.specs.Close.{AgreeAt, AreSeats, IsClosed}
 use Rattle.ob_desk.specs.Desk.{desk_in}

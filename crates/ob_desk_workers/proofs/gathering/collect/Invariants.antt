@@ -2,8 +2,8 @@ use Rattle.std.proofs.Common.{◌≡◌, ◌++◌, List, false}
 use Rattle.ob_desk_floor.specs.declared.seat.CallAnswer.{CallAnswer}
 use Rattle.ob_desk_workers.proofs.gathering.collect.Given as goal
 
-abbrev pub invariant-loop-answer : goal.invariant-loop-answer
-invariant-loop-answer g l =
+abbrev pub invariant-loop-answers : goal.invariant-loop-answers
+invariant-loop-answers g l =
     record {
       ended : l.gathered.ended ≡ l.initial.gathered.ended;
       seats : l.gathered.seats ≡ l.initial.gathered.seats;

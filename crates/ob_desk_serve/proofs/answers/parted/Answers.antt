@@ -5,7 +5,7 @@ use Rattle.std.proofs.lemmas.List.{map-set}
 use Rattle.ob_desk_serve.specs.Gathered.{AreByProcess, owner_of}
 use Rattle.ob_desk_floor.specs.declared.seat.CallAnswer.{CallAnswer}
 use Rattle.ob_desk_serve.proofs.ByProcess.{one_answer_more}
-use Rattle.ob_desk_serve.proofs.answers.by_process.Goals as goal
+use Rattle.ob_desk_serve.proofs.answers.parted.Goals as goal
 
 pub loop-answer-preserved : goal.loop-answer-preserved
 loop-answer-preserved c =
