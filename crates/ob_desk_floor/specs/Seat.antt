@@ -1,16 +1,21 @@
 -- What a seat stands for, and what a turn does to it.
 use Rattle.std.specs.Prelude.{◌≡◌, ℕ, ◌+◌, List, [], ◌∷◌, ◌++◌, MatchOption, Option}
-use Rattle.ob_interface.specs.Call.{Reply}
+use Rattle.ob_interface.specs.Call.{Reply, Answers, Trapped}
 use Rattle.wf_history.specs.declared.event.CallId.{CallId}
-use Rattle.wf_history.specs.View.{kept_reply}
 use Rattle.wf_object.specs.View.{seen_in}
 use Rattle.wf_records.specs.declared.records.Seen.{Seen}
 use Rattle.wf_table.specs.Object.{Answer, Replies}
 use Rattle.ob_desk_floor.specs.declared.seat.CallAnswer.{CallAnswer}
+use Rattle.ob_desk_floor.specs.declared.seat.GivenReply.{GivenReply}
+use Rattle.ob_desk_floor.specs.declared.seat.GivenReply.TheVariants as Given
+
+abbrev pub given_reply : GivenReply → Reply
+given_reply (Given.Done values) = Answers values.items
+given_reply (Given.Trap number) = Trapped number
 
 -- a call that ended, with its reply, as histories show it
 abbrev pub answered_call : CallAnswer → CallId × Reply
-answered_call a = (a.id, kept_reply a.reply)
+answered_call a = (a.id, given_reply a.reply)
 
 -- the process, the desk's tag, and the turns and answers so far
 pub record Seat : Type 0 where

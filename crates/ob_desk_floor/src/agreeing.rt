@@ -2,13 +2,13 @@
 
 ghost use Rattle.std.specs.Prelude.{◌≡◌, ◌≢◌, ◌++◌, ◌↔◌, All, IfNone, IfSome, IsFalse, IsTrue, List, map};
 ghost use Rattle.ob_desk_floor.specs.Agreeing.{AgreesAt};
-ghost use Rattle.ob_desk_floor.specs.Seat.{answered_call};
+ghost use Rattle.ob_desk_floor.specs.Seat.{answered_call, given_reply};
 ghost use Rattle.ob_interface.specs.Call.{Reply};
 ghost use Rattle.wf_history.specs.History.{own_answer, own_answers};
 ghost use Rattle.wf_history.specs.View.{event_of, kept_reply};
 ghost use Rattle.wf_history.specs.declared.event.CallId.{CallId};
 
-use crate::seat::{CallAnswer, Seat};
+use crate::seat::{CallAnswer, GivenReply, Seat};
 use wf_history::{Event, KeptReply};
 
 /// Whether each seat of the process took so many turns, and has the answers that the events show.
@@ -70,15 +70,15 @@ fn behind<'a>(process: usize, answers: &'a [CallAnswer], event: &Event) -> Optio
     }
 }
 
-/// Whether two replies are the same.
-fn same_reply(reply: &KeptReply, other: &KeptReply) -> bool
-    ensures { IsTrue result ↔ (kept_reply reply.now ≡ kept_reply other.now) }
+/// Whether a seat's reply is the same as an event's.
+fn same_reply(reply: &GivenReply, other: &KeptReply) -> bool
+    ensures { IsTrue result ↔ (given_reply reply.now ≡ kept_reply other.now) }
 {
     match (reply, other) {
-        (KeptReply::Done(values), KeptReply::Done(others)) => {
+        (GivenReply::Done(values), KeptReply::Done(others)) => {
             values.as_slice() == others.as_slice()
         }
-        (KeptReply::Trap(number), KeptReply::Trap(other)) => number == other,
+        (GivenReply::Trap(number), KeptReply::Trap(other)) => number == other,
         _ => false,
     }
 }

@@ -10,6 +10,6 @@ pub mod taking;
 
 pub use agreeing::are_shown;
 pub use floor::Floor;
-pub use seat::{CallAnswer, Seat};
+pub use seat::{CallAnswer, GivenReply, Seat};
 pub use submission::Submission;
 pub use taking::TakeTurn;

@@ -1,10 +1,9 @@
 //! What the one who steps a process has in hand.
 
 ghost use Rattle.std.specs.Prelude.{◌≡◌, ◌+◌, ◌-◌, ◌^◌, ◌<◌, ◌≤◌, [], ◌++◌, ◌∷◌, IfOk, OnOk, OnErr, length, map};
-ghost use Rattle.ob_desk_floor.specs.Seat.{answered_call};
+ghost use Rattle.ob_desk_floor.specs.Seat.{answered_call, given_reply};
 ghost use Rattle.ob_interface.specs.View.{reply_of};
 ghost use Rattle.smallvec.specs.SmallVec.{HasRoomFor};
-ghost use Rattle.wf_history.specs.View.{kept_reply};
 ghost use Rattle.wf_object.specs.View.{answer_in, seen_in};
 ghost use Rattle.wf_table.specs.Meaning.{values_in};
 
@@ -15,17 +14,26 @@ use smallvec::SmallVec;
 use std::alloc::{AllocError, Global};
 use std::marker::Model;
 use std::mem::replace;
-use wf_history::{CallId, KeptReply};
+use wf_history::CallId;
 use wf_object::{Engine, Label, Machine, Seen, StepOut};
 
 /// The most values that a reply has.
 const MOST_VALUES: usize = 8;
 
-/// A call that ended, with its reply, as events keep it.
+/// A call that ended, with its reply.
 #[derive(Drop)]
 pub struct CallAnswer {
     pub id: CallId,
-    pub reply: KeptReply,
+    pub reply: GivenReply,
+}
+
+/// A reply as a seat keeps it: up to 2 values stand in place, and more in room that was made for them.
+#[derive(Drop)]
+pub enum GivenReply {
+    /// The final values of the VAR parameters, in text order.
+    Done(SmallVec<Scalar, 2>),
+    /// The number of a trap.
+    Trap(u8),
 }
 
 /// A process's seat: the turns that it took, and the answers that it was given. The tag tells the seats of one desk from
@@ -190,8 +198,8 @@ fn copied_answer(alloc: Global, answer: &CallAnswer) -> Result<CallAnswer, NoMem
     ensures { IfOk result (λ a. answered_call a ≡ answered_call answer.now) }
 {
     let reply = match &answer.reply {
-        KeptReply::Done(values) => KeptReply::Done(copied(alloc, values.as_slice())?),
-        KeptReply::Trap(number) => KeptReply::Trap(*number),
+        GivenReply::Done(values) => GivenReply::Done(copied(alloc, values.as_slice())?),
+        GivenReply::Trap(number) => GivenReply::Trap(*number),
     };
     Ok(CallAnswer {
         id: answer.id,
@@ -219,15 +227,15 @@ fn make_room(spare: &mut SmallVec<Scalar, 2>) -> Result<(), AllocError>
 }
 
 /// An equal reply, to be kept. At most 8 values stand in place or in the room that was made for them, so that no memory is taken.
-fn kept(alloc: Global, reply: &Reply, spare: &mut SmallVec<Scalar, 2>) -> KeptReply
+fn kept(alloc: Global, reply: &Reply, spare: &mut SmallVec<Scalar, 2>) -> GivenReply
     requires few { length (values_in (reply_of reply.now)) ≤ 8 }
     requires empty { spare.old.items ≡ [] }
     requires room { HasRoomFor spare.old 8 }
-    ensures { kept_reply result ≡ reply_of reply.now }
+    ensures { given_reply result ≡ reply_of reply.now }
 {
     match reply {
-        Reply::Done(values) => KeptReply::Done(kept_values(alloc, values.as_slice(), spare)),
-        Reply::Trap(number) => KeptReply::Trap(*number),
+        Reply::Done(values) => GivenReply::Done(kept_values(alloc, values.as_slice(), spare)),
+        Reply::Trap(number) => GivenReply::Trap(*number),
     }
 }
 
