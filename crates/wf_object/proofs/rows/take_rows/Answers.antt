@@ -1,4 +1,4 @@
-use Rattle.std.proofs.Common.{◌≡◌, ap, ◌∙◌, sym, subst, arith}
+use Rattle.std.proofs.Common.{ap, ◌∙◌, sym, subst, arith}
 use Rattle.wf_bound.specs.declared.spent.Spent.{Spent}
 use Rattle.wf_object.specs.Progress.{AreUnmarked, IsInObject, by_rows, outside_more, progress}
 use Rattle.wf_object.proofs.Progressing.{in_object_after, outside_none, room_outside}

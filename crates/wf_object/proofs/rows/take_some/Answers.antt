@@ -1,10 +1,10 @@
-use Rattle.std.proofs.Common.{◌≡◌, ◌≢◌, ℕ, ◌+◌, true, ap, refl, sym, subst, ◌∙◌}
+use Rattle.std.proofs.Common.{◌≡◌, ◌≢◌, ◌+◌, ap, refl, sym, subst, ◌∙◌}
 use Rattle.wf_table.specs.declared.process.Label.{Label}
 use Rattle.wf_table.specs.declared.process.Label.TheVariants.{Next, Flip, Enter, Body, Commit, Give}
 use Rattle.wf_table.specs.Table.{cell_after, row}
 use Rattle.wf_bound.specs.declared.spent.Spent.{Spent}
 use Rattle.wf_bound.specs.Spent.{has_more, spent_after}
-use Rattle.wf_object.specs.Progress.{AreUnmarked, by_rows, outside_more, progress}
+use Rattle.wf_object.specs.Progress.{outside_more, progress}
 use Rattle.wf_object.specs.Quiet.{is_unmarked}
 use Rattle.wf_object.proofs.Progressing.{in_body, in_processes, in_range, one_unmarked, outside_next, room_of_bodies, same_progress, spent_outside, unmarked_else}
 use Rattle.wf_object.proofs.rows.take_some.Goals as goal

@@ -1,4 +1,4 @@
-use Rattle.std.proofs.Common.{◌≡◌, ◌+◌, ◌<◌, length, ap, arith, subst}
+use Rattle.std.proofs.Common.{◌+◌, ◌<◌, length, ap, arith, subst}
 use Rattle.wf_table.specs.declared.process.Label.{Label}
 use Rattle.wf_table.specs.Ranges.{index_in}
 use Rattle.wf_table.specs.Table.{Process}
