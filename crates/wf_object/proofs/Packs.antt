@@ -1,13 +1,15 @@
 -- The words that a step writes where toggles are kept as bits.
-use Rattle.std.proofs.Common.{◌≡◌, ℕ, ◌+◌, ◌*◌, ◌<◌, Bool, true, false, cond, arith, refl, inl, inr, int_eq}
+use Rattle.std.proofs.Common.{◌≡◌, ℕ, ◌+◌, ◌*◌, ◌<◌, Bool, true, false, cond, arith, refl, inl, inr, int_eq, le_refl}
 use Rattle.std.specs.Prelude.{ℤ, pos, nat_eq}
 use Rattle.std.proofs.lemmas.Bool.Decides.{nat_tests}
-use Rattle.std.proofs.lemmas.Nat.{same_from_place}
+use Rattle.std.proofs.lemmas.Nat.{row_fits}
 use Rattle.ll_cell.specs.Cell.{Cell}
+use Rattle.ll_cell.specs.declared.form.Form.{Form}
 use Rattle.wf_table.specs.declared.process.Sizes.{Sizes}
 use Rattle.wf_table.specs.Meaning.{Meaning}
-use Rattle.wf_table.specs.Table.{Process, part, inverted, toggle_in, own_block, kept_word}
+use Rattle.wf_table.specs.Table.{Process, inverted, toggle_in, own_block, block_words, kept_word}
 use Rattle.wf_table.specs.Labels.{at_store}
+use Rattle.wf_object.specs.Packed.{packed}
 use Rattle.wf_table.specs.Toggles.{IsBit, StoresBit}
 
 bit_of : (b : Bool) → IsBit (cond b (pos 1) (pos 0))
@@ -29,9 +31,12 @@ module _ {Run : Type 0} (z : Sizes) (q : Process Run) where
   stored_bit h at k lt e = h.bit at k lt (omega (arith, e))
 
   -- what KEEP writes there
-  pub kept_bit : (m : Meaning Run) (c : Cell) (p k : ℕ) → q.registers.i < z.replies + 2 → part z q.registers.j + q.registers.i + 1 ≡ z.variables + (k + 1) * (z.replies + 2) → IsBit (kept_word m z c p q)
-  kept_bit m c p k within e =
-      let last = (same_from_place q.registers.j q.registers.i k (z.replies + 1) (z.replies + 2) within (omega arith) (omega (arith, e))).1 in
+  pub kept_bit : (m : Meaning Run) (c : Cell) (p : ℕ) → q.registers.i + 1 ≡ z.replies + 2 → IsBit (kept_word m z c p q)
+  kept_bit m c p last =
       second (nat_eq q.registers.i 0) (nat_eq q.registers.i (z.replies + 1)) q.registers.status (inverted (toggle_in z (own_block c p) q.registers.j)) _
       (grind (arith, nat_tests, last)) (grind (arith, nat_tests, last))
       (inverted_bit (toggle_in z (own_block c p) q.registers.j))
+
+-- a word of a process's part stands in the block
+pub in_block : (z : Sizes) (f : Form) (q i : ℕ) → f ≡ packed z → q < z.processes → i < z.replies + 2 → f.head + q * f.part + i < block_words z
+in_block z f q i is lt within = rw is (omega (arith, within, row_fits q (z.replies + 2) z.processes (z.replies + 2) lt (le_refl (z.replies + 2))))

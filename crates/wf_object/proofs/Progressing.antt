@@ -1,5 +1,5 @@
 -- Steps of one process in a row, as they change the cell, the process and what it has spent, are so many steps of the table.
-use Rattle.std.proofs.Common.{◌≡◌, ℕ, zero, suc, ◌+◌, ◌-◌, ◌^◌, ◌<◌, ◌≤◌, true, List, length, set, refl, sym, ap, ◌∙◌, arith, subst, inl, inr, get_or-set_same}
+use Rattle.std.proofs.Common.{◌≡◌, ℕ, zero, suc, ◌+◌, ◌-◌, ◌^◌, ◌<◌, ◌≤◌, ◌≢◌, Bool, true, List, length, set, refl, sym, ap, ◌∙◌, arith, subst, inl, inr, get_or-set_same}
 use Rattle.std.specs.Prelude.{ℤ, Some, slice_get}
 use Rattle.std.proofs.lemmas.Bool.{cases_lt}
 use Rattle.std.proofs.lemmas.List.{set-get_or, set-set}
@@ -9,7 +9,7 @@ use Rattle.ll_cell.specs.declared.form.Form.{Form}
 use Rattle.ob_interface.specs.Call.{ObjectCall}
 use Rattle.wf_table.specs.declared.engine_turn.EngineTurn.TheVariants.{On}
 use Rattle.wf_table.specs.declared.process.Label.{Label}
-use Rattle.wf_table.specs.declared.process.Label.TheVariants.{Next, Flip, Body, Commit, Give}
+use Rattle.wf_table.specs.declared.process.Label.TheVariants.{Next, Flip, Enter, Body, Commit, Give}
 use Rattle.wf_table.specs.declared.process.Sizes.{Sizes}
 use Rattle.wf_table.specs.declared.schedule.Turns.{Turns}
 use Rattle.wf_table.specs.Meaning.{Meaning}
@@ -28,7 +28,7 @@ use Rattle.wf_object.specs.InARow.{AreQuiet, after_steps, spent_after_steps}
 use Rattle.wf_object.specs.InBody.{body_behind, cell_behind, process_behind}
 use Rattle.wf_records.specs.Times.{counted_times}
 use Rattle.wf_object.specs.Kept.{IsKept}
-use Rattle.wf_object.specs.Progress.{AreUnmarked, IsInObject, Progress, by_row, by_rows, progress}
+use Rattle.wf_object.specs.Progress.{AreUnmarked, IsInObject, Progress, by_row, by_rows, outside_more, progress}
 use Rattle.wf_object.specs.Quiet.{is_quiet, is_unmarked}
 use Rattle.wf_records.proofs.Counting.{written_there}
 use Rattle.wf_object.proofs.InARow.{kept_after}
@@ -43,6 +43,30 @@ unmarked_quiet Flip h = absurd (cc)
 unmarked_quiet Commit h = absurd (cc)
 unmarked_quiet Give h = absurd (cc)
 unmarked_quiet _ h = refl
+
+-- what a label is at which nothing else is done
+pub unmarked_else : (l : Label) → l ≢ Next → l ≢ Flip → l ≢ Commit → l ≢ Give → is_unmarked l ≡ true
+unmarked_else Next a b d e = absurd (a refl)
+unmarked_else Flip a b d e = absurd (b refl)
+unmarked_else Commit a b d e = absurd (d refl)
+unmarked_else Give a b d e = absurd (e refl)
+unmarked_else _ a b d e = refl
+
+one_outside : (l : Label) (begins : Bool) (x : Spent) → is_unmarked l ≡ true → l ≢ Body → l ≢ Enter → spent_after l begins x ≡ outside_more x 1
+one_outside Next begins x h a b = absurd (cc)
+one_outside Body begins x h a b = absurd (a refl)
+one_outside Enter begins x h a b = absurd (b refl)
+one_outside _ begins x h a b = refl
+
+pub outside_next : (x : Spent) (n : ℕ) → outside_more x (n + 1) ≡ outside_more (outside_more x n) 1
+outside_next x n = let e : x.outside + (n + 1) ≡ x.outside + n + 1 = omega arith in ap (λ (k : ℕ). record x { outside = k }) e
+
+pub outside_none : (x : Spent) → outside_more x 0 ≡ x
+outside_none x = let e : x.outside + 0 ≡ x.outside = omega arith in ap (λ (k : ℕ). record x { outside = k }) e
+
+-- a step that is no body's, and starts none
+pub spent_outside : (l : Label) (begins : Bool) (x : Spent) (n : ℕ) → is_unmarked l ≡ true → l ≢ Body → l ≢ Enter → outside_more x (n + 1) ≡ spent_after l begins (outside_more x n)
+spent_outside l begins x n h a b = outside_next x n ∙ sym (one_outside l begins (outside_more x n) h a b)
 
 pub same_progress : {Run : Type 0} (h g : Progress Run) → h.cell ≡ g.cell → h.process ≡ g.process → h.spent ≡ g.spent → h ≡ g
 same_progress h g a b d =

@@ -1,5 +1,5 @@
 -- What a process's own steps change, but for what is noted of them.
-use Rattle.std.specs.Prelude.{◌≡◌, ℕ, zero, suc, ◌<◌, ℤ, List, Some, true, slice_get}
+use Rattle.std.specs.Prelude.{◌≡◌, ℕ, zero, suc, ◌+◌, ◌<◌, ℤ, List, Some, true, slice_get}
 use Rattle.ll_cell.specs.Cell.{Cell}
 use Rattle.ll_cell.specs.declared.form.Form.{Form}
 use Rattle.ob_interface.specs.Call.{ObjectCall}
@@ -21,6 +21,10 @@ pub record Progress (Run : Type 0) : Type 0 where
 
 abbrev pub progress : {Run : Type 0} → Cell → Process Run → Spent → Progress Run
 progress c q x = record { cell = c; process = q; spent = x }
+
+-- so many steps outside bodies more
+abbrev pub outside_more : Spent → ℕ → Spent
+outside_more x n = record x { outside = x.outside + n }
 
 module _ {Run : Type 0} (m : Meaning Run) (z : Sizes) (p : ℕ) where
   -- behind the row of the process's label

@@ -1,16 +1,14 @@
 //! Steps of one process in a row of which nothing but their turns is noted.
 
-ghost use Rattle.std.specs.Prelude.{◌≡◌, ◌+◌, ◌<◌, ◌≤◌, ◌^◌, true};
+ghost use Rattle.std.specs.Prelude.{◌≡◌, ◌+◌, ◌<◌, ◌≤◌, ◌^◌};
 ghost use Rattle.wf_object.specs.Packed.{packed};
-ghost use Rattle.wf_object.specs.Progress.{AreUnmarked, IsInObject, by_rows, progress};
-ghost use Rattle.wf_object.specs.Quiet.{is_unmarked};
+ghost use Rattle.wf_object.specs.Progress.{AreUnmarked, IsInObject, by_rows, outside_more, progress};
 
 use crate::bodies::stay;
 use crate::engine::Engine;
 use crate::process::Process;
-use crate::seen::is_unmarked;
-use crate::spent::{count_inside, count_step};
-use crate::steps::act;
+use crate::spent::{count_inside, count_outside};
+use crate::steps::{act, enter};
 use ll_cell::Shared;
 use wf_bound::Spent;
 use wf_table::{Label, Sizes};
@@ -33,14 +31,46 @@ pub fn take_rows<E: Engine>(
     ensures form { shared.new.form ≡ shared.old.form }
     ensures unmarked { AreUnmarked (E.meaning engine.now) z p result (progress shared.old.cell q.old spent.old) }
 {
+    let mut outside = 0;
+    let count = take_all(engine, z, shared, q, spent, &mut outside, p, most);
+    count_outside(spent, outside);
+    count
+}
+
+/// The same, where steps outside bodies are added to `outside`, and not yet to what the process has spent.
+#[inline(always)]
+fn take_all<E: Engine>(
+    engine: &E,
+    z: Sizes,
+    shared: &mut Shared,
+    q: &mut Process<E::Run>,
+    spent: &mut Spent,
+    outside: &mut u64,
+    p: usize,
+    most: u64,
+) -> u64
+    requires object { IsInObject (E.meaning engine.now) (E.lawful engine.now) (E.fits engine.now) (E.ready engine.now) z p (progress shared.old.cell q.old (outside_more spent.old outside.old)) }
+    requires packed { shared.old.form ≡ packed z }
+    requires room { spent.old.inside + most < 2 ^ 128 }
+    requires room_outside { outside.old + most < 2 ^ 64 }
+    ensures few { result ≤ most }
+    ensures leads { progress shared.new.cell q.new (outside_more spent.new outside.new) ≡ by_rows (E.meaning engine.now) z p result (progress shared.old.cell q.old (outside_more spent.old outside.old)) }
+    ensures form { shared.new.form ≡ shared.old.form }
+    ensures unmarked { AreUnmarked (E.meaning engine.now) z p result (progress shared.old.cell q.old (outside_more spent.old outside.old)) }
+{
     let mut count = 0;
-    while count < most && is_unmarked(q.label) {
-        count += take_some(engine, z, shared, q, spent, p, most - count);
+    while count < most {
+        let some = take_some(engine, z, shared, q, spent, outside, p, most - count);
+        if some == 0 {
+            return count;
+        }
+        count += some;
     }
     count
 }
 
-/// A step of the process, or where it stands in a body the steps of that, at most so many; and how many they are.
+/// A step of the process, or where it stands in a body the steps of that, at most so many; and how many they are: none where more
+/// than its turn is noted of the step. The label is looked at once.
 #[inline(always)]
 fn take_some<E: Engine>(
     engine: &E,
@@ -48,26 +78,38 @@ fn take_some<E: Engine>(
     shared: &mut Shared,
     q: &mut Process<E::Run>,
     spent: &mut Spent,
+    outside: &mut u64,
     p: usize,
     most: u64,
 ) -> u64
-    requires object { IsInObject (E.meaning engine.now) (E.lawful engine.now) (E.fits engine.now) (E.ready engine.now) z p (progress shared.old.cell q.old spent.old) }
+    requires object { IsInObject (E.meaning engine.now) (E.lawful engine.now) (E.fits engine.now) (E.ready engine.now) z p (progress shared.old.cell q.old (outside_more spent.old outside.old)) }
     requires packed { shared.old.form ≡ packed z }
     requires room { spent.old.inside + most < 2 ^ 128 }
+    requires room_outside { outside.old + most < 2 ^ 64 }
     requires some { 0 < most }
-    requires unmarked { is_unmarked q.old.label ≡ true }
     ensures few { result ≤ most }
-    ensures some { 0 < result }
-    ensures leads { progress shared.new.cell q.new spent.new ≡ by_rows (E.meaning engine.now) z p result (progress shared.old.cell q.old spent.old) }
+    ensures outside { outside.new ≤ outside.old + result }
+    ensures leads { progress shared.new.cell q.new (outside_more spent.new outside.new) ≡ by_rows (E.meaning engine.now) z p result (progress shared.old.cell q.old (outside_more spent.old outside.old)) }
     ensures form { shared.new.form ≡ shared.old.form }
-    ensures unmarked { AreUnmarked (E.meaning engine.now) z p result (progress shared.old.cell q.old spent.old) }
+    ensures unmarked { AreUnmarked (E.meaning engine.now) z p result (progress shared.old.cell q.old (outside_more spent.old outside.old)) }
 {
-    if q.label == Label::Body {
-        let count = stay(engine, z, shared, q, p, most);
-        count_inside(spent, count);
-        return count;
+    match q.label {
+        Label::Next | Label::Flip | Label::Commit | Label::Give => 0,
+        Label::Body => {
+            let count = stay(engine, z, shared, q, p, most);
+            count_inside(spent, count);
+            count
+        }
+        Label::Enter => {
+            enter(engine, q);
+            spent.bodies += 1;
+            *outside += 1;
+            1
+        }
+        _ => {
+            act(engine, z, shared, q, p);
+            *outside += 1;
+            1
+        }
     }
-    count_step(spent, q.label, false);
-    act(engine, z, shared, q, p);
-    1
 }

@@ -9,12 +9,13 @@ ghost use Rattle.wf_table.specs.Ranges.{IsSized, IsShaped, IsInRange};
 ghost use Rattle.wf_table.specs.Scripts.{CallsFit};
 ghost use Rattle.wf_table.specs.Object.{event_at, ended, began, applied, applied_ids, begun_of, history_after, noted, answer_by};
 ghost use Rattle.wf_object.specs.View.{answer_in};
-ghost use Rattle.wf_object.specs.Quiet.{is_quiet, is_unmarked};
+ghost use Rattle.wf_object.specs.Packed.{packed};
+ghost use Rattle.wf_object.specs.Quiet.{is_quiet};
 ghost use Rattle.wf_history.specs.History.{IsHistory};
 
 use crate::engine::Engine;
 use crate::process::Process;
-use crate::steps::{own_toggle, part_of};
+use crate::steps::own_toggle;
 use ll_cell::Shared;
 use ob_interface::NoMemory;
 use smallvec::SmallVec;
@@ -31,17 +32,6 @@ pub fn is_quiet(label: Label) -> bool
     !matches!(label, Label::Next | Label::Commit | Label::Give)
 }
 
-/// Whether nothing but its turn is noted of a step at the label.
-#[inline(always)]
-pub fn is_unmarked(label: Label) -> bool
-    ensures { result ≡ is_unmarked label }
-{
-    !matches!(
-        label,
-        Label::Next | Label::Flip | Label::Commit | Label::Give
-    )
-}
-
 /// Notes what a step of the process shows, and answers it. Nothing changes where memory runs out.
 #[inline(always)]
 pub fn note_step<E: Engine>(
@@ -56,6 +46,7 @@ pub fn note_step<E: Engine>(
 ) -> Result<StepOut, NoMemory>
     requires sized { IsSized z }
     requires shaped { IsShaped z shared.now.cell }
+    requires packed { shared.now.form ≡ packed z }
     requires count { length processes.now ≡ z.processes }
     requires process { p < z.processes }
     requires in_range { IsInRange z q.now }
@@ -118,6 +109,7 @@ fn commit<R>(
 ) -> Result<StepOut, NoMemory>
     requires sized { IsSized z }
     requires shaped { IsShaped z shared.now.cell }
+    requires packed { shared.now.form ≡ packed z }
     requires count { length processes.now ≡ z.processes }
     requires process { p < z.processes }
     requires flip_mark { p < length records.old.flip_marks }
@@ -175,6 +167,7 @@ fn applied_ids<R>(
 ) -> Result<SmallVec<CallId, 1>, NoMemory>
     requires sized { IsSized z }
     requires shaped { IsShaped z shared.now.cell }
+    requires packed { shared.now.form ≡ packed z }
     requires count { length processes.now ≡ z.processes }
     requires process { p < z.processes }
     ensures { IfOk result (λ ids. ids.items ≡ applied_ids z (block_of shared.now.cell shared.now.cell.root) (own_block shared.now.cell p) (begun_of processes.now)) }
@@ -210,6 +203,7 @@ fn add_if(ids: &mut SmallVec<CallId, 1>, yes: bool, id: CallId) -> Result<(), No
 fn differs(z: Sizes, shared: &Shared, p: usize, q: usize) -> bool
     requires sized { IsSized z }
     requires shaped { IsShaped z shared.now.cell }
+    requires packed { shared.now.form ≡ packed z }
     requires process { p < z.processes }
     requires other { q < z.processes }
     ensures { result ≡ not (int_eq (toggle_in z (block_of shared.now.cell shared.now.cell.root) q) (toggle_in z (own_block shared.now.cell p) q)) }
@@ -220,8 +214,9 @@ fn differs(z: Sizes, shared: &Shared, p: usize, q: usize) -> bool
 fn root_toggle(z: Sizes, shared: &Shared, q: usize) -> i64
     requires sized { IsSized z }
     requires shaped { IsShaped z shared.now.cell }
+    requires packed { shared.now.form ≡ packed z }
     requires other { q < z.processes }
     ensures { result ≡ toggle_in z (block_of shared.now.cell shared.now.cell.root) q }
 {
-    shared.read_word(shared.root(), part_of(z, q) + (z.replies + 1))
+    shared.read_part(shared.root(), q, z.replies + 1)
 }

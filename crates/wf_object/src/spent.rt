@@ -3,6 +3,7 @@
 ghost use Rattle.std.specs.Prelude.{◌≡◌, ◌+◌, ◌*◌, ◌<◌, ◌^◌};
 ghost use Rattle.wf_bound.specs.Spent.{spent_after};
 ghost use Rattle.wf_bound.specs.Bound.{bound};
+ghost use Rattle.wf_object.specs.Progress.{outside_more};
 ghost use Rattle.wf_table.specs.Ranges.{IsSized};
 
 use wf_bound::Spent;
@@ -40,6 +41,15 @@ pub fn count_inside(spent: &mut Spent, count: u64)
     ensures { spent.new ≡ record spent.old { inside = spent.old.inside + count } }
 {
     spent.inside += u128::from(count);
+}
+
+/// So many steps outside bodies count.
+#[inline]
+pub fn count_outside(spent: &mut Spent, count: u64)
+    requires { spent.old.outside + count < 2 ^ 128 }
+    ensures { spent.new ≡ outside_more spent.old count }
+{
+    spent.outside += u128::from(count);
 }
 
 /// The own steps outside bodies that no call exceeds, in an object of these sizes.

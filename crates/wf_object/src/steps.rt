@@ -222,6 +222,7 @@ pub fn next<E: Engine>(engine: &E, q: &mut Process<E::Run>)
 pub fn mine<R>(z: Sizes, shared: &Shared, q: &mut Process<R>, p: usize)
     requires sized { IsSized z }
     requires shaped { IsShaped z shared.now.cell }
+    requires packed { shared.now.form ≡ packed z }
     requires process { p < z.processes }
     ensures { q.new ≡ (mine z shared.now.cell p q.old).process }
 {
@@ -237,17 +238,19 @@ pub fn mine<R>(z: Sizes, shared: &Shared, q: &mut Process<R>, p: usize)
 pub fn own_toggle(z: Sizes, shared: &Shared, p: usize, q: usize) -> i64
     requires sized { IsSized z }
     requires shaped { IsShaped z shared.now.cell }
+    requires packed { shared.now.form ≡ packed z }
     requires process { p < z.processes }
     requires other { q < z.processes }
     ensures { result ≡ toggle_in z (own_block shared.now.cell p) q }
 {
-    shared.read_word(shared.own_block(p), part_of(z, q) + (z.replies + 1))
+    shared.read_part(shared.own_block(p), q, z.replies + 1)
 }
 
 #[inline(always)]
 pub fn seen<R>(z: Sizes, shared: &Shared, q: &mut Process<R>, p: usize)
     requires sized { IsSized z }
     requires shaped { IsShaped z shared.now.cell }
+    requires packed { shared.now.form ≡ packed z }
     requires process { p < z.processes }
     requires in_range { q.old.registers.j ≤ z.processes }
     ensures { q.new ≡ (seen z shared.now.cell p q.old).process }
@@ -330,6 +333,7 @@ pub fn undo<R>(z: Sizes, shared: &mut Shared, q: &mut Process<R>, p: usize)
 fn word_kept<E: Engine>(engine: &E, z: Sizes, shared: &Shared, q: &Process<E::Run>, p: usize) -> i64
     requires sized { IsSized z }
     requires shaped { IsShaped z shared.now.cell }
+    requires packed { shared.now.form ≡ packed z }
     requires process { p < z.processes }
     requires in_range { IsInRange z q.now }
     requires label { q.now.label ≡ Keep }
@@ -365,7 +369,7 @@ pub fn keep<E: Engine>(engine: &E, z: Sizes, shared: &mut Shared, q: &mut Proces
 {
     let w = word_kept(engine, z, shared, q, p);
     let i = q.registers.i;
-    shared.write_word(p, part_of(z, q.registers.j) + i, w);
+    shared.write_part(p, q.registers.j, i, w);
     if i + 1 == z.replies + 2 {
         q.registers.i = 0;
         q.registers.j += 1;
@@ -401,13 +405,14 @@ pub fn read<R>(shared: &Shared, q: &mut Process<R>)
 pub fn take_reply<R>(z: Sizes, shared: &Shared, q: &mut Process<R>, p: usize)
     requires sized { IsSized z }
     requires shaped { IsShaped z shared.now.cell }
+    requires packed { shared.now.form ≡ packed z }
     requires process { p < z.processes }
     requires in_range { IsInRange z q.old }
     requires label { q.old.label ≡ Take }
     ensures { q.new ≡ (take_reply z shared.now.cell p q.old).process }
 {
     let i = q.registers.i;
-    q.replies[i] = shared.read_word(q.registers.r, part_of(z, p) + i);
+    q.replies[i] = shared.read_part(q.registers.r, p, i);
     q.registers.i = i + 1;
     if i + 1 == z.replies + 1 {
         q.label = Label::Give;

@@ -1,37 +1,32 @@
-use Rattle.std.proofs.Common.{◌≡◌, ap, ◌∙◌, sym, subst, arith}
-use Rattle.wf_object.specs.Progress.{AreUnmarked, IsInObject, Progress, by_rows, progress}
-use Rattle.wf_object.proofs.Progressing.{in_object_after, rows_inside, rows_join, unmarked_join}
+use Rattle.std.proofs.Common.{ap, ◌∙◌, sym, subst, arith}
+use Rattle.wf_bound.specs.declared.spent.Spent.{Spent}
+use Rattle.wf_object.specs.Progress.{AreUnmarked, IsInObject, by_rows, outside_more, progress}
+use Rattle.wf_object.proofs.Progressing.{in_object_after, outside_none, room_outside}
 use Rattle.wf_object.proofs.rows.take_rows.Goals as goal
 
-pub take_some-count-requires-clause-object : goal.take_some-count-requires-clause-object
-take_some-count-requires-clause-object g c =
+pub take_all-count-requires-clause-object : goal.take_all-count-requires-clause-object
+take_all-count-requires-clause-object g c =
     let e = g.E.Engine in
     let engine = c.args.engine.now in
-    let first = progress c.args.shared.now.cell c.args.q.now c.args.spent.now in
-    subst (IsInObject (e.meaning engine) (e.lawful engine) (e.fits engine) (e.ready engine) c.args.z c.args.p) (sym c.loop-count.invariant.leads)
-    (in_object_after (e.meaning engine) (e.lawful engine) (e.fits engine) (e.ready engine) (e.effect engine) (g.met.E.Engine.law engine) c.args.z c.args.p c.loop-count.count first c.requires.object)
+    subst (λ (x : Spent). IsInObject (e.meaning engine) (e.lawful engine) (e.fits engine) (e.ready engine) c.args.z c.args.p (progress c.args.shared.now.cell c.args.q.now x)) (sym (outside_none c.args.spent.now)) c.requires.object
 
-pub take_some-count-requires-clause-room : goal.take_some-count-requires-clause-room
-take_some-count-requires-clause-room g c =
-    let m = g.E.Engine.meaning c.args.engine.now in
-    let first = progress c.args.shared.now.cell c.args.q.now c.args.spent.now in
-    let k = c.loop-count.count in
-    let same : c.loop-count.spent.inside ≡ (by_rows m c.args.z c.args.p k first).spent.inside = ap (λ (u : Progress _). u.spent.inside) c.loop-count.invariant.leads in
-    omega (arith, same, rows_inside m c.args.z c.args.p k first, c.requires.room, c.loop-count.invariant.few)
+pub count_outside-requires : goal.count_outside-requires
+count_outside-requires g c =
+    let e = g.E.Engine in
+    let engine = c.args.engine.now in
+    let first = progress c.args.shared.now.cell c.args.q.now (outside_more c.args.spent.now 0) in
+    let there = subst (λ (x : Spent). IsInObject (e.meaning engine) (e.lawful engine) (e.fits engine) (e.ready engine) c.args.z c.args.p (progress c.args.shared.now.cell c.args.q.now x)) (sym (outside_none c.args.spent.now)) c.requires.object in
+    let so = subst (IsInObject (e.meaning engine) (e.lawful engine) (e.fits engine) (e.ready engine) c.args.z c.args.p) (sym c.take_all-count.ensures.leads)
+    (in_object_after (e.meaning engine) (e.lawful engine) (e.fits engine) (e.ready engine) (e.effect engine) (g.met.E.Engine.law engine) c.args.z c.args.p c.take_all-count.result first there) in
+    omega (arith, room_outside (e.meaning engine) (e.lawful engine) (e.fits engine) (e.ready engine) (e.effect engine) (g.met.E.Engine.law engine) c.args.z c.args.p _ so)
 
-pub loop-count-preserved : goal.loop-count-preserved
-loop-count-preserved g c =
+pub returns-clause-leads : goal.returns-clause-leads
+returns-clause-leads g c =
     let m = g.E.Engine.meaning c.args.engine.now in
-    let z = c.args.z in
-    let p = c.args.p in
-    let first = progress c.args.shared.now.cell c.args.q.now c.args.spent.now in
-    let k = c.loop-count.count in
-    let j = c.take_some-count.result in
-    let h = c.loop-count.invariant in
-    let taken = c.take_some-count.ensures in
-    record {
-      few = omega (arith, h.few, taken.few);
-      form = taken.form ∙ h.form;
-      leads = taken.leads ∙ ap (by_rows m z p j) h.leads ∙ rows_join m z p k j first;
-      unmarked = unmarked_join m z p k j first h.unmarked (subst (λ (u : Progress _). AreUnmarked m z p j u) h.leads taken.unmarked);
-    }
+    ap (λ (x : Spent). progress c.take_all-count.new.shared.cell c.take_all-count.new.q x) c.count_outside.ensures
+    ∙ c.take_all-count.ensures.leads
+    ∙ ap (λ (x : Spent). by_rows m c.args.z c.args.p c.take_all-count.result (progress c.args.shared.now.cell c.args.q.now x)) (outside_none c.args.spent.now)
+
+pub returns-clause-unmarked : goal.returns-clause-unmarked
+returns-clause-unmarked g c =
+    subst (λ (x : Spent). AreUnmarked (g.E.Engine.meaning c.args.engine.now) c.args.z c.args.p c.take_all-count.result (progress c.args.shared.now.cell c.args.q.now x)) (outside_none c.args.spent.now) c.take_all-count.ensures.unmarked
