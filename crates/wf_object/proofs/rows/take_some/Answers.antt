@@ -1,6 +1,7 @@
 use Rattle.std.proofs.Common.{rules, ◌≡◌, ◌∙◌}
 use Rattle.wf_table.specs.declared.process.Label.TheVariants.{Body}
 use Rattle.wf_object.specs.Progress.{progress}
+use Rattle.wf_object.proofs.QuietSteps.{unmarked_quiet}
 use Rattle.wf_object.proofs.Progressing.{in_body, in_processes, in_range, one_unmarked, room_of_bodies, room_outside, same_progress}
 use Rattle.wf_object.proofs.rows.take_some.Goals as goal
 
@@ -45,6 +46,9 @@ act-requires-clause-in_range g c =
     let e = g.E.Engine in
     let engine = c.args.engine.now in
     in_range (e.meaning engine) (e.lawful engine) (e.fits engine) (e.ready engine) (e.effect engine) (g.met.E.Engine.law engine) c.args.z c.args.p _ c.requires.object
+
+pub act-requires-clause-quiet : goal.act-requires-clause-quiet
+act-requires-clause-quiet g c = unmarked_quiet c.args.q.now.label c.requires.unmarked
 
 pub returns-clause-unmarked : goal.returns-clause-unmarked
 returns-clause-unmarked g c = one_unmarked (g.E.Engine.meaning c.args.engine.now) c.args.z c.args.p (progress c.args.shared.now.cell c.args.q.now c.args.spent.now) c.requires.unmarked
