@@ -1,7 +1,9 @@
 mod Opening
+mod CallsKept
 mod Packs
 mod Scripts
 mod OneStep
+mod Results
 mod QuietSteps
 mod Spends
 mod Keeps

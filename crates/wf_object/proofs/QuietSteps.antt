@@ -3,14 +3,28 @@ use Rattle.std.proofs.Common.{◌≡◌, ℕ, Bool, true, false, List, ap, sym, 
 use Rattle.std.specs.Prelude.{Option, Some, None, slice_get}
 use Rattle.ll_cell.specs.Cell.{Cell, own_of}
 use Rattle.wf_table.specs.declared.process.Label.{Label}
-use Rattle.wf_table.specs.declared.process.Label.TheVariants.{Next, Commit, Give}
+use Rattle.wf_table.specs.declared.process.Label.TheVariants.{Next, Flip, Commit, Give}
 use Rattle.wf_table.specs.declared.process.Sizes.{Sizes}
 use Rattle.wf_table.specs.Meaning.{Meaning}
 use Rattle.wf_table.specs.Table.{Process}
 use Rattle.wf_table.specs.Object.{State, Records, GoesOn, noted, event_at, answer_by, answer_of, label_by, seen_by}
 use Rattle.wf_bound.specs.declared.spent.Spent.{Spent}
 use Rattle.wf_bound.specs.Spent.{spent_after}
-use Rattle.wf_object.specs.Quiet.{is_quiet}
+use Rattle.wf_object.specs.Quiet.{is_quiet, is_unmarked}
+
+pub unmarked_quiet : (l : Label) → is_unmarked l ≡ true → is_quiet l ≡ true
+unmarked_quiet Next h = absurd (cc)
+unmarked_quiet Flip h = absurd (cc)
+unmarked_quiet Commit h = absurd (cc)
+unmarked_quiet Give h = absurd (cc)
+unmarked_quiet _ h = refl
+
+-- three labels show something
+pub only_commit : (l : Label) → is_quiet l ≡ false → (l ≡ Next → ⊥) → (l ≡ Give → ⊥) → l ≡ Commit
+only_commit Next h a b = absurd (a refl)
+only_commit Commit h a b = refl
+only_commit Give h a b = absurd (b refl)
+only_commit _ h a b = absurd (cc)
 
 -- it counts the same whether or not the script has more calls
 pub counts_same : (l : Label) (b : Bool) (x : Spent) → is_quiet l ≡ true → spent_after l false x ≡ spent_after l b x

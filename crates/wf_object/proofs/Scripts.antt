@@ -1,14 +1,21 @@
--- Calls of a script, as they stand in memory and as they are seen.
-use Rattle.std.proofs.Common.{◌≡◌, ◌<◌, ℕ, List, [], length, map, get_or, subst, ap, sym, ◌∙◌, arith}
-use Rattle.std.proofs.lemmas.List.{get_or-map, length-map}
-use Rattle.ob_interface.specs.declared.call.Call.{Call}
-use Rattle.ob_interface.specs.Call.{ObjectCall}
-use Rattle.ob_interface.specs.View.{call_of}
+-- Calls of a script, as they begin.
+use Rattle.std.proofs.Common.{◌≡◌, ◌<◌, ◌+◌, ℕ, Bool, true, List, length, ap, ap₂, sym, ◌∙◌, arith}
+use Rattle.std.specs.Prelude.{Option, Some, None, nat_lt, slice_index_or, if◌then◌else◌}
+use Rattle.std.proofs.lemmas.Bool.Decides.{nat_tests}
+use Rattle.ob_interface.specs.Call.{ObjectCall, Reply}
+use Rattle.wf_history.specs.declared.event.CallId.{CallId}
+use Rattle.wf_history.specs.History.{Event, Begin}
 use Rattle.wf_table.specs.Table.{Process}
-use Rattle.wf_table.specs.Scripts.{CallsFit}
+use Rattle.wf_table.specs.Object.{began}
+use Rattle.wf_object.specs.CallsKept.{no_call}
 
 module _ {Run : Type 0} where
-  pub fits_at : (fits : ObjectCall → Type 0) (q : Process Run) (calls : List Call) (k : ℕ) (x : Call) → q.calls ≡ map call_of calls → k < length calls → x ≡ get_or calls k x → CallsFit fits q → fits (call_of x)
-  fits_at fits q calls k x is lt read h =
-      let within : k < length q.calls = omega (arith, ap length is, length-map calls call_of) in
-      subst fits (ap (λ cs. get_or cs k (record { export = 0; arguments = [] })) is ∙ get_or-map call_of calls k x (record { export = 0; arguments = [] }) lt ∙ ap call_of (sym read)) (h.fit k within)
+  -- what is seen where the call of this place begins
+  pub began_is : (p : ℕ) (q : Process Run) (begun : ℕ) (calls : List ObjectCall) (x : ObjectCall) → q.begun ≡ begun → q.calls ≡ calls → begun < length calls → x ≡ slice_index_or calls begun no_call → began p q ≡ Some (Begin (record { process = p; number = begun + 1 }) x)
+  began_is p q begun calls x eb ec lt e =
+      let id : ℕ → CallId = λ (k : ℕ). record { process = p; number = k + 1 } in
+      let event : ℕ → ObjectCall → Option (Event ObjectCall Reply) = λ (k : ℕ) (y : ObjectCall). Some (Begin (id k) y) in
+      let t : nat_lt begun (length calls) ≡ true = grind (arith, nat_tests) in
+      ap₂ (λ (k : ℕ) (cs : List ObjectCall). if nat_lt k (length cs) then event k (slice_index_or cs k no_call) else None) eb ec
+      ∙ ap (λ (b : Bool). if b then event begun (slice_index_or calls begun no_call) else None) t
+      ∙ ap (event begun) (sym e)

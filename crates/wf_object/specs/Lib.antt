@@ -1,4 +1,6 @@
 pub mod Packed
+pub mod CallsKept
+pub mod Shown
 pub mod Faults
 pub mod View
 pub mod Kept

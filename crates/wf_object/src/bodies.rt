@@ -16,7 +16,8 @@ use ll_cell::Shared;
 use wf_table::{EngineTurn, Sizes};
 
 /// Steps of a body on a block, at most so many, up to the first behind which it doesn't go on: how many they are, and what the
-/// last one answers.
+/// last one answers. It stands apart, so that what a step of the body needs is at hand in the loop.
+#[inline(never)]
 fn run_on<E: Engine>(
     engine: &E,
     run: &mut E::Run,

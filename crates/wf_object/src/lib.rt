@@ -2,6 +2,7 @@
 #![tactic(auto)]
 
 mod bodies;
+mod calls;
 pub mod engine;
 pub mod fault;
 pub mod machine;

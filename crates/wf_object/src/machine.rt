@@ -1,6 +1,6 @@
 //! The step machine.
 
-ghost use Rattle.std.specs.Prelude.{true, ◌≡◌, ◌+◌, ◌*◌, ◌<◌, ◌≤◌, ◌⊎◌, ◌↔◌, [], ◌++◌, ◌∷◌, List, Contains, replicate, IfOk, OnOk, OnErr, length};
+ghost use Rattle.std.specs.Prelude.{true, false, ◌≡◌, ◌+◌, ◌*◌, ◌<◌, ◌≤◌, ◌⊎◌, ◌↔◌, [], ◌++◌, ◌∷◌, List, Contains, replicate, IfOk, OnOk, OnErr, length};
 ghost use Rattle.ll_cell.specs.Form.{kept_words};
 ghost use Rattle.wf_object.specs.Packed.{packed};
 ghost use Rattle.ob_interface.specs.View.{call_of};
@@ -15,7 +15,7 @@ use crate::engine::Engine;
 use crate::fault::NewFault;
 use crate::process::Process;
 use crate::rows::take_rows;
-use crate::seen::{is_quiet, note_step};
+use crate::seen::{is_quiet, show_step};
 use crate::spent::{bound_of, count_inside, count_step};
 use crate::start::{idle, opened};
 use crate::steps::act;
@@ -147,10 +147,11 @@ impl<E: Engine> Machine<E> {
         self.step_loudly(p)
     }
 
-    /// A step that may show something, with room for an event.
+    /// A step that shows something, with room for an event.
     #[inline(never)]
     fn step_loudly(&mut self, p: usize) -> Result<StepOut, NoMemory>
-        requires { p < self.old.sizes.processes }
+        requires process { p < self.old.sizes.processes }
+        requires shows { is_quiet (label_of self.old.state p) ≡ false }
         ensures stepped { OnOk result (self.new ≡ stepped (E.meaning self.old.engine) p self.old) }
         ensures answer { IfOk result (λ out. answer_in out ≡ answer_of (E.meaning self.old.engine) self.old.sizes self.old.state p) }
         ensures turn { OnOk result (steps_of self.new.state.records.schedule ≡ steps_of self.old.state.records.schedule ++ p ∷ []) }
@@ -163,36 +164,25 @@ impl<E: Engine> Machine<E> {
     /// The same, within its caller: one that needs no reply makes no room for it.
     #[inline(always)]
     fn take_loudly(&mut self, p: usize) -> Result<StepOut, NoMemory>
-        requires { p < self.old.sizes.processes }
+        requires process { p < self.old.sizes.processes }
+        requires shows { is_quiet (label_of self.old.state p) ≡ false }
         ensures stepped { OnOk result (self.new ≡ stepped (E.meaning self.old.engine) p self.old) }
         ensures answer { IfOk result (λ out. answer_in out ≡ answer_of (E.meaning self.old.engine) self.old.sizes self.old.state p) }
         ensures turn { OnOk result (steps_of self.new.state.records.schedule ≡ steps_of self.old.state.records.schedule ++ p ∷ []) }
         ensures few { IfOk result (λ out. length (values_answered (answer_in out)) ≤ 8) }
         ensures err { OnErr result (self.new ≡ self.old) }
     {
-        let process = &self.processes[p];
-        let label = process.label;
-        let begins = process.has_more();
         self.records.few_turns();
-        let out = note_step(
+        let out = show_step(
             self.alloc,
             &self.engine,
             self.sizes,
-            &self.shared,
-            &self.processes,
-            process,
+            &mut self.shared,
+            &mut self.processes,
+            &mut self.spent[p],
             p,
             &mut self.records,
         )?;
-        let spent = &mut self.spent[p];
-        count_step(spent, label, begins);
-        act(
-            &self.engine,
-            self.sizes,
-            &mut self.shared,
-            &mut self.processes[p],
-            p,
-        );
         Ok(out)
     }
 
@@ -209,18 +199,6 @@ impl<E: Engine> Machine<E> {
             self.step_quietly(p)?;
             return Ok(Seen::On);
         }
-        self.show(p)
-    }
-
-    /// A step that may show something.
-    #[inline(never)]
-    fn show(&mut self, p: usize) -> Result<Seen, NoMemory>
-        requires { p < self.old.sizes.processes }
-        ensures stepped { OnOk result (self.new ≡ stepped (E.meaning self.old.engine) p self.old) }
-        ensures seen { IfOk result (λ seen. seen ≡ seen_in (answer_of (E.meaning self.old.engine) self.old.sizes self.old.state p)) }
-        ensures turn { OnOk result (steps_of self.new.state.records.schedule ≡ steps_of self.old.state.records.schedule ++ p ∷ []) }
-        ensures err { OnErr result (self.new ≡ self.old) }
-    {
         match self.take_loudly(p)? {
             StepOut::On => Ok(Seen::On),
             StepOut::Began(_) => Ok(Seen::Began),

@@ -1,5 +1,6 @@
 //! What a process keeps for itself.
 
+use crate::calls::CallList;
 use ob_interface::NoMemory;
 use ob_interface::call::Call;
 use std::marker::Model;
@@ -10,7 +11,7 @@ use wf_table::{Label, Registers};
 pub struct Process<R> {
     pub(crate) label: Label,
     /// The calls submitted so far, and how many of them have begun.
-    pub(crate) calls: Vec<Call>,
+    pub(crate) calls: CallList,
     pub(crate) begun: usize,
     pub(crate) registers: Registers,
     /// The words of an announced call: the own one until FLIP, then the served process's.
@@ -23,13 +24,11 @@ pub struct Process<R> {
 }
 
 impl<R> Model for Process<R> {
-    ghost use Rattle.std.specs.Prelude.{map};
-    ghost use Rattle.ob_interface.specs.View.{call_of};
     ghost use Rattle.wf_table.specs.Table as table;
 
     ghost Value = { table.Process R };
 
-    ghost view = { λ q. record { label = q.label; calls = map call_of q.calls.items; begun = q.begun; registers = q.registers; list = q.list.items; replies = q.replies.items; save = q.save.items; run = q.run } };
+    ghost view = { λ q. record { label = q.label; calls = q.calls.calls; begun = q.begun; registers = q.registers; list = q.list.items; replies = q.replies.items; save = q.save.items; run = q.run } };
 }
 
 impl<R> Process<R> {
@@ -43,7 +42,7 @@ impl<R> Process<R> {
         ensures number { IfOk result (λ number. number ≡ length self.new.calls) }
         ensures err { OnErr result (self.new ≡ self.old) }
     {
-        self.calls.push(call)?;
+        self.calls.push(&call)?;
         Ok(self.calls.len())
     }
 

@@ -1,13 +1,16 @@
-//! What a step shows: it depends on the state before the step alone.
+//! Steps that show something. What is noted of one depends on the state before it alone.
 
-ghost use Rattle.std.specs.Prelude.{◌≡◌, ℕ, ◌+◌, ◌<◌, ◌++◌, ◌∷◌, [], IfOk, OnOk, OnErr, length, not, slice_index, if◌then◌else◌};
+ghost use Rattle.std.specs.Prelude.{◌≡◌, ℕ, ◌+◌, ◌^◌, ◌<◌, ◌≤◌, ◌++◌, ◌∷◌, [], IfOk, OnOk, OnErr, length, not, false, slice_get, slice_index, if◌then◌else◌};
 ghost use Rattle.std.proofs.Common.{int_eq};
 ghost use Rattle.ll_cell.specs.Cell.{block_of, own_of};
 ghost use Rattle.wf_table.specs.declared.process.Label.TheVariants as At;
-ghost use Rattle.wf_table.specs.Table.{own_block, toggle_in};
+ghost use Rattle.wf_table.specs.Each.{Each};
+ghost use Rattle.wf_table.specs.Table.{own_block, toggle_in, next, give};
 ghost use Rattle.wf_table.specs.Ranges.{IsSized, IsShaped, IsInRange};
 ghost use Rattle.wf_table.specs.Scripts.{CallsFit};
-ghost use Rattle.wf_table.specs.Object.{event_at, ended, began, applied, applied_ids, begun_of, history_after, noted, answer_by};
+ghost use Rattle.wf_table.specs.Object.{ended, began, applied, applied_ids, begun_of, history_after, noted, answer_by, answer_of, label_by, seen_of, step_of};
+ghost use Rattle.wf_bound.specs.Spent.{has_more, spent_after};
+ghost use Rattle.wf_object.specs.Shown.{spent_by, state_of};
 ghost use Rattle.wf_object.specs.View.{answer_in};
 ghost use Rattle.wf_object.specs.Packed.{packed};
 ghost use Rattle.wf_object.specs.Quiet.{is_quiet};
@@ -15,11 +18,13 @@ ghost use Rattle.wf_history.specs.History.{IsHistory};
 
 use crate::engine::Engine;
 use crate::process::Process;
-use crate::steps::own_toggle;
+use crate::spent::count_step;
+use crate::steps::{commit, own_toggle};
 use ll_cell::Shared;
 use ob_interface::NoMemory;
 use smallvec::SmallVec;
 use std::alloc::Global;
+use wf_bound::Spent;
 use wf_history::{CallId, KeptCall, KeptReply};
 use wf_records::{Records, StepOut};
 use wf_table::{Label, Sizes};
@@ -32,39 +37,51 @@ pub fn is_quiet(label: Label) -> bool
     !matches!(label, Label::Next | Label::Commit | Label::Give)
 }
 
-/// Notes what a step of the process shows, and answers it. Nothing changes where memory runs out.
+/// Takes a step of the process that shows something: it is noted, and what it spends is counted. Nothing changes where memory runs out.
 #[inline(always)]
-pub fn note_step<E: Engine>(
+pub fn show_step<E: Engine>(
     alloc: Global,
     engine: &E,
     z: Sizes,
-    shared: &Shared,
-    processes: &[Process<E::Run>],
-    q: &Process<E::Run>,
+    shared: &mut Shared,
+    processes: &mut [Process<E::Run>],
+    spent: &mut Spent,
     p: usize,
     records: &mut Records,
 ) -> Result<StepOut, NoMemory>
     requires sized { IsSized z }
-    requires shaped { IsShaped z shared.now.cell }
-    requires packed { shared.now.form ≡ packed z }
-    requires count { length processes.now ≡ z.processes }
+    requires shaped { IsShaped z shared.old.cell }
+    requires packed { shared.old.form ≡ packed z }
+    requires count { length processes.old ≡ z.processes }
     requires process { p < z.processes }
-    requires in_range { IsInRange z q.now }
+    requires shows { is_quiet (label_by (slice_get processes.old p)) ≡ false }
+    requires in_range { Each (λ _ q. IsInRange z q) processes.old }
     requires replies { z.replies ≡ (E.meaning engine.now).replies }
-    requires fits { CallsFit (E.fits engine.now) q.now }
+    requires arguments { z.arguments ≡ (E.meaning engine.now).arguments }
+    requires fits { Each (λ _ q. CallsFit (E.fits engine.now) q) processes.old }
     requires flip_mark { p < length records.old.flip_marks }
-    requires root_mark { own_of shared.now.cell p < length records.old.root_marks }
-    requires in_turn { IsHistory (history_after records.old.history (event_at q.now.label (E.meaning engine.now) z shared.now.cell processes.now p q.now)) }
-    ensures ok { OnOk result (records.new ≡ noted records.old p q.now.label (own_of shared.now.cell p) (event_at q.now.label (E.meaning engine.now) z shared.now.cell processes.now p q.now)) }
-    ensures answer { IfOk result (λ out. answer_in out ≡ answer_by q.now.label (event_at q.now.label (E.meaning engine.now) z shared.now.cell processes.now p q.now)) }
-    ensures err { OnErr result (records.new ≡ records.old) }
+    requires root_mark { own_of shared.old.cell p < length records.old.root_marks }
+    requires in_turn { IsHistory (history_after records.old.history (seen_of (E.meaning engine.now) z shared.old.cell processes.old p)) }
+    requires bodies { spent.old.bodies + 1 < 2 ^ 128 }
+    requires inside { spent.old.inside + 1 < 2 ^ 128 }
+    requires outside { spent.old.outside + 1 < 2 ^ 128 }
+    ensures state { OnOk result (state_of shared.new.cell processes.new records.new ≡ step_of (E.meaning engine.now) z (state_of shared.old.cell processes.old records.old) p) }
+    ensures form { shared.new.form ≡ shared.old.form }
+    ensures spent { OnOk result (spent.new ≡ spent_by (slice_get processes.old p) spent.old) }
+    ensures answer { IfOk result (λ out. answer_in out ≡ answer_of (E.meaning engine.now) z (state_of shared.old.cell processes.old records.old) p) }
+    ensures no_cell { OnErr result (shared.new ≡ shared.old) }
+    ensures no_process { OnErr result (processes.new ≡ processes.old) }
+    ensures no_spent { OnErr result (spent.new ≡ spent.old) }
+    ensures no_record { OnErr result (records.new ≡ records.old) }
 {
-    match q.label {
-        Label::Next => begin(alloc, q, p, records),
-        Label::Commit => commit::<E::Run>(alloc, z, shared, processes, p, records),
-        Label::Give => give(alloc, engine, z, q, p, records),
-        label => {
-            records.note_quiet(p, label)?;
+    let process = &processes[p];
+    match process.label {
+        Label::Next => begin(alloc, engine, &mut processes[p], spent, p, records),
+        Label::Give => give(alloc, engine, z, &mut processes[p], spent, p, records),
+        _ => {
+            apply(alloc, z, shared, processes, p, records)?;
+            count_step(spent, Label::Commit, false);
+            commit(shared, &mut processes[p], p);
             Ok(StepOut::On)
         }
     }
@@ -72,41 +89,60 @@ pub fn note_step<E: Engine>(
 
 /// The next call of the script begins, where there is one.
 #[inline(always)]
-fn begin<R>(
+fn begin<E: Engine>(
     alloc: Global,
-    q: &Process<R>,
+    engine: &E,
+    q: &mut Process<E::Run>,
+    spent: &mut Spent,
     p: usize,
     records: &mut Records,
 ) -> Result<StepOut, NoMemory>
+    requires list { length q.old.list ≡ (E.meaning engine.now).arguments }
+    requires begun { q.old.begun ≤ length q.old.calls }
+    requires fits { CallsFit (E.fits engine.now) q.old }
     requires flip_mark { p < length records.old.flip_marks }
-    requires in_turn { IsHistory (history_after records.old.history (began p q.now)) }
-    ensures ok { OnOk result ((block : ℕ) → records.new ≡ noted records.old p At.Next block (began p q.now)) }
-    ensures answer { IfOk result (λ out. answer_in out ≡ answer_by At.Next (began p q.now)) }
-    ensures err { OnErr result (records.new ≡ records.old) }
+    requires in_turn { IsHistory (history_after records.old.history (began p q.old)) }
+    requires bodies { spent.old.bodies + 1 < 2 ^ 128 }
+    requires inside { spent.old.inside + 1 < 2 ^ 128 }
+    requires outside { spent.old.outside + 1 < 2 ^ 128 }
+    ensures process { OnOk result (q.new ≡ (next (E.meaning engine.now) q.old).process) }
+    ensures spent { OnOk result (spent.new ≡ spent_after At.Next (has_more q.old) spent.old) }
+    ensures records { OnOk result ((block : ℕ) → records.new ≡ noted records.old p At.Next block (began p q.old)) }
+    ensures answer { IfOk result (λ out. answer_in out ≡ answer_by At.Next (began p q.old)) }
+    ensures no_process { OnErr result (q.new ≡ q.old) }
+    ensures no_spent { OnErr result (spent.new ≡ spent.old) }
+    ensures no_record { OnErr result (records.new ≡ records.old) }
 {
     if q.begun >= q.calls.len() {
         records.note_quiet(p, Label::Next)?;
         return Ok(StepOut::Halted);
     }
+    let number = q.begun + 1;
+    q.calls.bring_to_hand(number)?;
     let id = CallId {
         process: p,
-        number: q.begun as u64 + 1,
+        number: number as u64,
     };
-    let call = KeptCall::keep(alloc, &q.calls[q.begun])?;
+    let call = KeptCall::keep(alloc, q.calls.at_hand())?;
     records.note_begin(p, id, call)?;
+    count_step(spent, Label::Next, true);
+    engine.lay(q.calls.at_hand(), &mut q.list);
+    q.begun = number;
+    q.registers.i = 0;
+    q.label = Label::Post;
     Ok(StepOut::Began(id))
 }
 
 /// The open calls are applied whose toggles differ between the root and the own block, where the process is linked.
 #[inline(always)]
-fn commit<R>(
+fn apply<R>(
     alloc: Global,
     z: Sizes,
     shared: &Shared,
     processes: &[Process<R>],
     p: usize,
     records: &mut Records,
-) -> Result<StepOut, NoMemory>
+) -> Result<(), NoMemory>
     requires sized { IsSized z }
     requires shaped { IsShaped z shared.now.cell }
     requires packed { shared.now.form ≡ packed z }
@@ -116,16 +152,15 @@ fn commit<R>(
     requires root_mark { own_of shared.now.cell p < length records.old.root_marks }
     requires in_turn { IsHistory (history_after records.old.history (applied z shared.now.cell processes.now p)) }
     ensures ok { OnOk result (records.new ≡ noted records.old p At.Commit (own_of shared.now.cell p) (applied z shared.now.cell processes.now p)) }
-    ensures answer { IfOk result (λ out. answer_in out ≡ answer_by At.Commit (applied z shared.now.cell processes.now p)) }
     ensures err { OnErr result (records.new ≡ records.old) }
 {
     if !shared.validate(p) {
         records.note_quiet(p, Label::Commit)?;
-        return Ok(StepOut::On);
+        return Ok(());
     }
     let ids = applied_ids(alloc, z, shared, processes, p)?;
     records.note_commit(p, shared.own_block(p), ids)?;
-    Ok(StepOut::On)
+    Ok(())
 }
 
 /// The open call ends with the reply that the reply list stands for.
@@ -134,26 +169,37 @@ fn give<E: Engine>(
     alloc: Global,
     engine: &E,
     z: Sizes,
-    q: &Process<E::Run>,
+    q: &mut Process<E::Run>,
+    spent: &mut Spent,
     p: usize,
     records: &mut Records,
 ) -> Result<StepOut, NoMemory>
-    requires in_range { IsInRange z q.now }
-    requires label { q.now.label ≡ At.Give }
+    requires in_range { IsInRange z q.old }
+    requires label { q.old.label ≡ At.Give }
     requires replies { z.replies ≡ (E.meaning engine.now).replies }
-    requires fits { CallsFit (E.fits engine.now) q.now }
-    requires in_turn { IsHistory (history_after records.old.history (ended (E.meaning engine.now) p q.now)) }
-    ensures ok { OnOk result (records.new ≡ noted records.old p At.Give 0 (ended (E.meaning engine.now) p q.now)) }
-    ensures answer { IfOk result (λ out. answer_in out ≡ answer_by At.Give (ended (E.meaning engine.now) p q.now)) }
-    ensures err { OnErr result (records.new ≡ records.old) }
+    requires fits { CallsFit (E.fits engine.now) q.old }
+    requires in_turn { IsHistory (history_after records.old.history (ended (E.meaning engine.now) p q.old)) }
+    requires bodies { spent.old.bodies + 1 < 2 ^ 128 }
+    requires inside { spent.old.inside + 1 < 2 ^ 128 }
+    requires outside { spent.old.outside + 1 < 2 ^ 128 }
+    ensures process { OnOk result (q.new ≡ (give q.old).process) }
+    ensures spent { OnOk result (spent.new ≡ spent_after At.Give (has_more q.old) spent.old) }
+    ensures records { OnOk result (records.new ≡ noted records.old p At.Give 0 (ended (E.meaning engine.now) p q.old)) }
+    ensures answer { IfOk result (λ out. answer_in out ≡ answer_by At.Give (ended (E.meaning engine.now) p q.old)) }
+    ensures no_process { OnErr result (q.new ≡ q.old) }
+    ensures no_spent { OnErr result (spent.new ≡ spent.old) }
+    ensures no_record { OnErr result (records.new ≡ records.old) }
 {
+    q.calls.bring_to_hand(q.begun)?;
     let id = CallId {
         process: p,
         number: q.begun as u64,
     };
-    let reply = engine.reply(&q.calls[q.begun - 1], &q.replies);
+    let reply = engine.reply(q.calls.at_hand(), &q.replies);
     let kept = KeptReply::keep(alloc, &reply)?;
     records.note_end(p, id, kept)?;
+    count_step(spent, Label::Give, false);
+    q.label = Label::Next;
     Ok(StepOut::Answered(id, reply))
 }
 

@@ -8,6 +8,7 @@ ghost use Rattle.wf_table.specs.Ranges.{IsSized};
 ghost use Rattle.wf_table.specs.Start.{cell_at_start, IsIdle};
 ghost use Rattle.wf_table.specs.Each.{Each};
 
+use crate::calls::CallList;
 use crate::engine::Engine;
 use crate::fault::NewFault;
 use crate::process::Process;
@@ -55,7 +56,7 @@ fn idle_process<E: Engine>(alloc: Global, engine: &E, z: Sizes) -> Result<Proces
 {
     Ok(Process {
         label: Label::Next,
-        calls: Vec::new(alloc),
+        calls: CallList::new(alloc),
         begun: 0,
         registers: Registers {
             r: 0,

@@ -1,12 +1,12 @@
 //! The rows of the table, one function each. Each changes the cell in at most one way, and the record of its process.
 
-ghost use Rattle.std.specs.Prelude.{◌≡◌, ◌+◌, ◌*◌, ◌<◌, ◌≤◌, length, take};
+ghost use Rattle.std.specs.Prelude.{◌≡◌, ◌+◌, ◌*◌, ◌<◌, ◌≤◌, length, take, true};
 ghost use Rattle.ll_cell.specs.Cell.{refill_own};
-ghost use Rattle.wf_table.specs.Table.{next, mine, fetch, save, enter, undo, keep, commit, kept_word, row, or_past, part, cell_after, post, flip, try, links, load, store, check, seen, read, take_reply, give, after_body, body_step, toggle_in, own_block, block_words, inverted};
-ghost use Rattle.wf_table.specs.Scripts.{CallsFit};
+ghost use Rattle.wf_table.specs.Table.{mine, fetch, save, enter, undo, keep, commit, kept_word, row, or_past, part, cell_after, post, flip, try, links, load, store, check, seen, read, take_reply, after_body, body_step, toggle_in, own_block, block_words, inverted};
 ghost use Rattle.wf_table.specs.Ranges.{IsSized, IsShaped, IsInRange};
 ghost use Rattle.wf_table.specs.Toggles.{StoresBit};
 ghost use Rattle.wf_object.specs.Packed.{packed};
+ghost use Rattle.wf_object.specs.Quiet.{is_quiet};
 ghost use Rattle.wf_table.specs.declared.process.Label.TheVariants.{Post, Load, Store, Fetch, Save, Undo, Keep, Take};
 
 use crate::engine::Engine;
@@ -142,7 +142,7 @@ pub fn check<R>(shared: &Shared, q: &mut Process<R>, p: usize, passed: Label)
 }
 
 /// One step of the body on the variables of p's own block.
-#[inline]
+#[inline(never)]
 fn step_body<E: Engine>(
     engine: &E,
     z: Sizes,
@@ -201,20 +201,6 @@ pub fn leave_body<R>(z: Sizes, q: &mut Process<R>, turn: EngineTurn)
                 Label::Undo
             };
         }
-    }
-}
-
-pub fn next<E: Engine>(engine: &E, q: &mut Process<E::Run>)
-    requires list { length q.old.list ≡ (E.meaning engine.now).arguments }
-    requires begun { q.old.begun ≤ length q.old.calls }
-    requires fits { CallsFit (E.fits engine.now) q.old }
-    ensures { q.new ≡ (next (E.meaning engine.now) q.old).process }
-{
-    if q.begun < q.calls.len() {
-        engine.lay(&q.calls[q.begun], &mut q.list);
-        q.begun += 1;
-        q.registers.i = 0;
-        q.label = Label::Post;
     }
 }
 
@@ -419,19 +405,13 @@ pub fn take_reply<R>(z: Sizes, shared: &Shared, q: &mut Process<R>, p: usize)
     }
 }
 
-pub fn give<R>(q: &mut Process<R>)
-    ensures { q.new ≡ (give q.old).process }
-{
-    q.label = Label::Next;
-}
-
 fn or_past(words: usize, label: Label, past: Label) -> Label
     ensures { result ≡ or_past words label past }
 {
     if words == 0 { past } else { label }
 }
 
-/// One step of the process on the cell.
+/// One step of the process on the cell, at a label that shows nothing.
 #[inline(always)]
 pub fn act<E: Engine>(engine: &E, z: Sizes, shared: &mut Shared, q: &mut Process<E::Run>, p: usize)
     requires sized { IsSized z }
@@ -439,10 +419,10 @@ pub fn act<E: Engine>(engine: &E, z: Sizes, shared: &mut Shared, q: &mut Process
     requires packed { shared.old.form ≡ packed z }
     requires process { p < z.processes }
     requires in_range { IsInRange z q.old }
+    requires quiet { is_quiet q.old.label ≡ true }
     requires variables { z.variables ≡ (E.meaning engine.now).variables }
     requires replies { z.replies ≡ (E.meaning engine.now).replies }
     requires arguments { z.arguments ≡ (E.meaning engine.now).arguments }
-    requires fits { CallsFit (E.fits engine.now) q.old }
     requires ready { E.ready engine.now q.old.run }
     requires stores_bit { StoresBit z q.old }
     ensures cell { shared.new.cell ≡ cell_after shared.old.cell p (row q.old.label (E.meaning engine.now) z shared.old.cell p q.old).change }
@@ -450,7 +430,6 @@ pub fn act<E: Engine>(engine: &E, z: Sizes, shared: &mut Shared, q: &mut Process
     ensures process { q.new ≡ (row q.old.label (E.meaning engine.now) z shared.old.cell p q.old).process }
 {
     match q.label {
-        Label::Next => next(engine, q),
         Label::Post => post(z, shared, q, p),
         Label::Flip => flip(z, shared, q, p),
         Label::Try => try_round(q),
@@ -472,9 +451,9 @@ pub fn act<E: Engine>(engine: &E, z: Sizes, shared: &mut Shared, q: &mut Process
         Label::Body => body(engine, z, shared, q, p),
         Label::Undo => undo(z, shared, q, p),
         Label::Keep => keep(engine, z, shared, q, p),
-        Label::Commit => commit(shared, q, p),
         Label::Read => read(shared, q),
         Label::Take => take_reply(z, shared, q, p),
-        Label::Give => give(q),
+        // These show something: `show_step` takes them.
+        Label::Next | Label::Commit | Label::Give => {}
     }
 }

@@ -6,6 +6,7 @@ use Rattle.wf_bound.specs.declared.spent.Spent.{Spent}
 use Rattle.wf_bound.specs.Spent.{has_more, spent_after}
 use Rattle.wf_object.specs.Progress.{outside_more, progress}
 use Rattle.wf_object.specs.Quiet.{is_unmarked}
+use Rattle.wf_object.proofs.QuietSteps.{unmarked_quiet}
 use Rattle.wf_object.proofs.Progressing.{in_body, in_processes, in_range, one_unmarked, outside_next, room_of_bodies, same_progress, spent_outside, unmarked_else}
 use Rattle.wf_object.proofs.rows.take_some.Goals as goal
 
@@ -87,3 +88,12 @@ overflow_add-spent g c =
     let e = g.E.Engine in
     let engine = c.args.engine.now in
     record { fits = room_of_bodies (e.meaning engine) (e.lawful engine) (e.fits engine) (e.ready engine) (e.effect engine) (g.met.E.Engine.law engine) c.args.z c.args.p _ c.requires.object }
+
+pub act-requires-clause-quiet : goal.act-requires-clause-quiet
+act-requires-clause-quiet g c =
+    let q = c.args.q.now in
+    let next : q.label ≢ Next = rw (← c.q.view_is) c.in_default.not-Next in
+    let flip : q.label ≢ Flip = rw (← c.q.view_is) c.in_default.not-Flip in
+    let commit : q.label ≢ Commit = rw (← c.q.view_is) c.in_default.not-Commit in
+    let give : q.label ≢ Give = rw (← c.q.view_is) c.in_default.not-Give in
+    unmarked_quiet q.label (unmarked_else q.label next flip commit give)

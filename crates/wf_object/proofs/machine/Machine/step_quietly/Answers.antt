@@ -57,11 +57,15 @@ act-requires-clause-in_range g c =
     let within : c.args.p < s.sizes.processes = rw (← c.self.view_is) at c.requires.process in
     c.self.invariant.sound.in_range _ _ (stands s.processes.items s.sizes.processes c.args.p c.index_mut.result.now c.self.invariant.sound.count within c.index_mut.ensures.value)
 
-pub act-requires-clause-fits : goal.act-requires-clause-fits
-act-requires-clause-fits g c =
+pub act-requires-clause-quiet : goal.act-requires-clause-quiet
+act-requires-clause-quiet g c =
     let s = c.self.inside in
+    let m = g.E.Engine.meaning s.engine in
     let within : c.args.p < s.sizes.processes = rw (← c.self.view_is) at c.requires.process in
-    c.self.invariant.sound.calls_fit _ _ (stands s.processes.items s.sizes.processes c.args.p c.index_mut.result.now c.self.invariant.sound.count within c.index_mut.ensures.value)
+    let x = c.index_mut.result.now in
+    let at = stands s.processes.items s.sizes.processes c.args.p x c.self.invariant.sound.count within c.index_mut.ensures.value in
+    let state : State _ = record { cell = s.shared.cell; processes = s.processes.items; records = s.records } in
+    ap is_quiet (label_is m s.sizes state c.args.p x at) ∙ (rw (← c.self.view_is) at c.requires.quiet)
 
 pub act-requires-clause-ready : goal.act-requires-clause-ready
 act-requires-clause-ready g c =

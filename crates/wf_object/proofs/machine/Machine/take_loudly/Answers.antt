@@ -1,7 +1,18 @@
-use Rattle.std.proofs.Common.{◌≡◌, ◌<◌, ◌≤◌, Bool, List, length, set, sym, ap, ◌∙◌, subst, refl, arith}
-use Rattle.std.proofs.lemmas.Option.{same_Some, slice_get_read, get_or_from_slice_get}
+use Rattle.std.proofs.Common.{◌≡◌, ◌<◌, ◌≤◌, List, length, set, sym, ap, ap₂, ◌∙◌, subst, refl, arith}
+use Rattle.std.specs.Prelude.{Option, slice_get}
+use Rattle.std.proofs.lemmas.List.{set-get_or, with_items_is}
+use Rattle.std.specs.Vec.{with_items}
+use Rattle.ll_cell.specs.declared.form.Form.{Form}
+use Rattle.ll_cell.specs.Memory.{Memory}
+use Rattle.wf_object.specs.Kept.{IsKept}
+use Rattle.wf_object.specs.View.{Object}
+use Rattle.wf_object.proofs.Results.{at_err}
+use Rattle.std.proofs.lemmas.Option.{slice_get_read, get_or_from_slice_get}
 use Rattle.wf_history.specs.History.{IsHistory}
-use Rattle.wf_table.specs.Object.{State, Records, step_of, Answer, event_at, values_answered, history_after}
+use Rattle.wf_table.specs.Each.{Each}
+use Rattle.wf_table.specs.Ranges.{IsInRange}
+use Rattle.wf_table.specs.Scripts.{CallsFit}
+use Rattle.wf_table.specs.Object.{State, Records, answer_of, stepped, step_of, step_by, Answer, event_at, seen_by, seen_of, values_answered, history_after}
 use Rattle.wf_table.specs.Schedule.{steps_of}
 use Rattle.wf_table.specs.Table.{Process}
 use Rattle.wf_table.proofs.Counted.{one_turn}
@@ -10,166 +21,190 @@ use Rattle.wf_table.proofs.KeepsTurns.{event_in_turn}
 use Rattle.wf_bound.specs.declared.spent.Spent.{Spent}
 use Rattle.wf_bound.specs.Spent.{unspent, spent_after, has_more}
 use Rattle.wf_bound.specs.Counted.{spent_of, spent_by_step, count_by}
+use Rattle.wf_object.specs.Shown.{spent_by, state_of}
 use Rattle.wf_object.proofs.Keeps.{step_kept}
 use Rattle.wf_object.proofs.Spends.{bodies_room, inside_room, outside_room, later}
-use Rattle.wf_object.proofs.OneStep.{stands, step_is, answer_is, noted_is}
+use Rattle.wf_object.proofs.OneStep.{some_at}
 use Rattle.wf_object.proofs.machine.Machine.take_loudly.Goals as goal
 
-pub note_step-requires-clause-in_range : goal.note_step-requires-clause-in_range
-note_step-requires-clause-in_range g c =
+pub show_step-requires-clause-in_range : goal.show_step-requires-clause-in_range
+show_step-requires-clause-in_range g c =
     let s = c.self.inside in
-    let within : c.args.p < s.sizes.processes = rw (← c.self.view_is) at c.requires in
-    c.self.invariant.sound.in_range _ _ (stands s.processes.items s.sizes.processes c.args.p c.index-process.result.now c.self.invariant.sound.count within c.index-process.ensures)
+    subst (λ (ps : List (Process _)). Each (λ _ q. IsInRange s.sizes q) ps) (sym c.deref_mut.ensures.value) c.self.invariant.sound.in_range
 
-pub note_step-requires-clause-fits : goal.note_step-requires-clause-fits
-note_step-requires-clause-fits g c =
+pub show_step-requires-clause-fits : goal.show_step-requires-clause-fits
+show_step-requires-clause-fits g c =
     let s = c.self.inside in
-    let within : c.args.p < s.sizes.processes = rw (← c.self.view_is) at c.requires in
-    c.self.invariant.sound.calls_fit _ _ (stands s.processes.items s.sizes.processes c.args.p c.index-process.result.now c.self.invariant.sound.count within c.index-process.ensures)
+    subst (λ (ps : List (Process _)). Each (λ _ q. CallsFit (g.E.Engine.fits s.engine) q) ps) (sym c.deref_mut.ensures.value) c.self.invariant.sound.calls_fit
 
-pub note_step-requires-clause-in_turn : goal.note_step-requires-clause-in_turn
-note_step-requires-clause-in_turn g c =
+pub show_step-requires-clause-root_mark : goal.show_step-requires-clause-root_mark
+show_step-requires-clause-root_mark g c =
     let s = c.self.inside in
+    let kept = c.self.invariant in
+    let within : c.args.p < s.sizes.processes = rw (← c.self.view_is) at c.requires.process in
+    omega (arith, within, kept.sound.shaped.own_in c.args.p (omega (arith, within, kept.sound.shaped.owns)), kept.sound.marks.count_roots)
+
+pub show_step-requires-clause-in_turn : goal.show_step-requires-clause-in_turn
+show_step-requires-clause-in_turn g c =
+    let s = c.self.inside in
+    let kept = c.self.invariant in
+    let within : c.args.p < s.sizes.processes = rw (← c.self.view_is) at c.requires.process in
+    let q = some_at s.processes.items c.args.p (omega (arith, within, kept.sound.count)) in
     let m = g.E.Engine.meaning s.engine in
-    let within : c.args.p < s.sizes.processes = rw (← c.self.view_is) at c.requires in
-    let y = c.index-process.result.now in
-    let also = stands s.processes.items s.sizes.processes c.args.p y c.self.invariant.sound.count within c.index-process.ensures in
-    subst (λ (ps : List (Process _)). IsHistory (history_after s.records.history (event_at y.label m s.sizes s.shared.cell ps c.args.p y))) (sym c.deref.ensures.value)
-    (event_in_turn y.label m s.sizes s.shared.cell s.processes.items c.args.p y s.records.history refl (c.self.invariant.sound.in_range _ _ also) (c.self.invariant.sound.own_events _ _ also) c.self.invariant.sound.in_turn)
+    let seen : seen_of m s.sizes s.shared.cell c.deref_mut.result.now c.args.p ≡ event_at q.0.label m s.sizes s.shared.cell s.processes.items c.args.p q.0 =
+    ap (λ (ps : List (Process _)). seen_of m s.sizes s.shared.cell ps c.args.p) c.deref_mut.ensures.value
+    ∙ ap (seen_by m s.sizes s.shared.cell s.processes.items c.args.p) q.1 in
+    subst (λ e. IsHistory (history_after s.records.history e)) (sym seen)
+    (event_in_turn q.0.label m s.sizes s.shared.cell s.processes.items c.args.p q.0 s.records.history refl (kept.sound.in_range _ _ q.1) (kept.sound.own_events _ _ q.1) kept.sound.in_turn)
 
-pub count_step-requires-clause-bodies : goal.count_step-requires-clause-bodies
-count_step-requires-clause-bodies g c =
+pub show_step-requires-clause-bodies : goal.show_step-requires-clause-bodies
+show_step-requires-clause-bodies g c =
     let s = c.self.inside in
     let kept = c.self.invariant in
-    let within : c.args.p < s.sizes.processes = rw (← c.self.view_is) at c.requires in
-    let y = c.index-process.result.now in
-    let also = stands s.processes.items s.sizes.processes c.args.p y kept.sound.count within c.index-process.ensures in
-    let x = c.index_mut-spent.result.now in
+    let within : c.args.p < s.sizes.processes = rw (← c.self.view_is) at c.requires.process in
+    let q = some_at s.processes.items c.args.p (omega (arith, within, kept.sound.count)) in
+    let x = c.index_mut.result.now in
     let count : c.args.p < length s.spent.items = omega (arith, within, kept.spends.count, kept.sound.count) in
-    let is : x ≡ spent_of s.spent.items c.args.p = sym (get_or_from_slice_get s.spent.items c.args.p x unspent (slice_get_read s.spent.items (length s.spent.items) c.args.p x refl count c.index_mut-spent.ensures.value)) in
-    rw is (bodies_room (g.E.Engine.meaning s.engine) s.sizes y _ kept.sound.sized (kept.sound.in_range _ _ also) (kept.spends.each _ _ also))
+    let is : x ≡ spent_of s.spent.items c.args.p = sym (get_or_from_slice_get s.spent.items c.args.p x unspent (slice_get_read s.spent.items (length s.spent.items) c.args.p x refl count c.index_mut.ensures.value)) in
+    rw is (bodies_room (g.E.Engine.meaning s.engine) s.sizes q.0 _ kept.sound.sized (kept.sound.in_range _ _ q.1) (kept.spends.each _ _ q.1))
 
-pub count_step-requires-clause-inside : goal.count_step-requires-clause-inside
-count_step-requires-clause-inside g c =
+pub show_step-requires-clause-inside : goal.show_step-requires-clause-inside
+show_step-requires-clause-inside g c =
     let s = c.self.inside in
     let kept = c.self.invariant in
-    let within : c.args.p < s.sizes.processes = rw (← c.self.view_is) at c.requires in
-    let y = c.index-process.result.now in
-    let also = stands s.processes.items s.sizes.processes c.args.p y kept.sound.count within c.index-process.ensures in
-    let x = c.index_mut-spent.result.now in
+    let within : c.args.p < s.sizes.processes = rw (← c.self.view_is) at c.requires.process in
+    let q = some_at s.processes.items c.args.p (omega (arith, within, kept.sound.count)) in
+    let x = c.index_mut.result.now in
     let count : c.args.p < length s.spent.items = omega (arith, within, kept.spends.count, kept.sound.count) in
-    let is : x ≡ spent_of s.spent.items c.args.p = sym (get_or_from_slice_get s.spent.items c.args.p x unspent (slice_get_read s.spent.items (length s.spent.items) c.args.p x refl count c.index_mut-spent.ensures.value)) in
-    rw is (inside_room s.sizes.processes s.records.schedule _ kept.sound.below.schedule c.few_turns.ensures (kept.among _ _ also))
+    let is : x ≡ spent_of s.spent.items c.args.p = sym (get_or_from_slice_get s.spent.items c.args.p x unspent (slice_get_read s.spent.items (length s.spent.items) c.args.p x refl count c.index_mut.ensures.value)) in
+    rw is (inside_room s.sizes.processes s.records.schedule _ kept.sound.below.schedule c.few_turns.ensures (kept.among _ _ q.1))
 
-pub count_step-requires-clause-outside : goal.count_step-requires-clause-outside
-count_step-requires-clause-outside g c =
+pub show_step-requires-clause-outside : goal.show_step-requires-clause-outside
+show_step-requires-clause-outside g c =
     let s = c.self.inside in
     let kept = c.self.invariant in
-    let within : c.args.p < s.sizes.processes = rw (← c.self.view_is) at c.requires in
-    let y = c.index-process.result.now in
-    let also = stands s.processes.items s.sizes.processes c.args.p y kept.sound.count within c.index-process.ensures in
-    let x = c.index_mut-spent.result.now in
+    let within : c.args.p < s.sizes.processes = rw (← c.self.view_is) at c.requires.process in
+    let q = some_at s.processes.items c.args.p (omega (arith, within, kept.sound.count)) in
+    let x = c.index_mut.result.now in
     let count : c.args.p < length s.spent.items = omega (arith, within, kept.spends.count, kept.sound.count) in
-    let is : x ≡ spent_of s.spent.items c.args.p = sym (get_or_from_slice_get s.spent.items c.args.p x unspent (slice_get_read s.spent.items (length s.spent.items) c.args.p x refl count c.index_mut-spent.ensures.value)) in
-    rw is (outside_room (g.E.Engine.meaning s.engine) s.sizes y _ kept.sound.sized (kept.sound.in_range _ _ also) (kept.spends.each _ _ also))
+    let is : x ≡ spent_of s.spent.items c.args.p = sym (get_or_from_slice_get s.spent.items c.args.p x unspent (slice_get_read s.spent.items (length s.spent.items) c.args.p x refl count c.index_mut.ensures.value)) in
+    rw is (outside_room (g.E.Engine.meaning s.engine) s.sizes q.0 _ kept.sound.sized (kept.sound.in_range _ _ q.1) (kept.spends.each _ _ q.1))
 
-pub act-requires-clause-in_range : goal.act-requires-clause-in_range
-act-requires-clause-in_range g c =
+pub returns-in_err-out-clause-err : goal.returns-in_err-out-clause-err
+returns-in_err-out-clause-err g c =
     let s = c.self.inside in
-    let within : c.args.p < s.sizes.processes = rw (← c.self.view_is) at c.requires in
-    c.self.invariant.sound.in_range _ _ (stands s.processes.items s.sizes.processes c.args.p c.index_mut.result.now c.self.invariant.sound.count within c.index_mut.ensures.value)
-
-pub act-requires-clause-fits : goal.act-requires-clause-fits
-act-requires-clause-fits g c =
-    let s = c.self.inside in
-    let within : c.args.p < s.sizes.processes = rw (← c.self.view_is) at c.requires in
-    c.self.invariant.sound.calls_fit _ _ (stands s.processes.items s.sizes.processes c.args.p c.index_mut.result.now c.self.invariant.sound.count within c.index_mut.ensures.value)
-
-pub act-requires-clause-ready : goal.act-requires-clause-ready
-act-requires-clause-ready g c =
-    let s = c.self.inside in
-    let within : c.args.p < s.sizes.processes = rw (← c.self.view_is) at c.requires in
-    c.self.invariant.sound.runs_ready _ _ (stands s.processes.items s.sizes.processes c.args.p c.index_mut.result.now c.self.invariant.sound.count within c.index_mut.ensures.value)
-
-pub act-requires-clause-stores_bit : goal.act-requires-clause-stores_bit
-act-requires-clause-stores_bit g c =
-    let s = c.self.inside in
-    let within : c.args.p < s.sizes.processes = rw (← c.self.view_is) at c.requires in
-    c.self.invariant.sound.stores_bit _ _ (stands s.processes.items s.sizes.processes c.args.p c.index_mut.result.now c.self.invariant.sound.count within c.index_mut.ensures.value)
+    let kept = c.self.invariant in
+    let e = g.E.Engine in
+    let m = e.meaning s.engine in
+    let within : c.args.p < s.sizes.processes = rw (← c.self.view_is) at c.requires.process in
+    let q = some_at s.processes.items c.args.p (omega (arith, within, kept.sound.count)) in
+    let ps = s.processes.items in
+    let xs = s.spent.items in
+    let state : State _ = state_of s.shared.cell ps s.records in
+    let long : length c.show_step.new.processes ≡ s.processes.len = omega (arith, c.show_step.auto.processes, ap length c.deref_mut.ensures.value, s.processes.ok.0) in
+    let whole : (with_items s.processes c.show_step.new.processes).items ≡ c.show_step.new.processes = with_items_is s.processes c.show_step.new.processes long in
+    let x = c.index_mut.result.now in
+    let count : c.args.p < length xs = omega (arith, within, kept.spends.count, kept.sound.count) in
+    let is : x ≡ spent_of xs c.args.p = sym (get_or_from_slice_get xs c.args.p x unspent (slice_get_read xs (length xs) c.args.p x refl count c.index_mut.ensures.value)) in
+    let unmoved : state_of c.show_step.new.shared.cell (with_items s.processes c.show_step.new.processes).items c.show_step.new.records ≡ state =
+    ap (λ (k : List (Process _)). state_of c.show_step.new.shared.cell k c.show_step.new.records) (whole ∙ c.in_err-out.ensures.no_process ∙ c.deref_mut.ensures.value)
+    ∙ ap₂ (λ (k : Memory) (r : Records). state_of k.cell ps r) c.in_err-out.ensures.no_cell c.in_err-out.ensures.no_record in
+    let unpaid : set xs c.args.p c.show_step.new.spent ≡ xs =
+    ap (λ (k : Spent). set xs c.args.p k) (c.in_err-out.ensures.no_spent ∙ is) ∙ set-get_or xs c.args.p unspent in
+    let after : Object _ _ = record { engine = s.engine; sizes = s.sizes; opening = s.opening.items; state = state_of c.show_step.new.shared.cell (with_items s.processes c.show_step.new.processes).items c.show_step.new.records; spent = set xs c.args.p c.show_step.new.spent } in
+    let before : Object _ _ = record { engine = s.engine; sizes = s.sizes; opening = s.opening.items; state = state; spent = xs } in
+    let same : after ≡ before =
+    ap (λ (k : State _). record { engine = s.engine; sizes = s.sizes; opening = s.opening.items; state = k; spent = set xs c.args.p c.show_step.new.spent }) unmoved
+    ∙ ap (λ (k : List Spent). record { engine = s.engine; sizes = s.sizes; opening = s.opening.items; state = state; spent = k }) unpaid in
+    rw (← c.self.view_is) (at_err (after ≡ before) c.from_residual.result same)
 
 pub invariant_of-self-2 : goal.invariant_of-self-2
 invariant_of-self-2 g c =
     let s = c.self.inside in
+    let kept = c.self.invariant in
     let e = g.E.Engine in
     let m = e.meaning s.engine in
-    let within : c.args.p < s.sizes.processes = rw (← c.self.view_is) at c.requires in
+    let within : c.args.p < s.sizes.processes = rw (← c.self.view_is) at c.requires.process in
+    let q = some_at s.processes.items c.args.p (omega (arith, within, kept.sound.count)) in
+    let ps = s.processes.items in
+    let xs = s.spent.items in
+    let state : State _ = state_of s.shared.cell ps s.records in
+    let long : length c.show_step.new.processes ≡ s.processes.len = omega (arith, c.show_step.auto.processes, ap length c.deref_mut.ensures.value, s.processes.ok.0) in
+    let whole : (with_items s.processes c.show_step.new.processes).items ≡ c.show_step.new.processes = with_items_is s.processes c.show_step.new.processes long in
+    let here : state_of c.show_step.new.shared.cell c.show_step.new.processes c.show_step.new.records ≡ step_of m s.sizes state c.args.p =
+    c.in_ok-out.ensures.state ∙ ap (λ (k : List (Process _)). step_of m s.sizes (state_of s.shared.cell k s.records) c.args.p) c.deref_mut.ensures.value in
+    let moved = ap (λ (k : List (Process _)). state_of c.show_step.new.shared.cell k c.show_step.new.records) whole ∙ here in
     let x = c.index_mut.result.now in
-    let y = c.index-process.result.now in
-    let at = stands s.processes.items s.sizes.processes c.args.p x c.self.invariant.sound.count within c.index_mut.ensures.value in
-    let also = stands s.processes.items s.sizes.processes c.args.p y c.self.invariant.sound.count within c.index-process.ensures in
-    let same : y ≡ x = same_Some y x (sym also ∙ at) in
-    let state : State _ = record { cell = s.shared.cell; processes = s.processes.items; records = s.records } in
-    let records = noted_is m s.sizes state c.args.p x at c.note_step.new.records c.deref.result.now y c.in_ok-out.ensures.ok c.deref.ensures.value same in
-    let sp = c.index_mut-spent.result.now in
-    let count : c.args.p < length s.spent.items = omega (arith, within, c.self.invariant.spends.count, c.self.invariant.sound.count) in
-    let is : sp ≡ spent_of s.spent.items c.args.p = sym (get_or_from_slice_get s.spent.items c.args.p sp unspent (slice_get_read s.spent.items (length s.spent.items) c.args.p sp refl count c.index_mut-spent.ensures.value)) in
-    let spends : c.count_step.new.spent ≡ later m s.sizes state c.args.p x at s.spent.items =
-    c.count_step.ensures ∙ ap (λ (k : Spent). spent_after c.process.inside.label c.has_more-begins.result k) is
-    ∙ ap (λ (b : Bool). spent_after c.process.inside.label b (spent_of s.spent.items c.args.p)) c.has_more-begins.ensures
-    ∙ ap (λ (k : Process _). spent_after k.label (has_more y) (spent_of s.spent.items c.args.p)) c.process.view_is
-    ∙ ap (λ (k : Process _). spent_after k.label (has_more k) (spent_of s.spent.items c.args.p)) same in
-    rw (c.act.ensures.cell, c.act.ensures.form, c.act.ensures.process, records, spends)
-    (step_kept m (e.lawful s.engine) (e.fits s.engine) (e.ready s.engine) (e.effect s.engine) (g.met.E.Engine.law s.engine) s.sizes s.opening.items state c.args.p x at s.spent.items s.shared.form c.self.invariant)
+    let count : c.args.p < length xs = omega (arith, within, kept.spends.count, kept.sound.count) in
+    let is : x ≡ spent_of xs c.args.p = sym (get_or_from_slice_get xs c.args.p x unspent (slice_get_read xs (length xs) c.args.p x refl count c.index_mut.ensures.value)) in
+    let spends : c.show_step.new.spent ≡ spent_after q.0.label (has_more q.0) (spent_of xs c.args.p) =
+    c.in_ok-out.ensures.spent
+    ∙ ap (λ (k : List (Process _)). spent_by (slice_get k c.args.p) x) c.deref_mut.ensures.value
+    ∙ ap (λ (o : Option (Process _)). spent_by o x) q.1
+    ∙ ap (λ (k : Spent). spent_after q.0.label (has_more q.0) k) is in
+    let next : State _ = stepped m s.sizes state c.args.p q.0 in
+    let moves = moved ∙ ap (step_by m s.sizes state c.args.p) q.1 in
+    let paid = ap (λ (k : Spent). set xs c.args.p k) spends in
+    let is_kept = step_kept m (e.lawful s.engine) (e.fits s.engine) (e.ready s.engine) (e.effect s.engine) (g.met.E.Engine.law s.engine) s.sizes s.opening.items state c.args.p q.0 q.1 xs s.shared.form kept in
+    subst (λ (k : State _). IsKept m (e.lawful s.engine) (e.fits s.engine) (e.ready s.engine) s.sizes s.opening.items k (set xs c.args.p c.show_step.new.spent) c.show_step.new.shared.form) (sym moves)
+    (subst (λ (k : List Spent). IsKept m (e.lawful s.engine) (e.fits s.engine) (e.ready s.engine) s.sizes s.opening.items next k c.show_step.new.shared.form) (sym paid)
+    (subst (λ (k : Form). IsKept m (e.lawful s.engine) (e.fits s.engine) (e.ready s.engine) s.sizes s.opening.items next (set xs c.args.p (later m s.sizes state c.args.p q.0 q.1 xs)) k) (sym c.in_ok-out.ensures.form) is_kept))
 
 pub returns-clause-stepped : goal.returns-clause-stepped
 returns-clause-stepped g c =
     let s = c.self.inside in
-    let m = g.E.Engine.meaning s.engine in
-    let within : c.args.p < s.sizes.processes = rw (← c.self.view_is) at c.requires in
+    let kept = c.self.invariant in
+    let e = g.E.Engine in
+    let m = e.meaning s.engine in
+    let within : c.args.p < s.sizes.processes = rw (← c.self.view_is) at c.requires.process in
+    let q = some_at s.processes.items c.args.p (omega (arith, within, kept.sound.count)) in
+    let ps = s.processes.items in
+    let xs = s.spent.items in
+    let state : State _ = state_of s.shared.cell ps s.records in
+    let long : length c.show_step.new.processes ≡ s.processes.len = omega (arith, c.show_step.auto.processes, ap length c.deref_mut.ensures.value, s.processes.ok.0) in
+    let whole : (with_items s.processes c.show_step.new.processes).items ≡ c.show_step.new.processes = with_items_is s.processes c.show_step.new.processes long in
+    let here : state_of c.show_step.new.shared.cell c.show_step.new.processes c.show_step.new.records ≡ step_of m s.sizes state c.args.p =
+    c.in_ok-out.ensures.state ∙ ap (λ (k : List (Process _)). step_of m s.sizes (state_of s.shared.cell k s.records) c.args.p) c.deref_mut.ensures.value in
+    let moved = ap (λ (k : List (Process _)). state_of c.show_step.new.shared.cell k c.show_step.new.records) whole ∙ here in
     let x = c.index_mut.result.now in
-    let y = c.index-process.result.now in
-    let at = stands s.processes.items s.sizes.processes c.args.p x c.self.invariant.sound.count within c.index_mut.ensures.value in
-    let also = stands s.processes.items s.sizes.processes c.args.p y c.self.invariant.sound.count within c.index-process.ensures in
-    let same : y ≡ x = same_Some y x (sym also ∙ at) in
-    let state : State _ = record { cell = s.shared.cell; processes = s.processes.items; records = s.records } in
-    let records = noted_is m s.sizes state c.args.p x at c.note_step.new.records c.deref.result.now y c.in_ok-out.ensures.ok c.deref.ensures.value same in
-    let sp = c.index_mut-spent.result.now in
-    let count : c.args.p < length s.spent.items = omega (arith, within, c.self.invariant.spends.count, c.self.invariant.sound.count) in
-    let is : sp ≡ spent_of s.spent.items c.args.p = sym (get_or_from_slice_get s.spent.items c.args.p sp unspent (slice_get_read s.spent.items (length s.spent.items) c.args.p sp refl count c.index_mut-spent.ensures.value)) in
-    let spends : c.count_step.new.spent ≡ later m s.sizes state c.args.p x at s.spent.items =
-    c.count_step.ensures ∙ ap (λ (k : Spent). spent_after c.process.inside.label c.has_more-begins.result k) is
-    ∙ ap (λ (b : Bool). spent_after c.process.inside.label b (spent_of s.spent.items c.args.p)) c.has_more-begins.ensures
-    ∙ ap (λ (k : Process _). spent_after k.label (has_more y) (spent_of s.spent.items c.args.p)) c.process.view_is
-    ∙ ap (λ (k : Process _). spent_after k.label (has_more k) (spent_of s.spent.items c.args.p)) same in
-    let moved = step_is m s.sizes state c.args.p x at c.act.new.shared.cell c.act.new.q c.note_step.new.records c.act.ensures.cell c.act.ensures.process records in
-    let paid : set s.spent.items c.args.p c.count_step.new.spent ≡ spent_by_step state s.spent.items c.args.p =
-    ap (λ (k : Spent). set s.spent.items c.args.p k) spends ∙ sym (ap (count_by spent_after unspent s.spent.items c.args.p) at) in
+    let count : c.args.p < length xs = omega (arith, within, kept.spends.count, kept.sound.count) in
+    let is : x ≡ spent_of xs c.args.p = sym (get_or_from_slice_get xs c.args.p x unspent (slice_get_read xs (length xs) c.args.p x refl count c.index_mut.ensures.value)) in
+    let spends : c.show_step.new.spent ≡ spent_after q.0.label (has_more q.0) (spent_of xs c.args.p) =
+    c.in_ok-out.ensures.spent
+    ∙ ap (λ (k : List (Process _)). spent_by (slice_get k c.args.p) x) c.deref_mut.ensures.value
+    ∙ ap (λ (o : Option (Process _)). spent_by o x) q.1
+    ∙ ap (λ (k : Spent). spent_after q.0.label (has_more q.0) k) is in
+    let paid : set xs c.args.p c.show_step.new.spent ≡ spent_by_step state xs c.args.p =
+    ap (λ (k : Spent). set xs c.args.p k) spends ∙ sym (ap (count_by spent_after unspent xs c.args.p) q.1) in
     rw (← c.self.view_is)
-    (ap (λ (k : State _). record { engine = s.engine; sizes = s.sizes; opening = s.opening.items; state = k; spent = set s.spent.items c.args.p c.count_step.new.spent }) moved
+    (ap (λ (k : State _). record { engine = s.engine; sizes = s.sizes; opening = s.opening.items; state = k; spent = set xs c.args.p c.show_step.new.spent }) moved
     ∙ ap (λ (k : List Spent). record { engine = s.engine; sizes = s.sizes; opening = s.opening.items; state = step_of m s.sizes state c.args.p; spent = k }) paid)
-
-pub returns-clause-answer : goal.returns-clause-answer
-returns-clause-answer g c =
-    let s = c.self.inside in
-    let m = g.E.Engine.meaning s.engine in
-    let within : c.args.p < s.sizes.processes = rw (← c.self.view_is) at c.requires in
-    let y = c.index-process.result.now in
-    let also = stands s.processes.items s.sizes.processes c.args.p y c.self.invariant.sound.count within c.index-process.ensures in
-    rw (← c.self.view_is) (answer_is m s.sizes (record { cell = s.shared.cell; processes = s.processes.items; records = s.records }) c.args.p y also _ (event_at y.label m s.sizes s.shared.cell c.deref.result.now c.args.p y) c.in_ok-out.ensures.answer (ap (λ (ps : List (Process _)). event_at y.label m s.sizes s.shared.cell ps c.args.p y) c.deref.ensures.value))
 
 pub returns-clause-turn : goal.returns-clause-turn
 returns-clause-turn g c =
     let s = c.self.inside in
-    rw (← c.self.view_is) (ap (λ (r : Records). steps_of r.schedule) c.in_ok-out.ensures.ok ∙ one_turn s.records.schedule c.args.p)
+    let kept = c.self.invariant in
+    let e = g.E.Engine in
+    let m = e.meaning s.engine in
+    let within : c.args.p < s.sizes.processes = rw (← c.self.view_is) at c.requires.process in
+    let q = some_at s.processes.items c.args.p (omega (arith, within, kept.sound.count)) in
+    let ps = s.processes.items in
+    let xs = s.spent.items in
+    let state : State _ = state_of s.shared.cell ps s.records in
+    let here : state_of c.show_step.new.shared.cell c.show_step.new.processes c.show_step.new.records ≡ step_of m s.sizes state c.args.p =
+    c.in_ok-out.ensures.state ∙ ap (λ (k : List (Process _)). step_of m s.sizes (state_of s.shared.cell k s.records) c.args.p) c.deref_mut.ensures.value in
+    rw (← c.self.view_is) (ap (λ (k : State _). steps_of k.records.schedule) (here ∙ ap (step_by m s.sizes state c.args.p) q.1) ∙ one_turn s.records.schedule c.args.p)
 
 pub returns-clause-few : goal.returns-clause-few
 returns-clause-few g c =
     let s = c.self.inside in
+    let kept = c.self.invariant in
     let e = g.E.Engine in
     let m = e.meaning s.engine in
-    let within : c.args.p < s.sizes.processes = rw (← c.self.view_is) at c.requires in
-    let y = c.index-process.result.now in
-    let also = stands s.processes.items s.sizes.processes c.args.p y c.self.invariant.sound.count within c.index-process.ensures in
-    let state : State _ = record { cell = s.shared.cell; processes = s.processes.items; records = s.records } in
-    let answer = answer_is m s.sizes state c.args.p y also _ (event_at y.label m s.sizes s.shared.cell c.deref.result.now c.args.p y) c.in_ok-out.ensures.answer (ap (λ (ps : List (Process _)). event_at y.label m s.sizes s.shared.cell ps c.args.p y) c.deref.ensures.value) in
-    subst (λ (a : Answer). length (values_answered a) ≤ 8) (sym answer) (few_answered m (e.lawful s.engine) (e.fits s.engine) (e.ready s.engine) (e.effect s.engine) (g.met.E.Engine.law s.engine) s.sizes s.opening.items state c.args.p c.self.invariant.sound)
+    let within : c.args.p < s.sizes.processes = rw (← c.self.view_is) at c.requires.process in
+    let q = some_at s.processes.items c.args.p (omega (arith, within, kept.sound.count)) in
+    let ps = s.processes.items in
+    let xs = s.spent.items in
+    let state : State _ = state_of s.shared.cell ps s.records in
+    let answer = c.in_ok-out.ensures.answer ∙ ap (λ (k : List (Process _)). answer_of m s.sizes (state_of s.shared.cell k s.records) c.args.p) c.deref_mut.ensures.value in
+    subst (λ (a : Answer). length (values_answered a) ≤ 8) (sym answer) (few_answered m (e.lawful s.engine) (e.fits s.engine) (e.ready s.engine) (e.effect s.engine) (g.met.E.Engine.law s.engine) s.sizes s.opening.items state c.args.p kept.sound)
