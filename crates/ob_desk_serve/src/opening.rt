@@ -14,11 +14,9 @@ use ob_code_engine::CodeEngine;
 use ob_code_layout::encode;
 use ob_desk::Desk;
 use ob_desk_floor::{Seat, Submission};
-use ob_interface::call::Call;
 use ob_interface::{MOST_PROCESSES, NoMemory};
 use ob_object_compile::Object;
 use ob_text_words::script_call::ScriptCall;
-use smallvec::SmallVec;
 use std::alloc::{AllocError, Global};
 
 /// The tag of the seats.
@@ -50,13 +48,9 @@ pub fn submissions(alloc: Global, scripts: &[ScriptCall]) -> Result<Vec<Submissi
 {
     let mut submissions = Vec::with_capacity(alloc, scripts.len())?;
     for script in scripts {
-        let call = Call {
-            proc: script.proc,
-            args: SmallVec::from_slice(alloc, script.args.as_slice())?,
-        };
         submissions.push(Submission {
             process: script.process,
-            call,
+            call: script.asked(alloc)?,
         })?;
     }
     Ok(submissions)

@@ -34,7 +34,7 @@ pub fn makers<E: Engine>(
     ensures fault { IfErr result (λ e. e ≡ Faults.NoMemory) }
 {
     let mut machine = Machine::new(alloc, engine, n, opening)?;
-    submit_all(&mut machine, calls)?;
+    submit_all(alloc, &mut machine, calls)?;
     let mut makers = Vec::new(alloc);
     take_all(&mut machine, schedule, &mut makers)?;
     Ok(makers)

@@ -11,7 +11,6 @@ ghost use Rattle.wf_table.specs.Start.{sizes_of};
 
 use crate::item::play_item;
 use ob_interface::NoMemory;
-use ob_interface::call::Call;
 use ob_schedule::Item;
 use ob_text_words::script_call::ScriptCall;
 use std::alloc::Global;
@@ -82,13 +81,14 @@ pub fn play<E: Engine>(
     ensures fault { IfErr result (λ e. IsPlayFault (E.meaning engine) (E.ready engine) n opening.now (scripts_in calls.items) items.now e) }
 {
     let mut machine = Machine::new(alloc, engine, n, opening)?;
-    submit_all(&mut machine, calls)?;
+    submit_all(alloc, &mut machine, calls)?;
     play_items(&mut machine, items, MOST_STEPS)?;
     Ok(machine)
 }
 
 /// Submits the calls, in order.
 pub(crate) fn submit_all<E: Engine>(
+    alloc: Global,
     machine: &mut Machine<E>,
     calls: Vec<ScriptCall>,
 ) -> Result<(), NoMemory>
@@ -97,12 +97,9 @@ pub(crate) fn submit_all<E: Engine>(
     ensures object { OnOk result (IsSameObject machine.new machine.old) }
     ensures state { OnOk result (machine.new.state ≡ run (E.meaning machine.old.engine) machine.old.sizes (submissions (scripts_in calls.items)) machine.old.state) }
 {
-    for ScriptCall {
-        process,
-        proc,
-        args,
-    } in calls {
-        machine.submit(process, Call { proc, args })?;
+    for call in calls {
+        let asked = call.asked(alloc)?;
+        machine.submit(call.process, asked)?;
     }
     Ok(())
 }

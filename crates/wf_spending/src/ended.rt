@@ -8,7 +8,6 @@ ghost use Rattle.wf_table.specs.Runs.{run, submissions};
 ghost use Rattle.wf_table.specs.Schedule.{steps_of};
 
 use ob_interface::NoMemory;
-use ob_interface::call::Call;
 use ob_text_words::script_call::ScriptCall;
 use std::alloc::Global;
 use wf_history::CallId;
@@ -43,24 +42,25 @@ pub fn ended_calls<E: Engine>(
         Err(NewFault::NoMemory) => return Err(NoMemory),
         Err(NewFault::Processes) => unreachable!(),
     };
-    submit_all(&mut machine, calls)?;
+    submit_all(alloc, &mut machine, calls)?;
     let mut ended = Vec::new(alloc);
     take_all(&mut machine, schedule, &mut ended)?;
     Ok(ended)
 }
 
 /// Submits the calls, in order.
-fn submit_all<E: Engine>(machine: &mut Machine<E>, calls: Vec<ScriptCall>) -> Result<(), NoMemory>
+fn submit_all<E: Engine>(
+    alloc: Global,
+    machine: &mut Machine<E>,
+    calls: Vec<ScriptCall>,
+) -> Result<(), NoMemory>
     requires callers { All (λ c. c.process < machine.old.sizes.processes) calls.items }
     requires fits { All (λ c. E.fits machine.old.engine (object_call (script_call_of c))) calls.items }
     ensures { OnOk result (machine.new ≡ record machine.old { state = run (E.meaning machine.old.engine) machine.old.sizes (submissions (scripts_in calls.items)) machine.old.state }) }
 {
-    for ScriptCall {
-        process,
-        proc,
-        args,
-    } in calls {
-        machine.submit(process, Call { proc, args })?;
+    for call in calls {
+        let asked = call.asked(alloc)?;
+        machine.submit(call.process, asked)?;
     }
     Ok(())
 }

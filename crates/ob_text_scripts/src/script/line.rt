@@ -13,6 +13,7 @@ use ob_text_exports::values::read_values;
 use ob_text_words::numbers::read_process;
 use ob_text_words::script_call::ScriptCall;
 use ob_text_words::words::is_name;
+use smallvec::SmallVec;
 use std::alloc::Global;
 
 /// The call that a line of these words makes; `None` for a line with nothing to say.
@@ -72,7 +73,7 @@ fn read_call(
     Ok(ScriptCall {
         process,
         proc,
-        args,
+        args: SmallVec::from_slice(alloc, &args)?,
     })
 }
 
