@@ -1,5 +1,5 @@
 -- Steps of one process in a row, as they change the cell, the process and what it has spent, are so many steps of the table.
-use Rattle.std.proofs.Common.{◌≡◌, ℕ, zero, suc, ◌+◌, ◌-◌, ◌^◌, ◌<◌, ◌≤◌, ◌≢◌, Bool, true, List, length, set, refl, sym, ap, ◌∙◌, arith, subst, inl, inr, get_or-set_same}
+use Rattle.std.proofs.Common.{◌≡◌, ℕ, zero, suc, ◌+◌, ◌-◌, ◌^◌, ◌<◌, ◌≤◌, ◌≢◌, Bool, true, false, List, length, set, refl, sym, ap, ◌∙◌, arith, subst, inl, inr, get_or-set_same}
 use Rattle.std.specs.Prelude.{ℤ, Some, slice_get}
 use Rattle.std.proofs.lemmas.Bool.{cases_lt}
 use Rattle.std.proofs.lemmas.List.{set-get_or, set-set}
@@ -14,7 +14,7 @@ use Rattle.wf_table.specs.declared.process.Sizes.{Sizes}
 use Rattle.wf_table.specs.declared.schedule.Turns.{Turns}
 use Rattle.wf_table.specs.Meaning.{Meaning}
 use Rattle.wf_table.specs.Law.{Effects, IsLawful}
-use Rattle.wf_table.specs.Ranges.{IsInRange, IsShaped}
+use Rattle.wf_table.specs.Ranges.{IsInRange, IsShaped, IsSized}
 use Rattle.wf_table.specs.Schedule.{counted}
 use Rattle.wf_table.specs.Scripts.{CallsFit}
 use Rattle.wf_table.specs.Table.{Process, cell_after, row}
@@ -64,6 +64,29 @@ outside_next x n = let e : x.outside + (n + 1) ≡ x.outside + n + 1 = omega ari
 pub outside_none : (x : Spent) → outside_more x 0 ≡ x
 outside_none x = let e : x.outside + 0 ≡ x.outside = omega arith in ap (λ (k : ℕ). record x { outside = k }) e
 
+-- labels of rows that only take a step outside bodies
+abbrev pub is_plain : Label → Bool
+is_plain Next = false
+is_plain Flip = false
+is_plain Enter = false
+is_plain Body = false
+is_plain Commit = false
+is_plain Give = false
+is_plain _ = true
+
+plain_unmarked : (l : Label) → is_plain l ≡ true → is_unmarked l ≡ true
+plain_unmarked Next h = absurd (cc)
+plain_unmarked Flip h = absurd (cc)
+plain_unmarked Commit h = absurd (cc)
+plain_unmarked Give h = absurd (cc)
+plain_unmarked _ h = refl
+
+plain_outside : (l : Label) (begins : Bool) (x : Spent) → is_plain l ≡ true → spent_after l begins x ≡ outside_more x 1
+plain_outside Next begins x h = absurd (cc)
+plain_outside Body begins x h = absurd (cc)
+plain_outside Enter begins x h = absurd (cc)
+plain_outside _ begins x h = refl
+
 -- a step that is no body's, and starts none
 pub spent_outside : (l : Label) (begins : Bool) (x : Spent) (n : ℕ) → is_unmarked l ≡ true → l ≢ Body → l ≢ Enter → outside_more x (n + 1) ≡ spent_after l begins (outside_more x n)
 spent_outside l begins x n h a b = outside_next x n ∙ sym (one_outside l begins (outside_more x n) h a b)
@@ -97,6 +120,21 @@ module _ {Run : Type 0} (m : Meaning Run) (z : Sizes) (p : ℕ) where
   one_unmarked h is j lt =
       let none : 0 ≡ j = omega (arith, lt) in
       subst (λ (n : ℕ). is_unmarked (by_rows m z p n h).process.label ≡ true) none is
+
+  -- one row that only takes a step outside bodies
+  pub plain_row : (l : Label) (c d : Cell) (q o : Process Run) (x : Spent) (n k j : ℕ) → is_plain l ≡ true → q.label ≡ l → k ≡ n + 1 → j ≡ 1 → d ≡ cell_after c p (row l m z c p q).change → o ≡ (row l m z c p q).process →
+      progress d o (outside_more x k) ≡ by_rows m z p j (progress c q (outside_more x n))
+  plain_row l c d q o x n k j plain is more one cell process =
+      let h = progress c q (outside_more x n) in
+      same_progress (progress d o (outside_more x k)) (progress (cell_after c p (row l m z c p q).change) (row l m z c p q).process (spent_after l (has_more q) (outside_more x n)))
+      cell process (ap (outside_more x) more ∙ outside_next x n ∙ sym (plain_outside l (has_more q) (outside_more x n) plain))
+      ∙ ap (λ (t : Label). progress (cell_after c p (row t m z c p q).change) (row t m z c p q).process (spent_after t (has_more q) (outside_more x n))) (sym is)
+      ∙ ap (λ (i : ℕ). by_rows m z p i h) (sym one)
+
+  pub plain_row_unmarked : (l : Label) (c : Cell) (q : Process Run) (x : Spent) (j : ℕ) → is_plain l ≡ true → q.label ≡ l → j ≡ 1 → AreUnmarked m z p j (progress c q x)
+  plain_row_unmarked l c q x j plain is one =
+      subst (λ (i : ℕ). AreUnmarked m z p i (progress c q x)) (sym one)
+      (one_unmarked (progress c q x) (subst (λ (t : Label). is_unmarked t ≡ true) (sym is) (plain_unmarked l plain)))
 
   pub rows_inside : (k : ℕ) (h : Progress Run) → (by_rows m z p k h).spent.inside ≤ h.spent.inside + k
   rows_inside zero h = omega arith
@@ -200,6 +238,9 @@ module _ {Run : Type 0} (m : Meaning Run) (lawful : List ℤ → Type 0) (fits :
   module _ (h : Progress Run) (o : IsInObject m lawful fits ready z p h) where
     pub in_shape : IsShaped z h.cell
     in_shape = subst (λ (u : Progress Run). IsShaped z u.cell) (sym o.is) o.kept.sound.shaped
+
+    pub in_sizes : IsSized z
+    in_sizes = o.kept.sound.sized
 
     pub in_processes : p < z.processes
     in_processes = omega (arith, slice_get_within o.state.processes p o.process o.here, o.kept.sound.count)

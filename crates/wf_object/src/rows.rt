@@ -3,12 +3,17 @@
 ghost use Rattle.std.specs.Prelude.{◌≡◌, ◌+◌, ◌<◌, ◌≤◌, ◌^◌};
 ghost use Rattle.wf_object.specs.Packed.{packed};
 ghost use Rattle.wf_object.specs.Progress.{AreUnmarked, IsInObject, by_rows, outside_more, progress};
+ghost use Rattle.wf_table.specs.Ranges.{IsSized, IsShaped, IsInRange};
+ghost use Rattle.wf_table.specs.Toggles.{StoresBit};
 
 use crate::bodies::stay;
 use crate::engine::Engine;
 use crate::process::Process;
 use crate::spent::{count_inside, count_outside};
-use crate::steps::{act, enter};
+use crate::steps::{
+    behind_fetch, check, enter, fetch, keep, link, load, mine, post, read, save, seen, store,
+    take_reply, try_round, undo,
+};
 use ll_cell::Shared;
 use wf_bound::Spent;
 use wf_table::{Label, Sizes};
@@ -69,8 +74,8 @@ fn take_all<E: Engine>(
     count
 }
 
-/// A step of the process, or where it stands in a body the steps of that, at most so many; and how many they are: none where more
-/// than its turn is noted of the step. The label is looked at once.
+/// Steps of the process from where it stands, at most so many, and how many they are: where it stands in a body steps of that, of a
+/// block's words several, else one; none where more than its turn is noted of the step. The label is looked at once.
 #[inline(always)]
 fn take_some<E: Engine>(
     engine: &E,
@@ -83,7 +88,12 @@ fn take_some<E: Engine>(
     most: u64,
 ) -> u64
     requires object { IsInObject (E.meaning engine.now) (E.lawful engine.now) (E.fits engine.now) (E.ready engine.now) z p (progress shared.old.cell q.old (outside_more spent.old outside.old)) }
+    requires sized { IsSized z }
+    requires shaped { IsShaped z shared.old.cell }
     requires packed { shared.old.form ≡ packed z }
+    requires process { p < z.processes }
+    requires in_range { IsInRange z q.old }
+    requires stores_bit { StoresBit z q.old }
     requires room { spent.old.inside + most < 2 ^ 128 }
     requires room_outside { outside.old + most < 2 ^ 64 }
     requires some { 0 < most }
@@ -95,21 +105,42 @@ fn take_some<E: Engine>(
 {
     match q.label {
         Label::Next | Label::Flip | Label::Commit | Label::Give => 0,
-        Label::Body => {
-            let count = stay(engine, z, shared, q, p, most);
-            count_inside(spent, count);
-            count
-        }
+        Label::Post => counted(outside, post(z, shared, q, p)),
+        Label::Try => counted(outside, try_round(q)),
+        Label::Link => counted(outside, link(shared, q, p)),
+        Label::Load => counted(outside, load(z, shared, q)),
+        Label::Store => counted(outside, store(z, shared, q, p)),
+        Label::Check1 => counted(outside, check(shared, q, p, Label::Mine)),
+        Label::Mine => counted(outside, mine(z, shared, q, p)),
+        Label::Seen => counted(outside, seen(z, shared, q, p)),
+        Label::Fetch => counted(outside, fetch(z, shared, q)),
+        Label::Check2 => counted(outside, check(shared, q, p, behind_fetch(z))),
+        Label::Save => counted(outside, save(z, shared, q, p)),
         Label::Enter => {
             enter(engine, q);
             spent.bodies += 1;
             *outside += 1;
             1
         }
-        _ => {
-            act(engine, z, shared, q, p);
-            *outside += 1;
-            1
+        Label::Body => {
+            let count = stay(engine, z, shared, q, p, most);
+            count_inside(spent, count);
+            count
         }
+        Label::Undo => counted(outside, undo(z, shared, q, p)),
+        Label::Keep => counted(outside, keep(engine, z, shared, q, p)),
+        Label::Read => counted(outside, read(shared, q)),
+        Label::Take => counted(outside, take_reply(z, shared, q, p)),
     }
+}
+
+/// One step outside bodies more, a row that was taken; and how many steps it is.
+#[inline(always)]
+fn counted(outside: &mut u64, _row: ()) -> u64
+    requires { outside.old + 1 < 2 ^ 64 }
+    ensures one { result ≡ 1 }
+    ensures more { outside.new ≡ outside.old + 1 }
+{
+    *outside += 1;
+    1
 }

@@ -7,7 +7,7 @@ ghost use Rattle.wf_table.specs.Ranges.{IsSized, IsShaped, IsInRange};
 ghost use Rattle.wf_table.specs.Toggles.{StoresBit};
 ghost use Rattle.wf_object.specs.Packed.{packed};
 ghost use Rattle.wf_object.specs.Quiet.{is_quiet};
-ghost use Rattle.wf_table.specs.declared.process.Label.TheVariants.{Post, Load, Store, Fetch, Save, Undo, Keep, Take};
+ghost use Rattle.wf_table.specs.declared.process.Label.TheVariants.{Post, Load, Store, Fetch, Save, Enter, Undo, Keep, Take};
 
 use crate::engine::Engine;
 use crate::process::Process;
@@ -405,10 +405,15 @@ pub fn take_reply<R>(z: Sizes, shared: &Shared, q: &mut Process<R>, p: usize)
     }
 }
 
-fn or_past(words: usize, label: Label, past: Label) -> Label
-    ensures { result ≡ or_past words label past }
+/// The row behind the second check: a loop of no words takes no step.
+pub fn behind_fetch(z: Sizes) -> Label
+    ensures { result ≡ or_past z.variables Save Enter }
 {
-    if words == 0 { past } else { label }
+    if z.variables == 0 {
+        Label::Enter
+    } else {
+        Label::Save
+    }
 }
 
 /// One step of the process on the cell, at a label that shows nothing.
@@ -440,12 +445,7 @@ pub fn act<E: Engine>(engine: &E, z: Sizes, shared: &mut Shared, q: &mut Process
         Label::Mine => mine(z, shared, q, p),
         Label::Seen => seen(z, shared, q, p),
         Label::Fetch => fetch(z, shared, q),
-        Label::Check2 => check(
-            shared,
-            q,
-            p,
-            or_past(z.variables, Label::Save, Label::Enter),
-        ),
+        Label::Check2 => check(shared, q, p, behind_fetch(z)),
         Label::Save => save(z, shared, q, p),
         Label::Enter => enter(engine, q),
         Label::Body => body(engine, z, shared, q, p),

@@ -1,6 +1,6 @@
 use Rattle.std.proofs.Common.{◌≡◌, ap, ◌∙◌, sym, subst, arith}
 use Rattle.wf_object.specs.Progress.{AreUnmarked, IsInObject, Progress, by_rows, outside_more, progress}
-use Rattle.wf_object.proofs.Progressing.{in_object_after, rows_inside, rows_join, unmarked_join}
+use Rattle.wf_object.proofs.Progressing.{bit_stored, in_object_after, in_processes, in_range, in_shape, in_sizes, rows_inside, rows_join, unmarked_join}
 use Rattle.wf_object.proofs.rows.take_all.Goals as goal
 
 pub take_some-some-requires-clause-object : goal.take_some-some-requires-clause-object
@@ -48,3 +48,42 @@ returns-then-some-eq0-clause-form g c = c.take_some-some.ensures.form ∙ c.loop
 
 pub returns-then-some-eq0-clause-unmarked : goal.returns-then-some-eq0-clause-unmarked
 returns-then-some-eq0-clause-unmarked g c = c.loop-count.invariant.unmarked
+
+pub take_some-some-requires-clause-sized : goal.take_some-some-requires-clause-sized
+take_some-some-requires-clause-sized g c =
+    let e = g.E.Engine in
+    let engine = c.args.engine.now in
+    in_sizes (e.meaning engine) (e.lawful engine) (e.fits engine) (e.ready engine) (e.effect engine) (g.met.E.Engine.law engine) c.args.z c.args.p _ c.requires.object
+
+pub take_some-some-requires-clause-process : goal.take_some-some-requires-clause-process
+take_some-some-requires-clause-process g c =
+    let e = g.E.Engine in
+    let engine = c.args.engine.now in
+    in_processes (e.meaning engine) (e.lawful engine) (e.fits engine) (e.ready engine) (e.effect engine) (g.met.E.Engine.law engine) c.args.z c.args.p _ c.requires.object
+
+pub take_some-some-requires-clause-shaped : goal.take_some-some-requires-clause-shaped
+take_some-some-requires-clause-shaped g c =
+    let e = g.E.Engine in
+    let engine = c.args.engine.now in
+    let first = progress c.args.shared.now.cell c.args.q.now (outside_more c.args.spent.now c.args.outside.now) in
+    let here = subst (IsInObject (e.meaning engine) (e.lawful engine) (e.fits engine) (e.ready engine) c.args.z c.args.p) (sym c.loop-count.invariant.leads)
+    (in_object_after (e.meaning engine) (e.lawful engine) (e.fits engine) (e.ready engine) (e.effect engine) (g.met.E.Engine.law engine) c.args.z c.args.p c.loop-count.count first c.requires.object) in
+    in_shape (e.meaning engine) (e.lawful engine) (e.fits engine) (e.ready engine) (e.effect engine) (g.met.E.Engine.law engine) c.args.z c.args.p _ here
+
+pub take_some-some-requires-clause-in_range : goal.take_some-some-requires-clause-in_range
+take_some-some-requires-clause-in_range g c =
+    let e = g.E.Engine in
+    let engine = c.args.engine.now in
+    let first = progress c.args.shared.now.cell c.args.q.now (outside_more c.args.spent.now c.args.outside.now) in
+    let here = subst (IsInObject (e.meaning engine) (e.lawful engine) (e.fits engine) (e.ready engine) c.args.z c.args.p) (sym c.loop-count.invariant.leads)
+    (in_object_after (e.meaning engine) (e.lawful engine) (e.fits engine) (e.ready engine) (e.effect engine) (g.met.E.Engine.law engine) c.args.z c.args.p c.loop-count.count first c.requires.object) in
+    in_range (e.meaning engine) (e.lawful engine) (e.fits engine) (e.ready engine) (e.effect engine) (g.met.E.Engine.law engine) c.args.z c.args.p _ here
+
+pub take_some-some-requires-clause-stores_bit : goal.take_some-some-requires-clause-stores_bit
+take_some-some-requires-clause-stores_bit g c =
+    let e = g.E.Engine in
+    let engine = c.args.engine.now in
+    let first = progress c.args.shared.now.cell c.args.q.now (outside_more c.args.spent.now c.args.outside.now) in
+    let here = subst (IsInObject (e.meaning engine) (e.lawful engine) (e.fits engine) (e.ready engine) c.args.z c.args.p) (sym c.loop-count.invariant.leads)
+    (in_object_after (e.meaning engine) (e.lawful engine) (e.fits engine) (e.ready engine) (e.effect engine) (g.met.E.Engine.law engine) c.args.z c.args.p c.loop-count.count first c.requires.object) in
+    bit_stored (e.meaning engine) (e.lawful engine) (e.fits engine) (e.ready engine) (e.effect engine) (g.met.E.Engine.law engine) c.args.z c.args.p _ here

@@ -1,13 +1,12 @@
 use Rattle.std.proofs.Common.{◌≡◌, ◌≢◌, ◌+◌, ap, refl, sym, subst, ◌∙◌}
 use Rattle.wf_table.specs.declared.process.Label.{Label}
-use Rattle.wf_table.specs.declared.process.Label.TheVariants.{Next, Flip, Enter, Body, Commit, Give}
-use Rattle.wf_table.specs.Table.{cell_after, row}
+use Rattle.wf_table.specs.declared.process.Label.TheVariants.{Post, Try, Link, Load, Store, Check1, Mine, Seen, Fetch, Check2, Save, Enter, Body, Undo, Keep, Read, Take}
+use Rattle.wf_table.specs.Table.{cell_after, check, row}
 use Rattle.wf_bound.specs.declared.spent.Spent.{Spent}
 use Rattle.wf_bound.specs.Spent.{has_more, spent_after}
 use Rattle.wf_object.specs.Progress.{outside_more, progress}
 use Rattle.wf_object.specs.Quiet.{is_unmarked}
-use Rattle.wf_object.proofs.QuietSteps.{unmarked_quiet}
-use Rattle.wf_object.proofs.Progressing.{in_body, in_processes, in_range, one_unmarked, outside_next, room_of_bodies, same_progress, spent_outside, unmarked_else}
+use Rattle.wf_object.proofs.Progressing.{in_body, one_unmarked, outside_next, plain_row, plain_row_unmarked, room_of_bodies, same_progress}
 use Rattle.wf_object.proofs.rows.take_some.Goals as goal
 
 pub returns-in-Body-clause-leads : goal.returns-in-Body-clause-leads
@@ -48,52 +47,128 @@ returns-in-Enter-clause-unmarked g c =
     let is : c.args.q.now.label ≡ Enter = rw (← c.q.view_is) c.in-Enter.is in
     one_unmarked (g.E.Engine.meaning c.args.engine.now) c.args.z c.args.p (progress c.args.shared.now.cell c.args.q.now (outside_more c.args.spent.now c.args.outside.now)) (ap is_unmarked is)
 
-pub returns-in_default-clause-leads : goal.returns-in_default-clause-leads
-returns-in_default-clause-leads g c =
-    let m = g.E.Engine.meaning c.args.engine.now in
-    let q = c.args.q.now in
-    let x = c.args.spent.now in
-    let n = c.args.outside.now in
-    let next : q.label ≢ Next = rw (← c.q.view_is) c.in_default.not-Next in
-    let flip : q.label ≢ Flip = rw (← c.q.view_is) c.in_default.not-Flip in
-    let commit : q.label ≢ Commit = rw (← c.q.view_is) c.in_default.not-Commit in
-    let give : q.label ≢ Give = rw (← c.q.view_is) c.in_default.not-Give in
-    let body : q.label ≢ Body = rw (← c.q.view_is) c.in_default.not-Body in
-    let enter : q.label ≢ Enter = rw (← c.q.view_is) c.in_default.not-Enter in
-    same_progress (progress c.act.new.shared.cell c.act.new.q (outside_more x (n + 1))) _ c.act.ensures.cell c.act.ensures.process (spent_outside q.label (has_more q) x n (unmarked_else q.label next flip commit give) body enter)
+pub returns-in-Post-clause-leads : goal.returns-in-Post-clause-leads
+returns-in-Post-clause-leads g c =
+    plain_row (g.E.Engine.meaning c.args.engine.now) c.args.z c.args.p Post c.args.shared.now.cell c.post.new.shared.cell c.args.q.now c.post.new.q c.args.spent.now c.args.outside.now c.counted.new.outside c.counted.result refl (rw (← c.q.view_is) c.in-Post.is) c.counted.ensures.more c.counted.ensures.one (c.post.ensures.cell) (c.post.ensures.process)
 
-pub returns-in_default-clause-unmarked : goal.returns-in_default-clause-unmarked
-returns-in_default-clause-unmarked g c =
-    let q = c.args.q.now in
-    let next : q.label ≢ Next = rw (← c.q.view_is) c.in_default.not-Next in
-    let flip : q.label ≢ Flip = rw (← c.q.view_is) c.in_default.not-Flip in
-    let commit : q.label ≢ Commit = rw (← c.q.view_is) c.in_default.not-Commit in
-    let give : q.label ≢ Give = rw (← c.q.view_is) c.in_default.not-Give in
-    one_unmarked (g.E.Engine.meaning c.args.engine.now) c.args.z c.args.p (progress c.args.shared.now.cell c.args.q.now (outside_more c.args.spent.now c.args.outside.now)) (unmarked_else q.label next flip commit give)
+pub returns-in-Post-clause-unmarked : goal.returns-in-Post-clause-unmarked
+returns-in-Post-clause-unmarked g c =
+    plain_row_unmarked (g.E.Engine.meaning c.args.engine.now) c.args.z c.args.p Post c.args.shared.now.cell c.args.q.now (outside_more c.args.spent.now c.args.outside.now) c.counted.result refl (rw (← c.q.view_is) c.in-Post.is) c.counted.ensures.one
 
-pub act-requires-clause-process : goal.act-requires-clause-process
-act-requires-clause-process g c =
-    let e = g.E.Engine in
-    let engine = c.args.engine.now in
-    in_processes (e.meaning engine) (e.lawful engine) (e.fits engine) (e.ready engine) (e.effect engine) (g.met.E.Engine.law engine) c.args.z c.args.p _ c.requires.object
+pub returns-in-Try-clause-leads : goal.returns-in-Try-clause-leads
+returns-in-Try-clause-leads g c =
+    plain_row (g.E.Engine.meaning c.args.engine.now) c.args.z c.args.p Try c.args.shared.now.cell c.args.shared.now.cell c.args.q.now c.try_round.new.q c.args.spent.now c.args.outside.now c.counted-in-Try.new.outside c.counted-in-Try.result refl (rw (← c.q.view_is) c.in-Try.is) c.counted-in-Try.ensures.more c.counted-in-Try.ensures.one (refl) (c.try_round.ensures.process)
 
-pub act-requires-clause-in_range : goal.act-requires-clause-in_range
-act-requires-clause-in_range g c =
-    let e = g.E.Engine in
-    let engine = c.args.engine.now in
-    in_range (e.meaning engine) (e.lawful engine) (e.fits engine) (e.ready engine) (e.effect engine) (g.met.E.Engine.law engine) c.args.z c.args.p _ c.requires.object
+pub returns-in-Try-clause-unmarked : goal.returns-in-Try-clause-unmarked
+returns-in-Try-clause-unmarked g c =
+    plain_row_unmarked (g.E.Engine.meaning c.args.engine.now) c.args.z c.args.p Try c.args.shared.now.cell c.args.q.now (outside_more c.args.spent.now c.args.outside.now) c.counted-in-Try.result refl (rw (← c.q.view_is) c.in-Try.is) c.counted-in-Try.ensures.one
+
+pub returns-in-Link-clause-leads : goal.returns-in-Link-clause-leads
+returns-in-Link-clause-leads g c =
+    plain_row (g.E.Engine.meaning c.args.engine.now) c.args.z c.args.p Link c.args.shared.now.cell c.link.new.shared.cell c.args.q.now c.link.new.q c.args.spent.now c.args.outside.now c.counted-in-Link.new.outside c.counted-in-Link.result refl (rw (← c.q.view_is) c.in-Link.is) c.counted-in-Link.ensures.more c.counted-in-Link.ensures.one (c.link.ensures.cell) (c.link.ensures.process)
+
+pub returns-in-Link-clause-unmarked : goal.returns-in-Link-clause-unmarked
+returns-in-Link-clause-unmarked g c =
+    plain_row_unmarked (g.E.Engine.meaning c.args.engine.now) c.args.z c.args.p Link c.args.shared.now.cell c.args.q.now (outside_more c.args.spent.now c.args.outside.now) c.counted-in-Link.result refl (rw (← c.q.view_is) c.in-Link.is) c.counted-in-Link.ensures.one
+
+pub returns-in-Load-clause-leads : goal.returns-in-Load-clause-leads
+returns-in-Load-clause-leads g c =
+    plain_row (g.E.Engine.meaning c.args.engine.now) c.args.z c.args.p Load c.args.shared.now.cell c.args.shared.now.cell c.args.q.now c.load.new.q c.args.spent.now c.args.outside.now c.counted-in-Load.new.outside c.counted-in-Load.result refl (rw (← c.q.view_is) c.in-Load.is) c.counted-in-Load.ensures.more c.counted-in-Load.ensures.one (refl) (c.load.ensures)
+
+pub returns-in-Load-clause-unmarked : goal.returns-in-Load-clause-unmarked
+returns-in-Load-clause-unmarked g c =
+    plain_row_unmarked (g.E.Engine.meaning c.args.engine.now) c.args.z c.args.p Load c.args.shared.now.cell c.args.q.now (outside_more c.args.spent.now c.args.outside.now) c.counted-in-Load.result refl (rw (← c.q.view_is) c.in-Load.is) c.counted-in-Load.ensures.one
+
+pub returns-in-Store-clause-leads : goal.returns-in-Store-clause-leads
+returns-in-Store-clause-leads g c =
+    plain_row (g.E.Engine.meaning c.args.engine.now) c.args.z c.args.p Store c.args.shared.now.cell c.store.new.shared.cell c.args.q.now c.store.new.q c.args.spent.now c.args.outside.now c.counted-in-Store.new.outside c.counted-in-Store.result refl (rw (← c.q.view_is) c.in-Store.is) c.counted-in-Store.ensures.more c.counted-in-Store.ensures.one (c.store.ensures.cell) (c.store.ensures.process)
+
+pub returns-in-Store-clause-unmarked : goal.returns-in-Store-clause-unmarked
+returns-in-Store-clause-unmarked g c =
+    plain_row_unmarked (g.E.Engine.meaning c.args.engine.now) c.args.z c.args.p Store c.args.shared.now.cell c.args.q.now (outside_more c.args.spent.now c.args.outside.now) c.counted-in-Store.result refl (rw (← c.q.view_is) c.in-Store.is) c.counted-in-Store.ensures.one
+
+pub returns-in-Check1-clause-leads : goal.returns-in-Check1-clause-leads
+returns-in-Check1-clause-leads g c =
+    plain_row (g.E.Engine.meaning c.args.engine.now) c.args.z c.args.p Check1 c.args.shared.now.cell c.args.shared.now.cell c.args.q.now c.check.new.q c.args.spent.now c.args.outside.now c.counted-in-Check1.new.outside c.counted-in-Check1.result refl (rw (← c.q.view_is) c.in-Check1.is) c.counted-in-Check1.ensures.more c.counted-in-Check1.ensures.one (refl) (c.check.ensures)
+
+pub returns-in-Check1-clause-unmarked : goal.returns-in-Check1-clause-unmarked
+returns-in-Check1-clause-unmarked g c =
+    plain_row_unmarked (g.E.Engine.meaning c.args.engine.now) c.args.z c.args.p Check1 c.args.shared.now.cell c.args.q.now (outside_more c.args.spent.now c.args.outside.now) c.counted-in-Check1.result refl (rw (← c.q.view_is) c.in-Check1.is) c.counted-in-Check1.ensures.one
+
+pub returns-in-Mine-clause-leads : goal.returns-in-Mine-clause-leads
+returns-in-Mine-clause-leads g c =
+    plain_row (g.E.Engine.meaning c.args.engine.now) c.args.z c.args.p Mine c.args.shared.now.cell c.args.shared.now.cell c.args.q.now c.mine.new.q c.args.spent.now c.args.outside.now c.counted-in-Mine.new.outside c.counted-in-Mine.result refl (rw (← c.q.view_is) c.in-Mine.is) c.counted-in-Mine.ensures.more c.counted-in-Mine.ensures.one (refl) (c.mine.ensures)
+
+pub returns-in-Mine-clause-unmarked : goal.returns-in-Mine-clause-unmarked
+returns-in-Mine-clause-unmarked g c =
+    plain_row_unmarked (g.E.Engine.meaning c.args.engine.now) c.args.z c.args.p Mine c.args.shared.now.cell c.args.q.now (outside_more c.args.spent.now c.args.outside.now) c.counted-in-Mine.result refl (rw (← c.q.view_is) c.in-Mine.is) c.counted-in-Mine.ensures.one
+
+pub returns-in-Seen-clause-leads : goal.returns-in-Seen-clause-leads
+returns-in-Seen-clause-leads g c =
+    plain_row (g.E.Engine.meaning c.args.engine.now) c.args.z c.args.p Seen c.args.shared.now.cell c.args.shared.now.cell c.args.q.now c.seen.new.q c.args.spent.now c.args.outside.now c.counted-in-Seen.new.outside c.counted-in-Seen.result refl (rw (← c.q.view_is) c.in-Seen.is) c.counted-in-Seen.ensures.more c.counted-in-Seen.ensures.one (refl) (c.seen.ensures)
+
+pub returns-in-Seen-clause-unmarked : goal.returns-in-Seen-clause-unmarked
+returns-in-Seen-clause-unmarked g c =
+    plain_row_unmarked (g.E.Engine.meaning c.args.engine.now) c.args.z c.args.p Seen c.args.shared.now.cell c.args.q.now (outside_more c.args.spent.now c.args.outside.now) c.counted-in-Seen.result refl (rw (← c.q.view_is) c.in-Seen.is) c.counted-in-Seen.ensures.one
+
+pub returns-in-Fetch-clause-leads : goal.returns-in-Fetch-clause-leads
+returns-in-Fetch-clause-leads g c =
+    plain_row (g.E.Engine.meaning c.args.engine.now) c.args.z c.args.p Fetch c.args.shared.now.cell c.args.shared.now.cell c.args.q.now c.fetch.new.q c.args.spent.now c.args.outside.now c.counted-in-Fetch.new.outside c.counted-in-Fetch.result refl (rw (← c.q.view_is) c.in-Fetch.is) c.counted-in-Fetch.ensures.more c.counted-in-Fetch.ensures.one (refl) (c.fetch.ensures)
+
+pub returns-in-Fetch-clause-unmarked : goal.returns-in-Fetch-clause-unmarked
+returns-in-Fetch-clause-unmarked g c =
+    plain_row_unmarked (g.E.Engine.meaning c.args.engine.now) c.args.z c.args.p Fetch c.args.shared.now.cell c.args.q.now (outside_more c.args.spent.now c.args.outside.now) c.counted-in-Fetch.result refl (rw (← c.q.view_is) c.in-Fetch.is) c.counted-in-Fetch.ensures.one
+
+pub returns-in-Check2-clause-leads : goal.returns-in-Check2-clause-leads
+returns-in-Check2-clause-leads g c =
+    plain_row (g.E.Engine.meaning c.args.engine.now) c.args.z c.args.p Check2 c.args.shared.now.cell c.args.shared.now.cell c.args.q.now c.check-in-Check2.new.q c.args.spent.now c.args.outside.now c.counted-in-Check2.new.outside c.counted-in-Check2.result refl (rw (← c.q.view_is) c.in-Check2.is) c.counted-in-Check2.ensures.more c.counted-in-Check2.ensures.one (refl) (c.check-in-Check2.ensures ∙ ap (λ (t : Label). (check t c.args.shared.now.cell c.args.p c.args.q.now).process) c.behind_fetch.ensures)
+
+pub returns-in-Check2-clause-unmarked : goal.returns-in-Check2-clause-unmarked
+returns-in-Check2-clause-unmarked g c =
+    plain_row_unmarked (g.E.Engine.meaning c.args.engine.now) c.args.z c.args.p Check2 c.args.shared.now.cell c.args.q.now (outside_more c.args.spent.now c.args.outside.now) c.counted-in-Check2.result refl (rw (← c.q.view_is) c.in-Check2.is) c.counted-in-Check2.ensures.one
+
+pub returns-in-Save-clause-leads : goal.returns-in-Save-clause-leads
+returns-in-Save-clause-leads g c =
+    plain_row (g.E.Engine.meaning c.args.engine.now) c.args.z c.args.p Save c.args.shared.now.cell c.args.shared.now.cell c.args.q.now c.save.new.q c.args.spent.now c.args.outside.now c.counted-in-Save.new.outside c.counted-in-Save.result refl (rw (← c.q.view_is) c.in-Save.is) c.counted-in-Save.ensures.more c.counted-in-Save.ensures.one (refl) (c.save.ensures)
+
+pub returns-in-Save-clause-unmarked : goal.returns-in-Save-clause-unmarked
+returns-in-Save-clause-unmarked g c =
+    plain_row_unmarked (g.E.Engine.meaning c.args.engine.now) c.args.z c.args.p Save c.args.shared.now.cell c.args.q.now (outside_more c.args.spent.now c.args.outside.now) c.counted-in-Save.result refl (rw (← c.q.view_is) c.in-Save.is) c.counted-in-Save.ensures.one
+
+pub returns-in-Undo-clause-leads : goal.returns-in-Undo-clause-leads
+returns-in-Undo-clause-leads g c =
+    plain_row (g.E.Engine.meaning c.args.engine.now) c.args.z c.args.p Undo c.args.shared.now.cell c.undo.new.shared.cell c.args.q.now c.undo.new.q c.args.spent.now c.args.outside.now c.counted-in-Undo.new.outside c.counted-in-Undo.result refl (rw (← c.q.view_is) c.in-Undo.is) c.counted-in-Undo.ensures.more c.counted-in-Undo.ensures.one (c.undo.ensures.cell) (c.undo.ensures.process)
+
+pub returns-in-Undo-clause-unmarked : goal.returns-in-Undo-clause-unmarked
+returns-in-Undo-clause-unmarked g c =
+    plain_row_unmarked (g.E.Engine.meaning c.args.engine.now) c.args.z c.args.p Undo c.args.shared.now.cell c.args.q.now (outside_more c.args.spent.now c.args.outside.now) c.counted-in-Undo.result refl (rw (← c.q.view_is) c.in-Undo.is) c.counted-in-Undo.ensures.one
+
+pub returns-in-Keep-clause-leads : goal.returns-in-Keep-clause-leads
+returns-in-Keep-clause-leads g c =
+    plain_row (g.E.Engine.meaning c.args.engine.now) c.args.z c.args.p Keep c.args.shared.now.cell c.keep.new.shared.cell c.args.q.now c.keep.new.q c.args.spent.now c.args.outside.now c.counted-in-Keep.new.outside c.counted-in-Keep.result refl (rw (← c.q.view_is) c.in-Keep.is) c.counted-in-Keep.ensures.more c.counted-in-Keep.ensures.one (c.keep.ensures.cell) (c.keep.ensures.process)
+
+pub returns-in-Keep-clause-unmarked : goal.returns-in-Keep-clause-unmarked
+returns-in-Keep-clause-unmarked g c =
+    plain_row_unmarked (g.E.Engine.meaning c.args.engine.now) c.args.z c.args.p Keep c.args.shared.now.cell c.args.q.now (outside_more c.args.spent.now c.args.outside.now) c.counted-in-Keep.result refl (rw (← c.q.view_is) c.in-Keep.is) c.counted-in-Keep.ensures.one
+
+pub returns-in-Read-clause-leads : goal.returns-in-Read-clause-leads
+returns-in-Read-clause-leads g c =
+    plain_row (g.E.Engine.meaning c.args.engine.now) c.args.z c.args.p Read c.args.shared.now.cell c.args.shared.now.cell c.args.q.now c.read.new.q c.args.spent.now c.args.outside.now c.counted-in-Read.new.outside c.counted-in-Read.result refl (rw (← c.q.view_is) c.in-Read.is) c.counted-in-Read.ensures.more c.counted-in-Read.ensures.one (refl) (c.read.ensures)
+
+pub returns-in-Read-clause-unmarked : goal.returns-in-Read-clause-unmarked
+returns-in-Read-clause-unmarked g c =
+    plain_row_unmarked (g.E.Engine.meaning c.args.engine.now) c.args.z c.args.p Read c.args.shared.now.cell c.args.q.now (outside_more c.args.spent.now c.args.outside.now) c.counted-in-Read.result refl (rw (← c.q.view_is) c.in-Read.is) c.counted-in-Read.ensures.one
+
+pub returns-in-Take-clause-leads : goal.returns-in-Take-clause-leads
+returns-in-Take-clause-leads g c =
+    plain_row (g.E.Engine.meaning c.args.engine.now) c.args.z c.args.p Take c.args.shared.now.cell c.args.shared.now.cell c.args.q.now c.take_reply.new.q c.args.spent.now c.args.outside.now c.counted-in-Take.new.outside c.counted-in-Take.result refl (rw (← c.q.view_is) c.in-Take.is) c.counted-in-Take.ensures.more c.counted-in-Take.ensures.one (refl) (c.take_reply.ensures)
+
+pub returns-in-Take-clause-unmarked : goal.returns-in-Take-clause-unmarked
+returns-in-Take-clause-unmarked g c =
+    plain_row_unmarked (g.E.Engine.meaning c.args.engine.now) c.args.z c.args.p Take c.args.shared.now.cell c.args.q.now (outside_more c.args.spent.now c.args.outside.now) c.counted-in-Take.result refl (rw (← c.q.view_is) c.in-Take.is) c.counted-in-Take.ensures.one
 
 pub overflow_add-spent : goal.overflow_add-spent
 overflow_add-spent g c =
     let e = g.E.Engine in
     let engine = c.args.engine.now in
     record { fits = room_of_bodies (e.meaning engine) (e.lawful engine) (e.fits engine) (e.ready engine) (e.effect engine) (g.met.E.Engine.law engine) c.args.z c.args.p _ c.requires.object }
-
-pub act-requires-clause-quiet : goal.act-requires-clause-quiet
-act-requires-clause-quiet g c =
-    let q = c.args.q.now in
-    let next : q.label ≢ Next = rw (← c.q.view_is) c.in_default.not-Next in
-    let flip : q.label ≢ Flip = rw (← c.q.view_is) c.in_default.not-Flip in
-    let commit : q.label ≢ Commit = rw (← c.q.view_is) c.in_default.not-Commit in
-    let give : q.label ≢ Give = rw (← c.q.view_is) c.in_default.not-Give in
-    unmarked_quiet q.label (unmarked_else q.label next flip commit give)
