@@ -46,7 +46,8 @@ impl History {
         ensures ok { OnOk result (self.new ≡ self.old ++ event_of event ∷ []) }
         ensures err { OnErr result (self.new ≡ self.old) }
     {
-        self.events.push(event)?;
+        self.events.try_reserve(1)?;
+        self.events.push_reserved(event);
         Ok(())
     }
 

@@ -77,6 +77,7 @@ impl CallList {
     }
 
     /// Brings the call of this number, from 1, to hand, where it isn't.
+    #[inline(always)]
     pub fn bring_to_hand(&mut self, number: usize) -> Result<(), NoMemory>
         requires some { 0 < number }
         requires within { number ≤ length self.old.calls }
@@ -86,6 +87,17 @@ impl CallList {
         if self.number == number {
             return Ok(());
         }
+        self.make(number)
+    }
+
+    /// Makes the call of this number, from 1, anew.
+    #[inline(never)]
+    fn make(&mut self, number: usize) -> Result<(), NoMemory>
+        requires some { 0 < number }
+        requires within { number ≤ length self.old.calls }
+        ensures calls { self.new.calls ≡ self.old.calls }
+        ensures number { OnOk result (self.new.number ≡ number) }
+    {
         let i = number - 1;
         self.number = 0;
         self.hand.proc = self.heads[i].proc;

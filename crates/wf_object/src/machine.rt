@@ -9,6 +9,9 @@ ghost use Rattle.wf_object.specs.View.{answer_in, seen_in, variables_of};
 ghost use Rattle.wf_object.specs.InARow.{AreInBody, AreQuiet, object_after, stepped};
 ghost use Rattle.wf_object.specs.Quiet.{is_quiet};
 ghost use Rattle.wf_table.specs.declared.process.Label.TheVariants as Labels;
+ghost use Rattle.wf_table.specs.Ranges.{IsSized, IsShaped, IsInRange};
+ghost use Rattle.wf_table.specs.Table.{cell_after, row};
+ghost use Rattle.wf_table.specs.Toggles.{StoresBit};
 
 use crate::bodies::stay;
 use crate::engine::Engine;
@@ -18,7 +21,7 @@ use crate::rows::take_rows;
 use crate::seen::{is_quiet, show_step};
 use crate::spent::{bound_of, count_inside, count_step};
 use crate::start::{idle, opened};
-use crate::steps::act;
+use crate::steps::{act, flip};
 use ll_cell::Shared;
 use ob_interface::call::Call;
 use ob_interface::{MOST_PROCESSES, NoMemory};
@@ -222,7 +225,8 @@ impl<E: Engine> Machine<E> {
         self.records.note_quiet(p, label)?;
         let spent = &mut self.spent[p];
         count_step(spent, label, false);
-        act(
+        act_at(
+            label,
             &self.engine,
             self.sizes,
             &mut self.shared,
@@ -429,4 +433,37 @@ impl<E: Engine> Machine<E> {
         let (history, order, schedule) = records.into_parts();
         (engine, history, order, schedule)
     }
+}
+
+/// One step of the process on the cell, at the label where it stands, which shows nothing. FLIP goes first: it is never among steps
+/// that are taken many at once.
+#[inline(always)]
+fn act_at<E: Engine>(
+    label: Label,
+    engine: &E,
+    z: Sizes,
+    shared: &mut Shared,
+    q: &mut Process<E::Run>,
+    p: usize,
+)
+    requires here { q.old.label ≡ label }
+    requires sized { IsSized z }
+    requires shaped { IsShaped z shared.old.cell }
+    requires packed { shared.old.form ≡ packed z }
+    requires process { p < z.processes }
+    requires in_range { IsInRange z q.old }
+    requires quiet { is_quiet q.old.label ≡ true }
+    requires variables { z.variables ≡ (E.meaning engine.now).variables }
+    requires replies { z.replies ≡ (E.meaning engine.now).replies }
+    requires arguments { z.arguments ≡ (E.meaning engine.now).arguments }
+    requires ready { E.ready engine.now q.old.run }
+    requires stores_bit { StoresBit z q.old }
+    ensures cell { shared.new.cell ≡ cell_after shared.old.cell p (row q.old.label (E.meaning engine.now) z shared.old.cell p q.old).change }
+    ensures form { shared.new.form ≡ shared.old.form }
+    ensures process { q.new ≡ (row q.old.label (E.meaning engine.now) z shared.old.cell p q.old).process }
+{
+    if label == Label::Flip {
+        return flip(z, shared, q, p);
+    }
+    act(engine, z, shared, q, p);
 }

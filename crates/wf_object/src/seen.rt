@@ -204,6 +204,7 @@ fn give<E: Engine>(
 }
 
 /// The processes whose toggles differ between the root and p's own block, with their open calls.
+#[inline(always)]
 fn applied_ids<R>(
     alloc: Global,
     z: Sizes,
@@ -225,6 +226,7 @@ fn applied_ids<R>(
     Ok(ids)
 }
 
+#[inline(always)]
 fn open_id<R>(processes: &[Process<R>], q: usize) -> CallId
     requires { q < length processes.now }
     ensures { result ≡ record { process = q; number = slice_index (begun_of processes.now) q } }
@@ -236,6 +238,7 @@ fn open_id<R>(processes: &[Process<R>], q: usize) -> CallId
     }
 }
 
+#[inline(always)]
 fn add_if(ids: &mut SmallVec<CallId, 1>, yes: bool, id: CallId) -> Result<(), NoMemory>
     ensures { OnOk result (ids.new.items ≡ ids.old.items ++ (if yes then id ∷ [] else [])) }
 {
@@ -246,6 +249,7 @@ fn add_if(ids: &mut SmallVec<CallId, 1>, yes: bool, id: CallId) -> Result<(), No
 }
 
 /// Whether the toggle of q differs between the root and p's own block.
+#[inline(always)]
 fn differs(z: Sizes, shared: &Shared, p: usize, q: usize) -> bool
     requires sized { IsSized z }
     requires shaped { IsShaped z shared.now.cell }
@@ -257,6 +261,7 @@ fn differs(z: Sizes, shared: &Shared, p: usize, q: usize) -> bool
     root_toggle(z, shared, q) != own_toggle(z, shared, p, q)
 }
 
+#[inline(always)]
 fn root_toggle(z: Sizes, shared: &Shared, q: usize) -> i64
     requires sized { IsSized z }
     requires shaped { IsShaped z shared.now.cell }

@@ -44,6 +44,7 @@ pub fn post<R>(z: Sizes, shared: &mut Shared, q: &mut Process<R>, p: usize)
     }
 }
 
+#[inline(always)]
 pub fn flip<R>(z: Sizes, shared: &mut Shared, q: &mut Process<R>, p: usize)
     requires sized { IsSized z }
     requires shaped { IsShaped z shared.old.cell }

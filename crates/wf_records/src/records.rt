@@ -235,7 +235,10 @@ fn append(order: &mut Vec<CallId>, ids: &[CallId]) -> Result<(), NoMemory>
     ensures err { OnErr result (order.new.items ≡ order.old.items) }
 {
     match ids {
-        [id] => order.push(*id)?,
+        [id] => {
+            order.try_reserve(1)?;
+            order.push_reserved(*id);
+        }
         ids => append_all(order, ids)?,
     }
     Ok(())
@@ -251,6 +254,7 @@ fn append_all(order: &mut Vec<CallId>, ids: &[CallId]) -> Result<(), NoMemory>
 }
 
 /// One more turn of p: in the last run of turns, where that is p's and not full, else in a new one.
+#[inline(always)]
 fn count_turn(schedule: &mut Vec<Turns>, p: usize) -> Result<(), NoMemory>
     ensures ok { OnOk result (schedule.new.items ≡ counted schedule.old.items p) }
     ensures err { OnErr result (schedule.new.items ≡ schedule.old.items) }
@@ -260,15 +264,27 @@ fn count_turn(schedule: &mut Vec<Turns>, p: usize) -> Result<(), NoMemory>
     if n > 0 && schedule[n - 1].process == p && schedule[n - 1].count < u64::MAX {
         schedule[n - 1].count += 1;
     } else {
-        schedule.push(Turns {
-            process: p,
-            count: 1,
-        })?;
+        begin_run(schedule, p)?;
     }
     Ok(())
 }
 
+/// A new run of turns, which begins with one of p. It is rare, and stands apart from what counts on.
+#[inline(never)]
+fn begin_run(schedule: &mut Vec<Turns>, p: usize) -> Result<(), NoMemory>
+    ensures ok { OnOk result (schedule.new.items ≡ schedule.old.items ++ record { process = p; count = 1 } ∷ []) }
+    ensures err { OnErr result (schedule.new.items ≡ schedule.old.items) }
+    ensures room { vec_len schedule.old < vec_capacity schedule.old → IsOk result }
+{
+    schedule.push(Turns {
+        process: p,
+        count: 1,
+    })?;
+    Ok(())
+}
+
 /// One more turn of p, for which there is room.
+#[inline(always)]
 fn count_reserved(schedule: &mut Vec<Turns>, p: usize)
     requires { vec_len schedule.old < vec_capacity schedule.old }
     ensures { schedule.new.items ≡ counted schedule.old.items p }

@@ -3,7 +3,7 @@ use Rattle.ob_interface.specs.declared.scalar.Scalar.{Scalar}
 use Rattle.wf_object.specs.declared.calls.Head.{Head}
 use Rattle.wf_object.specs.CallsKept.{KeptCalls, calls_from, no_call}
 use Rattle.wf_object.proofs.CallsKept.{length-calls_from, call_is}
-use Rattle.wf_object.proofs.calls.CallList.bring_to_hand.Goals as goal
+use Rattle.wf_object.proofs.calls.CallList.make.Goals as goal
 
 pub index-requires : goal.index-requires
 index-requires c =
