@@ -14,7 +14,7 @@ pub fn call_in(alloc: Global, call: &KeptCall) -> Result<interpreter::Call, Allo
 {
     Ok(interpreter::Call {
         export: call.proc,
-        arguments: Vec::from_slice(alloc, call.args.as_slice())?,
+        arguments: Vec::from_slice(alloc, call.args.lent().as_slice())?,
     })
 }
 
@@ -24,7 +24,7 @@ pub fn is_same_reply(reply: &interpreter::Reply, other: &KeptReply) -> bool
 {
     match (reply, other) {
         (interpreter::Reply::Answers(values), KeptReply::Done(others)) => {
-            values.as_slice() == others.as_slice()
+            values.as_slice() == others.lent().as_slice()
         }
         (interpreter::Reply::Trapped(number), KeptReply::Trap(other)) => number == other,
         _ => false,

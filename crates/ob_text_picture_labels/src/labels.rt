@@ -71,7 +71,7 @@ pub fn push_call(
     ensures { OnOk result (string_bytes text.new ≡ string_bytes text.old ++ call_words (map signature_of exports.now) id (kept_call call.now)) }
 {
     push_head(text, exports, id, call)?;
-    push_values(text, &call.args)
+    push_values(text, call.args.lent().as_slice())
 }
 
 /// A reply: its values, or its trap.
@@ -82,7 +82,7 @@ pub fn push_reply(text: &mut String, reply: &KeptReply) -> Result<(), AllocError
     match reply {
         KeptReply::Done(values) => {
             text.push_str("done")?;
-            push_values(text, values)
+            push_values(text, values.lent().as_slice())
         }
         KeptReply::Trap(trap) => {
             text.push_str("trap ")?;
@@ -100,7 +100,7 @@ pub(crate) fn push_answer_words(text: &mut String, reply: &KeptReply) -> Result<
         KeptReply::Done(values) if values.is_empty() => text.push_str("done"),
         KeptReply::Done(values) => {
             text.push_str("=")?;
-            push_values(text, values)
+            push_values(text, values.lent().as_slice())
         }
         KeptReply::Trap(trap) => {
             text.push_str("trap ")?;
@@ -168,7 +168,7 @@ pub fn push_short_call(
     push_id(text, id)?;
     text.push_str(" ")?;
     push_short(text, name, name_room)?;
-    push_values(text, &call.args)
+    push_values(text, call.args.lent().as_slice())
 }
 
 /// A text in the room for so many letters: where it has more, dots stand for its end.

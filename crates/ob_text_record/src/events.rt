@@ -52,7 +52,12 @@ fn push_end(text: &mut String, id: CallId, reply: &KeptReply) -> Result<(), Allo
     ensures left { OnErr result (GoesOn (string_bytes text.old) (string_bytes text.new)) }
 {
     match reply {
-        KeptReply::Done(values) => push_done_line(text, id.process, id.number, values),
+        KeptReply::Done(values) => push_done_line(
+            text,
+            id.process,
+            id.number,
+            values.lent().as_slice(),
+        ),
         KeptReply::Trap(trap) => push_trap_line(text, id.process, id.number, *trap),
     }
 }
@@ -70,7 +75,7 @@ fn push_begin(
     push_id(text, id)?;
     text.push_str(" ")?;
     text.push_str(export_name(exports, call.proc))?;
-    push_scalars(text, &call.args)?;
+    push_scalars(text, call.args.lent().as_slice())?;
     text.push_str("\n")
 }
 

@@ -28,3 +28,5 @@ pub enum Event {
     /// A call ends with its reply.
     End(CallId, KeptReply),
 }
+
+const _: () = prove!(size_of::<Event>() == 48);

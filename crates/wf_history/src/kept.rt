@@ -5,14 +5,14 @@ use ob_interface::NoMemory;
 use ob_interface::call::{Call, Reply};
 use std::alloc::Global;
 
-/// A call of an event. It takes memory of its own only where it has more than 2 arguments.
+/// A call of an event. It takes memory of its own only where it has more than 3 arguments.
 #[derive(Drop)]
 pub struct KeptCall {
     pub proc: usize,
     pub args: KeptScalars,
 }
 
-/// A reply of an event. It takes memory of its own only where it has more than 2 values.
+/// A reply of an event. It takes memory of its own only where it has more than 3 values.
 #[derive(Drop)]
 pub enum KeptReply {
     /// The final values of the VAR parameters, in text order.
@@ -30,7 +30,7 @@ impl KeptCall {
     #[inline(always)]
     pub fn keep(alloc: Global, call: &Call) -> Result<KeptCall, NoMemory>
         ensures kept { IfOk result (λ k. kept_call k ≡ call_of call.now) }
-        ensures in_place { length call.now.args.items ≤ 2 → IsOk result }
+        ensures in_place { length call.now.args.items ≤ 3 → IsOk result }
     {
         Ok(KeptCall {
             proc: call.proc,

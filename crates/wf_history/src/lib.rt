@@ -5,10 +5,12 @@ pub mod event;
 pub mod history;
 pub mod kept;
 pub mod kept_scalars;
+pub mod lent;
 pub mod reply;
 
 pub use event::{CallId, Event};
 pub use history::History;
 pub use kept::{KeptCall, KeptReply};
 pub use kept_scalars::KeptScalars;
+pub use lent::Lent;
 pub use reply::same_reply;

@@ -12,7 +12,9 @@ pub fn same_reply(reply: &Reply, kept: &KeptReply) -> bool
     ensures { IsTrue result ↔ (reply_of reply.now ≡ kept_reply kept.now) }
 {
     match (reply, kept) {
-        (Reply::Done(values), KeptReply::Done(others)) => values.as_slice() == others.as_slice(),
+        (Reply::Done(values), KeptReply::Done(others)) => {
+            values.as_slice() == others.lent().as_slice()
+        }
         (Reply::Trap(number), KeptReply::Trap(other)) => number == other,
         _ => false,
     }
