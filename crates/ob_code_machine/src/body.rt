@@ -85,7 +85,8 @@ impl Body {
         self.is_over = false;
     }
 
-    /// One instruction, on a block. A body that is over is stuck.
+    /// One instruction, on a block. A body that is over is stuck. It stands within the loops over it, and so does each instruction.
+    #[inline(always)]
     pub fn step(&mut self, code: &Code, block: &mut [i64]) -> BodyTurn
         ensures turn { result ≡ (step_of code.now.instructions self.old block.old).turn }
         ensures body { self.new ≡ (step_of code.now.instructions self.old block.old).run }
@@ -110,6 +111,8 @@ impl Body {
         0
     }
 
+    /// One jump leads to what each instruction does.
+    #[inline(always)]
     fn act(&mut self, instr: Instr, block: &mut [i64]) -> BodyTurn
         requires { self.old.body.pc < 65535 }
         ensures { record { turn = result; run = self.new; block = block.new } ≡ shown self.old block.old (Machine.act self.old.reserve instr (at self.old block.old)) }
@@ -122,10 +125,31 @@ impl Body {
             Instr::Call { entry, parameters } => self.call(entry, parameters),
             Instr::Return => self.leave(),
             Instr::Turn => self.take_turn(),
-            _ => self.compute(instr, block),
+            Instr::Literal { value } => self.compute(Instr::Literal { value }, block),
+            Instr::Global { word } => self.compute(Instr::Global { word }, block),
+            Instr::Local { word } => self.compute(Instr::Local { word }, block),
+            Instr::Field { offset } => self.compute(Instr::Field { offset }, block),
+            Instr::Index { .. } => self.compute(instr, block),
+            Instr::Get => self.compute(Instr::Get, block),
+            Instr::Put => self.compute(Instr::Put, block),
+            Instr::Add => self.compute(Instr::Add, block),
+            Instr::Subtract => self.compute(Instr::Subtract, block),
+            Instr::Multiply => self.compute(Instr::Multiply, block),
+            Instr::Divide => self.compute(Instr::Divide, block),
+            Instr::Modulo => self.compute(Instr::Modulo, block),
+            Instr::Negate => self.compute(Instr::Negate, block),
+            Instr::Not => self.compute(Instr::Not, block),
+            Instr::Equal => self.compute(Instr::Equal, block),
+            Instr::NotEqual => self.compute(Instr::NotEqual, block),
+            Instr::Less => self.compute(Instr::Less, block),
+            Instr::LessOrEqual => self.compute(Instr::LessOrEqual, block),
+            Instr::Greater => self.compute(Instr::Greater, block),
+            Instr::GreaterOrEqual => self.compute(Instr::GreaterOrEqual, block),
+            Instr::Frame { words } => self.compute(Instr::Frame { words }, block),
         }
     }
 
+    #[inline(always)]
     fn jump(&mut self, target: u16) -> BodyTurn
         ensures { (block : List ℤ) → record { turn = result; run = self.new; block = block } ≡ shown self.old block (Machine.goes_to (at self.old block) target self.old.body.stack) }
     {
@@ -133,6 +157,7 @@ impl Body {
         BodyTurn::On
     }
 
+    #[inline(always)]
     fn jump_if_false(&mut self, target: u16) -> BodyTurn
         requires { self.old.body.pc < 65535 }
         ensures { (block : List ℤ) → record { turn = result; run = self.new; block = block } ≡ shown self.old block (Machine.jump_if_false target (at self.old block)) }
@@ -151,6 +176,7 @@ impl Body {
     }
 
     /// AND and OR: where the word on top decides, it is the value, and the right side is left out.
+    #[inline(always)]
     fn jump_if_decided(&mut self, decides: i64, target: u16) -> BodyTurn
         requires { self.old.body.pc < 65535 }
         ensures { (block : List ℤ) → record { turn = result; run = self.new; block = block } ≡ shown self.old block (Machine.jump_if_decided decides target (at self.old block)) }
@@ -195,6 +221,7 @@ impl Body {
     }
 
     /// Takes a turn.
+    #[inline(always)]
     fn take_turn(&mut self) -> BodyTurn
         requires { self.old.body.pc < 65535 }
         ensures { (block : List ℤ) → record { turn = result; run = self.new; block = block } ≡ shown self.old block (Machine.turned (at self.old block)) }
@@ -208,6 +235,7 @@ impl Body {
         BodyTurn::On
     }
 
+    #[inline(always)]
     fn leave(&mut self) -> BodyTurn
         ensures { (block : List ℤ) → record { turn = result; run = self.new; block = block } ≡ shown self.old block (Machine.returned (at self.old block)) }
     {
@@ -229,6 +257,7 @@ impl Body {
     }
 
     /// An instruction without a jump.
+    #[inline(always)]
     fn compute(&mut self, instr: Instr, block: &mut [i64]) -> BodyTurn
         requires { self.old.body.pc < 65535 }
         ensures { record { turn = result; run = self.new; block = block.new } ≡ shown self.old block.old (Machine.computed self.old.reserve instr (at self.old block.old)) }

@@ -19,6 +19,7 @@ pub enum Answer {
 }
 
 /// Pushes a word.
+#[inline(always)]
 fn push(stack: &mut Stack, word: i64) -> Answer
     ensures { LeavesStack result stack.old stack.new (Effects.pushed stack.old.reserve stack.old.words word) }
 {
@@ -30,6 +31,7 @@ fn push(stack: &mut Stack, word: i64) -> Answer
 }
 
 /// The address of a word of the frame.
+#[inline(always)]
 fn local_address(variables: usize, fp: usize, word: u16) -> Option<i64>
     ensures { MatchOption result (Words.address (pos (variables + fp + word)) ≡ Words.Sticks) (λ a. Words.address (pos (variables + fp + word)) ≡ Words.Gives a) }
 {
@@ -41,6 +43,7 @@ fn local_address(variables: usize, fp: usize, word: u16) -> Option<i64>
 }
 
 /// Pushes the address of a word of the frame.
+#[inline(always)]
 fn push_local(block: &[i64], stack: &mut Stack, fp: usize, word: u16) -> Answer
     ensures { LeavesStack result stack.old stack.new (Effects.stack_effect stack.old.reserve fp (Instr.Local word) block.now stack.old.words) }
 {
@@ -98,6 +101,7 @@ fn of_two(stack: &mut Stack, instr: Instr) -> Answer
 }
 
 /// The word at an address, on a stack that ends at a height.
+#[inline(always)]
 fn word_at(block: &[i64], stack: &Stack, height: usize, address: i64) -> Option<i64>
     requires { height ≤ length stack.now.words }
     ensures { MatchOption result (Effects.word_at block.now (take height stack.now.words) address ≡ Words.Sticks) (λ w. Effects.word_at block.now (take height stack.now.words) address ≡ Words.Gives w) }
@@ -117,6 +121,7 @@ fn word_at(block: &[i64], stack: &Stack, height: usize, address: i64) -> Option<
 }
 
 /// Replaces the address on top by the word there.
+#[inline(always)]
 fn load(block: &[i64], stack: &mut Stack) -> Answer
     ensures { LeavesStack result stack.old stack.new (Effects.loaded block.now stack.old.words) }
 {
@@ -135,6 +140,7 @@ fn load(block: &[i64], stack: &mut Stack) -> Answer
 
 /// Puts a word at an address, on a stack that is cut at a height; nothing where there is no such
 /// address.
+#[inline(always)]
 fn put_at(block: &mut [i64], stack: &mut Stack, height: usize, address: i64, word: i64) -> bool
     requires { height ≤ length stack.old.words }
     ensures { MatchBool result
@@ -160,6 +166,7 @@ fn put_at(block: &mut [i64], stack: &mut Stack, height: usize, address: i64, wor
 }
 
 /// Puts the word on top at the address below it.
+#[inline(always)]
 fn store(block: &mut [i64], stack: &mut Stack) -> Answer
     ensures { HasEffect result block.old block.new stack.old stack.new (Effects.stored block.old stack.old.words) }
 {
