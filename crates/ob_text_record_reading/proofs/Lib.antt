@@ -1,4 +1,5 @@
 pub mod Ids
+pub mod WordsTaken
 pub mod Seating
 pub mod OneEvent
 pub mod LineRuns

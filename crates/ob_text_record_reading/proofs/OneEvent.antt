@@ -1,5 +1,5 @@
 -- A line says one event at most, and only one kind of thing.
-use Rattle.std.proofs.Common.{◌≡◌, ◌∙◌, ℕ, ◌-◌, ◌≤◌, List, [], ◌∷◌, ◌++◌, ◌⊎◌, Option, None, Result, Ok, Err, IfOk, MatchOption, inl, inr, Some, slice_get, codes, refl, sym, ap, ap₂, subst, arith}
+use Rattle.std.proofs.Common.{◌≡◌, ◌∙◌, ℕ, ◌-◌, ◌≤◌, List, [], ◌∷◌, ◌++◌, ◌⊎◌, Option, None, Result, Ok, Err, IfOk, MatchOption, inl, inr, Some, slice_get, length, codes, refl, sym, ap, ap₂, subst, arith}
 use Rattle.std.proofs.lemmas.Option.{same_Some}
 use Rattle.ob_interface.specs.declared.scalar.Scalar.{Scalar}
 use Rattle.ob_meaning.specs.Object.{most_turns}
@@ -288,6 +288,13 @@ module _ (processes : ℕ) (signatures : List Signature) (before : List (Event O
       let x = begins_as word name rest n.form in
       let is : e ≡ begin_event i x.of.0 x.arguments = x.event_is ∙ ap (λ (j : CallId). begin_event j x.of.0 x.arguments) (one_id x.names k) in
       never (record { export = x.of.0; arguments = x.arguments }) (subst (λ (f : Event ObjectCall Reply). IsHistory (before ++ f ∷ [])) is n.place)
+
+  pub no_name : (word : Word) (e : Event ObjectCall Reply) → IsNextEvent processes signatures before (codes "B" ∷ word ∷ []) e → ⊥
+  no_name word e n =
+      elim (event_parts n.form) [
+        | inl x ↦ absurd (let e = ap length x.line_is in omega (arith, e))
+        | inr y ↦ absurd (let e = ap first_byte y.line_is in omega (arith, e))
+      ]
 
   pub no_arguments : (word name : Word) (rest : List Word) (e : Event ObjectCall Reply) (of : Numbered) → export_named signatures name ≡ Some of →
       ((arguments : List Scalar) → AreValues (value_types of.1.formals) rest arguments → ⊥) → IsNextEvent processes signatures before (codes "B" ∷ word ∷ name ∷ rest) e → ⊥

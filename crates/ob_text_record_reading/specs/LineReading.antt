@@ -1,5 +1,5 @@
 -- What is read of one line behind a record's head, and of all of them.
-use Rattle.std.specs.Prelude.{◌≡◌, ℕ, ◌+◌, List, [], ◌∷◌, ◌++◌, length, map, All, Option, Some, None}
+use Rattle.std.specs.Prelude.{◌≡◌, ℕ, ◌+◌, List, [], ◌∷◌, ◌++◌, ◌≤◌, length, map, take, false, All, Option, Some, None}
 use Rattle.std.specs.Borrow.{Bor}
 use Rattle.ob_interface.specs.Call.{ObjectCall, Reply}
 use Rattle.ob_interface.specs.Export.{Signature}
@@ -7,8 +7,8 @@ use Rattle.ob_text_record_reading.specs.declared.line.Line as Rust
 use Rattle.ob_text_record_reading.specs.declared.line.Line.TheVariants as Says
 use Rattle.ob_text_record_reading.specs.declared.reading.RecordFault.{RecordFault}
 use Rattle.ob_text_record_reading.specs.declared.reading.RecordFault.TheVariants as Faults
-use Rattle.ob_text_record_reading.specs.RecordLines.{AreIds, AreLines, IsApplied, IsNextEvent, IsOrder, IsTail, Line}
-use Rattle.ob_text_words.specs.Words.{Word, lines, words}
+use Rattle.ob_text_record_reading.specs.RecordLines.{AreIds, AreLines, IsApplied, IsId, IsNextEvent, IsOrder, IsTail, Line}
+use Rattle.ob_text_words.specs.Words.{Word, is_blank, lines, words}
 use Rattle.wf_history.specs.declared.event.CallId.{CallId}
 use Rattle.wf_history.specs.History.{Event, Begin, End}
 use Rattle.wf_history.specs.View.{kept_call, kept_reply}
@@ -31,6 +31,22 @@ IsAppliedRead processes ws Says.Applied = (ids : List CallId) × AreIds processe
 IsAppliedRead processes ws (Says.Begin id call) = ⊥
 IsAppliedRead processes ws (Says.End id reply) = ⊥
 IsAppliedRead processes ws (Says.Order ids) = ⊥
+
+-- the first word of a line names a call, and this stands behind the word
+pub record TakesId (processes : ℕ) (line : List ℕ) (i : CallId) (rest : List ℕ) : Type 0 where
+  pub word : Word
+  pub parts : words line ≡ word ∷ words rest
+  pub names : IsId processes word i
+
+-- the first word of a line names no call
+abbrev pub TakesNoId : ℕ → List ℕ → Type 0
+TakesNoId processes line = (word : Word) (rest : List Word) (i : CallId) → words line ≡ word ∷ rest → IsId processes word i → ⊥
+
+-- so many bytes of a text, behind others without a blank, end a word, and this stands behind it
+pub record EndsWord (text : List ℕ) (count : ℕ) (rest : List ℕ) : Type 0 where
+  pub some : 1 ≤ count
+  pub shorter : length rest ≤ length text
+  pub ends : (front : List ℕ) → All (λ b. is_blank b ≡ false) (front ++ take count text) → words (front ++ text) ≡ (front ++ take count text) ∷ words rest
 
 module _ (processes : ℕ) (signatures : List Signature) where
   module _ (before : List (Event ObjectCall Reply)) (line : Line) where

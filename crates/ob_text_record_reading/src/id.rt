@@ -1,10 +1,12 @@
 //! The names of calls, as words.
 
-ghost use Rattle.std.specs.Prelude.{List, map, IfOk, IsFalse, IsTrue, MatchOption};
+ghost use Rattle.std.specs.Prelude.{List, IfOk, IsFalse, IsTrue, MatchOption};
 ghost use Rattle.ob_text_record_reading.specs.RecordLines.{AreIds, IsId};
+ghost use Rattle.ob_text_words.specs.Words.{words};
 ghost use Rattle.wf_history.specs.declared.event.CallId.{CallId};
 
 use crate::number::read_number;
+use crate::taking::{next_word, take_id};
 use ob_text_words::numbers::split_digits;
 use std::alloc::{AllocError, Global};
 use wf_history::CallId;
@@ -25,35 +27,39 @@ pub(crate) fn read_id(processes: usize, word: &[u8]) -> Option<CallId>
     Some(CallId { process, number })
 }
 
-/// The calls that words name.
+/// The calls that the words of a line name.
 pub(crate) fn read_ids(
     alloc: Global,
     processes: usize,
-    words: &[&[u8]],
+    line: &[u8],
 ) -> Result<Option<Vec<CallId>>, AllocError>
     ensures { IfOk result (λ read. MatchOption read
-        ((ids : List CallId) → AreIds processes (map (λ w. w.now) words.now) ids → ⊥)
-        (λ ids. AreIds processes (map (λ w. w.now) words.now) ids.items)) }
+        ((ids : List CallId) → AreIds processes (words line.now) ids → ⊥)
+        (λ ids. AreIds processes (words line.now) ids.items)) }
 {
     let mut ids = Vec::new(alloc);
-    for word in words {
-        let Some(id) = read_id(processes, word) else {
-            return Ok(None);
-        };
+    let mut left = line;
+    while let Some((id, rest)) = take_id(processes, left) {
         ids.push(id)?;
+        left = rest;
     }
-    Ok(Some(ids))
+    match next_word(left) {
+        Some(_) => Ok(None),
+        None => Ok(Some(ids)),
+    }
 }
 
-/// Whether words name calls.
-pub(crate) fn are_ids(processes: usize, words: &[&[u8]]) -> bool
-    ensures yes { IsTrue result → (ids : List CallId) × AreIds processes (map (λ w. w.now) words.now) ids }
-    ensures no { IsFalse result → (ids : List CallId) → AreIds processes (map (λ w. w.now) words.now) ids → ⊥ }
+/// Whether the words of a line name calls.
+pub(crate) fn are_ids(processes: usize, line: &[u8]) -> bool
+    ensures yes { IsTrue result → (ids : List CallId) × AreIds processes (words line.now) ids }
+    ensures no { IsFalse result → (ids : List CallId) → AreIds processes (words line.now) ids → ⊥ }
 {
-    for word in words {
-        let Some(_id) = read_id(processes, word) else {
-            return false;
-        };
+    let mut left = line;
+    while let Some((_id, rest)) = take_id(processes, left) {
+        left = rest;
     }
-    true
+    match next_word(left) {
+        Some(_) => false,
+        None => true,
+    }
 }

@@ -8,5 +8,6 @@ mod line;
 mod number;
 pub mod reading;
 mod splitting;
+mod taking;
 
 pub use reading::{ReadRecord, RecordFault, read_record};

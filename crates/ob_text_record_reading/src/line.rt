@@ -5,19 +5,21 @@ ghost use Rattle.ob_interface.specs.Call as Object;
 ghost use Rattle.ob_interface.specs.View.{reply_of, signature_of};
 ghost use Rattle.ob_text_record_reading.specs.LineReading.{HasSaid, IsAppliedRead, IsEventRead, IsOrderRead, SaysNothing};
 ghost use Rattle.ob_text_record_reading.specs.RecordLines.{AreIds, IsNextEvent, IsReply};
-ghost use Rattle.ob_text_words.specs.Words.{IsNumeral};
+ghost use Rattle.ob_text_words.specs.Words.{IsNumeral, words};
 ghost use Rattle.ob_typing.specs.Arithmetic.{no_turn_left};
 ghost use Rattle.wf_history.specs.History as History;
 ghost use Rattle.wf_history.specs.declared.event.CallId as Names;
 
 use crate::calls::Calls;
-use crate::id::{are_ids, read_id, read_ids};
+use crate::id::{are_ids, read_ids};
 use crate::number::read_only_number;
+use crate::taking::{next_word, take_id};
 use ob_interface::NoMemory;
 use ob_interface::call::{Call, Reply};
 use ob_interface::export::Export;
 use ob_text_exports::exports::export_named;
 use ob_text_exports::values::read_values;
+use ob_text_words::words::put_words;
 use std::alloc::{AllocError, Global};
 use wf_history::{CallId, KeptCall, KeptReply};
 
@@ -37,23 +39,25 @@ pub(crate) enum Line {
     Order(Vec<CallId>),
 }
 
-/// What a line of these words says behind the events so far; `None` where it may not stand there.
-pub(crate) fn read_line(
+/// What a line says behind the events so far; `None` where it may not stand there. Words that say values are put in place of
+/// those that the list has.
+pub(crate) fn read_line<'a>(
     alloc: Global,
     exports: &[Export],
     calls: &Calls,
-    words: &[&[u8]],
+    line: &'a [u8],
+    list: &mut Vec<&'a [u8]>,
 ) -> Result<Option<Line>, NoMemory>
     ensures { IfOk result (λ read. MatchOption read
-        (SaysNothing calls.now.processes (map signature_of exports.now) calls.now.events (map (λ w. w.now) words.now))
-        (HasSaid calls.now.processes (map signature_of exports.now) calls.now.events (map (λ w. w.now) words.now))) }
+        (SaysNothing calls.now.processes (map signature_of exports.now) calls.now.events (words line.now))
+        (HasSaid calls.now.processes (map signature_of exports.now) calls.now.events (words line.now))) }
 {
-    let Some((first, rest)) = words.split_first() else {
+    let Some((first, rest)) = next_word(line) else {
         return Ok(None);
     };
-    match *first {
-        b"B" => read_begin(alloc, exports, calls, rest),
-        b"E" => read_end(alloc, exports, calls, rest),
+    match first {
+        b"B" => read_begin(alloc, exports, calls, rest, list),
+        b"E" => read_end(alloc, exports, calls, rest, list),
         b"A" => read_applied(calls.processes(), rest),
         b"O" => read_order(alloc, calls.processes(), rest),
         _ => Ok(None),
@@ -61,44 +65,42 @@ pub(crate) fn read_line(
 }
 
 /// What stands behind an `A`.
-fn read_applied(processes: usize, words: &[&[u8]]) -> Result<Option<Line>, NoMemory>
+fn read_applied(processes: usize, line: &[u8]) -> Result<Option<Line>, NoMemory>
     ensures { IfOk result (λ read. MatchOption read
-        ((ids : List Names.CallId) → AreIds processes (map (λ w. w.now) words.now) ids → ⊥)
-        (IsAppliedRead processes (map (λ w. w.now) words.now))) }
+        ((ids : List Names.CallId) → AreIds processes (words line.now) ids → ⊥)
+        (IsAppliedRead processes (words line.now))) }
 {
-    Ok(are_ids(processes, words).then_some(Line::Applied))
+    Ok(are_ids(processes, line).then_some(Line::Applied))
 }
 
 /// The order behind an `O`.
-fn read_order(alloc: Global, processes: usize, words: &[&[u8]]) -> Result<Option<Line>, NoMemory>
+fn read_order(alloc: Global, processes: usize, line: &[u8]) -> Result<Option<Line>, NoMemory>
     ensures { IfOk result (λ read. MatchOption read
-        ((ids : List Names.CallId) → AreIds processes (map (λ w. w.now) words.now) ids → ⊥)
-        (IsOrderRead processes (map (λ w. w.now) words.now))) }
+        ((ids : List Names.CallId) → AreIds processes (words line.now) ids → ⊥)
+        (IsOrderRead processes (words line.now))) }
 {
-    let Some(order) = read_ids(alloc, processes, words)? else {
+    let Some(order) = read_ids(alloc, processes, line)? else {
         return Ok(None);
     };
     Ok(Some(Line::Order(order)))
 }
 
 /// The call behind a `B`.
-fn read_begin(
+fn read_begin<'a>(
     alloc: Global,
     exports: &[Export],
     calls: &Calls,
-    words: &[&[u8]],
+    line: &'a [u8],
+    list: &mut Vec<&'a [u8]>,
 ) -> Result<Option<Line>, NoMemory>
     ensures { IfOk result (λ read. MatchOption read
-        ((e : History.Event Object.ObjectCall Object.Reply) → IsNextEvent calls.now.processes (map signature_of exports.now) calls.now.events (codes "B" ∷ map (λ w. w.now) words.now) e → ⊥)
-        (IsEventRead calls.now.processes (map signature_of exports.now) calls.now.events (codes "B" ∷ map (λ w. w.now) words.now))) }
+        ((e : History.Event Object.ObjectCall Object.Reply) → IsNextEvent calls.now.processes (map signature_of exports.now) calls.now.events (codes "B" ∷ words line.now) e → ⊥)
+        (IsEventRead calls.now.processes (map signature_of exports.now) calls.now.events (codes "B" ∷ words line.now))) }
 {
-    let Some((word, behind)) = words.split_first() else {
+    let Some((id, behind)) = take_id(calls.processes(), line) else {
         return Ok(None);
     };
-    let Some((name, rest)) = behind.split_first() else {
-        return Ok(None);
-    };
-    let Some(id) = read_id(calls.processes(), word) else {
+    let Some((name, rest)) = next_word(behind) else {
         return Ok(None);
     };
     if !calls.may_begin(id) {
@@ -107,7 +109,8 @@ fn read_begin(
     let Some((proc, export)) = export_named(exports, name) else {
         return Ok(None);
     };
-    let Some(args) = read_values(alloc, &export.formals, false, rest)? else {
+    put_words(list, rest)?;
+    let Some(args) = read_values(alloc, &export.formals, false, list)? else {
         return Ok(None);
     };
     let kept = KeptCall::keep(alloc, &Call { proc, args })?;
@@ -115,26 +118,24 @@ fn read_begin(
 }
 
 /// The reply behind an `E`.
-fn read_end(
+fn read_end<'a>(
     alloc: Global,
     exports: &[Export],
     calls: &Calls,
-    words: &[&[u8]],
+    line: &'a [u8],
+    list: &mut Vec<&'a [u8]>,
 ) -> Result<Option<Line>, NoMemory>
     ensures { IfOk result (λ read. MatchOption read
-        ((e : History.Event Object.ObjectCall Object.Reply) → IsNextEvent calls.now.processes (map signature_of exports.now) calls.now.events (codes "E" ∷ map (λ w. w.now) words.now) e → ⊥)
-        (IsEventRead calls.now.processes (map signature_of exports.now) calls.now.events (codes "E" ∷ map (λ w. w.now) words.now))) }
+        ((e : History.Event Object.ObjectCall Object.Reply) → IsNextEvent calls.now.processes (map signature_of exports.now) calls.now.events (codes "E" ∷ words line.now) e → ⊥)
+        (IsEventRead calls.now.processes (map signature_of exports.now) calls.now.events (codes "E" ∷ words line.now))) }
 {
-    let Some((word, rest)) = words.split_first() else {
-        return Ok(None);
-    };
-    let Some(id) = read_id(calls.processes(), word) else {
+    let Some((id, rest)) = take_id(calls.processes(), line) else {
         return Ok(None);
     };
     let Some(proc) = calls.export_to_end(id) else {
         return Ok(None);
     };
-    let Some(reply) = read_reply(alloc, exports, proc, rest)? else {
+    let Some(reply) = read_reply(alloc, exports, proc, rest, list)? else {
         return Ok(None);
     };
     let kept = KeptReply::keep(alloc, &reply)?;
@@ -142,22 +143,24 @@ fn read_end(
 }
 
 /// The reply of an export's call: `done` and the values of its VAR parameters, or `trap` and a number.
-fn read_reply(
+fn read_reply<'a>(
     alloc: Global,
     exports: &[Export],
     proc: usize,
-    words: &[&[u8]],
+    line: &'a [u8],
+    list: &mut Vec<&'a [u8]>,
 ) -> Result<Option<Reply>, AllocError>
     ensures { IfOk result (λ read. MatchOption read
-        ((reply : Object.Reply) → IsReply (map signature_of exports.now) proc (map (λ w. w.now) words.now) reply → ⊥)
-        (λ reply. IsReply (map signature_of exports.now) proc (map (λ w. w.now) words.now) (reply_of reply))) }
+        ((reply : Object.Reply) → IsReply (map signature_of exports.now) proc (words line.now) reply → ⊥)
+        (λ reply. IsReply (map signature_of exports.now) proc (words line.now) (reply_of reply))) }
 {
-    let Some((kind, rest)) = words.split_first() else {
+    let Some((kind, rest)) = next_word(line) else {
         return Ok(None);
     };
-    match *kind {
-        b"done" => read_done(alloc, exports, proc, rest),
-        b"trap" => Ok(read_trap(rest)),
+    put_words(list, rest)?;
+    match kind {
+        b"done" => read_done(alloc, exports, proc, list),
+        b"trap" => Ok(read_trap(list)),
         _ => Ok(None),
     }
 }

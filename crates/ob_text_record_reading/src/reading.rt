@@ -4,7 +4,7 @@ ghost use Rattle.std.specs.Prelude.{◌≡◌, ◌+◌, ◌<◌, ◌^◌, ◌∷
 ghost use Rattle.ob_checked.specs.CheckedModule.{program_in};
 ghost use Rattle.ob_checked.specs.Exports.{signatures};
 ghost use Rattle.ob_interface.specs.View.{signature_of};
-ghost use Rattle.ob_text_record_reading.specs.LineReading.{FaultBehind, HasSaid, SaysNothing, lines_behind};
+ghost use Rattle.ob_text_record_reading.specs.LineReading.{FaultBehind, lines_behind};
 ghost use Rattle.ob_text_record_reading.specs.RecordLines as Records;
 ghost use Rattle.ob_text_record_reading.specs.RecordLines.{AreLines, FaultStands, IsCount, IsRecord, IsRecordFault, IsRecordOf, IsTitle, Told};
 ghost use Rattle.ob_text_record_reading.specs.Told.{told_of};
@@ -18,7 +18,7 @@ use ob_checked::checked::Checked;
 use ob_interface::NoMemory;
 use ob_interface::export::Export;
 use ob_interpreter::opening::MOST_TURNS;
-use ob_text_words::words::{put_words, words_of};
+use ob_text_words::words::words_of;
 use std::alloc::{AllocError, AllocFailed, Global};
 use thiserror::Error;
 use wf_history::{CallId, History};
@@ -148,7 +148,8 @@ fn read_behind(
     })
 }
 
-/// The order that lines behind the head tell, with the events before it. The list has the words of one line after the other.
+/// The order that lines behind the head tell, with the events before it. The list has the words that say the values of one line
+/// after the other.
 fn read_events<'a>(
     alloc: Global,
     exports: &[Export],
@@ -167,7 +168,7 @@ fn read_events<'a>(
     while let Some(text) = left {
         let (line, rest) = split_line(text);
         number += 1;
-        let Some(said) = read_words(alloc, exports, calls, line, list)? else {
+        let Some(said) = read_line(alloc, exports, calls, line, list)? else {
             return Err(RecordFault::Form(number));
         };
         match said {
@@ -184,21 +185,4 @@ fn read_events<'a>(
         left = rest;
     }
     Err(RecordFault::Form(number + 1))
-}
-
-/// What a line says behind the events so far; `None` where it may not stand there. Its words are put in place of those that the
-/// list has.
-fn read_words<'a>(
-    alloc: Global,
-    exports: &[Export],
-    calls: &Calls,
-    line: &'a [u8],
-    list: &mut Vec<&'a [u8]>,
-) -> Result<Option<Line>, NoMemory>
-    ensures { IfOk result (λ read. MatchOption read
-        (SaysNothing calls.now.processes (map signature_of exports.now) calls.now.events (words line.now))
-        (HasSaid calls.now.processes (map signature_of exports.now) calls.now.events (words line.now))) }
-{
-    put_words(list, line)?;
-    read_line(alloc, exports, calls, list)
 }

@@ -1,22 +1,24 @@
-use Rattle.std.proofs.Common.{◌++◌, ◌∷◌, [], length, map, ◌≤◌, arith}
-use Rattle.std.proofs.lemmas.List.{length-map, take_all}
-use Rattle.ob_text_record_reading.specs.RecordLines.{none}
-use Rattle.ob_text_record_reading.proofs.Ids.{ids-read, ids-stop}
+use Rattle.std.proofs.Common.{◌++◌, ◌∷◌, []}
+use Rattle.ob_text_words.specs.Words.{words}
+use Rattle.ob_text_record_reading.proofs.WordsTaken.{all_named, none_named, not_named, one_named}
 use Rattle.ob_text_record_reading.proofs.id.are_ids.Goals as goal
 
-pub loop-word-init : goal.loop-word-init
-loop-word-init c = ([], none)
+pub loop-id-init : goal.loop-id-init
+loop-id-init c = ([], none_named c.args.processes (words c.args.line.now))
 
-pub returns-in_default-clause-no : goal.returns-in_default-clause-no
-returns-in_default-clause-no c h = ids-stop _ c.args.words.now c.loop-word.word-index _ c.loop-word-test.true c.in_default.ensures
-
-pub loop-word-preserved : goal.loop-word-preserved
-loop-word-preserved c = (
-  c.loop-word.invariant.0 ++ c.in-Some._id ∷ [],
-  ids-read _ c.args.words.now c.loop-word.word-index _ c.loop-word-test.true _ _ c.in-Some.ensures c.loop-word.invariant.1,
+pub loop-id-preserved : goal.loop-id-preserved
+loop-id-preserved c = (
+  c.loop-id.invariant.0 ++ c.in-Some._id ∷ [],
+  one_named c.args.processes c.args.line.now c.loop-id.left.now c.in-Some.rest.now c.loop-id.invariant.0 c.in-Some._id c.loop-id.invariant.1 c.in-Some.ensures.taken,
 )
 
-pub returns-clause-yes : goal.returns-clause-yes
-returns-clause-yes c h =
-    let all : length (map (λ w. w.now) c.args.words.now) ≤ c.loop-word.word-index = rw length-map (omega arith) in
-    rw take_all at c.loop-word.invariant
+pub returns-in-Some-next_word-clause-no : goal.returns-in-Some-next_word-clause-no
+returns-in-Some-next_word-clause-no c h =
+    not_named c.args.processes c.args.line.now c.loop-id.left.now c.loop-id.invariant.0 c.in-Some-next_word.field-0.0.now (words c.in-Some-next_word.field-0.1.now) c.loop-id.invariant.1
+    c.in-Some-next_word.ensures.words c.in_default.ensures.taken
+
+pub returns-in-None-clause-yes : goal.returns-in-None-clause-yes
+returns-in-None-clause-yes c h = (
+  c.loop-id.invariant.0,
+  all_named c.args.processes c.args.line.now c.loop-id.left.now c.loop-id.invariant.0 c.loop-id.invariant.1 c.in-None.ensures.words,
+)

@@ -1,0 +1,127 @@
+//! The words of a line, taken off one at a time.
+
+ghost use Rattle.std.specs.Prelude.{◌≡◌, ◌<◌, ◌≤◌, ◌^◌, ◌∷◌, [], false, ℕ, List, length, take, IfSome, IsTrue, MatchOption};
+ghost use Rattle.std.specs.Char.{is_ascii_digit};
+ghost use Rattle.std.specs.List.{list_all, position};
+ghost use Rattle.ob_scan.specs.Spelling.{number_value};
+ghost use Rattle.ob_text_words.specs.Words.{is_blank, words};
+ghost use Rattle.ob_text_record_reading.specs.LineReading.{EndsWord, TakesId, TakesNoId};
+
+use crate::id::read_id;
+use wf_history::CallId;
+
+/// The most digits that are read without a look at whether the number grows too large.
+const FEW_DIGITS: usize = 10;
+
+/// The first word of a line, and what stands behind the blank that ends it; `None` where there is none.
+#[inline]
+pub(crate) fn next_word(line: &[u8]) -> Option<(&[u8], &[u8])>
+    ensures words { MatchOption result (words line.now ≡ []) (λ r. words line.now ≡ r.0.now ∷ words r.1.now) }
+    ensures shorter { IfSome result (λ r. length r.1.now < length line.now) }
+{
+    let mut left = line;
+    while let Some((first, behind)) = left.split_first() {
+        if !is_blank(*first) {
+            return Some(split_word(left));
+        }
+        left = behind;
+    }
+    None
+}
+
+/// The word that a text begins with, and what stands behind the blank that ends it.
+#[inline]
+fn split_word(text: &[u8]) -> (&[u8], &[u8])
+    requires { (first : ℕ) × (behind : List ℕ) × (text.now ≡ first ∷ behind) × (is_blank first ≡ false) }
+    ensures words { words text.now ≡ result.0.now ∷ words result.1.now }
+    ensures shorter { length result.1.now < length text.now }
+{
+    match blank_in(text) {
+        Some(place) => (&text[..place], &text[place + 1..]),
+        None => (text, &text[text.len()..]),
+    }
+}
+
+/// The place of the first blank.
+#[inline]
+fn blank_in(text: &[u8]) -> Option<usize>
+    ensures { result ≡ position (λ b. is_blank b) text.now }
+{
+    text.iter().position(|byte| is_blank(*byte))
+}
+
+fn is_blank(byte: u8) -> bool
+    ensures { result ≡ is_blank byte }
+{
+    matches!(byte, b' ' | b'\t' | b'\r')
+}
+
+/// The call that the first word of a line names, by a process below `processes`, and what stands behind the word.
+pub(crate) fn take_id(processes: usize, line: &[u8]) -> Option<(CallId, &[u8])>
+    ensures taken { MatchOption result (TakesNoId processes line.now) (λ r. TakesId processes line.now r.0 r.1.now) }
+    ensures shorter { IfSome result (λ r. length r.1.now < length line.now) }
+{
+    if let Some(taken) = take_short_id(processes, line) {
+        return Some(taken);
+    }
+    let (word, rest) = next_word(line)?;
+    let id = read_id(processes, word)?;
+    Some((id, rest))
+}
+
+/// The same where the line begins with a word of few digits, as mostly: it is walked once. `None` says nothing.
+#[inline]
+fn take_short_id(processes: usize, line: &[u8]) -> Option<(CallId, &[u8])>
+    ensures taken { IfSome result (λ r. TakesId processes line.now r.0 r.1.now) }
+    ensures shorter { IfSome result (λ r. length r.1.now < length line.now) }
+{
+    let (first, behind) = line.split_first()?;
+    let (point, text) = behind.split_first()?;
+    if !first.is_ascii_digit() || *point != b'.' {
+        return None;
+    }
+    let process = usize::from(*first - b'0');
+    if process >= processes {
+        return None;
+    }
+    let (number, count) = front_number(text);
+    let rest = behind_word(text, count)?;
+    Some((CallId { process, number }, rest))
+}
+
+/// The number that the first digits of a text spell, few at most, and how many they are.
+#[inline]
+fn front_number(text: &[u8]) -> (u64, usize)
+    ensures within { result.1 ≤ length text.now }
+    ensures digits { IsTrue (list_all is_ascii_digit (take result.1 text.now)) }
+    ensures spells { number_value (take result.1 text.now) ≡ result.0 }
+    ensures small { result.0 < 10 ^ 10 }
+{
+    let most = text.len().min(FEW_DIGITS);
+    let mut value: u64 = 0;
+    let mut count = 0;
+    while count < most && text[count].is_ascii_digit() {
+        value = value * 10 + u64::from(text[count] - b'0');
+        count += 1;
+    }
+    (value, count)
+}
+
+/// What stands behind a word of so many bytes, where it is something and a blank or the end is behind it.
+#[inline]
+fn behind_word(text: &[u8], count: usize) -> Option<&[u8]>
+    requires { count ≤ length text.now }
+    ensures { IfSome result (λ rest. EndsWord text.now count rest.now) }
+{
+    if count == 0 {
+        return None;
+    }
+    if count == text.len() {
+        return Some(&text[count..]);
+    }
+    if is_blank(text[count]) {
+        Some(&text[count + 1..])
+    } else {
+        None
+    }
+}
