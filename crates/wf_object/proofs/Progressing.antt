@@ -1,5 +1,5 @@
 -- Steps of one process in a row, as they change the cell, the process and what it has spent, are so many steps of the table.
-use Rattle.std.proofs.Common.{◌≡◌, ℕ, zero, suc, ◌+◌, ◌-◌, ◌^◌, ◌<◌, ◌≤◌, ◌≢◌, Bool, true, false, List, length, set, refl, sym, ap, ◌∙◌, arith, subst, inl, inr, get_or-set_same}
+use Rattle.std.proofs.Common.{◌≡◌, ℕ, zero, suc, ◌+◌, ◌-◌, ◌^◌, ◌<◌, ◌≤◌, Bool, true, false, List, length, set, refl, sym, ap, ◌∙◌, arith, subst, inl, inr, get_or-set_same}
 use Rattle.std.specs.Prelude.{ℤ, Some, slice_get}
 use Rattle.std.proofs.lemmas.Bool.{cases_lt}
 use Rattle.std.proofs.lemmas.List.{set-get_or, set-set}
@@ -9,7 +9,7 @@ use Rattle.ll_cell.specs.declared.form.Form.{Form}
 use Rattle.ob_interface.specs.Call.{ObjectCall}
 use Rattle.wf_table.specs.declared.engine_turn.EngineTurn.TheVariants.{On}
 use Rattle.wf_table.specs.declared.process.Label.{Label}
-use Rattle.wf_table.specs.declared.process.Label.TheVariants.{Next, Flip, Enter, Body, Commit, Give}
+use Rattle.wf_table.specs.declared.process.Label.TheVariants.{Next, Flip, Load, Store, Enter, Body, Commit, Give}
 use Rattle.wf_table.specs.declared.process.Sizes.{Sizes}
 use Rattle.wf_table.specs.declared.schedule.Turns.{Turns}
 use Rattle.wf_table.specs.Meaning.{Meaning}
@@ -17,7 +17,7 @@ use Rattle.wf_table.specs.Law.{Effects, IsLawful}
 use Rattle.wf_table.specs.Ranges.{IsInRange, IsShaped, IsSized}
 use Rattle.wf_table.specs.Schedule.{counted}
 use Rattle.wf_table.specs.Scripts.{CallsFit}
-use Rattle.wf_table.specs.Table.{Process, cell_after, row}
+use Rattle.wf_table.specs.Table.{Process, cell_after, load, row, store}
 use Rattle.wf_table.specs.Toggles.{StoresBit}
 use Rattle.wf_table.specs.Object.{Records, State, event_at, label_by, label_of, noted, step_by, step_of, stepped}
 use Rattle.wf_table.proofs.Stuck.{set_same}
@@ -34,29 +34,9 @@ use Rattle.wf_records.proofs.Counting.{written_there}
 use Rattle.wf_object.proofs.InARow.{kept_after}
 use Rattle.wf_object.proofs.InBody.{inside_more}
 use Rattle.wf_object.proofs.Keeps.{step_kept}
+use Rattle.wf_object.proofs.QuietSteps.{unmarked_quiet}
 use Rattle.wf_object.proofs.Spends.{bodies_room, later, one_inside_more, outside_room}
 use Rattle.wf_object.proofs.Staying.{body_inside, body_spends, body_steps}
-
-unmarked_quiet : (l : Label) → is_unmarked l ≡ true → is_quiet l ≡ true
-unmarked_quiet Next h = absurd (cc)
-unmarked_quiet Flip h = absurd (cc)
-unmarked_quiet Commit h = absurd (cc)
-unmarked_quiet Give h = absurd (cc)
-unmarked_quiet _ h = refl
-
--- what a label is at which nothing else is done
-pub unmarked_else : (l : Label) → l ≢ Next → l ≢ Flip → l ≢ Commit → l ≢ Give → is_unmarked l ≡ true
-unmarked_else Next a b d e = absurd (a refl)
-unmarked_else Flip a b d e = absurd (b refl)
-unmarked_else Commit a b d e = absurd (d refl)
-unmarked_else Give a b d e = absurd (e refl)
-unmarked_else _ a b d e = refl
-
-one_outside : (l : Label) (begins : Bool) (x : Spent) → is_unmarked l ≡ true → l ≢ Body → l ≢ Enter → spent_after l begins x ≡ outside_more x 1
-one_outside Next begins x h a b = absurd (cc)
-one_outside Body begins x h a b = absurd (a refl)
-one_outside Enter begins x h a b = absurd (b refl)
-one_outside _ begins x h a b = refl
 
 pub outside_next : (x : Spent) (n : ℕ) → outside_more x (n + 1) ≡ outside_more (outside_more x n) 1
 outside_next x n = let e : x.outside + (n + 1) ≡ x.outside + n + 1 = omega arith in ap (λ (k : ℕ). record x { outside = k }) e
@@ -86,10 +66,6 @@ plain_outside Next begins x h = absurd (cc)
 plain_outside Body begins x h = absurd (cc)
 plain_outside Enter begins x h = absurd (cc)
 plain_outside _ begins x h = refl
-
--- a step that is no body's, and starts none
-pub spent_outside : (l : Label) (begins : Bool) (x : Spent) (n : ℕ) → is_unmarked l ≡ true → l ≢ Body → l ≢ Enter → outside_more x (n + 1) ≡ spent_after l begins (outside_more x n)
-spent_outside l begins x n h a b = outside_next x n ∙ sym (one_outside l begins (outside_more x n) h a b)
 
 pub same_progress : {Run : Type 0} (h g : Progress Run) → h.cell ≡ g.cell → h.process ≡ g.process → h.spent ≡ g.spent → h ≡ g
 same_progress h g a b d =
@@ -135,6 +111,21 @@ module _ {Run : Type 0} (m : Meaning Run) (z : Sizes) (p : ℕ) where
   plain_row_unmarked l c q x j plain is one =
       subst (λ (i : ℕ). AreUnmarked m z p i (progress c q x)) (sym one)
       (one_unmarked (progress c q x) (subst (λ (t : Label). is_unmarked t ≡ true) (sym is) (plain_unmarked l plain)))
+
+  -- the word of a block that LOAD brings to hand and STORE stores
+  pub word_brought : (c d : Cell) (q o r : Process Run) (x : Spent) (n k : ℕ) → q.label ≡ Load → k ≡ n + 2 → o ≡ (load c q).process → d ≡ cell_after c p (store z o).change → r ≡ (store z o).process →
+      progress d r (outside_more x k) ≡ by_rows m z p 2 (progress c q (outside_more x n))
+  word_brought c d q o r x n k is more loaded cell stored =
+      let stands : o.label ≡ Store = ap (λ (u : Process Run). u.label) loaded in
+      let so : k ≡ n + 1 + 1 = omega (arith, more) in
+      plain_row Store c d o r x (n + 1) k 1 refl stands so refl cell stored
+      ∙ ap (by_row m z p) (plain_row Load c c q o x n (n + 1) 1 refl is refl refl refl loaded)
+
+  pub word_unmarked : (c : Cell) (q : Process Run) (x : Spent) → q.label ≡ Load → AreUnmarked m z p 2 (progress c q x)
+  word_unmarked c q x is =
+      let h = progress c q x in
+      let loaded : (by_rows m z p 1 h).process.label ≡ Store = ap (λ (t : Label). (row t m z c p q).process.label) is in
+      unmarked_join 1 1 h (plain_row_unmarked Load c q x 1 refl is refl) (one_unmarked (by_rows m z p 1 h) (ap is_unmarked loaded))
 
   pub rows_inside : (k : ℕ) (h : Progress Run) → (by_rows m z p k h).spent.inside ≤ h.spent.inside + k
   rows_inside zero h = omega arith

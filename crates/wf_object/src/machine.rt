@@ -190,6 +190,7 @@ impl<E: Engine> Machine<E> {
     }
 
     /// One step of the process, as `step` takes it, for those who need no reply.
+    #[inline(always)]
     pub fn advance(&mut self, p: usize) -> Result<Seen, NoMemory>
         requires { p < self.old.sizes.processes }
         ensures stepped { OnOk result (self.new ≡ stepped (E.meaning self.old.engine) p self.old) }
@@ -237,7 +238,8 @@ impl<E: Engine> Machine<E> {
     }
 
     /// Steps of the process that show nothing, each as `advance` takes it, and how many they are: at most so many, none where the last
-    /// turn was another process's, and none at FLIP. They take no memory.
+    /// turn was another process's, none at FLIP, and none at LOAD where there is room for one alone. They take no memory.
+    #[inline(always)]
     pub fn go_on(&mut self, p: usize, most: u64) -> u64
         requires { p < self.old.sizes.processes }
         ensures stepped { self.new ≡ object_after (E.meaning self.old.engine) p result self.old }

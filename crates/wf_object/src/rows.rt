@@ -74,8 +74,8 @@ fn take_all<E: Engine>(
     count
 }
 
-/// Steps of the process from where it stands, at most so many, and how many they are: where it stands in a body steps of that, of a
-/// block's words several, else one; none where more than its turn is noted of the step. The label is looked at once.
+/// Steps of the process from where it stands, at most so many, and how many they are: in a body those of the body, at LOAD those that
+/// bring words over, else one; none where more than its turn is noted of the step. The label is looked at once.
 #[inline(always)]
 fn take_some<E: Engine>(
     engine: &E,
@@ -108,7 +108,7 @@ fn take_some<E: Engine>(
         Label::Post => counted(outside, post(z, shared, q, p)),
         Label::Try => counted(outside, try_round(q)),
         Label::Link => counted(outside, link(shared, q, p)),
-        Label::Load => counted(outside, load(z, shared, q)),
+        Label::Load => copy_words(engine, z, shared, q, spent, outside, p, most),
         Label::Store => counted(outside, store(z, shared, q, p)),
         Label::Check1 => counted(outside, check(shared, q, p, Label::Mine)),
         Label::Mine => counted(outside, mine(z, shared, q, p)),
@@ -132,6 +132,39 @@ fn take_some<E: Engine>(
         Label::Read => counted(outside, read(shared, q)),
         Label::Take => counted(outside, take_reply(z, shared, q, p)),
     }
+}
+
+/// Words of the linked block are brought over, by LOAD and STORE each, while there is room for both; and how many steps these are.
+#[inline(always)]
+fn copy_words<E: Engine>(
+    engine: &E,
+    z: Sizes,
+    shared: &mut Shared,
+    q: &mut Process<E::Run>,
+    spent: &Spent,
+    outside: &mut u64,
+    p: usize,
+    most: u64,
+) -> u64
+    requires object { IsInObject (E.meaning engine.now) (E.lawful engine.now) (E.fits engine.now) (E.ready engine.now) z p (progress shared.old.cell q.old (outside_more spent.now outside.old)) }
+    requires sized { IsSized z }
+    requires packed { shared.old.form ≡ packed z }
+    requires process { p < z.processes }
+    requires room_outside { outside.old + most < 2 ^ 64 }
+    ensures few { result ≤ most }
+    ensures outside { outside.new ≤ outside.old + result }
+    ensures leads { progress shared.new.cell q.new (outside_more spent.now outside.new) ≡ by_rows (E.meaning engine.now) z p result (progress shared.old.cell q.old (outside_more spent.now outside.old)) }
+    ensures form { shared.new.form ≡ shared.old.form }
+    ensures unmarked { AreUnmarked (E.meaning engine.now) z p result (progress shared.old.cell q.old (outside_more spent.now outside.old)) }
+{
+    let mut count = 0;
+    while most - count > 1 && q.label == Label::Load {
+        load(z, shared, q);
+        store(z, shared, q, p);
+        *outside += 2;
+        count += 2;
+    }
+    count
 }
 
 /// One step outside bodies more, a row that was taken; and how many steps it is.

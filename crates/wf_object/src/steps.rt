@@ -14,6 +14,7 @@ use crate::process::Process;
 use ll_cell::Shared;
 use wf_table::{EngineTurn, Label, Sizes};
 
+#[inline(always)]
 pub fn part_of(z: Sizes, q: usize) -> usize
     requires sized { IsSized z }
     requires process { q ≤ z.processes }
@@ -66,6 +67,7 @@ fn turned(toggle: i64) -> i64
     if toggle == 0 { 1 } else { 0 }
 }
 
+#[inline(always)]
 pub fn try_round<R>(q: &mut Process<R>)
     requires { q.old.registers.round ≤ 2 }
     ensures process { q.new ≡ (try q.old).process }
@@ -78,6 +80,7 @@ pub fn try_round<R>(q: &mut Process<R>)
     }
 }
 
+#[inline(always)]
 pub fn link<R>(shared: &mut Shared, q: &mut Process<R>, p: usize)
     requires { p < length shared.old.cell.linked }
     ensures cell { shared.new.cell ≡ cell_after shared.old.cell p (links shared.old.cell q.old).change }
@@ -123,6 +126,7 @@ pub fn store<R>(z: Sizes, shared: &mut Shared, q: &mut Process<R>, p: usize)
     };
 }
 
+#[inline(always)]
 pub fn block_length(z: Sizes) -> usize
     requires { IsSized z }
     ensures { result ≡ block_words z }
@@ -130,6 +134,7 @@ pub fn block_length(z: Sizes) -> usize
     part_of(z, z.processes)
 }
 
+#[inline(always)]
 pub fn check<R>(shared: &Shared, q: &mut Process<R>, p: usize, passed: Label)
     requires { p < length shared.now.cell.linked }
     ensures { q.new ≡ (check passed shared.now.cell p q.old).process }
@@ -380,6 +385,7 @@ pub fn commit<R>(shared: &mut Shared, q: &mut Process<R>, p: usize)
     };
 }
 
+#[inline(always)]
 pub fn read<R>(shared: &Shared, q: &mut Process<R>)
     ensures { q.new ≡ (read shared.now.cell q.old).process }
 {
@@ -407,6 +413,7 @@ pub fn take_reply<R>(z: Sizes, shared: &Shared, q: &mut Process<R>, p: usize)
 }
 
 /// The row behind the second check: a loop of no words takes no step.
+#[inline(always)]
 pub fn behind_fetch(z: Sizes) -> Label
     ensures { result ≡ or_past z.variables Save Enter }
 {

@@ -1,6 +1,6 @@
-use Rattle.std.proofs.Common.{◌≡◌, ◌≢◌, ◌+◌, ap, refl, sym, subst, ◌∙◌}
+use Rattle.std.proofs.Common.{◌≡◌, ◌+◌, ap, refl, sym, subst, ◌∙◌}
 use Rattle.wf_table.specs.declared.process.Label.{Label}
-use Rattle.wf_table.specs.declared.process.Label.TheVariants.{Post, Try, Link, Load, Store, Check1, Mine, Seen, Fetch, Check2, Save, Enter, Body, Undo, Keep, Read, Take}
+use Rattle.wf_table.specs.declared.process.Label.TheVariants.{Post, Try, Link, Store, Check1, Mine, Seen, Fetch, Check2, Save, Enter, Body, Undo, Keep, Read, Take}
 use Rattle.wf_table.specs.Table.{cell_after, check, row}
 use Rattle.wf_bound.specs.declared.spent.Spent.{Spent}
 use Rattle.wf_bound.specs.Spent.{has_more, spent_after}
@@ -70,14 +70,6 @@ returns-in-Link-clause-leads g c =
 pub returns-in-Link-clause-unmarked : goal.returns-in-Link-clause-unmarked
 returns-in-Link-clause-unmarked g c =
     plain_row_unmarked (g.E.Engine.meaning c.args.engine.now) c.args.z c.args.p Link c.args.shared.now.cell c.args.q.now (outside_more c.args.spent.now c.args.outside.now) c.counted-in-Link.result refl (rw (← c.q.view_is) c.in-Link.is) c.counted-in-Link.ensures.one
-
-pub returns-in-Load-clause-leads : goal.returns-in-Load-clause-leads
-returns-in-Load-clause-leads g c =
-    plain_row (g.E.Engine.meaning c.args.engine.now) c.args.z c.args.p Load c.args.shared.now.cell c.args.shared.now.cell c.args.q.now c.load.new.q c.args.spent.now c.args.outside.now c.counted-in-Load.new.outside c.counted-in-Load.result refl (rw (← c.q.view_is) c.in-Load.is) c.counted-in-Load.ensures.more c.counted-in-Load.ensures.one (refl) (c.load.ensures)
-
-pub returns-in-Load-clause-unmarked : goal.returns-in-Load-clause-unmarked
-returns-in-Load-clause-unmarked g c =
-    plain_row_unmarked (g.E.Engine.meaning c.args.engine.now) c.args.z c.args.p Load c.args.shared.now.cell c.args.q.now (outside_more c.args.spent.now c.args.outside.now) c.counted-in-Load.result refl (rw (← c.q.view_is) c.in-Load.is) c.counted-in-Load.ensures.one
 
 pub returns-in-Store-clause-leads : goal.returns-in-Store-clause-leads
 returns-in-Store-clause-leads g c =
