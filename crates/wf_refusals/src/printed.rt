@@ -44,7 +44,7 @@ fn print_event(text: &mut String, event: &Event) -> Result<(), AllocError> {
     match event {
         Event::Begin(id, call) => {
             write!(text, "begin {}.{}", id.process, id.number)?;
-            print_values(text, &call.args)
+            print_values(text, call.args.lent().as_slice())
         }
         Event::Applied(ids) => {
             text.push_str("applied")?;
@@ -68,7 +68,7 @@ fn print_ids(text: &mut String, ids: &[CallId]) -> Result<(), AllocError> {
 fn print_kept(text: &mut String, id: CallId, reply: &KeptReply) -> Result<(), AllocError> {
     write!(text, "{}.{}", id.process, id.number)?;
     match reply {
-        KeptReply::Done(values) => print_values(text, values),
+        KeptReply::Done(values) => print_values(text, values.lent().as_slice()),
         KeptReply::Trap(k) => writeln!(text, " trap {k}"),
     }
 }
