@@ -1,18 +1,20 @@
 //! The body of one call: the stack machine at work on a block of words.
 
-ghost use Rattle.std.specs.Prelude.{◌≡◌, ◌<◌, ◌+◌, IfOk, slice_get, slice_index_or, true, pos, List, ℤ};
+ghost use Rattle.std.specs.Prelude.{◌≡◌, ◌<◌, ◌+◌, IfOk, slice_get, slice_index_or, true, false, pos, List, ℤ};
 ghost use Rattle.ob_code_machine.specs.Machine as Machine;
 ghost use Rattle.ob_code_machine.specs.Body.{empty, entered, shown, at, step_of};
+ghost use Rattle.ob_code_machine.specs.Parameters.{arguments_in};
 
 use crate::argument::Argument;
 use crate::code::Code;
 use crate::effect::{Answer, effect};
-use crate::entering::{push_arguments, result_count};
+use crate::entering::{push_arguments, push_parameters, result_count, var_count};
 use crate::instr::Instr;
 use crate::saved::{Callers, Saved};
 use crate::stack::Stack;
 use crate::turn::BodyTurn;
 use ob_interface::NoMemory;
+use ob_interface::export::Formal;
 use std::alloc::Global;
 use std::marker::Model;
 
@@ -51,6 +53,28 @@ impl Body {
         })
     }
 
+    /// Holds nothing, and is over.
+    fn clear(&mut self)
+        ensures { self.new ≡ record { reserve = self.old.reserve; is_over = true; body = empty } }
+    {
+        self.pc = 0;
+        self.fp = 0;
+        self.stack.truncate(0);
+        self.callers.clear();
+        self.turns = 0;
+        self.is_over = true;
+    }
+
+    /// Begins at an entry; the frame begins behind so many results.
+    fn begin(&mut self, entry: u16, results: usize, budget: u32)
+        ensures { self.new ≡ record { reserve = self.old.reserve; is_over = false; body = record self.old.body { pc = entry; fp = results; turns = budget } } }
+    {
+        self.pc = usize::from(entry);
+        self.fp = results;
+        self.turns = budget;
+        self.is_over = false;
+    }
+
     /// Starts a procedure of the code, on blocks of so many words, with a budget of turns; what the body
     /// held before is gone. Where there is no such procedure, or no room for results and arguments, the
     /// body is over.
@@ -64,12 +88,7 @@ impl Body {
     )
         ensures { self.new ≡ entered self.old.reserve variables (slice_get code.now.entries procedure) arguments.now budget }
     {
-        self.pc = 0;
-        self.fp = 0;
-        self.stack.truncate(0);
-        self.callers.clear();
-        self.turns = 0;
-        self.is_over = true;
+        self.clear();
         let Some(entry) = code.entry(procedure) else {
             return;
         };
@@ -79,10 +98,33 @@ impl Body {
         }
         self.stack.push_zeros(results);
         push_arguments(&mut self.stack, variables, arguments);
-        self.pc = usize::from(entry);
-        self.fp = results;
-        self.turns = budget;
-        self.is_over = false;
+        self.begin(entry, results, budget);
+    }
+
+    /// The same, with the arguments that words hand over for parameters.
+    #[tactic(auto, using(crate::proofs::Parameters::results_are, crate::proofs::Parameters::as_many))]
+    pub fn start_on_words(
+        &mut self,
+        code: &Code,
+        procedure: usize,
+        variables: u32,
+        parameters: &[Formal],
+        words: &[i64],
+        budget: u32,
+    )
+        ensures { self.new ≡ entered self.old.reserve variables (slice_get code.now.entries procedure) (arguments_in parameters.now words.now) budget }
+    {
+        self.clear();
+        let Some(entry) = code.entry(procedure) else {
+            return;
+        };
+        let results = var_count(parameters);
+        if self.stack.room() < parameters.len() || self.stack.room() - parameters.len() < results {
+            return;
+        }
+        self.stack.push_zeros(results);
+        push_parameters(&mut self.stack, variables, parameters, words);
+        self.begin(entry, results, budget);
     }
 
     /// One instruction, on a block. A body that is over is stuck. It stands within the loops over it, and so does each instruction.
