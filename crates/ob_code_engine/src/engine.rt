@@ -1,6 +1,6 @@
 //! The engine over compiled code.
 
-ghost use Rattle.std.specs.Prelude.{◌≡◌, ◌≤◌, ◌↔◌, IsTrue};
+ghost use Rattle.std.specs.Prelude.{◌≡◌, ◌≤◌, ◌↔◌, IsTrue, length};
 ghost use Rattle.ob_code_law.specs.CodeMeaning.{most, result_count, value_count};
 ghost use Rattle.ob_code_law.specs.Parts.{HasProgram};
 ghost use Rattle.ob_meaning.specs.Object.{most_turns};
@@ -14,6 +14,7 @@ use ob_code_machine::{Body, Code};
 use ob_code_well_formed::laws::checked_is_well_formed;
 use ob_interface::NoMemory;
 use ob_interface::call::{Call, Reply};
+use ob_interface::export::Formal;
 use ob_interface::scalar::Scalar;
 use smallvec::SmallVec;
 use std::alloc::Global;
@@ -159,14 +160,22 @@ impl CodeEngine {
         self.export_at(word as usize)
     }
 
+    /// The parameters of an export; none where there is no such export.
+    fn parameters_of(&self, number: usize) -> &[Formal]
+        ensures value { result.now ≡ Words.parameters_of (slice_get self.now.parts.exports number) }
+        ensures few { length result.now ≤ 8 }
+    {
+        match self.export_at(number) {
+            Some(export) => export.parameters(),
+            None => &[],
+        }
+    }
+
     /// The values that words stand for as results of an export; none where there is no such export.
     fn results_of(&self, number: usize, words: &[i64]) -> SmallVec<Scalar, 8>
         ensures { result.items ≡ Words.values_of (Words.parameters_of (slice_get self.now.parts.exports number)) words.now }
     {
-        match self.export_at(number) {
-            Some(export) => values_of(self.alloc, export.parameters(), words),
-            None => SmallVec::new(self.alloc),
-        }
+        values_of(self.alloc, self.parameters_of(number), words)
     }
 }
 
