@@ -7,7 +7,7 @@ ghost use Rattle.ob_meaning.specs.Object.{most_turns};
 
 use crate::entrance::{Entrance, are_same, copied, entrances, most_results, most_values};
 use crate::turns::turn_of;
-use crate::words::{arguments_in, lay, split, trap_in, values_of};
+use crate::words::{lay, split, trap_in, values_of};
 use ob_checked::checked::Checked;
 use ob_code_layout::Layout;
 use ob_code_machine::{Body, Code};
@@ -230,12 +230,12 @@ impl Engine for CodeEngine {
         let (number, rest) = split(words);
         match self.export(number) {
             Some(export) => {
-                let arguments = arguments_in(self.alloc, export.parameters(), rest);
-                run.start(
+                run.start_on_words(
                     &self.code,
                     export.procedure(),
                     self.block_words,
-                    arguments.as_slice(),
+                    export.parameters(),
+                    rest,
                     self.budget,
                 );
             }

@@ -8,11 +8,10 @@ use Rattle.ob_interface.specs.declared.scalar.ScalarType.TheVariants.{Integer, B
 use Rattle.ob_interface.specs.declared.export.Formal.{Formal}
 use Rattle.ob_interface.specs.Call.{ObjectCall, Reply, Answers, Trapped as TrapReply}
 use Rattle.ob_code_machine.specs.Code.{CodeParts}
-use Rattle.ob_code_machine.specs.declared.argument.Argument.{Argument}
-use Rattle.ob_code_machine.specs.declared.argument.Argument.TheVariants as Arguments
 use Rattle.ob_code_machine.specs.declared.turn.BodyTurn.{BodyTurn}
 use Rattle.ob_code_machine.specs.declared.turn.BodyTurn.TheVariants as Answer
 use Rattle.ob_code_machine.specs.Body.{Run, Step, entered, step_of}
+pub use Rattle.ob_code_machine.specs.Parameters.{first_word, other_words, arguments_in}
 use Rattle.ob_code_scheme.specs.Layout.{word}
 use Rattle.wf_table.specs.declared.engine_turn.EngineTurn.{EngineTurn}
 use Rattle.wf_table.specs.declared.engine_turn.EngineTurn.TheVariants as Turn
@@ -49,15 +48,6 @@ most count (x ∷ exports) = max (count x.parameters) (most count exports)
 
 -- ---- a call as words
 
--- the first word, or 0 where there is none
-abbrev pub first_word : List ℤ → ℤ
-first_word [] = pos 0
-first_word (w ∷ words) = w
-
-abbrev pub other_words : List ℤ → List ℤ
-other_words [] = []
-other_words (w ∷ words) = words
-
 -- so many words: these, and 0 behind them
 abbrev pub padded : ℕ → List ℤ → List ℤ
 padded zero words = []
@@ -66,13 +56,6 @@ padded (suc n) words = first_word words ∷ padded n (other_words words)
 -- the number of the export, the value arguments in text order, and zeros
 abbrev pub laid : ℕ → ObjectCall → List ℤ
 laid count call = padded count (pos call.export ∷ map word call.arguments)
-
--- what words hand over for each parameter: nothing for VAR, else the next word
-abbrev pub arguments_in : List Formal → List ℤ → List Argument
-arguments_in [] words = []
-arguments_in (p ∷ parameters) words =
-    if p.is_var then Arguments.Var ∷ arguments_in parameters words
-    else Arguments.Value (first_word words) ∷ arguments_in parameters (other_words words)
 
 -- the export of a number, where there is one
 abbrev pub entrance_at : List Entrance → ℤ → Option Entrance
