@@ -1,6 +1,6 @@
 //! The checker of orders: whether a list of calls is a legal order of a history.
 
-ghost use Rattle.std.specs.Prelude.{◌≡◌, ◌↔◌, ◌⊎◌, map, length, slice_get, Some, OnOk, IfOk, IfErr, MatchOption, MatchResult, IsSome, Contains};
+ghost use Rattle.std.specs.Prelude.{◌≡◌, ◌↔◌, ◌⊎◌, List, map, length, slice_get, Some, OnOk, IfOk, IfErr, MatchOption, MatchResult, IsSome, Contains};
 ghost use Rattle.ob_checked.specs.CheckedModule.{program_in};
 ghost use Rattle.ob_interface.specs.Call as Calls;
 ghost use Rattle.ob_positions.specs.Store.{Activation};
@@ -81,9 +81,14 @@ impl<T: Drop> From<AllocFailed<T>> for OrderFault {
     }
 }
 
-/// The places of all calls, where each id of the list has begun and none stands in it twice.
-fn known_places(alloc: Global, events: &[Event], order: &[CallId]) -> Result<Places, OrderFault>
-    ensures placed { IfOk result (λ p. ArePlaced (map event_of events.now) (placed_all p order.now)) }
+/// The places of all calls, and the ids of the list, where each of them has begun and none stands in it twice.
+fn known_places(
+    alloc: Global,
+    events: &[Event],
+    order: &[CallId],
+) -> Result<(Places, Noted), OrderFault>
+    ensures placed { IfOk result (λ k. ArePlaced (map event_of events.now) (placed_all k.0 order.now)) }
+    ensures listed { IfOk result (λ k. (q : CallId) → IsSome (noted_in k.1 q) ↔ Contains order.now q) }
     ensures known { OnOk result (IsNowhere (IsUnknown (map event_of events.now) order.now) order.now) }
     ensures fault { IfErr result (IsListFault (map event_of events.now) order.now) }
 {
@@ -98,18 +103,7 @@ fn known_places(alloc: Global, events: &[Event], order: &[CallId]) -> Result<Pla
         }
         seen.note(*id, begin)?;
     }
-    Ok(places)
-}
-
-/// The ids of a list, each with its place in it.
-fn places_in(alloc: Global, order: &[CallId]) -> Result<Noted, NoMemory>
-    ensures { IfOk result (λ s. (q : CallId) → IsSome (noted_in s q) ↔ Contains order.now q) }
-{
-    let mut places = Noted::new(alloc)?;
-    for (place, id) in order.iter().enumerate() {
-        places.note(*id, place)?;
-    }
-    Ok(places)
+    Ok((places, seen))
 }
 
 /// The call that ends with an event, if one does.
@@ -124,25 +118,20 @@ fn ended(event: &Event) -> Option<CallId>
     }
 }
 
-/// The first call, by its End, that has ended and that the list lacks.
-fn first_missing(
-    alloc: Global,
-    events: &[Event],
-    order: &[CallId],
-) -> Result<Option<CallId>, NoMemory>
-    ensures { IfOk result (λ o. MatchOption o
-        (IsNowhere (EndsUnlisted (map event_of events.now) order.now) (map event_of events.now))
-        (IsFirstUnlisted (map event_of events.now) order.now)) }
+/// The first call, by its End, that has ended and that is not noted: the list of those that are noted lacks it.
+fn first_missing(events: &[Event], listed: &Noted) -> Option<CallId>
+    ensures { (order : List CallId) → ((q : CallId) → IsSome (noted_in listed.now q) ↔ Contains order q) → MatchOption result
+        (IsNowhere (EndsUnlisted (map event_of events.now) order) (map event_of events.now))
+        (IsFirstUnlisted (map event_of events.now) order) }
 {
-    let listed = places_in(alloc, order)?;
     for event in events {
         if let Some(id) = ended(event)
             && listed.get(id).is_none()
         {
-            return Ok(Some(id));
+            return Some(id);
         }
     }
-    Ok(None)
+    None
 }
 
 /// The first call that began after the end of one that stands behind it.
@@ -172,8 +161,8 @@ fn arranged(alloc: Global, events: &[Event], order: &[CallId]) -> Result<Places,
     ensures arranged { OnOk result (IsArranged (map event_of events.now) order.now) }
     ensures fault { IfErr result (IsListFault (map event_of events.now) order.now) }
 {
-    let places = known_places(alloc, events, order)?;
-    if let Some(id) = first_missing(alloc, events, order)? {
+    let (places, listed) = known_places(alloc, events, order)?;
+    if let Some(id) = first_missing(events, &listed) {
         return Err(OrderFault::Missing(id));
     }
     if let Some(id) = first_too_early(&places, order) {

@@ -8,3 +8,4 @@ pub mod Places
 mod Fronts
 pub mod FirstLines
 pub mod Numbers
+pub mod NothingSaid

@@ -3,6 +3,8 @@
 ghost use Rattle.std.specs.Prelude.{◌≡◌, ◌≤◌, ◌∷◌, [], ℕ, List, codes, map, option_map, slice_get, IfOk, MatchOption};
 ghost use Rattle.ob_interface.specs.Call as Object;
 ghost use Rattle.ob_interface.specs.View.{reply_of, signature_of};
+ghost use Rattle.ob_interface.specs.declared.scalar.Scalar as Scalars;
+ghost use Rattle.ob_text_exports.specs.Values.{AreValues, types_of};
 ghost use Rattle.ob_text_record_reading.specs.LineReading.{HasSaid, IsAppliedRead, IsEventRead, IsOrderRead, SaysNothing};
 ghost use Rattle.ob_text_record_reading.specs.RecordLines.{AreIds, IsNextEvent, IsReply};
 ghost use Rattle.ob_text_words.specs.Words.{IsNumeral, words};
@@ -16,10 +18,12 @@ use crate::number::read_only_number;
 use crate::taking::{next_word, take_id};
 use ob_interface::NoMemory;
 use ob_interface::call::{Call, Reply};
-use ob_interface::export::Export;
+use ob_interface::export::{Export, Formal};
+use ob_interface::scalar::Scalar;
 use ob_text_exports::exports::export_named;
 use ob_text_exports::values::read_values;
 use ob_text_words::words::put_words;
+use smallvec::SmallVec;
 use std::alloc::{AllocError, Global};
 use wf_history::{CallId, KeptCall, KeptReply};
 
@@ -109,8 +113,7 @@ fn read_begin<'a>(
     let Some((proc, export)) = export_named(exports, name) else {
         return Ok(None);
     };
-    put_words(list, rest)?;
-    let Some(args) = read_values(alloc, &export.formals, false, list)? else {
+    let Some(args) = values_in(alloc, &export.formals, false, rest, list)? else {
         return Ok(None);
     };
     let kept = KeptCall::keep(alloc, &Call { proc, args })?;
@@ -157,32 +160,57 @@ fn read_reply<'a>(
     let Some((kind, rest)) = next_word(line) else {
         return Ok(None);
     };
-    put_words(list, rest)?;
     match kind {
-        b"done" => read_done(alloc, exports, proc, list),
-        b"trap" => Ok(read_trap(list)),
+        b"done" => read_done(alloc, exports, proc, rest, list),
+        b"trap" => {
+            put_words(list, rest)?;
+            Ok(read_trap(list))
+        }
         _ => Ok(None),
     }
 }
 
 /// What stands behind `done`: the values of the VAR parameters.
-fn read_done(
+fn read_done<'a>(
     alloc: Global,
     exports: &[Export],
     proc: usize,
-    words: &[&[u8]],
+    line: &'a [u8],
+    list: &mut Vec<&'a [u8]>,
 ) -> Result<Option<Reply>, AllocError>
     ensures { IfOk result (λ read. MatchOption read
-        ((reply : Object.Reply) → IsReply (map signature_of exports.now) proc (codes "done" ∷ map (λ w. w.now) words.now) reply → ⊥)
-        (λ reply. IsReply (map signature_of exports.now) proc (codes "done" ∷ map (λ w. w.now) words.now) (reply_of reply))) }
+        ((reply : Object.Reply) → IsReply (map signature_of exports.now) proc (codes "done" ∷ words line.now) reply → ⊥)
+        (λ reply. IsReply (map signature_of exports.now) proc (codes "done" ∷ words line.now) (reply_of reply))) }
 {
     let Some(export) = export_at(exports, proc) else {
         return Ok(None);
     };
-    let Some(values) = read_values(alloc, &export.formals, true, words)? else {
+    let Some(values) = values_in(alloc, &export.formals, true, line, list)? else {
         return Ok(None);
     };
     Ok(Some(Reply::Done(values)))
+}
+
+/// The values that a line says for the parameters of one mode, VAR or not; `None` where they don't fit. Its words are put in
+/// place of those that the list has, unless nothing is said and nothing has to be.
+#[inline(always)]
+#[tactic(auto, using(crate::proofs::NothingSaid::nothing_said))]
+fn values_in<'a>(
+    alloc: Global,
+    formals: &[Formal],
+    is_var: bool,
+    line: &'a [u8],
+    list: &mut Vec<&'a [u8]>,
+) -> Result<Option<SmallVec<Scalar, 8>>, AllocError>
+    ensures { IfOk result (λ read. MatchOption read
+        ((values : List Scalars.Scalar) → AreValues (types_of is_var formals.now) (words line.now) values → ⊥)
+        (λ values. AreValues (types_of is_var formals.now) (words line.now) values.items)) }
+{
+    if formals.is_empty() && line.is_empty() {
+        return Ok(Some(SmallVec::new(alloc)));
+    }
+    put_words(list, line)?;
+    read_values(alloc, formals, is_var, list)
 }
 
 /// The export of a number.

@@ -7,6 +7,7 @@ ghost use Rattle.ob_text_words.specs.Words.{lines, words};
 ghost use Rattle.ob_text_record_reading.specs.LineReading.{IsFirstOther, lines_behind};
 ghost use Rattle.ob_text_record_reading.specs.RecordLines.{IsTail};
 
+use memchr::memchr;
 use ob_text_words::words::words_of;
 use std::alloc::{AllocError, Global};
 
@@ -34,7 +35,7 @@ pub(crate) fn split_line(text: &[u8]) -> (&[u8], Option<&[u8]>)
 fn feed_in(text: &[u8]) -> Option<usize>
     ensures { result ≡ position (λ b. b == 10) text.now }
 {
-    text.iter().position(|byte| *byte == b'\n')
+    memchr(b'\n', text)
 }
 
 /// The place of the first line whose first byte is neither `S` nor `V`, among those behind a line feed.

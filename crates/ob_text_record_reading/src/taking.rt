@@ -14,7 +14,7 @@ use wf_history::CallId;
 const FEW_DIGITS: usize = 10;
 
 /// The first word of a line, and what stands behind the blank that ends it; `None` where there is none.
-#[inline]
+#[inline(always)]
 pub(crate) fn next_word(line: &[u8]) -> Option<(&[u8], &[u8])>
     ensures words { MatchOption result (words line.now ≡ []) (λ r. words line.now ≡ r.0.now ∷ words r.1.now) }
     ensures shorter { IfSome result (λ r. length r.1.now < length line.now) }
@@ -30,7 +30,7 @@ pub(crate) fn next_word(line: &[u8]) -> Option<(&[u8], &[u8])>
 }
 
 /// The word that a text begins with, and what stands behind the blank that ends it.
-#[inline]
+#[inline(always)]
 fn split_word(text: &[u8]) -> (&[u8], &[u8])
     requires { (first : ℕ) × (behind : List ℕ) × (text.now ≡ first ∷ behind) × (is_blank first ≡ false) }
     ensures words { words text.now ≡ result.0.now ∷ words result.1.now }
@@ -43,7 +43,7 @@ fn split_word(text: &[u8]) -> (&[u8], &[u8])
 }
 
 /// The place of the first blank.
-#[inline]
+#[inline(always)]
 fn blank_in(text: &[u8]) -> Option<usize>
     ensures { result ≡ position (λ b. is_blank b) text.now }
 {
@@ -57,6 +57,7 @@ fn is_blank(byte: u8) -> bool
 }
 
 /// The call that the first word of a line names, by a process below `processes`, and what stands behind the word.
+#[inline(always)]
 pub(crate) fn take_id(processes: usize, line: &[u8]) -> Option<(CallId, &[u8])>
     ensures taken { MatchOption result (TakesNoId processes line.now) (λ r. TakesId processes line.now r.0 r.1.now) }
     ensures shorter { IfSome result (λ r. length r.1.now < length line.now) }
@@ -64,13 +65,22 @@ pub(crate) fn take_id(processes: usize, line: &[u8]) -> Option<(CallId, &[u8])>
     if let Some(taken) = take_short_id(processes, line) {
         return Some(taken);
     }
+    take_any_id(processes, line)
+}
+
+/// The same, of whatever length the word is. It stands apart, since records need it seldom.
+#[inline(never)]
+fn take_any_id(processes: usize, line: &[u8]) -> Option<(CallId, &[u8])>
+    ensures taken { MatchOption result (TakesNoId processes line.now) (λ r. TakesId processes line.now r.0 r.1.now) }
+    ensures shorter { IfSome result (λ r. length r.1.now < length line.now) }
+{
     let (word, rest) = next_word(line)?;
     let id = read_id(processes, word)?;
     Some((id, rest))
 }
 
 /// The same where the line begins with a word of few digits, as mostly: it is walked once. `None` says nothing.
-#[inline]
+#[inline(always)]
 fn take_short_id(processes: usize, line: &[u8]) -> Option<(CallId, &[u8])>
     ensures taken { IfSome result (λ r. TakesId processes line.now r.0 r.1.now) }
     ensures shorter { IfSome result (λ r. length r.1.now < length line.now) }
@@ -90,7 +100,7 @@ fn take_short_id(processes: usize, line: &[u8]) -> Option<(CallId, &[u8])>
 }
 
 /// The number that the first digits of a text spell, few at most, and how many they are.
-#[inline]
+#[inline(always)]
 fn front_number(text: &[u8]) -> (u64, usize)
     ensures within { result.1 ≤ length text.now }
     ensures digits { IsTrue (list_all is_ascii_digit (take result.1 text.now)) }
@@ -108,7 +118,7 @@ fn front_number(text: &[u8]) -> (u64, usize)
 }
 
 /// What stands behind a word of so many bytes, where it is something and a blank or the end is behind it.
-#[inline]
+#[inline(always)]
 fn behind_word(text: &[u8], count: usize) -> Option<&[u8]>
     requires { count ≤ length text.now }
     ensures { IfSome result (λ rest. EndsWord text.now count rest.now) }

@@ -13,7 +13,7 @@ returns-in-Some-first_too_early-clause-fault c =
     let order = c.args.order.now in
     let places = c.in_ok-places.places in
     let late = c.in-Some-first_too_early.ensures in
-    let missing = c.in_ok-id.ensures in
+    let missing = c.first_missing.ensures order c.in_ok-places.ensures.listed in
     let none = c.in_default.is in (
       c.in_ok-places.ensures.known,
       MatchOption-at_none (IsNowhere (EndsUnlisted (map event_of c.args.events.now) order) (map event_of c.args.events.now)) (IsFirstUnlisted (map event_of c.args.events.now) order) none missing,
@@ -25,7 +25,7 @@ returns-clause-arranged c =
     let order = c.args.order.now in
     let places = c.in_ok-places.places in
     let none = c.in_default.is in
-    let missing = c.in_ok-id.ensures in
+    let missing = c.first_missing.ensures order c.in_ok-places.ensures.listed in
     record {
       known = c.in_ok-places.ensures.known;
       listed = MatchOption-at_none (IsNowhere (EndsUnlisted (map event_of c.args.events.now) order) (map event_of c.args.events.now)) (IsFirstUnlisted (map event_of c.args.events.now) order) none missing;

@@ -20,13 +20,14 @@ returns-in-loop-event c =
     let lt : i < length c.args.events.now = omega arith in
     let at = item_of event_of c.args.events.now i c.event-item.result lt c.event-item.is in
     let ended = c.in-Some.ensures in
-    let lacks : is_some c.get.result ≡ false = c.is_none.ensures ∙ ap not c.if-is_none.true in (
+    let lacks : is_some c.get.result ≡ false = c.is_none.ensures ∙ ap not c.if-is_none.true in
+    λ order lists. (
       ended.0,
       record {
         place = i;
         here = at ∙ ap Some ended.1;
-        holds = λ listed. false≢true (sym lacks ∙ ap is_some c.get.ensures ∙ (c.in_ok-listed.ensures c.in-Some.id).1 listed);
-        earlier = c.loop-event.invariant;
+        holds = λ listed. false≢true (sym lacks ∙ ap is_some c.get.ensures ∙ (lists c.in-Some.id).1 listed);
+        earlier = c.loop-event.invariant order lists;
       },
     )
 
@@ -36,19 +37,20 @@ loop-event-preserved c =
     let history = map event_of c.args.events.now in
     let lt : i < length c.args.events.now = omega arith in
     let at = item_of event_of c.args.events.now i c.event-item.result lt c.event-item.is in
-    nowhere_more (EndsUnlisted history c.args.order.now) history i (event_of c.event-item.result) at c.loop-event.invariant
+    λ order lists.
+    nowhere_more (EndsUnlisted history order) history i (event_of c.event-item.result) at (c.loop-event.invariant order lists)
     (elim c.in_default.branch [
       | in_default-via-in-None-1 w ↦
           let none : c.ended.result ≡ None = cc in
-          no_end history c.args.order.now i (event_of c.event-item.result)
+          no_end history order i (event_of c.event-item.result)
           (MatchOption-at_none ((id : CallId) (reply : Reply) → event_of c.event-item.result ≡ End id reply → ⊥) (λ (id : CallId). (reply : Reply) × (event_of c.event-item.result ≡ End id reply)) none c.ended.ensures)
       | in_default-via-in-Some+else-is_none w ↦
-          end_listed history c.args.order.now i (event_of c.event-item.result) w.in-Some.id w.in-Some.ensures.0 w.in-Some.ensures.1
-          ((c.in_ok-listed.ensures w.in-Some.id).0 (sym (ap is_some w.get.ensures) ∙ w.is_none.ensures ∙ ap not w.if-is_none.false))
+          end_listed history order i (event_of c.event-item.result) w.in-Some.id w.in-Some.ensures.0 w.in-Some.ensures.1
+          ((lists w.in-Some.id).0 (sym (ap is_some w.get.ensures) ∙ w.is_none.ensures ∙ ap not w.if-is_none.false))
     ])
 
 pub returns : goal.returns
 returns c =
     let history = map event_of c.args.events.now in
     let all = length-map c.args.events.now event_of in
-    nowhere_all (EndsUnlisted history c.args.order.now) history c.loop-event.event-index (omega (arith, all)) c.loop-event.invariant
+    λ order lists. nowhere_all (EndsUnlisted history order) history c.loop-event.event-index (omega (arith, all)) (c.loop-event.invariant order lists)

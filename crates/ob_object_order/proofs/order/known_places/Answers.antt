@@ -1,9 +1,10 @@
 -- An id without a place, or seen before, is unknown; any other one has its places.
-use Rattle.std.proofs.Common.{ap, refl, sym, take, map, length, get_or, arith, ◌<◌, ◌≤◌, suc, [], ◌∷◌, ◌∙◌, add-one, inr}
+use Rattle.std.proofs.Common.{List, ◌↔◌, subst, ap, refl, sym, take, map, length, get_or, arith, ◌<◌, ◌≤◌, suc, [], ◌∷◌, ◌∙◌, add-one, inr}
 use Rattle.std.proofs.lemmas.List.{map-append, take_all}
 use Rattle.std.proofs.lemmas.Option.{slice_get-get_or}
 use Rattle.std.proofs.lemmas.Bool.{false≢true}
 use Rattle.std.specs.Option.{is_some}
+use Rattle.std.specs.Prelude.{IsSome, Contains}
 use Rattle.ob_object_order.proofs.Noting.{names_more}
 use Rattle.ob_object_order.proofs.Placing.{begun_at, unknown_here, known_here, placed_more, nowhere_more, nowhere_all}
 use Rattle.wf_history.proofs.Positions.{take_next}
@@ -76,3 +77,10 @@ returns-clause-known c =
     let i = c.loop-id.id-index in
     let order = c.args.order.now in
     nowhere_all (IsUnknown (map event_of c.args.events.now) order) order i (omega arith) c.loop-id.invariant.known
+
+pub returns-clause-listed : goal.returns-clause-listed
+returns-clause-listed c =
+    let i = c.loop-id.id-index in
+    let order = c.args.order.now in
+    let whole = take_all i order (omega arith) in
+    λ (q : CallId). subst (λ (ids : List CallId). IsSome (noted_in c.loop-id.seen q) ↔ Contains ids q) whole (c.loop-id.invariant.seen q)

@@ -19,7 +19,7 @@ returns-in_default-2 c =
     let t = rw c.processes.ensures at c.in-Some.ensures.taken in
     rw (t.parts, c.in-Some-next_word.ensures.words)
     (λ e n. no_arguments _ _ _ _ _ _ e _ (sym c.in-Some-export_named.ensures)
-    (rw (c.in_default-2.is, c.deref.ensures.value, c.deref-2.ensures.value, c.in_ok-put_words.ensures) at c.in_ok-args.ensures) n)
+    (rw (c.in_default-2.is, c.deref.ensures.value) at c.in_ok-args.ensures) n)
 
 pub returns : goal.returns
 returns c =
@@ -27,6 +27,6 @@ returns c =
     rw (t.parts, c.in-Some-next_word.ensures.words, c.in_ok-kept.ensures.kept)
     (record {
       form = begin t.names (sym c.in-Some-export_named.ensures)
-          (rw (c.in-Some-2.is, c.deref.ensures.value, c.deref-2.ensures.value, c.in_ok-put_words.ensures) at c.in_ok-args.ensures);
+          (rw (c.in-Some-2.is, c.deref.ensures.value) at c.in_ok-args.ensures);
       place = (c.may_begin.ensures _).0 c.if-not-may_begin.false;
     })
