@@ -1,7 +1,6 @@
 -- The arguments that words hand over, and how many of them are VAR.
-use Rattle.std.proofs.Common.{◌≡◌, ℕ, suc, ℤ, Bool, true, false, cond, List, [], ◌∷◌, length, refl, ap}
+use Rattle.std.proofs.Common.{◌≡◌, suc, ℤ, Bool, true, false, cond, List, [], ◌∷◌, length, refl, ap}
 use Rattle.ob_interface.specs.declared.export.Formal.{Formal}
-use Rattle.ob_code_machine.specs.declared.argument.Argument.{Argument}
 use Rattle.ob_code_machine.specs.declared.argument.Argument.TheVariants.{Value, Var}
 use Rattle.ob_code_machine.specs.Body.{result_count}
 use Rattle.ob_code_machine.specs.Parameters.{first_word, other_words, arguments_in, var_count}
