@@ -76,7 +76,7 @@ fn same_reply(reply: &GivenReply, other: &KeptReply) -> bool
 {
     match (reply, other) {
         (GivenReply::Done(values), KeptReply::Done(others)) => {
-            values.as_slice() == others.as_slice()
+            values.as_slice() == others.lent().as_slice()
         }
         (GivenReply::Trap(number), KeptReply::Trap(other)) => number == other,
         _ => false,

@@ -54,7 +54,7 @@ fn reply_in(alloc: Global, reply: &KeptReply) -> Result<interpreter::Reply, Allo
 {
     match reply {
         KeptReply::Done(values) => {
-            let values = Vec::from_slice(alloc, values.as_slice())?;
+            let values = Vec::from_slice(alloc, values.lent().as_slice())?;
             Ok(interpreter::Reply::Answers(values))
         }
         KeptReply::Trap(trap) => Ok(interpreter::Reply::Trapped(*trap)),

@@ -115,6 +115,6 @@ fn call_in(alloc: Global, call: &KeptCall) -> Result<interpreter::Call, AllocErr
 {
     Ok(interpreter::Call {
         export: call.proc,
-        arguments: Vec::from_slice(alloc, call.args.as_slice())?,
+        arguments: Vec::from_slice(alloc, call.args.lent().as_slice())?,
     })
 }
