@@ -1,10 +1,10 @@
 //! One item of a schedule.
 
-ghost use Rattle.std.specs.Prelude.{◌≡◌, ◌≢◌, ◌<◌, ◌≤◌, ◌++◌, ◌⊎◌, ◌↔◌, true, replicate, IsTrue, IfOk, OnOk};
+ghost use Rattle.std.specs.Prelude.{◌≡◌, ◌≢◌, ◌<◌, ◌≤◌, [], ◌∷◌, ◌++◌, ◌⊎◌, ◌↔◌, true, replicate, IsTrue, IfOk, OnOk};
 ghost use Rattle.ob_schedule.specs.Schedule.{process_of};
 ghost use Rattle.ob_schedule.specs.declared.item.Item.TheVariants as Items;
 ghost use Rattle.wf_object.specs.Halted.{is_halted};
-ghost use Rattle.wf_object.specs.InARow.{AreInBody, after_steps};
+ghost use Rattle.wf_object.specs.InARow.{AreInBody, after_steps, stepped};
 ghost use Rattle.wf_play.specs.ItemSteps.{IsItemPlayed};
 ghost use Rattle.wf_play.specs.Played.{IsSameObject};
 ghost use Rattle.wf_table.specs.declared.process.Label.TheVariants as Labels;
@@ -71,11 +71,22 @@ fn step_until<E: Engine>(
         if is_there(machine, p, label) {
             return Ok(true);
         }
-        machine.advance(p)?;
+        step_once(machine, p)?;
         taken += 1;
         taken += stay_elsewhere(machine, p, label, limit - taken);
     }
     Ok(is_there(machine, p, label))
+}
+
+/// One step of the process, apart: `advance` is put in where it is called, which pays where steps follow one another.
+#[inline(never)]
+pub fn step_once<E: Engine>(machine: &mut Machine<E>, p: usize) -> Result<(), NoMemory>
+    requires { p < machine.old.sizes.processes }
+    ensures stepped { OnOk result (machine.new ≡ stepped (E.meaning machine.old.engine) p machine.old) }
+    ensures turn { OnOk result (steps_of machine.new.state.records.schedule ≡ steps_of machine.old.state.records.schedule ++ p ∷ []) }
+{
+    machine.advance(p)?;
+    Ok(())
 }
 
 /// Steps of the process in a body, at most so many, but where the label is that of a body; and how many they are.

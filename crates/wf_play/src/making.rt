@@ -9,6 +9,7 @@ ghost use Rattle.wf_table.specs.Object.{step_of};
 ghost use Rattle.wf_table.specs.Runs.{run, turns};
 ghost use Rattle.wf_table.specs.Schedule.{steps_of};
 
+use crate::item::step_once;
 use crate::playing::{PlayFault, submit_all};
 use ob_interface::NoMemory;
 use ob_text_words::script_call::ScriptCall;
@@ -88,7 +89,7 @@ fn take_turn<E: Engine>(
     ensures makers { OnOk result (makers.new.items ≡ makers.old.items ++ maker_at (E.meaning machine.old.engine) machine.old.sizes machine.old.state p) }
 {
     let seen = machine.history().len();
-    machine.advance(p)?;
+    step_once(machine, p)?;
     if seen < machine.history().len() {
         makers.push(p)?;
     }

@@ -8,14 +8,14 @@ pub loop-taken-preserved : goal.loop-taken-preserved
 loop-taken-preserved g c =
     let a = c.args.machine.now in
     let b = c.loop-taken.machine in
-    let u = c.advance.new.self in
+    let u = c.step_once.new.machine in
     let v = c.stay_elsewhere-taken.new.machine in
     let m = g.E.Engine.meaning a.engine in
     let p = c.args.p in
     let k = c.loop-taken.taken in
     let j = c.stay_elsewhere-taken.result in
     let h = c.loop-taken.invariant in
-    let stepped = c.in_ok-advance.ensures.stepped in
+    let stepped = c.in_ok-step_once.ensures.stepped in
     let stayed = c.stay_elsewhere-taken.ensures in
     let same = still_same b u a _ _ stepped h.object in
     let step = same_step g.E.Engine.meaning a b u.state p h.object (ap (λ o. o.state) stepped) in
@@ -25,7 +25,7 @@ loop-taken-preserved g c =
       object = same_object u v a stayed.object same;
       few = omega (arith, stayed.few);
       leads = more_behind m a.sizes p k j a.state b.state u.state v.state h.leads step (same_steps g.E.Engine.meaning a u v.state p j same stayed.leads);
-      turns = turns_behind (steps_of a.state.records.schedule) (steps_of b.state.records.schedule) (steps_of u.state.records.schedule) (steps_of v.state.records.schedule) k j p h.turns c.in_ok-advance.ensures.turn stayed.turns;
+      turns = turns_behind (steps_of a.state.records.schedule) (steps_of b.state.records.schedule) (steps_of u.state.records.schedule) (steps_of v.state.records.schedule) k j p h.turns c.in_ok-step_once.ensures.turn stayed.turns;
       goes_on = elsewhere m a.sizes p k j a.state u.state (one_more m a.sizes p k a.state b.state u.state h.leads step) (quiet_inside m a.sizes p j u.state inside) inside c.args.label stayed.elsewhere below;
     }
 
