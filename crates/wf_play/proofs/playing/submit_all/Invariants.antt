@@ -5,8 +5,8 @@ use Rattle.wf_play.specs.Played.{IsSameObject, scripts_of}
 use Rattle.wf_table.specs.Runs.{run, submissions}
 use Rattle.wf_play.proofs.playing.submit_all.Given as goal
 
-abbrev pub invariant-loop-process : goal.invariant-loop-process
-invariant-loop-process g l =
+abbrev pub invariant-loop-call : goal.invariant-loop-call
+invariant-loop-call g l =
     record {
       object : IsSameObject l.machine l.initial.machine;
       state : l.machine.state ≡ run (g.E.Engine.meaning l.initial.machine.engine) l.initial.machine.sizes (submissions (scripts_of (map script_call_of l.yielded))) l.initial.machine.state;
