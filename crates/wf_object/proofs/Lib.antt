@@ -1,5 +1,4 @@
 mod Opening
-mod CallsKept
 mod Packs
 mod Scripts
 mod OneStep

@@ -1,5 +1,4 @@
 pub mod Packed
-pub mod CallsKept
 pub mod Shown
 pub mod Faults
 pub mod View

@@ -2,7 +2,6 @@
 #![tactic(auto)]
 
 mod bodies;
-mod calls;
 pub mod engine;
 pub mod fault;
 pub mod machine;

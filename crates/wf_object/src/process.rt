@@ -1,9 +1,9 @@
 //! What a process keeps for itself.
 
-use crate::calls::CallList;
 use ob_interface::NoMemory;
 use ob_interface::call::Call;
 use std::marker::Model;
+use wf_calls::CallList;
 use wf_table::{Label, Registers};
 
 /// What a process keeps for itself.

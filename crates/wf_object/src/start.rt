@@ -8,13 +8,13 @@ ghost use Rattle.wf_table.specs.Ranges.{IsSized};
 ghost use Rattle.wf_table.specs.Start.{cell_at_start, IsIdle};
 ghost use Rattle.wf_table.specs.Each.{Each};
 
-use crate::calls::CallList;
 use crate::engine::Engine;
 use crate::fault::NewFault;
 use crate::process::Process;
 use ll_cell::Shared;
 use ob_interface::NoMemory;
 use std::alloc::Global;
+use wf_calls::CallList;
 use wf_table::{Label, Registers, Sizes};
 
 /// The cell with these words in its root: they enter by process 0's own block and one exchange.

@@ -1,9 +1,9 @@
 use Rattle.std.proofs.Common.{◌≡◌, ◌-◌, ◌<◌, ◌++◌, List, length, get_or, ap, ap₂, ◌∙◌, arith}
 use Rattle.ob_interface.specs.declared.scalar.Scalar.{Scalar}
-use Rattle.wf_object.specs.declared.calls.Head.{Head}
-use Rattle.wf_object.specs.CallsKept.{KeptCalls, calls_from, no_call}
-use Rattle.wf_object.proofs.CallsKept.{length-calls_from, call_is}
-use Rattle.wf_object.proofs.calls.CallList.make.Goals as goal
+use Rattle.wf_calls.specs.declared.calls.Head.{Head}
+use Rattle.wf_calls.specs.CallsKept.{KeptCalls, calls_from, no_call}
+use Rattle.wf_calls.proofs.CallsKept.{length-calls_from, call_is}
+use Rattle.wf_calls.proofs.calls.CallList.make.Goals as goal
 
 pub index-requires : goal.index-requires
 index-requires c =

@@ -4,8 +4,8 @@ use Rattle.std.specs.Prelude.{slice_range}
 use Rattle.std.proofs.lemmas.List.{length-append, length-drop, get_or_append_left, drop_at, take_all, drop-append-le, take-append-le}
 use Rattle.ob_interface.specs.declared.scalar.Scalar.{Scalar}
 use Rattle.ob_interface.specs.Call.{ObjectCall}
-use Rattle.wf_object.specs.declared.calls.Head.{Head}
-use Rattle.wf_object.specs.CallsKept.{calls_from, no_call, IsLaid, IsKeptWell}
+use Rattle.wf_calls.specs.declared.calls.Head.{Head}
+use Rattle.wf_calls.specs.CallsKept.{calls_from, no_call, IsLaid, IsKeptWell}
 
 -- where the arguments of the call of this place begin
 abbrev pub start_at : ℕ → List Head → ℕ → ℕ

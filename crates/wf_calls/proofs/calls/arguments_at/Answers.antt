@@ -1,10 +1,10 @@
 use Rattle.std.proofs.Common.{◌≡◌, ℕ, ◌-◌, length, get_or, take, drop, inl, inr, ap, sym, ◌∙◌, arith, rules}
 use Rattle.ob_interface.specs.Call.{ObjectCall}
-use Rattle.wf_object.specs.declared.calls.Head.{Head}
-use Rattle.wf_object.specs.CallsKept.{no_call}
-use Rattle.wf_object.proofs.CallsKept.{start_at, start_is, stands_at, call_from}
-use Rattle.wf_object.proofs.calls.arguments_at.Goals as goal
-use Rattle.wf_object.proofs.calls.arguments_at.Goals.{then-i-eq0, else-i-eq0}
+use Rattle.wf_calls.specs.declared.calls.Head.{Head}
+use Rattle.wf_calls.specs.CallsKept.{no_call}
+use Rattle.wf_calls.proofs.CallsKept.{start_at, start_is, stands_at, call_from}
+use Rattle.wf_calls.proofs.calls.arguments_at.Goals as goal
+use Rattle.wf_calls.proofs.calls.arguments_at.Goals.{then-i-eq0, else-i-eq0}
 
 pub offset_bounds-arguments-start : goal.offset_bounds-arguments-start
 offset_bounds-arguments-start c =

@@ -2,7 +2,7 @@
 
 ghost use Rattle.std.specs.Prelude.{◌≡◌, ◌-◌, ◌<◌, ◌≤◌, ◌++◌, ◌∷◌, [], OnOk, OnErr, length, slice_index_or};
 ghost use Rattle.ob_interface.specs.View.{call_of};
-ghost use Rattle.wf_object.specs.CallsKept.{IsLaid, calls_from, no_call};
+ghost use Rattle.wf_calls.specs.CallsKept.{IsLaid, calls_from, no_call};
 
 use ob_interface::NoMemory;
 use ob_interface::call::Call;
@@ -31,7 +31,7 @@ pub struct CallList {
 
 impl Model for CallList {
     ghost use Rattle.ob_interface.specs.View.{call_of};
-    ghost use Rattle.wf_object.specs.CallsKept.{KeptCalls, IsKeptWell, calls_from};
+    ghost use Rattle.wf_calls.specs.CallsKept.{KeptCalls, IsKeptWell, calls_from};
 
     ghost Value = { KeptCalls };
 

@@ -2,10 +2,10 @@ use Rattle.std.proofs.Common.{◌≡◌, ◌++◌, ◌∷◌, [], List, ap, ◌�
 use Rattle.ob_interface.specs.declared.scalar.Scalar.{Scalar}
 use Rattle.ob_interface.specs.View.{call_of}
 use Rattle.ob_interface.specs.Call.{ObjectCall}
-use Rattle.wf_object.specs.declared.calls.Head.{Head}
-use Rattle.wf_object.specs.CallsKept.{calls_from}
-use Rattle.wf_object.proofs.CallsKept.{pushed, well_pushed}
-use Rattle.wf_object.proofs.calls.CallList.push.Goals as goal
+use Rattle.wf_calls.specs.declared.calls.Head.{Head}
+use Rattle.wf_calls.specs.CallsKept.{calls_from}
+use Rattle.wf_calls.proofs.CallsKept.{pushed, well_pushed}
+use Rattle.wf_calls.proofs.calls.CallList.push.Goals as goal
 
 pub invariant_of-self-2 : goal.invariant_of-self-2
 invariant_of-self-2 c =
