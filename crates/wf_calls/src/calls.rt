@@ -102,9 +102,10 @@ impl CallList {
         self.number = 0;
         self.hand.proc = self.heads[i].proc;
         self.hand.args.clear();
-        self.hand
-            .args
-            .extend_from_slice(arguments_at(&self.heads, &self.arguments, i))?;
+        append(
+            &mut self.hand.args,
+            arguments_at(&self.heads, &self.arguments, i),
+        )?;
         self.number = number;
         Ok(())
     }
@@ -127,4 +128,16 @@ fn arguments_at<'a>(heads: &[Head], arguments: &'a [Scalar], i: usize) -> &'a [S
 {
     let start = if i == 0 { 0 } else { heads[i - 1].end };
     &arguments[start..heads[i].end]
+}
+
+/// The scalars at the end of the list. Most calls have none, and then nothing is copied.
+#[inline(always)]
+fn append(list: &mut SmallVec<Scalar, 8>, scalars: &[Scalar]) -> Result<(), NoMemory>
+    ensures { OnOk result (list.new.items ≡ list.old.items ++ scalars.now) }
+{
+    if scalars.is_empty() {
+        return Ok(());
+    }
+    list.extend_from_slice(scalars)?;
+    Ok(())
 }

@@ -22,8 +22,8 @@ invariant_of-self-2 c =
     let xs = s.arguments.items in
     let i = c.args.number - 1 in
     let lt : i < length hs = omega (arith, c.requires.some, c.requires.within, length-calls_from 0 hs xs, ap (λ (k : KeptCalls). length k.calls) c.self.view_is) in
-    let ys : c.extend_from_slice.new.self.items ≡ (get_or (calls_from 0 hs xs) i no_call).arguments =
-    c.in_ok-extend_from_slice.ensures.ok
+    let ys : c.append.new.list.items ≡ (get_or (calls_from 0 hs xs) i no_call).arguments =
+    c.in_ok-append.ensures
     ∙ ap (λ (l : List Scalar). l ++ c.arguments_at.result.now) c.clear.ensures.items
     ∙ c.arguments_at.ensures
     ∙ ap₂ (λ (k : List Head) (l : List Scalar). (get_or (calls_from 0 k l) i no_call).arguments) c.deref.ensures.value c.deref-2.ensures.value in
