@@ -68,6 +68,28 @@ fn run_on_own<E: Engine>(
     run_on(engine, run, block, most)
 }
 
+/// One step of the body on the variables of p's own block: the first one of the loop, so that the engine's step stands at one place.
+pub fn step_body<E: Engine>(
+    engine: &E,
+    z: Sizes,
+    shared: &mut Shared,
+    run: &mut E::Run,
+    p: usize,
+) -> EngineTurn
+    requires shaped { IsShaped z shared.old.cell }
+    requires packed { shared.old.form ≡ packed z }
+    requires process { p < z.processes }
+    requires variables { z.variables ≡ (E.meaning engine.now).variables }
+    requires ready { E.ready engine.now run.old }
+    ensures cell { shared.new.cell ≡ refill_own shared.old.cell p ((E.meaning engine.now).step run.old (take z.variables (own_block shared.old.cell p))).block }
+    ensures form { shared.new.form ≡ shared.old.form }
+    ensures run { run.new ≡ ((E.meaning engine.now).step run.old (take z.variables (own_block shared.old.cell p))).run }
+    ensures turn { result ≡ ((E.meaning engine.now).step run.old (take z.variables (own_block shared.old.cell p))).turn }
+{
+    let (_count, turn) = run_on_own(engine, z, shared, run, p, 1);
+    turn
+}
+
 /// Steps of the body in which the process stands, at most so many, up to the first behind which it doesn't go on; and how many
 /// they are.
 #[inline(always)]

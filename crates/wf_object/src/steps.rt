@@ -1,7 +1,6 @@
 //! The rows of the table, one function each. Each changes the cell in at most one way, and the record of its process.
 
-ghost use Rattle.std.specs.Prelude.{◌≡◌, ◌+◌, ◌*◌, ◌<◌, ◌≤◌, length, take, true};
-ghost use Rattle.ll_cell.specs.Cell.{refill_own};
+ghost use Rattle.std.specs.Prelude.{◌≡◌, ◌+◌, ◌*◌, ◌<◌, ◌≤◌, length, true};
 ghost use Rattle.wf_table.specs.Table.{mine, fetch, save, enter, undo, keep, commit, kept_word, row, or_past, part, cell_after, post, flip, try, links, load, store, check, seen, read, take_reply, after_body, body_step, toggle_in, own_block, block_words, inverted};
 ghost use Rattle.wf_table.specs.Ranges.{IsSized, IsShaped, IsInRange};
 ghost use Rattle.wf_table.specs.Toggles.{StoresBit};
@@ -9,6 +8,7 @@ ghost use Rattle.wf_object.specs.Packed.{packed};
 ghost use Rattle.wf_object.specs.Quiet.{is_quiet};
 ghost use Rattle.wf_table.specs.declared.process.Label.TheVariants.{Post, Load, Store, Fetch, Save, Enter, Undo, Keep, Take};
 
+use crate::bodies::step_body;
 use crate::engine::Engine;
 use crate::process::Process;
 use ll_cell::Shared;
@@ -145,29 +145,6 @@ pub fn check<R>(shared: &Shared, q: &mut Process<R>, p: usize, passed: Label)
     } else {
         q.label = Label::Try;
     }
-}
-
-/// One step of the body on the variables of p's own block.
-#[inline(never)]
-fn step_body<E: Engine>(
-    engine: &E,
-    z: Sizes,
-    shared: &mut Shared,
-    run: &mut E::Run,
-    p: usize,
-) -> EngineTurn
-    requires shaped { IsShaped z shared.old.cell }
-    requires packed { shared.old.form ≡ packed z }
-    requires process { p < z.processes }
-    requires variables { z.variables ≡ (E.meaning engine.now).variables }
-    requires ready { E.ready engine.now run.old }
-    ensures cell { shared.new.cell ≡ refill_own shared.old.cell p ((E.meaning engine.now).step run.old (take z.variables (own_block shared.old.cell p))).block }
-    ensures form { shared.new.form ≡ shared.old.form }
-    ensures run { run.new ≡ ((E.meaning engine.now).step run.old (take z.variables (own_block shared.old.cell p))).run }
-    ensures turn { result ≡ ((E.meaning engine.now).step run.old (take z.variables (own_block shared.old.cell p))).turn }
-{
-    let block = shared.own_words(p, z.variables);
-    engine.step(run, block)
 }
 
 #[inline]
