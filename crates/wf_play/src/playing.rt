@@ -1,6 +1,7 @@
 //! The calls of scripts and the items of a schedule, played on a machine.
 
 ghost use Rattle.std.specs.Prelude.{◌≡◌, ◌<◌, ◌⊎◌, ◌↔◌, Err, All, IfOk, IfErr, OnOk};
+ghost use Rattle.ob_interface.specs.View.{call_of};
 ghost use Rattle.ob_schedule.specs.Schedule.{process_of};
 ghost use Rattle.ob_text_words.specs.ScriptCalls.{object_call, script_call_of};
 ghost use Rattle.wf_play.specs.Played.{IsItemFault, IsPlayed, IsPlayFault, IsSameObject, scripts_in};
@@ -11,9 +12,11 @@ ghost use Rattle.wf_table.specs.Start.{sizes_of};
 
 use crate::item::play_item;
 use ob_interface::NoMemory;
+use ob_interface::call::Call;
 use ob_schedule::Item;
 use ob_text_words::script_call::ScriptCall;
-use std::alloc::Global;
+use smallvec::SmallVec;
+use std::alloc::{AllocError, Global};
 use thiserror::Error;
 use wf_object::{Engine, Machine, NewFault};
 
@@ -98,10 +101,24 @@ pub(crate) fn submit_all<E: Engine>(
     ensures state { OnOk result (machine.new.state ≡ run (E.meaning machine.old.engine) machine.old.sizes (submissions (scripts_in calls.items)) machine.old.state) }
 {
     for call in calls {
-        let asked = call.asked(alloc)?;
+        let asked = asked(alloc, &call)?;
         machine.submit(call.process, asked)?;
     }
     Ok(())
+}
+
+/// What a call of a script asks of the object. Where it has no arguments, as most, nothing is copied.
+#[inline]
+fn asked(alloc: Global, call: &ScriptCall) -> Result<Call, AllocError>
+    ensures { IfOk result (λ made. call_of made ≡ object_call (script_call_of call.now)) }
+{
+    if call.args.is_empty() {
+        return Ok(Call {
+            proc: call.proc,
+            args: SmallVec::new(alloc),
+        });
+    }
+    call.asked(alloc)
 }
 
 /// Plays the items, in order, up to the first that stands for more steps than the limit.

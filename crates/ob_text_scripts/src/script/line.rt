@@ -1,20 +1,23 @@
 //! What a line of a script says.
 
-ghost use Rattle.std.specs.Prelude.{◌≡◌, ◌↔◌, ℕ, ◌∷◌, map, IsTrue, IfOk, IfErr, OnErr, MatchOption, List};
+ghost use Rattle.std.specs.Prelude.{◌≡◌, ◌↔◌, ℕ, ◌∷◌, false, map, IsTrue, IfOk, IfErr, OnErr, MatchOption, List};
 ghost use Rattle.ob_interface.specs.View.{signature_of};
+ghost use Rattle.ob_interface.specs.declared.scalar.Scalar as Scalars;
+ghost use Rattle.ob_text_exports.specs.Values.{AreValues, types_of};
 ghost use Rattle.ob_text_scripts.specs.Script.{IsSkipped, Makes};
 ghost use Rattle.ob_text_scripts.specs.ScriptLine.{HasFault};
 ghost use Rattle.ob_text_words.specs.ScriptCalls.{script_call_of};
 
 use crate::script::ScriptFault;
-use ob_interface::export::Export;
+use ob_interface::export::{Export, Formal};
+use ob_interface::scalar::Scalar;
 use ob_text_exports::exports::export_named;
 use ob_text_exports::values::read_values;
 use ob_text_words::numbers::read_process;
 use ob_text_words::script_call::ScriptCall;
 use ob_text_words::words::is_name;
 use smallvec::SmallVec;
-use std::alloc::Global;
+use std::alloc::{AllocError, Global};
 
 /// The call that a line of these words makes; `None` for a line with nothing to say.
 pub(super) fn read_line(
@@ -67,14 +70,35 @@ fn read_call(
     let Some((proc, export)) = export_named(exports, name) else {
         return Err(ScriptFault::Procedure(number));
     };
-    let Some(args) = read_values(alloc, &export.formals, false, rest)? else {
+    let Some(args) = read_arguments(alloc, &export.formals, rest)? else {
         return Err(ScriptFault::Arguments(number));
     };
     Ok(ScriptCall {
         process,
         proc,
-        args: SmallVec::from_slice(alloc, &args)?,
+        args,
     })
+}
+
+/// The arguments that words say for parameters; `None` where they don't fit. Where there is nothing to say, nothing is read.
+#[inline]
+#[tactic(auto, using(crate::proofs::NothingSaid::nothing_said))]
+fn read_arguments(
+    alloc: Global,
+    formals: &[Formal],
+    words: &[&[u8]],
+) -> Result<Option<SmallVec<Scalar, 2>>, AllocError>
+    ensures { IfOk result (λ read. MatchOption read
+        ((values : List Scalars.Scalar) → AreValues (types_of false formals.now) (map (λ w. w.now) words.now) values → ⊥)
+        (λ values. AreValues (types_of false formals.now) (map (λ w. w.now) words.now) values.items)) }
+{
+    if formals.is_empty() && words.is_empty() {
+        return Ok(Some(SmallVec::new(alloc)));
+    }
+    let Some(args) = read_values(alloc, formals, false, words)? else {
+        return Ok(None);
+    };
+    Ok(Some(SmallVec::from_slice(alloc, &args)?))
 }
 
 /// Whether a first word says that its line is a comment.

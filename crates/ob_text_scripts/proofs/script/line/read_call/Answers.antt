@@ -35,5 +35,4 @@ returns-in_default-2-clause-fault c =
 pub returns-clause-call : goal.returns-clause-call
 returns-clause-call c =
     let parts : c.args.behind.now ≡ c.in-Some-split_first.name.now ∷ c.in-Some-split_first.rest.now = search rules in
-    let same : c.in_ok-from_slice.field-0.items ≡ c.in-Some-2.args.items = search rules in
-    rw (parts, same) (makes c.in-Some.ensures c.if-process-processes.false (c.is_name.ensures.0 c.if-not-is_name.false) (sym c.in-Some-export_named.ensures) (rw (c.in-Some-2.is, c.deref.ensures.value) at c.in_ok-args.ensures))
+    rw parts (makes c.in-Some.ensures c.if-process-processes.false (c.is_name.ensures.0 c.if-not-is_name.false) (sym c.in-Some-export_named.ensures) (rw (c.in-Some-2.is, c.deref.ensures.value) at c.in_ok-args.ensures))
