@@ -7,7 +7,7 @@ ghost use Rattle.ob_positions.specs.Store.{Activation};
 ghost use Rattle.ob_store.specs.View.{state_of};
 ghost use Rattle.wf_history.specs.declared.event.CallId.{CallId};
 ghost use Rattle.wf_history.specs.History.{Begin, End, IsHistory};
-ghost use Rattle.wf_history.specs.View.{event_of, kept_call, kept_reply};
+ghost use Rattle.wf_history.specs.View.{event_of, seen_call, seen_reply};
 ghost use Rattle.ob_object_order.specs.declared.order.OrderFault.{OrderFault};
 ghost use Rattle.ob_object_order.specs.declared.order.OrderFault.TheVariants as Faults;
 ghost use Rattle.ob_object_order.specs.declared.places.Placed.{Placed};
@@ -26,7 +26,7 @@ use ob_interpreter::object::step;
 use ob_store::state::State;
 use std::alloc::{AllocError, AllocFailed, Global};
 use thiserror::Error;
-use wf_history::{CallId, Event, History, KeptCall, KeptReply};
+use wf_history::{CallId, Event, History, SeenCall, SeenEvent, SeenReply};
 
 /// Why a list of calls is no legal order of a history.
 #[derive(Clone, Copy, Debug, Error)]
@@ -112,8 +112,8 @@ fn ended(event: &Event) -> Option<CallId>
         ((id : CallId) (reply : Calls.Reply) → event_of event.now ≡ End id reply → ⊥)
         (λ id. (reply : Calls.Reply) × (event_of event.now ≡ End id reply)) }
 {
-    match event {
-        Event::End(id, _) => Some(*id),
+    match event.seen() {
+        SeenEvent::End(id, _) => Some(id),
         _ => None,
     }
 }
@@ -172,23 +172,23 @@ fn arranged(alloc: Global, events: &[Event], order: &[CallId]) -> Result<Places,
 }
 
 /// The call that begins at a place.
-fn call_at(events: &[Event], place: usize) -> &KeptCall
+fn call_at(events: &[Event], place: usize) -> SeenCall<'_>
     requires { (id : CallId) × BeginsAt (map event_of events.now) id place }
-    ensures { (id : CallId) × (slice_get (map event_of events.now) place ≡ Some (Begin id (kept_call result.now))) }
+    ensures { (id : CallId) × (slice_get (map event_of events.now) place ≡ Some (Begin id (seen_call result))) }
 {
-    match &events[place] {
-        Event::Begin(_, call) => call,
+    match events[place].seen() {
+        SeenEvent::Begin(_, call) => call,
         _ => unreachable!(),
     }
 }
 
 /// The reply of the End at a place.
-fn reply_at(events: &[Event], place: usize) -> &KeptReply
+fn reply_at(events: &[Event], place: usize) -> SeenReply<'_>
     requires { (id : CallId) × EndsAt (map event_of events.now) id place }
-    ensures { (id : CallId) × (slice_get (map event_of events.now) place ≡ Some (End id (kept_reply result.now))) }
+    ensures { (id : CallId) × (slice_get (map event_of events.now) place ≡ Some (End id (seen_reply result))) }
 {
-    match &events[place] {
-        Event::End(_, reply) => reply,
+    match events[place].seen() {
+        SeenEvent::End(_, reply) => reply,
         _ => unreachable!(),
     }
 }

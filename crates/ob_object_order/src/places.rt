@@ -8,7 +8,7 @@ ghost use Rattle.ob_object_order.specs.Places.{ArePlaces};
 use crate::noted::Noted;
 use ob_interface::NoMemory;
 use std::alloc::Global;
-use wf_history::{CallId, Event};
+use wf_history::{CallId, Event, SeenEvent};
 
 /// A call with the place of its Begin among the events, and of its End where it has ended.
 #[derive(Clone, Copy)]
@@ -49,13 +49,13 @@ impl Places {
         ensures begins { OnOk result ((q : CallId) → noted_in self.new.begins q ≡ begin_noted place (event_of event.now) q (noted_in self.old.begins q)) }
         ensures ends { OnOk result ((q : CallId) → noted_in self.new.ends q ≡ end_noted place (event_of event.now) q (noted_in self.old.ends q)) }
     {
-        match event {
-            Event::Begin(id, _) => {
-                self.begins.note(*id, place)?;
+        match event.seen() {
+            SeenEvent::Begin(id, _) => {
+                self.begins.note(id, place)?;
             }
-            Event::Applied(_) => {}
-            Event::End(id, _) => {
-                self.ends.note(*id, place)?;
+            SeenEvent::Applied(_) => {}
+            SeenEvent::End(id, _) => {
+                self.ends.note(id, place)?;
             }
         }
         Ok(())

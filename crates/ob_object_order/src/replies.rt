@@ -2,15 +2,15 @@
 
 ghost use Rattle.std.specs.Prelude.{◌≡◌, ◌↔◌, IfOk, IsTrue};
 ghost use Rattle.ob_interpreter.specs.View.{call_of, reply_of};
-ghost use Rattle.wf_history.specs.View.{kept_call, kept_reply};
+ghost use Rattle.wf_history.specs.View.{seen_call, seen_reply};
 
 use ob_interpreter::call as interpreter;
 use std::alloc::{AllocError, Global};
-use wf_history::{KeptCall, KeptReply};
+use wf_history::{SeenCall, SeenReply};
 
 /// The call, for the interpreter.
-pub fn call_in(alloc: Global, call: &KeptCall) -> Result<interpreter::Call, AllocError>
-    ensures { IfOk result (λ c. call_of c ≡ kept_call call.now) }
+pub fn call_in(alloc: Global, call: SeenCall) -> Result<interpreter::Call, AllocError>
+    ensures { IfOk result (λ c. call_of c ≡ seen_call call.entry) }
 {
     Ok(interpreter::Call {
         export: call.proc,
@@ -19,14 +19,14 @@ pub fn call_in(alloc: Global, call: &KeptCall) -> Result<interpreter::Call, Allo
 }
 
 /// Whether the interpreter's reply is that of the history.
-pub fn is_same_reply(reply: &interpreter::Reply, other: &KeptReply) -> bool
-    ensures { IsTrue result ↔ (reply_of reply.now ≡ kept_reply other.now) }
+pub fn is_same_reply(reply: &interpreter::Reply, other: SeenReply) -> bool
+    ensures { IsTrue result ↔ (reply_of reply.now ≡ seen_reply other.entry) }
 {
     match (reply, other) {
-        (interpreter::Reply::Answers(values), KeptReply::Done(others)) => {
+        (interpreter::Reply::Answers(values), SeenReply::Done(others)) => {
             values.as_slice() == others.lent().as_slice()
         }
-        (interpreter::Reply::Trapped(number), KeptReply::Trap(other)) => number == other,
+        (interpreter::Reply::Trapped(number), SeenReply::Trap(other)) => *number == other,
         _ => false,
     }
 }

@@ -8,17 +8,17 @@ use Rattle.ob_text_picture_chart.specs.declared.charts.Happening.TheVariants as 
 use Rattle.ob_text_picture_chart.specs.declared.charts.Sight.{Sight}
 use Rattle.ob_text_picture_chart.specs.declared.moments.Moment.{Moment}
 use Rattle.ob_text_picture_chart.specs.declared.moments.Moment.TheVariants as Rust
-use Rattle.wf_history.specs.View.{kept_call, kept_reply}
+use Rattle.wf_history.specs.View.{seen_call, seen_reply}
 
 abbrev pub moment_of : Moment → Moments.Moment
-moment_of (Rust.Begins id call) = Moments.Begins id (kept_call call.now)
+moment_of (Rust.Begins id call) = Moments.Begins id (seen_call call)
 moment_of (Rust.Takes ids maker) = Moments.Takes ids.now maker
-moment_of (Rust.Ends id reply) = Moments.Ends id (kept_reply reply.now)
+moment_of (Rust.Ends id reply) = Moments.Ends id (seen_reply reply)
 
 abbrev pub happening_of : Happening → Charts.Happening
-happening_of (Happenings.Begun call) = Charts.Begun (kept_call call.now)
+happening_of (Happenings.Begun call) = Charts.Begun (seen_call call)
 happening_of (Happenings.Taken number maker) = Charts.Taken number maker
-happening_of (Happenings.Ended reply) = Charts.Ended (kept_reply reply.now)
+happening_of (Happenings.Ended reply) = Charts.Ended (seen_reply reply)
 
 abbrev pub sight_of : Sight → Charts.Sight
 sight_of s = record { column = s.column; id = s.id; happening = happening_of s.happening }

@@ -10,7 +10,7 @@ ghost use Rattle.ob_text_picture_chart.specs.View.{chart_in, happening_of, momen
 use crate::fault::PictureFault;
 use crate::moments::{Moment, place_in};
 use std::alloc::{AllocError, Global};
-use wf_history::{CallId, KeptCall, KeptReply};
+use wf_history::{CallId, SeenCall, SeenReply};
 
 /// The most calls that a picture has.
 pub const MOST_CALLS: usize = 400;
@@ -25,10 +25,10 @@ pub struct CallRange {
 /// What happens to a call.
 #[derive(Clone, Copy)]
 pub enum Happening<'a> {
-    Begun(&'a KeptCall),
+    Begun(SeenCall<'a>),
     /// It takes effect, as the one of this number in the order, by a step of the process, where it is known.
     Taken(usize, Option<usize>),
-    Ended(&'a KeptReply),
+    Ended(SeenReply<'a>),
 }
 
 /// What happens to a call, and in which column of the picture.

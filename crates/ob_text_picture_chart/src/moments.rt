@@ -7,17 +7,17 @@ ghost use Rattle.ob_text_picture_chart.specs.View.{moment_of};
 ghost use Rattle.wf_history.specs.View.{event_of};
 
 use std::alloc::{AllocError, Global};
-use wf_history::{CallId, Event, KeptCall, KeptReply};
+use wf_history::{CallId, Event, SeenCall, SeenEvent, SeenReply};
 
 /// A moment of a run: a column of its picture.
 #[derive(Clone, Copy)]
 pub enum Moment<'a> {
     /// A process begins a call.
-    Begins(CallId, &'a KeptCall),
+    Begins(CallId, SeenCall<'a>),
     /// These calls take effect, in this order, by a step of the process, where it is known.
     Takes(&'a [CallId], Option<usize>),
     /// A call ends with its reply.
-    Ends(CallId, &'a KeptReply),
+    Ends(CallId, SeenReply<'a>),
 }
 
 /// The moments of a run: its events, each with the process whose step showed it.
@@ -39,10 +39,10 @@ pub fn seen_moments<'a>(
 fn seen<'a>(event: &'a Event, makers: &[usize], number: usize) -> Moment<'a>
     ensures { moment_of result ≡ seen (event_of event.now) (slice_get makers.now number) }
 {
-    match event {
-        Event::Begin(id, call) => Moment::Begins(*id, call),
-        Event::Applied(ids) => Moment::Takes(ids, makers.get(number).copied()),
-        Event::End(id, reply) => Moment::Ends(*id, reply),
+    match event.seen() {
+        SeenEvent::Begin(id, call) => Moment::Begins(id, call),
+        SeenEvent::Applied(ids) => Moment::Takes(ids, makers.get(number).copied()),
+        SeenEvent::End(id, reply) => Moment::Ends(id, reply),
     }
 }
 
@@ -75,16 +75,16 @@ fn push_placed<'a>(
     ensures moments { OnOk result (map moment_of moments.new.items ≡ map moment_of moments.old.items ++ placed_at order.now made (event_of event.now)) }
     ensures made { IfOk result (λ behind. (behind ≡ made_behind order.now made (event_of event.now)) × (behind ≤ length order.now)) }
 {
-    match event {
-        Event::Begin(id, call) => {
-            moments.push(Moment::Begins(*id, call))?;
+    match event.seen() {
+        SeenEvent::Begin(id, call) => {
+            moments.push(Moment::Begins(id, call))?;
             Ok(made)
         }
-        Event::Applied(_) => Ok(made),
-        Event::End(id, reply) => {
-            let behind = place_in(order, *id).max(made);
+        SeenEvent::Applied(_) => Ok(made),
+        SeenEvent::End(id, reply) => {
+            let behind = place_in(order, id).max(made);
             moments.push(Moment::Takes(&order[made..behind], None))?;
-            moments.push(Moment::Ends(*id, reply))?;
+            moments.push(Moment::Ends(id, reply))?;
             Ok(behind)
         }
     }

@@ -5,7 +5,7 @@ ghost use Rattle.std.specs.List.{flat_map};
 ghost use Rattle.ob_interface.specs.View.{signature_of};
 ghost use Rattle.ob_reply.specs.ReplyLines.{reply_line};
 ghost use Rattle.ob_text_record.specs.RecordText.{begin_text, event_text, id_text, ids_text, name_of, scalars_text};
-ghost use Rattle.wf_history.specs.View.{event_of, kept_call, kept_reply};
+ghost use Rattle.wf_history.specs.View.{event_of, seen_call, seen_reply};
 ghost use Rattle.ob_text_words.specs.Appending.{GoesOn};
 
 use ob_interface::export::Export;
@@ -14,7 +14,7 @@ use ob_reply::reply_lines::{push_done_line, push_trap_line};
 use ob_text_words::numbers::push_count;
 use ob_text_words::values::push_value;
 use std::alloc::AllocError;
-use wf_history::{CallId, Event, KeptCall, KeptReply};
+use wf_history::{CallId, Event, SeenCall, SeenEvent, SeenReply};
 
 /// Appends a line for each event.
 pub(crate) fn push_events(
@@ -35,30 +35,30 @@ fn push_event(text: &mut String, exports: &[Export], event: &Event) -> Result<()
     ensures ok { OnOk result (string_bytes text.new ≡ string_bytes text.old ++ event_text (map signature_of exports.now) (event_of event.now)) }
     ensures left { OnErr result (GoesOn (string_bytes text.old) (string_bytes text.new)) }
 {
-    match event {
-        Event::Begin(id, call) => push_begin(text, exports, *id, call),
-        Event::Applied(ids) => {
+    match event.seen() {
+        SeenEvent::Begin(id, call) => push_begin(text, exports, id, call),
+        SeenEvent::Applied(ids) => {
             text.push_str("A")?;
             push_ids(text, ids)?;
             text.push_str("\n")
         }
-        Event::End(id, reply) => push_end(text, *id, reply),
+        SeenEvent::End(id, reply) => push_end(text, id, reply),
     }
 }
 
 /// Appends the line of a call that has ended.
-fn push_end(text: &mut String, id: CallId, reply: &KeptReply) -> Result<(), AllocError>
-    ensures ok { OnOk result (string_bytes text.new ≡ string_bytes text.old ++ reply_line id.process id.number (kept_reply reply.now)) }
+fn push_end(text: &mut String, id: CallId, reply: SeenReply) -> Result<(), AllocError>
+    ensures ok { OnOk result (string_bytes text.new ≡ string_bytes text.old ++ reply_line id.process id.number (seen_reply reply.entry)) }
     ensures left { OnErr result (GoesOn (string_bytes text.old) (string_bytes text.new)) }
 {
     match reply {
-        KeptReply::Done(values) => push_done_line(
+        SeenReply::Done(values) => push_done_line(
             text,
             id.process,
             id.number,
             values.lent().as_slice(),
         ),
-        KeptReply::Trap(trap) => push_trap_line(text, id.process, id.number, *trap),
+        SeenReply::Trap(trap) => push_trap_line(text, id.process, id.number, trap),
     }
 }
 
@@ -66,9 +66,9 @@ fn push_begin(
     text: &mut String,
     exports: &[Export],
     id: CallId,
-    call: &KeptCall,
+    call: SeenCall,
 ) -> Result<(), AllocError>
-    ensures ok { OnOk result (string_bytes text.new ≡ string_bytes text.old ++ begin_text (map signature_of exports.now) id (kept_call call.now)) }
+    ensures ok { OnOk result (string_bytes text.new ≡ string_bytes text.old ++ begin_text (map signature_of exports.now) id (seen_call call.entry)) }
     ensures left { OnErr result (GoesOn (string_bytes text.old) (string_bytes text.new)) }
 {
     text.push_str("B ")?;

@@ -1,3 +1,4 @@
+pub mod Form
 pub mod History
 pub mod Kept
 pub mod Legal

@@ -7,6 +7,8 @@ pub mod kept;
 pub mod kept_scalars;
 pub mod lent;
 pub mod reply;
+pub mod seen_event;
+mod wide_event;
 
 pub use event::{CallId, Event};
 pub use history::History;
@@ -14,3 +16,4 @@ pub use kept::{KeptCall, KeptReply};
 pub use kept_scalars::KeptScalars;
 pub use lent::Lent;
 pub use reply::same_reply;
+pub use seen_event::{SeenCall, SeenEvent, SeenReply};

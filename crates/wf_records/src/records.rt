@@ -13,7 +13,7 @@ use ob_interface::call::Reply;
 use smallvec::SmallVec;
 use std::alloc::Global;
 use std::marker::Model;
-use wf_history::{CallId, Event, History, KeptCall, KeptReply};
+use wf_history::{CallId, History, KeptCall, KeptReply};
 use wf_table::{Label, Turns};
 
 /// What a step answers.
@@ -115,7 +115,7 @@ impl Records {
         ensures err { OnErr result (self.new ≡ self.old) }
     {
         self.schedule.try_reserve(1)?;
-        self.history.push(Event::Begin(id, call))?;
+        self.history.push_begin(id, call)?;
         count_reserved(&mut self.schedule, p);
         Ok(())
     }
@@ -148,7 +148,7 @@ impl Records {
         ensures err { OnErr result (self.new ≡ self.old) }
     {
         self.schedule.try_reserve(1)?;
-        self.history.push(Event::End(id, reply))?;
+        self.history.push_end(id, reply)?;
         count_reserved(&mut self.schedule, p);
         Ok(())
     }
@@ -219,7 +219,7 @@ fn note_applied(
 {
     let before = order.len();
     append(order, ids.as_slice())?;
-    match history.push(Event::Applied(ids)) {
+    match history.push_applied(ids) {
         Ok(()) => Ok(()),
         Err(fault) => {
             order.truncate(before);

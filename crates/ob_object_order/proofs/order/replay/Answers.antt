@@ -6,7 +6,7 @@ use Rattle.ob_interpreter.specs.View as Interpreter
 use Rattle.ob_store.specs.View.{state_of}
 use Rattle.std.proofs.lemmas.Bool.{false≢true}
 use Rattle.wf_history.proofs.Once.{one_reply}
-use Rattle.wf_history.specs.View.{event_of, kept_call, kept_reply}
+use Rattle.wf_history.specs.View.{event_of, seen_call, seen_reply}
 use Rattle.ob_object_order.proofs.Placing.{begun_here, call_of_list, ended_here, not_ended, end_at}
 use Rattle.ob_object_order.proofs.Replay.{call_ends, leads_more, leads_none}
 use Rattle.ob_object_order.specs.LegalOrder.{CallEnds}
@@ -53,19 +53,19 @@ returns-in-loop-id-clause-fault c =
     let other = c.if-not-is_same_reply.true in
     let tells = c.is_same_reply.ensures in
     record {
-      call = kept_call c.call_at.result.now;
+      call = seen_call c.call_at.result;
       before = state_of c.loop-id.state;
       next = record {
         place = i;
         here = named.1;
-        begun = begun_here history x.id c.call_at.ensures.0 x.begin (kept_call c.call_at.result.now) (c.requires.placed i x at).begins c.call_at.ensures.1;
+        begun = begun_here history x.id c.call_at.ensures.0 x.begin (seen_call c.call_at.result) (c.requires.placed i x at).begins c.call_at.ensures.1;
         leads = c.loop-id.invariant;
       };
       after = state_of c.in_ok-next.next;
       answer = Interpreter.reply_of c.in_ok-next.reply;
       ends = call_ends _ _ _ _ c.args.budget (state_of c.loop-id.state) _ c.program.ensures.program c.in_ok-call.ensures c.in_ok-next.ensures;
-      reply = kept_reply c.reply_at.result.now;
-      ended = ended_here history x.id c.reply_at.ensures.0 c.in-Some.end (kept_reply c.reply_at.result.now)
+      reply = seen_reply c.reply_at.result;
+      ended = ended_here history x.id c.reply_at.ensures.0 c.in-Some.end (seen_reply c.reply_at.result)
           (end_at history x.id x.end c.in-Some.end c.in-Some.is ends) c.reply_at.ensures.1;
       other = λ same. false≢true (sym other ∙ tells.1 (sym same));
     }
@@ -82,16 +82,16 @@ loop-id-preserved c =
     let ends = (c.requires.placed i x at).ends in
     rw add-one
     (leads_more (CallEnds (program_in c.args.checked.now) c.args.budget) (state_of c.args.opening.now) history order i
-    (state_of c.loop-id.state) (state_of c.in_ok-next.next) x.id (kept_call c.call_at.result.now) (Interpreter.reply_of c.in_ok-next.reply)
+    (state_of c.loop-id.state) (state_of c.in_ok-next.next) x.id (seen_call c.call_at.result) (Interpreter.reply_of c.in_ok-next.reply)
     c.loop-id.invariant
     (named.1)
-    (begun_here history x.id c.call_at.ensures.0 x.begin (kept_call c.call_at.result.now) (c.requires.placed i x at).begins c.call_at.ensures.1)
+    (begun_here history x.id c.call_at.ensures.0 x.begin (seen_call c.call_at.result) (c.requires.placed i x at).begins c.call_at.ensures.1)
     (call_ends _ _ _ _ c.args.budget (state_of c.loop-id.state) _ c.program.ensures.program c.in_ok-call.ensures c.in_ok-next.ensures)
     (λ other ended. elim c.in_default.branch [
       | in_default-via-in-None-1 w ↦ (let none : c.placed-x.result.end ≡ None = cc in absurd (not_ended history x.id x.end none ends other ended))
       | in_default-via-in-Some+else-not-is_same_reply w ↦
           let end = end_at history x.id x.end w.in-Some.end w.in-Some.is ends in
-          one_reply history c.requires.history x.id other (kept_reply w.reply_at.result.now) ended
-          (ended_here history x.id w.reply_at.ensures.0 w.in-Some.end (kept_reply w.reply_at.result.now) end w.reply_at.ensures.1)
+          one_reply history c.requires.history x.id other (seen_reply w.reply_at.result) ended
+          (ended_here history x.id w.reply_at.ensures.0 w.in-Some.end (seen_reply w.reply_at.result) end w.reply_at.ensures.1)
           ∙ sym (w.is_same_reply.ensures.0 w.if-not-is_same_reply.false)
     ]))

@@ -1,4 +1,4 @@
 use Rattle.wf_records.proofs.records.Records.note_begin.Goals as goal
 
-pub push-requires : goal.push-requires
-push-requires c = rw (← c.self.view_is) at c.requires
+pub push_begin-requires : goal.push_begin-requires
+push_begin-requires c = rw (← c.self.view_is) at c.requires
