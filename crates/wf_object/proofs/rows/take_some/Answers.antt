@@ -1,6 +1,6 @@
 use Rattle.std.proofs.Common.{◌≡◌, ◌+◌, ap, refl, sym, subst, ◌∙◌}
 use Rattle.wf_table.specs.declared.process.Label.{Label}
-use Rattle.wf_table.specs.declared.process.Label.TheVariants.{Post, Try, Store, Check1, Mine, Seen, Fetch, Check2, Save, Enter, Body, Undo}
+use Rattle.wf_table.specs.declared.process.Label.TheVariants.{Post, Try, Link, Store, Check1, Mine, Seen, Fetch, Check2, Save, Enter, Body, Undo, Keep, Read, Take}
 use Rattle.wf_table.specs.Table.{cell_after, check, row}
 use Rattle.wf_bound.specs.declared.spent.Spent.{Spent}
 use Rattle.wf_bound.specs.Spent.{has_more, spent_after}
@@ -62,6 +62,14 @@ returns-in-Try-clause-leads g c =
 pub returns-in-Try-clause-unmarked : goal.returns-in-Try-clause-unmarked
 returns-in-Try-clause-unmarked g c =
     plain_row_unmarked (g.E.Engine.meaning c.args.engine.now) c.args.z c.args.p Try c.args.shared.now.cell c.args.q.now (outside_more c.args.spent.now c.args.outside.now) c.counted-in-Try.result refl (rw (← c.q.view_is) c.in-Try.is) c.counted-in-Try.ensures.one
+
+pub returns-in-Link-clause-leads : goal.returns-in-Link-clause-leads
+returns-in-Link-clause-leads g c =
+    plain_row (g.E.Engine.meaning c.args.engine.now) c.args.z c.args.p Link c.args.shared.now.cell c.link.new.shared.cell c.args.q.now c.link.new.q c.args.spent.now c.args.outside.now c.counted-in-Link.new.outside c.counted-in-Link.result refl (rw (← c.q.view_is) c.in-Link.is) c.counted-in-Link.ensures.more c.counted-in-Link.ensures.one (c.link.ensures.cell) (c.link.ensures.process)
+
+pub returns-in-Link-clause-unmarked : goal.returns-in-Link-clause-unmarked
+returns-in-Link-clause-unmarked g c =
+    plain_row_unmarked (g.E.Engine.meaning c.args.engine.now) c.args.z c.args.p Link c.args.shared.now.cell c.args.q.now (outside_more c.args.spent.now c.args.outside.now) c.counted-in-Link.result refl (rw (← c.q.view_is) c.in-Link.is) c.counted-in-Link.ensures.one
 
 pub returns-in-Store-clause-leads : goal.returns-in-Store-clause-leads
 returns-in-Store-clause-leads g c =
@@ -126,6 +134,30 @@ returns-in-Undo-clause-leads g c =
 pub returns-in-Undo-clause-unmarked : goal.returns-in-Undo-clause-unmarked
 returns-in-Undo-clause-unmarked g c =
     plain_row_unmarked (g.E.Engine.meaning c.args.engine.now) c.args.z c.args.p Undo c.args.shared.now.cell c.args.q.now (outside_more c.args.spent.now c.args.outside.now) c.counted-in-Undo.result refl (rw (← c.q.view_is) c.in-Undo.is) c.counted-in-Undo.ensures.one
+
+pub returns-in-Keep-clause-leads : goal.returns-in-Keep-clause-leads
+returns-in-Keep-clause-leads g c =
+    plain_row (g.E.Engine.meaning c.args.engine.now) c.args.z c.args.p Keep c.args.shared.now.cell c.keep.new.shared.cell c.args.q.now c.keep.new.q c.args.spent.now c.args.outside.now c.counted-in-Keep.new.outside c.counted-in-Keep.result refl (rw (← c.q.view_is) c.in-Keep.is) c.counted-in-Keep.ensures.more c.counted-in-Keep.ensures.one (c.keep.ensures.cell) (c.keep.ensures.process)
+
+pub returns-in-Keep-clause-unmarked : goal.returns-in-Keep-clause-unmarked
+returns-in-Keep-clause-unmarked g c =
+    plain_row_unmarked (g.E.Engine.meaning c.args.engine.now) c.args.z c.args.p Keep c.args.shared.now.cell c.args.q.now (outside_more c.args.spent.now c.args.outside.now) c.counted-in-Keep.result refl (rw (← c.q.view_is) c.in-Keep.is) c.counted-in-Keep.ensures.one
+
+pub returns-in-Read-clause-leads : goal.returns-in-Read-clause-leads
+returns-in-Read-clause-leads g c =
+    plain_row (g.E.Engine.meaning c.args.engine.now) c.args.z c.args.p Read c.args.shared.now.cell c.args.shared.now.cell c.args.q.now c.read.new.q c.args.spent.now c.args.outside.now c.counted-in-Read.new.outside c.counted-in-Read.result refl (rw (← c.q.view_is) c.in-Read.is) c.counted-in-Read.ensures.more c.counted-in-Read.ensures.one (refl) (c.read.ensures)
+
+pub returns-in-Read-clause-unmarked : goal.returns-in-Read-clause-unmarked
+returns-in-Read-clause-unmarked g c =
+    plain_row_unmarked (g.E.Engine.meaning c.args.engine.now) c.args.z c.args.p Read c.args.shared.now.cell c.args.q.now (outside_more c.args.spent.now c.args.outside.now) c.counted-in-Read.result refl (rw (← c.q.view_is) c.in-Read.is) c.counted-in-Read.ensures.one
+
+pub returns-in-Take-clause-leads : goal.returns-in-Take-clause-leads
+returns-in-Take-clause-leads g c =
+    plain_row (g.E.Engine.meaning c.args.engine.now) c.args.z c.args.p Take c.args.shared.now.cell c.args.shared.now.cell c.args.q.now c.take_reply.new.q c.args.spent.now c.args.outside.now c.counted-in-Take.new.outside c.counted-in-Take.result refl (rw (← c.q.view_is) c.in-Take.is) c.counted-in-Take.ensures.more c.counted-in-Take.ensures.one (refl) (c.take_reply.ensures)
+
+pub returns-in-Take-clause-unmarked : goal.returns-in-Take-clause-unmarked
+returns-in-Take-clause-unmarked g c =
+    plain_row_unmarked (g.E.Engine.meaning c.args.engine.now) c.args.z c.args.p Take c.args.shared.now.cell c.args.q.now (outside_more c.args.spent.now c.args.outside.now) c.counted-in-Take.result refl (rw (← c.q.view_is) c.in-Take.is) c.counted-in-Take.ensures.one
 
 pub overflow_add-spent : goal.overflow_add-spent
 overflow_add-spent g c =
