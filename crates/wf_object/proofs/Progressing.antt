@@ -224,6 +224,9 @@ module _ {Run : Type 0} (m : Meaning Run) (lawful : List ℤ → Type 0) (fits :
   in_object_after zero h o = o
   in_object_after (suc k) h o = in_object_next (by_rows m z p k h) (in_object_after k h o)
 
+  pub in_object_so : (k : ℕ) (h u : Progress Run) → IsInObject m lawful fits ready z p h → u ≡ by_rows m z p k h → IsInObject m lawful fits ready z p u
+  in_object_so k h u o leads = subst (IsInObject m lawful fits ready z p) (sym leads) (in_object_after k h o)
+
   -- ---- what a row asks
 
   module _ (h : Progress Run) (o : IsInObject m lawful fits ready z p h) where

@@ -18,7 +18,9 @@ use ll_cell::Shared;
 use wf_bound::Spent;
 use wf_table::{Label, Sizes};
 
-/// Steps of the process, at most so many, up to the first of which more than its turn is noted; and how many they are.
+/// Steps of the process, at most so many, up to the first of which more than its turn is noted; and how many they are. Where a call
+/// is posted or its reply read they are few and short, and are put in where they are taken; the others stand apart.
+#[inline(always)]
 pub fn take_rows<E: Engine>(
     engine: &E,
     z: Sizes,
@@ -36,41 +38,75 @@ pub fn take_rows<E: Engine>(
     ensures form { shared.new.form ≡ shared.old.form }
     ensures unmarked { AreUnmarked (E.meaning engine.now) z p result (progress shared.old.cell q.old spent.old) }
 {
-    let mut outside = 0;
-    let count = take_all(engine, z, shared, q, spent, &mut outside, p, most);
-    count_outside(spent, outside);
-    count
+    match q.label {
+        Label::Post | Label::Read | Label::Take => {
+            take_words(engine, z, shared, q, spent, p, most)
+        }
+        _ => take_many(engine, z, shared, q, spent, p, most),
+    }
 }
 
-/// The same, where steps outside bodies are added to `outside`, and not yet to what the process has spent.
+/// The same at POST, READ and TAKE alone.
 #[inline(always)]
-fn take_all<E: Engine>(
+fn take_words<E: Engine>(
     engine: &E,
     z: Sizes,
     shared: &mut Shared,
     q: &mut Process<E::Run>,
     spent: &mut Spent,
-    outside: &mut u64,
     p: usize,
     most: u64,
 ) -> u64
-    requires object { IsInObject (E.meaning engine.now) (E.lawful engine.now) (E.fits engine.now) (E.ready engine.now) z p (progress shared.old.cell q.old (outside_more spent.old outside.old)) }
+    requires object { IsInObject (E.meaning engine.now) (E.lawful engine.now) (E.fits engine.now) (E.ready engine.now) z p (progress shared.old.cell q.old spent.old) }
     requires packed { shared.old.form ≡ packed z }
-    requires room { spent.old.inside + most < 2 ^ 128 }
-    requires room_outside { outside.old + most < 2 ^ 64 }
     ensures few { result ≤ most }
-    ensures leads { progress shared.new.cell q.new (outside_more spent.new outside.new) ≡ by_rows (E.meaning engine.now) z p result (progress shared.old.cell q.old (outside_more spent.old outside.old)) }
+    ensures leads { progress shared.new.cell q.new spent.new ≡ by_rows (E.meaning engine.now) z p result (progress shared.old.cell q.old spent.old) }
     ensures form { shared.new.form ≡ shared.old.form }
-    ensures unmarked { AreUnmarked (E.meaning engine.now) z p result (progress shared.old.cell q.old (outside_more spent.old outside.old)) }
+    ensures unmarked { AreUnmarked (E.meaning engine.now) z p result (progress shared.old.cell q.old spent.old) }
 {
     let mut count = 0;
     while count < most {
-        let some = take_some(engine, z, shared, q, spent, outside, p, most - count);
+        match q.label {
+            Label::Post => post(z, shared, q, p),
+            Label::Read => read(shared, q),
+            Label::Take => take_reply(z, shared, q, p),
+            _ => break,
+        }
+        count += 1;
+    }
+    count_outside(spent, count);
+    count
+}
+
+/// The same, but none at POST, READ and TAKE.
+#[inline(never)]
+fn take_many<E: Engine>(
+    engine: &E,
+    z: Sizes,
+    shared: &mut Shared,
+    q: &mut Process<E::Run>,
+    spent: &mut Spent,
+    p: usize,
+    most: u64,
+) -> u64
+    requires object { IsInObject (E.meaning engine.now) (E.lawful engine.now) (E.fits engine.now) (E.ready engine.now) z p (progress shared.old.cell q.old spent.old) }
+    requires packed { shared.old.form ≡ packed z }
+    requires room { spent.old.inside + most < 2 ^ 128 }
+    ensures few { result ≤ most }
+    ensures leads { progress shared.new.cell q.new spent.new ≡ by_rows (E.meaning engine.now) z p result (progress shared.old.cell q.old spent.old) }
+    ensures form { shared.new.form ≡ shared.old.form }
+    ensures unmarked { AreUnmarked (E.meaning engine.now) z p result (progress shared.old.cell q.old spent.old) }
+{
+    let mut count = 0;
+    let mut outside = 0;
+    while count < most {
+        let some = take_some(engine, z, shared, q, spent, &mut outside, p, most - count);
         if some == 0 {
-            return count;
+            break;
         }
         count += some;
     }
+    count_outside(spent, outside);
     count
 }
 
@@ -105,7 +141,7 @@ fn take_some<E: Engine>(
 {
     match q.label {
         Label::Next | Label::Flip | Label::Commit | Label::Give => 0,
-        Label::Post => counted(outside, post(z, shared, q, p)),
+        Label::Post | Label::Read | Label::Take => 0,
         Label::Try => counted(outside, try_round(q)),
         Label::Link => counted(outside, link(shared, q, p)),
         Label::Load => copy_words(engine, z, shared, q, spent, outside, p, most),
@@ -129,8 +165,6 @@ fn take_some<E: Engine>(
         }
         Label::Undo => counted(outside, undo(z, shared, q, p)),
         Label::Keep => counted(outside, keep(engine, z, shared, q, p)),
-        Label::Read => counted(outside, read(shared, q)),
-        Label::Take => counted(outside, take_reply(z, shared, q, p)),
     }
 }
 

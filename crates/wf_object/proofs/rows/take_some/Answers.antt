@@ -1,6 +1,6 @@
 use Rattle.std.proofs.Common.{◌≡◌, ◌+◌, ap, refl, sym, subst, ◌∙◌}
 use Rattle.wf_table.specs.declared.process.Label.{Label}
-use Rattle.wf_table.specs.declared.process.Label.TheVariants.{Post, Try, Link, Store, Check1, Mine, Seen, Fetch, Check2, Save, Enter, Body, Undo, Keep, Read, Take}
+use Rattle.wf_table.specs.declared.process.Label.TheVariants.{Try, Link, Store, Check1, Mine, Seen, Fetch, Check2, Save, Enter, Body, Undo, Keep}
 use Rattle.wf_table.specs.Table.{cell_after, check, row}
 use Rattle.wf_bound.specs.declared.spent.Spent.{Spent}
 use Rattle.wf_bound.specs.Spent.{has_more, spent_after}
@@ -47,21 +47,13 @@ returns-in-Enter-clause-unmarked g c =
     let is : c.args.q.now.label ≡ Enter = rw (← c.q.view_is) c.in-Enter.is in
     one_unmarked (g.E.Engine.meaning c.args.engine.now) c.args.z c.args.p (progress c.args.shared.now.cell c.args.q.now (outside_more c.args.spent.now c.args.outside.now)) (ap is_unmarked is)
 
-pub returns-in-Post-clause-leads : goal.returns-in-Post-clause-leads
-returns-in-Post-clause-leads g c =
-    plain_row (g.E.Engine.meaning c.args.engine.now) c.args.z c.args.p Post c.args.shared.now.cell c.post.new.shared.cell c.args.q.now c.post.new.q c.args.spent.now c.args.outside.now c.counted.new.outside c.counted.result refl (rw (← c.q.view_is) c.in-Post.is) c.counted.ensures.more c.counted.ensures.one (c.post.ensures.cell) (c.post.ensures.process)
-
-pub returns-in-Post-clause-unmarked : goal.returns-in-Post-clause-unmarked
-returns-in-Post-clause-unmarked g c =
-    plain_row_unmarked (g.E.Engine.meaning c.args.engine.now) c.args.z c.args.p Post c.args.shared.now.cell c.args.q.now (outside_more c.args.spent.now c.args.outside.now) c.counted.result refl (rw (← c.q.view_is) c.in-Post.is) c.counted.ensures.one
-
 pub returns-in-Try-clause-leads : goal.returns-in-Try-clause-leads
 returns-in-Try-clause-leads g c =
-    plain_row (g.E.Engine.meaning c.args.engine.now) c.args.z c.args.p Try c.args.shared.now.cell c.args.shared.now.cell c.args.q.now c.try_round.new.q c.args.spent.now c.args.outside.now c.counted-in-Try.new.outside c.counted-in-Try.result refl (rw (← c.q.view_is) c.in-Try.is) c.counted-in-Try.ensures.more c.counted-in-Try.ensures.one (refl) (c.try_round.ensures.process)
+    plain_row (g.E.Engine.meaning c.args.engine.now) c.args.z c.args.p Try c.args.shared.now.cell c.args.shared.now.cell c.args.q.now c.try_round.new.q c.args.spent.now c.args.outside.now c.counted.new.outside c.counted.result refl (rw (← c.q.view_is) c.in-Try.is) c.counted.ensures.more c.counted.ensures.one (refl) (c.try_round.ensures.process)
 
 pub returns-in-Try-clause-unmarked : goal.returns-in-Try-clause-unmarked
 returns-in-Try-clause-unmarked g c =
-    plain_row_unmarked (g.E.Engine.meaning c.args.engine.now) c.args.z c.args.p Try c.args.shared.now.cell c.args.q.now (outside_more c.args.spent.now c.args.outside.now) c.counted-in-Try.result refl (rw (← c.q.view_is) c.in-Try.is) c.counted-in-Try.ensures.one
+    plain_row_unmarked (g.E.Engine.meaning c.args.engine.now) c.args.z c.args.p Try c.args.shared.now.cell c.args.q.now (outside_more c.args.spent.now c.args.outside.now) c.counted.result refl (rw (← c.q.view_is) c.in-Try.is) c.counted.ensures.one
 
 pub returns-in-Link-clause-leads : goal.returns-in-Link-clause-leads
 returns-in-Link-clause-leads g c =
@@ -142,22 +134,6 @@ returns-in-Keep-clause-leads g c =
 pub returns-in-Keep-clause-unmarked : goal.returns-in-Keep-clause-unmarked
 returns-in-Keep-clause-unmarked g c =
     plain_row_unmarked (g.E.Engine.meaning c.args.engine.now) c.args.z c.args.p Keep c.args.shared.now.cell c.args.q.now (outside_more c.args.spent.now c.args.outside.now) c.counted-in-Keep.result refl (rw (← c.q.view_is) c.in-Keep.is) c.counted-in-Keep.ensures.one
-
-pub returns-in-Read-clause-leads : goal.returns-in-Read-clause-leads
-returns-in-Read-clause-leads g c =
-    plain_row (g.E.Engine.meaning c.args.engine.now) c.args.z c.args.p Read c.args.shared.now.cell c.args.shared.now.cell c.args.q.now c.read.new.q c.args.spent.now c.args.outside.now c.counted-in-Read.new.outside c.counted-in-Read.result refl (rw (← c.q.view_is) c.in-Read.is) c.counted-in-Read.ensures.more c.counted-in-Read.ensures.one (refl) (c.read.ensures)
-
-pub returns-in-Read-clause-unmarked : goal.returns-in-Read-clause-unmarked
-returns-in-Read-clause-unmarked g c =
-    plain_row_unmarked (g.E.Engine.meaning c.args.engine.now) c.args.z c.args.p Read c.args.shared.now.cell c.args.q.now (outside_more c.args.spent.now c.args.outside.now) c.counted-in-Read.result refl (rw (← c.q.view_is) c.in-Read.is) c.counted-in-Read.ensures.one
-
-pub returns-in-Take-clause-leads : goal.returns-in-Take-clause-leads
-returns-in-Take-clause-leads g c =
-    plain_row (g.E.Engine.meaning c.args.engine.now) c.args.z c.args.p Take c.args.shared.now.cell c.args.shared.now.cell c.args.q.now c.take_reply.new.q c.args.spent.now c.args.outside.now c.counted-in-Take.new.outside c.counted-in-Take.result refl (rw (← c.q.view_is) c.in-Take.is) c.counted-in-Take.ensures.more c.counted-in-Take.ensures.one (refl) (c.take_reply.ensures)
-
-pub returns-in-Take-clause-unmarked : goal.returns-in-Take-clause-unmarked
-returns-in-Take-clause-unmarked g c =
-    plain_row_unmarked (g.E.Engine.meaning c.args.engine.now) c.args.z c.args.p Take c.args.shared.now.cell c.args.q.now (outside_more c.args.spent.now c.args.outside.now) c.counted-in-Take.result refl (rw (← c.q.view_is) c.in-Take.is) c.counted-in-Take.ensures.one
 
 pub overflow_add-spent : goal.overflow_add-spent
 overflow_add-spent g c =
