@@ -92,13 +92,6 @@ module _ {Run : Type 0} (m : Meaning Run) (z : Sizes) (p : ℕ) where
         (subst (λ (u : Progress Run). is_unmarked u.process.label ≡ true) (rows_join k d h) (rest d (omega (arith, lt, more, is))))
   ]
 
-  -- rows behind those that led to here
-  pub rows_more : (k j : ℕ) (h u v : Progress Run) → u ≡ by_rows m z p k h → v ≡ by_rows m z p j u → v ≡ by_rows m z p (k + j) h
-  rows_more k j h u v leads more = more ∙ ap (by_rows m z p j) leads ∙ rows_join k j h
-
-  pub unmarked_more : (k j : ℕ) (h u : Progress Run) → u ≡ by_rows m z p k h → AreUnmarked m z p k h → AreUnmarked m z p j u → AreUnmarked m z p (k + j) h
-  unmarked_more k j h u leads first rest = unmarked_join k j h first (subst (AreUnmarked m z p j) leads rest)
-
   pub one_unmarked : (h : Progress Run) → is_unmarked h.process.label ≡ true → AreUnmarked m z p 1 h
   one_unmarked h is j lt =
       let none : 0 ≡ j = omega (arith, lt) in

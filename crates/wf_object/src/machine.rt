@@ -18,7 +18,7 @@ use crate::engine::Engine;
 use crate::fault::NewFault;
 use crate::process::Process;
 use crate::rows::take_rows;
-use crate::seen::{is_quiet, show_seen, show_step};
+use crate::seen::{is_quiet, show_step};
 use crate::spent::{bound_of, count_inside, count_step};
 use crate::start::{idle, opened};
 use crate::steps::{act, flip};
@@ -161,32 +161,22 @@ impl<E: Engine> Machine<E> {
         ensures few { IfOk result (λ out. length (values_answered (answer_in out)) ≤ 8) }
         ensures err { OnErr result (self.new ≡ self.old) }
     {
-        self.records.few_turns();
-        let out = show_step(
-            self.alloc,
-            &self.engine,
-            self.sizes,
-            &mut self.shared,
-            &mut self.processes,
-            &mut self.spent[p],
-            p,
-            &mut self.records,
-        )?;
-        Ok(out)
+        self.take_loudly(p)
     }
 
-    /// The same, within its caller, for those who need no reply: none is moved.
+    /// The same, within its caller: one that needs no reply makes no room for it.
     #[inline(always)]
-    fn take_seen(&mut self, p: usize) -> Result<Seen, NoMemory>
+    fn take_loudly(&mut self, p: usize) -> Result<StepOut, NoMemory>
         requires process { p < self.old.sizes.processes }
         requires shows { is_quiet (label_of self.old.state p) ≡ false }
         ensures stepped { OnOk result (self.new ≡ stepped (E.meaning self.old.engine) p self.old) }
-        ensures seen { IfOk result (λ seen. seen ≡ seen_in (answer_of (E.meaning self.old.engine) self.old.sizes self.old.state p)) }
+        ensures answer { IfOk result (λ out. answer_in out ≡ answer_of (E.meaning self.old.engine) self.old.sizes self.old.state p) }
         ensures turn { OnOk result (steps_of self.new.state.records.schedule ≡ steps_of self.old.state.records.schedule ++ p ∷ []) }
+        ensures few { IfOk result (λ out. length (values_answered (answer_in out)) ≤ 8) }
         ensures err { OnErr result (self.new ≡ self.old) }
     {
         self.records.few_turns();
-        let out = show_seen(
+        let out = show_step(
             self.alloc,
             &self.engine,
             self.sizes,
@@ -213,7 +203,12 @@ impl<E: Engine> Machine<E> {
             self.step_quietly(p)?;
             return Ok(Seen::On);
         }
-        self.take_seen(p)
+        match self.take_loudly(p)? {
+            StepOut::On => Ok(Seen::On),
+            StepOut::Began(_) => Ok(Seen::Began),
+            StepOut::Answered(_, _) => Ok(Seen::Answered),
+            StepOut::Halted => Ok(Seen::Halted),
+        }
     }
 
     /// A step at a label that shows nothing: no room for an event is made.

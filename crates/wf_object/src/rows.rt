@@ -5,7 +5,6 @@ ghost use Rattle.wf_object.specs.Packed.{packed};
 ghost use Rattle.wf_object.specs.Progress.{AreUnmarked, IsInObject, by_rows, outside_more, progress};
 ghost use Rattle.wf_table.specs.Ranges.{IsSized, IsShaped, IsInRange};
 ghost use Rattle.wf_table.specs.Toggles.{StoresBit};
-ghost use Rattle.wf_table.specs.declared.process.Label.TheVariants.{Link, Read};
 
 use crate::bodies::stay;
 use crate::engine::Engine;
@@ -19,7 +18,9 @@ use ll_cell::Shared;
 use wf_bound::Spent;
 use wf_table::{Label, Sizes};
 
-/// Steps of the process, at most so many, up to the first of which more than its turn is noted; and how many they are.
+/// Steps of the process, at most so many, up to the first of which more than its turn is noted; and how many they are. Where a call
+/// is posted or its reply read they are few and short, and are put in where they are taken; the others stand apart.
+#[inline(always)]
 pub fn take_rows<E: Engine>(
     engine: &E,
     z: Sizes,
@@ -37,46 +38,80 @@ pub fn take_rows<E: Engine>(
     ensures form { shared.new.form ≡ shared.old.form }
     ensures unmarked { AreUnmarked (E.meaning engine.now) z p result (progress shared.old.cell q.old spent.old) }
 {
-    let mut outside = 0;
-    let count = take_all(engine, z, shared, q, spent, &mut outside, p, most);
-    count_outside(spent, outside);
-    count
+    match q.label {
+        Label::Post | Label::Read | Label::Take => {
+            take_words(engine, z, shared, q, spent, p, most)
+        }
+        _ => take_many(engine, z, shared, q, spent, p, most),
+    }
 }
 
-/// The same, where steps outside bodies are added to `outside`, and not yet to what the process has spent.
+/// The same at POST, READ and TAKE alone.
 #[inline(always)]
-fn take_all<E: Engine>(
+fn take_words<E: Engine>(
     engine: &E,
     z: Sizes,
     shared: &mut Shared,
     q: &mut Process<E::Run>,
     spent: &mut Spent,
-    outside: &mut u64,
     p: usize,
     most: u64,
 ) -> u64
-    requires object { IsInObject (E.meaning engine.now) (E.lawful engine.now) (E.fits engine.now) (E.ready engine.now) z p (progress shared.old.cell q.old (outside_more spent.old outside.old)) }
+    requires object { IsInObject (E.meaning engine.now) (E.lawful engine.now) (E.fits engine.now) (E.ready engine.now) z p (progress shared.old.cell q.old spent.old) }
     requires packed { shared.old.form ≡ packed z }
-    requires room { spent.old.inside + most < 2 ^ 128 }
-    requires room_outside { outside.old + most < 2 ^ 64 }
     ensures few { result ≤ most }
-    ensures leads { progress shared.new.cell q.new (outside_more spent.new outside.new) ≡ by_rows (E.meaning engine.now) z p result (progress shared.old.cell q.old (outside_more spent.old outside.old)) }
+    ensures leads { progress shared.new.cell q.new spent.new ≡ by_rows (E.meaning engine.now) z p result (progress shared.old.cell q.old spent.old) }
     ensures form { shared.new.form ≡ shared.old.form }
-    ensures unmarked { AreUnmarked (E.meaning engine.now) z p result (progress shared.old.cell q.old (outside_more spent.old outside.old)) }
+    ensures unmarked { AreUnmarked (E.meaning engine.now) z p result (progress shared.old.cell q.old spent.old) }
 {
     let mut count = 0;
     while count < most {
-        let some = take_some(engine, z, shared, q, spent, outside, p, most - count);
-        if some == 0 {
-            return count;
+        match q.label {
+            Label::Post => post(z, shared, q, p),
+            Label::Read => read(shared, q),
+            Label::Take => take_reply(z, shared, q, p),
+            _ => break,
         }
-        count += some;
+        count += 1;
     }
+    count_outside(spent, count);
     count
 }
 
-/// Steps of the process from where it stands, at most so many, and how many they are: in a body those of the body; at LINK, LOAD, KEEP,
-/// READ and TAKE those that bring its words; else one; none where more than its turn is noted of the step. The label is looked at once.
+/// The same, but none at POST, READ and TAKE.
+#[inline(never)]
+fn take_many<E: Engine>(
+    engine: &E,
+    z: Sizes,
+    shared: &mut Shared,
+    q: &mut Process<E::Run>,
+    spent: &mut Spent,
+    p: usize,
+    most: u64,
+) -> u64
+    requires object { IsInObject (E.meaning engine.now) (E.lawful engine.now) (E.fits engine.now) (E.ready engine.now) z p (progress shared.old.cell q.old spent.old) }
+    requires packed { shared.old.form ≡ packed z }
+    requires room { spent.old.inside + most < 2 ^ 128 }
+    ensures few { result ≤ most }
+    ensures leads { progress shared.new.cell q.new spent.new ≡ by_rows (E.meaning engine.now) z p result (progress shared.old.cell q.old spent.old) }
+    ensures form { shared.new.form ≡ shared.old.form }
+    ensures unmarked { AreUnmarked (E.meaning engine.now) z p result (progress shared.old.cell q.old spent.old) }
+{
+    let mut count = 0;
+    let mut outside = 0;
+    while count < most {
+        let some = take_some(engine, z, shared, q, spent, &mut outside, p, most - count);
+        if some == 0 {
+            break;
+        }
+        count += some;
+    }
+    count_outside(spent, outside);
+    count
+}
+
+/// Steps of the process from where it stands, at most so many, and how many they are: in a body those of the body, at LOAD those that
+/// bring words over, else one; none where more than its turn is noted of the step. The label is looked at once.
 #[inline(always)]
 fn take_some<E: Engine>(
     engine: &E,
@@ -106,9 +141,9 @@ fn take_some<E: Engine>(
 {
     match q.label {
         Label::Next | Label::Flip | Label::Commit | Label::Give => 0,
-        Label::Post => counted(outside, post(z, shared, q, p)),
+        Label::Post | Label::Read | Label::Take => 0,
         Label::Try => counted(outside, try_round(q)),
-        Label::Link => link_words(engine, z, shared, q, spent, outside, p, most),
+        Label::Link => counted(outside, link(shared, q, p)),
         Label::Load => copy_words(engine, z, shared, q, spent, outside, p, most),
         Label::Store => counted(outside, store(z, shared, q, p)),
         Label::Check1 => counted(outside, check(shared, q, p, Label::Mine)),
@@ -129,9 +164,7 @@ fn take_some<E: Engine>(
             count
         }
         Label::Undo => counted(outside, undo(z, shared, q, p)),
-        Label::Keep => keep_words(engine, z, shared, q, spent, outside, p, most),
-        Label::Read => read_words(engine, z, shared, q, spent, outside, p, most),
-        Label::Take => take_words(engine, z, shared, q, spent, outside, p, most),
+        Label::Keep => counted(outside, keep(engine, z, shared, q, p)),
     }
 }
 
@@ -166,129 +199,6 @@ fn copy_words<E: Engine>(
         count += 2;
     }
     count
-}
-
-/// Words of the reply that stands in the own block, by KEEP each; and how many steps these are.
-#[inline(always)]
-fn keep_words<E: Engine>(
-    engine: &E,
-    z: Sizes,
-    shared: &mut Shared,
-    q: &mut Process<E::Run>,
-    spent: &Spent,
-    outside: &mut u64,
-    p: usize,
-    most: u64,
-) -> u64
-    requires object { IsInObject (E.meaning engine.now) (E.lawful engine.now) (E.fits engine.now) (E.ready engine.now) z p (progress shared.old.cell q.old (outside_more spent.now outside.old)) }
-    requires sized { IsSized z }
-    requires packed { shared.old.form ≡ packed z }
-    requires process { p < z.processes }
-    requires room_outside { outside.old + most < 2 ^ 64 }
-    ensures few { result ≤ most }
-    ensures outside { outside.new ≤ outside.old + result }
-    ensures leads { progress shared.new.cell q.new (outside_more spent.now outside.new) ≡ by_rows (E.meaning engine.now) z p result (progress shared.old.cell q.old (outside_more spent.now outside.old)) }
-    ensures form { shared.new.form ≡ shared.old.form }
-    ensures unmarked { AreUnmarked (E.meaning engine.now) z p result (progress shared.old.cell q.old (outside_more spent.now outside.old)) }
-{
-    let mut count = 0;
-    while count < most && q.label == Label::Keep {
-        keep(engine, z, shared, q, p);
-        *outside += 1;
-        count += 1;
-    }
-    count
-}
-
-/// Words of the own reply are read from the block that stands, by TAKE each; and how many steps these are.
-#[inline(always)]
-fn take_words<E: Engine>(
-    engine: &E,
-    z: Sizes,
-    shared: &Shared,
-    q: &mut Process<E::Run>,
-    spent: &Spent,
-    outside: &mut u64,
-    p: usize,
-    most: u64,
-) -> u64
-    requires object { IsInObject (E.meaning engine.now) (E.lawful engine.now) (E.fits engine.now) (E.ready engine.now) z p (progress shared.now.cell q.old (outside_more spent.now outside.old)) }
-    requires sized { IsSized z }
-    requires packed { shared.now.form ≡ packed z }
-    requires process { p < z.processes }
-    requires room_outside { outside.old + most < 2 ^ 64 }
-    ensures few { result ≤ most }
-    ensures outside { outside.new ≤ outside.old + result }
-    ensures leads { progress shared.now.cell q.new (outside_more spent.now outside.new) ≡ by_rows (E.meaning engine.now) z p result (progress shared.now.cell q.old (outside_more spent.now outside.old)) }
-    ensures unmarked { AreUnmarked (E.meaning engine.now) z p result (progress shared.now.cell q.old (outside_more spent.now outside.old)) }
-{
-    let mut count = 0;
-    while count < most && q.label == Label::Take {
-        take_reply(z, shared, q, p);
-        *outside += 1;
-        count += 1;
-    }
-    count
-}
-
-/// LINK, and words of the linked block behind it; and how many steps these are.
-#[inline(always)]
-fn link_words<E: Engine>(
-    engine: &E,
-    z: Sizes,
-    shared: &mut Shared,
-    q: &mut Process<E::Run>,
-    spent: &Spent,
-    outside: &mut u64,
-    p: usize,
-    most: u64,
-) -> u64
-    requires object { IsInObject (E.meaning engine.now) (E.lawful engine.now) (E.fits engine.now) (E.ready engine.now) z p (progress shared.old.cell q.old (outside_more spent.now outside.old)) }
-    requires sized { IsSized z }
-    requires shaped { IsShaped z shared.old.cell }
-    requires packed { shared.old.form ≡ packed z }
-    requires process { p < z.processes }
-    requires label { q.old.label ≡ Link }
-    requires some { 0 < most }
-    requires room_outside { outside.old + most < 2 ^ 64 }
-    ensures few { result ≤ most }
-    ensures outside { outside.new ≤ outside.old + result }
-    ensures leads { progress shared.new.cell q.new (outside_more spent.now outside.new) ≡ by_rows (E.meaning engine.now) z p result (progress shared.old.cell q.old (outside_more spent.now outside.old)) }
-    ensures form { shared.new.form ≡ shared.old.form }
-    ensures unmarked { AreUnmarked (E.meaning engine.now) z p result (progress shared.old.cell q.old (outside_more spent.now outside.old)) }
-{
-    link(shared, q, p);
-    *outside += 1;
-    1 + copy_words(engine, z, shared, q, spent, outside, p, most - 1)
-}
-
-/// READ, and words of the own reply behind it; and how many steps these are.
-#[inline(always)]
-fn read_words<E: Engine>(
-    engine: &E,
-    z: Sizes,
-    shared: &Shared,
-    q: &mut Process<E::Run>,
-    spent: &Spent,
-    outside: &mut u64,
-    p: usize,
-    most: u64,
-) -> u64
-    requires object { IsInObject (E.meaning engine.now) (E.lawful engine.now) (E.fits engine.now) (E.ready engine.now) z p (progress shared.now.cell q.old (outside_more spent.now outside.old)) }
-    requires sized { IsSized z }
-    requires packed { shared.now.form ≡ packed z }
-    requires process { p < z.processes }
-    requires label { q.old.label ≡ Read }
-    requires some { 0 < most }
-    requires room_outside { outside.old + most < 2 ^ 64 }
-    ensures few { result ≤ most }
-    ensures outside { outside.new ≤ outside.old + result }
-    ensures leads { progress shared.now.cell q.new (outside_more spent.now outside.new) ≡ by_rows (E.meaning engine.now) z p result (progress shared.now.cell q.old (outside_more spent.now outside.old)) }
-    ensures unmarked { AreUnmarked (E.meaning engine.now) z p result (progress shared.now.cell q.old (outside_more spent.now outside.old)) }
-{
-    read(shared, q);
-    *outside += 1;
-    1 + take_words(engine, z, shared, q, spent, outside, p, most - 1)
 }
 
 /// One step outside bodies more, a row that was taken; and how many steps it is.

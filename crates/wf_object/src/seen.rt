@@ -11,7 +11,7 @@ ghost use Rattle.wf_table.specs.Scripts.{CallsFit};
 ghost use Rattle.wf_table.specs.Object.{ended, began, applied, applied_ids, begun_of, history_after, noted, answer_by, answer_of, label_by, seen_of, step_of};
 ghost use Rattle.wf_bound.specs.Spent.{has_more, spent_after};
 ghost use Rattle.wf_object.specs.Shown.{spent_by, state_of};
-ghost use Rattle.wf_object.specs.View.{answer_in, seen_in};
+ghost use Rattle.wf_object.specs.View.{answer_in};
 ghost use Rattle.wf_object.specs.Packed.{packed};
 ghost use Rattle.wf_object.specs.Quiet.{is_quiet};
 ghost use Rattle.wf_history.specs.History.{IsHistory};
@@ -26,7 +26,7 @@ use smallvec::SmallVec;
 use std::alloc::Global;
 use wf_bound::Spent;
 use wf_history::{CallId, KeptCall, KeptReply};
-use wf_records::{Records, Seen, StepOut};
+use wf_records::{Records, StepOut};
 use wf_table::{Label, Sizes};
 
 /// Whether a step at the label shows nothing.
@@ -87,103 +87,7 @@ pub fn show_step<E: Engine>(
     }
 }
 
-/// Takes the same step, for those who need no reply: none is moved.
-#[inline(always)]
-pub fn show_seen<E: Engine>(
-    alloc: Global,
-    engine: &E,
-    z: Sizes,
-    shared: &mut Shared,
-    processes: &mut [Process<E::Run>],
-    spent: &mut Spent,
-    p: usize,
-    records: &mut Records,
-) -> Result<Seen, NoMemory>
-    requires sized { IsSized z }
-    requires shaped { IsShaped z shared.old.cell }
-    requires packed { shared.old.form ≡ packed z }
-    requires count { length processes.old ≡ z.processes }
-    requires process { p < z.processes }
-    requires shows { is_quiet (label_by (slice_get processes.old p)) ≡ false }
-    requires in_range { Each (λ _ q. IsInRange z q) processes.old }
-    requires replies { z.replies ≡ (E.meaning engine.now).replies }
-    requires arguments { z.arguments ≡ (E.meaning engine.now).arguments }
-    requires fits { Each (λ _ q. CallsFit (E.fits engine.now) q) processes.old }
-    requires flip_mark { p < length records.old.flip_marks }
-    requires root_mark { own_of shared.old.cell p < length records.old.root_marks }
-    requires in_turn { IsHistory (history_after records.old.history (seen_of (E.meaning engine.now) z shared.old.cell processes.old p)) }
-    requires bodies { spent.old.bodies + 1 < 2 ^ 128 }
-    requires inside { spent.old.inside + 1 < 2 ^ 128 }
-    requires outside { spent.old.outside + 1 < 2 ^ 128 }
-    ensures state { OnOk result (state_of shared.new.cell processes.new records.new ≡ step_of (E.meaning engine.now) z (state_of shared.old.cell processes.old records.old) p) }
-    ensures form { shared.new.form ≡ shared.old.form }
-    ensures spent { OnOk result (spent.new ≡ spent_by (slice_get processes.old p) spent.old) }
-    ensures seen { IfOk result (λ seen. seen ≡ seen_in (answer_of (E.meaning engine.now) z (state_of shared.old.cell processes.old records.old) p)) }
-    ensures no_cell { OnErr result (shared.new ≡ shared.old) }
-    ensures no_process { OnErr result (processes.new ≡ processes.old) }
-    ensures no_spent { OnErr result (spent.new ≡ spent.old) }
-    ensures no_record { OnErr result (records.new ≡ records.old) }
-{
-    let process = &processes[p];
-    match process.label {
-        Label::Next => begin_seen(alloc, engine, &mut processes[p], spent, p, records),
-        Label::Give => give_seen(alloc, engine, z, &mut processes[p], spent, p, records),
-        _ => {
-            apply(alloc, z, shared, processes, p, records)?;
-            count_step(spent, Label::Commit, false);
-            commit(shared, &mut processes[p], p);
-            Ok(Seen::On)
-        }
-    }
-}
-
 /// The next call of the script begins, where there is one.
-#[inline(always)]
-fn begin_seen<E: Engine>(
-    alloc: Global,
-    engine: &E,
-    q: &mut Process<E::Run>,
-    spent: &mut Spent,
-    p: usize,
-    records: &mut Records,
-) -> Result<Seen, NoMemory>
-    requires list { length q.old.list ≡ (E.meaning engine.now).arguments }
-    requires begun { q.old.begun ≤ length q.old.calls }
-    requires fits { CallsFit (E.fits engine.now) q.old }
-    requires flip_mark { p < length records.old.flip_marks }
-    requires in_turn { IsHistory (history_after records.old.history (began p q.old)) }
-    requires bodies { spent.old.bodies + 1 < 2 ^ 128 }
-    requires inside { spent.old.inside + 1 < 2 ^ 128 }
-    requires outside { spent.old.outside + 1 < 2 ^ 128 }
-    ensures process { OnOk result (q.new ≡ (next (E.meaning engine.now) q.old).process) }
-    ensures spent { OnOk result (spent.new ≡ spent_after At.Next (has_more q.old) spent.old) }
-    ensures records { OnOk result ((block : ℕ) → records.new ≡ noted records.old p At.Next block (began p q.old)) }
-    ensures seen { IfOk result (λ seen. seen ≡ seen_in (answer_by At.Next (began p q.old))) }
-    ensures no_process { OnErr result (q.new ≡ q.old) }
-    ensures no_spent { OnErr result (spent.new ≡ spent.old) }
-    ensures no_record { OnErr result (records.new ≡ records.old) }
-{
-    if q.begun >= q.calls.len() {
-        records.note_quiet(p, Label::Next)?;
-        return Ok(Seen::Halted);
-    }
-    let number = q.begun + 1;
-    q.calls.bring_to_hand(number)?;
-    let id = CallId {
-        process: p,
-        number: number as u64,
-    };
-    let call = KeptCall::keep(alloc, q.calls.at_hand())?;
-    records.note_begin(p, id, call)?;
-    count_step(spent, Label::Next, true);
-    engine.lay(q.calls.at_hand(), &mut q.list);
-    q.begun = number;
-    q.registers.i = 0;
-    q.label = Label::Post;
-    Ok(Seen::Began)
-}
-
-/// The same, and which call it is.
 #[inline(always)]
 fn begin<E: Engine>(
     alloc: Global,
@@ -209,24 +113,24 @@ fn begin<E: Engine>(
     ensures no_spent { OnErr result (spent.new ≡ spent.old) }
     ensures no_record { OnErr result (records.new ≡ records.old) }
 {
-    let out = next_call(q, p);
-    begin_seen(alloc, engine, q, spent, p, records)?;
-    Ok(out)
-}
-
-/// What beginning the next call answers.
-#[inline(always)]
-fn next_call<R>(q: &Process<R>, p: usize) -> StepOut
-    requires { q.now.begun ≤ length q.now.calls }
-    ensures { answer_in result ≡ answer_by At.Next (began p q.now) }
-{
     if q.begun >= q.calls.len() {
-        return StepOut::Halted;
+        records.note_quiet(p, Label::Next)?;
+        return Ok(StepOut::Halted);
     }
-    StepOut::Began(CallId {
+    let number = q.begun + 1;
+    q.calls.bring_to_hand(number)?;
+    let id = CallId {
         process: p,
-        number: q.begun as u64 + 1,
-    })
+        number: number as u64,
+    };
+    let call = KeptCall::keep(alloc, q.calls.at_hand())?;
+    records.note_begin(p, id, call)?;
+    count_step(spent, Label::Next, true);
+    engine.lay(q.calls.at_hand(), &mut q.list);
+    q.begun = number;
+    q.registers.i = 0;
+    q.label = Label::Post;
+    Ok(StepOut::Began(id))
 }
 
 /// The open calls are applied whose toggles differ between the root and the own block, where the process is linked.
@@ -297,45 +201,6 @@ fn give<E: Engine>(
     count_step(spent, Label::Give, false);
     q.label = Label::Next;
     Ok(StepOut::Answered(id, reply))
-}
-
-/// The same, and the reply stays where it is: only what is kept of it goes on.
-#[inline(always)]
-fn give_seen<E: Engine>(
-    alloc: Global,
-    engine: &E,
-    z: Sizes,
-    q: &mut Process<E::Run>,
-    spent: &mut Spent,
-    p: usize,
-    records: &mut Records,
-) -> Result<Seen, NoMemory>
-    requires in_range { IsInRange z q.old }
-    requires label { q.old.label ≡ At.Give }
-    requires replies { z.replies ≡ (E.meaning engine.now).replies }
-    requires fits { CallsFit (E.fits engine.now) q.old }
-    requires in_turn { IsHistory (history_after records.old.history (ended (E.meaning engine.now) p q.old)) }
-    requires bodies { spent.old.bodies + 1 < 2 ^ 128 }
-    requires inside { spent.old.inside + 1 < 2 ^ 128 }
-    requires outside { spent.old.outside + 1 < 2 ^ 128 }
-    ensures process { OnOk result (q.new ≡ (give q.old).process) }
-    ensures spent { OnOk result (spent.new ≡ spent_after At.Give (has_more q.old) spent.old) }
-    ensures records { OnOk result (records.new ≡ noted records.old p At.Give 0 (ended (E.meaning engine.now) p q.old)) }
-    ensures seen { IfOk result (λ seen. seen ≡ seen_in (answer_by At.Give (ended (E.meaning engine.now) p q.old))) }
-    ensures no_process { OnErr result (q.new ≡ q.old) }
-    ensures no_spent { OnErr result (spent.new ≡ spent.old) }
-    ensures no_record { OnErr result (records.new ≡ records.old) }
-{
-    q.calls.bring_to_hand(q.begun)?;
-    let id = CallId {
-        process: p,
-        number: q.begun as u64,
-    };
-    let kept = KeptReply::keep(alloc, &engine.reply(q.calls.at_hand(), &q.replies))?;
-    records.note_end(p, id, kept)?;
-    count_step(spent, Label::Give, false);
-    q.label = Label::Next;
-    Ok(Seen::Answered)
 }
 
 /// The processes whose toggles differ between the root and p's own block, with their open calls.

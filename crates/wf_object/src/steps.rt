@@ -15,17 +15,6 @@ use ll_cell::Shared;
 use wf_table::{EngineTurn, Label, Sizes};
 
 #[inline(always)]
-pub fn part_of(z: Sizes, q: usize) -> usize
-    requires sized { IsSized z }
-    requires process { q ≤ z.processes }
-    ensures place { result ≡ part z q }
-    ensures within { result ≤ block_words z }
-    ensures room { q < z.processes → result + (z.replies + 2) ≤ block_words z }
-{
-    z.variables + q * (z.replies + 2)
-}
-
-#[inline(always)]
 pub fn post<R>(z: Sizes, shared: &mut Shared, q: &mut Process<R>, p: usize)
     requires sized { IsSized z }
     requires shaped { IsShaped z shared.old.cell }
@@ -131,7 +120,7 @@ pub fn block_length(z: Sizes) -> usize
     requires { IsSized z }
     ensures { result ≡ block_words z }
 {
-    part_of(z, z.processes)
+    z.variables + z.processes * (z.replies + 2)
 }
 
 #[inline(always)]

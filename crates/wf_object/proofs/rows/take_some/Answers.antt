@@ -1,6 +1,6 @@
 use Rattle.std.proofs.Common.{◌≡◌, ◌+◌, ap, refl, sym, subst, ◌∙◌}
 use Rattle.wf_table.specs.declared.process.Label.{Label}
-use Rattle.wf_table.specs.declared.process.Label.TheVariants.{Post, Try, Store, Check1, Mine, Seen, Fetch, Check2, Save, Enter, Body, Undo}
+use Rattle.wf_table.specs.declared.process.Label.TheVariants.{Try, Link, Store, Check1, Mine, Seen, Fetch, Check2, Save, Enter, Body, Undo, Keep}
 use Rattle.wf_table.specs.Table.{cell_after, check, row}
 use Rattle.wf_bound.specs.declared.spent.Spent.{Spent}
 use Rattle.wf_bound.specs.Spent.{has_more, spent_after}
@@ -47,21 +47,21 @@ returns-in-Enter-clause-unmarked g c =
     let is : c.args.q.now.label ≡ Enter = rw (← c.q.view_is) c.in-Enter.is in
     one_unmarked (g.E.Engine.meaning c.args.engine.now) c.args.z c.args.p (progress c.args.shared.now.cell c.args.q.now (outside_more c.args.spent.now c.args.outside.now)) (ap is_unmarked is)
 
-pub returns-in-Post-clause-leads : goal.returns-in-Post-clause-leads
-returns-in-Post-clause-leads g c =
-    plain_row (g.E.Engine.meaning c.args.engine.now) c.args.z c.args.p Post c.args.shared.now.cell c.post.new.shared.cell c.args.q.now c.post.new.q c.args.spent.now c.args.outside.now c.counted.new.outside c.counted.result refl (rw (← c.q.view_is) c.in-Post.is) c.counted.ensures.more c.counted.ensures.one (c.post.ensures.cell) (c.post.ensures.process)
-
-pub returns-in-Post-clause-unmarked : goal.returns-in-Post-clause-unmarked
-returns-in-Post-clause-unmarked g c =
-    plain_row_unmarked (g.E.Engine.meaning c.args.engine.now) c.args.z c.args.p Post c.args.shared.now.cell c.args.q.now (outside_more c.args.spent.now c.args.outside.now) c.counted.result refl (rw (← c.q.view_is) c.in-Post.is) c.counted.ensures.one
-
 pub returns-in-Try-clause-leads : goal.returns-in-Try-clause-leads
 returns-in-Try-clause-leads g c =
-    plain_row (g.E.Engine.meaning c.args.engine.now) c.args.z c.args.p Try c.args.shared.now.cell c.args.shared.now.cell c.args.q.now c.try_round.new.q c.args.spent.now c.args.outside.now c.counted-in-Try.new.outside c.counted-in-Try.result refl (rw (← c.q.view_is) c.in-Try.is) c.counted-in-Try.ensures.more c.counted-in-Try.ensures.one (refl) (c.try_round.ensures.process)
+    plain_row (g.E.Engine.meaning c.args.engine.now) c.args.z c.args.p Try c.args.shared.now.cell c.args.shared.now.cell c.args.q.now c.try_round.new.q c.args.spent.now c.args.outside.now c.counted.new.outside c.counted.result refl (rw (← c.q.view_is) c.in-Try.is) c.counted.ensures.more c.counted.ensures.one (refl) (c.try_round.ensures.process)
 
 pub returns-in-Try-clause-unmarked : goal.returns-in-Try-clause-unmarked
 returns-in-Try-clause-unmarked g c =
-    plain_row_unmarked (g.E.Engine.meaning c.args.engine.now) c.args.z c.args.p Try c.args.shared.now.cell c.args.q.now (outside_more c.args.spent.now c.args.outside.now) c.counted-in-Try.result refl (rw (← c.q.view_is) c.in-Try.is) c.counted-in-Try.ensures.one
+    plain_row_unmarked (g.E.Engine.meaning c.args.engine.now) c.args.z c.args.p Try c.args.shared.now.cell c.args.q.now (outside_more c.args.spent.now c.args.outside.now) c.counted.result refl (rw (← c.q.view_is) c.in-Try.is) c.counted.ensures.one
+
+pub returns-in-Link-clause-leads : goal.returns-in-Link-clause-leads
+returns-in-Link-clause-leads g c =
+    plain_row (g.E.Engine.meaning c.args.engine.now) c.args.z c.args.p Link c.args.shared.now.cell c.link.new.shared.cell c.args.q.now c.link.new.q c.args.spent.now c.args.outside.now c.counted-in-Link.new.outside c.counted-in-Link.result refl (rw (← c.q.view_is) c.in-Link.is) c.counted-in-Link.ensures.more c.counted-in-Link.ensures.one (c.link.ensures.cell) (c.link.ensures.process)
+
+pub returns-in-Link-clause-unmarked : goal.returns-in-Link-clause-unmarked
+returns-in-Link-clause-unmarked g c =
+    plain_row_unmarked (g.E.Engine.meaning c.args.engine.now) c.args.z c.args.p Link c.args.shared.now.cell c.args.q.now (outside_more c.args.spent.now c.args.outside.now) c.counted-in-Link.result refl (rw (← c.q.view_is) c.in-Link.is) c.counted-in-Link.ensures.one
 
 pub returns-in-Store-clause-leads : goal.returns-in-Store-clause-leads
 returns-in-Store-clause-leads g c =
@@ -126,6 +126,14 @@ returns-in-Undo-clause-leads g c =
 pub returns-in-Undo-clause-unmarked : goal.returns-in-Undo-clause-unmarked
 returns-in-Undo-clause-unmarked g c =
     plain_row_unmarked (g.E.Engine.meaning c.args.engine.now) c.args.z c.args.p Undo c.args.shared.now.cell c.args.q.now (outside_more c.args.spent.now c.args.outside.now) c.counted-in-Undo.result refl (rw (← c.q.view_is) c.in-Undo.is) c.counted-in-Undo.ensures.one
+
+pub returns-in-Keep-clause-leads : goal.returns-in-Keep-clause-leads
+returns-in-Keep-clause-leads g c =
+    plain_row (g.E.Engine.meaning c.args.engine.now) c.args.z c.args.p Keep c.args.shared.now.cell c.keep.new.shared.cell c.args.q.now c.keep.new.q c.args.spent.now c.args.outside.now c.counted-in-Keep.new.outside c.counted-in-Keep.result refl (rw (← c.q.view_is) c.in-Keep.is) c.counted-in-Keep.ensures.more c.counted-in-Keep.ensures.one (c.keep.ensures.cell) (c.keep.ensures.process)
+
+pub returns-in-Keep-clause-unmarked : goal.returns-in-Keep-clause-unmarked
+returns-in-Keep-clause-unmarked g c =
+    plain_row_unmarked (g.E.Engine.meaning c.args.engine.now) c.args.z c.args.p Keep c.args.shared.now.cell c.args.q.now (outside_more c.args.spent.now c.args.outside.now) c.counted-in-Keep.result refl (rw (← c.q.view_is) c.in-Keep.is) c.counted-in-Keep.ensures.one
 
 pub overflow_add-spent : goal.overflow_add-spent
 overflow_add-spent g c =

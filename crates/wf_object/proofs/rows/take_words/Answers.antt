@@ -1,43 +1,65 @@
-use Rattle.std.proofs.Common.{rules, ◌≡◌, ◌+◌, arith, refl}
-use Rattle.wf_table.specs.declared.process.Label.TheVariants.{Take}
-use Rattle.wf_object.specs.Progress.{outside_more, progress}
-use Rattle.wf_object.proofs.Progressing.{in_object_so, in_range, in_shape, plain_row, plain_row_unmarked, rows_more, unmarked_more}
+use Rattle.std.proofs.Common.{arith}
+use Rattle.wf_object.specs.Progress.{progress}
+use Rattle.wf_object.proofs.Progressing.{in_object_so, in_processes, in_range, in_shape, room_outside}
 use Rattle.wf_object.proofs.rows.take_words.Goals as goal
+
+pub post-requires-clause-shaped : goal.post-requires-clause-shaped
+post-requires-clause-shaped g c =
+    let e = g.E.Engine in
+    let engine = c.args.engine.now in
+    let m = e.meaning engine in
+    let first = progress c.args.shared.now.cell c.args.q.now c.args.spent.now in
+    let here = in_object_so m (e.lawful engine) (e.fits engine) (e.ready engine) (e.effect engine) (g.met.E.Engine.law engine) c.args.z c.args.p c.loop-count.count first _ c.requires.object c.loop-count.invariant.leads in
+    in_shape m (e.lawful engine) (e.fits engine) (e.ready engine) (e.effect engine) (g.met.E.Engine.law engine) c.args.z c.args.p _ here
+
+pub post-requires-clause-process : goal.post-requires-clause-process
+post-requires-clause-process g c =
+    let e = g.E.Engine in
+    let engine = c.args.engine.now in
+    let m = e.meaning engine in
+    let first = progress c.args.shared.now.cell c.args.q.now c.args.spent.now in
+    in_processes m (e.lawful engine) (e.fits engine) (e.ready engine) (e.effect engine) (g.met.E.Engine.law engine) c.args.z c.args.p _ c.requires.object
+
+pub post-requires-clause-in_range : goal.post-requires-clause-in_range
+post-requires-clause-in_range g c =
+    let e = g.E.Engine in
+    let engine = c.args.engine.now in
+    let m = e.meaning engine in
+    let first = progress c.args.shared.now.cell c.args.q.now c.args.spent.now in
+    let here = in_object_so m (e.lawful engine) (e.fits engine) (e.ready engine) (e.effect engine) (g.met.E.Engine.law engine) c.args.z c.args.p c.loop-count.count first _ c.requires.object c.loop-count.invariant.leads in
+    in_range m (e.lawful engine) (e.fits engine) (e.ready engine) (e.effect engine) (g.met.E.Engine.law engine) c.args.z c.args.p _ here
 
 pub take_reply-requires-clause-shaped : goal.take_reply-requires-clause-shaped
 take_reply-requires-clause-shaped g c =
     let e = g.E.Engine in
     let engine = c.args.engine.now in
     let m = e.meaning engine in
-    let first = progress c.args.shared.now.cell c.args.q.now (outside_more c.args.spent.now c.args.outside.now) in
+    let first = progress c.args.shared.now.cell c.args.q.now c.args.spent.now in
     let here = in_object_so m (e.lawful engine) (e.fits engine) (e.ready engine) (e.effect engine) (g.met.E.Engine.law engine) c.args.z c.args.p c.loop-count.count first _ c.requires.object c.loop-count.invariant.leads in
     in_shape m (e.lawful engine) (e.fits engine) (e.ready engine) (e.effect engine) (g.met.E.Engine.law engine) c.args.z c.args.p _ here
+
+pub take_reply-requires-clause-process : goal.take_reply-requires-clause-process
+take_reply-requires-clause-process g c =
+    let e = g.E.Engine in
+    let engine = c.args.engine.now in
+    let m = e.meaning engine in
+    let first = progress c.args.shared.now.cell c.args.q.now c.args.spent.now in
+    in_processes m (e.lawful engine) (e.fits engine) (e.ready engine) (e.effect engine) (g.met.E.Engine.law engine) c.args.z c.args.p _ c.requires.object
 
 pub take_reply-requires-clause-in_range : goal.take_reply-requires-clause-in_range
 take_reply-requires-clause-in_range g c =
     let e = g.E.Engine in
     let engine = c.args.engine.now in
     let m = e.meaning engine in
-    let first = progress c.args.shared.now.cell c.args.q.now (outside_more c.args.spent.now c.args.outside.now) in
+    let first = progress c.args.shared.now.cell c.args.q.now c.args.spent.now in
     let here = in_object_so m (e.lawful engine) (e.fits engine) (e.ready engine) (e.effect engine) (g.met.E.Engine.law engine) c.args.z c.args.p c.loop-count.count first _ c.requires.object c.loop-count.invariant.leads in
     in_range m (e.lawful engine) (e.fits engine) (e.ready engine) (e.effect engine) (g.met.E.Engine.law engine) c.args.z c.args.p _ here
 
-pub loop-count-preserved : goal.loop-count-preserved
-loop-count-preserved g c =
-    let m = g.E.Engine.meaning c.args.engine.now in
-    let z = c.args.z in
-    let p = c.args.p in
-    let x = c.args.spent.now in
-    let k = c.loop-count.count in
-    let h = c.loop-count.invariant in
-    let first = progress c.args.shared.now.cell c.args.q.now (outside_more x c.args.outside.now) in
-    let here = progress c.args.shared.now.cell c.loop-count.q (outside_more x c.loop-count.outside) in
-    let inside : c.q.inside.label ≡ Take = search (rules, c.if-eq.true) in
-    let is : c.loop-count.q.label ≡ Take = rw (← c.q.view_is) inside in
-    let row = plain_row m z p Take c.args.shared.now.cell c.args.shared.now.cell c.loop-count.q c.take_reply.new.q x c.loop-count.outside (c.loop-count.outside + 1) 1 refl is refl refl refl c.take_reply.ensures in
-    record {
-      few = omega arith;
-      outside = omega (arith, h.outside);
-      leads = rows_more m z p k 1 first here _ h.leads row;
-      unmarked = unmarked_more m z p k 1 first here h.leads h.unmarked (plain_row_unmarked m z p Take c.args.shared.now.cell c.loop-count.q (outside_more x c.loop-count.outside) 1 refl is refl);
-    }
+pub count_outside-requires : goal.count_outside-requires
+count_outside-requires g c =
+    let e = g.E.Engine in
+    let engine = c.args.engine.now in
+    let m = e.meaning engine in
+    let first = progress c.args.shared.now.cell c.args.q.now c.args.spent.now in
+    let here = in_object_so m (e.lawful engine) (e.fits engine) (e.ready engine) (e.effect engine) (g.met.E.Engine.law engine) c.args.z c.args.p c.loop-count.count first _ c.requires.object c.loop-count.invariant.leads in
+    omega (arith, room_outside m (e.lawful engine) (e.fits engine) (e.ready engine) (e.effect engine) (g.met.E.Engine.law engine) c.args.z c.args.p _ here)

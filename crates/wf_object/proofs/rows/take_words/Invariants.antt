@@ -1,4 +1,4 @@
-use Rattle.std.proofs.Common.{◌≡◌, ◌+◌, ◌-◌, ◌≤◌}
+use Rattle.std.proofs.Common.{◌≡◌, ◌-◌, ◌≤◌}
 use Rattle.wf_object.specs.Progress.{AreUnmarked, by_rows, outside_more, progress}
 use Rattle.wf_object.proofs.rows.take_words.Given as goal
 
@@ -7,9 +7,9 @@ abbrev pub invariant-loop-count : goal.invariant-loop-count
 invariant-loop-count g l =
     record {
       few : l.count ≤ l.most;
-      outside : l.outside ≤ l.initial.outside + l.count;
-      leads : progress l.shared.cell l.q (outside_more l.spent l.outside) ≡ by_rows (g.E.Engine.meaning l.engine) l.z l.p l.count (progress l.shared.cell l.initial.q (outside_more l.spent l.initial.outside));
-      unmarked : AreUnmarked (g.E.Engine.meaning l.engine) l.z l.p l.count (progress l.shared.cell l.initial.q (outside_more l.spent l.initial.outside));
+      form : l.shared.form ≡ l.initial.shared.form;
+      leads : progress l.shared.cell l.q (outside_more l.spent l.count) ≡ by_rows (g.E.Engine.meaning l.engine) l.z l.p l.count (progress l.initial.shared.cell l.initial.q l.spent);
+      unmarked : AreUnmarked (g.E.Engine.meaning l.engine) l.z l.p l.count (progress l.initial.shared.cell l.initial.q l.spent);
     }
 
 abbrev pub decreases-loop-count : goal.decreases-loop-count

@@ -25,7 +25,7 @@ use Rattle.wf_object.specs.Shown.{spent_by, state_of}
 use Rattle.wf_object.proofs.Keeps.{step_kept}
 use Rattle.wf_object.proofs.Spends.{bodies_room, inside_room, outside_room, later}
 use Rattle.wf_object.proofs.OneStep.{some_at}
-use Rattle.wf_object.proofs.machine.Machine.step_loudly.Goals as goal
+use Rattle.wf_object.proofs.machine.Machine.take_loudly.Goals as goal
 
 pub show_step-requires-clause-in_range : goal.show_step-requires-clause-in_range
 show_step-requires-clause-in_range g c =
