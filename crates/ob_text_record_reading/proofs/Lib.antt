@@ -9,3 +9,4 @@ mod Fronts
 pub mod FirstLines
 pub mod Numbers
 pub mod NothingSaid
+pub mod WrittenWords

@@ -1,5 +1,5 @@
 -- A line that says nothing, where nothing has to be said.
-use Rattle.std.proofs.Common.{◌≡◌, ℕ, Bool, true, false, List, [], ◌∷◌, length, refl, arith}
+use Rattle.std.proofs.Common.{◌≡◌, ℕ, Bool, true, false, List, [], ◌∷◌, length, arith}
 use Rattle.ob_interface.specs.declared.export.Formal.{Formal}
 use Rattle.ob_interface.specs.declared.scalar.Scalar.{Scalar}
 use Rattle.ob_text_exports.specs.Values as Values

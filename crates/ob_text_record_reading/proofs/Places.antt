@@ -1,6 +1,7 @@
 -- Lines read one after the other.
 use Rattle.std.proofs.Common.{◌≡◌, ◌∙◌, ℕ, ◌+◌, ◌<◌, zero, suc, List, [], ◌∷◌, ◌++◌, All, length, refl, sym, ap, subst, arith, append_assoc, append-nil, length-append}
-use Rattle.ob_text_record_reading.specs.LineReading.{FailsBehind, IsFirstOther, SaysNothing}
+use Rattle.ob_text_record_reading.specs.LineReading as Reading
+use Rattle.ob_text_record_reading.specs.LineReading.{FailsBehind, IsFirstOther, LeadsOn, SaysNothing}
 use Rattle.ob_text_record_reading.specs.RecordLines.{AreLines, IsApplied, IsNextEvent, IsOrder, IsTail, Line}
 use Rattle.ob_interface.specs.Call.{ObjectCall, Reply}
 use Rattle.ob_interface.specs.Export.{Signature}
@@ -61,6 +62,9 @@ module _ (processes : ℕ) (signatures : List Signature) (head : ℕ) where
   pub number_within : (all left : List Line) (b : List (Event ObjectCall Reply)) (number : ℕ) → ReadTo all left b number → number + length left ≡ head + length all
   number_within all left b number r = let long = ap length r.parts ∙ length-append r.before left in omega (arith, long, r.counted)
 
+  pub read_same : (all left : List Line) (b c : List (Event ObjectCall Reply)) (number : ℕ) → ReadTo all left b number → c ≡ b → ReadTo all left c number
+  read_same all left b c number r is = rw is r
+
   -- there is one more line
   module _ (all left rest : List Line) (line : Line) (b : List (Event ObjectCall Reply)) (number : ℕ) (r : ReadTo all left b number) (is : left ≡ line ∷ rest) where
     read_parts : all ≡ r.before ++ line ∷ rest
@@ -86,6 +90,10 @@ module _ (processes : ℕ) (signatures : List Signature) (head : ℕ) where
           so_far = joined processes signatures r.so_far (applied h nothing);
           counted = counted_on;
         }
+
+    pub one_line_more : {c : List (Event ObjectCall Reply)} → LeadsOn processes signatures b line c → ReadTo all rest c (number + 1)
+    one_line_more (Reading.event h) = event_more h
+    one_line_more (Reading.applied h) = applied_more h
 
     pub no_line : SaysNothing processes signatures b line → FailsBehind processes signatures head all (number + 1)
     no_line s =

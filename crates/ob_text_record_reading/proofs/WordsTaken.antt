@@ -1,5 +1,5 @@
 -- Words and names of calls that are taken off a line.
-use Rattle.std.proofs.Common.{◌≡◌, ℕ, ◌+◌, ◌-◌, ◌<◌, ◌≤◌, ◌^◌, ◌==◌, Bool, ◌&&◌, true, false, not, Option, Some, None, IsTrue, List, [], ◌∷◌, ◌++◌, length, filter, take, drop, get_or, refl, sym, ◌∙◌, ap, subst, arith, append_assoc, append-nil, zero-add, zero, suc}
+use Rattle.std.proofs.Common.{◌≡◌, ℕ, ◌+◌, ◌-◌, ◌<◌, ◌≤◌, ◌^◌, ◌==◌, Bool, ◌&&◌, true, false, not, Some, None, List, [], ◌∷◌, ◌++◌, length, filter, take, drop, get_or, refl, sym, ◌∙◌, ap, subst, arith, append_assoc, append-nil, zero-add, zero, suc}
 use Rattle.std.specs.Char.{is_ascii_digit, digit_value}
 use Rattle.std.specs.List.{All, list_all, position, slice_split}
 use Rattle.std.proofs.lemmas.Bool.{false≢true}
@@ -10,13 +10,13 @@ use Rattle.std.proofs.lemmas.List.Splits.{slice_split_at, slice_split_none}
 use Rattle.std.proofs.lemmas.Grind.{common_steps}
 use Rattle.std.proofs.lemmas.Bool.Decides.{nat_tests}
 use Rattle.ob_scan.specs.Spelling.{number_value}
-use Rattle.ob_text_words.specs.Words.{IsNumeral, Word, is_blank, words}
+use Rattle.ob_text_words.specs.Words.{Word, is_blank, words}
 use Rattle.ob_text_record_reading.specs.LineReading.{EndsWord, TakesId, TakesNoId}
 use Rattle.ob_text_record_reading.specs.RecordLines.{AreIds, IsId, id, more, none}
 use Rattle.ob_text_record_reading.proofs.FirstLines.{only_part, part_at}
 use Rattle.wf_history.specs.declared.event.CallId.{CallId}
 
-abbrev HasNoBlank : List ℕ → Type 0
+abbrev pub HasNoBlank : List ℕ → Type 0
 HasNoBlank bytes = All (λ b. is_blank b ≡ false) bytes
 
 -- those that are something
@@ -36,10 +36,10 @@ keeps (b ∷ w) ws h =
     let something : not (length (b ∷ w) == 0) ≡ true = grind (arith, nat_tests) in
     rw something refl
 
-word_then : (w : Word) (b : ℕ) (rest : List ℕ) → HasNoBlank w → 1 ≤ length w → is_blank b ≡ true → words (w ++ b ∷ rest) ≡ w ∷ words rest
+pub word_then : (w : Word) (b : ℕ) (rest : List ℕ) → HasNoBlank w → 1 ≤ length w → is_blank b ≡ true → words (w ++ b ∷ rest) ≡ w ∷ words rest
 word_then w b rest whole long blank = ap some_words (slice_split_at is_blank w b rest whole blank) ∙ keeps w (slice_split is_blank rest) long
 
-word_alone : (w : Word) → HasNoBlank w → 1 ≤ length w → words w ≡ w ∷ []
+pub word_alone : (w : Word) → HasNoBlank w → 1 ≤ length w → words w ≡ w ∷ []
 word_alone w whole long = ap some_words (slice_split_none is_blank w whole) ∙ keeps w [] long
 
 -- a text that begins with no blank
@@ -101,14 +101,14 @@ ends_last text count some is =
           ∙ word_alone (front ++ take count text) whole (front_long front text count some (omega arith));
     }
 
-both : (a b : Bool) → (a && b) ≡ true → (a ≡ true) × (b ≡ true)
+pub both : (a b : Bool) → (a && b) ≡ true → (a ≡ true) × (b ≡ true)
 both true b h = (refl, h)
 both false b h = absurd (false≢true h)
 
 digit_no_blank : (d : ℕ) → is_ascii_digit d ≡ true → is_blank d ≡ false
 digit_no_blank d h = grind (arith, nat_tests)
 
-digit_is : (d : ℕ) → is_ascii_digit d ≡ true → digit_value d ≡ d - 48
+pub digit_is : (d : ℕ) → is_ascii_digit d ≡ true → digit_value d ≡ d - 48
 digit_is d h = grind (arith, nat_tests)
 
 digits_no_blank : (ds : List ℕ) → list_all is_ascii_digit ds ≡ true → HasNoBlank ds

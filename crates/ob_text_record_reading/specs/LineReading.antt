@@ -1,5 +1,5 @@
 -- What is read of one line behind a record's head, and of all of them.
-use Rattle.std.specs.Prelude.{◌≡◌, ℕ, ◌+◌, List, [], ◌∷◌, ◌++◌, ◌≤◌, length, map, take, false, All, Option, Some, None}
+use Rattle.std.specs.Prelude.{◌≡◌, ℕ, ◌+◌, List, [], ◌∷◌, ◌++◌, ◌≤◌, ◌==◌, ◌||◌, length, map, take, codes, Bool, false, All, Option, Some, None}
 use Rattle.std.specs.Borrow.{Bor}
 use Rattle.ob_interface.specs.Call.{ObjectCall, Reply}
 use Rattle.ob_interface.specs.Export.{Signature}
@@ -47,6 +47,50 @@ pub record EndsWord (text : List ℕ) (count : ℕ) (rest : List ℕ) : Type 0 w
   pub some : 1 ≤ count
   pub shorter : length rest ≤ length text
   pub ends : (front : List ℕ) → All (λ b. is_blank b ≡ false) (front ++ take count text) → words (front ++ text) ≡ (front ++ take count text) ∷ words rest
+
+-- what ends a word of a text: a blank or a line feed
+abbrev pub ends_word : ℕ → Bool
+ends_word b = is_blank b || (b == 10)
+
+-- a text begins with the name of a call, and this stands behind it
+pub record BeginsWithId (processes : ℕ) (text : List ℕ) (i : CallId) (behind : List ℕ) : Type 0 where
+  pub word : Word
+  pub names : IsId processes word i
+  pub parts : text ≡ word ++ behind
+
+-- a text begins with a byte, a space and the name of a call, and this stands behind it
+pub record BeginsLine (processes : ℕ) (text : List ℕ) (kind : ℕ) (i : CallId) (behind : List ℕ) : Type 0 where
+  pub line : List ℕ
+  pub parts : text ≡ kind ∷ 32 ∷ line
+  pub named : BeginsWithId processes line i behind
+
+-- the first line of a text begins with a word, and this stands behind it
+abbrev pub BeginsWithWord : List ℕ → Word → List ℕ → Type 0
+BeginsWithWord text word behind = (l : Line) (ls : List Line) → map words (lines behind) ≡ l ∷ ls → map words (lines text) ≡ (word ∷ l) ∷ ls
+
+module _ (processes : ℕ) (signatures : List Signature) (before : List (Event ObjectCall Reply)) where
+  -- behind these events, a line leads to those
+  pub data LeadsOn (line : Line) : List (Event ObjectCall Reply) → Type 0 where
+    event : {e : Event ObjectCall Reply} → IsNextEvent processes signatures before line e → LeadsOn line (before ++ e ∷ [])
+    applied : IsApplied processes line → LeadsOn line before
+
+  -- the first line of a text leads to those events, and this stands behind it
+  pub record TakesLine (text : List ℕ) (after : List (Event ObjectCall Reply)) (rest : List ℕ) : Type 0 where
+    pub line : Line
+    pub parts : map words (lines text) ≡ line ∷ map words (lines rest)
+    pub leads : LeadsOn line after
+
+  -- behind a B and the name of a call, the first line of a text says how that call begins
+  pub record TakesBegin (i : CallId) (text : List ℕ) (after : List (Event ObjectCall Reply)) (rest : List ℕ) : Type 0 where
+    pub line : Line
+    pub parts : map words (lines text) ≡ line ∷ map words (lines rest)
+    pub leads : (word : Word) → IsId processes word i → LeadsOn (codes "B" ∷ word ∷ line) after
+
+  -- behind an E and the name of a call, the first line of a text says how that call ends
+  pub record TakesEnd (i : CallId) (text : List ℕ) (after : List (Event ObjectCall Reply)) (rest : List ℕ) : Type 0 where
+    pub line : Line
+    pub parts : map words (lines text) ≡ line ∷ map words (lines rest)
+    pub leads : (word : Word) → IsId processes word i → LeadsOn (codes "E" ∷ word ∷ line) after
 
 module _ (processes : ℕ) (signatures : List Signature) where
   module _ (before : List (Event ObjectCall Reply)) (line : Line) where

@@ -2,6 +2,7 @@
 #![tactic(auto)]
 
 mod calls;
+mod front;
 mod head;
 mod id;
 mod line;
@@ -9,5 +10,6 @@ mod number;
 pub mod reading;
 mod splitting;
 mod taking;
+mod written;
 
 pub use reading::{ReadRecord, RecordFault, read_record};

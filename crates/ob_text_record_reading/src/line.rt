@@ -44,7 +44,8 @@ pub(crate) enum Line {
 }
 
 /// What a line says behind the events so far; `None` where it may not stand there. Words that say values are put in place of
-/// those that the list has.
+/// those that the list has. It stands apart, since most lines are read as runs write them.
+#[inline(never)]
 pub(crate) fn read_line<'a>(
     alloc: Global,
     exports: &[Export],
@@ -192,10 +193,8 @@ fn read_done<'a>(
 }
 
 /// The values that a line says for the parameters of one mode, VAR or not; `None` where they don't fit. Its words are put in
-/// place of those that the list has, unless nothing is said and nothing has to be.
-#[inline(always)]
-#[tactic(auto, using(crate::proofs::NothingSaid::nothing_said))]
-fn values_in<'a>(
+/// place of those that the list has.
+pub(crate) fn values_in<'a>(
     alloc: Global,
     formals: &[Formal],
     is_var: bool,
@@ -206,15 +205,12 @@ fn values_in<'a>(
         ((values : List Scalars.Scalar) → AreValues (types_of is_var formals.now) (words line.now) values → ⊥)
         (λ values. AreValues (types_of is_var formals.now) (words line.now) values.items)) }
 {
-    if formals.is_empty() && line.is_empty() {
-        return Ok(Some(SmallVec::new(alloc)));
-    }
     put_words(list, line)?;
     read_values(alloc, formals, is_var, list)
 }
 
 /// The export of a number.
-fn export_at(exports: &[Export], number: usize) -> Option<&Export>
+pub(crate) fn export_at(exports: &[Export], number: usize) -> Option<&Export>
     ensures { option_map (λ e. signature_of e.now) result ≡ slice_get (map signature_of exports.now) number }
 {
     exports.get(number)

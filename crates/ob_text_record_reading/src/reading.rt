@@ -14,6 +14,7 @@ use crate::calls::Calls;
 use crate::head::{Version, read_budget, read_count, read_title};
 use crate::line::{Line, read_line};
 use crate::splitting::{first_other, split_line, without_last_feed};
+use crate::written::take_written;
 use ob_checked::checked::Checked;
 use ob_interface::NoMemory;
 use ob_interface::export::Export;
@@ -166,6 +167,11 @@ fn read_events<'a>(
     let mut left = behind;
     let mut number = head;
     while let Some(text) = left {
+        if let Some(behind) = take_written(alloc, exports, calls, text, list)? {
+            number += 1;
+            left = Some(behind);
+            continue;
+        }
         let (line, rest) = split_line(text);
         number += 1;
         let Some(said) = read_line(alloc, exports, calls, line, list)? else {

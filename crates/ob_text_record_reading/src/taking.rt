@@ -101,7 +101,7 @@ fn take_short_id(processes: usize, line: &[u8]) -> Option<(CallId, &[u8])>
 
 /// The number that the first digits of a text spell, few at most, and how many they are.
 #[inline(always)]
-fn front_number(text: &[u8]) -> (u64, usize)
+pub(crate) fn front_number(text: &[u8]) -> (u64, usize)
     ensures within { result.1 ≤ length text.now }
     ensures digits { IsTrue (list_all is_ascii_digit (take result.1 text.now)) }
     ensures spells { number_value (take result.1 text.now) ≡ result.0 }

@@ -1,4 +1,4 @@
-use Rattle.std.proofs.Common.{◌≡◌, ◌∷◌, ◌∙◌, sym}
+use Rattle.std.proofs.Common.{◌∙◌, sym}
 use Rattle.std.proofs.lemmas.Bool.{false≢true}
 use Rattle.ob_text_record_reading.specs.RecordLines.{begin}
 use Rattle.ob_text_record_reading.proofs.OneEvent.{no_arguments, no_begin, no_name}

@@ -1,4 +1,3 @@
-use Rattle.std.proofs.Common.{◌≡◌, ◌∷◌}
 use Rattle.ob_text_record_reading.proofs.OneEvent.{ended, no_end, no_reply}
 use Rattle.ob_text_record_reading.proofs.line.read_end.Goals as goal
 

@@ -1,4 +1,4 @@
-use Rattle.std.proofs.Common.{◌≡◌, ◌∷◌, codes, arith}
+use Rattle.std.proofs.Common.{◌≡◌, codes, arith}
 use Rattle.std.proofs.lemmas.Grind.{common_steps}
 use Rattle.ob_text_record_reading.proofs.OneEvent.{applied_read, order_read}
 use Rattle.ob_text_record_reading.proofs.line.read_line.Goals as goal
