@@ -54,6 +54,7 @@ fn push_local(block: &[i64], stack: &mut Stack, fp: usize, word: u16) -> Answer
 }
 
 /// Pushes zeros.
+#[inline(always)]
 fn clear(stack: &mut Stack, count: usize) -> Answer
     ensures { LeavesStack result stack.old stack.new (Effects.cleared stack.old.reserve count stack.old.words) }
 {
