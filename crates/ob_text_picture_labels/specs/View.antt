@@ -2,15 +2,15 @@
 use Rattle.std.specs.Prelude.{option_map}
 use Rattle.ob_text_picture_labels.specs.Bars as Bars
 use Rattle.ob_text_picture_labels.specs.declared.bar.Bar.{Bar}
-use Rattle.wf_history.specs.View.{kept_call, kept_reply}
+use Rattle.wf_history.specs.View.{seen_call, seen_reply}
 
 abbrev pub bar_in : Bar → Bars.Bar
 bar_in b =
     record {
       id = b.id;
-      call = kept_call b.call.now;
+      call = seen_call b.call;
       begin = b.begin;
       end = b.end;
-      reply = option_map (λ r. kept_reply r.now) b.reply;
+      reply = option_map seen_reply b.reply;
       next = b.next;
     }

@@ -4,20 +4,20 @@ ghost use Rattle.std.specs.Prelude.{◌≡◌, map, option_map};
 ghost use Rattle.ob_text_picture_chart.specs.View.{sight_of};
 ghost use Rattle.ob_text_picture_labels.specs.Bars.{bar_of, begin_of, end_of};
 ghost use Rattle.ob_text_picture_labels.specs.View.{bar_in};
-ghost use Rattle.wf_history.specs.View.{kept_call, kept_reply};
+ghost use Rattle.wf_history.specs.View.{seen_call, seen_reply};
 
 use ob_text_picture_chart::{Happening, Sight};
-use wf_history::{CallId, KeptCall, KeptReply};
+use wf_history::{CallId, SeenCall, SeenReply};
 
 /// A call from its begin on.
 #[derive(Clone, Copy)]
 pub struct Bar<'a> {
     pub id: CallId,
-    pub call: &'a KeptCall,
+    pub call: SeenCall<'a>,
     pub begin: usize,
     /// The column of its end, or of the end of the picture.
     pub end: usize,
-    pub reply: Option<&'a KeptReply>,
+    pub reply: Option<SeenReply<'a>>,
     /// The column in which its process begins its next call, or that of the end of the picture.
     pub next: usize,
 }
@@ -25,11 +25,11 @@ pub struct Bar<'a> {
 /// The bar of a call that begins, by what is seen behind that.
 pub fn bar_of<'a>(
     sight: &Sight,
-    call: &'a KeptCall,
+    call: SeenCall<'a>,
     behind: &[Sight<'a>],
     columns: usize,
 ) -> Bar<'a>
-    ensures { bar_in result ≡ bar_of columns (sight_of sight.now) (kept_call call.now) (map sight_of behind.now) }
+    ensures { bar_in result ≡ bar_of columns (sight_of sight.now) (seen_call call.entry) (map sight_of behind.now) }
 {
     let end = end_of(behind, sight.id);
     Bar {
@@ -43,8 +43,8 @@ pub fn bar_of<'a>(
 }
 
 /// The column in which a call ends, with its reply.
-fn end_of<'a>(sights: &[Sight<'a>], id: CallId) -> Option<(usize, &'a KeptReply)>
-    ensures { option_map (λ end. (end.0, kept_reply end.1.now)) result ≡ end_of id (map sight_of sights.now) }
+fn end_of<'a>(sights: &[Sight<'a>], id: CallId) -> Option<(usize, SeenReply<'a>)>
+    ensures { option_map (λ end. (end.0, seen_reply end.1)) result ≡ end_of id (map sight_of sights.now) }
 {
     for sight in sights {
         if let Happening::Ended(reply) = sight.happening

@@ -3,14 +3,14 @@
 ghost use Rattle.std.specs.Prelude.{◌≡◌, ◌++◌, OnOk, length, map, string_bytes};
 ghost use Rattle.ob_interface.specs.View.{signature_of};
 ghost use Rattle.ob_text_picture_labels.specs.Labels.{answer_words, call_words, front, head_words, id_words, name_words, reply_words, short, short_again, short_call, value_words};
-ghost use Rattle.wf_history.specs.View.{kept_call, kept_reply};
+ghost use Rattle.wf_history.specs.View.{seen_call, seen_reply};
 
 use ob_interface::export::Export;
 use ob_interface::scalar::Scalar;
 use ob_text_words::numbers::push_number;
 use ob_text_words::values::push_value;
 use std::alloc::{AllocError, Global};
-use wf_history::{CallId, KeptCall, KeptReply};
+use wf_history::{CallId, SeenCall, SeenReply};
 
 /// The id of a call, as `0.2` for the second call of process 0.
 #[tactic(auto, unfolding(crate::specs::Labels::id_words))]
@@ -24,8 +24,8 @@ pub fn push_id(text: &mut String, id: CallId) -> Result<(), AllocError>
 
 /// The name of a call's export.
 #[tactic(auto, unfolding(crate::specs::Labels::name_words))]
-fn name_of<'a>(exports: &'a [Export], call: &KeptCall) -> &'a str
-    ensures { result.now ≡ name_words (map signature_of exports.now) (kept_call call.now) }
+fn name_of<'a>(exports: &'a [Export], call: SeenCall) -> &'a str
+    ensures { result.now ≡ name_words (map signature_of exports.now) (seen_call call.entry) }
 {
     match exports.get(call.proc) {
         Some(export) => export.name.as_str(),
@@ -51,9 +51,9 @@ fn push_head(
     text: &mut String,
     exports: &[Export],
     id: CallId,
-    call: &KeptCall,
+    call: SeenCall,
 ) -> Result<(), AllocError>
-    ensures { OnOk result (string_bytes text.new ≡ string_bytes text.old ++ head_words (map signature_of exports.now) id (kept_call call.now)) }
+    ensures { OnOk result (string_bytes text.new ≡ string_bytes text.old ++ head_words (map signature_of exports.now) id (seen_call call.entry)) }
 {
     push_id(text, id)?;
     text.push_str(" ")?;
@@ -66,9 +66,9 @@ pub fn push_call(
     text: &mut String,
     exports: &[Export],
     id: CallId,
-    call: &KeptCall,
+    call: SeenCall,
 ) -> Result<(), AllocError>
-    ensures { OnOk result (string_bytes text.new ≡ string_bytes text.old ++ call_words (map signature_of exports.now) id (kept_call call.now)) }
+    ensures { OnOk result (string_bytes text.new ≡ string_bytes text.old ++ call_words (map signature_of exports.now) id (seen_call call.entry)) }
 {
     push_head(text, exports, id, call)?;
     push_values(text, call.args.lent().as_slice())
@@ -76,35 +76,35 @@ pub fn push_call(
 
 /// A reply: its values, or its trap.
 #[tactic(auto, unfolding(crate::specs::Labels::reply_words))]
-pub fn push_reply(text: &mut String, reply: &KeptReply) -> Result<(), AllocError>
-    ensures { OnOk result (string_bytes text.new ≡ string_bytes text.old ++ reply_words (kept_reply reply.now)) }
+pub fn push_reply(text: &mut String, reply: SeenReply) -> Result<(), AllocError>
+    ensures { OnOk result (string_bytes text.new ≡ string_bytes text.old ++ reply_words (seen_reply reply.entry)) }
 {
     match reply {
-        KeptReply::Done(values) => {
+        SeenReply::Done(values) => {
             text.push_str("done")?;
             push_values(text, values.lent().as_slice())
         }
-        KeptReply::Trap(trap) => {
+        SeenReply::Trap(trap) => {
             text.push_str("trap ")?;
-            push_number(text, *trap)
+            push_number(text, trap)
         }
     }
 }
 
 /// A reply by its values alone, where it has some.
 #[tactic(auto, unfolding(crate::specs::Labels::answer_words))]
-pub(crate) fn push_answer_words(text: &mut String, reply: &KeptReply) -> Result<(), AllocError>
-    ensures { OnOk result (string_bytes text.new ≡ string_bytes text.old ++ answer_words (kept_reply reply.now)) }
+pub(crate) fn push_answer_words(text: &mut String, reply: SeenReply) -> Result<(), AllocError>
+    ensures { OnOk result (string_bytes text.new ≡ string_bytes text.old ++ answer_words (seen_reply reply.entry)) }
 {
     match reply {
-        KeptReply::Done(values) if values.is_empty() => text.push_str("done"),
-        KeptReply::Done(values) => {
+        SeenReply::Done(values) if values.is_empty() => text.push_str("done"),
+        SeenReply::Done(values) => {
             text.push_str("=")?;
             push_values(text, values.lent().as_slice())
         }
-        KeptReply::Trap(trap) => {
+        SeenReply::Trap(trap) => {
             text.push_str("trap ")?;
-            push_number(text, *trap)
+            push_number(text, trap)
         }
     }
 }
@@ -113,10 +113,10 @@ pub(crate) fn push_answer_words(text: &mut String, reply: &KeptReply) -> Result<
 pub fn push_short_answer(
     alloc: Global,
     text: &mut String,
-    reply: &KeptReply,
+    reply: SeenReply,
     room: u128,
 ) -> Result<(), AllocError>
-    ensures { OnOk result (string_bytes text.new ≡ string_bytes text.old ++ short room (answer_words (kept_reply reply.now))) }
+    ensures { OnOk result (string_bytes text.new ≡ string_bytes text.old ++ short room (answer_words (seen_reply reply.entry))) }
 {
     let mut whole = String::new(alloc);
     push_answer_words(&mut whole, reply)?;
@@ -130,10 +130,10 @@ pub fn push_short_again(
     text: &mut String,
     exports: &[Export],
     id: CallId,
-    call: &KeptCall,
+    call: SeenCall,
     room: u128,
 ) -> Result<(), AllocError>
-    ensures { OnOk result (string_bytes text.new ≡ string_bytes text.old ++ short_again room (map signature_of exports.now) id (kept_call call.now)) }
+    ensures { OnOk result (string_bytes text.new ≡ string_bytes text.old ++ short_again room (map signature_of exports.now) id (seen_call call.entry)) }
 {
     let mut whole = String::new(alloc);
     push_call(&mut whole, exports, id, call)?;
@@ -152,10 +152,10 @@ pub fn push_short_call(
     text: &mut String,
     exports: &[Export],
     id: CallId,
-    call: &KeptCall,
+    call: SeenCall,
     room: u128,
 ) -> Result<(), AllocError>
-    ensures { OnOk result (string_bytes text.new ≡ string_bytes text.old ++ short_call room (map signature_of exports.now) id (kept_call call.now)) }
+    ensures { OnOk result (string_bytes text.new ≡ string_bytes text.old ++ short_call room (map signature_of exports.now) id (seen_call call.entry)) }
 {
     let mut whole = String::new(alloc);
     push_call(&mut whole, exports, id, call)?;

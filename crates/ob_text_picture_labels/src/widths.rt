@@ -5,14 +5,14 @@ ghost use Rattle.ob_interface.specs.View.{signature_of};
 ghost use Rattle.ob_text_picture_chart.specs.View.{sight_of};
 ghost use Rattle.ob_text_picture_labels.specs.View.{bar_in};
 ghost use Rattle.ob_text_picture_labels.specs.Widths.{most_letters, wanted, width_at, width_for, words_below};
-ghost use Rattle.wf_history.specs.View.{kept_reply};
+ghost use Rattle.wf_history.specs.View.{seen_reply};
 
 use crate::bar::{Bar, bar_of};
 use crate::labels::{push_answer_words, push_call};
 use ob_interface::export::Export;
 use ob_text_picture_chart::{Happening, Sight};
 use std::alloc::{AllocError, Global};
-use wf_history::KeptReply;
+use wf_history::SeenReply;
 
 /// The width of a letter.
 pub const LETTER: u128 = 7;
@@ -85,8 +85,8 @@ pub fn most_letters(alloc: Global, exports: &[Export], bar: &Bar) -> Result<usiz
 }
 
 /// The words below a bar: none without a reply.
-fn push_words_below(text: &mut String, reply: Option<&KeptReply>) -> Result<(), AllocError>
-    ensures { OnOk result (string_bytes text.new ≡ string_bytes text.old ++ words_below (option_map (λ r. kept_reply r.now) reply.entry)) }
+fn push_words_below(text: &mut String, reply: Option<SeenReply>) -> Result<(), AllocError>
+    ensures { OnOk result (string_bytes text.new ≡ string_bytes text.old ++ words_below (option_map seen_reply reply.entry)) }
 {
     match reply {
         Some(reply) => push_answer_words(text, reply),

@@ -9,7 +9,7 @@ ghost use Rattle.wf_history.specs.View.{kept_call, kept_reply};
 use ob_interface::NoMemory;
 use std::alloc::{AllocError, Global};
 use std::marker::Model;
-use wf_history::{CallId, Event, History, KeptCall, KeptReply};
+use wf_history::{CallId, History, KeptCall, KeptReply};
 
 /// Where a process stands in its calls.
 #[derive(Clone, Copy)]
@@ -94,7 +94,7 @@ impl Calls {
         ensures { OnOk result ((self.new.events ≡ self.old.events ++ Begin id (kept_call call) ∷ []) × (self.new.processes ≡ self.old.processes)) }
     {
         let proc = call.proc;
-        self.history.push(Event::Begin(id, call))?;
+        self.history.push_begin(id, call)?;
         self.seats[id.process] = Seat {
             begun: id.number,
             pending: Some(proc),
@@ -108,7 +108,7 @@ impl Calls {
         requires next { IsHistory (self.old.events ++ End id (kept_reply reply) ∷ []) }
         ensures { OnOk result ((self.new.events ≡ self.old.events ++ End id (kept_reply reply) ∷ []) × (self.new.processes ≡ self.old.processes)) }
     {
-        self.history.push(Event::End(id, reply))?;
+        self.history.push_end(id, reply)?;
         self.seats[id.process] = Seat {
             begun: id.number,
             pending: None,
