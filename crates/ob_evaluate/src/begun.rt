@@ -38,10 +38,21 @@ fn copies(alloc: Global, count: usize, value: &Value) -> Result<Vec<Value>, Allo
     Ok(all)
 }
 
-/// What a variable of a type begins as. Arrays and records in the table consist of those before them.
-#[cycle(initial)]
+/// What a variable of a type begins as. Most are scalars, which take no call.
 #[inline]
 pub fn initial(alloc: Global, types: &Types, data_type: DataType) -> Result<Value, AllocError>
+    ensures { IfOk result (λ v. value_in v ≡ Values.initial (type_in (table_of types.now) data_type)) }
+{
+    match data_type {
+        DataType::Simple(scalar_type) => Ok(Value::Single(first_scalar(scalar_type))),
+        DataType::Structured(_) => initial_parts(alloc, types, data_type),
+    }
+}
+
+/// The same of any type. Arrays and records in the table consist of those before them.
+#[cycle(initial)]
+#[inline(never)]
+fn initial_parts(alloc: Global, types: &Types, data_type: DataType) -> Result<Value, AllocError>
     ensures { IfOk result (λ v. value_in v ≡ Values.initial (type_in (table_of types.now) data_type)) }
 {
     let number = match data_type {
@@ -52,7 +63,7 @@ pub fn initial(alloc: Global, types: &Types, data_type: DataType) -> Result<Valu
         None => Ok(Value::Single(Scalar::Int(0))),
         Some(structured) => match &structured.structure {
             Structure::Array { length, element } => {
-                let first = initial(alloc, types, *element)?;
+                let first = initial_parts(alloc, types, *element)?;
                 Ok(Value::Parts(copies(alloc, *length, &first)?))
             }
             Structure::Record { fields } => {
@@ -75,14 +86,32 @@ fn initial_fields(
 {
     let mut parts = Vec::with_capacity(alloc, fields.len())?;
     for field in fields {
-        let part = initial(alloc, types, field.1)?;
+        let part = initial_parts(alloc, types, field.1)?;
         parts.push(part)?;
     }
     Ok(parts)
 }
 
-/// An activation with variables at their beginning behind what it has.
+/// An activation with variables at their beginning behind what it has. Many procedures have none, which takes no call.
+#[inline]
 pub fn variables_begun(
+    alloc: Global,
+    types: &Types,
+    first: Vec<Held>,
+    variables: &[Variable],
+) -> Result<Vec<Held>, AllocError>
+    ensures { IfOk result (λ held. activation_in held
+        ≡ activation_in first ++ Statements.begun (map (variable_of (table_of types.now)) variables.now)) }
+{
+    if variables.is_empty() {
+        return Ok(first);
+    }
+    all_begun(alloc, types, first, variables)
+}
+
+/// The same of any number of variables.
+#[inline(never)]
+fn all_begun(
     alloc: Global,
     types: &Types,
     first: Vec<Held>,

@@ -47,7 +47,7 @@ fn store_begun(
     alloc: Global,
     program: &Program,
     procedure: &Procedure,
-    state: State,
+    mut state: State,
     arguments: &[Scalar],
 ) -> Result<Store, AllocError>
     ensures store { IfOk result (λ s. store_in s
@@ -55,16 +55,17 @@ fn store_begun(
     ensures begun { IfOk result (λ s. begun_in s ≡ state_of state) }
 {
     let parameters = procedure.parameters.as_slice();
-    let results = results_begun(alloc, &program.types, parameters)?;
-    let handed = outside_handed(alloc, &program.types, parameters, arguments)?;
+    let room = state.spare_activation();
+    let results = results_begun(alloc, &program.types, parameters, room)?;
+    let room = state.spare_activation();
+    let handed = outside_handed(alloc, &program.types, parameters, arguments, room)?;
     let own = variables_begun(
         alloc,
         &program.types,
         handed,
         procedure.variables.as_slice(),
     )?;
-    let others = vec![in alloc; results, own]?;
-    Ok(Store::new(alloc, state, others))
+    Store::begin(state, results, own)
 }
 
 /// The values of the results.

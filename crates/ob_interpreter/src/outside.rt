@@ -1,6 +1,6 @@
 //! What a call from outside begins with: its results, and what is handed to the procedure.
 
-ghost use Rattle.std.specs.Prelude.{◌≡◌, IfOk, map};
+ghost use Rattle.std.specs.Prelude.{◌≡◌, [], IfOk, map};
 ghost use Rattle.ob_checked.specs.View.{parameter_of, table_of};
 ghost use Rattle.ob_positions.specs.Object as Objects;
 ghost use Rattle.ob_store.specs.View.{activation_in};
@@ -17,16 +17,18 @@ use std::alloc::{AllocError, Global};
 /// Where the results of a call from outside stand in its store.
 pub const RESULTS: usize = 1;
 
-/// The results at their beginning: a place for each VAR parameter, 0 or FALSE throughout.
+/// The results at their beginning: a place for each VAR parameter, 0 or FALSE throughout. They are put into an empty list.
 pub fn results_begun(
     alloc: Global,
     types: &Types,
     parameters: &[Parameter],
+    room: Vec<Held>,
 ) -> Result<Vec<Held>, AllocError>
+    requires { activation_in room ≡ [] }
     ensures { IfOk result (λ held. activation_in held
         ≡ Objects.results_begun (map (parameter_of (table_of types.now)) parameters.now)) }
 {
-    let mut all = Vec::new(alloc);
+    let mut all = room;
     for parameter in parameters {
         if parameter.is_var {
             let value = initial(alloc, types, parameter.data_type)?;
@@ -37,17 +39,19 @@ pub fn results_begun(
 }
 
 /// What is handed over: to a value parameter its argument, or 0 where there is none, and to a VAR parameter the place
-/// of its result.
+/// of its result. It is put into an empty list.
 pub fn outside_handed(
     alloc: Global,
     types: &Types,
     parameters: &[Parameter],
     arguments: &[Scalar],
+    room: Vec<Held>,
 ) -> Result<Vec<Held>, AllocError>
+    requires { activation_in room ≡ [] }
     ensures { IfOk result (λ held. activation_in held
         ≡ Objects.outside_handed 0 (map (parameter_of (table_of types.now)) parameters.now) arguments.now) }
 {
-    let mut all = Vec::new(alloc);
+    let mut all = room;
     let mut values = arguments.iter();
     let mut results = 0;
     for parameter in parameters {

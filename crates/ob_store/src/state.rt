@@ -1,23 +1,34 @@
 //! States of a module's object.
 
+use crate::before::Listed;
+use crate::store::Held;
 use crate::value::{Value, copy_all};
 use std::alloc::{AllocError, Global};
 
 /// The values of the module's variables, in text order. Each variable has one of its own: none refers to a place.
 #[derive(Drop)]
 pub struct State {
-    values: Vec<Value>,
+    pub(crate) values: Vec<Value>,
+    /// What a call that is over has left: its activations and its listed writes say nothing more, but the next call uses
+    /// their memory.
+    pub(crate) others: Vec<Vec<Held>>,
+    pub(crate) writes: Vec<Listed>,
 }
 
 impl State {
-    ghost use Rattle.std.specs.Prelude.{◌≡◌, IfOk};
-    ghost use Rattle.ob_store.specs.View.{variables_in, state_of};
+    ghost use Rattle.std.specs.Prelude.{◌≡◌, [], IfOk};
+    ghost use Rattle.ob_store.specs.View.{activation_in, variables_in, state_of};
 
     /// The state of these values.
     pub fn new(values: Vec<Value>) -> State
         ensures { state_of result ≡ variables_in values.items }
     {
-        State { values }
+        let alloc = *values.allocator();
+        State {
+            values,
+            others: Vec::new(alloc),
+            writes: Vec::new(alloc),
+        }
     }
 
     /// The values, in text order.
@@ -32,6 +43,20 @@ impl State {
         ensures { variables_in result.items ≡ state_of self }
     {
         self.values
+    }
+
+    /// An empty activation for the next call, in memory that a call which is over had, where there is some left.
+    pub fn spare_activation(&mut self) -> Vec<Held>
+        ensures empty { activation_in result ≡ [] }
+        ensures kept { state_of self.new ≡ state_of self.old }
+    {
+        match self.others.pop() {
+            Some(mut spare) => {
+                spare.clear();
+                spare
+            }
+            None => Vec::new(*self.values.allocator()),
+        }
     }
 
     /// An equal state.

@@ -1,6 +1,6 @@
 //! Places and stores: what each variable stands for while a call runs.
 
-ghost use Rattle.std.specs.Prelude.{◌≡◌, ◌<◌, suc, [], ◌∷◌, ◌++◌, OnOk, OnErr, map, take};
+ghost use Rattle.std.specs.Prelude.{◌≡◌, ◌<◌, suc, [], ◌∷◌, ◌++◌, IfOk, OnOk, OnErr, map, take};
 ghost use Rattle.ob_typing.specs.Program.{Own};
 ghost use Rattle.ob_positions.specs.Store as Stores;
 ghost use Rattle.ob_positions.specs.Value as Values;
@@ -123,6 +123,28 @@ impl Store {
             others,
             before: Before::Writes(Vec::new(alloc)),
         }
+    }
+
+    /// The store of a call from outside that begins: the state of the module, and behind it two activations, the results
+    /// and the procedure's own. It uses the memory of the call before.
+    pub fn begin(state: State, results: Vec<Held>, own: Vec<Held>) -> Result<Store, AllocError>
+        ensures activations { IfOk result (λ s. store_in s ≡ state_of state ∷ (activation_in results ∷ (activation_in own ∷ []))) }
+        ensures begun { IfOk result (λ s. begun_in s ≡ state_of state) }
+    {
+        let State {
+            values,
+            mut others,
+            mut writes,
+        } = state;
+        others.clear();
+        writes.clear();
+        others.push(results)?;
+        others.push(own)?;
+        Ok(Store {
+            variables: values,
+            others,
+            before: Before::Writes(writes),
+        })
     }
 
     /// The activation of a number behind the module's, from 0; an empty one where there is none.
@@ -334,13 +356,23 @@ impl Store {
     pub fn into_state(self) -> State
         ensures { state_of result ≡ Stores.activation_at (store_in self) 0 }
     {
-        State::new(self.variables)
+        let alloc = *self.variables.allocator();
+        State {
+            values: self.variables,
+            others: self.others,
+            writes: self.before.into_writes(alloc),
+        }
     }
 
     /// The state of the module as it was when the call began.
     pub fn into_begun(self) -> State
         ensures { state_of result ≡ begun_in self }
     {
-        State::new(self.before.take_back(self.variables))
+        let writes = Vec::new(*self.variables.allocator());
+        State {
+            values: self.before.take_back(self.variables),
+            others: self.others,
+            writes,
+        }
     }
 }

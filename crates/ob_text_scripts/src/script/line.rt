@@ -1,6 +1,6 @@
 //! What a line of a script says.
 
-ghost use Rattle.std.specs.Prelude.{◌≡◌, ◌↔◌, ℕ, ◌∷◌, false, map, IsTrue, IfOk, IfErr, OnErr, MatchOption, List};
+ghost use Rattle.std.specs.Prelude.{◌≡◌, ◌↔◌, ℕ, [], ◌∷◌, true, false, map, IsTrue, IfOk, IfErr, OnErr, MatchOption, List};
 ghost use Rattle.ob_interface.specs.View.{signature_of};
 ghost use Rattle.ob_interface.specs.declared.scalar.Scalar as Scalars;
 ghost use Rattle.ob_text_exports.specs.Values.{AreValues, types_of};
@@ -80,7 +80,8 @@ fn read_call(
     })
 }
 
-/// The arguments that words say for parameters; `None` where they don't fit. Where there is nothing to say, nothing is read.
+/// The arguments that words say for parameters; `None` where they don't fit. Where no parameter takes a value and there is no
+/// word, nothing is read.
 #[inline]
 #[tactic(auto, using(crate::proofs::NothingSaid::nothing_said))]
 fn read_arguments(
@@ -92,13 +93,20 @@ fn read_arguments(
         ((values : List Scalars.Scalar) → AreValues (types_of false formals.now) (map (λ w. w.now) words.now) values → ⊥)
         (λ values. AreValues (types_of false formals.now) (map (λ w. w.now) words.now) values.items)) }
 {
-    if formals.is_empty() && words.is_empty() {
+    if words.is_empty() && take_no_value(formals) {
         return Ok(Some(SmallVec::new(alloc)));
     }
     let Some(args) = read_values(alloc, formals, false, words)? else {
         return Ok(None);
     };
     Ok(Some(SmallVec::from_slice(alloc, &args)?))
+}
+
+/// Whether parameters take no value: each is a VAR parameter.
+fn take_no_value(formals: &[Formal]) -> bool
+    ensures { result ≡ true → types_of false formals.now ≡ [] }
+{
+    formals.iter().all(|formal| formal.is_var)
 }
 
 /// Whether a first word says that its line is a comment.

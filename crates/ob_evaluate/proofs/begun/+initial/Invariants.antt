@@ -6,8 +6,8 @@ use Rattle.ob_positions.specs.Value as Values
 use Rattle.ob_evaluate.proofs.InitialValues.{rank, most}
 use Rattle.ob_evaluate.proofs.begun.+initial.Given as goal
 
-abbrev pub decreases-initial : goal.decreases-initial
-decreases-initial l = 2 * rank l.data_type
+abbrev pub decreases-initial_parts : goal.decreases-initial_parts
+decreases-initial_parts l = 2 * rank l.data_type
 
 abbrev pub decreases-initial_fields : goal.decreases-initial_fields
 decreases-initial_fields l = 2 * most l.fields.now + 1

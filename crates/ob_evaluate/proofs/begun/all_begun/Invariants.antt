@@ -2,7 +2,7 @@ use Rattle.std.proofs.Common.{◌≡◌, ◌++◌, map, drop}
 use Rattle.ob_checked.specs.View.{variable_of, table_of}
 use Rattle.ob_store.specs.View.{activation_in}
 use Rattle.ob_positions.specs.Statements.{begun}
-use Rattle.ob_evaluate.proofs.begun.variables_begun.Given as goal
+use Rattle.ob_evaluate.proofs.begun.all_begun.Given as goal
 
 -- what is begun so far, and the variables that are left
 abbrev pub invariant-loop-variable : goal.invariant-loop-variable
