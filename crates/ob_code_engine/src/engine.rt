@@ -7,7 +7,7 @@ ghost use Rattle.ob_meaning.specs.Object.{most_turns};
 
 use crate::entrance::{Entrance, are_same, copied, entrances, most_results, most_values};
 use crate::turns::turn_of;
-use crate::words::{lay, split, trap_in, values_of};
+use crate::words::{lay, reply_in, split, trap_in};
 use ob_checked::checked::Checked;
 use ob_code_layout::Layout;
 use ob_code_machine::{Body, Code};
@@ -15,8 +15,6 @@ use ob_code_well_formed::laws::checked_is_well_formed;
 use ob_interface::NoMemory;
 use ob_interface::call::{Call, Reply};
 use ob_interface::export::Formal;
-use ob_interface::scalar::Scalar;
-use smallvec::SmallVec;
 use std::alloc::Global;
 use std::marker::Model;
 use wf_object::{Engine, EngineTurn};
@@ -57,6 +55,8 @@ impl CodeEngine {
     ghost use Rattle.ob_code_law.specs.Parts.{IsCompiledTo};
     ghost use Rattle.ob_code_layout.specs.Layout as Layouts;
     ghost use Rattle.ob_code_scheme.specs.Scheme.{code_of};
+    ghost use Rattle.ob_interface.specs.Call.{Answers};
+    ghost use Rattle.ob_interface.specs.View.{reply_of};
     ghost use Rattle.ob_code_engine.specs.CodeEngine.{HasSameNumbers};
 
     /// The engine of a checked module, by its layout and its code, with a budget of turns for each call.
@@ -171,11 +171,11 @@ impl CodeEngine {
         }
     }
 
-    /// The values that words stand for as results of an export; none where there is no such export.
-    fn results_of(&self, number: usize, words: &[i64]) -> SmallVec<Scalar, 8>
-        ensures { result.items ≡ Words.values_of (Words.parameters_of (slice_get self.now.parts.exports number)) words.now }
+    /// The reply of a call of an export that has ended, from the words of its results; nothing where there is no such export.
+    fn reply_from(&self, number: usize, words: &[i64]) -> Reply
+        ensures { reply_of result ≡ Answers (Words.values_of (Words.parameters_of (slice_get self.now.parts.exports number)) words.now) }
     {
-        values_of(self.alloc, self.parameters_of(number), words)
+        reply_in(self.alloc, self.parameters_of(number), words)
     }
 }
 
@@ -260,7 +260,7 @@ impl Engine for CodeEngine {
         if status != 0 {
             return Reply::Trap(trap_in(status));
         }
-        Reply::Done(self.results_of(call.proc, results))
+        self.reply_from(call.proc, results)
     }
 
     ghost law = { λ e. parts_lawful e.parts e.compiled };

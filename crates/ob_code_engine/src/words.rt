@@ -1,12 +1,13 @@
 //! Calls and replies as words.
 
-ghost use Rattle.std.specs.Prelude.{◌≡◌, ◌<◌, ◌≤◌, ◌^◌, length, replicate, pos};
-ghost use Rattle.ob_interface.specs.View.{call_of};
+ghost use Rattle.std.specs.Prelude.{◌≡◌, ◌<◌, ◌≤◌, ◌+◌, ◌^◌, ◌++◌, length, replicate, pos};
+ghost use Rattle.ob_interface.specs.Call.{Answers};
+ghost use Rattle.ob_interface.specs.View.{call_of, reply_of};
 ghost use Rattle.ob_code_scheme.specs.Layout.{word};
 ghost use Rattle.ob_code_law.specs.CodeMeaning as Words;
 
 use ob_code_machine::Argument;
-use ob_interface::call::Call;
+use ob_interface::call::{Call, Reply};
 use ob_interface::export::Formal;
 use ob_interface::scalar::{Scalar, ScalarType};
 use smallvec::SmallVec;
@@ -87,12 +88,12 @@ fn scalar_in(scalar_type: ScalarType, word: i64) -> Scalar
     }
 }
 
-/// The values that words stand for, one for each VAR parameter.
-pub fn values_of(alloc: Global, parameters: &[Formal], words: &[i64]) -> SmallVec<Scalar, 8>
-    requires { length parameters.now ≤ 8 }
-    ensures { result.items ≡ Words.values_of parameters.now words.now }
+/// Pushes the values that words stand for, one for each VAR parameter.
+fn push_values(values: &mut SmallVec<Scalar, 8>, parameters: &[Formal], words: &[i64])
+    requires room { length values.old.items + length parameters.now ≤ 8 }
+    requires place { values.old.capacity ≡ 8 }
+    ensures { values.new.items ≡ values.old.items ++ Words.values_of parameters.now words.now }
 {
-    let mut values = SmallVec::new(alloc);
     let mut rest = words;
     for parameter in parameters {
         if parameter.is_var {
@@ -101,7 +102,30 @@ pub fn values_of(alloc: Global, parameters: &[Formal], words: &[i64]) -> SmallVe
             rest = others;
         }
     }
+}
+
+/// The values that words stand for, one for each VAR parameter.
+pub fn values_of(alloc: Global, parameters: &[Formal], words: &[i64]) -> SmallVec<Scalar, 8>
+    requires { length parameters.now ≤ 8 }
+    ensures { result.items ≡ Words.values_of parameters.now words.now }
+{
+    let mut values = SmallVec::new(alloc);
+    push_values(&mut values, parameters, words);
     values
+}
+
+/// The reply of a call that has ended: the values that words stand for. They are pushed where they stay, and where there is no
+/// parameter nothing is, so that few words are copied.
+pub fn reply_in(alloc: Global, parameters: &[Formal], words: &[i64]) -> Reply
+    requires { length parameters.now ≤ 8 }
+    ensures { reply_of result ≡ Answers (Words.values_of parameters.now words.now) }
+{
+    if parameters.is_empty() {
+        return Reply::Done(SmallVec::new(alloc));
+    }
+    let mut values = SmallVec::new(alloc);
+    push_values(&mut values, parameters, words);
+    Reply::Done(values)
 }
 
 /// The trap that a status stands for; 0 where it is no byte.
