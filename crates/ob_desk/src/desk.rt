@@ -91,7 +91,10 @@ impl<E: CodedEngine> TakeTurn for Desk<E> {
     /// Takes the lock for one turn of the seat's process. Where the floor has no such process the answer is that of a process
     /// without calls. Nothing changes on the seat where memory runs out.
     fn turn<R: Wait>(&self, rt: &R, seat: &mut Seat) -> Result<StepOut, NoMemory> {
-        let mut floor = enter(rt, &self.floor, seat);
+        let mut floor = match self.floor.try_lock() {
+            Some(floor) => floor,
+            None => wait_for(rt, &self.floor, seat),
+        };
         if seat.process() < floor.processes() {
             floor.turn(seat)
         } else {
@@ -102,26 +105,16 @@ impl<E: CodedEngine> TakeTurn for Desk<E> {
 
     /// The same turn, whose answer is found on the seat.
     fn advance<R: Wait>(&self, rt: &R, seat: &mut Seat) -> Result<Seen, NoMemory> {
-        let mut floor = enter(rt, &self.floor, seat);
+        let mut floor = match self.floor.try_lock() {
+            Some(floor) => floor,
+            None => wait_for(rt, &self.floor, seat),
+        };
         if seat.process() < floor.processes() {
             floor.advance(seat)
         } else {
             seat.pass();
             Ok(Seen::Halted)
         }
-    }
-}
-
-/// Takes the lock for a turn of the seat.
-#[inline(always)]
-fn enter<'a, E: CodedEngine, R: Wait>(
-    rt: &R,
-    floor: &'a Mutex<Floor<E>>,
-    seat: &Seat,
-) -> MutexGuard<'a, Floor<E>> {
-    match floor.try_lock() {
-        Some(guard) => guard,
-        None => wait_for(rt, floor, seat),
     }
 }
 

@@ -1,3 +1,4 @@
 pub mod Turns
 pub mod Submissions
 pub mod Floors
+mod Lasts

@@ -32,12 +32,17 @@ pub fn copied_submissions(
     Ok(copies)
 }
 
-/// An equal call.
+/// An equal call. Nothing is copied of arguments where there are none.
 pub fn copied_call(alloc: Global, call: &Call) -> Result<Call, AllocError>
     ensures { IfOk result (λ c. call_of c ≡ call_of call.now) }
 {
+    let args = if call.args.is_empty() {
+        SmallVec::new(alloc)
+    } else {
+        SmallVec::from_slice(alloc, call.args.as_slice())?
+    };
     Ok(Call {
         proc: call.proc,
-        args: SmallVec::from_slice(alloc, call.args.as_slice())?,
+        args,
     })
 }

@@ -1,7 +1,7 @@
 //! One worker.
 
-ghost use Rattle.std.specs.Prelude.{◌≡◌, ◌≢◌, ◌+◌, ◌<◌, ◌≤◌, ◌-◌, ◌^◌, Some};
-ghost use Rattle.ob_desk_workers.specs.Rounds.{AreRefused, HasWorked, IsLet};
+ghost use Rattle.std.specs.Prelude.{◌≡◌, ◌≢◌, ◌+◌, ◌<◌, ◌≤◌, ◌^◌, IfNone, Some};
+ghost use Rattle.ob_desk_workers.specs.Rounds.{AreLet, AreRefused, HasWorked, IsAfterTurns, IsLet};
 ghost use Rattle.ob_desk_workers.specs.declared.worker.Next.TheVariants as Next;
 ghost use Rattle.ob_desk_workers.specs.declared.worker.Ended.TheVariants as Ended;
 
@@ -94,22 +94,60 @@ pub fn work<R: Wait, D: TakeTurn, G: Gate>(
 {
     let mut refusals = 0u64;
     for _ in rt.forever() {
-        match ask(gate, limit, &seat, &mut refusals) {
-            Next::Turn => {
-                let turn = desk.advance(rt, &mut seat);
-                if let Some(ended) = end_of(gate, &seat, &mut told, turn) {
-                    let ended = told.send(rt, ended);
-                    return Worked { seat, ended };
-                }
-            }
-            Next::Ask => {}
-            Next::End(ended) => {
-                let ended = told.send(rt, ended);
-                return Worked { seat, ended };
-            }
+        let ended = work_on(rt, desk, gate, limit, &mut seat, &mut told, &mut refusals);
+        if let Some(ended) = ended {
+            let ended = told.send(rt, ended);
+            return Worked { seat, ended };
         }
     }
     unreachable!()
+}
+
+/// Goes on with that for as many rounds as the seat can count steps, so that no round has to ask how many it can. Answers how the
+/// worker ends, if it does.
+#[inline(always)]
+fn work_on<R: Wait, D: TakeTurn, G: Gate>(
+    rt: &R,
+    desk: &D,
+    gate: &G,
+    limit: u64,
+    seat: &mut Seat,
+    told: &mut Told,
+    refusals: &mut u64,
+) -> Option<Ended>
+    requires few { refusals.old < limit }
+    requires refused { AreRefused (G.refuses gate.now) seat.old refusals.old }
+    ensures seat { IsAfterTurns seat.old seat.new }
+    ensures are_let { AreLet (G.passes gate.now) limit seat.old → AreLet (G.passes gate.now) limit seat.new }
+    ensures are_refused { AreRefused (G.refuses gate.now) seat.new refusals.new }
+    ensures on { IfNone result (refusals.new < limit) }
+    ensures ends { result ≡ Some Ended.Refused → refusals.new ≡ limit }
+{
+    let rounds = rounds_of(seat);
+    if rounds == 0 {
+        return Some(Ended::Done);
+    }
+    for _ in 0..rounds {
+        match ask(gate, limit, seat, refusals) {
+            Next::Turn => {
+                let turn = desk.advance(rt, seat);
+                if let Some(ended) = end_of(gate, seat, told, turn) {
+                    return Some(ended);
+                }
+            }
+            Next::Ask => {}
+            Next::End => return Some(Ended::Refused),
+        }
+    }
+    None
+}
+
+/// How many rounds of a step each the seat can count: all that it can, or the most that 64 bits hold; none where it can count no more.
+fn rounds_of(seat: &Seat) -> u64
+    ensures { seat.now.turns + result < 2 ^ 128 }
+{
+    let left = u128::MAX - seat.turns();
+    left.min(u64::MAX as u128) as u64
 }
 
 /// What a worker does next.
@@ -118,8 +156,8 @@ enum Next {
     Turn,
     /// It asks the gate again.
     Ask,
-    /// It ends so.
-    End(Ended),
+    /// It ends as refused.
+    End,
 }
 
 /// Asks the gate for one more step of the seat's process.
@@ -127,21 +165,17 @@ enum Next {
 fn ask<G: Gate>(gate: &G, limit: u64, seat: &Seat, refusals: &mut u64) -> Next
     requires few { refusals.old < limit }
     requires refused { AreRefused (G.refuses gate.now) seat.now refusals.old }
-    ensures room { result ≡ Next.Turn → seat.now.turns < 2 ^ 128 - 1 }
     ensures is_let { result ≡ Next.Turn → IsLet (G.passes gate.now) limit seat.now.process seat.now.turns }
     ensures more { refusals.new ≤ refusals.old + 1 }
     ensures anew { result ≡ Next.Turn → refusals.new ≡ 0 }
     ensures are_refused { AreRefused (G.refuses gate.now) seat.now refusals.new }
-    ensures ends { result ≡ Next.End Ended.Refused → refusals.new ≡ limit }
+    ensures ends { result ≡ Next.End → refusals.new ≡ limit }
     ensures on { result ≡ Next.Ask → refusals.new < limit }
 {
-    if seat.turns() == u128::MAX {
-        return Next::End(Ended::Done);
-    }
     if !gate.pass(seat.process(), seat.turns(), *refusals) {
         *refusals += 1;
         return if *refusals == limit {
-            Next::End(Ended::Refused)
+            Next::End
         } else {
             Next::Ask
         };

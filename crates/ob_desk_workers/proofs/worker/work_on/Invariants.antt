@@ -1,0 +1,13 @@
+use Rattle.std.proofs.Common.{◌+◌, ◌<◌, ◌≤◌}
+use Rattle.ob_desk_workers.specs.Rounds.{AreLet, AreRefused, IsAfterTurns}
+use Rattle.ob_desk_workers.proofs.worker.work_on.Given as goal
+
+abbrev pub invariant-loop : goal.invariant-loop
+invariant-loop g l =
+    record {
+      seat : IsAfterTurns l.initial.seat l.seat;
+      counted : l.seat.turns ≤ l.initial.seat.turns + l.counter;
+      few : l.refusals < l.limit;
+      are_let : AreLet (g.G.Gate.passes l.gate) l.limit l.initial.seat → AreLet (g.G.Gate.passes l.gate) l.limit l.seat;
+      are_refused : AreRefused (g.G.Gate.refuses l.gate) l.seat l.refusals;
+    }
