@@ -5,11 +5,11 @@ ghost use Rattle.ob_desk_floor.specs.Agreeing.{AgreesAt};
 ghost use Rattle.ob_desk_floor.specs.Seat.{answered_call, given_reply};
 ghost use Rattle.ob_interface.specs.Call.{Reply};
 ghost use Rattle.wf_history.specs.History.{own_answer, own_answers};
-ghost use Rattle.wf_history.specs.View.{event_of, kept_reply};
+ghost use Rattle.wf_history.specs.View.{event_of, seen_reply};
 ghost use Rattle.wf_history.specs.declared.event.CallId.{CallId};
 
 use crate::seat::{CallAnswer, GivenReply, Seat};
-use wf_history::{Event, KeptReply};
+use wf_history::{Event, SeenEvent, SeenReply};
 
 /// Whether each seat of the process took so many turns, and has the answers that the events show.
 pub fn agree(process: usize, turns: u128, events: &[Event], seats: &[Seat]) -> bool
@@ -58,27 +58,27 @@ fn behind<'a>(process: usize, answers: &'a [CallAnswer], event: &Event) -> Optio
     ensures some { IfSome result (λ others. map answered_call answers.now ≡ own_answer process (event_of event.now) ++ map answered_call others.now) }
     ensures none { IfNone result ((later : List (CallId × Reply)) → map answered_call answers.now ≢ own_answer process (event_of event.now) ++ later) }
 {
-    let Event::End(id, reply) = event else {
+    let SeenEvent::End(id, reply) = event.seen() else {
         return Some(answers);
     };
     if id.process != process {
         return Some(answers);
     }
     match answers.split_first() {
-        Some((first, others)) if first.id == *id && same_reply(&first.reply, reply) => Some(others),
+        Some((first, others)) if first.id == id && same_reply(&first.reply, reply) => Some(others),
         _ => None,
     }
 }
 
 /// Whether a seat's reply is the same as an event's.
-fn same_reply(reply: &GivenReply, other: &KeptReply) -> bool
-    ensures { IsTrue result ↔ (given_reply reply.now ≡ kept_reply other.now) }
+fn same_reply(reply: &GivenReply, other: SeenReply) -> bool
+    ensures { IsTrue result ↔ (given_reply reply.now ≡ seen_reply other.entry) }
 {
     match (reply, other) {
-        (GivenReply::Done(values), KeptReply::Done(others)) => {
+        (GivenReply::Done(values), SeenReply::Done(others)) => {
             values.as_slice() == others.lent().as_slice()
         }
-        (GivenReply::Trap(number), KeptReply::Trap(other)) => number == other,
+        (GivenReply::Trap(number), SeenReply::Trap(other)) => *number == other,
         _ => false,
     }
 }

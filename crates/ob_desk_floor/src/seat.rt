@@ -4,7 +4,7 @@ ghost use Rattle.std.specs.Prelude.{◌≡◌, ◌+◌, ◌-◌, ◌^◌, ◌<�
 ghost use Rattle.ob_desk_floor.specs.Seat.{answered_call, given_reply, last_ended};
 ghost use Rattle.ob_interface.specs.View.{reply_of};
 ghost use Rattle.smallvec.specs.SmallVec.{HasRoomFor};
-ghost use Rattle.wf_history.specs.View.{event_of, kept_reply};
+ghost use Rattle.wf_history.specs.View.{event_of, seen_reply};
 ghost use Rattle.wf_table.specs.Meaning.{values_in};
 
 use ob_interface::NoMemory;
@@ -14,7 +14,7 @@ use smallvec::SmallVec;
 use std::alloc::{AllocError, Global};
 use std::marker::Model;
 use std::mem::replace;
-use wf_history::{CallId, Event, KeptReply};
+use wf_history::{CallId, Event, SeenEvent, SeenReply};
 use wf_object::{Engine, Label, Machine, Seen, StepOut};
 
 /// The most values that a reply has.
@@ -256,28 +256,28 @@ fn last_ended(
     let Some(event) = events.last() else {
         return None;
     };
-    let Event::End(id, reply) = event else {
+    let SeenEvent::End(id, reply) = event.seen() else {
         return None;
     };
     Some(CallAnswer {
-        id: *id,
+        id,
         reply: given(alloc, reply, spare),
     })
 }
 
 /// An equal reply, as a seat keeps it. At most 8 values stand in place or in the room that was made for them, so that no memory is
 /// taken.
-fn given(alloc: Global, reply: &KeptReply, spare: &mut SmallVec<Scalar, 2>) -> GivenReply
-    requires few { length (values_in (kept_reply reply.now)) ≤ 8 }
+fn given(alloc: Global, reply: SeenReply, spare: &mut SmallVec<Scalar, 2>) -> GivenReply
+    requires few { length (values_in (seen_reply reply)) ≤ 8 }
     requires empty { spare.old.items ≡ [] }
     requires room { HasRoomFor spare.old 8 }
-    ensures { given_reply result ≡ kept_reply reply.now }
+    ensures { given_reply result ≡ seen_reply reply.entry }
 {
     match reply {
-        KeptReply::Done(values) => {
+        SeenReply::Done(values) => {
             GivenReply::Done(kept_values(alloc, values.lent().as_slice(), spare))
         }
-        KeptReply::Trap(number) => GivenReply::Trap(*number),
+        SeenReply::Trap(number) => GivenReply::Trap(number),
     }
 }
 

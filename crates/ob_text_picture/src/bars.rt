@@ -8,7 +8,7 @@ ghost use Rattle.ob_text_picture.specs.Shapes.{letters, reply_behind, reply_clas
 ghost use Rattle.ob_text_picture.specs.View.{band_in};
 ghost use Rattle.ob_text_picture_labels.specs.View.{bar_in};
 ghost use Rattle.ob_text_picture_svg.specs.Svg.{EndGroup, Group, shape_text, shapes_text};
-ghost use Rattle.wf_history.specs.View.{kept_reply};
+ghost use Rattle.wf_history.specs.View.{seen_reply};
 
 use crate::places::{BEYOND, Band, Frame};
 use ob_interface::export::Export;
@@ -17,7 +17,7 @@ use ob_text_picture_labels::{
 };
 use ob_text_picture_svg::{Point, close_words, open_words, push_box, push_line};
 use std::alloc::{AllocError, Global};
-use wf_history::KeptReply;
+use wf_history::SeenReply;
 
 /// The bar of a call in a band, with the call above it.
 #[tactic(auto, unfolding(crate::specs::Shapes::bar))]
@@ -152,8 +152,8 @@ fn push_title(text: &mut String, exports: &[Export], bar: &Bar) -> Result<(), Al
     text.push_str("</title>\n")
 }
 
-fn push_reply_behind(text: &mut String, reply: Option<&KeptReply>) -> Result<(), AllocError>
-    ensures { OnOk result (string_bytes text.new ≡ string_bytes text.old ++ reply_behind (option_map (λ r. kept_reply r.now) reply.entry)) }
+fn push_reply_behind(text: &mut String, reply: Option<SeenReply>) -> Result<(), AllocError>
+    ensures { OnOk result (string_bytes text.new ≡ string_bytes text.old ++ reply_behind (option_map seen_reply reply.entry)) }
 {
     match reply {
         Some(reply) => {
@@ -171,22 +171,22 @@ fn end_group(text: &mut String) -> Result<(), AllocError>
     text.push_str("</g>\n")
 }
 
-fn bar_class(reply: Option<&KeptReply>) -> &'static str
-    ensures { result.now ≡ bar_class (option_map (λ r. kept_reply r.now) reply.entry) }
+fn bar_class(reply: Option<SeenReply>) -> &'static str
+    ensures { result.now ≡ bar_class (option_map seen_reply reply.entry) }
 {
     match reply {
-        Some(KeptReply::Done(_)) => "done",
-        Some(KeptReply::Trap(_)) => "trap",
+        Some(SeenReply::Done(_)) => "done",
+        Some(SeenReply::Trap(_)) => "trap",
         None => "open",
     }
 }
 
-fn reply_class(reply: &KeptReply) -> &'static str
-    ensures { result.now ≡ reply_class (kept_reply reply.now) }
+fn reply_class(reply: SeenReply) -> &'static str
+    ensures { result.now ≡ reply_class (seen_reply reply.entry) }
 {
     match reply {
-        KeptReply::Done(_) => "reply",
-        KeptReply::Trap(_) => "trapped",
+        SeenReply::Done(_) => "reply",
+        SeenReply::Trap(_) => "trapped",
     }
 }
 
@@ -262,11 +262,11 @@ fn push_answer(
     text: &mut String,
     band: &Band,
     bar: &Bar,
-    reply: &KeptReply,
+    reply: SeenReply,
 ) -> Result<(), AllocError>
     requires { band.now.top < 2 ^ 77 }
     ensures { OnOk result (string_bytes text.new
-        ≡ string_bytes text.old ++ shape_text (Shapes.answer (band_in band.now) (bar_in bar.now) (kept_reply reply.now))) }
+        ≡ string_bytes text.old ++ shape_text (Shapes.answer (band_in band.now) (bar_in bar.now) (seen_reply reply.entry))) }
 {
     let at = Point {
         x: left(band.frame, band.number, bar),

@@ -3,7 +3,7 @@
 use ob_interface::call::Reply;
 use ob_interface::scalar::Scalar;
 use std::alloc::AllocError;
-use wf_history::{CallId, Event, KeptReply};
+use wf_history::{CallId, Event, SeenEvent, SeenReply};
 use wf_object::Machine;
 use wf_samples::Adder;
 
@@ -41,18 +41,18 @@ fn state<R: Eprint>(rt: &R, machine: &Machine<Adder>) -> Result<Vec<i64>, AllocE
 }
 
 fn print_event(text: &mut String, event: &Event) -> Result<(), AllocError> {
-    match event {
-        Event::Begin(id, call) => {
+    match event.seen() {
+        SeenEvent::Begin(id, call) => {
             write!(text, "begin {}.{}", id.process, id.number)?;
             print_values(text, call.args.lent().as_slice())
         }
-        Event::Applied(ids) => {
+        SeenEvent::Applied(ids) => {
             text.push_str("applied")?;
             print_ids(text, ids)
         }
-        Event::End(id, reply) => {
+        SeenEvent::End(id, reply) => {
             text.push_str("end ")?;
-            print_kept(text, *id, reply)
+            print_kept(text, id, reply)
         }
     }
 }
@@ -65,11 +65,11 @@ fn print_ids(text: &mut String, ids: &[CallId]) -> Result<(), AllocError> {
 }
 
 /// A call and its reply, as the history keeps it.
-fn print_kept(text: &mut String, id: CallId, reply: &KeptReply) -> Result<(), AllocError> {
+fn print_kept(text: &mut String, id: CallId, reply: SeenReply) -> Result<(), AllocError> {
     write!(text, "{}.{}", id.process, id.number)?;
     match reply {
-        KeptReply::Done(values) => print_values(text, values.lent().as_slice()),
-        KeptReply::Trap(k) => writeln!(text, " trap {k}"),
+        SeenReply::Done(values) => print_values(text, values.lent().as_slice()),
+        SeenReply::Trap(k) => writeln!(text, " trap {k}"),
     }
 }
 
