@@ -10,7 +10,7 @@ ghost use Rattle.wf_history.specs.declared.event.CallId.{CallId};
 use ob_interface::NoMemory;
 use std::alloc::Global;
 use std::collections::HashMap;
-use wf_history::{CallId, Event};
+use wf_history::{CallId, Event, SeenEvent};
 
 /// The places of the Begins of these events.
 pub(crate) fn begins_of(alloc: Global, events: &[Event]) -> Result<HashMap<CallId, usize>, NoMemory>
@@ -27,12 +27,12 @@ pub(crate) fn begins_of(alloc: Global, events: &[Event]) -> Result<HashMap<CallI
 fn note(begins: &mut HashMap<CallId, usize>, place: usize, event: &Event) -> Result<(), NoMemory>
     ensures { OnOk result ((q : CallId) → hash.get same_id begins.new q ≡ begin_noted place (event_of event.now) q (hash.get same_id begins.old q)) }
 {
-    match event {
-        Event::Begin(id, _) => {
-            begins.insert(*id, place)?;
+    match event.seen() {
+        SeenEvent::Begin(id, _) => {
+            begins.insert(id, place)?;
         }
-        Event::Applied(_) => {}
-        Event::End(_, _) => {}
+        SeenEvent::Applied(_) => {}
+        SeenEvent::End(_, _) => {}
     }
     Ok(())
 }

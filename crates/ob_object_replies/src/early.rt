@@ -14,7 +14,7 @@ use crate::names::{is_same, place_in};
 use ob_interface::NoMemory;
 use std::alloc::Global;
 use std::collections::HashSet;
-use wf_history::{CallId, Event, History};
+use wf_history::{CallId, Event, History, SeenEvent};
 
 /// A call that had ended when another one began, and stands behind it in an order. There is one where `check_order` tells that the other one
 /// stands too early.
@@ -54,10 +54,10 @@ fn begin_of(events: &[Event], id: CallId) -> Option<usize>
 fn begins(event: &Event, id: CallId) -> bool
     ensures { IsTrue result ↔ ((call : ObjectCall) × (event_of event.now ≡ Begin id call)) }
 {
-    match event {
-        Event::Begin(other, _) => is_same(*other, id),
-        Event::Applied(_) => false,
-        Event::End(_, _) => false,
+    match event.seen() {
+        SeenEvent::Begin(other, _) => is_same(other, id),
+        SeenEvent::Applied(_) => false,
+        SeenEvent::End(_, _) => false,
     }
 }
 
@@ -90,8 +90,8 @@ fn ended(event: &Event, set: &HashSet<CallId>) -> Option<CallId>
         ((id : CallId) (reply : Reply) → IsTrue (bag.contains same_id set.now id) → event_of event.now ≡ End id reply → ⊥)
         (λ id. IsTrue (bag.contains same_id set.now id) × ((reply : Reply) × (event_of event.now ≡ End id reply))) }
 {
-    match event {
-        Event::End(id, _) => { if set.contains(id) { Some(*id) } else { None } }
+    match event.seen() {
+        SeenEvent::End(id, _) => { if set.contains(&id) { Some(id) } else { None } }
         _ => None,
     }
 }

@@ -5,12 +5,12 @@ ghost use Rattle.ob_interface.specs.Call as Calls;
 ghost use Rattle.ob_interpreter.specs.View.{reply_of};
 ghost use Rattle.ob_object_replies.specs.MadeCalls.{IsTold};
 ghost use Rattle.wf_history.specs.History.{End};
-ghost use Rattle.wf_history.specs.View.{event_of, kept_reply};
+ghost use Rattle.wf_history.specs.View.{event_of, seen_reply};
 
 use crate::names::is_same;
 use ob_interpreter::call as interpreter;
 use std::alloc::{AllocError, Global};
-use wf_history::{CallId, Event, KeptReply};
+use wf_history::{CallId, Event, SeenEvent, SeenReply};
 
 /// The reply of a call that has ended.
 pub(crate) fn told_reply(
@@ -30,16 +30,16 @@ pub(crate) fn told_reply(
 }
 
 /// The reply of a call, if it ends with this event.
-fn reply_told(event: &Event, id: CallId) -> Option<&KeptReply>
+fn reply_told(event: &Event, id: CallId) -> Option<SeenReply<'_>>
     ensures { MatchOption result
         ((reply : Calls.Reply) → event_of event.now ≡ End id reply → ⊥)
-        (λ reply. event_of event.now ≡ End id (kept_reply reply.now)) }
+        (λ reply. event_of event.now ≡ End id (seen_reply reply)) }
 {
-    match event {
-        Event::Begin(_, _) => None,
-        Event::Applied(_) => None,
-        Event::End(other, reply) => {
-            if is_same(*other, id) {
+    match event.seen() {
+        SeenEvent::Begin(_, _) => None,
+        SeenEvent::Applied(_) => None,
+        SeenEvent::End(other, reply) => {
+            if is_same(other, id) {
                 Some(reply)
             } else {
                 None
@@ -49,14 +49,14 @@ fn reply_told(event: &Event, id: CallId) -> Option<&KeptReply>
 }
 
 /// The reply, as the interpreter's.
-fn reply_in(alloc: Global, reply: &KeptReply) -> Result<interpreter::Reply, AllocError>
-    ensures { IfOk result (λ r. reply_of r ≡ kept_reply reply.now) }
+fn reply_in(alloc: Global, reply: SeenReply) -> Result<interpreter::Reply, AllocError>
+    ensures { IfOk result (λ r. reply_of r ≡ seen_reply reply.entry) }
 {
     match reply {
-        KeptReply::Done(values) => {
+        SeenReply::Done(values) => {
             let values = Vec::from_slice(alloc, values.lent().as_slice())?;
             Ok(interpreter::Reply::Answers(values))
         }
-        KeptReply::Trap(trap) => Ok(interpreter::Reply::Trapped(*trap)),
+        SeenReply::Trap(trap) => Ok(interpreter::Reply::Trapped(trap)),
     }
 }

@@ -12,7 +12,7 @@ ghost use Rattle.ob_object_replies.specs.MadeCalls.{HasUnbegun, IsMeant, LeadTo,
 ghost use Rattle.ob_store.specs.View.{state_of};
 ghost use Rattle.wf_history.specs.History.{Begin};
 ghost use Rattle.wf_history.specs.Legal.{HasBegun};
-ghost use Rattle.wf_history.specs.View.{event_of, kept_call};
+ghost use Rattle.wf_history.specs.View.{event_of, seen_call};
 ghost use Rattle.wf_history.specs.declared.event.CallId.{CallId};
 
 use crate::begins::begins_of;
@@ -23,7 +23,7 @@ use ob_interpreter::object::step;
 use ob_store::state::State;
 use std::alloc::{AllocError, Global};
 use std::collections::HashMap;
-use wf_history::{CallId, Event, KeptCall};
+use wf_history::{CallId, Event, SeenCall, SeenEvent};
 
 /// The reply of a call behind others, which are made one at a time from the opening state, each with the budget of turns; none where one of
 /// them or the call itself never began.
@@ -99,19 +99,19 @@ fn made(
 }
 
 /// The call that begins at a place.
-fn call_at(events: &[Event], place: usize) -> &KeptCall
+fn call_at(events: &[Event], place: usize) -> SeenCall<'_>
     requires { (id : CallId) × BeginsAt (map event_of events.now) id place }
-    ensures { (id : CallId) × (slice_get (map event_of events.now) place ≡ Some (Begin id (kept_call result.now))) }
+    ensures { (id : CallId) × (slice_get (map event_of events.now) place ≡ Some (Begin id (seen_call result))) }
 {
-    match &events[place] {
-        Event::Begin(_, call) => call,
+    match events[place].seen() {
+        SeenEvent::Begin(_, call) => call,
         _ => unreachable!(),
     }
 }
 
 /// The call, for the interpreter.
-fn call_in(alloc: Global, call: &KeptCall) -> Result<interpreter::Call, AllocError>
-    ensures { IfOk result (λ c. call_of c ≡ kept_call call.now) }
+fn call_in(alloc: Global, call: SeenCall) -> Result<interpreter::Call, AllocError>
+    ensures { IfOk result (λ c. call_of c ≡ seen_call call.entry) }
 {
     Ok(interpreter::Call {
         export: call.proc,
