@@ -70,70 +70,12 @@ word_whole text b missing = ap some_words (only_part (λ b. is_blank b) text mis
 pub nothing_left : (text : List ℕ) → take (length text - length text) (drop (length text) text) ≡ []
 nothing_left text = let e : length text - length text ≡ 0 = omega arith in rw e refl
 
-pub left_at_end : (text : List ℕ) (count : ℕ) → count ≡ length text → take (length text - count) (drop count text) ≡ []
-left_at_end text count is = let e : length text - count ≡ 0 = omega arith in rw e refl
-
--- a word ends at a blank, or at the end
-front_long : (front text : List ℕ) (count : ℕ) → 1 ≤ count → count ≤ length text → 1 ≤ length (front ++ take count text)
-front_long [] text count some within = rw length-take (grind (arith, common_steps))
-front_long (x ∷ front) text count some within = omega arith
-
-pub ends_at : (text : List ℕ) (count : ℕ) → 1 ≤ count → count < length text → is_blank (get_or text count 0) ≡ true → EndsWord text count (drop (count + 1) text)
-ends_at text count some within blank =
-    let behind : drop count text ≡ get_or text count 0 ∷ drop (count + 1) text = drop_more text count 0 within in
-    record {
-      some = some;
-      shorter = omega (arith, length-drop (count + 1) text);
-      ends = λ front whole.
-          ap words (ap (λ t. front ++ t) (sym (take-append-drop count text) ∙ ap (λ t. take count text ++ t) behind)
-          ∙ sym (append_assoc front (take count text) (get_or text count 0 ∷ drop (count + 1) text)))
-          ∙ word_then (front ++ take count text) (get_or text count 0) (drop (count + 1) text) whole (front_long front text count some (omega arith)) blank;
-    }
-
-pub ends_last : (text : List ℕ) (count : ℕ) → 1 ≤ count → count ≡ length text → EndsWord text count []
-ends_last text count some is =
-    let all : take count text ≡ text = take_all count text (omega arith) in
-    record {
-      some = some;
-      shorter = omega arith;
-      ends = λ front whole.
-          ap words (ap (λ t. front ++ t) (sym all))
-          ∙ word_alone (front ++ take count text) whole (front_long front text count some (omega arith));
-    }
-
 pub both : (a b : Bool) → (a && b) ≡ true → (a ≡ true) × (b ≡ true)
 both true b h = (refl, h)
 both false b h = absurd (false≢true h)
 
-digit_no_blank : (d : ℕ) → is_ascii_digit d ≡ true → is_blank d ≡ false
-digit_no_blank d h = grind (arith, nat_tests)
-
 pub digit_is : (d : ℕ) → is_ascii_digit d ≡ true → digit_value d ≡ d - 48
 digit_is d h = grind (arith, nat_tests)
-
-digits_no_blank : (ds : List ℕ) → list_all is_ascii_digit ds ≡ true → HasNoBlank ds
-digits_no_blank [] h = All-nil (λ b. is_blank b ≡ false)
-digits_no_blank (d ∷ ds) h =
-    let p = both (is_ascii_digit d) (list_all is_ascii_digit ds) h in
-    All-cons (λ b. is_blank b ≡ false) d ds (digit_no_blank d p.0) (digits_no_blank ds p.1)
-
--- a process of one digit, and a number that ends a word
-pub short_id : (processes : ℕ) (first : ℕ) (text rest : List ℕ) (process number count : ℕ) → is_ascii_digit first ≡ true → process ≡ first - 48 →
-    process < processes → list_all is_ascii_digit (take count text) ≡ true → number_value (take count text) ≡ number → number < 10 ^ 10 → count ≤ length text →
-    EndsWord text count rest → TakesId processes (first ∷ 46 ∷ text) (record { process = process; number = number }) rest
-short_id processes first text rest process number count digit is below digits spells small within h =
-    let front : List ℕ = first ∷ 46 ∷ [] in
-    let whole : HasNoBlank (front ++ take count text) =
-    All-cons (λ b. is_blank b ≡ false) first (46 ∷ take count text) (digit_no_blank first digit)
-    (All-cons (λ b. is_blank b ≡ false) 46 (take count text) refl (digits_no_blank (take count text) digits)) in
-    let long : 1 ≤ length (take count text) = front_long [] text count h.some within in
-    record {
-      word = first ∷ 46 ∷ take count text;
-      parts = h.ends front whole;
-      names = id {first = first ∷ []} {second = take count text} {p = process} {k = number}
-          (record { digits = rw digit refl; some = omega arith; spells = zero-add (digit_value first) ∙ digit_is first digit ∙ sym is }) below
-          (record { digits = digits; some = long; spells = spells }) (omega arith);
-    }
 
 -- the calls that the words so far name
 pub record NamedTo (processes : ℕ) (line left : List Word) (ids : List CallId) : Type 0 where

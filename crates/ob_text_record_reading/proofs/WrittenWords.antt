@@ -1,6 +1,6 @@
 -- The words that a text begins with, up to a blank or a line feed.
 use Rattle.std.proofs.Common.{◌≡◌, ℕ, ◌+◌, ◌-◌, ◌<◌, ◌≤◌, ◌^◌, ◌==◌, Bool, true, false, Some, List, [], ◌∷◌, ◌++◌, length, map, take, drop, get_or, refl, sym, ◌∙◌, ap, subst, arith, zero-add, zero, suc, codes}
-use Rattle.std.proofs.Common.{Bor, Result, Ok, Err, IfOk, Option, None, MatchOption}
+use Rattle.std.proofs.Common.{append-nil, length-append, Bor, Result, Ok, Err, IfOk, Option, None, MatchOption}
 use Rattle.ob_interface.specs.Call.{ObjectCall, Reply}
 use Rattle.ob_interface.specs.Export.{Signature}
 use Rattle.ob_text_record_reading.specs.LineReading as Reading
@@ -17,7 +17,7 @@ use Rattle.std.proofs.lemmas.Grind.{common_steps}
 use Rattle.std.proofs.lemmas.Bool.Decides.{nat_tests}
 use Rattle.ob_scan.specs.Spelling.{number_value}
 use Rattle.ob_text_words.specs.Words.{Word, is_blank, lines, words}
-use Rattle.ob_text_record_reading.specs.LineReading.{BeginsLine, BeginsWithId, BeginsWithWord, ends_word}
+use Rattle.ob_text_record_reading.specs.LineReading.{BeginsLine, BeginsWithId, BeginsWithWord, EndsWord, TakesId, ends_word}
 use Rattle.ob_text_record_reading.specs.RecordLines.{IsId, Line, id}
 use Rattle.ob_text_record_reading.proofs.WordsTaken.{HasNoBlank, behind_blank, digit_is, both, word_alone, word_then}
 use Rattle.wf_history.specs.declared.event.CallId.{CallId}
@@ -130,6 +130,23 @@ behind_point (b ∷ first) second = omega arith
 id_whole : {processes : ℕ} {word : Word} {i : CallId} → IsId processes word i → IsWhole word × (1 ≤ length word)
 id_whole (id {first = first} {second = second} process below number small) =
     (before_whole first (46 ∷ second) (digits_whole first process.digits) (All-cons (λ b. ends_word b ≡ false) 46 second refl (digits_whole second number.digits)), behind_point first second)
+
+-- a short name of a call, taken off a line
+longer : (word rest : List ℕ) → 1 ≤ length word → length rest < length (word ++ rest)
+longer word rest some = let long = length-append word rest in omega (arith, long, some)
+
+taken_to : (word behind rest : List ℕ) → IsWhole word → 1 ≤ length word → EndsWord behind rest → (words (word ++ behind) ≡ word ∷ words rest) × (length rest < length (word ++ behind))
+taken_to word behind rest whole some Reading.at_end =
+    (ap words (append-nil word) ∙ word_alone word (no_blanks word whole) some, longer word [] some)
+taken_to word behind rest whole some (Reading.at_blank {b = b} blank) =
+    (word_then word b rest (no_blanks word whole) some blank, let long = length-append word (b ∷ rest) in omega (arith, long, some))
+
+pub short_taken : (processes : ℕ) (line : List ℕ) (i : CallId) (behind rest : List ℕ) → BeginsWithId processes line i behind → EndsWord behind rest →
+    TakesId processes line i rest × (length rest < length line)
+short_taken processes line i behind rest h ends =
+    let name = id_whole h.names in
+    let taken = taken_to h.word behind rest name.0 name.1 ends in
+    (record { word = h.word; parts = ap words h.parts ∙ taken.0; names = h.names }, rw h.parts taken.1)
 
 -- a kind and the name of a call, and what ends it
 pub line_said : (processes : ℕ) (text : List ℕ) (kind : ℕ) (i : CallId) (b : ℕ) (rest : List ℕ) → ends_word kind ≡ false → ends_word b ≡ true →

@@ -1,5 +1,5 @@
 -- What is read of one line behind a record's head, and of all of them.
-use Rattle.std.specs.Prelude.{◌≡◌, ℕ, ◌+◌, List, [], ◌∷◌, ◌++◌, ◌≤◌, ◌==◌, ◌||◌, length, map, take, codes, Bool, false, All, Option, Some, None}
+use Rattle.std.specs.Prelude.{◌≡◌, ℕ, ◌+◌, List, [], ◌∷◌, ◌++◌, ◌≤◌, ◌==◌, ◌||◌, length, map, take, codes, Bool, true, false, All, Option, Some, None}
 use Rattle.std.specs.Borrow.{Bor}
 use Rattle.ob_interface.specs.Call.{ObjectCall, Reply}
 use Rattle.ob_interface.specs.Export.{Signature}
@@ -42,11 +42,10 @@ pub record TakesId (processes : ℕ) (line : List ℕ) (i : CallId) (rest : List
 abbrev pub TakesNoId : ℕ → List ℕ → Type 0
 TakesNoId processes line = (word : Word) (rest : List Word) (i : CallId) → words line ≡ word ∷ rest → IsId processes word i → ⊥
 
--- so many bytes of a text, behind others without a blank, end a word, and this stands behind it
-pub record EndsWord (text : List ℕ) (count : ℕ) (rest : List ℕ) : Type 0 where
-  pub some : 1 ≤ count
-  pub shorter : length rest ≤ length text
-  pub ends : (front : List ℕ) → All (λ b. is_blank b ≡ false) (front ++ take count text) → words (front ++ text) ≡ (front ++ take count text) ∷ words rest
+-- a word ends where a text begins, and this stands behind it
+pub data EndsWord : List ℕ → List ℕ → Type 0 where
+  at_end : EndsWord [] []
+  at_blank : {b : ℕ} {rest : List ℕ} → is_blank b ≡ true → EndsWord (b ∷ rest) rest
 
 -- what ends a word of a text: a blank or a line feed
 abbrev pub ends_word : ℕ → Bool

@@ -88,6 +88,7 @@ impl Calls {
     }
 
     /// The call begins.
+    #[inline(always)]
     pub(crate) fn begin(&mut self, id: CallId, call: KeptCall) -> Result<(), NoMemory>
         requires below { id.process < self.old.processes }
         requires next { IsHistory (self.old.events ++ Begin id (kept_call call) ∷ []) }
@@ -103,6 +104,7 @@ impl Calls {
     }
 
     /// The call ends.
+    #[inline(always)]
     pub(crate) fn end(&mut self, id: CallId, reply: KeptReply) -> Result<(), NoMemory>
         requires below { id.process < self.old.processes }
         requires next { IsHistory (self.old.events ++ End id (kept_reply reply) ∷ []) }

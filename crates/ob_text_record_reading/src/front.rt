@@ -1,13 +1,17 @@
 //! What a text begins with, where no line of it has been told apart yet.
 
-ghost use Rattle.std.specs.Prelude.{◌≡◌, ◌∷◌, ◌||◌, ◌==◌, map, IfSome};
-ghost use Rattle.std.specs.List.{position};
-ghost use Rattle.ob_text_words.specs.Words.{is_blank, lines, words};
+ghost use Rattle.std.specs.Prelude.{◌≡◌, ◌<◌, ◌≤◌, ◌^◌, ◌∷◌, length, map, take, IfSome, IsTrue};
+ghost use Rattle.std.specs.Char.{is_ascii_digit};
+ghost use Rattle.std.specs.List.{list_all, position};
+ghost use Rattle.ob_scan.specs.Spelling.{number_value};
+ghost use Rattle.ob_text_words.specs.Words.{lines, words};
 ghost use Rattle.ob_text_record_reading.specs.LineReading.{BeginsLine, BeginsWithId, BeginsWithWord, ends_word, lines_behind};
 
 use crate::splitting::split_line;
-use crate::taking::front_number;
 use wf_history::CallId;
+
+/// The most digits that are read without a look at whether the number grows too large.
+const FEW_DIGITS: usize = 10;
 
 /// The first byte of a text and the call that is named behind it and a space, by a process of one digit below `processes`; with
 /// what stands behind the name.
@@ -26,7 +30,7 @@ pub(crate) fn front_of(processes: usize, text: &[u8]) -> Option<(u8, CallId, &[u
 
 /// The call that a text names first, by a process of one digit below `processes`, and what stands behind its digits.
 #[inline(always)]
-fn front_id(processes: usize, text: &[u8]) -> Option<(CallId, &[u8])>
+pub(crate) fn front_id(processes: usize, text: &[u8]) -> Option<(CallId, &[u8])>
     ensures { IfSome result (λ r. BeginsWithId processes text.now r.0 r.1.now) }
 {
     let (first, behind) = text.split_first()?;
@@ -43,6 +47,24 @@ fn front_id(processes: usize, text: &[u8]) -> Option<(CallId, &[u8])>
         return None;
     }
     Some((CallId { process, number }, &digits[count..]))
+}
+
+/// The number that the first digits of a text spell, few at most, and how many they are.
+#[inline(always)]
+fn front_number(text: &[u8]) -> (u64, usize)
+    ensures within { result.1 ≤ length text.now }
+    ensures digits { IsTrue (list_all is_ascii_digit (take result.1 text.now)) }
+    ensures spells { number_value (take result.1 text.now) ≡ result.0 }
+    ensures small { result.0 < 10 ^ 10 }
+{
+    let most = text.len().min(FEW_DIGITS);
+    let mut value: u64 = 0;
+    let mut count = 0;
+    while count < most && text[count].is_ascii_digit() {
+        value = value * 10 + u64::from(text[count] - b'0');
+        count += 1;
+    }
+    (value, count)
 }
 
 /// The word that a text begins with, and what stands behind it: a blank or a line feed first.

@@ -1,17 +1,13 @@
 //! The words of a line, taken off one at a time.
 
-ghost use Rattle.std.specs.Prelude.{◌≡◌, ◌<◌, ◌≤◌, ◌^◌, ◌∷◌, [], false, ℕ, List, length, take, IfSome, IsTrue, MatchOption};
-ghost use Rattle.std.specs.Char.{is_ascii_digit};
-ghost use Rattle.std.specs.List.{list_all, position};
-ghost use Rattle.ob_scan.specs.Spelling.{number_value};
+ghost use Rattle.std.specs.Prelude.{◌≡◌, ◌<◌, ◌∷◌, [], false, ℕ, List, length, IfSome, MatchOption};
+ghost use Rattle.std.specs.List.{position};
 ghost use Rattle.ob_text_words.specs.Words.{is_blank, words};
 ghost use Rattle.ob_text_record_reading.specs.LineReading.{EndsWord, TakesId, TakesNoId};
 
+use crate::front::front_id;
 use crate::id::read_id;
 use wf_history::CallId;
-
-/// The most digits that are read without a look at whether the number grows too large.
-const FEW_DIGITS: usize = 10;
 
 /// The first word of a line, and what stands behind the blank that ends it; `None` where there is none.
 #[inline(always)]
@@ -85,53 +81,18 @@ fn take_short_id(processes: usize, line: &[u8]) -> Option<(CallId, &[u8])>
     ensures taken { IfSome result (λ r. TakesId processes line.now r.0 r.1.now) }
     ensures shorter { IfSome result (λ r. length r.1.now < length line.now) }
 {
-    let (first, behind) = line.split_first()?;
-    let (point, text) = behind.split_first()?;
-    if !first.is_ascii_digit() || *point != b'.' {
-        return None;
-    }
-    let process = usize::from(*first - b'0');
-    if process >= processes {
-        return None;
-    }
-    let (number, count) = front_number(text);
-    let rest = behind_word(text, count)?;
-    Some((CallId { process, number }, rest))
+    let (id, behind) = front_id(processes, line)?;
+    let rest = behind_word(behind)?;
+    Some((id, rest))
 }
 
-/// The number that the first digits of a text spell, few at most, and how many they are.
+/// What stands behind a word, where a blank or the end is behind it.
 #[inline(always)]
-pub(crate) fn front_number(text: &[u8]) -> (u64, usize)
-    ensures within { result.1 ≤ length text.now }
-    ensures digits { IsTrue (list_all is_ascii_digit (take result.1 text.now)) }
-    ensures spells { number_value (take result.1 text.now) ≡ result.0 }
-    ensures small { result.0 < 10 ^ 10 }
+fn behind_word(text: &[u8]) -> Option<&[u8]>
+    ensures { IfSome result (λ rest. EndsWord text.now rest.now) }
 {
-    let most = text.len().min(FEW_DIGITS);
-    let mut value: u64 = 0;
-    let mut count = 0;
-    while count < most && text[count].is_ascii_digit() {
-        value = value * 10 + u64::from(text[count] - b'0');
-        count += 1;
-    }
-    (value, count)
-}
-
-/// What stands behind a word of so many bytes, where it is something and a blank or the end is behind it.
-#[inline(always)]
-fn behind_word(text: &[u8], count: usize) -> Option<&[u8]>
-    requires { count ≤ length text.now }
-    ensures { IfSome result (λ rest. EndsWord text.now count rest.now) }
-{
-    if count == 0 {
-        return None;
-    }
-    if count == text.len() {
-        return Some(&text[count..]);
-    }
-    if is_blank(text[count]) {
-        Some(&text[count + 1..])
-    } else {
-        None
-    }
+    let Some((first, rest)) = text.split_first() else {
+        return Some(text);
+    };
+    if is_blank(*first) { Some(rest) } else { None }
 }

@@ -120,10 +120,11 @@ fn take_end<'a>(
 }
 
 /// Whether a word tells that values are said.
+#[inline(always)]
 fn is_done(word: &[u8]) -> bool
     ensures { IsTrue result ↔ (word.now ≡ codes "done") }
 {
-    word == b"done".as_slice()
+    matches!(word, b"done")
 }
 
 /// The values that a line says for the parameters of one mode, VAR or not, to be kept; `None` where they don't fit. Its words
@@ -144,6 +145,22 @@ fn kept_values<'a>(
     if formals.is_empty() && line.is_empty() {
         return Ok(Some(KeptScalars::from_slice(alloc, &[])?));
     }
+    read_kept(alloc, formals, is_var, line, list)
+}
+
+/// The same of any line. It stands apart, since most lines say no values.
+#[inline(never)]
+fn read_kept<'a>(
+    alloc: Global,
+    formals: &[Formal],
+    is_var: bool,
+    line: &'a [u8],
+    list: &mut Vec<&'a [u8]>,
+) -> Result<Option<KeptScalars>, NoMemory>
+    ensures { IfOk result (λ read. MatchOption read
+        ((values : List Scalars.Scalar) → AreValues (types_of is_var formals.now) (words line.now) values → ⊥)
+        (λ values. AreValues (types_of is_var formals.now) (words line.now) values.items)) }
+{
     let Some(values) = values_in(alloc, formals, is_var, line, list)? else {
         return Ok(None);
     };

@@ -1,18 +1,14 @@
-use Rattle.std.proofs.Common.{◌≡◌, ◌+◌, ◌≤◌, ◌<◌, ◌∙◌, length, get_or, true, sym, arith}
-use Rattle.std.proofs.lemmas.List.{take_rest}
+use Rattle.std.proofs.Common.{◌≡◌, ◌∷◌, ◌∙◌, [], true, sym, rules}
+use Rattle.std.proofs.lemmas.List.{nil_from_length}
 use Rattle.ob_text_words.specs.Words.{is_blank}
-use Rattle.ob_text_record_reading.proofs.WordsTaken.{ends_at, ends_last, left_at_end}
+use Rattle.ob_text_record_reading.specs.LineReading.{at_blank, at_end}
 use Rattle.ob_text_record_reading.proofs.taking.behind_word.Goals as goal
 
-pub returns-then-count-text : goal.returns-then-count-text
-returns-then-count-text c =
-    let some : 1 ≤ c.args.count = omega arith in
-    let is : c.args.count ≡ length c.args.text.now = omega arith in
-    rw (left_at_end c.args.text.now c.args.count is) (ends_last c.args.text.now c.args.count some is)
+pub returns-in_default : goal.returns-in_default
+returns-in_default c = let none : c.args.text.now ≡ [] = nil_from_length _ c.in_default.ensures.cases in rw none at_end
 
 pub returns-then-is_blank : goal.returns-then-is_blank
 returns-then-is_blank c =
-    let some : 1 ≤ c.args.count = omega arith in
-    let within : c.args.count < length c.args.text.now = omega arith in
-    let blank : is_blank (get_or c.args.text.now c.args.count 0) ≡ true = sym c.is_blank.ensures ∙ c.if-is_blank.true in
-    rw (take_rest c.args.text.now (c.args.count + 1)) (ends_at c.args.text.now c.args.count some within blank)
+    let parts : c.args.text.now ≡ c.in-Some.first.now ∷ c.in-Some.rest.now = search rules in
+    let blank : is_blank c.in-Some.first.now ≡ true = sym c.is_blank.ensures ∙ c.if-is_blank.true in
+    rw parts (at_blank blank)

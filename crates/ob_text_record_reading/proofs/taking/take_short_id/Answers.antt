@@ -1,18 +1,8 @@
-use Rattle.std.proofs.Common.{◌≡◌, ◌∷◌, ◌-◌, ◌<◌, true, arith, rules}
-use Rattle.std.proofs.lemmas.Grind.{common_steps}
-use Rattle.std.specs.Char.{is_ascii_digit}
-use Rattle.ob_text_record_reading.proofs.WordsTaken.{short_id}
+use Rattle.ob_text_record_reading.proofs.WrittenWords.{short_taken}
 use Rattle.ob_text_record_reading.proofs.taking.take_short_id.Goals as goal
 
 pub returns-clause-taken : goal.returns-clause-taken
-returns-clause-taken c =
-    let parts : c.args.line.now ≡ c.in_ok-first.first.now ∷ c.in_ok-first.behind.now = search rules in
-    let behind : c.in_ok-first.behind.now ≡ c.in_ok-point.point.now ∷ c.in_ok-point.text.now = search rules in
-    let point : c.in_ok-point.point.now ≡ 46 = grind (arith, common_steps) in
-    let digit : is_ascii_digit c.in_ok-first.first.now ≡ true = grind (arith, common_steps) in
-    let is : c.from-process.result ≡ c.in_ok-first.first.now - 48 = grind (arith, common_steps) in
-    let below : c.from-process.result < c.args.processes = omega arith in
-    let front = c.front_number-number in
-    rw (parts, behind, point)
-    (short_id c.args.processes c.in_ok-first.first.now c.in_ok-point.text.now c.in_ok-rest.rest.now c.from-process.result front.result.0 front.result.1 digit is below front.ensures.digits
-    front.ensures.spells front.ensures.small front.ensures.within c.in_ok-rest.ensures)
+returns-clause-taken c = (short_taken _ _ _ _ _ c.in_ok-id.ensures c.in_ok-rest.ensures).0
+
+pub returns-clause-shorter : goal.returns-clause-shorter
+returns-clause-shorter c = (short_taken _ _ _ _ _ c.in_ok-id.ensures c.in_ok-rest.ensures).1

@@ -3,7 +3,7 @@ use Rattle.std.proofs.Common.{◌≡◌, ◌≤◌, ◌<◌, ◌^◌, ◌-◌, t
 use Rattle.std.specs.Char.{is_ascii_digit}
 use Rattle.std.specs.List.{list_all}
 use Rattle.ob_scan.specs.Spelling.{number_value}
-use Rattle.ob_text_record_reading.proofs.taking.front_number.Given as goal
+use Rattle.ob_text_record_reading.proofs.front.front_number.Given as goal
 
 abbrev pub invariant-loop-count : goal.invariant-loop-count
 invariant-loop-count l = record {
