@@ -1,4 +1,3 @@
 pub mod Turns
 pub mod Submissions
 pub mod Floors
-mod Lasts

@@ -1,7 +1,6 @@
 -- What a seat stands for, and what a turn does to it.
-use Rattle.std.specs.Prelude.{◌≡◌, ℕ, ◌+◌, ◌-◌, List, [], ◌∷◌, ◌++◌, MatchOption, None, Option, Some, length, slice_get}
-use Rattle.ob_interface.specs.Call.{ObjectCall, Reply, Answers, Trapped}
-use Rattle.wf_history.specs.History.{Applied, Begin, End, Event}
+use Rattle.std.specs.Prelude.{◌≡◌, ℕ, ◌+◌, List, [], ◌∷◌, ◌++◌, MatchOption, Option}
+use Rattle.ob_interface.specs.Call.{Reply, Answers, Trapped}
 use Rattle.wf_history.specs.declared.event.CallId.{CallId}
 use Rattle.wf_object.specs.View.{seen_in}
 use Rattle.wf_records.specs.declared.records.Seen.{Seen}
@@ -32,17 +31,6 @@ new_seat process tag = record { process = process; tag = tag; turns = 0; answers
 abbrev pub answers_in : Answer → List (CallId × Reply)
 answers_in (Replies id reply) = (id, reply) ∷ []
 answers_in _ = []
-
--- the answered call that an event shows, if it is the end of one
-abbrev pub ended_by : Option (Event ObjectCall Reply) → List (CallId × Reply)
-ended_by None = []
-ended_by (Some (Begin id call)) = []
-ended_by (Some (Applied ids)) = []
-ended_by (Some (End id reply)) = (id, reply) ∷ []
-
--- the answered call that the last event of a history shows, if that is the end of one
-abbrev pub last_ended : List (Event ObjectCall Reply) → List (CallId × Reply)
-last_ended history = ended_by (slice_get history (length history - 1))
 
 -- one turn more, and exactly the step's answer
 abbrev pub seat_after : Answer → Seat → Seat

@@ -1,10 +1,10 @@
 //! What the one who steps a process has in hand.
 
-ghost use Rattle.std.specs.Prelude.{◌≡◌, ◌+◌, ◌-◌, ◌^◌, ◌<◌, ◌≤◌, [], ◌++◌, ◌∷◌, All, IfOk, MatchOption, OnOk, OnErr, length, map};
-ghost use Rattle.ob_desk_floor.specs.Seat.{answered_call, given_reply, last_ended};
+ghost use Rattle.std.specs.Prelude.{◌≡◌, ◌+◌, ◌-◌, ◌^◌, ◌<◌, ◌≤◌, [], ◌++◌, ◌∷◌, IfOk, OnOk, OnErr, length, map};
+ghost use Rattle.ob_desk_floor.specs.Seat.{answered_call, given_reply};
 ghost use Rattle.ob_interface.specs.View.{reply_of};
 ghost use Rattle.smallvec.specs.SmallVec.{HasRoomFor};
-ghost use Rattle.wf_history.specs.View.{event_of, seen_reply};
+ghost use Rattle.wf_object.specs.View.{answer_in, seen_in};
 ghost use Rattle.wf_table.specs.Meaning.{values_in};
 
 use ob_interface::NoMemory;
@@ -14,7 +14,7 @@ use smallvec::SmallVec;
 use std::alloc::{AllocError, Global};
 use std::marker::Model;
 use std::mem::replace;
-use wf_history::{CallId, Event, SeenEvent, SeenReply};
+use wf_history::CallId;
 use wf_object::{Engine, Label, Machine, Seen, StepOut};
 
 /// The most values that a reply has.
@@ -63,7 +63,6 @@ impl Seat {
     ghost use Rattle.ob_desk_floor.specs.Seat.{IsLastAnswer, answered_call, new_seat, seat_after};
     ghost use Rattle.wf_object.specs.View.{answer_in, seen_in};
     ghost use Rattle.wf_table.specs.Object as Steps;
-    ghost use Rattle.wf_table.specs.declared.process.Label.TheVariants as Labels;
     ghost use Rattle.wf_table.specs.Schedule.{steps_of};
 
     /// A seat without turns or answers.
@@ -147,12 +146,11 @@ impl Seat {
         Ok(seen)
     }
 
-    /// A step at GIVE. Its answer is kept as the history shows it, so that no reply is moved.
+    /// A step that may answer.
     #[inline(never)]
     fn take_answer<E: Engine>(&mut self, machine: &mut Machine<E>) -> Result<Seen, NoMemory>
         requires process { self.old.process < machine.old.sizes.processes }
         requires room { self.old.turns < 2 ^ 128 - 1 }
-        requires gives { Steps.label_of machine.old.state self.old.process ≡ Labels.Give }
         ensures machine { OnOk result (machine.new ≡ machine_after (E.meaning machine.old.engine) machine.old self.old.process) }
         ensures seen { IfOk result (λ seen. seen ≡ seen_in (Steps.answer_of (E.meaning machine.old.engine) machine.old.sizes machine.old.state self.old.process)) }
         ensures turn { OnOk result (steps_of machine.new.state.records.schedule ≡ steps_of machine.old.state.records.schedule ++ self.old.process ∷ []) }
@@ -160,21 +158,8 @@ impl Seat {
         ensures no_machine { OnErr result (machine.new ≡ machine.old) }
         ensures no_seat { OnErr result (self.new ≡ self.old) }
     {
-        self.answers.try_reserve(1)?;
-        make_room(&mut self.spare)?;
-        // This does nothing: a reply has few values.
-        machine.keeps();
-        if machine.label(self.process) != Label::Give {
-            // So the compiler need not think of any other step here.
-            unreachable!();
-        }
-        let seen = machine.advance(self.process)?;
-        self.turns += 1;
-        let last = last_ended(self.alloc, machine.history().events(), &mut self.spare);
-        if let Some(answer) = last {
-            self.answers.push_reserved(answer);
-        }
-        Ok(seen)
+        let out = self.step(machine)?;
+        Ok(seen_of(&out))
     }
 
     /// A copy of the last answer; none where there is no answer yet.
@@ -193,6 +178,18 @@ impl Seat {
         ensures { self.new ≡ seat_after Steps.Halts self.old }
     {
         self.turns += 1;
+    }
+}
+
+/// What a step showed, without its reply.
+fn seen_of(out: &StepOut) -> Seen
+    ensures { result ≡ seen_in (answer_in out.now) }
+{
+    match out {
+        StepOut::On => Seen::On,
+        StepOut::Began(_) => Seen::Began,
+        StepOut::Answered(_, _) => Seen::Answered,
+        StepOut::Halted => Seen::Halted,
     }
 }
 
@@ -239,45 +236,6 @@ fn kept(alloc: Global, reply: &Reply, spare: &mut SmallVec<Scalar, 2>) -> GivenR
     match reply {
         Reply::Done(values) => GivenReply::Done(kept_values(alloc, values.as_slice(), spare)),
         Reply::Trap(number) => GivenReply::Trap(*number),
-    }
-}
-
-/// The answer that the last of the events shows, to be kept; none where that is no end of a call.
-fn last_ended(
-    alloc: Global,
-    events: &[Event],
-    spare: &mut SmallVec<Scalar, 2>,
-) -> Option<CallAnswer>
-    requires few { All (λ a. length (values_in a.1) ≤ 8) (last_ended (map event_of events.now)) }
-    requires empty { spare.old.items ≡ [] }
-    requires room { HasRoomFor spare.old 8 }
-    ensures { MatchOption result (last_ended (map event_of events.now) ≡ []) (λ a. last_ended (map event_of events.now) ≡ answered_call a ∷ []) }
-{
-    let Some(event) = events.last() else {
-        return None;
-    };
-    let SeenEvent::End(id, reply) = event.seen() else {
-        return None;
-    };
-    Some(CallAnswer {
-        id,
-        reply: given(alloc, reply, spare),
-    })
-}
-
-/// An equal reply, as a seat keeps it. At most 8 values stand in place or in the room that was made for them, so that no memory is
-/// taken.
-fn given(alloc: Global, reply: SeenReply, spare: &mut SmallVec<Scalar, 2>) -> GivenReply
-    requires few { length (values_in (seen_reply reply)) ≤ 8 }
-    requires empty { spare.old.items ≡ [] }
-    requires room { HasRoomFor spare.old 8 }
-    ensures { given_reply result ≡ seen_reply reply.entry }
-{
-    match reply {
-        SeenReply::Done(values) => {
-            GivenReply::Done(kept_values(alloc, values.lent().as_slice(), spare))
-        }
-        SeenReply::Trap(number) => GivenReply::Trap(number),
     }
 }
 

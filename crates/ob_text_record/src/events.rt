@@ -114,7 +114,7 @@ pub(crate) fn push_ids(text: &mut String, ids: &[CallId]) -> Result<(), AllocErr
 }
 
 /// Appends the id of a call, as `0.2` for the second call of process 0.
-#[inline]
+#[inline(always)]
 pub fn push_id(text: &mut String, id: CallId) -> Result<(), AllocError>
     ensures ok { OnOk result (string_bytes text.new ≡ string_bytes text.old ++ id_text id) }
     ensures left { OnErr result (GoesOn (string_bytes text.old) (string_bytes text.new)) }

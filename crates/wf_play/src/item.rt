@@ -48,7 +48,7 @@ fn step_times<E: Engine>(
     }
     let mut taken = 0;
     while taken < count {
-        machine.advance(p)?;
+        step_once(machine, p)?;
         taken += 1;
         taken += machine.go_on(p, count - taken);
     }
@@ -78,14 +78,15 @@ fn step_until<E: Engine>(
     Ok(is_there(machine, p, label))
 }
 
-/// One step of the process, apart: `advance` is put in where it is called, which pays where steps follow one another.
+/// One step of the process, apart. `advance` is put in where it is called if that is one place alone, which has to be where most
+/// steps of a run are taken.
 #[inline(never)]
 pub fn step_once<E: Engine>(machine: &mut Machine<E>, p: usize) -> Result<(), NoMemory>
     requires { p < machine.old.sizes.processes }
     ensures stepped { OnOk result (machine.new ≡ stepped (E.meaning machine.old.engine) p machine.old) }
     ensures turn { OnOk result (steps_of machine.new.state.records.schedule ≡ steps_of machine.old.state.records.schedule ++ p ∷ []) }
 {
-    machine.advance(p)?;
+    machine.step(p)?;
     Ok(())
 }
 
