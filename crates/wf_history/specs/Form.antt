@@ -6,7 +6,7 @@ use Rattle.wf_history.specs.declared.event.ShortId.{ShortId}
 use Rattle.wf_history.specs.declared.event.Form as Rust
 use Rattle.wf_history.specs.declared.event.Form.TheVariants as Forms
 use Rattle.wf_history.specs.declared.wide_event.AnyEvent.{AnyEvent}
-use Rattle.wf_history.specs.declared.wide_event.AnyEvent.TheVariants as Any
+use Rattle.wf_history.specs.declared.wide_event.AnyEvent.TheVariants as Events
 use Rattle.wf_history.specs.History.{Event, Begin, Applied, End}
 use Rattle.wf_history.specs.Kept.{KeptEvent}
 use Rattle.wf_history.specs.View.{kept_call, kept_reply}
@@ -15,9 +15,9 @@ abbrev pub long_id : ShortId → CallId
 long_id short = record { process = short.process; number = short.number }
 
 abbrev pub any_event : AnyEvent → Event ObjectCall Reply
-any_event (Any.Begin id call) = Begin id (kept_call call)
-any_event (Any.Applied ids) = Applied ids.items
-any_event (Any.End id reply) = End id (kept_reply reply)
+any_event (Events.Begin id call) = Begin id (kept_call call)
+any_event (Events.Applied ids) = Applied ids.items
+any_event (Events.End id reply) = End id (kept_reply reply)
 
 abbrev pub formed_event : Rust.Form → Event ObjectCall Reply
 formed_event (Forms.Begin process proc number args) = Begin (record { process = process; number = number }) (record { export = proc; arguments = args.items })
