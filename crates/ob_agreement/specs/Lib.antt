@@ -1,3 +1,4 @@
 pub mod Resolved
 pub mod Same
 pub mod Exported
+pub mod Laws

@@ -4,3 +4,4 @@ pub mod Store
 pub mod Evaluation
 pub mod Statements
 pub mod Object
+pub mod Laws
