@@ -4,7 +4,12 @@ ghost use Rattle.ob_typing.specs.Program.{Program};
 ghost use Rattle.ob_typing.specs.Scopes.{Environment};
 ghost use Rattle.ob_meaning.specs.Object.{State, HasVariables, IsOpening};
 ghost use Rattle.ob_meaning.specs.Laws.{
-    StatementsGainNoTurns, CallsGainNoTurns, TrapsLeaveTheState, OpeningLeavesAState, CallsLeaveAState, ConstantsAreValues,
+  StatementsGainNoTurns,
+  CallsGainNoTurns,
+  TrapsLeaveTheState,
+  OpeningLeavesAState,
+  CallsLeaveAState,
+  ConstantsAreValues,
 };
 
 /// Statements that are done leave no more turns than they had, and neither does a call in the text.
