@@ -1,5 +1,5 @@
 -- What the laws of the meaning say of a program.
-use Rattle.std.specs.Prelude.{◌≡◌, ℕ, ◌≤◌, ◌×◌, List, [], ◌∷◌, Some}
+use Rattle.std.specs.Prelude.{◌≡◌, ℕ, ◌≤◌, List, [], ◌∷◌, Some}
 use Rattle.ob_grammar.specs.Tree.{Expr}
 use Rattle.ob_interface.specs.declared.scalar.Scalar.{Scalar}
 use Rattle.ob_interface.specs.declared.scalar.ScalarType.{ScalarType}
