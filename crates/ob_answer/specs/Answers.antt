@@ -42,7 +42,7 @@ use Rattle.ob_answer.specs.Reads.{IsOutcome}
 
 -- the program's name and version, and the kit that it is proved with
 abbrev pub version_text : Text
-version_text = codes "obl0 0.1.0\nrattle-kit-13f logic dac8208d650f15bf\n"
+version_text = codes "obl0 0.1.0\nrattle-kit-13b logic dac8208d650f15bf\n"
 
 -- the mistake of words that name standard input for two files
 abbrev pub input_twice_text : Text
