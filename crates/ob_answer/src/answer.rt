@@ -28,7 +28,7 @@ use std::alloc::Global;
 use std::sync::Wait;
 use std::thread::Threads;
 
-/// The program's name and version, and the kit that it is proved with.
+/// The program's name and version, and the kit that it is built with.
 const VERSION: &str = "obl0 0.1.0\nrattle-kit-13b logic dac8208d650f15bf\n";
 
 /// The name of standard input.
