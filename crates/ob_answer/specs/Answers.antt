@@ -40,7 +40,7 @@ use Rattle.ob_answer.specs.Explains.{AreTrapsExplained, IsCallsExplained, IsModu
 use Rattle.ob_answer.specs.Printed.{IsPrinted, IsPrintedBeside, IsRefused}
 use Rattle.ob_answer.specs.Reads.{IsOutcome}
 
--- the program's name and version, and the kit that it is proved with
+-- the program's name and version, and the kit that it is built with
 abbrev pub version_text : Text
 version_text = codes "obl0 0.1.0\nrattle-kit-13b logic dac8208d650f15bf\n"
 
