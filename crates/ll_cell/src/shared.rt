@@ -125,7 +125,7 @@ impl Shared {
         self.linked[p]
     }
 
-    /// Where p is linked, the root becomes p's own block, the old root becomes p's own block, and
+    /// Where p is linked, p's own block becomes the root, the old root becomes p's own block, and
     /// all links are cleared. Else nothing changes.
     pub fn store_conditional(&mut self, p: usize) -> bool
         requires links { p < length self.old.cell.linked }

@@ -70,6 +70,7 @@ impl<E: CodedEngine> Terms<E> {
         }
     }
 
+    /// The engine whose code closing compares with that of the floor's engine.
     pub fn engine(&self) -> &E
         ensures { result.now ≡ self.now.engine }
     {
@@ -97,6 +98,7 @@ impl<E: CodedEngine> Terms<E> {
         self.scripts.as_slice()
     }
 
+    /// The number that the desk's seats have, by which they are told from those of other desks.
     pub fn tag(&self) -> u64
         ensures { result ≡ self.now.tag }
     {

@@ -79,24 +79,28 @@ impl Seat {
         }
     }
 
+    /// The process whose steps it takes, counted from 0.
     pub fn process(&self) -> usize
         ensures { result ≡ self.now.process }
     {
         self.process
     }
 
+    /// The number that the seats of one desk have in common, and that tells them from those of another.
     pub fn tag(&self) -> u64
         ensures { result ≡ self.now.tag }
     {
         self.tag
     }
 
+    /// How many steps it took so far, those that answered nothing among them.
     pub fn turns(&self) -> u128
         ensures { result ≡ self.now.turns }
     {
         self.turns
     }
 
+    /// The answers that it was given so far, the first one first.
     pub fn answers(&self) -> &[CallAnswer]
         ensures { map answered_call result.now ≡ self.now.answers }
     {

@@ -200,6 +200,7 @@ fn awaits_equal(kinds: &[Kind]) -> bool
     has(kinds, Kind::Equal) && !has(kinds, Kind::Less)
 }
 
+/// Whether a token is a name; a keyword is none.
 pub fn is_name(kind: Kind) -> bool
     ensures { result ≡ is_name kind }
 {

@@ -36,6 +36,7 @@ pub fn is_named(text: &[u8], word: &[u8], token: Token) -> bool
     is_same(name_at(text, token.start), word)
 }
 
+/// Whether a token is the keyword PROCEDURE.
 pub fn is_procedure(kind: Kind) -> bool
     ensures { result ≡ is_procedure kind }
 {

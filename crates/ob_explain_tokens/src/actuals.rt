@@ -27,6 +27,7 @@ fn opens_actuals(tokens: &[Token]) -> bool
     }
 }
 
+/// Whether a token is a `(`.
 #[tactic(auto, unfolding(crate::specs::Actuals::is_left))]
 pub fn is_left(kind: Kind) -> bool
     ensures { result ≡ is_left kind }
@@ -34,6 +35,7 @@ pub fn is_left(kind: Kind) -> bool
     matches!(kind, Kind::LeftParen)
 }
 
+/// Whether a token is a `)`.
 #[tactic(auto, unfolding(crate::specs::Actuals::is_right))]
 pub fn is_right(kind: Kind) -> bool
     ensures { result ≡ is_right kind }

@@ -48,6 +48,7 @@ fn opens(kind: Kind) -> bool
     )
 }
 
+/// Whether a token closes such a construct. A REPEAT, which UNTIL closes, is none of them.
 pub fn closes(kind: Kind) -> bool
     ensures { result ≡ closes kind }
 {

@@ -1,4 +1,4 @@
-//! The lines of the faults with which all commands but `verify` begin: of what a module's text is compiled to.
+//! The lines of the faults of a module's text and of the object that is compiled of it.
 
 ghost use Rattle.std.specs.Prelude.{◌≡◌, ◌++◌, IfOk, OnErr, OnOk, string_bytes};
 ghost use Rattle.ob_fault_lines.specs.CompileFaultLines.{compile_line};

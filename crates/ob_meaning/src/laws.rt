@@ -23,7 +23,7 @@ pub fn traps_leave_the_state()
     ensures { (program : Program) → TrapsLeaveTheState program }
 {}
 
-/// The opening leaves a state, and each call on the object leaves one again: the module's variables in text order,
+/// An opening that is done leaves a state, and each call on the object leaves one again: the module's variables in text order,
 /// each with a value of its own.
 pub fn states_follow()
     ensures opens { (program : Program) → OpeningLeavesAState program }

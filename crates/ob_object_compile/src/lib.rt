@@ -1,4 +1,5 @@
-//! From the text of a module to the object that processes share, and to the listing of its code. All commands but `verify` begin here.
+//! From the text of a module to the object that processes share, and to the listing of its code. All commands begin here
+//! but `verify`, and `draw` and `explain` of a record.
 #![tactic(auto)]
 
 pub mod compiling;

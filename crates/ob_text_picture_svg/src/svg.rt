@@ -138,6 +138,7 @@ pub fn open_words(text: &mut String, class: &str, at: Point) -> Result<(), Alloc
     text.push_str(">")
 }
 
+/// Ends words that were begun so, with a line feed behind them.
 pub fn close_words(text: &mut String) -> Result<(), AllocError>
     ensures { OnOk result (string_bytes text.new ≡ string_bytes text.old ++ close_text) }
 {

@@ -26,6 +26,7 @@ impl Frames {
     /// As many procedures as there can be that have called another one.
     pub const LIMIT: usize = 63;
 
+    /// No heights, with memory for as many as there can be.
     pub fn new(alloc: Global) -> Result<Frames, AllocError>
         ensures { IfOk result (λ f. f ≡ []) }
     {
@@ -35,6 +36,7 @@ impl Frames {
         })
     }
 
+    /// How many procedures have called another one that has not returned.
     pub fn len(&self) -> usize
         ensures value { result ≡ length self.now }
         ensures limit { result ≤ 63 }
@@ -42,6 +44,7 @@ impl Frames {
         self.count
     }
 
+    /// Takes all of them. The memory stays.
     pub fn clear(&mut self)
         ensures { self.new ≡ [] }
     {

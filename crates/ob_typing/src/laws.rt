@@ -27,7 +27,7 @@ pub fn one_fault()
     ensures { (m : Module) (f g : BrokenRule) → Breaks m f → Breaks m g → f ≡ g }
 {}
 
-/// The program of a well typed module keeps the limits on parameters, frames and the module's variables.
+/// The program of a well typed module keeps the limits on parameters, frames, the module's variables and exports.
 #[tactic(auto, using(crate::proofs::Within::keeps_limits))]
 pub fn well_typed_keeps_limits()
     ensures { (m : Module) (program : Program) → WellTyped m program → KeepsLimits program }

@@ -56,6 +56,7 @@ impl CallList {
         }
     }
 
+    /// How many calls were pushed; none is taken out again.
     pub fn len(&self) -> usize
         ensures { result ≡ length self.now.calls }
     {

@@ -316,6 +316,7 @@ impl<E: Engine> Machine<E> {
         let _ = &self.alloc;
     }
 
+    /// The engine whose calls the processes make, as it was handed in.
     pub fn engine(&self) -> &E
         ensures { result.now ≡ self.now.engine }
     {
@@ -355,8 +356,8 @@ impl<E: Engine> Machine<E> {
     }
 
     /// The calls that were applied so far, in an order that is legal for the history, from the opening to the
-    /// state's words: no call twice, each that ended, of two of them the later one did not end before the earlier
-    /// one began, and made one at a time they have the replies that the history gives.
+    /// words that `variables` lends: no call twice, each that ended, of two of them the later one did not end before
+    /// the earlier one began, and made one at a time they have the replies that the history gives.
     pub fn order(&self) -> &[CallId]
         ensures calls { result.now ≡ self.now.state.records.order }
         ensures legal { ∥ IsLegal (E.effect self.now.engine) self.now.opening self.now.state.records.history result.now (variables_of self.now) ∥₁ }

@@ -91,7 +91,7 @@ impl Records {
         Ok(())
     }
 
-    /// How many turns of process p the last run of turns has room for, at most so many: none where it is another's.
+    /// A number of turns of process p for which the last run of turns has room, at most so many: none where it is another's.
     pub fn room(&self, p: usize, most: u64) -> u64
         ensures few { result ≤ most }
         ensures room { result ≤ room_for self.now.schedule p }
@@ -153,18 +153,21 @@ impl Records {
         Ok(())
     }
 
+    /// What was seen so far: the events Begin, Applied and End, in the order of the steps that showed them.
     pub fn history(&self) -> &History
         ensures { result.now ≡ self.now.history }
     {
         &self.history
     }
 
+    /// The calls that took effect so far, those of one exchange behind those of the one before it.
     pub fn order(&self) -> &[CallId]
         ensures { result.now ≡ self.now.order }
     {
         self.order.as_slice()
     }
 
+    /// Who stepped so far: runs of steps of one process, the first one first. A turn is one step.
     pub fn schedule(&self) -> &[Turns]
         ensures { result.now ≡ self.now.schedule }
     {
@@ -178,6 +181,7 @@ impl Records {
         let _ = self.schedule.len();
     }
 
+    /// History, order and schedule. The marks are let go.
     pub fn into_parts(self) -> (History, Vec<CallId>, Vec<Turns>)
         ensures history { result.0 ≡ self.history }
         ensures order { result.1.items ≡ self.order }

@@ -20,7 +20,8 @@ pub struct EndedCall {
     pub steps: u128,
 }
 
-/// The calls that end in the run of the scripts and of the schedule's turns, in the order of their ends.
+/// The calls that end in the run of the scripts and of the schedule's turns, in the order of their ends, each with all its own
+/// steps, or with 2^128 - 1 where they are more.
 pub fn ended_calls<E: Engine>(
     alloc: Global,
     engine: E,
