@@ -4,3 +4,4 @@ pub mod CheckingVariables
 pub mod Designations
 pub mod CheckingStatements
 pub mod ByScopes
+pub mod FirstParts

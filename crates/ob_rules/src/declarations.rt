@@ -5,17 +5,17 @@ ghost use Rattle.ob_grammar.specs.Tree as trees;
 ghost use Rattle.ob_grammar.specs.View.{expr_of, name_of, const_decl_of, type_decl_of, var_decl_of};
 ghost use Rattle.ob_typing.specs.Scopes.{words};
 ghost use Rattle.ob_typing.specs.Declarations as Declared;
-ghost use Rattle.ob_typing.specs.Declarations.{first_beyond, with_variables, room_behind};
+ghost use Rattle.ob_typing.specs.Declarations.{first_beyond, room_behind};
 ghost use Rattle.ob_typing.specs.declared.rule.Rule.TheVariants.{PassesLimit};
 ghost use Rattle.ob_typing.specs.Verdict.{Right, unless_name};
 ghost use Rattle.ob_typing.specs.TypeVerdicts as Constants;
 ghost use Rattle.ob_typing.specs.ModuleVerdicts as Verdicts;
 ghost use Rattle.ob_checked.specs.Types.{type_in, is_below, Extends};
-ghost use Rattle.ob_checked.specs.View.{variable_of};
 ghost use Rattle.ob_scopes.specs.Names.{types_in, env_of};
-ghost use Rattle.ob_rules.specs.ByScopes.{named_variables, variables_by};
-ghost use Rattle.ob_rules.specs.Checking.{Fails, and_then};
-ghost use Rattle.ob_rules.specs.CheckingVariables.{room_of, known_variables, behind_variables};
+ghost use Rattle.ob_rules.specs.ByScopes.{declaring_variables, named_variables, names_with_variables, variables_by, with_variables, VariablesStayKnown};
+ghost use Rattle.ob_rules.specs.Checking.{Fails};
+ghost use Rattle.ob_rules.specs.CheckingVariables.{room_of, known_variables};
+ghost use Rattle.ob_rules.specs.FirstParts.{DeclaresConstant, DeclaresType, DeclaresVariables};
 
 use crate::expressions::{expression, first_place};
 use crate::types::denoted;
@@ -72,7 +72,7 @@ fn declare_constant(
     scopes: &mut Scopes,
     declaration: &ConstDecl,
 ) -> Result<(), CheckFault>
-    ensures ok { OnOk result ((rest : List trees.ConstDecl) → Verdicts.constants (const_decl_of declaration.now ∷ rest) (env_of scopes.old) ≡ Verdicts.constants rest (env_of scopes.new)) }
+    ensures ok { OnOk result (DeclaresConstant declaration.now scopes.old scopes.new) }
     ensures types { OnOk result (types_in scopes.new ≡ types_in scopes.old) }
     ensures fault { IfErr result (λ f. (rest : List trees.ConstDecl) → Fails f (Verdicts.constants (const_decl_of declaration.now ∷ rest) (env_of scopes.old))) }
 {
@@ -105,7 +105,7 @@ fn declare_type(
     scopes: &mut Scopes,
     declaration: &TypeDecl,
 ) -> Result<(), CheckFault>
-    ensures ok { OnOk result ((rest : List trees.TypeDecl) → Verdicts.types (type_decl_of declaration.now ∷ rest) (env_of scopes.old) ≡ Verdicts.types rest (env_of scopes.new)) }
+    ensures ok { OnOk result (DeclaresType declaration.now scopes.old scopes.new) }
     ensures extends { OnOk result (Extends (types_in scopes.old) (types_in scopes.new)) }
     ensures fault { IfErr result (λ f. (rest : List trees.TypeDecl) → Fails f (Verdicts.types (type_decl_of declaration.now ∷ rest) (env_of scopes.old))) }
 {
@@ -124,11 +124,10 @@ pub fn declare_variables(
     declarations: &[VarDecl],
     room: Room,
 ) -> Result<Vec<Variable>, CheckFault>
-    ensures typed { IfOk result (λ vs. Verdicts.variables (map var_decl_of declarations.now) (env_of scopes.old) (room_of room)
-        ≡ Right (record { env = env_of scopes.new; variables = map (variable_of (types_in scopes.new)) vs.items })) }
+    ensures typed { IfOk result (λ vs. declaring_variables scopes.old room (map var_decl_of declarations.now) ≡ Right (with_variables scopes.new vs.items)) }
     ensures known { IfOk result (λ vs. known_variables (length (types_in scopes.new)) vs.items ≡ true) }
     ensures extends { OnOk result (Extends (types_in scopes.old) (types_in scopes.new)) }
-    ensures fault { IfErr result (λ f. Fails f (Verdicts.variables (map var_decl_of declarations.now) (env_of scopes.old) (room_of room))) }
+    ensures fault { IfErr result (λ f. Fails f (declaring_variables scopes.old room (map var_decl_of declarations.now))) }
 {
     let mut variables = Vec::new(alloc);
     let mut left = room;
@@ -147,12 +146,10 @@ fn declare_of_type(
     variables: &mut Vec<Variable>,
 ) -> Result<Room, CheckFault>
     requires known { known_variables (length (types_in scopes.old)) variables.old.items ≡ true }
-    ensures typed { IfOk result (λ r. (rest : List trees.VarDecl) →
-        and_then (Verdicts.variables (var_decl_of declaration.now ∷ rest) (env_of scopes.old) (room_of room)) (behind_variables (types_in scopes.old) variables.old.items)
-        ≡ and_then (Verdicts.variables rest (env_of scopes.new) (room_of r)) (behind_variables (types_in scopes.new) variables.new.items)) }
+    ensures typed { IfOk result (λ left. DeclaresVariables declaration.now scopes.old room variables.old.items scopes.new left variables.new.items) }
     ensures known { OnOk result (known_variables (length (types_in scopes.new)) variables.new.items ≡ true) }
     ensures extends { OnOk result (Extends (types_in scopes.old) (types_in scopes.new)) }
-    ensures fault { IfErr result (λ f. (rest : List trees.VarDecl) → Fails f (Verdicts.variables (var_decl_of declaration.now ∷ rest) (env_of scopes.old) (room_of room))) }
+    ensures fault { IfErr result (λ f. (rest : List trees.VarDecl) → Fails f (declaring_variables scopes.old room (var_decl_of declaration.now ∷ rest))) }
 {
     if let Some(name) = scopes.second(alloc, &declaration.names)? {
         return Err(broken(Rule::DeclaredTwice, name.place));
@@ -179,10 +176,10 @@ fn declare_names(
 ) -> Result<Room, CheckFault>
     requires known { is_below (length (types_in scopes.old)) data_type ≡ true }
     ensures fits { OnOk result (first_beyond (room_of room) (words (type_in (types_in scopes.old) data_type)) (map name_of names.now) ≡ None) }
-    ensures names { OnOk result (env_of scopes.new ≡ with_variables (env_of scopes.old) (room_of room) (type_in (types_in scopes.old) data_type) (map name_of names.now)) }
+    ensures names { OnOk result (env_of scopes.new ≡ names_with_variables scopes.old room data_type names.now) }
     ensures room { IfOk result (λ r. room_of r ≡ room_behind (room_of room) (type_in (types_in scopes.old) data_type) (map name_of names.now)) }
     ensures variables { OnOk result (variables_by scopes.old variables.new.items ≡ variables_by scopes.old variables.old.items ++ named_variables scopes.old data_type names.now) }
-    ensures known { OnOk result (known_variables (length (types_in scopes.old)) variables.old.items ≡ true → known_variables (length (types_in scopes.old)) variables.new.items ≡ true) }
+    ensures known { OnOk result (VariablesStayKnown scopes.old variables.old.items variables.new.items) }
     ensures types { OnOk result (types_in scopes.new ≡ types_in scopes.old) }
     ensures fault { IfErr result (λ f. Fails f (unless_name (first_beyond (room_of room) (words (type_in (types_in scopes.old) data_type)) (map name_of names.now)) PassesLimit)) }
 {

@@ -12,8 +12,9 @@ ghost use Rattle.ob_scopes.specs.Usages.{use_of};
 ghost use Rattle.ob_checked.specs.View.{table_of};
 ghost use Rattle.ob_scopes.specs.Names.{types_in, env_of};
 ghost use Rattle.ob_rules.specs.ByScopes.{named_value_by, selecting_by};
-ghost use Rattle.ob_rules.specs.Checking.{Fails, and_then, chain_of, chained, compared, complemented, literal, path_of, signed, typed_of};
-ghost use Rattle.ob_rules.specs.Checking.{designator_in, fielded, indexed, selected_before, selector_before};
+ghost use Rattle.ob_rules.specs.Checking.{Fails, chain_of, chained, compared, complemented, literal, path_of, signed, typed_of};
+ghost use Rattle.ob_rules.specs.Checking.{designator_in, fielded, indexed, selector_before};
+ghost use Rattle.ob_rules.specs.FirstParts.{ElementLeadsTo, FieldLeadsTo, SelectorLeadsTo};
 
 use ob_checked::program::{Designator, Expression, Operation, Selector, Slot};
 use ob_checked::types::{DataType, Types};
@@ -157,8 +158,7 @@ fn selection(
     usage: Usage,
     whole: DataType,
 ) -> Result<(Selector, DataType), CheckFault>
-    ensures typed { IfOk result (λ x. (rest : trees.Selectors) → selecting_by scopes.now (selector_before selector.now rest) usage whole
-        ≡ and_then (selecting_by scopes.now rest usage x.1) (selected_before x.0)) }
+    ensures typed { IfOk result (λ x. SelectorLeadsTo scopes.now selector.now usage whole x) }
     ensures fault { IfErr result (λ f. (rest : trees.Selectors) → Fails f (selecting_by scopes.now (selector_before selector.now rest) usage whole)) }
 {
     match selector {
@@ -310,8 +310,7 @@ fn field(
     place: usize,
     name: &Name,
 ) -> Result<(Selector, DataType), CheckFault>
-    ensures typed { IfOk result (λ x. (go : Programs.DataType → Verdict Verdicts.Path) → fielded place (name_of name.now) (type_in (table_of types.now) whole) go
-        ≡ and_then (go (type_in (table_of types.now) x.1)) (selected_before x.0)) }
+    ensures typed { IfOk result (λ x. FieldLeadsTo types.now place name.now whole x) }
     ensures fault { IfErr result (λ f. (go : Programs.DataType → Verdict Verdicts.Path) → Fails f (fielded place (name_of name.now) (type_in (table_of types.now) whole) go)) }
 {
     let Some(fields) = fields_of(types, whole) else {
@@ -332,8 +331,7 @@ fn element(
     first: usize,
     index: Typed,
 ) -> Result<(Selector, DataType), CheckFault>
-    ensures typed { IfOk result (λ x. (go : Programs.DataType → Verdict Verdicts.Path) → indexed place first (type_in (table_of types.now) whole) (typed_of index) go
-        ≡ and_then (go (type_in (table_of types.now) x.1)) (selected_before x.0)) }
+    ensures typed { IfOk result (λ x. ElementLeadsTo types.now place first index whole x) }
     ensures fault { IfErr result (λ f. (go : Programs.DataType → Verdict Verdicts.Path) → Fails f (indexed place first (type_in (table_of types.now) whole) (typed_of index) go)) }
 {
     if !same_scalar_type(index.data_type, ScalarType::Integer) {

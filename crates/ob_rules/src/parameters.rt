@@ -1,21 +1,27 @@
 //! Formal parameters, in text order.
 
-ghost use Rattle.std.specs.Prelude.{◌≡◌, true, List, ◌∷◌, ◌++◌, ◌+◌, ◌-◌, ◌||◌, length, map, None, OnOk, IfOk, IfErr};
+ghost use Rattle.std.specs.Prelude.{◌≡◌, true, List, ◌∷◌, ◌+◌, ◌-◌, ◌||◌, length, map, None, OnOk, IfOk, IfErr};
 ghost use Rattle.ob_grammar.specs.Tree as trees;
 ghost use Rattle.ob_grammar.specs.View.{name_of, type_of, section_of};
 ghost use Rattle.ob_typing.specs.Scopes.{is_declared, is_simple};
 ghost use Rattle.ob_typing.specs.TypeFaults.{type_place};
-ghost use Rattle.ob_typing.specs.Declarations.{most_parameters, with_parameters};
+ghost use Rattle.ob_typing.specs.Declarations.{most_parameters};
 ghost use Rattle.ob_typing.specs.DeclarationFaults.{parameter_broken};
 ghost use Rattle.ob_typing.specs.Verdict.{Right, unless_broken};
-ghost use Rattle.ob_typing.specs.ModuleVerdicts as Verdicts;
 ghost use Rattle.ob_checked.specs.Types.{type_in, is_below, Extends};
-ghost use Rattle.ob_checked.specs.View.{table_of, parameter_of};
+ghost use Rattle.ob_checked.specs.View.{table_of};
 ghost use Rattle.ob_scopes.specs.Objects.{known_parameters};
 ghost use Rattle.ob_scopes.specs.Names.{types_in, env_of};
-ghost use Rattle.ob_rules.specs.ByScopes.{named_parameters, parameters_by};
-ghost use Rattle.ob_rules.specs.Checking.{Fails, and_then};
-ghost use Rattle.ob_rules.specs.CheckingVariables.{behind_parameters};
+ghost use Rattle.ob_rules.specs.ByScopes.{
+  declaring_parameters,
+  names_with_parameters,
+  parameters_and_named,
+  parameters_by,
+  with_parameters,
+  ParametersStayKnown,
+};
+ghost use Rattle.ob_rules.specs.Checking.{Fails};
+ghost use Rattle.ob_rules.specs.FirstParts.{DeclaresSection};
 
 use crate::types::formal_type;
 use ob_checked::program::Parameter;
@@ -36,11 +42,10 @@ pub fn declare_parameters(
     scopes: &mut Scopes,
     sections: &[Section],
 ) -> Result<Vec<Parameter>, CheckFault>
-    ensures typed { IfOk result (λ ps. Verdicts.parameters (map section_of sections.now) (env_of scopes.old) 0
-        ≡ Right (record { env = env_of scopes.new; parameters = map (parameter_of (types_in scopes.new)) ps.items })) }
+    ensures typed { IfOk result (λ ps. declaring_parameters scopes.old 0 (map section_of sections.now) ≡ Right (with_parameters scopes.new ps.items)) }
     ensures known { IfOk result (λ ps. known_parameters (length (types_in scopes.new)) ps.items ≡ true) }
     ensures extends { OnOk result (Extends (types_in scopes.old) (types_in scopes.new)) }
-    ensures fault { IfErr result (λ f. Fails f (Verdicts.parameters (map section_of sections.now) (env_of scopes.old) 0)) }
+    ensures fault { IfErr result (λ f. Fails f (declaring_parameters scopes.old 0 (map section_of sections.now))) }
 {
     let mut parameters = Vec::new(alloc);
     for section in sections {
@@ -57,12 +62,10 @@ fn declare_section(
     parameters: &mut Vec<Parameter>,
 ) -> Result<(), CheckFault>
     requires known { known_parameters (length (types_in scopes.old)) parameters.old.items ≡ true }
-    ensures ok { OnOk result ((rest : List trees.Section) →
-        and_then (Verdicts.parameters (section_of section.now ∷ rest) (env_of scopes.old) (length parameters.old.items)) (behind_parameters (types_in scopes.old) parameters.old.items)
-        ≡ and_then (Verdicts.parameters rest (env_of scopes.new) (length parameters.new.items)) (behind_parameters (types_in scopes.new) parameters.new.items)) }
+    ensures ok { OnOk result (DeclaresSection section.now scopes.old parameters.old.items scopes.new parameters.new.items) }
     ensures known { OnOk result (known_parameters (length (types_in scopes.new)) parameters.new.items ≡ true) }
     ensures extends { OnOk result (Extends (types_in scopes.old) (types_in scopes.new)) }
-    ensures fault { IfErr result (λ f. (rest : List trees.Section) → Fails f (Verdicts.parameters (section_of section.now ∷ rest) (env_of scopes.old) (length parameters.old.items))) }
+    ensures fault { IfErr result (λ f. (rest : List trees.Section) → Fails f (declaring_parameters scopes.old (length parameters.old.items) (section_of section.now ∷ rest))) }
 {
     test_names(alloc, scopes, &section.names, parameters.len())?;
     let data_type = formal_type(alloc, scopes, &section.of_type)?;
@@ -119,9 +122,9 @@ fn add_parameters(
     parameters: &mut Vec<Parameter>,
 ) -> Result<(), CheckFault>
     requires known { is_below (length (types_in scopes.old)) data_type ≡ true }
-    ensures names { OnOk result (env_of scopes.new ≡ with_parameters (env_of scopes.old) (length parameters.old.items) (type_in (types_in scopes.old) data_type) (map name_of names.now)) }
-    ensures parameters { OnOk result (parameters_by scopes.old parameters.new.items ≡ parameters_by scopes.old parameters.old.items ++ named_parameters scopes.old is_var data_type names.now) }
-    ensures known { OnOk result (known_parameters (length (types_in scopes.old)) parameters.old.items ≡ true → known_parameters (length (types_in scopes.old)) parameters.new.items ≡ true) }
+    ensures names { OnOk result (env_of scopes.new ≡ names_with_parameters scopes.old (length parameters.old.items) data_type names.now) }
+    ensures parameters { OnOk result (parameters_by scopes.old parameters.new.items ≡ parameters_and_named scopes.old parameters.old.items is_var data_type names.now) }
+    ensures known { OnOk result (ParametersStayKnown scopes.old parameters.old.items parameters.new.items) }
     ensures types { OnOk result (types_in scopes.new ≡ types_in scopes.old) }
     ensures fault { IfErr result (λ f. f ≡ CheckFault.NoMemory) }
 {

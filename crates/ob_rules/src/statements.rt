@@ -13,9 +13,10 @@ ghost use Rattle.ob_checked.specs.Types.{Entry};
 ghost use Rattle.ob_checked.specs.View.{parameter_of, actual_of, statement_of, statements_in};
 ghost use Rattle.ob_checked.specs.View as Checked;
 ghost use Rattle.ob_scopes.specs.Names.{types_in, env_of, meant_of};
-ghost use Rattle.ob_rules.specs.ByScopes.{assigned_by, branches_before, place_actual_by};
-ghost use Rattle.ob_rules.specs.Checking.{Fails, and_then};
-ghost use Rattle.ob_rules.specs.CheckingStatements.{condition, called, kept, statement_before};
+ghost use Rattle.ob_rules.specs.ByScopes.{actuals_by, assigned_by, branches_before, place_actual_by};
+ghost use Rattle.ob_rules.specs.Checking.{Fails};
+ghost use Rattle.ob_rules.specs.CheckingStatements.{condition, called, kept};
+ghost use Rattle.ob_rules.specs.FirstParts.{StatementChecksTo};
 
 use crate::expressions::{expression, first_place};
 use crate::places::{designated, holds};
@@ -119,8 +120,8 @@ fn actuals(
     written: &[Expr],
 ) -> Result<Vec<Actual>, CheckFault>
     requires { length written.now ≡ length parameters.now }
-    ensures typed { IfOk result (λ x. Verdicts.actuals (env_of scopes.now) (map (parameter_of (types_in scopes.now)) parameters.now) (map expr_of written.now) ≡ Right (map actual_of x.items)) }
-    ensures fault { IfErr result (λ f. Fails f (Verdicts.actuals (env_of scopes.now) (map (parameter_of (types_in scopes.now)) parameters.now) (map expr_of written.now))) }
+    ensures typed { IfOk result (λ x. actuals_by scopes.now parameters.now written.now ≡ Right (map actual_of x.items)) }
+    ensures fault { IfErr result (λ f. Fails f (actuals_by scopes.now parameters.now written.now)) }
 {
     let mut checked = Vec::new(alloc);
     for (parameter, expr) in parameters.iter().zip(written) {
@@ -251,8 +252,7 @@ fn statement(
     scopes: &Scopes,
     written: &Stmt,
 ) -> Result<Option<Statement>, CheckFault>
-    ensures typed { IfOk result (λ x. (rest : trees.Stmts) → Verdicts.statements (env_of scopes.now) (trees.stmt (stmt_of written.now) rest)
-        ≡ and_then (Verdicts.statements (env_of scopes.now) rest) (statement_before x)) }
+    ensures typed { IfOk result (λ x. StatementChecksTo scopes.now written.now x) }
     ensures fault { IfErr result (λ f. (rest : trees.Stmts) → Fails f (Verdicts.statements (env_of scopes.now) (trees.stmt (stmt_of written.now) rest))) }
 {
     match written {

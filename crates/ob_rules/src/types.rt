@@ -1,19 +1,21 @@
 //! Type expressions.
 
-ghost use Rattle.std.specs.Prelude.{◌≡◌, ℕ, true, length, map, option_map, List, None, OnOk, IfOk, IfErr};
+ghost use Rattle.std.specs.Prelude.{◌≡◌, ℕ, true, length, map, option_map, None, OnOk, IfOk, IfErr};
 ghost use Rattle.ob_grammar.specs.Tree as trees;
 ghost use Rattle.ob_grammar.specs.View as Trees;
 ghost use Rattle.ob_grammar.specs.View.{type_of, name_of};
 ghost use Rattle.ob_typing.specs.Program as Programs;
-ghost use Rattle.ob_typing.specs.Types.{second, none_taken, and_all_taken, with_fields};
+ghost use Rattle.ob_typing.specs.Types.{second, none_taken, and_all_taken};
 ghost use Rattle.std.specs.Prelude as Lists;
 ghost use Rattle.ob_typing.specs.Verdict.{Right};
 ghost use Rattle.ob_typing.specs.TypeVerdicts as Constants;
-ghost use Rattle.ob_checked.specs.Types.{type_in, type_by, types_of, fields_in, fields_by, is_below, all_below, Extends};
+ghost use Rattle.ob_checked.specs.Types.{type_in, fields_in, is_below, all_below, Extends};
 ghost use Rattle.ob_scopes.specs.Names.{types_in, env_of};
 ghost use Rattle.ob_scopes.specs.TakenNames.{taken_by};
-ghost use Rattle.ob_rules.specs.Checking.{Fails, and_then};
-ghost use Rattle.ob_rules.specs.CheckingTypes.{length_at, small_at, list_before, fields_before, behind_fields};
+ghost use Rattle.ob_rules.specs.ByScopes.{declared_fields};
+ghost use Rattle.ob_rules.specs.Checking.{Fails};
+ghost use Rattle.ob_rules.specs.CheckingTypes.{length_at, small_at, list_before};
+ghost use Rattle.ob_rules.specs.FirstParts.{AddsFieldList, AddsFields};
 
 use crate::declarations::constant;
 use crate::expressions::first_place;
@@ -96,7 +98,7 @@ fn record_fields(
     scopes: &mut Scopes,
     lists: &[FieldList],
 ) -> Result<Fields, CheckFault>
-    ensures typed { IfOk result (λ fs. Constants.denoted_fields (env_of scopes.old) (Trees.fields_in lists.now) none_taken ≡ Right (fields_by (types_of (types_in scopes.new)) (fields_in fs))) }
+    ensures typed { IfOk result (λ fs. Constants.denoted_fields (env_of scopes.old) (Trees.fields_in lists.now) none_taken ≡ Right (declared_fields scopes.new fs)) }
     ensures known { IfOk result (λ fs. all_below (length (types_in scopes.new)) (fields_in fs) ≡ true) }
     ensures names { OnOk result (env_of scopes.new ≡ env_of scopes.old) }
     ensures extends { OnOk result (Extends (types_in scopes.old) (types_in scopes.new)) }
@@ -118,9 +120,7 @@ fn add_list(
     fields: &mut Fields,
 ) -> Result<(), CheckFault>
     requires known { all_below (length (types_in scopes.old)) (fields_in fields.old) ≡ true }
-    ensures ok { OnOk result ((rest : trees.FieldLists) →
-        and_then (Constants.denoted_fields (env_of scopes.old) (list_before list.now rest) (taken_by fields.old)) (behind_fields (types_in scopes.old) (fields_in fields.old))
-        ≡ and_then (Constants.denoted_fields (env_of scopes.old) rest (taken_by fields.new)) (behind_fields (types_in scopes.new) (fields_in fields.new))) }
+    ensures ok { OnOk result (AddsFieldList list.now scopes.old fields.old scopes.new fields.new) }
     ensures known { OnOk result (all_below (length (types_in scopes.new)) (fields_in fields.new) ≡ true) }
     ensures names { OnOk result (env_of scopes.new ≡ env_of scopes.old) }
     ensures extends { OnOk result (Extends (types_in scopes.old) (types_in scopes.new)) }
@@ -153,8 +153,7 @@ fn second_field<'n>(
 /// Adds fields of one type, whose names are new.
 fn add_fields(names: &[Name], data_type: DataType, fields: &mut Fields) -> Result<(), CheckFault>
     requires new { second (taken_by fields.old) (map name_of names.now) ≡ None }
-    ensures fields { OnOk result ((types : List Programs.DataType) (rest : Programs.Fields) →
-        fields_before types (fields_in fields.new) rest ≡ fields_before types (fields_in fields.old) (with_fields (map name_of names.now) (type_by types data_type) rest)) }
+    ensures fields { OnOk result (AddsFields names.now data_type fields.old fields.new) }
     ensures taken { OnOk result (taken_by fields.new ≡ and_all_taken (taken_by fields.old) (map name_of names.now)) }
     ensures known { OnOk result ((n : ℕ) → all_below n (fields_in fields.old) ≡ true → is_below n data_type ≡ true → all_below n (fields_in fields.new) ≡ true) }
     ensures fault { IfErr result (λ f. f ≡ CheckFault.NoMemory) }
@@ -219,11 +218,11 @@ fn array_of(
 /// A record that begins at a place.
 fn record_of(scopes: &mut Scopes, place: usize, fields: Fields) -> Result<DataType, CheckFault>
     requires known { all_below (length (types_in scopes.old)) (fields_in fields) ≡ true }
-    ensures typed { IfOk result (λ t. small_at place (Programs.Record place (fields_by (types_of (types_in scopes.old)) (fields_in fields))) ≡ Right (type_in (types_in scopes.new) t)) }
+    ensures typed { IfOk result (λ t. small_at place (Programs.Record place (declared_fields scopes.old fields)) ≡ Right (type_in (types_in scopes.new) t)) }
     ensures known { IfOk result (λ t. is_below (length (types_in scopes.new)) t ≡ true) }
     ensures names { OnOk result (env_of scopes.new ≡ env_of scopes.old) }
     ensures extends { OnOk result (Extends (types_in scopes.old) (types_in scopes.new)) }
-    ensures fault { IfErr result (λ f. Fails f (small_at place (Programs.Record place (fields_by (types_of (types_in scopes.old)) (fields_in fields))))) }
+    ensures fault { IfErr result (λ f. Fails f (small_at place (Programs.Record place (declared_fields scopes.old fields)))) }
 {
     match scopes.record(place, fields)? {
         Some(data_type) => Ok(data_type),
