@@ -1,10 +1,12 @@
 -- What a machine keeps from step to step.
 use Rattle.std.specs.Prelude.{◌≡◌, ◌≤◌, ℤ, List, length}
+use Rattle.ll_cell.specs.Memory.{Memory}
 use Rattle.ll_cell.specs.declared.form.Form.{Form}
 use Rattle.ob_interface.specs.Call.{ObjectCall}
 use Rattle.wf_table.specs.declared.process.Sizes.{Sizes}
 use Rattle.wf_table.specs.Meaning.{Meaning}
-use Rattle.wf_table.specs.Object.{State}
+use Rattle.wf_table.specs.Object.{Records, State}
+use Rattle.wf_table.specs.Table.{Process}
 use Rattle.wf_table.specs.Schedule.{steps_of}
 use Rattle.wf_table.specs.Each.{Each}
 use Rattle.wf_table.specs.Sound.{IsSound}
@@ -29,3 +31,9 @@ pub record IsKept {Run : Type 0} (m : Meaning Run) (lawful : List ℤ → Type 0
   pub among : Each (λ p _. (spent_of spent p).inside ≤ length (steps_of s.records.schedule)) s.processes
   -- toggles are kept as bits
   pub packs : form ≡ packed z
+
+-- the same of a machine over an engine, by the cell as it is kept, the processes and the records
+abbrev pub IsKeptOver : {E Run : Type 0} → (meaning : E → Meaning Run) → (lawful : E → List ℤ → Type 0) → (fits : E → ObjectCall → Type 0) → (ready : E → Run → Type 0) → E → Sizes → (opening : List ℤ) → Memory → List (Process Run) → Records → List Spent → Type 0
+IsKeptOver meaning lawful fits ready engine z opening shared processes records spent =
+    IsKept (meaning engine) (lawful engine) (fits engine) (ready engine) z opening
+    (record { cell = shared.cell; processes = processes; records = records }) spent shared.form

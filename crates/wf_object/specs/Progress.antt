@@ -26,6 +26,10 @@ progress c q x = record { cell = c; process = q; spent = x }
 abbrev pub outside_more : Spent → ℕ → Spent
 outside_more x n = record x { outside = x.outside + n }
 
+-- the cell, the process, and what it has spent with so many steps outside bodies that are not yet counted
+abbrev pub progress_on : {Run : Type 0} → Cell → Process Run → Spent → ℕ → Progress Run
+progress_on c q x n = progress c q (outside_more x n)
+
 module _ {Run : Type 0} (m : Meaning Run) (z : Sizes) (p : ℕ) where
   -- behind the row of the process's label
   abbrev pub by_row : Progress Run → Progress Run

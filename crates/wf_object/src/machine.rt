@@ -47,14 +47,14 @@ pub struct Machine<E: Engine> {
 
 impl<E: Engine> Model for Machine<E> {
     ghost use Rattle.wf_table.specs.Object.{step_of, answer_of, submit_of, label_of, script_of};
-    ghost use Rattle.wf_object.specs.View.{Object};
-    ghost use Rattle.wf_object.specs.Kept.{IsKept};
+    ghost use Rattle.wf_object.specs.View.{Object, object_view};
+    ghost use Rattle.wf_object.specs.Kept.{IsKeptOver};
 
     ghost Value = { Object E E.Run };
 
-    ghost view = { λ a. record { engine = a.engine; sizes = a.sizes; opening = a.opening.items; state = record { cell = a.shared.cell; processes = a.processes.items; records = a.records }; spent = a.spent.items } };
+    ghost view = { λ a. object_view a.engine a.sizes a.opening.items a.shared.cell a.processes.items a.records a.spent.items };
 
-    ghost invariant = { λ a. IsKept (E.meaning a.engine) (E.lawful a.engine) (E.fits a.engine) (E.ready a.engine) a.sizes a.opening.items (record { cell = a.shared.cell; processes = a.processes.items; records = a.records }) a.spent.items a.shared.form };
+    ghost invariant = { λ a. IsKeptOver E.meaning E.lawful E.fits E.ready a.engine a.sizes a.opening.items a.shared a.processes.items a.records a.spent.items };
 }
 
 impl<E: Engine> Machine<E> {
@@ -164,7 +164,8 @@ impl<E: Engine> Machine<E> {
         self.take_loudly(p)
     }
 
-    /// The same, within its caller: one that needs no reply makes no room for it.
+    /// One step of the process at a label that shows something, and its answer: the step is noted with what is seen of it, and what it
+    /// spends is counted. Where memory runs out nothing changes.
     #[inline(always)]
     fn take_loudly(&mut self, p: usize) -> Result<StepOut, NoMemory>
         requires process { p < self.old.sizes.processes }

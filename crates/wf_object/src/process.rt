@@ -24,11 +24,12 @@ pub struct Process<R> {
 }
 
 impl<R> Model for Process<R> {
+    ghost use Rattle.wf_object.specs.View.{process_view};
     ghost use Rattle.wf_table.specs.Table as table;
 
     ghost Value = { table.Process R };
 
-    ghost view = { λ q. record { label = q.label; calls = q.calls.calls; begun = q.begun; registers = q.registers; list = q.list.items; replies = q.replies.items; save = q.save.items; run = q.run } };
+    ghost view = { λ q. process_view q.label q.calls.calls q.begun q.registers q.list.items q.replies.items q.save.items q.run };
 }
 
 impl<R> Process<R> {

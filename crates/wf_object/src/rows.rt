@@ -2,7 +2,7 @@
 
 ghost use Rattle.std.specs.Prelude.{◌≡◌, ◌+◌, ◌<◌, ◌≤◌, ◌^◌};
 ghost use Rattle.wf_object.specs.Packed.{packed};
-ghost use Rattle.wf_object.specs.Progress.{AreUnmarked, IsInObject, by_rows, outside_more, progress};
+ghost use Rattle.wf_object.specs.Progress.{AreUnmarked, IsInObject, by_rows, progress, progress_on};
 ghost use Rattle.wf_table.specs.Ranges.{IsSized, IsShaped, IsInRange};
 ghost use Rattle.wf_table.specs.Toggles.{StoresBit};
 
@@ -18,8 +18,9 @@ use ll_cell::Shared;
 use wf_bound::Spent;
 use wf_table::{Label, Sizes};
 
-/// Steps of the process, at most so many, up to the first of which more than its turn is noted; and how many they are. Where a call
-/// is posted or its reply read they are few and short, and are put in where they are taken; the others stand apart.
+/// Steps of the process, at most so many, and how many they are: where it stands at POST, READ or TAKE those at these labels, up to the
+/// first at another one; else those up to the first at one of these labels, the first of which more than its turn is noted, or a LOAD
+/// where there is room for one alone. The former are few and short, and are put in where they are taken; the others stand apart.
 #[inline(always)]
 pub fn take_rows<E: Engine>(
     engine: &E,
@@ -111,7 +112,8 @@ fn take_many<E: Engine>(
 }
 
 /// Steps of the process from where it stands, at most so many, and how many they are: in a body those of the body, at LOAD those that
-/// bring words over, else one; none where more than its turn is noted of the step. The label is looked at once.
+/// bring words over, else one; none at POST, READ and TAKE, and none where more than its turn is noted of the step. The label is
+/// looked at once.
 #[inline(always)]
 fn take_some<E: Engine>(
     engine: &E,
@@ -123,7 +125,7 @@ fn take_some<E: Engine>(
     p: usize,
     most: u64,
 ) -> u64
-    requires object { IsInObject (E.meaning engine.now) (E.lawful engine.now) (E.fits engine.now) (E.ready engine.now) z p (progress shared.old.cell q.old (outside_more spent.old outside.old)) }
+    requires object { IsInObject (E.meaning engine.now) (E.lawful engine.now) (E.fits engine.now) (E.ready engine.now) z p (progress_on shared.old.cell q.old spent.old outside.old) }
     requires sized { IsSized z }
     requires shaped { IsShaped z shared.old.cell }
     requires packed { shared.old.form ≡ packed z }
@@ -135,9 +137,9 @@ fn take_some<E: Engine>(
     requires some { 0 < most }
     ensures few { result ≤ most }
     ensures outside { outside.new ≤ outside.old + result }
-    ensures leads { progress shared.new.cell q.new (outside_more spent.new outside.new) ≡ by_rows (E.meaning engine.now) z p result (progress shared.old.cell q.old (outside_more spent.old outside.old)) }
+    ensures leads { progress_on shared.new.cell q.new spent.new outside.new ≡ by_rows (E.meaning engine.now) z p result (progress_on shared.old.cell q.old spent.old outside.old) }
     ensures form { shared.new.form ≡ shared.old.form }
-    ensures unmarked { AreUnmarked (E.meaning engine.now) z p result (progress shared.old.cell q.old (outside_more spent.old outside.old)) }
+    ensures unmarked { AreUnmarked (E.meaning engine.now) z p result (progress_on shared.old.cell q.old spent.old outside.old) }
 {
     match q.label {
         Label::Next | Label::Flip | Label::Commit | Label::Give => 0,
@@ -180,16 +182,16 @@ fn copy_words<E: Engine>(
     p: usize,
     most: u64,
 ) -> u64
-    requires object { IsInObject (E.meaning engine.now) (E.lawful engine.now) (E.fits engine.now) (E.ready engine.now) z p (progress shared.old.cell q.old (outside_more spent.now outside.old)) }
+    requires object { IsInObject (E.meaning engine.now) (E.lawful engine.now) (E.fits engine.now) (E.ready engine.now) z p (progress_on shared.old.cell q.old spent.now outside.old) }
     requires sized { IsSized z }
     requires packed { shared.old.form ≡ packed z }
     requires process { p < z.processes }
     requires room_outside { outside.old + most < 2 ^ 64 }
     ensures few { result ≤ most }
     ensures outside { outside.new ≤ outside.old + result }
-    ensures leads { progress shared.new.cell q.new (outside_more spent.now outside.new) ≡ by_rows (E.meaning engine.now) z p result (progress shared.old.cell q.old (outside_more spent.now outside.old)) }
+    ensures leads { progress_on shared.new.cell q.new spent.now outside.new ≡ by_rows (E.meaning engine.now) z p result (progress_on shared.old.cell q.old spent.now outside.old) }
     ensures form { shared.new.form ≡ shared.old.form }
-    ensures unmarked { AreUnmarked (E.meaning engine.now) z p result (progress shared.old.cell q.old (outside_more spent.now outside.old)) }
+    ensures unmarked { AreUnmarked (E.meaning engine.now) z p result (progress_on shared.old.cell q.old spent.now outside.old) }
 {
     let mut count = 0;
     while most - count > 1 && q.label == Label::Load {

@@ -1,7 +1,7 @@
 //! Steps that show something. What is noted of one depends on the state before it alone.
 
 ghost use Rattle.std.specs.Prelude.{◌≡◌, ℕ, ◌+◌, ◌^◌, ◌<◌, ◌≤◌, ◌++◌, ◌∷◌, [], IfOk, OnOk, OnErr, length, not, false, slice_get, slice_index, if◌then◌else◌};
-ghost use Rattle.std.proofs.Common.{int_eq};
+ghost use Rattle.std.specs.Ordering.{int_eq};
 ghost use Rattle.ll_cell.specs.Cell.{block_of, own_of};
 ghost use Rattle.wf_table.specs.declared.process.Label.TheVariants as At;
 ghost use Rattle.wf_table.specs.Each.{Each};
