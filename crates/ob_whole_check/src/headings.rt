@@ -13,8 +13,9 @@ ghost use Rattle.ob_checked.specs.Types.{Entry, Extends};
 ghost use Rattle.ob_checked.specs.View.{table_of, parameter_of};
 ghost use Rattle.ob_scopes.specs.Objects.{known_parameters};
 ghost use Rattle.ob_scopes.specs.Names.{types_in, env_of};
+ghost use Rattle.ob_rules.specs.ByScopes.{parameters_by, with_parameters};
 ghost use Rattle.ob_rules.specs.Checking.{Fails};
-ghost use Rattle.ob_whole_check.specs.ByScopes.{declared_around, with_parameters};
+ghost use Rattle.ob_whole_check.specs.ByScopes.{declared_around};
 ghost use Rattle.ob_whole_check.specs.CheckingProcedures.{around, headed};
 
 use crate::parts::sections_in;
@@ -76,7 +77,7 @@ pub fn declare_heading(
     number: usize,
 ) -> Result<Vec<Parameter>, CheckFault>
     ensures typed { IfOk result (λ ps. headed (env_of scopes.old) number (heading_of tree.now) ≡ Right (with_parameters scopes.new ps.items)) }
-    ensures around { IfOk result (λ ps. around (env_of scopes.new) ≡ with_procedure (env_of scopes.old) number (heading_of tree.now) (map (parameter_of (types_in scopes.new)) ps.items)) }
+    ensures around { IfOk result (λ ps. around (env_of scopes.new) ≡ with_procedure (env_of scopes.old) number (heading_of tree.now) (parameters_by scopes.new ps.items)) }
     ensures known { IfOk result (λ ps. known_parameters (length (types_in scopes.new)) ps.items ≡ true) }
     ensures extends { OnOk result (Extends (types_in scopes.old) (types_in scopes.new)) }
     ensures fault { IfErr result (λ f. Fails f (headed (env_of scopes.old) number (heading_of tree.now))) }

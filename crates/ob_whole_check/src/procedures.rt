@@ -2,15 +2,15 @@
 
 ghost use Rattle.std.specs.Prelude.{◌≡◌, true, length, OnOk, IfOk, IfErr};
 ghost use Rattle.ob_grammar.specs.Tree as trees;
-ghost use Rattle.ob_grammar.specs.View.{declarations_of, procedures_in, procedure_before, inner_of, body_of};
+ghost use Rattle.ob_grammar.specs.View.{procedures_in, procedure_before};
 ghost use Rattle.ob_typing.specs.Verdict.{Right};
 ghost use Rattle.ob_typing.specs.ModuleVerdicts as Verdicts;
 ghost use Rattle.ob_checked.specs.Types.{Extends};
 ghost use Rattle.ob_scopes.specs.Names.{types_in, env_of};
 ghost use Rattle.ob_rules.specs.Checking.{Fails};
-ghost use Rattle.ob_rules.specs.CheckingVariables.{room_of, known_variables};
-ghost use Rattle.ob_whole_check.specs.ByScopes.{further_procedures, procedures_behind, with_all, with_inner, with_procedures};
-ghost use Rattle.ob_whole_check.specs.CheckingProcedures.{around, known_procedures, behind_heading};
+ghost use Rattle.ob_rules.specs.CheckingVariables.{known_variables};
+ghost use Rattle.ob_whole_check.specs.ByScopes.{checking_inner, declaring, further_procedures, with_all, with_inner, with_procedures, DeclaresProcedure};
+ghost use Rattle.ob_whole_check.specs.CheckingProcedures.{around, known_procedures};
 
 use crate::headings::{counted, declare_heading, test_heading};
 use crate::parts::{constants_in, types_in, variables_in};
@@ -50,12 +50,11 @@ pub fn declarations(
     number: usize,
     room: Room,
 ) -> Result<Declared, CheckFault>
-    ensures typed { IfOk result (λ d. Verdicts.declarations (declarations_of tree.now) (env_of scopes.old) number (room_of room)
-        ≡ Right (with_all scopes.new d.variables.items d.procedures.items)) }
+    ensures typed { IfOk result (λ d. declaring scopes.old tree.now number room ≡ Right (with_all scopes.new d.variables.items d.procedures.items)) }
     ensures variables { IfOk result (λ d. known_variables (length (types_in scopes.new)) d.variables.items ≡ true) }
     ensures procedures { IfOk result (λ d. known_procedures (length (types_in scopes.new)) d.procedures.items ≡ true) }
     ensures extends { OnOk result (Extends (types_in scopes.old) (types_in scopes.new)) }
-    ensures fault { IfErr result (λ f. Fails f (Verdicts.declarations (declarations_of tree.now) (env_of scopes.old) number (room_of room))) }
+    ensures fault { IfErr result (λ f. Fails f (declaring scopes.old tree.now number room)) }
 {
     declare_constants(alloc, scopes, constants_in(&tree.constants))?;
     declare_types(alloc, scopes, types_in(&tree.types))?;
@@ -100,9 +99,7 @@ fn declare_procedure(
     procedures: &mut Vec<Procedure>,
 ) -> Result<usize, CheckFault>
     requires known { known_procedures (length (types_in scopes.old)) procedures.old.items ≡ true }
-    ensures typed { IfOk result (λ e. (rest : trees.Procedures) →
-        procedures_behind scopes.old first procedures.old.items exported (procedure_before tree.now rest)
-        ≡ procedures_behind scopes.new first procedures.new.items e rest) }
+    ensures typed { IfOk result (λ e. DeclaresProcedure tree.now first scopes.old procedures.old.items exported scopes.new procedures.new.items e) }
     ensures known { OnOk result (known_procedures (length (types_in scopes.new)) procedures.new.items ≡ true) }
     ensures extends { OnOk result (Extends (types_in scopes.old) (types_in scopes.new)) }
     ensures fault { IfErr result (λ f. (rest : trees.Procedures) → Fails f (further_procedures scopes.old first procedures.old.items exported (procedure_before tree.now rest))) }
@@ -134,13 +131,12 @@ fn behind(
     number: usize,
     count: usize,
 ) -> Result<Inner, CheckFault>
-    ensures typed { IfOk result (λ i. behind_heading (env_of scopes.old) number count (inner_of tree.now) (body_of tree.now)
-        ≡ Right (with_inner scopes.new i.variables.items i.procedures.items i.body.items)) }
+    ensures typed { IfOk result (λ i. checking_inner scopes.old tree.now number count ≡ Right (with_inner scopes.new i.variables.items i.procedures.items i.body.items)) }
     ensures variables { IfOk result (λ i. known_variables (length (types_in scopes.new)) i.variables.items ≡ true) }
     ensures procedures { IfOk result (λ i. known_procedures (length (types_in scopes.new)) i.procedures.items ≡ true) }
     ensures around { OnOk result (around (env_of scopes.new) ≡ around (env_of scopes.old)) }
     ensures extends { OnOk result (Extends (types_in scopes.old) (types_in scopes.new)) }
-    ensures fault { IfErr result (λ f. Fails f (behind_heading (env_of scopes.old) number count (inner_of tree.now) (body_of tree.now))) }
+    ensures fault { IfErr result (λ f. Fails f (checking_inner scopes.old tree.now number count)) }
 {
     let room = Room {
         names: count,
