@@ -1,5 +1,5 @@
 -- The exports among procedures, one procedure more at a time.
-use Rattle.std.proofs.Common.{◌≡◌, Bool, true, false, List, [], ◌∷◌, ◌++◌, Option, Some, None, map, filter, refl, ap, ◌∙◌, append_assoc}
+use Rattle.std.proofs.Common.{◌≡◌, true, false, List, [], ◌∷◌, ◌++◌, Some, None, map, filter, refl, ap, ◌∙◌, append_assoc}
 use Rattle.std.specs.Prelude.{string_bytes}
 use Rattle.std.proofs.lemmas.List.{map-append}
 use Rattle.ob_interface.specs.declared.export.Export.{Export}

@@ -1,5 +1,5 @@
 -- What the parts of procedures come to.
-use Rattle.std.specs.Prelude.{ℕ, suc, true, ◌&&◌, ◌||◌, not, List, [], ◌∷◌, ◌++◌, length, map, Option}
+use Rattle.std.specs.Prelude.{ℕ, suc, true, ◌&&◌, ◌||◌, not, List, [], ◌∷◌, ◌++◌, map, Option}
 use Rattle.std.specs.Prelude as Prelude
 use Rattle.ob_grammar.specs.Tree as Tree
 use Rattle.ob_grammar.specs.Tree.{Heading, Stmts}
