@@ -1,5 +1,5 @@
 -- A cell, and how the words of its blocks are kept.
-use Rattle.std.specs.Prelude.{◌≡◌, ℕ, ◌+◌, ◌*◌, ◌^◌, ◌<◌, ℤ, List, length, nat_le, if◌then◌else◌}
+use Rattle.std.specs.Prelude.{◌≡◌, ℕ, ◌+◌, ◌*◌, ◌^◌, ◌<◌, Bool, ℤ, List, length, nat_le, if◌then◌else◌}
 use Rattle.ll_cell.specs.declared.form.Form.{Form}
 use Rattle.ll_cell.specs.Cell.{Cell, IsNumbered, own_of, announcement_of, refill_own, word_at}
 use Rattle.ll_cell.specs.Form.{IsBit}
@@ -26,6 +26,19 @@ given_back_own m p ws =
 -- n announcements of so many words, which lie one behind the other
 abbrev pub announced : ℕ → ℕ → List ℤ → List (List ℤ)
 announced n words row = listed n (λ p. listed words (λ i. word_at row (p * words + i)))
+
+-- root, own numbers, links and blocks, with the announcements of so many words that lie in one block
+abbrev pub memory_view : (root : ℕ) → (own : List ℕ) → (linked : List Bool) → (blocks announcements : Rows) → (words : ℕ) → Memory
+memory_view root own linked blocks announcements words = record {
+  cell = record {
+    root = root;
+    own = own;
+    linked = linked;
+    blocks = blocks.rows;
+    announcements = announced (length own) words (row_of announcements 0);
+  };
+  form = blocks.form;
+}
 
 -- the announcements are one block, in which each is a part
 pub record IsMemory (root : ℕ) (own : List ℕ) (blocks announcements : Rows) (words : ℕ) : Type 0 where

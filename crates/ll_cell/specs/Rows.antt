@@ -15,6 +15,10 @@ pub record Rows : Type 0 where
 abbrev pub row_of : Rows → ℕ → List ℤ
 row_of t b = slice_index_or t.rows b []
 
+-- word i of a block is w
+abbrev pub with_word : Rows → (row i : ℕ) → ℤ → Rows
+with_word t row i w = record t { rows = slice_set t.rows row (slice_set (row_of t row) i w) }
+
 -- f of 0 to n - 1
 abbrev pub listed : {X : Type 0} → ℕ → (ℕ → X) → List X
 listed n f = map f (range_with_len 0 n)

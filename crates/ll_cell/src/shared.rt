@@ -33,13 +33,11 @@ pub struct Shared {
 }
 
 impl Model for Shared {
-    ghost use Rattle.std.specs.Prelude.{length};
-    ghost use Rattle.ll_cell.specs.Rows.{row_of};
-    ghost use Rattle.ll_cell.specs.Memory.{Memory, IsMemory, announced};
+    ghost use Rattle.ll_cell.specs.Memory.{Memory, IsMemory, memory_view};
 
     ghost Value = { Memory };
 
-    ghost view = { λ s. record { cell = record { root = s.root; own = s.own.items; linked = s.linked.items; blocks = s.blocks.rows; announcements = announced (length s.own.items) s.announce (row_of s.announcements 0) }; form = s.blocks.form } };
+    ghost view = { λ s. memory_view s.root s.own.items s.linked.items s.blocks s.announcements s.announce };
 
     ghost invariant = { λ s. IsMemory s.root s.own.items s.blocks s.announcements s.announce };
 }

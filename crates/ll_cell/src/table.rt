@@ -1,6 +1,6 @@
 //! Blocks of one form, whose words lie side by side.
 
-ghost use Rattle.std.specs.Prelude.{◌≡◌, ◌≢◌, ◌↔◌, IsTrue, ℕ, ◌+◌, ◌*◌, ◌<◌, ◌≤◌, IfOk, length, take, drop, replicate, pos, slice_index_or, slice_set, []};
+ghost use Rattle.std.specs.Prelude.{◌≡◌, ◌≢◌, ◌↔◌, IsTrue, ℕ, ◌+◌, ◌*◌, ◌<◌, ◌≤◌, IfOk, length, take, drop, replicate, pos, slice_index_or, []};
 ghost use Rattle.std.specs.Borrow.{sem};
 ghost use Rattle.std.specs.Int.{bit_at};
 ghost use Rattle.ll_cell.specs.Cell.{word_at};
@@ -33,7 +33,7 @@ impl Model for Table {
 }
 
 impl Table {
-    ghost use Rattle.ll_cell.specs.Rows.{row_of};
+    ghost use Rattle.ll_cell.specs.Rows.{row_of, with_word};
     ghost use Rattle.ll_cell.specs.LendingRows.{LendsFront};
 
     /// So many blocks of 0s.
@@ -102,7 +102,7 @@ impl Table {
         requires row { row < length self.old.rows }
         requires word { i < length (row_of self.old row) }
         requires bit { MayStand self.old.form i w }
-        ensures { self.new ≡ record self.old { rows = slice_set self.old.rows row (slice_set (row_of self.old row) i w) } }
+        ensures { self.new ≡ with_word self.old row i w }
     {
         let place = self.form.place(i);
         self.keep(row, place, w);
@@ -115,7 +115,7 @@ impl Table {
         requires part { i < self.old.form.part }
         requires word { self.old.form.head + q * self.old.form.part + i < length (row_of self.old row) }
         requires bit { i + 1 ≡ self.old.form.part → IsBit w }
-        ensures { self.new ≡ record self.old { rows = slice_set self.old.rows row (slice_set (row_of self.old row) (self.old.form.head + q * self.old.form.part + i) w) } }
+        ensures { self.new ≡ with_word self.old row (self.old.form.head + q * self.old.form.part + i) w }
     {
         let place = self.form.place_in(q, i);
         self.keep(row, place, w);
@@ -140,7 +140,7 @@ impl Table {
         requires row { row < length self.old.rows }
         requires place { IsPlace self.old.form place }
         requires bit { MayStandAt place w }
-        ensures { (i : ℕ) → i < length (row_of self.old row) → place_of self.old.form i ≡ place → self.new ≡ record self.old { rows = slice_set self.old.rows row (slice_set (row_of self.old row) i w) } }
+        ensures { (i : ℕ) → i < length (row_of self.old row) → place_of self.old.form i ≡ place → self.new ≡ with_word self.old row i w }
     {
         match place {
             Place::Word(k) => {

@@ -1,12 +1,23 @@
 -- What an engine over code shows.
-use Rattle.std.specs.Prelude.{◌≡◌}
+use Rattle.std.specs.Prelude.{◌≡◌, ℕ, List}
 use Rattle.std.specs.Coded.{Coded, coded×, coded_list, coded_ℕ}
 use base.Stored.{coded_via}
 use mathlib.Core.HLevel.{is_prop→PathP}
 use Rattle.ob_code_engine.specs.contracts.entrance.Entrance as Entrances
-use Rattle.ob_code_law.specs.CodeMeaning.{EngineParts}
+use Rattle.ob_code_law.specs.CodeMeaning.{EngineParts, Entrance}
 use Rattle.ob_code_law.specs.Parts.{HasProgram}
+use Rattle.ob_code_machine.specs.Code.{CodeParts}
 use Rattle.ob_code_machine.specs.contracts.code.Code as Codes
+
+-- the parts of an engine with so many words in a block and in a stack
+abbrev pub engine_parts : (block_words : ℕ) → List Entrance → CodeParts → (stack_words budget : ℕ) → EngineParts
+engine_parts block_words exports code stack_words budget = record {
+  variables = block_words;
+  exports = exports;
+  code = code;
+  reserve = stack_words;
+  budget = budget;
+}
 
 -- the parts of an engine for some program
 pub record CompiledParts : Type 0 where

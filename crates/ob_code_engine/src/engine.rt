@@ -1,6 +1,7 @@
 //! The engine over compiled code.
 
 ghost use Rattle.std.specs.Prelude.{◌≡◌, ◌≤◌, ◌↔◌, IsTrue, length};
+ghost use Rattle.ob_code_engine.specs.CodeEngine.{engine_parts};
 ghost use Rattle.ob_code_law.specs.CodeMeaning.{most, result_count, value_count};
 ghost use Rattle.ob_code_law.specs.Parts.{HasProgram};
 ghost use Rattle.ob_meaning.specs.Object.{most_turns};
@@ -34,17 +35,17 @@ pub struct CodeEngine {
     ghost most_results: { results ≡ most result_count exports.items },
     ghost most_values: { values ≡ most value_count exports.items },
     ghost few_turns: { budget ≤ most_turns },
-    ghost compiled: { ∥ HasProgram (record { variables = block_words; exports = exports.items; code = code; reserve = stack_words; budget = budget }) ∥₁ },
+    ghost compiled: { ∥ HasProgram (engine_parts block_words exports.items code stack_words budget) ∥₁ },
 }
 
 impl Model for CodeEngine {
-    ghost use Rattle.ob_code_engine.specs.CodeEngine.{CompiledParts, compiled_code};
+    ghost use Rattle.ob_code_engine.specs.CodeEngine.{CompiledParts, compiled_code, engine_parts};
 
     ghost Value = { CompiledParts };
 
     ghost coded = { compiled_code };
 
-    ghost view = { λ e. record { parts = record { variables = e.block_words; exports = e.exports.items; code = e.code; reserve = e.stack_words; budget = e.budget }; compiled = e.compiled } };
+    ghost view = { λ e. record { parts = engine_parts e.block_words e.exports.items e.code e.stack_words e.budget; compiled = e.compiled } };
 }
 
 impl CodeEngine {

@@ -1,10 +1,12 @@
 -- The body of one call, from its start to its end, and what each step of it answers.
-use Rattle.std.specs.Prelude.{ℕ, zero, suc, ◌+◌, Bool, true, false, nat_le, ℤ, pos, List, [], ◌∷◌, ◌++◌, length, replicate, Option, Some, None, if◌then◌else◌}
+use Rattle.std.specs.Prelude.{◌≡◌, ℕ, zero, suc, ◌+◌, Bool, true, false, nat_le, ℤ, pos, List, [], ◌∷◌, ◌++◌, length, replicate, Option, Some, None, if◌then◌else◌}
 use Rattle.ob_code_machine.specs.declared.argument.Argument.{Argument}
 use Rattle.ob_code_machine.specs.declared.argument.Argument.TheVariants.{Value, Var}
 use Rattle.ob_code_machine.specs.declared.turn.BodyTurn.{BodyTurn}
 use Rattle.ob_code_machine.specs.declared.turn.BodyTurn.TheVariants as Answer
 use Rattle.ob_code_machine.specs.declared.instr.Instr.{Instr}
+use Rattle.ob_code_machine.specs.declared.saved.Saved.{Saved}
+use Rattle.ob_code_machine.specs.StackWords.{StackWords}
 use Rattle.ob_code_machine.specs.Machine.{BodyState, Configuration, Outcome, Unfinished, Returned, Trapped, Stuck, turn}
 
 -- the words that its stack has room for, whether it is over, and what it holds
@@ -12,6 +14,14 @@ pub record Run : Type 0 where
   pub reserve : ℕ
   pub is_over : Bool
   pub body : BodyState
+
+-- its parts, each by itself
+abbrev pub run_view : (pc fp : ℕ) → StackWords → List Saved → (turns : ℕ) → (is_over : Bool) → Run
+run_view pc fp stack saved turns is_over = record {
+  reserve = stack.reserve;
+  is_over = is_over;
+  body = record { pc = pc; stack = stack.words; fp = fp; saved = saved; turns = turns };
+}
 
 -- ---- the start
 
@@ -68,6 +78,11 @@ shown run block Stuck = record { turn = Answer.Stuck; run = run; block = block }
 -- what the machine works on in a step
 abbrev pub at : Run → List ℤ → Configuration
 at run block = record { block = block; body = run.body }
+
+-- an instruction that leaves each block as it is: the answer, and the run behind it
+abbrev pub ShowsOnAnyBlock : BodyTurn → (old new : Run) → (Configuration → Outcome) → Type 0
+ShowsOnAnyBlock turn old new instruction =
+    (block : List ℤ) → record { turn = turn; run = new; block = block } ≡ shown old block (instruction (at old block))
 
 -- one step: the instruction at the body's place; a body that is over is stuck
 abbrev pub step_of : List Instr → Run → List ℤ → Step

@@ -1,5 +1,5 @@
 -- What the private functions of a step do, told by the definitions of the machine.
-use Rattle.std.specs.Prelude.{◌≡◌, ℤ, List}
+use Rattle.std.specs.Prelude.{◌≡◌, Bool, ℤ, List, MatchBool, MatchOption, Option}
 use Rattle.ob_code_machine.specs.declared.effect.Answer.{Answer}
 use Rattle.ob_code_machine.specs.declared.effect.Answer.TheVariants.{Done, Trap, Stuck}
 use Rattle.ob_code_machine.specs.Words.{Made, Gives, Traps, Sticks}
@@ -16,3 +16,12 @@ abbrev pub HasEffect : Answer → (old_block new_block : List ℤ) → (old new 
 HasEffect r b b' s s' (Gives made) = (r ≡ Done) × (b' ≡ made.0) × (s' ≡ with_words s made.1)
 HasEffect r b b' s s' (Traps k) = (r ≡ Trap k) × (b' ≡ b) × (s' ≡ s)
 HasEffect r b b' s s' Sticks = (r ≡ Stuck) × (b' ≡ b) × (s' ≡ s)
+
+-- what the definition makes, and none where there is nothing to be made
+abbrev pub IsMade : Option ℤ → Made ℤ → Type 0
+IsMade r made = MatchOption r (made ≡ Sticks) (λ z. made ≡ Gives z)
+
+-- where it is so, block and stack are left as the definition makes them; else they are as they were, and there is nothing to be made
+abbrev pub LeavesBoth : Bool → (old_block new_block : List ℤ) → (old new : StackWords) → Made (List ℤ × List ℤ) → Type 0
+LeavesBoth r b b' s s' made =
+    MatchBool r ((made ≡ Gives (b', s'.words)) × (s'.reserve ≡ s.reserve)) ((made ≡ Sticks) × (b' ≡ b) × (s' ≡ s))

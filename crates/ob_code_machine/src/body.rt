@@ -1,8 +1,8 @@
 //! The body of one call: the stack machine at work on a block of words.
 
-ghost use Rattle.std.specs.Prelude.{◌≡◌, ◌<◌, ◌+◌, IfOk, slice_get, slice_index_or, true, false, pos, List, ℤ};
+ghost use Rattle.std.specs.Prelude.{◌≡◌, ◌<◌, ◌+◌, IfOk, slice_get, slice_index_or, true, false, pos};
 ghost use Rattle.ob_code_machine.specs.Machine as Machine;
-ghost use Rattle.ob_code_machine.specs.Body.{empty, entered, shown, at, step_of};
+ghost use Rattle.ob_code_machine.specs.Body.{ShowsOnAnyBlock, empty, entered, shown, at, step_of};
 ghost use Rattle.ob_code_machine.specs.Parameters.{arguments_in};
 
 use crate::argument::Argument;
@@ -31,11 +31,11 @@ pub struct Body {
 }
 
 impl Model for Body {
-    ghost use Rattle.ob_code_machine.specs.Body.{Run};
+    ghost use Rattle.ob_code_machine.specs.Body.{Run, run_view};
 
     ghost Value = { Run };
 
-    ghost view = { λ b. record { reserve = b.stack.reserve; is_over = b.is_over; body = record { pc = b.pc; stack = b.stack.words; fp = b.fp; saved = b.callers; turns = b.turns } } };
+    ghost view = { λ b. run_view b.pc b.fp b.stack b.callers b.turns b.is_over };
 }
 
 impl Body {
@@ -173,7 +173,7 @@ impl Body {
 
     #[inline(always)]
     fn jump(&mut self, target: u16) -> BodyTurn
-        ensures { (block : List ℤ) → record { turn = result; run = self.new; block = block } ≡ shown self.old block (Machine.goes_to (at self.old block) target self.old.body.stack) }
+        ensures { ShowsOnAnyBlock result self.old self.new (λ c. Machine.goes_to c target c.body.stack) }
     {
         self.pc = usize::from(target);
         BodyTurn::On
@@ -182,7 +182,7 @@ impl Body {
     #[inline(always)]
     fn jump_if_false(&mut self, target: u16) -> BodyTurn
         requires { self.old.body.pc < 65535 }
-        ensures { (block : List ℤ) → record { turn = result; run = self.new; block = block } ≡ shown self.old block (Machine.jump_if_false target (at self.old block)) }
+        ensures { ShowsOnAnyBlock result self.old self.new (Machine.jump_if_false target) }
     {
         let Some(word) = self.stack.top() else {
             return BodyTurn::Stuck;
@@ -201,7 +201,7 @@ impl Body {
     #[inline(always)]
     fn jump_if_decided(&mut self, decides: i64, target: u16) -> BodyTurn
         requires { self.old.body.pc < 65535 }
-        ensures { (block : List ℤ) → record { turn = result; run = self.new; block = block } ≡ shown self.old block (Machine.jump_if_decided decides target (at self.old block)) }
+        ensures { ShowsOnAnyBlock result self.old self.new (Machine.jump_if_decided decides target) }
     {
         let Some(word) = self.stack.top() else {
             return BodyTurn::Stuck;
@@ -218,7 +218,7 @@ impl Body {
 
     fn call(&mut self, entry: u16, parameters: u16) -> BodyTurn
         requires { self.old.body.pc < 65535 }
-        ensures { (block : List ℤ) → record { turn = result; run = self.new; block = block } ≡ shown self.old block (Machine.called entry parameters (at self.old block)) }
+        ensures { ShowsOnAnyBlock result self.old self.new (Machine.called entry parameters) }
     {
         if self.callers.len() >= Callers::LIMIT {
             self.is_over = true;
@@ -246,7 +246,7 @@ impl Body {
     #[inline(always)]
     fn take_turn(&mut self) -> BodyTurn
         requires { self.old.body.pc < 65535 }
-        ensures { (block : List ℤ) → record { turn = result; run = self.new; block = block } ≡ shown self.old block (Machine.turned (at self.old block)) }
+        ensures { ShowsOnAnyBlock result self.old self.new Machine.turned }
     {
         if self.turns == 0 {
             self.is_over = true;
@@ -259,7 +259,7 @@ impl Body {
 
     #[inline(always)]
     fn leave(&mut self) -> BodyTurn
-        ensures { (block : List ℤ) → record { turn = result; run = self.new; block = block } ≡ shown self.old block (Machine.returned (at self.old block)) }
+        ensures { ShowsOnAnyBlock result self.old self.new Machine.returned }
     {
         if self.stack.height() < self.fp {
             return BodyTurn::Stuck;

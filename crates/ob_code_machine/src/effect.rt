@@ -1,10 +1,10 @@
 //! What an instruction without a jump does to the block and the stack.
 
-ghost use Rattle.std.specs.Prelude.{◌≡◌, ◌+◌, ◌≤◌, ◌<◌, length, take, pos, MatchOption, MatchBool};
+ghost use Rattle.std.specs.Prelude.{◌≡◌, ◌+◌, ◌≤◌, ◌<◌, length, take, pos};
 ghost use Rattle.ob_code_machine.specs.declared.instr.Instr.{Instr};
 ghost use Rattle.ob_code_machine.specs.Words as Words;
 ghost use Rattle.ob_code_machine.specs.Effect as Effects;
-ghost use Rattle.ob_code_machine.specs.Running.{LeavesStack, HasEffect};
+ghost use Rattle.ob_code_machine.specs.Running.{HasEffect, IsMade, LeavesBoth, LeavesStack};
 
 use crate::instr::Instr;
 use crate::operators::{Made, made_of_one, made_of_two};
@@ -33,7 +33,7 @@ fn push(stack: &mut Stack, word: i64) -> Answer
 /// The address of a word of the frame.
 #[inline(always)]
 fn local_address(variables: usize, fp: usize, word: u16) -> Option<i64>
-    ensures { MatchOption result (Words.address (pos (variables + fp + word)) ≡ Words.Sticks) (λ a. Words.address (pos (variables + fp + word)) ≡ Words.Gives a) }
+    ensures { IsMade result (Words.address (pos (variables + fp + word))) }
 {
     let place = variables.checked_add(fp)?.checked_add(usize::from(word))?;
     if place > i64::MAX as usize {
@@ -105,7 +105,7 @@ fn of_two(stack: &mut Stack, instr: Instr) -> Answer
 #[inline(always)]
 fn word_at(block: &[i64], stack: &Stack, height: usize, address: i64) -> Option<i64>
     requires { height ≤ length stack.now.words }
-    ensures { MatchOption result (Effects.word_at block.now (take height stack.now.words) address ≡ Words.Sticks) (λ w. Effects.word_at block.now (take height stack.now.words) address ≡ Words.Gives w) }
+    ensures { IsMade result (Effects.word_at block.now (take height stack.now.words) address) }
 {
     if address < 0 {
         return None;
@@ -144,9 +144,7 @@ fn load(block: &[i64], stack: &mut Stack) -> Answer
 #[inline(always)]
 fn put_at(block: &mut [i64], stack: &mut Stack, height: usize, address: i64, word: i64) -> bool
     requires { height ≤ length stack.old.words }
-    ensures { MatchBool result
-        ((Effects.put_at block.old (take height stack.old.words) address word ≡ Words.Gives (block.new, stack.new.words)) × (stack.new.reserve ≡ stack.old.reserve))
-        ((Effects.put_at block.old (take height stack.old.words) address word ≡ Words.Sticks) × (block.new ≡ block.old) × (stack.new ≡ stack.old)) }
+    ensures { LeavesBoth result block.old block.new stack.old stack.new (Effects.put_at block.old (take height stack.old.words) address word) }
 {
     if address < 0 {
         return false;

@@ -1,7 +1,7 @@
 //! The stack of a body: words in memory that is reserved once.
 
-ghost use Rattle.std.specs.Prelude.{◌≡◌, ◌+◌, ◌-◌, ◌^◌, ◌<◌, ◌≤◌, [], ◌∷◌, ◌++◌, pos, length, take, replicate, slice_get, slice_set, slice_index_or, Some, None, nat_le, if◌then◌else◌, IfOk};
-ghost use Rattle.ob_code_machine.specs.StackWords.{with_words};
+ghost use Rattle.std.specs.Prelude.{◌≡◌, ◌+◌, ◌-◌, ◌^◌, ◌<◌, ◌≤◌, [], ◌∷◌, ◌++◌, pos, length, take, replicate, slice_get, slice_set, slice_index_or, IfOk};
+ghost use Rattle.ob_code_machine.specs.StackWords.{two_on_top, with_words};
 
 use std::alloc::{AllocError, Global};
 use std::marker::Model;
@@ -63,7 +63,7 @@ impl Stack {
 
     /// The two words on top, the upper one behind.
     pub fn two(&self) -> Option<(i64, i64)>
-        ensures { result ≡ (if nat_le 2 (length self.now.words) then Some (slice_index_or self.now.words (length self.now.words - 2) (pos 0), slice_index_or self.now.words (length self.now.words - 1) (pos 0)) else None) }
+        ensures { result ≡ two_on_top self.now.words }
     {
         if self.height < 2 {
             return None;

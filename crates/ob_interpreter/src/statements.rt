@@ -1,12 +1,12 @@
 //! The outcomes of statements and of calls in the text.
 
 ghost use Rattle.std.specs.Prelude.{◌≡◌, ◌≤◌, IfOk};
-ghost use Rattle.ob_checked.specs.View.{statement_of, statements_in, branches_in, otherwise_of};
+ghost use Rattle.ob_checked.specs.View.{statement_of, statements_in};
 ghost use Rattle.ob_positions.specs.Statements as Statements;
 ghost use Rattle.ob_store.specs.View.{activation_in, store_in};
 ghost use Rattle.ob_store.specs.Begun.{begun_in};
 ghost use Rattle.ob_interpreter.specs.Running.{Comes, calls_of};
-ghost use Rattle.ob_interpreter.specs.Written.{assign_of, repeat_of, while_of};
+ghost use Rattle.ob_interpreter.specs.Written.{assign_of, choice_of, repeat_of, while_of};
 
 use ob_checked::program::{Branch, Designator, Expression, Program, Statement};
 use ob_evaluate::begun::variables_begun;
@@ -133,7 +133,7 @@ fn choose(
     otherwise: &Option<Vec<Statement>>,
     turns: u64,
 ) -> Result<u64, Stop>
-    ensures outcome { Comes (Statements.meaning_of_branches (calls_of context.entry) (branches_in branches.now (otherwise_of otherwise.now)) turns (store_in store.old)) result (store_in store.new) }
+    ensures outcome { Comes (Statements.meaning_of_branches (calls_of context.entry) (choice_of branches.now otherwise.now) turns (store_in store.old)) result (store_in store.new) }
     ensures turns { IfOk result (λ left. left ≤ turns) }
     ensures begun { begun_in store.new ≡ begun_in store.old }
 {

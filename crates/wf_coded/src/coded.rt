@@ -7,7 +7,7 @@ use wf_object::Engine;
 /// An engine that runs some code: a datum by which it can be copied and compared, and on which all that it does depends.
 pub trait CodedEngine: Engine {
     ghost use Rattle.std.specs.Prelude.{◌≡◌, ◌↔◌, IfOk, IsTrue};
-    ghost use Rattle.wf_coded.specs.Coded.{DoesTheSame};
+    ghost use Rattle.wf_coded.specs.Coded.{DoSameByCode};
 
     // The code that an engine runs.
     ghost Code: { Type 0 };
@@ -23,5 +23,5 @@ pub trait CodedEngine: Engine {
         ensures { IsTrue result ↔ (code self.now ≡ code other.now) };
 
     /// Engines of the same code take the same blocks, calls and runs, and do the same with them.
-    ghost same: { (a b : Self) → code a ≡ code b → DoesTheSame (Self.meaning a) (Self.lawful a) (Self.fits a) (Self.ready a) (Self.effect a) (Self.meaning b) (Self.lawful b) (Self.fits b) (Self.ready b) (Self.effect b) };
+    ghost same: { DoSameByCode code Self.meaning Self.lawful Self.fits Self.ready Self.effect };
 }

@@ -43,6 +43,10 @@ pub record IsPlayed {Run : Type 0} (m : Meaning Run) (lawful : List ℤ → Type
   pub runs : IsRun m lawful fits ready n opening (performed scripts s.records.schedule) s
   pub plays : AreItemSteps m (sizes_of m n) most_steps items (run m (sizes_of m n) (submissions scripts) runs.start) (steps_of s.records.schedule) s
 
+-- an object in a state behind these calls, as they were read, and these items
+abbrev pub IsPlayedObject : {E Run : Type 0} → Meaning Run → (lawful : List ℤ → Type 0) → (fits : ObjectCall → Type 0) → (ready : Run → Type 0) → (n : ℕ) → (opening : List ℤ) → List Read.ScriptCall → List Item → Object E Run → Type 0
+IsPlayedObject m lawful fits ready n opening calls items o = IsPlayed m lawful fits ready n opening (scripts_in calls) items o.state
+
 module _ {Run : Type 0} (m : Meaning Run) (ready : Run → Type 0) (n : ℕ) (opening : List ℤ) (scripts : List (ℕ × ObjectCall)) where
   -- there are objects that begin with this block, on each of them the item of this number, from 1, is the first one that stands
   -- for more steps than an item may take, and on none of them are the items a run within the limit

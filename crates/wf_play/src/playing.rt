@@ -4,7 +4,7 @@ ghost use Rattle.std.specs.Prelude.{◌≡◌, ◌<◌, ◌⊎◌, ◌↔◌, Er
 ghost use Rattle.ob_interface.specs.View.{call_of};
 ghost use Rattle.ob_schedule.specs.Schedule.{process_of};
 ghost use Rattle.ob_text_words.specs.ScriptCalls.{object_call, script_call_of};
-ghost use Rattle.wf_play.specs.Played.{IsItemFault, IsPlayed, IsPlayFault, IsSameObject, scripts_in};
+ghost use Rattle.wf_play.specs.Played.{IsItemFault, IsPlayedObject, IsPlayFault, IsSameObject, scripts_in};
 ghost use Rattle.wf_play.specs.ItemSteps.{HasPlayed};
 ghost use Rattle.wf_play.specs.declared.playing.PlayFault.TheVariants as Faults;
 ghost use Rattle.wf_table.specs.Runs.{run, submissions};
@@ -80,7 +80,7 @@ pub fn play<E: Engine>(
     ensures engine { IfOk result (λ machine. machine.engine ≡ engine) }
     ensures sizes { IfOk result (λ machine. machine.sizes ≡ sizes_of (E.meaning engine) n) }
     ensures opening { IfOk result (λ machine. machine.opening ≡ opening.now) }
-    ensures played { IfOk result (λ machine. IsPlayed (E.meaning engine) (E.lawful engine) (E.fits engine) (E.ready engine) n opening.now (scripts_in calls.items) items.now machine.state) }
+    ensures played { IfOk result (IsPlayedObject (E.meaning engine) (E.lawful engine) (E.fits engine) (E.ready engine) n opening.now calls.items items.now) }
     ensures fault { IfErr result (λ e. IsPlayFault (E.meaning engine) (E.ready engine) n opening.now (scripts_in calls.items) items.now e) }
 {
     let mut machine = Machine::new(alloc, engine, n, opening)?;
