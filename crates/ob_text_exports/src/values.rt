@@ -1,7 +1,8 @@
 //! Values of parameters, as words.
 
-ghost use Rattle.std.specs.Prelude.{◌≡◌, Bool, map, IfOk, MatchOption, List};
+ghost use Rattle.std.specs.Prelude.{◌≡◌, Bool, map, IfOk, MatchOption};
 ghost use Rattle.ob_interface.specs.declared.scalar.Scalar.{Scalar};
+ghost use Rattle.ob_text_words.specs.Finding.{FindsAs};
 ghost use Rattle.ob_text_words.specs.ScalarTexts.{truth_text};
 ghost use Rattle.ob_text_exports.specs.Values.{AreValues, IsValue, is_of_mode, types_of};
 
@@ -40,9 +41,7 @@ pub fn read_values(
     is_var: bool,
     words: &[&[u8]],
 ) -> Result<Option<SmallVec<Scalar, 8>>, AllocError>
-    ensures { IfOk result (λ read. MatchOption read
-        ((values : List Scalar) → AreValues (types_of is_var formals.now) (map (λ w. w.now) words.now) values → ⊥)
-        (λ values. AreValues (types_of is_var formals.now) (map (λ w. w.now) words.now) values.items)) }
+    ensures { IfOk result (FindsAs (λ values. values.items) (AreValues (types_of is_var formals.now) (map (λ w. w.now) words.now))) }
 {
     let mut values = SmallVec::new(alloc);
     for formal in formals {

@@ -60,6 +60,10 @@ sights_at order column (Ends id reply) = record { column = column; id = id; happ
 abbrev pub chosen_at : (order chosen : List CallId) (column : ℕ) → Moment → List Sight
 chosen_at order chosen column moment = filter (λ s. is_among chosen s.id) (sights_at order column moment)
 
+-- one thing that happens to a call, if that is chosen
+abbrev pub chosen_sight : (chosen : List CallId) (column : ℕ) → CallId → Happening → List Sight
+chosen_sight chosen column id happening = filter (λ s. is_among chosen s.id) (record { column = column; id = id; happening = happening } ∷ [])
+
 -- the column behind one in which so much is seen: there is no column where nothing is
 abbrev pub column_behind : (column : ℕ) → List Sight → ℕ
 column_behind column here = cond (length here == 0) column (column + 1)
@@ -106,3 +110,7 @@ chart_of processes moments order range =
       times = times_from order (in_range range (begun moments)) 0 1 moments;
       order = placed order (in_range range (begun moments));
     }
+
+-- the same of those calls of a range that there are, or of all
+abbrev pub chart_of_calls : (processes : ℕ) → List Moment → (order : List CallId) → Option CallRange → Chart
+chart_of_calls processes moments order calls = chart_of processes moments order (range_of (length (begun moments)) calls)

@@ -1,8 +1,7 @@
 //! What a picture shows of a run: which calls, and in which column each of their events stands.
 
-ghost use Rattle.std.specs.Prelude.{◌≡◌, ◌+◌, ◌<◌, ◌≤◌, ◌++◌, ◌∷◌, ◌^◌, [], filter, IfErr, IfOk, OnOk, length, map};
-ghost use Rattle.ob_text_picture_chart.specs.Charts as Charts;
-ghost use Rattle.ob_text_picture_chart.specs.Charts.{begun, chosen_at, placed, range_of, sights_from, time_behind, times_from};
+ghost use Rattle.std.specs.Prelude.{◌≡◌, ◌+◌, ◌<◌, ◌≤◌, ◌++◌, ◌^◌, IfErr, IfOk, OnOk, length, map};
+ghost use Rattle.ob_text_picture_chart.specs.Charts.{begun, chart_of_calls, chosen_at, chosen_sight, placed, range_of, sights_from, time_behind, times_from};
 ghost use Rattle.ob_text_picture_chart.specs.Faults.{IsRangeFault, MayBeShown, count, most_calls};
 ghost use Rattle.ob_text_picture_chart.specs.Same.{is_among};
 ghost use Rattle.ob_text_picture_chart.specs.View.{chart_in, happening_of, moment_of, sight_of};
@@ -69,7 +68,7 @@ pub fn chart_of<'a>(
     order: &[CallId],
     calls: Option<CallRange>,
 ) -> Result<Chart<'a>, PictureFault>
-    ensures chart { IfOk result (λ c. chart_in c ≡ Charts.chart_of processes (map moment_of moments.now) order.now (range_of (length (begun (map moment_of moments.now))) calls)) }
+    ensures chart { IfOk result (λ c. chart_in c ≡ chart_of_calls processes (map moment_of moments.now) order.now calls) }
     ensures fault { IfErr result (IsRangeFault (length (begun (map moment_of moments.now))) calls) }
     ensures shown { OnOk result (MayBeShown (length (begun (map moment_of moments.now))) calls) }
 {
@@ -208,7 +207,7 @@ fn push_sight<'a>(
     id: CallId,
     happening: Happening<'a>,
 ) -> Result<(), AllocError>
-    ensures { OnOk result (map sight_of sights.new.items ≡ map sight_of sights.old.items ++ filter (λ s. is_among chosen.now s.id) (record { column = column; id = id; happening = happening_of happening.entry } ∷ [])) }
+    ensures { OnOk result (map sight_of sights.new.items ≡ map sight_of sights.old.items ++ chosen_sight chosen.now column id (happening_of happening.entry)) }
 {
     if is_among(chosen, id) {
         sights.push(Sight {

@@ -3,3 +3,4 @@ pub mod Told
 pub mod Heads
 pub mod Seats
 pub mod LineReading
+pub mod Numbers

@@ -1,5 +1,5 @@
 -- What is read of one line behind a record's head, and of all of them.
-use Rattle.std.specs.Prelude.{◌≡◌, ℕ, ◌+◌, List, [], ◌∷◌, ◌++◌, ◌≤◌, ◌==◌, ◌||◌, length, map, take, codes, Bool, true, false, All, Option, Some, None}
+use Rattle.std.specs.Prelude.{◌≡◌, ℕ, ◌+◌, List, [], ◌∷◌, ◌++◌, ◌≤◌, ◌==◌, ◌||◌, length, map, take, codes, Bool, true, false, All, Option, Some, None, MatchOption}
 use Rattle.std.specs.Borrow.{Bor}
 use Rattle.ob_interface.specs.Call.{ObjectCall, Reply}
 use Rattle.ob_interface.specs.Export.{Signature}
@@ -91,6 +91,11 @@ module _ (processes : ℕ) (signatures : List Signature) (before : List (Event O
     pub parts : map words (lines text) ≡ line ∷ map words (lines rest)
     pub leads : (word : Word) → IsId processes word i → LeadsOn (codes "E" ∷ word ∷ line) after
 
+-- where something of a text is taken up, it leads to the events and leaves the rest of which this holds; else the events stay
+abbrev pub TakesOrLeaves : (before after : List (Event ObjectCall Reply)) → (List (Event ObjectCall Reply) → List ℕ → Type 0) →
+    Option (Bor (List ℕ)) → Type 0
+TakesOrLeaves before after Takes taken = MatchOption taken (after ≡ before) (λ rest. Takes after rest.now)
+
 module _ (processes : ℕ) (signatures : List Signature) where
   module _ (before : List (Event ObjectCall Reply)) (line : Line) where
     -- the line says this
@@ -112,6 +117,14 @@ module _ (processes : ℕ) (signatures : List Signature) where
       pub event : (e : Event ObjectCall Reply) → IsNextEvent processes signatures before line e → ⊥
       pub applied : IsApplied processes line → ⊥
       pub order : (ids : List CallId) → IsOrder processes line ids → ⊥
+
+    -- what the line says is found, if it may stand there
+    abbrev pub FindsLine : Option Rust.Line → Type 0
+    FindsLine read = MatchOption read SaysNothing HasSaid
+
+    -- the event that the line says is found, if it says one that may stand there
+    abbrev pub FindsEvent : Option Rust.Line → Type 0
+    FindsEvent read = MatchOption read ((e : Event ObjectCall Reply) → IsNextEvent processes signatures before line e → ⊥) IsEventRead
 
   -- some lines begin with these
   pub record BeginsLines (ls : List Line) : Type 0 where

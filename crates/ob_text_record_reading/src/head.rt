@@ -3,7 +3,7 @@
 ghost use Rattle.std.specs.Prelude.{◌≡◌, ◌∷◌, [], ℕ, map, MatchOption};
 ghost use Rattle.ob_text_record_reading.specs.Heads.{version_word};
 ghost use Rattle.ob_text_record_reading.specs.RecordLines.{IsBudget, IsCount, IsTitle};
-ghost use Rattle.ob_text_record_reading.specs.declared.head.Version as Versions;
+ghost use Rattle.ob_text_words.specs.Finding.{Finds};
 
 use crate::number::read_only_number;
 use ob_interface::MOST_PROCESSES;
@@ -18,9 +18,7 @@ pub(crate) enum Version {
 
 /// The version that a title tells: `obl0 record 1` or `obl0 record 2`.
 pub(crate) fn read_title(words: &[&[u8]]) -> Option<Version>
-    ensures { MatchOption result
-        ((version : Versions.Version) → IsTitle (version_word version) (map (λ w. w.now) words.now) → ⊥)
-        (λ version. IsTitle (version_word version) (map (λ w. w.now) words.now)) }
+    ensures { Finds (λ version. IsTitle (version_word version) (map (λ w. w.now) words.now)) result }
 {
     let Some((name, behind)) = words.split_first() else {
         return None;
@@ -39,9 +37,7 @@ pub(crate) fn read_title(words: &[&[u8]]) -> Option<Version>
 
 /// The version that the only word is: `1` or `2`.
 fn read_version(words: &[&[u8]]) -> Option<Version>
-    ensures { MatchOption result
-        ((version : Versions.Version) → map (λ w. w.now) words.now ≡ version_word version ∷ [] → ⊥)
-        (λ version. map (λ w. w.now) words.now ≡ version_word version ∷ []) }
+    ensures { Finds (λ version. map (λ w. w.now) words.now ≡ version_word version ∷ []) result }
 {
     let [word] = words else {
         return None;

@@ -1,15 +1,13 @@
 //! What a line behind the head says.
 
-ghost use Rattle.std.specs.Prelude.{◌≡◌, ◌≤◌, ◌∷◌, [], ℕ, List, codes, map, option_map, slice_get, IfOk, MatchOption};
-ghost use Rattle.ob_interface.specs.Call as Object;
+ghost use Rattle.std.specs.Prelude.{◌≡◌, ◌∷◌, List, codes, map, option_map, slice_get, IfOk, MatchOption};
 ghost use Rattle.ob_interface.specs.View.{reply_of, signature_of};
-ghost use Rattle.ob_interface.specs.declared.scalar.Scalar as Scalars;
 ghost use Rattle.ob_text_exports.specs.Values.{AreValues, types_of};
-ghost use Rattle.ob_text_record_reading.specs.LineReading.{HasSaid, IsAppliedRead, IsEventRead, IsOrderRead, SaysNothing};
-ghost use Rattle.ob_text_record_reading.specs.RecordLines.{AreIds, IsNextEvent, IsReply};
-ghost use Rattle.ob_text_words.specs.Words.{IsNumeral, words};
-ghost use Rattle.ob_typing.specs.Arithmetic.{no_turn_left};
-ghost use Rattle.wf_history.specs.History as History;
+ghost use Rattle.ob_text_record_reading.specs.LineReading.{FindsEvent, FindsLine, IsAppliedRead, IsOrderRead};
+ghost use Rattle.ob_text_record_reading.specs.Numbers.{FindsTrap};
+ghost use Rattle.ob_text_record_reading.specs.RecordLines.{AreIds, IsReply};
+ghost use Rattle.ob_text_words.specs.Finding.{FindsAs};
+ghost use Rattle.ob_text_words.specs.Words.{words};
 ghost use Rattle.wf_history.specs.declared.event.CallId as Names;
 
 use crate::calls::Calls;
@@ -53,9 +51,7 @@ pub(crate) fn read_line<'a>(
     line: &'a [u8],
     list: &mut Vec<&'a [u8]>,
 ) -> Result<Option<Line>, NoMemory>
-    ensures { IfOk result (λ read. MatchOption read
-        (SaysNothing calls.now.processes (map signature_of exports.now) calls.now.events (words line.now))
-        (HasSaid calls.now.processes (map signature_of exports.now) calls.now.events (words line.now))) }
+    ensures { IfOk result (FindsLine calls.now.processes (map signature_of exports.now) calls.now.events (words line.now)) }
 {
     let Some((first, rest)) = next_word(line) else {
         return Ok(None);
@@ -98,9 +94,7 @@ fn read_begin<'a>(
     line: &'a [u8],
     list: &mut Vec<&'a [u8]>,
 ) -> Result<Option<Line>, NoMemory>
-    ensures { IfOk result (λ read. MatchOption read
-        ((e : History.Event Object.ObjectCall Object.Reply) → IsNextEvent calls.now.processes (map signature_of exports.now) calls.now.events (codes "B" ∷ words line.now) e → ⊥)
-        (IsEventRead calls.now.processes (map signature_of exports.now) calls.now.events (codes "B" ∷ words line.now))) }
+    ensures { IfOk result (FindsEvent calls.now.processes (map signature_of exports.now) calls.now.events (codes "B" ∷ words line.now)) }
 {
     let Some((id, behind)) = take_id(calls.processes(), line) else {
         return Ok(None);
@@ -129,9 +123,7 @@ fn read_end<'a>(
     line: &'a [u8],
     list: &mut Vec<&'a [u8]>,
 ) -> Result<Option<Line>, NoMemory>
-    ensures { IfOk result (λ read. MatchOption read
-        ((e : History.Event Object.ObjectCall Object.Reply) → IsNextEvent calls.now.processes (map signature_of exports.now) calls.now.events (codes "E" ∷ words line.now) e → ⊥)
-        (IsEventRead calls.now.processes (map signature_of exports.now) calls.now.events (codes "E" ∷ words line.now))) }
+    ensures { IfOk result (FindsEvent calls.now.processes (map signature_of exports.now) calls.now.events (codes "E" ∷ words line.now)) }
 {
     let Some((id, rest)) = take_id(calls.processes(), line) else {
         return Ok(None);
@@ -154,9 +146,7 @@ fn read_reply<'a>(
     line: &'a [u8],
     list: &mut Vec<&'a [u8]>,
 ) -> Result<Option<Reply>, AllocError>
-    ensures { IfOk result (λ read. MatchOption read
-        ((reply : Object.Reply) → IsReply (map signature_of exports.now) proc (words line.now) reply → ⊥)
-        (λ reply. IsReply (map signature_of exports.now) proc (words line.now) (reply_of reply))) }
+    ensures { IfOk result (FindsAs reply_of (IsReply (map signature_of exports.now) proc (words line.now))) }
 {
     let Some((kind, rest)) = next_word(line) else {
         return Ok(None);
@@ -179,9 +169,7 @@ fn read_done<'a>(
     line: &'a [u8],
     list: &mut Vec<&'a [u8]>,
 ) -> Result<Option<Reply>, AllocError>
-    ensures { IfOk result (λ read. MatchOption read
-        ((reply : Object.Reply) → IsReply (map signature_of exports.now) proc (codes "done" ∷ words line.now) reply → ⊥)
-        (λ reply. IsReply (map signature_of exports.now) proc (codes "done" ∷ words line.now) (reply_of reply))) }
+    ensures { IfOk result (FindsAs reply_of (IsReply (map signature_of exports.now) proc (codes "done" ∷ words line.now))) }
 {
     let Some(export) = export_at(exports, proc) else {
         return Ok(None);
@@ -201,9 +189,7 @@ pub(crate) fn values_in<'a>(
     line: &'a [u8],
     list: &mut Vec<&'a [u8]>,
 ) -> Result<Option<SmallVec<Scalar, 8>>, AllocError>
-    ensures { IfOk result (λ read. MatchOption read
-        ((values : List Scalars.Scalar) → AreValues (types_of is_var formals.now) (words line.now) values → ⊥)
-        (λ values. AreValues (types_of is_var formals.now) (words line.now) values.items)) }
+    ensures { IfOk result (FindsAs (λ values. values.items) (AreValues (types_of is_var formals.now) (words line.now))) }
 {
     put_words(list, line)?;
     read_values(alloc, formals, is_var, list)
@@ -218,9 +204,7 @@ pub(crate) fn export_at(exports: &[Export], number: usize) -> Option<&Export>
 
 /// A trap, whose number is all that is said.
 fn read_trap(words: &[&[u8]]) -> Option<Reply>
-    ensures { MatchOption result
-        ((word : List ℕ) (k : ℕ) → map (λ w. w.now) words.now ≡ word ∷ [] → IsNumeral word k → 1 ≤ k → k ≤ no_turn_left → ⊥)
-        (λ reply. (word : List ℕ) × (k : ℕ) × (map (λ w. w.now) words.now ≡ word ∷ []) × IsNumeral word k × (1 ≤ k) × (k ≤ no_turn_left) × (reply_of reply ≡ Object.Trapped k)) }
+    ensures { FindsTrap (map (λ w. w.now) words.now) result }
 {
     let trap = read_only_number(words, 1, LAST_TRAP)?;
     Some(Reply::Trap(trap as u8))

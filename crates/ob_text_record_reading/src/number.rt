@@ -1,6 +1,7 @@
 //! Numbers that are all that is said.
 
-ghost use Rattle.std.specs.Prelude.{◌≡◌, ◌≤◌, ◌<◌, ◌^◌, ◌∷◌, [], ℕ, List, map, MatchOption};
+ghost use Rattle.std.specs.Prelude.{◌<◌, ◌^◌, ℕ, map, MatchOption};
+ghost use Rattle.ob_text_record_reading.specs.Numbers.{FindsOnlyNumber};
 ghost use Rattle.ob_text_words.specs.Words.{IsNumeral};
 
 use ob_text_words::numbers::{read_digits, read_numeral};
@@ -21,9 +22,7 @@ pub(crate) fn read_number(word: &[u8]) -> Option<u64>
 
 /// The number from `least` to `most` that the only word says.
 pub(crate) fn read_only_number(words: &[&[u8]], least: u64, most: u64) -> Option<u64>
-    ensures { MatchOption result
-        ((word : List ℕ) (n : ℕ) → map (λ w. w.now) words.now ≡ word ∷ [] → IsNumeral word n → least ≤ n → n ≤ most → ⊥)
-        (λ n. (word : List ℕ) × (map (λ w. w.now) words.now ≡ word ∷ []) × IsNumeral word n × (least ≤ n) × (n ≤ most)) }
+    ensures { FindsOnlyNumber (map (λ w. w.now) words.now) least most result }
 {
     let [word] = words else {
         return None;

@@ -1,12 +1,12 @@
 //! Records read back.
 
-ghost use Rattle.std.specs.Prelude.{◌≡◌, ◌+◌, ◌<◌, ◌^◌, ◌∷◌, [], codes, length, map, IfOk, IfErr, MatchOption};
+ghost use Rattle.std.specs.Prelude.{◌≡◌, ◌+◌, ◌<◌, ◌^◌, ◌∷◌, [], length, map, IfOk, IfErr};
 ghost use Rattle.ob_checked.specs.CheckedModule.{program_in};
 ghost use Rattle.ob_checked.specs.Exports.{signatures};
 ghost use Rattle.ob_interface.specs.View.{signature_of};
+ghost use Rattle.ob_text_record_reading.specs.Heads.{ForEachHead};
 ghost use Rattle.ob_text_record_reading.specs.LineReading.{FaultBehind, lines_behind};
-ghost use Rattle.ob_text_record_reading.specs.RecordLines as Records;
-ghost use Rattle.ob_text_record_reading.specs.RecordLines.{AreLines, FaultStands, IsCount, IsRecord, IsRecordFault, IsRecordOf, IsTitle, Told};
+ghost use Rattle.ob_text_record_reading.specs.RecordLines.{AreLines, FaultStands, IsRecord, IsRecordFault, IsRecordOf, Told};
 ghost use Rattle.ob_text_record_reading.specs.Told.{told_of};
 ghost use Rattle.ob_text_words.specs.Words.{lines, words};
 
@@ -108,10 +108,10 @@ fn read_budgeted(
     behind: Option<&[u8]>,
 ) -> Result<ReadRecord, RecordFault>
     requires { length (lines_behind behind) + 3 < 2 ^ 64 }
-    ensures record { (title second : Records.Line) → IsTitle (codes "2") title → IsCount second processes
-        → IfOk result (λ r. IsRecordOf (map signature_of exports.now) (title ∷ second ∷ lines_behind behind.entry) (told_of «r»)) }
-    ensures fault { (title second : Records.Line) → IsTitle (codes "2") title → IsCount second processes
-        → IfErr result (λ e. FaultStands (map signature_of exports.now) (title ∷ second ∷ lines_behind behind.entry) e) }
+    ensures record { ForEachHead processes (λ title second.
+        IfOk result (λ r. IsRecordOf (map signature_of exports.now) (title ∷ second ∷ lines_behind behind.entry) (told_of «r»))) }
+    ensures fault { ForEachHead processes (λ title second.
+        IfErr result (λ e. FaultStands (map signature_of exports.now) (title ∷ second ∷ lines_behind behind.entry) e)) }
 {
     let Some(text) = behind else {
         return Err(RecordFault::Form(3));

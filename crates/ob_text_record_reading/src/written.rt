@@ -1,11 +1,11 @@
 //! Lines as runs write them, read in one walk: the end of a line is not looked for before its words.
 
-ghost use Rattle.std.specs.Prelude.{◌≡◌, ◌↔◌, ◌<◌, List, codes, map, OnOk, IfOk, IsTrue, MatchOption};
-ghost use Rattle.ob_interface.specs.declared.scalar.Scalar as Scalars;
+ghost use Rattle.std.specs.Prelude.{◌≡◌, ◌↔◌, ◌<◌, codes, map, OnOk, IfOk, IsTrue};
 ghost use Rattle.ob_interface.specs.View.{signature_of};
 ghost use Rattle.ob_text_exports.specs.Values.{AreValues, types_of};
+ghost use Rattle.ob_text_words.specs.Finding.{FindsAs};
 ghost use Rattle.ob_text_words.specs.Words.{words};
-ghost use Rattle.ob_text_record_reading.specs.LineReading.{TakesBegin, TakesEnd, TakesLine};
+ghost use Rattle.ob_text_record_reading.specs.LineReading.{TakesBegin, TakesEnd, TakesLine, TakesOrLeaves};
 
 use crate::calls::Calls;
 use crate::front::{front_of, front_word, rest_of_line};
@@ -26,9 +26,8 @@ pub(crate) fn take_written<'a>(
     list: &mut Vec<&'a [u8]>,
 ) -> Result<Option<&'a [u8]>, NoMemory>
     ensures processes { OnOk result (calls.new.processes ≡ calls.old.processes) }
-    ensures taken { IfOk result (λ taken. MatchOption taken
-        (calls.new.events ≡ calls.old.events)
-        (λ rest. TakesLine calls.old.processes (map signature_of exports.now) calls.old.events text.now calls.new.events rest.now)) }
+    ensures taken { IfOk result (TakesOrLeaves calls.old.events calls.new.events
+        (TakesLine calls.old.processes (map signature_of exports.now) calls.old.events text.now)) }
 {
     let Some((kind, id, behind)) = front_of(calls.processes(), text) else {
         return Ok(None);
@@ -56,9 +55,8 @@ fn take_begin<'a>(
 ) -> Result<Option<&'a [u8]>, NoMemory>
     requires { id.process < calls.old.processes }
     ensures processes { OnOk result (calls.new.processes ≡ calls.old.processes) }
-    ensures taken { IfOk result (λ taken. MatchOption taken
-        (calls.new.events ≡ calls.old.events)
-        (λ rest. TakesBegin calls.old.processes (map signature_of exports.now) calls.old.events id text.now calls.new.events rest.now)) }
+    ensures taken { IfOk result (TakesOrLeaves calls.old.events calls.new.events
+        (TakesBegin calls.old.processes (map signature_of exports.now) calls.old.events id text.now)) }
 {
     let Some((name, behind)) = front_word(text) else {
         return Ok(None);
@@ -92,9 +90,8 @@ fn take_end<'a>(
 ) -> Result<Option<&'a [u8]>, NoMemory>
     requires { id.process < calls.old.processes }
     ensures processes { OnOk result (calls.new.processes ≡ calls.old.processes) }
-    ensures taken { IfOk result (λ taken. MatchOption taken
-        (calls.new.events ≡ calls.old.events)
-        (λ rest. TakesEnd calls.old.processes (map signature_of exports.now) calls.old.events id text.now calls.new.events rest.now)) }
+    ensures taken { IfOk result (TakesOrLeaves calls.old.events calls.new.events
+        (TakesEnd calls.old.processes (map signature_of exports.now) calls.old.events id text.now)) }
 {
     let Some((kind, behind)) = front_word(text) else {
         return Ok(None);
@@ -138,9 +135,7 @@ fn kept_values<'a>(
     line: &'a [u8],
     list: &mut Vec<&'a [u8]>,
 ) -> Result<Option<KeptScalars>, NoMemory>
-    ensures { IfOk result (λ read. MatchOption read
-        ((values : List Scalars.Scalar) → AreValues (types_of is_var formals.now) (words line.now) values → ⊥)
-        (λ values. AreValues (types_of is_var formals.now) (words line.now) values.items)) }
+    ensures { IfOk result (FindsAs (λ values. values.items) (AreValues (types_of is_var formals.now) (words line.now))) }
 {
     if formals.is_empty() && line.is_empty() {
         return Ok(Some(KeptScalars::from_slice(alloc, &[])?));
@@ -157,9 +152,7 @@ fn read_kept<'a>(
     line: &'a [u8],
     list: &mut Vec<&'a [u8]>,
 ) -> Result<Option<KeptScalars>, NoMemory>
-    ensures { IfOk result (λ read. MatchOption read
-        ((values : List Scalars.Scalar) → AreValues (types_of is_var formals.now) (words line.now) values → ⊥)
-        (λ values. AreValues (types_of is_var formals.now) (words line.now) values.items)) }
+    ensures { IfOk result (FindsAs (λ values. values.items) (AreValues (types_of is_var formals.now) (words line.now))) }
 {
     let Some(values) = values_in(alloc, formals, is_var, line, list)? else {
         return Ok(None);

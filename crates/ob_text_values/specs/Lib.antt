@@ -1,3 +1,4 @@
 pub mod Values
 pub mod Variables
 pub mod Named
+pub mod Laws

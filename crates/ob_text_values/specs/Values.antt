@@ -1,5 +1,7 @@
 -- The text of values: a scalar as in a script, an array as [v,v], a record as {f=v,g=v}, or {} where it has no field.
 use Rattle.std.specs.Prelude.{ℕ, zero, suc, List, [], ◌++◌, codes}
+use Rattle.ob_checked.specs.Types.{Entry, fields_by, fields_in, types_of}
+use Rattle.ob_checked.specs.declared.fields.Fields as Checked
 use Rattle.ob_typing.specs.Program.{DataType, Simple, Array, Record, Fields, no_field, field}
 use Rattle.ob_positions.specs.Value.{Value, Single, Parts, Values, no_part, part}
 use Rattle.ob_text_words.specs.ScalarTexts.{scalar_text}
@@ -35,3 +37,7 @@ array_text element vs = codes "[" ++ elements_text 0 element vs ++ codes "]"
 
 abbrev pub record_text : Fields → Values → List ℕ
 record_text fields vs = codes "{" ++ fields_text 0 fields vs ++ codes "}"
+
+-- a record whose fields have types of a table
+abbrev pub record_text_in : List Entry → Checked.Fields → Values → List ℕ
+record_text_in table fields vs = record_text (fields_by (types_of table) (fields_in fields)) vs

@@ -1,11 +1,11 @@
 //! Values as text: scalars, arrays and records.
 
 ghost use Rattle.std.specs.Prelude.{◌≡◌, ◌++◌, OnErr, OnOk, string_bytes};
-ghost use Rattle.ob_checked.specs.Types.{type_in, types_of, fields_by, fields_in};
+ghost use Rattle.ob_checked.specs.Types.{type_in};
 ghost use Rattle.ob_checked.specs.View.{table_of};
 ghost use Rattle.ob_store.specs.View.{value_in, values_in};
 ghost use Rattle.ob_text_words.specs.Appending.{GoesOn};
-ghost use Rattle.ob_text_values.specs.Values.{array_text, record_text, separator, value_text};
+ghost use Rattle.ob_text_values.specs.Values.{array_text, record_text_in, separator, value_text};
 
 use ob_checked::fields::Fields;
 use ob_checked::types::{DataType, Types};
@@ -67,7 +67,7 @@ fn push_record(
     parts: &[Value],
 ) -> Result<(), AllocError>
     ensures ok { OnOk result (string_bytes text.new
-        ≡ string_bytes text.old ++ record_text (fields_by (types_of (table_of types.now)) (fields_in fields.now)) (values_in parts.now)) }
+        ≡ string_bytes text.old ++ record_text_in (table_of types.now) fields.now (values_in parts.now)) }
     ensures left { OnErr result (GoesOn (string_bytes text.old) (string_bytes text.new)) }
 {
     text.push_str("{")?;

@@ -2,3 +2,4 @@ pub mod Words
 pub mod Appending
 pub mod ScalarTexts
 pub mod ScriptCalls
+pub mod Finding

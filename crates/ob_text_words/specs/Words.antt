@@ -1,5 +1,5 @@
 -- The words of a text, and the numbers and names that they are.
-use Rattle.std.specs.Prelude.{◌≡◌, ℕ, ℤ, pos, neg_ℤ, ◌≤◌, ◌==◌, ◌||◌, not, Bool, IsTrue, List, ◌∷◌, length, filter}
+use Rattle.std.specs.Prelude.{◌≡◌, ℕ, ℤ, pos, neg_ℤ, ◌≤◌, ◌==◌, ◌||◌, not, Bool, false, IsTrue, List, ◌∷◌, ◌++◌, length, filter}
 use Rattle.std.specs.List.{list_all, slice_split}
 use Rattle.std.specs.Char.{is_ascii_digit}
 use Rattle.ob_scan.specs.declared.token.Kind.{Kind}
@@ -19,6 +19,15 @@ Word = List ℕ
 -- what stands between blanks, where that is something
 abbrev pub words : List ℕ → List Word
 words line = filter (λ w. not (length w == 0)) (slice_split is_blank line)
+
+-- a word is parted behind the digits that it begins with: there are no other digits before a byte that is none
+abbrev pub PartsBehindDigits : (word front back : List ℕ) → Type 0
+PartsBehindDigits word front back =
+    (first : List ℕ) (mark : ℕ) (behind : List ℕ)
+    → word ≡ first ++ mark ∷ behind
+    → IsTrue (list_all is_ascii_digit first)
+    → is_ascii_digit mark ≡ false
+    → (front ≡ first) × (back ≡ mark ∷ behind)
 
 -- one to so many digits, with the number that they spell
 pub record IsDigits (most : ℕ) (word : Word) (n : ℕ) : Type 0 where

@@ -1,9 +1,8 @@
 //! Numbers in decimal digits.
 
-ghost use Rattle.std.specs.Prelude.{◌≡◌, ℕ, ℤ, ◌+◌, ◌*◌, ◌≤◌, ◌<◌, ◌^◌, ◌++◌, ◌∷◌, List, false, IsTrue, MatchOption, IfSome, OnErr, OnOk, decimal, string_bytes};
+ghost use Rattle.std.specs.Prelude.{◌≡◌, ℕ, ℤ, ◌+◌, ◌*◌, ◌≤◌, ◌<◌, ◌^◌, ◌++◌, IsTrue, MatchOption, IfSome, OnErr, OnOk, decimal, string_bytes};
 ghost use Rattle.std.specs.Char.{digit_value, is_ascii_digit};
-ghost use Rattle.std.specs.List.{list_all};
-ghost use Rattle.ob_text_words.specs.Words.{IsDigits, IsNumeral, IsProcess, IsInteger};
+ghost use Rattle.ob_text_words.specs.Words.{IsDigits, IsNumeral, IsProcess, IsInteger, PartsBehindDigits};
 
 use itoa::{Buffer, Integer};
 use std::alloc::AllocError;
@@ -72,10 +71,7 @@ fn with_digit(value: u64, digit: u8) -> Option<u64>
 /// The digits that a word begins with, and what stands behind them.
 pub fn split_digits(word: &[u8]) -> (&[u8], &[u8])
     ensures joined { result.0.now ++ result.1.now ≡ word.now }
-
-    // There are no other digits before a byte that is none.
-    ensures alone { (first : List ℕ) (mark : ℕ) (behind : List ℕ) → word.now ≡ first ++ mark ∷ behind → IsTrue (list_all is_ascii_digit first)
-        → is_ascii_digit mark ≡ false → (result.0.now ≡ first) × (result.1.now ≡ mark ∷ behind) }
+    ensures alone { PartsBehindDigits word.now result.0.now result.1.now }
 {
     let count = word.iter().take_while(|byte| byte.is_ascii_digit()).count();
     word.split_at(count)

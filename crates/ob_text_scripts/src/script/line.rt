@@ -1,11 +1,11 @@
 //! What a line of a script says.
 
-ghost use Rattle.std.specs.Prelude.{◌≡◌, ◌↔◌, ℕ, [], ◌∷◌, true, false, map, IsTrue, IfOk, IfErr, OnErr, MatchOption, List};
+ghost use Rattle.std.specs.Prelude.{◌≡◌, ◌↔◌, ℕ, [], ◌∷◌, true, false, map, IsTrue, IfOk, IfErr, OnErr, List};
 ghost use Rattle.ob_interface.specs.View.{signature_of};
-ghost use Rattle.ob_interface.specs.declared.scalar.Scalar as Scalars;
 ghost use Rattle.ob_text_exports.specs.Values.{AreValues, types_of};
 ghost use Rattle.ob_text_scripts.specs.Script.{IsSkipped, Makes};
-ghost use Rattle.ob_text_scripts.specs.ScriptLine.{HasFault};
+ghost use Rattle.ob_text_scripts.specs.ScriptLine.{HasFault, MakesOrSkips};
+ghost use Rattle.ob_text_words.specs.Finding.{FindsAs};
 ghost use Rattle.ob_text_words.specs.ScriptCalls.{script_call_of};
 
 use crate::script::ScriptFault;
@@ -27,9 +27,7 @@ pub(super) fn read_line(
     number: usize,
     words: &[&[u8]],
 ) -> Result<Option<ScriptCall>, ScriptFault>
-    ensures call { IfOk result (λ made. MatchOption made
-        (IsSkipped (map (λ w. w.now) words.now))
-        (λ call. Makes (map signature_of exports.now) processes (map (λ w. w.now) words.now) (script_call_of call))) }
+    ensures call { IfOk result (MakesOrSkips (map signature_of exports.now) processes (map (λ w. w.now) words.now)) }
     ensures fault { IfErr result (λ e. HasFault (map signature_of exports.now) processes (map (λ w. w.now) words.now) number e) }
     ensures says { OnErr result (IsSkipped (map (λ w. w.now) words.now) → ⊥) }
 {
@@ -89,9 +87,7 @@ fn read_arguments(
     formals: &[Formal],
     words: &[&[u8]],
 ) -> Result<Option<SmallVec<Scalar, 2>>, AllocError>
-    ensures { IfOk result (λ read. MatchOption read
-        ((values : List Scalars.Scalar) → AreValues (types_of false formals.now) (map (λ w. w.now) words.now) values → ⊥)
-        (λ values. AreValues (types_of false formals.now) (map (λ w. w.now) words.now) values.items)) }
+    ensures { IfOk result (FindsAs (λ values. values.items) (AreValues (types_of false formals.now) (map (λ w. w.now) words.now))) }
 {
     if words.is_empty() && take_no_value(formals) {
         return Ok(Some(SmallVec::new(alloc)));
