@@ -1,5 +1,5 @@
 -- Code with that of a construct behind it, in a procedure with these scopes, where the procedures begin at these entries.
-use Rattle.std.specs.Prelude.{List, [], ◌∷◌, ◌++◌, ◌+◌, Bool, length, drop}
+use Rattle.std.specs.Prelude.{ℕ, List, [], ◌∷◌, ◌++◌, ◌+◌, Bool, length, drop}
 use Rattle.ob_typing.specs.Program as Program
 use Rattle.ob_code_machine.specs.Code.{CodeParts}
 use Rattle.ob_code_machine.specs.declared.instr.Instr.TheVariants as Instrs
@@ -51,6 +51,11 @@ module _ (s : Scopes) where
       let a = length c.instructions in
       grown c (Scheme.designator_at (globals_in s) (own_in s) a target
       ++ (Scheme.code_at (globals_in s) (own_in s) (a + Scheme.designator_size (own_in s) target) value ++ Instrs.Put ∷ []))
+
+  -- where the jump of an alternative over those behind it stands: behind the condition, JF and the statements
+  abbrev pub jump_place : CodeParts → Branch → ℕ
+  jump_place c b =
+      length c.instructions + Scheme.size (own_in s) (expression_of b.condition) + 1 + Scheme.statements_size (own_in s) (statements_in b.body.items)
 
   module _ (e : Entries) where
     abbrev pub statement_behind : CodeParts → Program.Statement → CodeParts

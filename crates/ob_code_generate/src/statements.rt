@@ -1,13 +1,11 @@
 //! The code of statements, behind code that stands already.
 
-ghost use Rattle.std.specs.Prelude.{◌≡◌, ◌+◌, ◌++◌, IfOk, OnOk, length, map};
+ghost use Rattle.std.specs.Prelude.{◌≡◌, IfOk, OnOk, map};
 ghost use Rattle.ob_typing.specs.Program as Programs;
-ghost use Rattle.ob_code_scheme.specs.Scheme as Scheme;
 ghost use Rattle.ob_checked.specs.View.{expression_of, designator_of, actual_of, statement_of, statements_in, branches_in, otherwise_of};
-ghost use Rattle.ob_code_generate.specs.Behind.{actual_behind, actuals_behind, alternative_behind, assignment_behind, branches_behind, statement_behind, statements_behind};
+ghost use Rattle.ob_code_generate.specs.Behind.{actual_behind, actuals_behind, alternative_behind, assignment_behind, branches_behind, jump_place, statement_behind, statements_behind};
 ghost use Rattle.ob_code_generate.specs.Growing.{grown, is_more, over};
 ghost use Rattle.ob_code_generate.specs.Limits.{IsWithinLimits};
-ghost use Rattle.ob_code_generate.specs.Scoped.{own_in};
 
 use crate::entries::Entries;
 use crate::expressions::{put_designator, put_expression};
@@ -192,7 +190,7 @@ fn put_branch(
 ) -> Result<u16, AllocError>
     requires { IsWithinLimits (alternative_behind scopes.now entries.now code.old branch.now more) }
     ensures code { OnOk result (code.new ≡ alternative_behind scopes.now entries.now code.old branch.now more) }
-    ensures place { IfOk result (λ place. place ≡ length code.old.instructions + Scheme.size (own_in scopes.now) (expression_of branch.now.condition) + 1 + Scheme.statements_size (own_in scopes.now) (statements_in branch.now.body.items)) }
+    ensures place { IfOk result (λ place. place ≡ jump_place scopes.now code.old branch.now) }
 {
     put_expression(scopes, code, &branch.condition)?;
     let place = code.end();

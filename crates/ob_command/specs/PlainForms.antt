@@ -38,6 +38,12 @@ IsRecordAsked more calls = (m r : Text) → is_option m ≡ false → is_option 
 abbrev pub WithCalls : ((more : List Text) → Option CallNumbers → Type 0) → Type 0
 WithCalls AreAsked = (c : Text) (calls : CallNumbers) → calls_in c ≡ Some calls → AreAsked (codes "--calls" ∷ c ∷ []) (Some calls)
 
+-- `serve`, two names that are no options, and `-n` with a number ask for these workers: each call has the budget that there is where
+-- nothing is said of it.
+abbrev pub IsServeAskedWithoutBudget : Type 0
+IsServeAskedWithoutBudget = (m s n : Text) (k : ℕ) → is_option m ≡ false → is_option s ≡ false → number n ≡ Some k
+    → request (codes "serve" ∷ m ∷ s ∷ codes "-n" ∷ n ∷ []) ≡ Serve m s k 100000
+
 -- The words of `serve` with two names ask for these workers.
 abbrev pub IsServeAsked : Text → Type 0
 IsServeAsked flag = (m s n b : Text) (k t : ℕ) → is_option m ≡ false → is_option s ≡ false → number n ≡ Some k → budget_number b ≡ Some t

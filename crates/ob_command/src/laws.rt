@@ -4,10 +4,10 @@ ghost use Rattle.std.specs.Prelude.{◌≡◌, ◌⊎◌, ℕ, List, Some, None,
 ghost use Rattle.clap.specs.Words.{fault_of};
 ghost use Rattle.ob_command_line.specs.ClapCommand.{obl0_app};
 ghost use Rattle.ob_command.specs.CommandLine.{Bound, Check, Draw, Explain, ExplainRecord, ExplainRun, ExplainTraps, Help, Listing, Run, RunSteps};
-ghost use Rattle.ob_command.specs.CommandLine.{RunTree, Seq, Serve, Text, Unclear, Verify, Version, asks_command, command_names, form_mistake_of};
+ghost use Rattle.ob_command.specs.CommandLine.{RunTree, Seq, Text, Unclear, Verify, Version, asks_command, command_names, form_mistake_of};
 ghost use Rattle.ob_command.specs.CommandLine.{is_option, number, request};
 ghost use Rattle.ob_command.specs.PlainForms.{IsBoundAsked, IsBudgetRunAsked, IsCallsAsked, IsHelpAsked, IsRecordAsked, IsRunAsked, IsServeAsked};
-ghost use Rattle.ob_command.specs.PlainForms.{IsVersionAsked, WithCalls};
+ghost use Rattle.ob_command.specs.PlainForms.{IsServeAskedWithoutBudget, IsVersionAsked, WithCalls};
 
 /// `check` and a name that is no option.
 pub fn check_is_asked()
@@ -57,8 +57,7 @@ pub fn run_with_steps_is_asked()
 
 /// `serve` and two names that are no options, and `-n` with a number.
 pub fn serve_is_asked()
-    ensures { (m s n : Text) (k : ℕ) → is_option m ≡ false → is_option s ≡ false → number n ≡ Some k
-        → request (codes "serve" ∷ m ∷ s ∷ codes "-n" ∷ n ∷ []) ≡ Serve m s k 100000 }
+    ensures { IsServeAskedWithoutBudget }
 {}
 
 /// The same, and `-b` or `--budget` with a number.

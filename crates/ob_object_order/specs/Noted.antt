@@ -1,5 +1,5 @@
 -- What is noted at the names of calls.
-use Rattle.std.specs.Prelude.{ℕ, Option, None, Some, map}
+use Rattle.std.specs.Prelude.{ℕ, ◌↔◌, List, Option, None, Some, map, Contains, IsSome}
 use Rattle.std.specs.HashMap as hash
 use Rattle.wf_history.specs.declared.event.CallId.{CallId}
 use Rattle.ob_object_order.specs.declared.noted.Noted.{Noted}
@@ -14,3 +14,7 @@ first_of None other = other
 -- what is looked up at a name, or else what stands in its row
 abbrev pub noted_in : Noted → CallId → Option ℕ
 noted_in noted id = first_of (hash.get same_id noted.others id) (in_rows (map (λ row. row.items) noted.rows.items) id)
+
+-- something is noted of just the calls of the list
+abbrev pub AreNoted : Noted → List CallId → Type 0
+AreNoted noted order = (q : CallId) → IsSome (noted_in noted q) ↔ Contains order q

@@ -2,16 +2,18 @@
 -- begun, and stands in the list once; each ended call stands in it; no call stands before one that ended before it
 -- began; and then along the list the replies. Of each fault all that is tested before it is a part, so a history and
 -- a list have one fault at most, want of memory aside.
-use Rattle.std.specs.Prelude.{◌≡◌, ◌≢◌, ℕ, ◌<◌, ◌⊎◌, List, take, slice_get, Some, Contains}
+use Rattle.std.specs.Prelude.{◌≡◌, ◌≢◌, ℕ, ◌<◌, ◌⊎◌, List, length, take, slice_get, Option, Some, Result, Contains, MatchOption, MatchResult}
 use Rattle.ob_interface.specs.Call.{ObjectCall, Reply}
 use Rattle.ob_typing.specs.Program.{Program}
 use Rattle.ob_positions.specs.Store.{Activation}
 use Rattle.wf_history.specs.declared.event.CallId.{CallId}
 use Rattle.ob_object_order.specs.declared.order.OrderFault.{OrderFault}
 use Rattle.ob_object_order.specs.declared.order.OrderFault.TheVariants as Faults
+use Rattle.ob_object_order.specs.declared.places.Placed.{Placed}
 use Rattle.wf_history.specs.History.{Event, Begin, Applied, End, Before}
 use Rattle.wf_history.specs.Legal.{HasBegun, OneAtATime, RepliesAgree}
 use Rattle.ob_object_order.specs.LegalOrder.{CallEnds}
+use Rattle.ob_object_order.specs.Places.{BeginsTooLate}
 
 -- the item stands at the first place of the list where the fact holds
 pub record IsFirst {A : Type 0} (Fact : ℕ → A → Type 0) (items : List A) (item : A) : Type 0 where
@@ -23,6 +25,18 @@ pub record IsFirst {A : Type 0} (Fact : ℕ → A → Type 0) (items : List A) (
 -- the fact holds at no place of the list
 abbrev pub IsNowhere : {A : Type 0} → (ℕ → A → Type 0) → List A → Type 0
 IsNowhere {A} Fact items = (k : ℕ) (other : A) → slice_get items k ≡ Some other → ¬ Fact k other
+
+-- the first call of the list that began after the end of one that stands behind it, if there is one
+abbrev pub IsTooLateFound : List Placed → Option CallId → Type 0
+IsTooLateFound placed found =
+    MatchOption found (IsNowhere (BeginsTooLate placed) placed)
+    (λ id. (x : Placed) × (x.id ≡ id) × IsFirst (BeginsTooLate placed) placed x)
+
+-- the call that ends with the event, if one does
+abbrev pub IsEndFound : {Call Reply : Type 0} → Event Call Reply → Option CallId → Type 0
+IsEndFound {Call} {Reply} event found =
+    MatchOption found ((id : CallId) (reply : Reply) → event ≡ End id reply → ⊥)
+    (λ id. (reply : Reply) × (event ≡ End id reply))
 
 module _ {Call Reply : Type 0} (history : List (Event Call Reply)) (order : List CallId) where
   -- the call at this place never began, or stands before it too
@@ -48,6 +62,10 @@ module _ {Call Reply : Type 0} (history : List (Event Call Reply)) (order : List
   -- this call ends first of those that the list lacks
   abbrev pub IsFirstUnlisted : CallId → Type 0
   IsFirstUnlisted id = (reply : Reply) × IsFirst EndsUnlisted history (End id reply)
+
+  -- the call that ends first of those that the list lacks, if it lacks one
+  abbrev pub IsUnlistedFound : Option CallId → Type 0
+  IsUnlistedFound found = MatchOption found (IsNowhere EndsUnlisted history) IsFirstUnlisted
 
   -- what goes wrong before any call is made
   abbrev pub IsListFault : OrderFault → Type 0
@@ -85,6 +103,10 @@ module _ {State Call Reply : Type 0} (Effect : Call → State → State → Repl
 
 -- of calls on the object of a program, each with a budget of turns
 module _ (program : Program) (budget : ℕ) (opening : Activation) (history : List (Event ObjectCall Reply)) (order : List CallId) where
+  -- all calls of the list, made one at a time, lead to this state, with the replies of the history
+  abbrev pub AllLeadTo : Activation → Type 0
+  AllLeadTo last = LeadsTo (CallEnds program budget) opening history order (length order) last
+
   -- what goes wrong along a list that is arranged
   abbrev pub IsReplayFault : OrderFault → Type 0
   IsReplayFault (Faults.OtherReply id) = AnswersOtherwise (CallEnds program budget) opening history order id
@@ -100,3 +122,7 @@ module _ (program : Program) (budget : ℕ) (opening : Activation) (history : Li
   IsOrderFault (Faults.TooEarly id) = IsListFault history order (Faults.TooEarly id)
   IsOrderFault (Faults.OtherReply id) = IsArranged history order × IsReplayFault (Faults.OtherReply id)
   IsOrderFault Faults.NoMemory = Unit {0}
+
+-- this fault is answered, want of memory aside
+abbrev pub TellsFault : {T : Type 0} → Result T OrderFault → OrderFault → Type 0
+TellsFault result fault = (fault ≡ Faults.NoMemory) ⊎ MatchResult result (λ _. ⊥) (λ e. (e ≡ fault) ⊎ (e ≡ Faults.NoMemory))

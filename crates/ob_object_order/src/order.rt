@@ -1,8 +1,7 @@
 //! The checker of orders: whether a list of calls is a legal order of a history.
 
-ghost use Rattle.std.specs.Prelude.{◌≡◌, ◌↔◌, ◌⊎◌, List, map, length, slice_get, Some, OnOk, IfOk, IfErr, MatchOption, MatchResult, IsSome, Contains};
+ghost use Rattle.std.specs.Prelude.{◌≡◌, List, map, slice_get, Some, OnOk, IfOk, IfErr};
 ghost use Rattle.ob_checked.specs.CheckedModule.{program_in};
-ghost use Rattle.ob_interface.specs.Call as Calls;
 ghost use Rattle.ob_positions.specs.Store.{Activation};
 ghost use Rattle.ob_store.specs.View.{state_of};
 ghost use Rattle.wf_history.specs.declared.event.CallId.{CallId};
@@ -10,12 +9,11 @@ ghost use Rattle.wf_history.specs.History.{Begin, End, IsHistory};
 ghost use Rattle.wf_history.specs.View.{event_of, seen_call, seen_reply};
 ghost use Rattle.ob_object_order.specs.declared.order.OrderFault.{OrderFault};
 ghost use Rattle.ob_object_order.specs.declared.order.OrderFault.TheVariants as Faults;
-ghost use Rattle.ob_object_order.specs.declared.places.Placed.{Placed};
-ghost use Rattle.ob_object_order.specs.LegalOrder.{CallEnds, IsLegalOrder};
-ghost use Rattle.ob_object_order.specs.OrderFaults.{IsFirst, IsNowhere, IsUnknown, IsListFault, EndsUnlisted, IsFirstUnlisted, IsArranged, LeadsTo, IsReplayFault, IsOrderFault};
-ghost use Rattle.ob_object_order.specs.Noted.{noted_in};
+ghost use Rattle.ob_object_order.specs.LegalOrder.{IsLegalOrder};
+ghost use Rattle.ob_object_order.specs.OrderFaults.{AllLeadTo, IsNowhere, IsUnknown, IsListFault, IsEndFound, IsUnlistedFound, IsTooLateFound, IsArranged, IsReplayFault, IsOrderFault, TellsFault};
+ghost use Rattle.ob_object_order.specs.Noted.{AreNoted};
 ghost use Rattle.ob_object_order.specs.PlacedCalls.{placed_all};
-ghost use Rattle.ob_object_order.specs.Places.{ArePlaced, BeginsAt, EndsAt, BeginsTooLate};
+ghost use Rattle.ob_object_order.specs.Places.{ArePlaced, BeginsAt, EndsAt};
 
 use crate::noted::Noted;
 use crate::places::{Places, places_of};
@@ -88,7 +86,7 @@ fn known_places(
     order: &[CallId],
 ) -> Result<(Places, Noted), OrderFault>
     ensures placed { IfOk result (λ k. ArePlaced (map event_of events.now) (placed_all k.0 order.now)) }
-    ensures listed { IfOk result (λ k. (q : CallId) → IsSome (noted_in k.1 q) ↔ Contains order.now q) }
+    ensures listed { IfOk result (λ k. AreNoted k.1 order.now) }
     ensures known { OnOk result (IsNowhere (IsUnknown (map event_of events.now) order.now) order.now) }
     ensures fault { IfErr result (IsListFault (map event_of events.now) order.now) }
 {
@@ -108,9 +106,7 @@ fn known_places(
 
 /// The call that ends with an event, if one does.
 fn ended(event: &Event) -> Option<CallId>
-    ensures { MatchOption result
-        ((id : CallId) (reply : Calls.Reply) → event_of event.now ≡ End id reply → ⊥)
-        (λ id. (reply : Calls.Reply) × (event_of event.now ≡ End id reply)) }
+    ensures { IsEndFound (event_of event.now) result }
 {
     match event.seen() {
         SeenEvent::End(id, _) => Some(id),
@@ -120,9 +116,7 @@ fn ended(event: &Event) -> Option<CallId>
 
 /// The first call, by its End, that has ended and that is not noted: the list of those that are noted lacks it.
 fn first_missing(events: &[Event], listed: &Noted) -> Option<CallId>
-    ensures { (order : List CallId) → ((q : CallId) → IsSome (noted_in listed.now q) ↔ Contains order q) → MatchOption result
-        (IsNowhere (EndsUnlisted (map event_of events.now) order) (map event_of events.now))
-        (IsFirstUnlisted (map event_of events.now) order) }
+    ensures { (order : List CallId) → AreNoted listed.now order → IsUnlistedFound (map event_of events.now) order result }
 {
     for event in events {
         if let Some(id) = ended(event)
@@ -136,9 +130,7 @@ fn first_missing(events: &[Event], listed: &Noted) -> Option<CallId>
 
 /// The first call that began after the end of one that stands behind it.
 fn first_too_early(places: &Places, order: &[CallId]) -> Option<CallId>
-    ensures { MatchOption result
-        (IsNowhere (BeginsTooLate (placed_all places.now order.now)) (placed_all places.now order.now))
-        (λ id. (x : Placed) × (x.id ≡ id) × IsFirst (BeginsTooLate (placed_all places.now order.now)) (placed_all places.now order.now) x) }
+    ensures { IsTooLateFound (placed_all places.now order.now) result }
 {
     let mut first = None;
     let mut least = usize::MAX;
@@ -205,7 +197,7 @@ fn replay(
 ) -> Result<State, OrderFault>
     requires history { IsHistory (map event_of events.now) }
     requires placed { ArePlaced (map event_of events.now) (placed_all places.now order.now) }
-    ensures made { IfOk result (λ last. LeadsTo (CallEnds (program_in checked.now) budget) (state_of opening.now) (map event_of events.now) order.now (length order.now) (state_of last)) }
+    ensures made { IfOk result (λ last. AllLeadTo (program_in checked.now) budget (state_of opening.now) (map event_of events.now) order.now (state_of last)) }
     ensures fault { IfErr result (IsReplayFault (program_in checked.now) budget (state_of opening.now) (map event_of events.now) order.now) }
 {
     let mut state = opening.copy(alloc)?;
@@ -238,7 +230,7 @@ pub fn check_order(
 
     // The fault that stands there is answered, want of memory aside.
     ensures exact { (fault : OrderFault) → IsOrderFault (program_in checked.now) budget (state_of opening.now) history.now order.now fault
-        → (fault ≡ Faults.NoMemory) ⊎ MatchResult result (λ _. ⊥) (λ e. (e ≡ fault) ⊎ (e ≡ Faults.NoMemory)) }
+        → TellsFault result fault }
     // A legal order is accepted, want of memory aside.
     ensures accepted { (last : Activation) → IsLegalOrder (program_in checked.now) budget (state_of opening.now) history.now order.now last
         → IfErr result (λ e. e ≡ Faults.NoMemory) }

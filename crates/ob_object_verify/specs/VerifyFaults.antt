@@ -1,5 +1,5 @@
 -- What each fault says of the bytes of a module and of a record.
-use Rattle.std.specs.Prelude.{◌≡◌, ◌≢◌, ◌⊎◌, ℕ, List}
+use Rattle.std.specs.Prelude.{◌≡◌, ◌≢◌, ◌⊎◌, ℕ, List, MatchResult, Result}
 use Rattle.ob_check_text.specs.CheckedText.{IsNumberedText, IsTextFault}
 use Rattle.ob_check_text.specs.declared.checked_text.TextFault.{TextFault}
 use Rattle.ob_check_text.specs.declared.checked_text.TextFault.TheVariants as Text
@@ -97,6 +97,10 @@ IsNumbered (Faults.Form line) = Unit {0}
 IsNumbered (Faults.Open e) = e ≢ Open.NoMemory
 IsNumbered (Faults.Order e) = e ≢ Order.NoMemory
 IsNumbered Faults.NoMemory = ⊥
+
+-- this fault is answered, want of memory aside
+abbrev pub TellsFault : {T : Type 0} → Result T VerifyFault → VerifyFault → Type 0
+TellsFault result fault = MatchResult result (λ _. ⊥) (λ e. (e ≡ fault) ⊎ (e ≡ Faults.NoMemory))
 
 -- want of memory is told by its own variant alone
 abbrev pub TellsMemoryApart : VerifyFault → Type 0

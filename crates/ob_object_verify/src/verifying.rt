@@ -1,11 +1,11 @@
 //! Records verified: whether a record's order is a legal order of its history.
 
-ghost use Rattle.std.specs.Prelude.{◌≡◌, ◌⊎◌, ◌<◌, Err, OnOk, IfErr, MatchResult, length};
+ghost use Rattle.std.specs.Prelude.{◌≡◌, ◌<◌, Err, OnOk, IfErr, length};
 ghost use Rattle.ob_checked.specs.CheckedModule.{program_in};
 ghost use Rattle.ob_interpreter.specs.Sequences.{IsOpening, OpeningTraps};
 ghost use Rattle.ob_object_order.specs.LegalOrder.{CallEnds};
 ghost use Rattle.ob_object_verify.specs.Verified.{IsLegalRecord, IsVerified};
-ghost use Rattle.ob_object_verify.specs.VerifyFaults.{HasRecordFault, IsFaultOfRecord, IsNumbered, IsVerifyFault, TellsMemoryApart, too_long};
+ghost use Rattle.ob_object_verify.specs.VerifyFaults.{HasRecordFault, IsFaultOfRecord, IsNumbered, IsVerifyFault, TellsFault, TellsMemoryApart, too_long};
 ghost use Rattle.ob_object_verify.specs.declared.verifying.VerifyFault.{VerifyFault};
 ghost use Rattle.ob_object_verify.specs.declared.verifying.VerifyFault.TheVariants as Faults;
 
@@ -107,8 +107,7 @@ pub fn verify_text(alloc: Global, module: &[u8], record: &[u8]) -> Result<(), Ve
     ensures lawful { IsVerified «module».now «record».now → IfErr result (λ e. e ≡ Faults.NoMemory) }
 
     // The fault of the record that stands there is answered, want of memory aside.
-    ensures exact { (fault : VerifyFault) → IsNumbered fault → IsFaultOfRecord «module».now «record».now fault
-        → MatchResult result (λ _. ⊥) (λ e. (e ≡ fault) ⊎ (e ≡ Faults.NoMemory)) }
+    ensures exact { (fault : VerifyFault) → IsNumbered fault → IsFaultOfRecord «module».now «record».now fault → TellsFault result fault }
 
     // Want of memory is told by its own variant alone.
     ensures memory { IfErr result TellsMemoryApart }
@@ -126,7 +125,7 @@ fn verify_record(alloc: Global, checked: &Checked, text: &[u8]) -> Result<(), Ve
     ensures fault { IfErr result (HasRecordFault IsOpening OpeningTraps CallEnds (program_in checked.now) text.now) }
     ensures lawful { IsLegalRecord IsOpening CallEnds (program_in checked.now) text.now → IfErr result (λ e. e ≡ Faults.NoMemory) }
     ensures exact { (fault : VerifyFault) → IsNumbered fault → HasRecordFault IsOpening OpeningTraps CallEnds (program_in checked.now) text.now fault
-        → MatchResult result (λ _. ⊥) (λ e. (e ≡ fault) ⊎ (e ≡ Faults.NoMemory)) }
+        → TellsFault result fault }
     ensures memory { IfErr result TellsMemoryApart }
 {
     let read = read_record(alloc, checked, text)?;

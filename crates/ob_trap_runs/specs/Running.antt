@@ -1,10 +1,12 @@
 -- What runs with sites come to.
-use Rattle.std.specs.Prelude.{◌≡◌, ℕ, ◌-◌, List, Option, Some, Result, Ok, Err, Vec, slice_get}
+use Rattle.std.specs.Borrow.{Bor}
+use Rattle.std.specs.Prelude.{◌≡◌, ℕ, ◌-◌, List, MatchOption, None, Option, Some, Result, Ok, Err, Vec, slice_get}
 use Rattle.std.specs.Global.{Global}
 use Rattle.ob_checked.specs.View.{branches_in, expression_of, otherwise_of, procedure_of, program_of, statements_in, table_of}
 use Rattle.ob_checked.specs.declared.program.Branch as CodeBranch
 use Rattle.ob_checked.specs.declared.program.Expression as CodeExpression
 use Rattle.ob_checked.specs.declared.program.Procedure as CodeProcedure
+use Rattle.ob_checked.specs.declared.program.Program as CodeProgram
 use Rattle.ob_checked.specs.declared.program.Statement as CodeStatement
 use Rattle.ob_interpreter.specs.declared.statements.Context.{Context}
 use Rattle.ob_positions.specs.Store.{Held, Store}
@@ -65,7 +67,18 @@ AssignComes target value turns store result after =
 abbrev pub IsExport : Program → (export : ℕ) → (number : ℕ) → Procedure → Type 0
 IsExport program export number p = (slice_get (exports program) export ≡ Some p) × (export_number program.procedures export ≡ number)
 
+-- the export of a number among the program's procedures, with its number among all, where there is one
+abbrev pub IsExportFound : CodeProgram.Program → (export : ℕ) → Option (ℕ × Bor CodeProcedure.Procedure) → Type 0
+IsExportFound program export found =
+    MatchOption found (slice_get (exports (program_of program)) export ≡ None)
+    (λ f. IsExport (program_of program) export f.0 (procedure_of (table_of program.types) f.1.now))
+
 -- where the trap of a procedure of this number comes from that is run from outside in this store, if it traps
 abbrev pub site_in : Program → (number : ℕ) → Procedure → (budget : ℕ) → Store → Option Site
 site_in program number p budget store =
     site_of (of_procedure number (Sited.meaning_of_all by_position (Sited.calls by_position program (most_activations - 1)) 0 p.body budget store))
+
+-- the same of a procedure of the code's program
+abbrev pub site_outside : CodeProgram.Program → (number : ℕ) → CodeProcedure.Procedure → (budget : ℕ) → Store → Option Site
+site_outside program number procedure budget store =
+    site_in (program_of program) number (procedure_of (table_of program.types) procedure) budget store

@@ -1,15 +1,14 @@
 //! Where the trap of a call from outside comes from.
 
-ghost use Rattle.std.specs.Prelude.{◌≡◌, None, MatchOption, IfOk, option_map, slice_get};
+ghost use Rattle.std.specs.Prelude.{◌≡◌, IfOk, option_map};
 ghost use Rattle.ob_checked.specs.CheckedModule.{program_in};
-ghost use Rattle.ob_checked.specs.View.{procedure_of, program_of, table_of};
+ghost use Rattle.ob_checked.specs.View.{procedure_of, table_of};
 ghost use Rattle.ob_interpreter.specs.Outside.{outside_store};
 ghost use Rattle.ob_interpreter.specs.View.{call_of};
 ghost use Rattle.ob_store.specs.View.{state_of, store_in};
 ghost use Rattle.ob_trap_sites.specs.Object as Sites;
 ghost use Rattle.ob_trap_values.specs.Reaching.{site_of};
-ghost use Rattle.ob_typing.specs.Program.{exports};
-ghost use Rattle.ob_trap_runs.specs.Running.{IsExport, site_in};
+ghost use Rattle.ob_trap_runs.specs.Running.{IsExportFound, site_outside};
 
 use crate::outside::{outside_handed, results_begun};
 use crate::statements::run;
@@ -28,8 +27,7 @@ use std::alloc::{AllocError, Global};
 
 /// The export of a number, with its number among all procedures.
 fn export(program: &Program, number: usize) -> Option<(usize, &Procedure)>
-    ensures { MatchOption result (slice_get (exports (program_of program.now)) number ≡ None)
-        (λ found. IsExport (program_of program.now) number found.0 (procedure_of (table_of program.now.types) found.1.now)) }
+    ensures { IsExportFound program.now number result }
 {
     let mut left = number;
     for (position, procedure) in program.procedures.iter().enumerate() {
@@ -76,8 +74,7 @@ fn site_outside(
     store: &mut Store,
     budget: u64,
 ) -> Result<Option<Site>, NoMemory>
-    ensures { IfOk result (λ found. option_map site_of found
-        ≡ site_in (program_of program.now) number (procedure_of (table_of program.now.types) procedure.now) budget (store_in store.old)) }
+    ensures { IfOk result (λ found. option_map site_of found ≡ site_outside program.now number procedure.now budget (store_in store.old)) }
 {
     let context = Context {
         alloc,

@@ -1,5 +1,5 @@
 -- Where the traps of calls come from that are made one at a time.
-use Rattle.std.specs.Prelude.{ℕ, List, [], ◌∷◌, Option}
+use Rattle.std.specs.Prelude.{◌≡◌, ℕ, List, [], ◌∷◌, Option}
 use Rattle.ob_interface.specs.Call.{ObjectCall, Reply}
 use Rattle.ob_positions.specs.Object.{Effect, effect}
 use Rattle.ob_positions.specs.Store.{Activation}
@@ -16,3 +16,10 @@ sites_from program budget state (call ∷ calls) =
 -- a call left this state and this reply
 abbrev pub effect_left : Activation → Reply → Effect
 effect_left state reply = record { state = state; reply = reply }
+
+-- in each state from which the call leaves this state and this reply, its trap comes from this site, or it doesn't trap
+abbrev pub IsSiteBehind : Program → ObjectCall → (budget : ℕ) → (left : Activation) → Reply → Option Site → Type 0
+IsSiteBehind program call budget left reply site =
+    (before : Activation)
+    → effect program call budget before ≡ effect_left left reply
+    → site ≡ site_of_call program call budget before

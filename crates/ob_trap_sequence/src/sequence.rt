@@ -4,11 +4,10 @@ ghost use Rattle.std.specs.Prelude.{◌≡◌, IfOk, map, option_map};
 ghost use Rattle.ob_checked.specs.CheckedModule.{program_in};
 ghost use Rattle.ob_interpreter.specs.View.{call_of, reply_of};
 ghost use Rattle.ob_positions.specs.Object.{effect};
-ghost use Rattle.ob_positions.specs.Store.{Activation};
 ghost use Rattle.ob_store.specs.View.{state_of};
 ghost use Rattle.ob_trap_sites.specs.Object as Sites;
 ghost use Rattle.ob_trap_values.specs.Reaching.{site_of};
-ghost use Rattle.ob_trap_sequence.specs.Sequence.{effect_left, sites_from};
+ghost use Rattle.ob_trap_sequence.specs.Sequence.{IsSiteBehind, sites_from};
 
 use ob_checked::checked::Checked;
 use ob_interface::NoMemory;
@@ -66,9 +65,8 @@ fn site_behind(
     call: &Call,
     budget: u64,
 ) -> Result<Option<Site>, NoMemory>
-    ensures { IfOk result (λ site. (before : Activation)
-        → effect (program_in checked.now) (call_of call.now) budget before ≡ effect_left (state_of state.now) (reply_of reply.now)
-        → option_map site_of site ≡ Sites.site_of_call (program_in checked.now) (call_of call.now) budget before) }
+    ensures { IfOk result (λ site.
+        IsSiteBehind (program_in checked.now) (call_of call.now) budget (state_of state.now) (reply_of reply.now) (option_map site_of site)) }
 {
     match reply {
         Reply::Answers(_) => Ok(None),
