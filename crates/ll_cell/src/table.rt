@@ -1,6 +1,6 @@
 //! Blocks of one form, whose words lie side by side.
 
-ghost use Rattle.std.specs.Prelude.{◌≡◌, ◌≢◌, ◌↔◌, IsTrue, ℕ, ◌+◌, ◌*◌, ◌<◌, ◌≤◌, IfOk, length, take, drop, replicate, pos, slice_index_or, []};
+ghost use Rattle.std.specs.Prelude.{◌≡◌, ◌≢◌, ◌↔◌, IsTrue, ℕ, ◌+◌, ◌*◌, ◌<◌, ◌≤◌, IfOk, length, take, drop, replicate, pos};
 ghost use Rattle.std.specs.Borrow.{sem};
 ghost use Rattle.std.specs.Int.{bit_at};
 ghost use Rattle.ll_cell.specs.Cell.{word_at};

@@ -1,6 +1,6 @@
 //! What an instruction without a jump does to the block and the stack.
 
-ghost use Rattle.std.specs.Prelude.{◌≡◌, ◌+◌, ◌≤◌, ◌<◌, length, take, pos};
+ghost use Rattle.std.specs.Prelude.{◌+◌, ◌≤◌, length, take, pos};
 ghost use Rattle.ob_code_machine.specs.declared.instr.Instr.{Instr};
 ghost use Rattle.ob_code_machine.specs.Words as Words;
 ghost use Rattle.ob_code_machine.specs.Effect as Effects;

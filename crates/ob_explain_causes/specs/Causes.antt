@@ -1,7 +1,10 @@
 -- Hints on slips that show by the tokens around a place.
-use Rattle.std.specs.Prelude.{ℕ, List, [], ◌∷◌, codes, find, Option, Some, None}
+use Rattle.std.specs.Prelude.{ℕ, ◌-◌, ◌||◌, Bool, List, [], ◌∷◌, codes, find, length, take, Option, Some, None, if◌then◌else◌}
+use Rattle.std.specs.Char.{is_ascii_digit}
 use Rattle.ob_explain_hints.specs.Slips.{is_same_in_any_case}
+use Rattle.ob_explain_hints.specs.Words.{last_len}
 use Rattle.ob_explain_hints.specs.declared.tables.Slip.{Slip}
+use Rattle.ob_explain_causes.specs.Signs as Signs
 use Rattle.ob_explain_causes.specs.declared.causes.Cause.{Cause}
 use Rattle.ob_explain_causes.specs.declared.causes.Cause.TheVariants as Causes
 use Rattle.ob_explain_causes.specs.declared.causes.Hint.{Hint}
@@ -15,6 +18,8 @@ cause_mark Causes.Truth = codes "BOOL"
 cause_mark Causes.Number = codes "INT"
 cause_mark Causes.Real = codes "REAL"
 cause_mark Causes.Character = codes "CHAR"
+cause_mark Causes.Text = codes "STRING"
+cause_mark Causes.Allocation = codes "NEW"
 cause_mark _ = []
 
 abbrev pub cause_text : Cause → List ℕ
@@ -24,10 +29,15 @@ cause_text Causes.Truth = codes "the type of TRUE and FALSE is BOOLEAN"
 cause_text Causes.Number = codes "the type of numbers is INTEGER"
 cause_text Causes.Real = codes "there are no real numbers; the types of single values are INTEGER and BOOLEAN"
 cause_text Causes.Character = codes "there are no characters; the types of single values are INTEGER and BOOLEAN"
+cause_text Causes.Text = codes "there are no strings; the types of single values are INTEGER and BOOLEAN"
+cause_text Causes.Allocation = codes "there is no NEW and there are no pointers; write an array of records, and an index in place of a pointer"
+cause_text Causes.OtherNumber = codes "the type of numbers is INTEGER, from -2147483648 to 2147483647, and there is no other"
 cause_text Causes.NoFunction = codes "there are no functions; a procedure gives its results by VAR parameters, and a call of it is a statement"
 cause_text Causes.Index = codes "an element of an array is written a[i]"
 cause_text Causes.Change = codes "a variable is changed by an assignment: x := x + 1"
 cause_text Causes.Assignment = codes "= compares, and := assigns"
+cause_text Causes.Arrow = codes "an assignment is written with :="
+cause_text Causes.Power = codes "there are no powers; write a product, as x * x"
 cause_text Causes.Comparison = codes "a comparison beside another one, or beside & or OR, stands in parentheses: (a > 0) & (b < 5)"
 cause_text Causes.Indices = codes "a further index stands in brackets of its own: a[i][j]"
 cause_text Causes.Parted = codes "behind a type stands ;, and then the next names: a: INTEGER; b: BOOLEAN"
@@ -64,15 +74,27 @@ cause_text Causes.PartedNumber = codes "a number has digits alone, and no unders
 
 -- names that other languages have
 abbrev pub names : List Cause
-names = Causes.Increase ∷ Causes.Decrease ∷ Causes.Truth ∷ Causes.Number ∷ Causes.Real ∷ Causes.Character ∷ []
+names =
+    Causes.Increase ∷ Causes.Decrease ∷ Causes.Truth ∷ Causes.Number ∷ Causes.Real ∷ Causes.Character ∷ Causes.Text ∷ Causes.Allocation ∷ []
 
 -- the first of these causes whose name this is, in small letters or large
 abbrev pub with_mark : List Cause → List ℕ → Option Cause
 with_mark causes word = find (λ cause. is_same_in_any_case word (cause_mark cause)) causes
 
+-- a word without the digits at its end
+abbrev pub without_digits : List ℕ → List ℕ
+without_digits word = take (length word - last_len is_ascii_digit word) word
+
+-- a type of numbers that other languages have, behind which their bits may stand: int64, uint32, LONGINT
+abbrev pub is_number_type : List ℕ → Bool
+is_number_type word =
+    is_same_in_any_case (without_digits word) (codes "INT") || is_same_in_any_case (without_digits word) (codes "UINT")
+    || is_same_in_any_case (without_digits word) (codes "LONGINT") || is_same_in_any_case (without_digits word) (codes "SHORTINT")
+    || is_same_in_any_case (without_digits word) (codes "CARDINAL")
+
 -- of a name that is not there
 abbrev pub name_cause : List ℕ → Option Cause
-name_cause word = with_mark names word
+name_cause word = Signs.either (with_mark names word) (if is_number_type word then Some Causes.OtherNumber else None)
 
 abbrev pub known : Option Slip → Option Hint
 known None = None

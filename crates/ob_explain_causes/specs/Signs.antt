@@ -79,11 +79,12 @@ abbrev pub begins_change : List ℕ → Bool
 begins_change from =
     starts_with nat_eq from (codes "++") || starts_with nat_eq from (codes "--") || starts_with nat_eq from (codes "+=") || starts_with nat_eq from (codes "-=")
 
--- where a `:=` could stand: a `=` in its place, or a sign that changes a variable
+-- where a `:=` could stand: a `=` or `<-` in its place, or a sign that changes a variable
 abbrev pub change_cause : List Kind → (from : List ℕ) → Option Cause
 change_cause kinds from =
     if not (has kinds Kinds.Assign) then None
     else if begins_with from 61 then Some Causes.Assignment
+    else if starts_with nat_eq from (codes "<-") then Some Causes.Arrow
     else if begins_change from then Some Causes.Change
     else None
 
@@ -103,6 +104,11 @@ begins_sign from = begins_with from 43 || begins_with from 45
 -- the second one of two -
 abbrev pub is_second_minus : (before from : List ℕ) → Bool
 is_second_minus before from = ends_with before 45 && begins_with from 45
+
+-- where an operand could stand, the second one of two *
+abbrev pub power_cause : List Kind → (before from : List ℕ) → Option Cause
+power_cause kinds before from =
+    if has kinds Kinds.Number && (ends_with before 42 && begins_with from 42) then Some Causes.Power else None
 
 -- a sign where an operand could stand, and no sign: behind an operator
 abbrev pub operand_cause : List Kind → (before from : List ℕ) → Option Cause
@@ -142,4 +148,4 @@ abbrev pub sign_cause : (text : List ℕ) → List Token → Option Token → Li
 sign_cause text tokens last kinds before from next =
     either (either (call_cause text tokens kinds before from) (result_cause last kinds from next))
     (either (either (element_cause last kinds from) (either (change_cause kinds from) (comparison_cause kinds from)))
-    (either (operand_cause kinds before from) (comment_cause kinds from)))
+    (either (either (operand_cause kinds before from) (power_cause kinds before from)) (comment_cause kinds from)))

@@ -1,8 +1,11 @@
 //! Hints on slips that show by the tokens around a place.
 
-ghost use Rattle.std.specs.Prelude.{◌≡◌};
-ghost use Rattle.ob_explain_causes.specs.Causes.{cause_mark, cause_text, either, known, name_cause, told, with_mark};
+ghost use Rattle.std.specs.Prelude.{◌≡◌, ◌≤◌, length};
+ghost use Rattle.std.specs.Char.{is_ascii_digit};
+ghost use Rattle.ob_explain_hints.specs.Words.{last_len};
+ghost use Rattle.ob_explain_causes.specs.Causes.{cause_mark, cause_text, either, is_number_type, known, name_cause, told, with_mark, without_digits};
 
+use crate::signs;
 use ob_explain_hints::slips::is_same_in_any_case;
 use ob_explain_hints::tables::Slip;
 use ob_scan::{Kind, Token};
@@ -16,10 +19,15 @@ pub enum Cause {
     Number,
     Real,
     Character,
+    Text,
+    Allocation,
+    OtherNumber,
     NoFunction,
     Index,
     Change,
     Assignment,
+    Arrow,
+    Power,
     Comparison,
     Indices,
     Parted,
@@ -71,13 +79,15 @@ pub enum Hint {
 }
 
 /// Names that other languages have, whose letters may be small or large.
-pub const NAMES: [Cause; 6] = [
+pub const NAMES: [Cause; 8] = [
     Cause::Increase,
     Cause::Decrease,
     Cause::Truth,
     Cause::Number,
     Cause::Real,
     Cause::Character,
+    Cause::Text,
+    Cause::Allocation,
 ];
 
 /// The name that is written there.
@@ -91,6 +101,8 @@ fn cause_mark(cause: Cause) -> &'static [u8]
         Cause::Number => b"INT",
         Cause::Real => b"REAL",
         Cause::Character => b"CHAR",
+        Cause::Text => b"STRING",
+        Cause::Allocation => b"NEW",
         _ => b"",
     }
 }
@@ -108,11 +120,18 @@ pub fn cause_text(cause: Cause) -> &'static str
             "there are no real numbers; the types of single values are INTEGER and BOOLEAN",
         Cause::Character =>
             "there are no characters; the types of single values are INTEGER and BOOLEAN",
+        Cause::Text => "there are no strings; the types of single values are INTEGER and BOOLEAN",
+        Cause::Allocation =>
+            "there is no NEW and there are no pointers; write an array of records, and an index in place of a pointer",
+        Cause::OtherNumber =>
+            "the type of numbers is INTEGER, from -2147483648 to 2147483647, and there is no other",
         Cause::NoFunction =>
             "there are no functions; a procedure gives its results by VAR parameters, and a call of it is a statement",
         Cause::Index => "an element of an array is written a[i]",
         Cause::Change => "a variable is changed by an assignment: x := x + 1",
         Cause::Assignment => "= compares, and := assigns",
+        Cause::Arrow => "an assignment is written with :=",
+        Cause::Power => "there are no powers; write a product, as x * x",
         Cause::Comparison =>
             "a comparison beside another one, or beside & or OR, stands in parentheses: (a > 0) & (b < 5)",
         Cause::Indices => "a further index stands in brackets of its own: a[i][j]",
@@ -164,7 +183,43 @@ pub fn cause_text(cause: Cause) -> &'static str
 pub fn name_cause(word: &[u8]) -> Option<Cause>
     ensures { result ≡ name_cause word.now }
 {
-    with_mark(&NAMES, word)
+    let of_type = if is_number_type(word) {
+        Some(Cause::OtherNumber)
+    } else {
+        None
+    };
+    signs::either(with_mark(&NAMES, word), of_type)
+}
+
+/// Whether a word is a type of numbers that other languages have, behind which their bits may stand.
+fn is_number_type(word: &[u8]) -> bool
+    ensures { result ≡ is_number_type word.now }
+{
+    let word = without_digits(word);
+    is_same_in_any_case(word, b"INT")
+        || is_same_in_any_case(word, b"UINT")
+        || is_same_in_any_case(word, b"LONGINT")
+        || is_same_in_any_case(word, b"SHORTINT")
+        || is_same_in_any_case(word, b"CARDINAL")
+}
+
+/// What stands before the digits at the end of a word.
+fn without_digits(word: &[u8]) -> &[u8]
+    ensures { result.now ≡ without_digits word.now }
+{
+    let left = word.len() - digits_at_end(word);
+    &word[..left]
+}
+
+/// How many digits stand at the end of a word.
+fn digits_at_end(word: &[u8]) -> usize
+    ensures count { result ≡ last_len is_ascii_digit word.now }
+    ensures within { result ≤ length word.now }
+{
+    word.iter()
+        .rev()
+        .take_while(|byte| byte.is_ascii_digit())
+        .count()
 }
 
 /// The first of these causes whose name this is, in small letters or large.

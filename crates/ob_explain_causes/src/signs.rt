@@ -5,7 +5,7 @@ ghost use Rattle.ob_explain_expected.specs.Groups.{has};
 ghost use Rattle.ob_explain_causes.specs.Signs.{begins_change, begins_relation, begins_sign, begins_type, call_cause, called_cause, change_cause};
 ghost use Rattle.ob_explain_causes.specs.Signs.{comment_cause, comparison_cause, either, element_cause, ends_heading, ends_statement, is_colon};
 ghost use Rattle.ob_explain_causes.specs.Signs.{is_digit, is_foreign, is_no_expression, is_right, is_second_minus, number_cause, operand_cause};
-ghost use Rattle.ob_explain_causes.specs.Signs.{result_cause, sign_cause};
+ghost use Rattle.ob_explain_causes.specs.Signs.{power_cause, result_cause, sign_cause};
 
 use crate::causes::Cause;
 use crate::procedures::{declares, lists, names_no_array};
@@ -30,7 +30,10 @@ pub fn sign_cause(
     let of_element = element_cause(last, kinds, from);
     let of_change = either(change_cause(kinds, from), comparison_cause(kinds, from));
     let of_operand = either(
-        operand_cause(kinds, before, from),
+        either(
+            operand_cause(kinds, before, from),
+            power_cause(kinds, before, from),
+        ),
         comment_cause(kinds, from),
     );
     either(
@@ -125,7 +128,7 @@ fn element_cause(last: Option<Token>, kinds: &[Kind], from: &[u8]) -> Option<Cau
     }
 }
 
-/// The cause of a `++` and its like, or of a `=`, behind a variable.
+/// The cause of a `++` and its like, or of a `=` or `<-`, behind a variable.
 fn change_cause(kinds: &[Kind], from: &[u8]) -> Option<Cause>
     ensures { result ≡ change_cause kinds.now from.now }
 {
@@ -133,6 +136,8 @@ fn change_cause(kinds: &[Kind], from: &[u8]) -> Option<Cause>
         None
     } else if begins_with(from, b'=') {
         Some(Cause::Assignment)
+    } else if from.starts_with(b"<-") {
+        Some(Cause::Arrow)
     } else if begins_change(from) {
         Some(Cause::Change)
     } else {
@@ -171,6 +176,17 @@ fn operand_cause(kinds: &[Kind], before: &[u8], from: &[u8]) -> Option<Cause>
         Some(Cause::TwoSigns)
     } else {
         Some(Cause::Sign)
+    }
+}
+
+/// The cause of a `*` behind another one, where an operand could stand.
+fn power_cause(kinds: &[Kind], before: &[u8], from: &[u8]) -> Option<Cause>
+    ensures { result ≡ power_cause kinds.now before.now from.now }
+{
+    if has(kinds, Kind::Number) && (ends_with(before, b'*') && begins_with(from, b'*')) {
+        Some(Cause::Power)
+    } else {
+        None
     }
 }
 
