@@ -226,9 +226,13 @@ overhang_at exports f band s (Begun call) behind = overhang exports f band (bar_
 overhang_at exports f band s (Taken number maker) behind = 0
 overhang_at exports f band s (Ended reply) behind = 0
 
+-- how far the words of a call do, where it begins
+abbrev pub overhang_of : List Signature → Frame → (band : ℕ) → Sight → List Sight → ℕ
+overhang_of exports f band s behind = overhang_at exports f band s s.happening behind
+
 abbrev pub spill : List Signature → Frame → (band : ℕ) → List Sight → ℕ
 spill exports f band [] = 0
-spill exports f band (s ∷ behind) = max (overhang_at exports f band s s.happening behind) (spill exports f band behind)
+spill exports f band (s ∷ behind) = max (overhang_of exports f band s behind) (spill exports f band behind)
 
 -- from the top: where a band begins, each below the one before it
 abbrev pub top_of : Frame → Chart → (band : ℕ) → ℕ
@@ -252,6 +256,9 @@ shapes_in exports c band =
 
 abbrev pub band_shapes : List Signature → Frame → Chart → (band : ℕ) → List Shape
 band_shapes exports f c band = shapes_in exports c (band_of exports f c band)
+
+abbrev pub shapes_of_bands : List Signature → Frame → Chart → List Shape
+shapes_of_bands exports f c = each (band_shapes exports f c) (bands f)
 
 -- ---- the picture
 
@@ -337,7 +344,7 @@ size_of exports c = size_in (frame_of exports c) c
 -- all shapes of a picture, one above the other
 abbrev pub shapes_of : List Signature → Frame → Chart → List Shape
 shapes_of exports f c =
-    head_shapes c (size_in f c) ++ each (band_shapes exports f c) (bands f) ++ order_shapes f (below_bands f c) c.order
+    head_shapes c (size_in f c) ++ shapes_of_bands exports f c ++ order_shapes f (below_bands f c) c.order
 
 abbrev pub shapes : List Signature → Chart → List Shape
 shapes exports c = shapes_of exports (frame_of exports c) c

@@ -4,9 +4,9 @@ ghost use Rattle.std.specs.Prelude.{◌≡◌, ◌++◌, ◌<◌, ◌^◌, OnOk,
 ghost use Rattle.std.specs.List.{flat_map};
 ghost use Rattle.ob_interface.specs.View.{signature_of};
 ghost use Rattle.ob_text_picture.specs.Places.{columns_in};
-ghost use Rattle.ob_text_picture.specs.Shapes.{bar_at, bars, help, mark, row, shapes_in, tick, ticks, time_of};
+ghost use Rattle.ob_text_picture.specs.Shapes.{bars, help, mark, row, shapes_in, tick, ticks, time_of};
 ghost use Rattle.ob_text_picture.specs.Shapes as Shapes;
-ghost use Rattle.ob_text_picture.specs.View.{band_in};
+ghost use Rattle.ob_text_picture.specs.View.{band_in, bar_begun};
 ghost use Rattle.ob_text_picture_chart.specs.View.{chart_in, sight_of};
 ghost use Rattle.ob_text_picture_svg.specs.Svg.{Words, shape_text, shapes_text};
 
@@ -183,10 +183,7 @@ fn push_bar_at(
     behind: &[Sight],
 ) -> Result<(), AllocError>
     requires { band.now.top < 2 ^ 77 }
-    ensures { OnOk result (string_bytes text.new
-        ≡ string_bytes text.old
-        ++ shapes_text (bar_at (map signature_of exports.now) (band_in band.now) (sight_of sight.now) (sight_of sight.now).happening
-        (map sight_of behind.now))) }
+    ensures { OnOk result (string_bytes text.new ≡ string_bytes text.old ++ shapes_text (bar_begun exports.now band.now sight.now behind.now)) }
 {
     match sight.happening {
         Happening::Begun(call) => {

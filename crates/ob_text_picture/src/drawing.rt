@@ -2,9 +2,9 @@
 
 ghost use Rattle.std.specs.Prelude.{◌≡◌, ◌+◌, ◌++◌, ◌<◌, ◌≤◌, ◌^◌, IfErr, IfOk, OnOk, codes, length, map, string_bytes};
 ghost use Rattle.ob_interface.specs.View.{signature_of};
-ghost use Rattle.ob_text_picture.specs.Shapes.{band_shapes, below_bands, calls_words, each, frame_of, head_shapes, heading_words, picture_text, top_of};
-ghost use Rattle.ob_text_picture.specs.Places.{at, bands};
-ghost use Rattle.ob_text_picture_chart.specs.Charts.{begun, chart_of, range_of};
+ghost use Rattle.ob_text_picture.specs.Shapes.{band_shapes, below_bands, calls_words, frame_of, head_shapes, heading_words, picture_text, shapes_of_bands, top_of};
+ghost use Rattle.ob_text_picture.specs.Places.{at};
+ghost use Rattle.ob_text_picture_chart.specs.Charts.{begun, chart_of_calls};
 ghost use Rattle.ob_text_picture_chart.specs.Faults.{IsRangeFault, MayBeShown};
 ghost use Rattle.ob_text_picture_chart.specs.View.{chart_in, moment_of};
 ghost use Rattle.ob_text_picture_svg.specs.Svg.{Words, shape_text, shapes_text};
@@ -34,8 +34,8 @@ pub fn draw(
     calls: Option<CallRange>,
 ) -> Result<String, PictureFault>
     requires { processes ≤ MOST_PROCESSES }
-    ensures picture { IfOk result (λ text. string_bytes text ≡ picture_text (map signature_of exports.now)
-        (chart_of processes (map moment_of moments.now) order.now (range_of (length (begun (map moment_of moments.now))) calls))) }
+    ensures picture { IfOk result (λ text. string_bytes text
+        ≡ picture_text (map signature_of exports.now) (chart_of_calls processes (map moment_of moments.now) order.now calls)) }
     ensures fault { IfErr result (IsRangeFault (length (begun (map moment_of moments.now))) calls) }
     ensures shown { OnOk result (MayBeShown (length (begun (map moment_of moments.now))) calls) }
 {
@@ -133,7 +133,7 @@ fn push_bands(
 ) -> Result<u128, AllocError>
     requires { chart.now.processes ≤ MOST_PROCESSES }
     ensures text { OnOk result (string_bytes text.new
-        ≡ string_bytes text.old ++ shapes_text (each (band_shapes (map signature_of exports.now) frame (chart_in chart.now)) (bands frame))) }
+        ≡ string_bytes text.old ++ shapes_text (shapes_of_bands (map signature_of exports.now) frame (chart_in chart.now))) }
     ensures below { IfOk result (λ below. below ≡ below_bands frame (chart_in chart.now)) }
     ensures small { IfOk result (λ below. below < 2 ^ 77) }
 {

@@ -2,7 +2,7 @@
 
 ghost use Rattle.std.specs.Prelude.{◌≡◌, ◌<◌, ◌^◌, IfOk, map};
 ghost use Rattle.ob_interface.specs.View.{signature_of};
-ghost use Rattle.ob_text_picture.specs.Shapes.{overhang, overhang_at, spill};
+ghost use Rattle.ob_text_picture.specs.Shapes.{overhang, overhang_of, spill};
 ghost use Rattle.ob_text_picture_chart.specs.View.{sight_of};
 ghost use Rattle.ob_text_picture_labels.specs.View.{bar_in};
 
@@ -42,8 +42,7 @@ fn overhang_at(
     sight: &Sight,
     behind: &[Sight],
 ) -> Result<u128, AllocError>
-    ensures value { IfOk result (λ width. width
-        ≡ overhang_at (map signature_of exports.now) frame band (sight_of sight.now) (sight_of sight.now).happening (map sight_of behind.now)) }
+    ensures value { IfOk result (λ width. width ≡ overhang_of (map signature_of exports.now) frame band (sight_of sight.now) (map sight_of behind.now)) }
     ensures small { IfOk result (λ width. width < 2 ^ 77) }
 {
     match sight.happening {
