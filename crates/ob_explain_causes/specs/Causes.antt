@@ -69,6 +69,8 @@ cause_text Causes.HeadingEnd = codes "the heading of a procedure ends with ;, as
 cause_text Causes.Leader = codes "behind the condition of IF and ELSIF stands THEN, behind that of WHILE stands DO"
 cause_text Causes.NoThen = codes "is THEN missing before it?"
 cause_text Causes.NoDo = codes "is DO missing before it?"
+cause_text Causes.NoBracket = codes "is a ] missing before it?"
+cause_text Causes.NoParen = codes "is a ) missing before it?"
 cause_text Causes.RepeatEnd = codes "a REPEAT ends with UNTIL and its condition, without an END"
 cause_text Causes.PartedNumber = codes "a number has digits alone, and no underscores"
 

@@ -59,6 +59,8 @@ pub enum Cause {
     Leader,
     NoThen,
     NoDo,
+    NoBracket,
+    NoParen,
     RepeatEnd,
     PartedNumber,
 }
@@ -174,6 +176,8 @@ pub fn cause_text(cause: Cause) -> &'static str
             "behind the condition of IF and ELSIF stands THEN, behind that of WHILE stands DO",
         Cause::NoThen => "is THEN missing before it?",
         Cause::NoDo => "is DO missing before it?",
+        Cause::NoBracket => "is a ] missing before it?",
+        Cause::NoParen => "is a ) missing before it?",
         Cause::RepeatEnd => "a REPEAT ends with UNTIL and its condition, without an END",
         Cause::PartedNumber => "a number has digits alone, and no underscores",
     }

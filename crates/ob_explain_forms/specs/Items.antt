@@ -1,8 +1,8 @@
 -- What is said of a word of a schedule that is no item.
-use Rattle.std.specs.Prelude.{ℕ, ◌==◌, ◌||◌, nat_lt, Bool, List, [], ◌∷◌, codes, drop, if◌then◌else◌, length}
+use Rattle.std.specs.Prelude.{ℕ, ◌==◌, ◌||◌, nat_lt, List, [], ◌∷◌, codes, drop, if◌then◌else◌, length}
 use Rattle.std.specs.Char.{is_ascii_digit, is_ascii_lowercase}
 use Rattle.std.specs.List.{list_any, prefix_len}
-use Rattle.ob_explain_forms.specs.Marks.{begins, begins_comment, has}
+use Rattle.ob_explain_forms.specs.Marks.{begins, begins_comment, byte_order_mark, has, order_mark_sentence}
 
 abbrev pub item_form : List ℕ
 item_form = codes "an item is a process with *STEPS, :LABEL or ! behind it, and no blanks between, as 0*3, 0:TRY or 0!"
@@ -30,6 +30,7 @@ numbered_sentence digits behind =
 
 abbrev pub item_sentence : List ℕ → List ℕ
 item_sentence word =
-    if begins (codes "#") word || begins_comment word then codes "a schedule has no comments; it has items alone, as 0*3, 0:TRY or 0!"
+    if begins byte_order_mark word then order_mark_sentence
+    else if begins (codes "#") word || begins_comment word then codes "a schedule has no comments; it has items alone, as 0*3, 0:TRY or 0!"
     else if has 44 word || has 59 word then codes "items are separated by blanks or line feeds, and not by commas or semicolons"
     else numbered_sentence (prefix_len is_ascii_digit word) (drop (prefix_len is_ascii_digit word) word)

@@ -1,16 +1,13 @@
 -- What is said of a line of a script that is no call.
-use Rattle.std.specs.Prelude.{ℕ, ◌==◌, List, [], ◌∷◌, codes, if◌then◌else◌, length}
-use Rattle.ob_explain_forms.specs.Marks.{begins, begins_comment, has}
+use Rattle.std.specs.Prelude.{ℕ, ◌==◌, List, bytes_eq, codes, if◌then◌else◌, length}
+use Rattle.ob_explain_forms.specs.Marks.{begins, begins_comment, byte_order_mark, has, order_mark_sentence}
 
--- the three bytes of a byte order mark
-abbrev pub byte_order_mark : List ℕ
-byte_order_mark = 239 ∷ 187 ∷ 191 ∷ []
-
--- by what stands where the line has no process
+-- by what stands where the line has no process; a record begins with the word obl0
 abbrev pub process_sentence : List ℕ → List ℕ
 process_sentence word =
-    if begins byte_order_mark word then codes "a byte order mark stands here, which no editor shows; save the file without it"
+    if begins byte_order_mark word then order_mark_sentence
     else if begins_comment word then codes "a remark is a line of its own that begins with #"
+    else if bytes_eq word (codes "obl0") then codes "a script has calls alone, as 0 Push 1; where this is a record, write --record before its name"
     else codes "a line is a call, and begins with its process, of one to nine digits, as 0 Push 1"
 
 -- by what stands where the line has no name of a procedure

@@ -5,7 +5,7 @@ ghost use Rattle.std.specs.Char.{is_ascii_digit, is_ascii_lowercase};
 ghost use Rattle.std.specs.List.{list_any, prefix_len};
 ghost use Rattle.ob_explain_forms.specs.Items.{deed_sentence, item_sentence, label_sentence, numbered_sentence};
 
-use crate::lines::begins_comment;
+use crate::lines::{ORDER_MARK, begins_comment, begins_order_mark};
 
 /// The most digits of a process.
 const PROCESS_DIGITS: usize = 9;
@@ -18,7 +18,9 @@ const ITEM_FORM: &str =
 pub fn item_sentence(word: &[u8]) -> &'static str
     ensures { result.now ≡ item_sentence word.now }
 {
-    if word.starts_with(b"#") || begins_comment(word) {
+    if begins_order_mark(word) {
+        ORDER_MARK
+    } else if word.starts_with(b"#") || begins_comment(word) {
         "a schedule has no comments; it has items alone, as 0*3, 0:TRY or 0!"
     } else if word.contains(&b',') || word.contains(&b';') {
         "items are separated by blanks or line feeds, and not by commas or semicolons"

@@ -1,4 +1,4 @@
--- Whether a `;`, a THEN or a DO is missing before a token.
+-- Whether a `;`, a THEN, a DO, a `]` or a `)` is missing before a token.
 use Rattle.std.specs.Prelude.{◌≡◌, ℕ, ◌==◌, List, ◌∷◌, ◌++◌, find, length, take, Option, Some, None, if◌then◌else◌}
 use Rattle.ob_scan.specs.declared.token.Kind.{Kind}
 use Rattle.ob_scan.specs.declared.token.Kind.TheVariants as Kinds
@@ -9,15 +9,30 @@ use Rattle.ob_explain_expected.specs.Kinds.{sample}
 use Rattle.ob_explain_causes.specs.declared.causes.Cause.{Cause}
 use Rattle.ob_explain_causes.specs.declared.causes.Cause.TheVariants as Causes
 
--- behind a condition that of THEN and DO which could stand there, and elsewhere `;`
+-- Behind a condition that of THEN and DO which could stand there. Elsewhere a `;` where one could, as between parameters, before which a `)`
+-- could stand too; else that of `]` and `)` which could; and with none of them a `;`.
 abbrev pub awaited : List Kind → Kind
-awaited kinds = if has kinds Kinds.Then then Kinds.Then else if has kinds Kinds.Do then Kinds.Do else Kinds.Semicolon
+awaited kinds =
+    if has kinds Kinds.Then then Kinds.Then
+    else if has kinds Kinds.Do then Kinds.Do
+    else if has kinds Kinds.Semicolon then Kinds.Semicolon
+    else if has kinds Kinds.RightBracket then Kinds.RightBracket
+    else if has kinds Kinds.RightParen then Kinds.RightParen
+    else Kinds.Semicolon
 
 -- that it is missing
 abbrev pub missing_cause : Kind → Cause
 missing_cause Kinds.Then = Causes.NoThen
 missing_cause Kinds.Do = Causes.NoDo
+missing_cause Kinds.RightBracket = Causes.NoBracket
+missing_cause Kinds.RightParen = Causes.NoParen
 missing_cause _ = Causes.Semicolon
+
+-- that a `]` or a `)` is, and no other token
+abbrev pub closing_cause : Option Cause → Option Cause
+closing_cause (Some Causes.NoBracket) = Some Causes.NoBracket
+closing_cause (Some Causes.NoParen) = Some Causes.NoParen
+closing_cause _ = None
 
 -- what stands before a place, a blank, and a token of this kind
 abbrev pub with_token : (text : List ℕ) → (place : ℕ) → Kind → List ℕ

@@ -16,7 +16,7 @@ use Rattle.ob_explain_slips.specs.Calls.{call_hint, called_there, next_behind}
 use Rattle.ob_explain_slips.specs.Endings.{ending_hint}
 use Rattle.ob_explain_slips.specs.Keywords.{IsKeyword}
 use Rattle.ob_explain_slips.specs.Loops.{loop_cause}
-use Rattle.ob_explain_slips.specs.Missing.{IsMissingCause, token_at}
+use Rattle.ob_explain_slips.specs.Missing.{IsMissingCause, closing_cause, token_at}
 use Rattle.ob_explain_tokens.specs.Around.{AreTokens}
 use Rattle.ob_explain_tokens.specs.Around as Tokens
 
@@ -53,12 +53,13 @@ abbrev pub missing_hint : (text : List ℕ) → (tokens preceding : List Token) 
 missing_hint text tokens preceding place kinds looped missing =
     either (told looped) (call_hint text (called_there text tokens preceding (last_before tokens place) kinds) tokens missing)
 
--- the first of these, or else that one
-abbrev pub first_hint : (text : List ℕ) → (tokens preceding : List Token) → (place : ℕ) → List Kind → (last : Option Hint) → Option Hint
-first_hint text tokens preceding place kinds last =
+-- the first of these, of which a `]` or `)` that is missing tells more than a sign there, or else the last one
+abbrev pub first_hint : (text : List ℕ) → (tokens preceding : List Token) → (place : ℕ) → List Kind → (missing : Option Cause) → (last : Option Hint) → Option Hint
+first_hint text tokens preceding place kinds missing last =
     either (told (first_cause text tokens preceding place kinds))
     (either (construct_hint text tokens preceding place kinds)
-    (either (slip_there text place) last))
+    (either (told (closing_cause missing))
+    (either (slip_there text place) last)))
 
 abbrev pub keyword_hint : Option Kind → Option Hint
 keyword_hint None = None
@@ -72,5 +73,5 @@ pub record IsUnexpectedHint (text : List ℕ) (place : ℕ) (kinds : List Kind) 
   pub are : AreTokens text tokens
   pub meant : IsKeywordThere text tokens place keyword
   pub lacks : IsMissingCause text tokens place kinds missing
-  pub says : hint ≡ either (keyword_hint keyword) (first_hint text tokens (Tokens.before place tokens) place kinds
+  pub says : hint ≡ either (keyword_hint keyword) (first_hint text tokens (Tokens.before place tokens) place kinds missing
       (missing_hint text tokens (Tokens.before place tokens) place kinds (loop_cause tokens (Tokens.before place tokens) place kinds) missing))

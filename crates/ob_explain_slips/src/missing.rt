@@ -1,8 +1,8 @@
-//! Whether a `;`, a THEN or a DO is missing before a token.
+//! Whether a `;`, a THEN, a DO, a `]` or a `)` is missing before a token.
 
 ghost use Rattle.std.specs.Prelude.{◌≡◌, ◌↔◌, IfOk, IsTrue, length};
 ghost use Rattle.ob_explain_expected.specs.Expected.{IsExpected};
-ghost use Rattle.ob_explain_slips.specs.Missing.{IsMissingAt, IsMissingCause, awaited, missing_cause, token_at, with_token};
+ghost use Rattle.ob_explain_slips.specs.Missing.{IsMissingAt, IsMissingCause, awaited, closing_cause, missing_cause, token_at, with_token};
 
 use ob_explain_causes::causes::Cause;
 use ob_explain_causes::signs::has;
@@ -46,7 +46,7 @@ fn missing_before(
     }
 }
 
-/// Which of THEN, DO and `;` may be missing where tokens of these kinds could stand.
+/// Which of THEN, DO, `;`, `]` and `)` may be missing where tokens of these kinds could stand.
 fn awaited(kinds: &[Kind]) -> Kind
     ensures { result ≡ awaited kinds.now }
 {
@@ -54,6 +54,12 @@ fn awaited(kinds: &[Kind]) -> Kind
         Kind::Then
     } else if has(kinds, Kind::Do) {
         Kind::Do
+    } else if has(kinds, Kind::Semicolon) {
+        Kind::Semicolon
+    } else if has(kinds, Kind::RightBracket) {
+        Kind::RightBracket
+    } else if has(kinds, Kind::RightParen) {
+        Kind::RightParen
     } else {
         Kind::Semicolon
     }
@@ -66,7 +72,20 @@ fn missing_cause(kind: Kind) -> Cause
     match kind {
         Kind::Then => Cause::NoThen,
         Kind::Do => Cause::NoDo,
+        Kind::RightBracket => Cause::NoBracket,
+        Kind::RightParen => Cause::NoParen,
         _ => Cause::Semicolon,
+    }
+}
+
+/// The cause that a `]` or a `)` is missing, where it is this one.
+pub fn closing_cause(missing: Option<Cause>) -> Option<Cause>
+    ensures { result ≡ closing_cause missing }
+{
+    match missing {
+        Some(Cause::NoBracket) => Some(Cause::NoBracket),
+        Some(Cause::NoParen) => Some(Cause::NoParen),
+        _ => None,
     }
 }
 

@@ -8,7 +8,7 @@ use crate::calls::{call_hint, called_there, next_behind};
 use crate::endings::ending_hint;
 use crate::keywords::meant_keyword;
 use crate::loops::loop_cause;
-use crate::missing::{missing_there, token_at};
+use crate::missing::{closing_cause, missing_there, token_at};
 use ob_explain_causes::causes::{Cause, Hint, either, known, told};
 use ob_explain_causes::declarations::cause_there;
 use ob_explain_causes::signs;
@@ -35,7 +35,7 @@ pub fn unexpected_hint(
     let missing = missing_there(alloc, text, &tokens, place, kinds)?;
     let of_loop = loop_cause(alloc, &tokens, &preceding, place, kinds)?;
     let of_missing = missing_hint(text, &tokens, &preceding, place, kinds, of_loop, missing);
-    let of_others = first_hint(text, &tokens, &preceding, place, kinds, of_missing);
+    let of_others = first_hint(text, &tokens, &preceding, place, kinds, missing, of_missing);
     Ok(either(keyword_hint(keyword), of_others))
 }
 
@@ -71,14 +71,19 @@ fn first_hint(
     preceding: &[Token],
     place: usize,
     kinds: &[Kind],
+    missing: Option<Cause>,
     last: Option<Hint>,
 ) -> Option<Hint>
-    ensures { result ≡ first_hint text.now tokens.now preceding.now place kinds.now last }
+    ensures { result ≡ first_hint text.now tokens.now preceding.now place kinds.now missing last }
 {
     let of_cause = told(first_cause(text, tokens, preceding, place, kinds));
     let of_construct = construct_hint(text, tokens, preceding, place, kinds);
+    let of_closing = told(closing_cause(missing));
     let of_slip = slip_there(text, place);
-    either(of_cause, either(of_construct, either(of_slip, last)))
+    either(
+        of_cause,
+        either(of_construct, either(of_closing, either(of_slip, last))),
+    )
 }
 
 /// The hint on the end of a loop, else behind a call, or on what may be missing.
