@@ -1,9 +1,20 @@
--- By what runs over a tree are told apart.
+-- What runs over a tree stand for, and by what they are told apart.
 use Rattle.std.specs.Prelude.{ℕ, Bool, List, ℤ, refl}
 use Rattle.std.specs.Coded.{Coded, coded_ℕ, coded_ℤ, coded_bool, coded_list, coded×, code_by}
+use Rattle.ob_code_machine.specs.StackWords.{StackWords}
 use Rattle.ob_tree_work.specs.Work.{Task, TreeBody}
 use Rattle.ob_tree_tasks.specs.Codes.{coded_task}
+use Rattle.ob_tree_tasks.specs.WorkTasks.{WorkTasks}
 use Rattle.ob_tree_law.specs.TreeEngine.{TreeRun}
+
+-- a run of its stack, its work list, the frames of its callers and its numbers
+abbrev pub tree_run_view : StackWords → WorkTasks → (fp : ℕ) → (saved : List ℕ) → (turns : ℕ) → (is_over : Bool) → TreeRun
+tree_run_view stack work fp saved turns is_over = record {
+  reserve = stack.reserve;
+  room = work.room;
+  is_over = is_over;
+  body = record { work = work.tasks; stack = stack.words; fp = fp; saved = saved; turns = turns };
+}
 
 abbrev coded_body : Coded TreeBody
 coded_body =

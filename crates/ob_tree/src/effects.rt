@@ -1,11 +1,11 @@
 //! The effect of an instruction: numbers, addresses, the words there and sums, which are most of what a tree comes to, without a look
 //! at all instructions.
 
-ghost use Rattle.std.specs.Prelude.{◌≡◌, ◌+◌, ◌≤◌, length, take, pos, MatchOption, MatchBool};
+ghost use Rattle.std.specs.Prelude.{◌≡◌, ◌+◌, ◌≤◌, length, take, pos, MatchOption};
 ghost use Rattle.ob_code_machine.specs.declared.instr.Instr.{Instr};
 ghost use Rattle.ob_code_machine.specs.Words as Words;
 ghost use Rattle.ob_code_machine.specs.Effect as Effects;
-ghost use Rattle.ob_code_machine.specs.Running.{LeavesStack, HasEffect};
+ghost use Rattle.ob_code_machine.specs.Running.{HasEffect, IsMade, LeavesBoth, LeavesStack};
 
 use ob_code_machine::Instr;
 use ob_code_machine::effect::{Answer, effect};
@@ -42,7 +42,7 @@ fn push_global(stack: &mut Stack, word: u16) -> Answer
 /// The address of a word of the frame.
 #[inline(always)]
 fn local_address(variables: usize, fp: usize, word: u16) -> Option<i64>
-    ensures { MatchOption result (Words.address (pos (variables + fp + word)) ≡ Words.Sticks) (λ a. Words.address (pos (variables + fp + word)) ≡ Words.Gives a) }
+    ensures { IsMade result (Words.address (pos (variables + fp + word))) }
 {
     let place = variables.checked_add(fp)?.checked_add(usize::from(word))?;
     if place > i64::MAX as usize {
@@ -66,7 +66,7 @@ fn push_local(block: &[i64], stack: &mut Stack, fp: usize, word: u16) -> Answer
 #[inline(always)]
 fn word_at(block: &[i64], stack: &Stack, height: usize, address: i64) -> Option<i64>
     requires { height ≤ length stack.now.words }
-    ensures { MatchOption result (Effects.word_at block.now (take height stack.now.words) address ≡ Words.Sticks) (λ w. Effects.word_at block.now (take height stack.now.words) address ≡ Words.Gives w) }
+    ensures { IsMade result (Effects.word_at block.now (take height stack.now.words) address) }
 {
     if address < 0 {
         return None;
@@ -105,9 +105,7 @@ fn load(block: &[i64], stack: &mut Stack) -> Answer
 #[inline(always)]
 fn put_at(block: &mut [i64], stack: &mut Stack, height: usize, address: i64, word: i64) -> bool
     requires { height ≤ length stack.old.words }
-    ensures { MatchBool result
-        ((Effects.put_at block.old (take height stack.old.words) address word ≡ Words.Gives (block.new, stack.new.words)) × (stack.new.reserve ≡ stack.old.reserve))
-        ((Effects.put_at block.old (take height stack.old.words) address word ≡ Words.Sticks) × (block.new ≡ block.old) × (stack.new ≡ stack.old)) }
+    ensures { LeavesBoth result block.old block.new stack.old stack.new (Effects.put_at block.old (take height stack.old.words) address word) }
 {
     if address < 0 {
         return false;

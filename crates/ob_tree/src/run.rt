@@ -22,14 +22,14 @@ pub struct TreeRun<'a> {
 }
 
 impl<'a> Model for TreeRun<'a> {
-    ghost use Rattle.ob_tree.specs.Runs.{coded_run};
+    ghost use Rattle.ob_tree.specs.Runs.{coded_run, tree_run_view};
     ghost use Rattle.ob_tree_law.specs.TreeEngine.{TreeRun};
 
     ghost Value = { TreeRun };
 
     ghost coded = { coded_run };
 
-    ghost view = { λ r. record { reserve = r.stack.reserve; room = r.work.room; is_over = r.is_over; body = record { work = r.work.tasks; stack = r.stack.words; fp = r.fp; saved = r.frames; turns = r.turns } } };
+    ghost view = { λ r. tree_run_view r.stack r.work r.fp r.frames r.turns r.is_over };
 }
 
 impl<'a> TreeRun<'a> {
