@@ -6,6 +6,12 @@ use Rattle.ob_object_order.specs.declared.order.OrderFault.TheVariants as Order
 use Rattle.wf_history.specs.History.{Before, End, Event}
 use Rattle.wf_history.specs.declared.event.CallId.{CallId}
 
+-- the one of the calls that ends with the event, if one does
+abbrev pub IsEndedWith : Event ObjectCall Reply → (Listed : CallId → Type 0) → Option CallId → Type 0
+IsEndedWith event Listed ended =
+    MatchOption ended ((id : CallId) (reply : Reply) → Listed id → event ≡ End id reply → ⊥)
+    (λ id. Listed id × ((reply : Reply) × (event ≡ End id reply)))
+
 -- one of the calls whose End is among the events, where there is one
 abbrev pub IsEnded : List (Event ObjectCall Reply) → (Listed : CallId → Type 0) → Option CallId → Type 0
 IsEnded events Listed ended =

@@ -1,7 +1,10 @@
 -- What a call of an order comes to, where it and the calls before it there are made one at a time.
-use Rattle.std.specs.Prelude.{◌≡◌, List, ◌∷◌, ◌++◌, Option, Contains, MatchOption}
+use Rattle.std.specs.Prelude.{◌≡◌, ℕ, List, [], ◌∷◌, ◌++◌, Option, Contains, MatchOption}
 use Rattle.ob_interface.specs.Call.{ObjectCall, Reply}
+use Rattle.ob_object_order.specs.LegalOrder.{CallEnds}
 use Rattle.ob_object_order.specs.OrderFaults.{AnswersOtherwise, IsArranged}
+use Rattle.ob_positions.specs.Store.{Activation}
+use Rattle.ob_typing.specs.Program.{Program}
 use Rattle.wf_history.specs.History.{Event, End}
 use Rattle.wf_history.specs.Legal.{HasBegun, OneAtATime}
 use Rattle.wf_history.specs.declared.event.CallId.{CallId}
@@ -49,3 +52,22 @@ module _ {State : Type 0} (Effect : ObjectCall → State → State → Reply →
     -- what the call comes to, where it is found; it is where the order is arranged, and the call ends otherwise than in the history
     abbrev pub IsFound : Option MadeCall → Type 0
     IsFound made = MatchOption made (¬ (IsArranged history order × AnswersOtherwise Effect opening history order id)) IsMadeThere
+
+-- of calls on the object of a program, each with a budget of turns
+module _ (program : Program) (budget : ℕ) (history : List (Event ObjectCall Reply)) where
+  -- the call, as it began, leads from one state to the other, with this reply
+  abbrev pub CallLeadsTo : CallId → (before after : Activation) → Reply → Type 0
+  CallLeadsTo id before after reply = (call : ObjectCall) × HasBegun history id call × CallEnds program budget call before after reply
+
+  -- the state and the reply to which the call leads, where it began
+  abbrev pub IsCallMade : CallId → (before : Activation) → Option (Activation × Reply) → Type 0
+  IsCallMade id before made = MatchOption made (NeverBegan history id) (λ m. CallLeadsTo id before m.0 m.1)
+
+  -- the state to which the calls lead, made one at a time, where all of them began
+  abbrev pub IsStateBehind : (opening : Activation) → List CallId → Option Activation → Type 0
+  IsStateBehind opening ids state = MatchOption state (HasUnbegun history ids) (LeadTo (CallEnds program budget) opening history ids)
+
+  -- the reply with which the call ends behind these, where they and the call began
+  abbrev pub IsMeantFound : (opening : Activation) (before : List CallId) → CallId → Option Reply → Type 0
+  IsMeantFound opening before id reply =
+      MatchOption reply (HasUnbegun history (before ++ id ∷ [])) (IsMeant (CallEnds program budget) opening history before id)

@@ -2,11 +2,11 @@
 
 ghost use Rattle.std.specs.Prelude.{◌≡◌, ◌<◌, ◌↔◌, Contains, IfOk, IfSome, IsTrue, MatchOption, length, map};
 ghost use Rattle.std.specs.HashSet as bag;
-ghost use Rattle.ob_interface.specs.Call.{ObjectCall, Reply};
+ghost use Rattle.ob_interface.specs.Call.{ObjectCall};
 ghost use Rattle.ob_object_order.specs.Places.{BeginsAt, same_id};
-ghost use Rattle.ob_object_replies.specs.Early.{IsEnded, IsOvertakenFound};
+ghost use Rattle.ob_object_replies.specs.Early.{IsEnded, IsEndedWith, IsOvertakenFound};
 ghost use Rattle.ob_object_replies.specs.MadeCalls.{NeverBegan};
-ghost use Rattle.wf_history.specs.History.{Begin, End};
+ghost use Rattle.wf_history.specs.History.{Begin};
 ghost use Rattle.wf_history.specs.View.{event_of};
 ghost use Rattle.wf_history.specs.declared.event.CallId.{CallId};
 
@@ -86,9 +86,7 @@ fn first_ended(events: &[Event], set: &HashSet<CallId>) -> Option<CallId>
 
 /// The call of a set that ends with an event, if one does.
 fn ended(event: &Event, set: &HashSet<CallId>) -> Option<CallId>
-    ensures { MatchOption result
-        ((id : CallId) (reply : Reply) → IsTrue (bag.contains same_id set.now id) → event_of event.now ≡ End id reply → ⊥)
-        (λ id. IsTrue (bag.contains same_id set.now id) × ((reply : Reply) × (event_of event.now ≡ End id reply))) }
+    ensures { IsEndedWith (event_of event.now) (λ id. IsTrue (bag.contains same_id set.now id)) result }
 {
     match event.seen() {
         SeenEvent::End(id, _) => { if set.contains(&id) { Some(id) } else { None } }

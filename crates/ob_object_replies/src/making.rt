@@ -1,17 +1,15 @@
 //! Calls of a history made one at a time.
 
-ghost use Rattle.std.specs.Prelude.{◌≡◌, ◌∷◌, ◌++◌, [], IfOk, MatchOption, Some, map, slice_get};
+ghost use Rattle.std.specs.Prelude.{◌≡◌, IfOk, Some, map, option_map, slice_get};
 ghost use Rattle.std.specs.HashMap as hash;
 ghost use Rattle.ob_checked.specs.CheckedModule.{program_in};
-ghost use Rattle.ob_interface.specs.Call.{ObjectCall};
 ghost use Rattle.ob_interpreter.specs.View.{call_of, reply_of};
-ghost use Rattle.ob_object_order.specs.LegalOrder.{CallEnds};
 ghost use Rattle.ob_object_order.specs.Places.{BeginsAt, same_id};
 ghost use Rattle.ob_object_replies.specs.Begins.{AreBegins};
-ghost use Rattle.ob_object_replies.specs.MadeCalls.{HasUnbegun, IsMeant, LeadTo, NeverBegan};
+ghost use Rattle.ob_object_replies.specs.MadeCalls.{IsCallMade, IsMeantFound, IsStateBehind};
+ghost use Rattle.ob_object_replies.specs.View.{step_of};
 ghost use Rattle.ob_store.specs.View.{state_of};
 ghost use Rattle.wf_history.specs.History.{Begin};
-ghost use Rattle.wf_history.specs.Legal.{HasBegun};
 ghost use Rattle.wf_history.specs.View.{event_of, seen_call};
 ghost use Rattle.wf_history.specs.declared.event.CallId.{CallId};
 
@@ -36,9 +34,8 @@ pub(crate) fn meant_reply(
     budget: u64,
     id: CallId,
 ) -> Result<Option<interpreter::Reply>, NoMemory>
-    ensures { IfOk result (λ reply. MatchOption reply
-        (HasUnbegun (map event_of events.now) (before.now ++ id ∷ []))
-        (λ r. IsMeant (CallEnds (program_in checked.now) budget) (state_of opening.now) (map event_of events.now) before.now id (reply_of r))) }
+    ensures { IfOk result (λ reply.
+        IsMeantFound (program_in checked.now) budget (map event_of events.now) (state_of opening.now) before.now id (option_map reply_of reply)) }
 {
     let begins = begins_of(alloc, events)?;
     let Some(state) = state_behind(alloc, events, &begins, before, checked, opening, budget)? else {
@@ -61,9 +58,8 @@ fn state_behind(
     budget: u64,
 ) -> Result<Option<State>, NoMemory>
     requires { AreBegins (map event_of events.now) (hash.get same_id begins.now) }
-    ensures { IfOk result (λ state. MatchOption state
-        (HasUnbegun (map event_of events.now) ids.now)
-        (λ s. LeadTo (CallEnds (program_in checked.now) budget) (state_of opening.now) (map event_of events.now) ids.now (state_of s))) }
+    ensures { IfOk result (λ state.
+        IsStateBehind (program_in checked.now) budget (map event_of events.now) (state_of opening.now) ids.now (option_map state_of state)) }
 {
     let mut state = opening.copy(alloc)?;
     for id in ids {
@@ -86,9 +82,8 @@ fn made(
     budget: u64,
 ) -> Result<Option<(State, interpreter::Reply)>, NoMemory>
     requires { AreBegins (map event_of events.now) (hash.get same_id begins.now) }
-    ensures { IfOk result (λ made. MatchOption made
-        (NeverBegan (map event_of events.now) id)
-        (λ m. (call : ObjectCall) × HasBegun (map event_of events.now) id call × CallEnds (program_in checked.now) budget call (state_of state) (state_of m.0) (reply_of m.1))) }
+    ensures { IfOk result (λ made.
+        IsCallMade (program_in checked.now) budget (map event_of events.now) id (state_of state) (option_map step_of made)) }
 {
     let Some(begin) = begins.get(&id) else {
         return Ok(None);
