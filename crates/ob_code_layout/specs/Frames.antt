@@ -34,6 +34,10 @@ module _ (ts : List Program.DataType) where
   abbrev pub scope_by : Frame → Scope
   scope_by f = map space_by f.spaces.items
 
+  -- the second frame has the positions of the first one, and these behind them
+  abbrev pub AddsBehind : (old new : Frame) → Scope → Type 0
+  AddsBehind old new more = scope_by new ≡ scope_by old ++ more
+
   abbrev pub variable_by : Variable → Program.Variable
   variable_by v = record { name = string_bytes v.name; type = type_by ts v.data_type }
 

@@ -23,10 +23,10 @@ pub struct Frame {
 }
 
 impl Frame {
-    ghost use Rattle.std.specs.Prelude.{◌≡◌, ◌+◌, ◌<◌, ◌^◌, [], ◌∷◌, ◌++◌, OnOk, IfOk, IfSome, IfNone, slice_get, map};
+    ghost use Rattle.std.specs.Prelude.{◌≡◌, ◌+◌, ◌<◌, ◌^◌, [], ◌∷◌, OnOk, IfOk, IfSome, IfNone, slice_get, map};
     ghost use Rattle.ob_code_scheme.specs.Temporaries as Counts;
     ghost use Rattle.ob_code_scheme.specs.Types as Sizes;
-    ghost use Rattle.ob_code_layout.specs.Frames.{space_of, scope_by, variables_by, parameters_by, frame_by, extents_by, spaces_of, frame_words_of, IsFrame, AreFrames, IsEnd};
+    ghost use Rattle.ob_code_layout.specs.Frames.{space_of, scope_by, variables_by, parameters_by, frame_by, extents_by, spaces_of, frame_words_of, IsFrame, AreFrames, IsEnd, AddsBehind};
     ghost use Rattle.ob_code_layout.specs.Shapes.{types_of};
     ghost use Rattle.ob_code_layout.specs.View.{shapes_of};
 
@@ -75,7 +75,7 @@ impl Frame {
         requires frame { IsFrame (types_of (shapes_of shapes.now)) self.old }
         requires small { Sizes.extent (scope_by (types_of (shapes_of shapes.now)) self.old) + Sizes.width (space_of (types_of (shapes_of shapes.now)) is_var data_type) < 2 ^ 63 }
         ensures frame { OnOk result (IsFrame (types_of (shapes_of shapes.now)) self.new) }
-        ensures scope { OnOk result (scope_by (types_of (shapes_of shapes.now)) self.new ≡ scope_by (types_of (shapes_of shapes.now)) self.old ++ space_of (types_of (shapes_of shapes.now)) is_var data_type ∷ []) }
+        ensures scope { OnOk result (AddsBehind (types_of (shapes_of shapes.now)) self.old self.new (space_of (types_of (shapes_of shapes.now)) is_var data_type ∷ [])) }
     {
         let words = if is_var { 1 } else { shapes.words(data_type) };
         self.spaces.push(Space {
@@ -92,7 +92,7 @@ impl Frame {
         requires frame { IsFrame (types_of (shapes_of shapes.now)) self.old }
         requires small { Sizes.extent (scope_by (types_of (shapes_of shapes.now)) self.old) + Sizes.extent (variables_by (types_of (shapes_of shapes.now)) variables.now) < 2 ^ 63 }
         ensures frame { OnOk result (IsFrame (types_of (shapes_of shapes.now)) self.new) }
-        ensures scope { OnOk result (scope_by (types_of (shapes_of shapes.now)) self.new ≡ scope_by (types_of (shapes_of shapes.now)) self.old ++ variables_by (types_of (shapes_of shapes.now)) variables.now) }
+        ensures scope { OnOk result (AddsBehind (types_of (shapes_of shapes.now)) self.old self.new (variables_by (types_of (shapes_of shapes.now)) variables.now)) }
     {
         for variable in variables {
             self.add(shapes, false, variable.data_type)?;
@@ -105,7 +105,7 @@ impl Frame {
         requires frame { IsFrame (types_of (shapes_of shapes.now)) self.old }
         requires small { Sizes.extent (scope_by (types_of (shapes_of shapes.now)) self.old) + Sizes.extent (parameters_by (types_of (shapes_of shapes.now)) parameters.now) < 2 ^ 63 }
         ensures frame { OnOk result (IsFrame (types_of (shapes_of shapes.now)) self.new) }
-        ensures scope { OnOk result (scope_by (types_of (shapes_of shapes.now)) self.new ≡ scope_by (types_of (shapes_of shapes.now)) self.old ++ parameters_by (types_of (shapes_of shapes.now)) parameters.now) }
+        ensures scope { OnOk result (AddsBehind (types_of (shapes_of shapes.now)) self.old self.new (parameters_by (types_of (shapes_of shapes.now)) parameters.now)) }
     {
         for parameter in parameters {
             self.add(shapes, parameter.is_var, parameter.data_type)?;

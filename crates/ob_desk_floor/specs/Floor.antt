@@ -1,5 +1,7 @@
 -- A floor: a machine that the run of its submissions and of its own schedule leads to, with the turns of each process.
-use Rattle.std.specs.Prelude.{◌≡◌, ℕ, ◌+◌, ◌<◌, ℤ, List, [], count_by, length, nat_eq, replicate, slice_index, slice_set}
+use Rattle.std.specs.Prelude.{◌≡◌, ℕ, ◌+◌, ◌<◌, ℤ, List, [], count_by, length, map, nat_eq, replicate, slice_index, slice_set}
+use Rattle.ob_desk_floor.specs.Submission.{submission_of}
+use Rattle.ob_desk_floor.specs.declared.submission.Submission.{Submission}
 use Rattle.ob_interface.specs.Call.{ObjectCall}
 use Rattle.wf_bound.specs.Counted.{spent_by_step}
 use Rattle.wf_object.specs.View.{Object}
@@ -20,6 +22,10 @@ pub record Floor (E Run : Type 0) : Type 0 where
   pub scripts : List (ℕ × ObjectCall)
   pub counts : List ℕ
 
+-- the machine with the calls and numbers that are kept beside it
+abbrev pub floor_view : {E Run : Type 0} → Object E Run → List Submission → (counts : List ℕ) → Floor E Run
+floor_view machine scripts counts = record { machine = machine; scripts = map submission_of scripts; counts = counts }
+
 -- from the machine's opening all calls of the scripts are submitted, and then the processes of its own schedule step: this leads
 -- to where it stands; and each process has taken as many turns as it stands in the schedule
 pub record IsFloor {E Run : Type 0} (m : Meaning Run) (lawful : List ℤ → Type 0) (fits : ObjectCall → Type 0) (ready : Run → Type 0) (f : Floor E Run) : Type 0 where
@@ -27,6 +33,11 @@ pub record IsFloor {E Run : Type 0} (m : Meaning Run) (lawful : List ℤ → Typ
   pub runs : IsRun m lawful fits ready f.machine.sizes.processes f.machine.opening (performed f.scripts f.machine.state.records.schedule) f.machine.state
   pub each : length f.counts ≡ f.machine.sizes.processes
   pub counts : (p : ℕ) → p < f.machine.sizes.processes → slice_index f.counts p ≡ turns_in p f.machine.state.records.schedule
+
+-- the same, over the machine's own engine
+abbrev pub IsFloorOver : {E Run : Type 0} → (meaning : E → Meaning Run) → (lawful : E → List ℤ → Type 0) → (fits : E → ObjectCall → Type 0) → (ready : E → Run → Type 0) → Floor E Run → Type 0
+IsFloorOver meaning lawful fits ready f =
+    IsFloor (meaning f.machine.engine) (lawful f.machine.engine) (fits f.machine.engine) (ready f.machine.engine) f
 
 -- no process has taken a turn
 pub record HasNoTurns {E Run : Type 0} (f : Floor E Run) : Type 0 where

@@ -24,15 +24,13 @@ pub struct Floor<E: Engine> {
 
 impl<E: Engine> Model for Floor<E> {
     ghost use Rattle.std.specs.Arc.{arc_value};
-    ghost use Rattle.std.specs.Prelude.{map};
     ghost use Rattle.ob_desk_floor.specs.Floor as floor;
-    ghost use Rattle.ob_desk_floor.specs.Submission.{submission_of};
 
     ghost Value = { floor.Floor E E.Run };
 
-    ghost view = { λ f. record { machine = f.machine; scripts = map submission_of (arc_value f.scripts).items; counts = f.counts.items } };
+    ghost view = { λ f. floor.floor_view f.machine (arc_value f.scripts).items f.counts.items };
 
-    ghost invariant = { λ f. floor.IsFloor (E.meaning f.machine.engine) (E.lawful f.machine.engine) (E.fits f.machine.engine) (E.ready f.machine.engine) (record { machine = f.machine; scripts = map submission_of (arc_value f.scripts).items; counts = f.counts.items }) };
+    ghost invariant = { λ f. floor.IsFloorOver E.meaning E.lawful E.fits E.ready (floor.floor_view f.machine (arc_value f.scripts).items f.counts.items) };
 }
 
 impl<E: Engine> Floor<E> {

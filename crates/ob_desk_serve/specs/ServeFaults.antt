@@ -30,6 +30,10 @@ pub record IsTold (history : List (Event ObjectCall Reply)) (p count : ℕ) (sen
 abbrev pub IsToldAll : List (Event ObjectCall Reply) → List ScriptCall → (ℕ → List CallAnswer) → ℕ → Type 0
 IsToldAll history scripts sent p = IsTold history p (calls_for p scripts) (sent p)
 
+-- of each process what came is that
+abbrev pub AreToldAll : (processes : ℕ) → List (Event ObjectCall Reply) → List ScriptCall → (ℕ → List CallAnswer) → Type 0
+AreToldAll processes history scripts sent = (p : ℕ) → p < processes → IsToldAll history scripts sent p
+
 -- V2: the lowest process of which something else came
 pub record IsLowestLost (processes : ℕ) (history : List (Event ObjectCall Reply)) (scripts : List ScriptCall) (sent : ℕ → List CallAnswer) (p : ℕ) : Type 0 where
   pub own : p < processes

@@ -1,8 +1,8 @@
 //! Whether the answers that workers sent are those of a record.
 
-ghost use Rattle.std.specs.Prelude.{◌≡◌, ◌≢◌, ◌<◌, ℕ, [], IfNone, IfOk, IfSome, IsFalse, IsTrue, get_or, length, map, replicate};
+ghost use Rattle.std.specs.Prelude.{◌≡◌, ◌≢◌, ◌<◌, [], IfNone, IfOk, IfSome, IsFalse, IsTrue, get_or, length, map, replicate};
 ghost use Rattle.ob_desk_serve.specs.Gathered.{AreByProcess, owner_of};
-ghost use Rattle.ob_desk_serve.specs.ServeFaults.{IsLowestLost, IsTold, IsToldAll};
+ghost use Rattle.ob_desk_serve.specs.ServeFaults.{AreToldAll, IsLowestLost, IsTold};
 ghost use Rattle.ob_desk_serve.specs.Served.{calls_for};
 ghost use Rattle.ob_text_words.specs.ScriptCalls.{script_call_of};
 ghost use Rattle.wf_history.specs.View.{event_of};
@@ -87,7 +87,7 @@ pub fn first_lost(
     events: &[Event],
 ) -> Option<usize>
     requires { length sent.now ≡ processes }
-    ensures none { IfNone result ((p : ℕ) → p < processes → IsToldAll (map event_of events.now) (map script_call_of scripts.now) (λ k. get_or (map (λ list. list.items) sent.now) k []) p) }
+    ensures none { IfNone result (AreToldAll processes (map event_of events.now) (map script_call_of scripts.now) (λ k. get_or (map (λ list. list.items) sent.now) k [])) }
     ensures some { IfSome result (IsLowestLost processes (map event_of events.now) (map script_call_of scripts.now) (λ k. get_or (map (λ list. list.items) sent.now) k [])) }
 {
     for process in 0..processes {

@@ -55,10 +55,14 @@ abbrev pub IsToldFor : (object : List ℕ) → List Signature → Word → Optio
 IsToldFor object signatures name None values told = IsUnknownTold object signatures name told
 IsToldFor object signatures name (Some export) values told = IsMisfitTold (value_types export.1.formals) values told
 
+-- of a name, looked up among the exports, and of values
+abbrev pub IsToldOfCall : (object : List ℕ) → List Signature → (name : Word) → (values : List Word) → Option Told → Type 0
+IsToldOfCall object signatures name values told = IsToldFor object signatures name (export_named signatures name) values told
+
 -- of the words behind a process
 abbrev pub IsToldBehind : (object : List ℕ) → List Signature → List Word → Option Told → Type 0
 IsToldBehind object signatures [] told = told ≡ None
-IsToldBehind object signatures (name ∷ values) told = IsToldFor object signatures name (export_named signatures name) values told
+IsToldBehind object signatures (name ∷ values) told = IsToldOfCall object signatures name values told
 
 -- of the words of a line, for the exports of a module of this text; nothing where all fits
 abbrev pub IsToldOf : (object : List ℕ) → List Signature → List Word → Option Told → Type 0

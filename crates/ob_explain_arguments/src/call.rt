@@ -3,8 +3,7 @@
 ghost use Rattle.std.specs.Prelude.{◌≡◌, IfOk, map, option_map};
 ghost use Rattle.ob_interface.specs.Export.{value_types};
 ghost use Rattle.ob_interface.specs.View.{signature_of};
-ghost use Rattle.ob_text_exports.specs.ExportNames.{export_named};
-ghost use Rattle.ob_explain_arguments.specs.Calls.{IsMisfitTold, IsToldBehind, IsToldFor, IsToldOf, IsUnknownTold, misfit_told, told_of, value_told};
+ghost use Rattle.ob_explain_arguments.specs.Calls.{IsMisfitTold, IsToldBehind, IsToldOf, IsToldOfCall, IsUnknownTold, misfit_told, told_of, value_told};
 ghost use Rattle.ob_explain_arguments.specs.Calls.{value_word};
 
 use crate::declared::is_declared;
@@ -62,7 +61,7 @@ fn told_for(
     name: &[u8],
     values: &[&[u8]],
 ) -> Result<Option<Told>, AllocError>
-    ensures { IfOk result (λ told. IsToldFor object.now (map signature_of exports.now) name.now (export_named (map signature_of exports.now) name.now) (map (λ w. w.now) values.now) (option_map told_of told)) }
+    ensures { IfOk result (λ told. IsToldOfCall object.now (map signature_of exports.now) name.now (map (λ w. w.now) values.now) (option_map told_of told)) }
 {
     let Some((_number, export)) = export_named(exports, name) else {
         return unknown_told(alloc, object, exports, name);

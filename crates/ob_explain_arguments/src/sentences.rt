@@ -1,6 +1,7 @@
 //! What is said of a call of no export, and of values that don't fit.
 
-ghost use Rattle.std.specs.Prelude.{◌≡◌, ◌∷◌, ◌++◌, IfOk, OnOk, map, option_map, string_bytes};
+ghost use Rattle.std.specs.Prelude.{◌≡◌, ◌∷◌, ◌++◌, IfOk, OnOk, map, string_bytes};
+ghost use Rattle.ob_explain_arguments.specs.Near.{lent_signature};
 ghost use Rattle.ob_explain_arguments.specs.Sentences.{count_sentence, done_sentence, further_names, further_types, listed_names, listed_types};
 ghost use Rattle.ob_explain_arguments.specs.Sentences.{name_text, near_or_all, private_sentence, question_text, taken_text, type_name};
 ghost use Rattle.ob_explain_arguments.specs.Sentences.{unknown_sentence, unknown_text, value_sentence, values_noun};
@@ -58,7 +59,7 @@ fn push_near(
     exports: &[Export],
     near: Option<&Export>,
 ) -> Result<(), AllocError>
-    ensures { OnOk result (string_bytes sentence.new ≡ string_bytes sentence.old ++ near_or_all (map signature_of exports.now) (option_map (λ e. signature_of e.now) near.entry)) }
+    ensures { OnOk result (string_bytes sentence.new ≡ string_bytes sentence.old ++ near_or_all (map signature_of exports.now) (lent_signature near.entry)) }
 {
     match near {
         Some(export) => push_question(sentence, export),

@@ -1,9 +1,11 @@
 -- What is shown of a fault of a run that has a place in one of its texts.
-use Rattle.std.specs.Prelude.{◌≡◌, ℕ, List, Option, None}
+use Rattle.std.specs.Global.{Global}
+use Rattle.std.specs.Prelude.{◌≡◌, ℕ, List, Option, None, String, option_map, string_bytes}
 use Rattle.ob_explain.specs.Remarks.{Remark}
 use Rattle.ob_explained.specs.Explained.{IsObjectExplanation}
 use Rattle.ob_explained_runs.specs.RunRemarks.{IsRunScriptRemark, long_item_remark, schedule_remark}
-use Rattle.ob_explained_runs.specs.Sources.{Source, shown_in}
+use Rattle.ob_explained_runs.specs.Sources.{Source, shown_in, source_of}
+use Rattle.ob_explained_runs.specs.declared.source.Source as Rust
 use Rattle.ob_object_perform.specs.declared.performing.PerformFault.{PerformFault}
 use Rattle.ob_object_perform.specs.declared.performing.PerformFault.TheVariants as Runs
 use Rattle.ob_text_scripts.specs.declared.script.ScriptFault.{ScriptFault}
@@ -21,3 +23,8 @@ IsRunExplanation object scripts schedule n budget (Runs.Script e) shown = IsRunS
 IsRunExplanation object scripts schedule n budget (Runs.Schedule e) shown = shown ≡ shown_in schedule (schedule_remark n schedule.text e)
 IsRunExplanation object scripts schedule n budget (Runs.TooLong item) shown = shown ≡ shown_in schedule (long_item_remark schedule.text item)
 IsRunExplanation object scripts schedule n budget Runs.NoMemory shown = shown ≡ None
+
+-- the same of texts and of what is shown as the code has them
+abbrev pub ExplainsRun : (object scripts schedule : Rust.Source) (n budget : ℕ) → PerformFault → Option (String Global) → Type 0
+ExplainsRun object scripts schedule n budget fault shown =
+    IsRunExplanation (source_of object) (source_of scripts) (source_of schedule) n budget fault (option_map string_bytes shown)

@@ -1,7 +1,7 @@
 //! What is shown of a fault of a run.
 
 ghost use Rattle.std.specs.Prelude.{IfOk, option_map, string_bytes};
-ghost use Rattle.ob_explained_runs.specs.ExplainedRuns.{IsRunExplanation, IsRunScriptExplanation};
+ghost use Rattle.ob_explained_runs.specs.ExplainedRuns.{ExplainsRun, IsRunScriptExplanation};
 ghost use Rattle.ob_explained_runs.specs.Sources.{source_of};
 
 use crate::run_remark::{long_item_remark, run_script_remark, schedule_remark};
@@ -22,8 +22,7 @@ pub fn run_explanation(
     budget: u64,
     fault: PerformFault,
 ) -> Result<Option<String>, AllocError>
-    ensures { IfOk result (λ shown.
-        IsRunExplanation (source_of object.entry) (source_of scripts.entry) (source_of schedule.entry) n budget fault (option_map string_bytes shown)) }
+    ensures { IfOk result (ExplainsRun object.entry scripts.entry schedule.entry n budget fault) }
 {
     match fault {
         PerformFault::Compile(fault) => {

@@ -1,14 +1,18 @@
 -- What is told of the traps of a script's calls: from the bytes of a module and of a script to the bytes that are printed.
 use Rattle.std.specs.Prelude.{◌≡◌, ℕ, List, [], ◌∷◌, All, Option, Some, None, codes, map, option_map}
 use Rattle.ob_checked.specs.Exports.{signatures}
-use Rattle.ob_explained_runs.specs.Sources.{Source}
+use Rattle.ob_explained_runs.specs.Sources.{Source, source_of}
+use Rattle.ob_explained_runs.specs.declared.source.Source as Rust
 use Rattle.ob_grammar.specs.Tree
 use Rattle.ob_interface.specs.Call.{Reply}
 use Rattle.ob_interface.specs.Processes.{most_processes}
 use Rattle.ob_meaning.specs.Object.{AreReplies}
 use Rattle.ob_object_compile.specs.Compilation.{IsCompilation, ObjectParts}
+use Rattle.ob_object_compile.specs.View.{object_in}
+use Rattle.ob_object_compile.specs.declared.object.Object.{Object}
 use Rattle.ob_text_scripts.specs.Script.{IsScript}
-use Rattle.ob_text_words.specs.ScriptCalls.{ScriptCall, object_call}
+use Rattle.ob_text_words.specs.ScriptCalls.{ScriptCall, object_call, script_call_of}
+use Rattle.ob_text_words.specs.declared.script_call.ScriptCall as Declared
 use Rattle.ob_trap_places.specs.Places.{place_of}
 use Rattle.ob_trap_sequence.specs.Sequence.{sites_from}
 use Rattle.ob_trap_sites.specs.Object.{trap_of}
@@ -30,6 +34,11 @@ abbrev pub traps_text : (text script : Source) → (budget : ℕ) → ObjectPart
 traps_text text script budget object calls =
     or_none (traps_lines (record { object = text; tree = object.tree; script_name = script.name; budget = budget })
     (map (λ c. c.process) calls) (call_lines script.text) 0 (sites_of object budget calls))
+
+-- the same of texts, an object and calls as the code has them
+abbrev pub told_of_calls : (text script : Rust.Source) → (budget : ℕ) → Object → List Declared.ScriptCall → List ℕ
+told_of_calls text script budget object calls =
+    traps_text (source_of text) (source_of script) budget (object_in object) (map script_call_of calls)
 
 -- where a call traps, the operation has a place in the text
 abbrev pub IsPlaced : Tree.Module → Option Site → Type 0

@@ -1,13 +1,11 @@
 //! Where the calls of a script trap: from bytes to bytes.
 
-ghost use Rattle.std.specs.Prelude.{◌≡◌, ◌<◌, ◌≤◌, Err, All, IfOk, IfErr, length, map, string_bytes};
+ghost use Rattle.std.specs.Prelude.{◌≡◌, ◌<◌, ◌≤◌, Err, All, IfOk, IfErr, length, string_bytes};
 ghost use Rattle.ob_explained_runs.specs.Sources.{source_of};
 ghost use Rattle.ob_explained_traps.specs.CallLines.{call_lines};
-ghost use Rattle.ob_explained_traps.specs.TrapsText.{IsTrapsText, or_none, traps_text};
+ghost use Rattle.ob_explained_traps.specs.TrapsText.{IsTrapsText, or_none, told_of_calls};
 ghost use Rattle.ob_meaning.specs.Object.{most_turns};
-ghost use Rattle.ob_object_compile.specs.View.{object_in};
 ghost use Rattle.ob_object_sequence.specs.SequentialRun.{HasNoRun, IsNumbered, IsSeqTextFault, TellsMemoryApart, too_long};
-ghost use Rattle.ob_text_words.specs.ScriptCalls.{script_call_of};
 
 use crate::call_lines::call_lines;
 use crate::told::{Setting, traps_told};
@@ -63,8 +61,7 @@ fn told_of_calls(
 ) -> Result<String, NoMemory>
     requires processes { All (λ c. c.process < MOST_PROCESSES) calls.now }
     requires lined { length (call_lines script.text.now) ≡ length calls.now }
-    ensures { IfOk result (λ text. string_bytes text
-        ≡ traps_text (source_of object.entry) (source_of script.entry) budget (object_in compiled.now) (map script_call_of calls.now)) }
+    ensures { IfOk result (λ text. string_bytes text ≡ told_of_calls object.entry script.entry budget compiled.now calls.now) }
 {
     let callers = callers(alloc, calls)?;
     let asked = object_calls(alloc, calls)?;

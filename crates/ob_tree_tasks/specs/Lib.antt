@@ -3,3 +3,4 @@ pub mod WorkTasks
 pub mod Scoped
 pub mod Tasks
 pub mod Opening
+pub mod Operands

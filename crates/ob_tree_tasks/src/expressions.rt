@@ -1,7 +1,7 @@
 //! How expressions, variables and actuals give way to their parts: the last part is put first, and the first one is opened at once, down to
 //! an instruction. Where that is most of what is done the hints keep the way short.
 
-ghost use Rattle.std.specs.Prelude.{◌≡◌, ◌+◌, ◌≤◌, length, map, MatchOption};
+ghost use Rattle.std.specs.Prelude.{◌≡◌, ◌+◌, ◌≤◌, length, map};
 ghost use Rattle.ob_code_scheme.specs.Layout as Words;
 ghost use Rattle.ob_code_scheme.specs.Scheme as Scheme;
 ghost use Rattle.ob_code_scheme.specs.Types as Sizes;
@@ -10,6 +10,7 @@ ghost use Rattle.ob_typing.specs.Program as Program;
 ghost use Rattle.ob_checked.specs.View.{owner_of, actual_of, designator_of, expression_of, operations_in, selectors_in};
 ghost use Rattle.ob_code_layout.specs.Layout.{block_in};
 ghost use Rattle.ob_tree_tasks.specs.Opening.{CanBeOpened, GivesWay, element_tasks, field_tasks, global_tasks, own_variable_tasks};
+ghost use Rattle.ob_tree_tasks.specs.Operands.{OpensOperator, OpensOuter};
 ghost use Rattle.ob_tree_tasks.specs.Scoped.{own_in, type_in};
 ghost use Rattle.ob_tree_tasks.specs.WorkTasks.{HasRoom, HasRoomFor, before, with_first, with_tasks};
 ghost use Rattle.ob_tree_work.specs.Work as Work;
@@ -83,9 +84,7 @@ fn open_outer<'a>(
 ) -> Option<&'a Expression>
     requires room { HasRoom work.old }
     requires fits { CanBeOpened (block_in layout.now) (with_first (Work.Value (own_in own) (expression_of expression.now)) work.old) }
-    ensures { MatchOption result
-        (GivesWay (block_in layout.now) (with_first (Work.Value (own_in own.entry) (expression_of expression.now)) work.old) work.new)
-        (λ operand. with_first (Work.Value (own_in own.entry) (expression_of operand.now)) work.new ≡ before (Work.value_parts (block_in layout.now) (own_in own.entry) (expression_of expression.now)) work.old) }
+    ensures { OpensOuter (block_in layout.now) (own_in own.entry) (expression_of expression.now) work.old work.new result }
 {
     match expression {
         Expression::Literal(scalar) => {
@@ -165,9 +164,7 @@ fn open_operator<'a>(
     operation: &'a Operation,
 ) -> Option<&'a Expression>
     requires { HasRoomFor 2 work.old }
-    ensures { MatchOption result
-        (work.new ≡ with_tasks work.old (Work.operator_tasks (own_in own.entry) operation.now.operator (expression_of operation.now.operand) work.old.tasks))
-        (λ operand. with_first (Work.Value (own_in own.entry) (expression_of operand.now)) work.new ≡ with_tasks work.old (Work.operator_tasks (own_in own.entry) operation.now.operator (expression_of operation.now.operand) work.old.tasks)) }
+    ensures { OpensOperator (own_in own.entry) operation.now.operator (expression_of operation.now.operand) work.old work.new result }
 {
     let operand = &operation.operand;
     let instr = match operation.operator {

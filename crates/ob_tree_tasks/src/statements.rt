@@ -1,12 +1,12 @@
 //! How statements give way to their parts: the last part is put first, and the first one is opened at once.
 
 ghost use Rattle.std.specs.Prelude.{◌≡◌, ◌+◌, ◌≤◌, length};
-ghost use Rattle.ob_typing.specs.Program as Program;
-ghost use Rattle.ob_checked.specs.View.{branches_in, expression_of, otherwise_of, statement_of, statements_in};
+ghost use Rattle.ob_checked.specs.View.{branches_in, otherwise_of, statement_of, statements_in};
 ghost use Rattle.ob_code_layout.specs.Layout.{block_in};
 ghost use Rattle.ob_code_scheme.specs.Types.{Scope};
 ghost use Rattle.ob_tree_tasks.specs.Opening.{CanBeOpened, GivesWay, is_more};
 ghost use Rattle.ob_tree_tasks.specs.Scoped.{own_in};
+ghost use Rattle.ob_tree_tasks.specs.Tasks.{repeat_task, while_task};
 ghost use Rattle.ob_tree_tasks.specs.WorkTasks.{HasRoom, before, with_first};
 ghost use Rattle.ob_tree_work.specs.Work as Work;
 
@@ -67,8 +67,8 @@ pub fn open_while<'a>(
     body: &'a [Statement],
 )
     requires room { HasRoom work.old }
-    requires fits { CanBeOpened (block_in layout.now) (with_first (Work.Doing (own_in own) (Program.While (expression_of condition.now) (statements_in body.now))) work.old) }
-    ensures { GivesWay (block_in layout.now) (with_first (Work.Doing (own_in own.entry) (Program.While (expression_of condition.now) (statements_in body.now))) work.old) work.new }
+    requires fits { CanBeOpened (block_in layout.now) (with_first (while_task (own_in own) condition.now body.now) work.old) }
+    ensures { GivesWay (block_in layout.now) (with_first (while_task (own_in own.entry) condition.now body.now) work.old) work.new }
 {
     work.push(Task::Looping {
         own,
@@ -88,8 +88,8 @@ pub fn open_repeat<'a>(
     condition: &'a Expression,
 )
     requires room { HasRoom work.old }
-    requires fits { CanBeOpened (block_in layout.now) (with_first (Work.Doing (own_in own) (Program.Repeat (statements_in body.now) (expression_of condition.now))) work.old) }
-    ensures { GivesWay (block_in layout.now) (with_first (Work.Doing (own_in own.entry) (Program.Repeat (statements_in body.now) (expression_of condition.now))) work.old) work.new }
+    requires fits { CanBeOpened (block_in layout.now) (with_first (repeat_task (own_in own) body.now condition.now) work.old) }
+    ensures { GivesWay (block_in layout.now) (with_first (repeat_task (own_in own.entry) body.now condition.now) work.old) work.new }
 {
     let _frames = layout;
     work.push(Task::Until {

@@ -37,6 +37,10 @@ pub record AreEndedOf {Run : Type 0} (m : Meaning Run) (ready : Run → Type 0) 
   pub begins : IsStart ready (sizes_of m n) opening start
   pub are : ended ≡ ended_in m (sizes_of m n) steps (run m (sizes_of m n) (submissions scripts) start) (replicate n unspent)
 
+-- the calls of the scripts submitted to the machine
+abbrev pub with_submissions : {E Run : Type 0} → Meaning Run → List (ℕ × ObjectCall) → Object E Run → Object E Run
+with_submissions m scripts o = record o { state = run m o.sizes (submissions scripts) o.state }
+
 -- From one machine with the calls that were ended to another one with more of them, by these steps: whatever steps follow, the calls
 -- that have ended and those that are still to end stay the same.
 pub record Leads {E Run : Type 0} (meaning : E → Meaning Run) (steps : List ℕ) (a : Object E Run) (ended : List EndedCall) (b : Object E Run) (later : List EndedCall) : Type 0 where

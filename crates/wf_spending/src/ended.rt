@@ -3,8 +3,7 @@
 ghost use Rattle.std.specs.Prelude.{◌≡◌, ◌<◌, ◌≤◌, All, IfOk, OnOk, replicate};
 ghost use Rattle.ob_text_words.specs.ScriptCalls.{object_call, script_call_of};
 ghost use Rattle.wf_play.specs.Played.{scripts_in};
-ghost use Rattle.wf_spending.specs.Ended.{AreEndedOf, Leads, own_steps};
-ghost use Rattle.wf_table.specs.Runs.{run, submissions};
+ghost use Rattle.wf_spending.specs.Ended.{AreEndedOf, Leads, own_steps, with_submissions};
 ghost use Rattle.wf_table.specs.Schedule.{steps_of};
 
 use ob_interface::NoMemory;
@@ -57,7 +56,7 @@ fn submit_all<E: Engine>(
 ) -> Result<(), NoMemory>
     requires callers { All (λ c. c.process < machine.old.sizes.processes) calls.items }
     requires fits { All (λ c. E.fits machine.old.engine (object_call (script_call_of c))) calls.items }
-    ensures { OnOk result (machine.new ≡ record machine.old { state = run (E.meaning machine.old.engine) machine.old.sizes (submissions (scripts_in calls.items)) machine.old.state }) }
+    ensures { OnOk result (machine.new ≡ with_submissions (E.meaning machine.old.engine) (scripts_in calls.items) machine.old) }
 {
     for call in calls {
         let asked = call.asked(alloc)?;
