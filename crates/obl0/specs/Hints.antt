@@ -2,7 +2,8 @@
 use Rattle.std.specs.Prelude.{ℕ, ◌==◌, ◌&&◌, ◌||◌, ◌++◌, nat_eq, Bool, true, false, not, [], ◌∷◌, Option, Some, None, codes, if◌then◌else◌}
 use Rattle.std.specs.Char.{is_ascii_alphanumeric, is_ascii_digit, is_ascii_uppercase}
 use Rattle.std.specs.Fmt.{decimal}
-use Rattle.std.specs.List.{list_all, starts_with}
+use Rattle.std.specs.List.{after_first, before_first, list_all, starts_with}
+use Rattle.std.specs.Str.{bytes_eq}
 use Rattle.std.specs.declared.io.ErrorKind.{ErrorKind}
 use Rattle.std.specs.declared.io.ErrorKind.TheVariants as Kind
 use Rattle.ob_command.specs.CommandLine.{Text, Request, RunRequest, Check, Listing, Seq, Run, RunTree, RunSteps, Serve, Draw, DrawRecord, Verify}
@@ -82,40 +83,74 @@ abbrev pub record_form : (module_name record_name : Text) → Text
 record_form module_name record_name =
     ((module_words module_name ++ codes " --record") ++ name_word (codes "RECORD") record_name) ++ telling
 
--- of `draw` of a record, which its second file is where there is no schedule
-abbrev pub drawn_form : (module_name record_name : Text) → Text
-drawn_form module_name record_name =
-    record_form module_name record_name ++ codes "without a SCHEDULE the second file is read as a record\n"
+-- a fault of a record's form
+abbrev pub is_of_record : (line : Text) → Bool
+is_of_record line = begins (codes "F1") line
 
--- which form of `explain` tells more of a fault of a command; nothing behind `explain` itself
-abbrev pub form_about : Request → Text
-form_about (Check module_name) = module_form module_name
-form_about (Listing module_name) = module_form module_name
-form_about (Bound module_name processes budget) = module_form module_name
-form_about (Seq module_name script_name budget) = calls_form module_name script_name budget
-form_about (Run run) = run_form run
-form_about (RunTree run) = run_form run
-form_about (RunSteps run) = run_form run
-form_about (Draw run calls) = run_form run
-form_about (Serve module_name script_name processes budget) = run_form (served module_name script_name processes budget)
-form_about (DrawRecord module_name record_name calls) = drawn_form module_name record_name
-form_about (Verify module_name record_name) = record_form module_name record_name
-form_about request = []
+-- of `draw` of a record, which its second file is where there is no schedule: somebody may have left the schedule out
+abbrev pub drawn_form : (module_name record_name line : Text) → Text
+drawn_form module_name record_name line =
+    if is_of_record line then record_form module_name record_name ++ codes "without a SCHEDULE the second file is read as a record\n"
+    else record_form module_name record_name
 
--- What is told of a fault of no text, whichever the command is: what a number of the command line may be, or which calls are drawn;
+-- a fault of the module's text: of its tokens, its tree or its rules
+abbrev pub is_of_text : (line : Text) → Bool
+is_of_text line = begins (codes "S") line || (begins (codes "P") line || begins (codes "C") line)
+
+-- Of a run by the tree that form tells more of faults of the text alone: `explain` makes the module's code, and where that is too long it
+-- tells that before any other.
+abbrev pub tree_form : RunRequest → (line : Text) → Text
+tree_form run line = if is_of_text line then run_form run else []
+
+-- which form of `explain` tells more of the fault of a command with this line; nothing behind `explain` itself
+abbrev pub form_about : Request → (line : Text) → Text
+form_about (Check module_name) line = module_form module_name
+form_about (Listing module_name) line = module_form module_name
+form_about (Bound module_name processes budget) line = module_form module_name
+form_about (Seq module_name script_name budget) line = calls_form module_name script_name budget
+form_about (Run run) line = run_form run
+form_about (RunTree run) line = tree_form run line
+form_about (RunSteps run) line = run_form run
+form_about (Draw run calls) line = run_form run
+form_about (Serve module_name script_name processes budget) line = run_form (served module_name script_name processes budget)
+form_about (DrawRecord module_name record_name calls) line = drawn_form module_name record_name line
+form_about (Verify module_name record_name) line = record_form module_name record_name
+form_about request line = []
+
+-- ---- faults of no text
+
+-- what stands between words
+abbrev pub is_blank : (b : ℕ) → Bool
+is_blank b = b == 32
+
+-- the third word of a line, which is how many calls there are in `I1 of 6 calls`
+abbrev pub third_word : (line : Text) → Text
+third_word line = before_first is_blank (after_first is_blank (after_first is_blank line))
+
+-- What is told of a picture of calls that there are not: between which places the first one of `--calls` is, by how many calls there are.
+abbrev pub first_place : (count : Text) → Text
+first_place count =
+    if bytes_eq count (codes "0") then codes "no call begins, so there is none for --calls to name\n"
+    else codes "behind --calls stands FROM-TO, and FROM is 1 to " ++ count ++ codes " here\n"
+
+-- What is told of any other, whichever the command is: what a number of the command line may be, or how many calls a picture has;
 -- nothing of a desk's faults.
 abbrev pub beside_texts : (line : Text) → Option Text
 beside_texts line =
     if begins (codes "N1") line then Some (codes "behind -n stands how many processes there are, 1 to 16\n")
     else if begins (codes "N3") line then Some (codes "behind -b stands how many turns each call has, 0 to 1000000\n")
-    else if begins (codes "I") line then Some (codes "a picture shows at most 400 calls; --calls FROM-TO says which of those that there are\n")
+    else if begins (codes "I2") line then Some (codes "a picture shows at most 400 calls; --calls FROM-TO says which ones\n")
     else if begins (codes "V") line || begins (codes "K") line then Some []
     else None
 
 -- the same, or else the form of `explain`
-abbrev pub told_by : Option Text → Request → Text
-told_by (Some text) request = text
-told_by None request = form_about request
+abbrev pub told_by : Option Text → Request → (line : Text) → Text
+told_by (Some text) request line = text
+told_by None request line = form_about request line
+
+-- of every fault
+abbrev pub told_of : Request → (line : Text) → Text
+told_of request line = if begins (codes "I1") line then first_place (third_word line) else told_by (beside_texts line) request line
 
 -- a command shows its faults to people itself
 abbrev pub is_explain : Request → Bool
@@ -127,7 +162,7 @@ is_explain request = false
 
 -- behind the line of a fault of a command that does not
 abbrev pub more_about : Request → (line : Text) → Text
-more_about request line = if is_explain request then [] else told_by (beside_texts line) request
+more_about request line = if is_explain request then [] else told_of request line
 
 -- ---- a file that can't be read
 

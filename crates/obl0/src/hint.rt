@@ -1,10 +1,11 @@
 //! What a terminal is told behind a fault.
 
 ghost use Rattle.std.specs.Prelude.{◌≡◌, ◌++◌, IfOk, OnOk, option_map, string_bytes};
-ghost use Rattle.std.specs.List.{list_all};
-ghost use Rattle.obl0.specs.Hints.{asks_of_fault, beside_texts, budget_words, calls_form, cause, count_words, drawn_form, form_about, is_explain};
-ghost use Rattle.obl0.specs.Hints.{is_fault, is_fault_name, is_plain, is_plain_byte, module_form, module_words, more_about, more_about_unread};
-ghost use Rattle.obl0.specs.Hints.{more_of, name_word, named, record_form, run_form, run_words, script_words, served};
+ghost use Rattle.std.specs.List.{after_first, before_first, list_all};
+ghost use Rattle.obl0.specs.Hints.{asks_of_fault, beside_texts, budget_words, calls_form, cause, count_words, drawn_form, first_place, form_about};
+ghost use Rattle.obl0.specs.Hints.{is_blank, is_explain, is_fault, is_fault_name, is_of_record, is_of_text, is_plain, is_plain_byte, module_form};
+ghost use Rattle.obl0.specs.Hints.{module_words, more_about, more_about_unread, more_of, name_word, named, record_form, run_form, run_words};
+ghost use Rattle.obl0.specs.Hints.{script_words, served, third_word, told_of, tree_form};
 ghost use Rattle.ob_command.specs.Commands.{request_of, run_request_of};
 
 use ob_command::command::{Command, RunCommand};
@@ -36,7 +37,7 @@ pub fn more_of(
     alloc: Global,
     command: Command<'_>,
     status: u8,
-    line: &[u8],
+    line: &str,
     refusal: Option<io::ErrorKind>,
 ) -> Result<String, AllocError>
     ensures { IfOk result (λ text. string_bytes text ≡ more_of (request_of command.entry) status line.now refusal) }
@@ -48,17 +49,27 @@ pub fn more_of(
     }
 }
 
-/// What is told behind the line of a fault of a command: what a number of the command line may be, which calls are drawn, or which
-/// form of `explain` tells more.
-fn more_about(alloc: Global, command: Command<'_>, line: &[u8]) -> Result<String, AllocError>
+/// What is told behind the line of a fault of a command.
+fn more_about(alloc: Global, command: Command<'_>, line: &str) -> Result<String, AllocError>
     ensures { IfOk result (λ text. string_bytes text ≡ more_about (request_of command.entry) line.now) }
 {
     if is_explain(command) {
         return Ok(String::new(alloc));
     }
-    match beside_texts(line) {
+    told_of(alloc, command, line)
+}
+
+/// What is told of a fault: which calls there are, what a number of the command line may be, or which form of `explain` tells more.
+fn told_of(alloc: Global, command: Command<'_>, line: &str) -> Result<String, AllocError>
+    ensures { IfOk result (λ text. string_bytes text ≡ told_of (request_of command.entry) line.now) }
+{
+    let bytes = line.as_bytes();
+    if bytes.starts_with(b"I1") {
+        return first_place(alloc, third_word(line));
+    }
+    match beside_texts(bytes) {
         Some(text) => String::from_str(alloc, text),
-        None => form_about(alloc, command),
+        None => form_about(alloc, command, bytes),
     }
 }
 
@@ -75,7 +86,50 @@ fn is_explain(command: Command<'_>) -> bool
     )
 }
 
-/// What is told of a fault of no text, whichever the command is.
+/// How many calls there are, by the line of a fault that says it.
+fn third_word(line: &str) -> &str
+    ensures { result.now ≡ third_word line.now }
+{
+    before_blank(behind_blank(behind_blank(line)))
+}
+
+/// What stands before the first blank of a text; all where there is none.
+fn before_blank(text: &str) -> &str
+    ensures { result.now ≡ before_first is_blank text.now }
+{
+    match text.split_once(' ') {
+        Some((before, _)) => before,
+        None => text,
+    }
+}
+
+/// What stands behind the first blank of a text; nothing where there is none.
+fn behind_blank(text: &str) -> &str
+    ensures { result.now ≡ after_first is_blank text.now }
+{
+    match text.split_once(' ') {
+        Some((_, behind)) => behind,
+        None => "",
+    }
+}
+
+/// Between which places the first call of a picture is, by how many calls there are.
+fn first_place(alloc: Global, count: &str) -> Result<String, AllocError>
+    ensures { IfOk result (λ text. string_bytes text ≡ first_place count.now) }
+{
+    if count == "0" {
+        return String::from_str(
+            alloc,
+            "no call begins, so there is none for --calls to name\n",
+        );
+    }
+    let mut text = String::from_str(alloc, "behind --calls stands FROM-TO, and FROM is 1 to ")?;
+    text.push_str(count)?;
+    text.push_str(" here\n")?;
+    Ok(text)
+}
+
+/// What is told of any other fault of no text, whichever the command is.
 fn beside_texts(line: &[u8]) -> Option<&'static str>
     ensures { option_map (λ text. text.now) result ≡ beside_texts line.now }
 {
@@ -83,10 +137,8 @@ fn beside_texts(line: &[u8]) -> Option<&'static str>
         Some("behind -n stands how many processes there are, 1 to 16\n")
     } else if line.starts_with(b"N3") {
         Some("behind -b stands how many turns each call has, 0 to 1000000\n")
-    } else if line.starts_with(b"I") {
-        Some(
-            "a picture shows at most 400 calls; --calls FROM-TO says which of those that there are\n",
-        )
+    } else if line.starts_with(b"I2") {
+        Some("a picture shows at most 400 calls; --calls FROM-TO says which ones\n")
     } else if line.starts_with(b"V") || line.starts_with(b"K") {
         Some("")
     } else {
@@ -94,9 +146,9 @@ fn beside_texts(line: &[u8]) -> Option<&'static str>
     }
 }
 
-/// Which form of `explain` tells more of a fault of a command; nothing behind `explain` itself.
-fn form_about(alloc: Global, command: Command<'_>) -> Result<String, AllocError>
-    ensures { IfOk result (λ text. string_bytes text ≡ form_about (request_of command.entry)) }
+/// Which form of `explain` tells more of the fault of a command with this line; nothing behind `explain` itself.
+fn form_about(alloc: Global, command: Command<'_>, line: &[u8]) -> Result<String, AllocError>
+    ensures { IfOk result (λ text. string_bytes text ≡ form_about (request_of command.entry) line.now) }
 {
     match command {
         Command::Check { module_name } => module_form(alloc, module_name),
@@ -108,7 +160,7 @@ fn form_about(alloc: Global, command: Command<'_>) -> Result<String, AllocError>
             budget,
         } => calls_form(alloc, module_name, script_name, budget),
         Command::Run(run) => run_form(alloc, run),
-        Command::RunTree(run) => run_form(alloc, run),
+        Command::RunTree(run) => tree_form(alloc, run, line),
         Command::RunSteps(run) => run_form(alloc, run),
         Command::Draw { run, .. } => run_form(alloc, run),
         Command::Serve {
@@ -121,7 +173,7 @@ fn form_about(alloc: Global, command: Command<'_>) -> Result<String, AllocError>
             module_name,
             record_name,
             ..
-        } => drawn_form(alloc, module_name, record_name),
+        } => drawn_form(alloc, module_name, record_name, line),
         Command::Verify {
             module_name,
             record_name,
@@ -192,13 +244,45 @@ fn record_form(alloc: Global, module_name: &str, record_name: &str) -> Result<St
     Ok(text)
 }
 
-/// The same of `draw` of a record, and which file it read as one.
-fn drawn_form(alloc: Global, module_name: &str, record_name: &str) -> Result<String, AllocError>
-    ensures { IfOk result (λ text. string_bytes text ≡ drawn_form module_name.now record_name.now) }
+/// The same of `draw` of a record, and of a fault of its form which file was read as one.
+fn drawn_form(
+    alloc: Global,
+    module_name: &str,
+    record_name: &str,
+    line: &[u8],
+) -> Result<String, AllocError>
+    ensures { IfOk result (λ text. string_bytes text ≡ drawn_form module_name.now record_name.now line.now) }
 {
     let mut text = record_form(alloc, module_name, record_name)?;
-    text.push_str("without a SCHEDULE the second file is read as a record\n")?;
+    if is_of_record(line) {
+        text.push_str("without a SCHEDULE the second file is read as a record\n")?;
+    }
     Ok(text)
+}
+
+/// Whether a fault is one of a record's form.
+fn is_of_record(line: &[u8]) -> bool
+    ensures { result ≡ is_of_record line.now }
+{
+    line.starts_with(b"F1")
+}
+
+/// The form of a run that was made by the tree, where `explain`, which makes the module's code, tells the same fault in any case.
+fn tree_form(alloc: Global, run: RunCommand<'_>, line: &[u8]) -> Result<String, AllocError>
+    ensures { IfOk result (λ text. string_bytes text ≡ tree_form (run_request_of run.entry) line.now) }
+{
+    if is_of_text(line) {
+        run_form(alloc, run)
+    } else {
+        Ok(String::new(alloc))
+    }
+}
+
+/// Whether a fault is one of the module's text.
+fn is_of_text(line: &[u8]) -> bool
+    ensures { result ≡ is_of_text line.now }
+{
+    line.starts_with(b"S") || line.starts_with(b"P") || line.starts_with(b"C")
 }
 
 /// `explain` of a module.

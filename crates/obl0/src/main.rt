@@ -73,7 +73,7 @@ fn more_told<R: Env + AllocGlobal>(rt: &R, outcome: &Outcome) -> Result<String, 
     let Ok(command) = read_command(alloc, words.as_slice()) else {
         return Ok(String::new(alloc));
     };
-    let line = outcome.answer.err.as_bytes();
+    let line = outcome.answer.err.as_str();
     let more = more_of(alloc, command, outcome.answer.status, line, outcome.refusal)?;
     Ok(more)
 }
