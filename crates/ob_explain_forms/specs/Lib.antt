@@ -2,3 +2,4 @@ pub mod Marks
 pub mod Items
 pub mod ScriptLines
 pub mod Values
+pub mod Records

@@ -3,7 +3,7 @@ use Rattle.std.specs.Prelude.{◌≡◌, ℕ, List, Option, None, Some, option_m
 use Rattle.ob_scan.specs.declared.fault.ScanFault.TheVariants as Scan
 use Rattle.ob_explain.specs.Explanations.{explanation}
 use Rattle.ob_explain.specs.Remarks.{Remark, IsCheckRemark, IsParseRemark, scan_remark}
-use Rattle.ob_explained.specs.NumberFaults.{budget_explanation, processes_explanation}
+use Rattle.ob_explained.specs.NumberFaults.{budget_explanation, long_code_explanation, long_text_explanation, processes_explanation}
 use Rattle.ob_explained.specs.CallRemarks.{IsScriptRemark}
 use Rattle.ob_check_text.specs.declared.checked_text.TextFault.{TextFault}
 use Rattle.ob_check_text.specs.declared.checked_text.TextFault.TheVariants as Texts
@@ -22,11 +22,16 @@ IsTextRemark text (Texts.Parse e) remark = IsParseRemark text e remark
 IsTextRemark text (Texts.Check e) remark = IsCheckRemark text e remark
 IsTextRemark text Texts.NoMemory remark = remark ≡ None
 
--- in the text of this name
-pub record IsTextExplanation (name text : List ℕ) (fault : TextFault) (shown : Option (List ℕ)) : Type 0 where
+-- at its place in the text of this name
+pub record IsPlacedExplanation (name text : List ℕ) (fault : TextFault) (shown : Option (List ℕ)) : Type 0 where
   pub remark : Option Remark
   pub remarked : IsTextRemark text fault remark
   pub shows : shown ≡ option_map (explanation name text) remark
+
+-- of the text of this name; that it is too long is told without a place
+abbrev pub IsTextExplanation : (name text : List ℕ) → TextFault → Option (List ℕ) → Type 0
+IsTextExplanation name text (Texts.Scan Scan.TooLong) shown = shown ≡ Some long_text_explanation
+IsTextExplanation name text fault shown = IsPlacedExplanation name text fault shown
 
 -- of a script of this name, for the exports of a module's text
 pub record IsScriptExplanation (text name script : List ℕ) (fault : ScriptFault) (shown : Option (List ℕ)) : Type 0 where
@@ -34,10 +39,11 @@ pub record IsScriptExplanation (text name script : List ℕ) (fault : ScriptFaul
   pub remarked : IsScriptRemark text script fault remark
   pub shows : shown ≡ option_map (explanation name script) remark
 
--- of a module by itself; the length of its code has no place, and of its opening the operation is told that traps
+-- of a module by itself; that its code is too long is told without a place, and of its opening the operation that traps
 abbrev pub IsModuleExplanation : (name text : List ℕ) → CompileFault → Option (List ℕ) → Type 0
 IsModuleExplanation name text (Modules.Text e) shown = IsTextExplanation name text e shown
 IsModuleExplanation name text (Modules.Open e) shown = IsOpenExplanation name text e shown
+IsModuleExplanation name text Modules.TooLong shown = shown ≡ Some long_code_explanation
 IsModuleExplanation name text _ shown = shown ≡ None
 
 -- of a module that so many processes share, each of whose calls has a budget: of a number that may not be which it may

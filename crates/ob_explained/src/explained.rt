@@ -3,10 +3,12 @@
 ghost use Rattle.std.specs.Prelude.{◌≡◌, IfOk, option_map, string_bytes};
 ghost use Rattle.ob_explain.specs.Explanations.{explanation};
 ghost use Rattle.ob_explain.specs.Remarks.{remark_of};
-ghost use Rattle.ob_explained.specs.Explained.{IsCallsExplanation, IsModuleExplanation, IsObjectExplanation, IsTextRemark};
+ghost use Rattle.ob_explained.specs.Explained.{IsCallsExplanation, IsModuleExplanation, IsObjectExplanation, IsTextExplanation, IsTextRemark};
 
 use crate::call_remark::calls_remark;
-use crate::number_fault::{budget_explanation, processes_explanation};
+use crate::number_fault::{
+    budget_explanation, long_code_explanation, long_text_explanation, processes_explanation,
+};
 use ob_check_text::TextFault;
 use ob_explain::explanation::explanation;
 use ob_explain::remark::{Remark, check_remark, parse_remark, scan_remark};
@@ -19,7 +21,7 @@ use std::alloc::{AllocError, Global};
 /// The processes that make the calls of a script one at a time.
 const ONE_PROCESS: usize = 1;
 
-/// What is shown of a fault of a module, whose text has this name; `None` where the fault has no place in it and is none of its opening.
+/// What is shown of a fault of a module, whose text has this name; `None` for a number of the command line and for want of memory.
 pub fn module_explanation(
     alloc: Global,
     name: &str,
@@ -29,7 +31,8 @@ pub fn module_explanation(
     ensures { IfOk result (λ shown. IsModuleExplanation name.now text.now fault (option_map string_bytes shown)) }
 {
     match fault {
-        CompileFault::Text(fault) => shown(alloc, name, text, text_remark(alloc, text, fault)?),
+        CompileFault::Text(fault) => text_explanation(alloc, name, text, fault),
+        CompileFault::TooLong => Ok(Some(long_code_explanation(alloc)?)),
         CompileFault::Open(fault) => open_explanation(alloc, name, text, fault),
         _ => Ok(None),
     }
@@ -80,6 +83,21 @@ pub fn calls_explanation(
             )
         }
         SeqTextFault::NoMemory => Ok(None),
+    }
+}
+
+/// What is shown of a fault of a module's text of this name; `None` for want of memory.
+fn text_explanation(
+    alloc: Global,
+    name: &str,
+    text: &[u8],
+    fault: TextFault,
+) -> Result<Option<String>, AllocError>
+    ensures { IfOk result (λ shown. IsTextExplanation name.now text.now fault (option_map string_bytes shown)) }
+{
+    match fault {
+        TextFault::Scan(ScanFault::TooLong) => Ok(Some(long_text_explanation(alloc)?)),
+        fault => shown(alloc, name, text, text_remark(alloc, text, fault)?),
     }
 }
 

@@ -1,7 +1,7 @@
-//! What is said of a number of the command line that may not be, which has no place in a text.
+//! What is said of a number of the command line that may not be, and of a module that is too long, which have no place in a text.
 
 ghost use Rattle.std.specs.Prelude.{◌≡◌, IfOk, string_bytes};
-ghost use Rattle.ob_explained.specs.NumberFaults.{budget_explanation, processes_explanation};
+ghost use Rattle.ob_explained.specs.NumberFaults.{budget_explanation, long_code_explanation, long_text_explanation, processes_explanation};
 
 use ob_text_words::numbers::push_number;
 use std::alloc::{AllocError, Global};
@@ -24,4 +24,21 @@ pub fn budget_explanation(alloc: Global, budget: u64) -> Result<String, AllocErr
     push_number(&mut shown, budget)?;
     shown.push_str("; it may be 0 to 1000000\n")?;
     Ok(shown)
+}
+
+/// Of a module of more bytes than one may have.
+pub fn long_text_explanation(alloc: Global) -> Result<String, AllocError>
+    ensures { IfOk result (λ shown. string_bytes shown ≡ long_text_explanation) }
+{
+    String::from_str(alloc, "S5 at 65536\na module has at most 65536 bytes\n")
+}
+
+/// Of a module whose code would have more instructions than it may.
+pub fn long_code_explanation(alloc: Global) -> Result<String, AllocError>
+    ensures { IfOk result (λ shown. string_bytes shown ≡ long_code_explanation) }
+{
+    String::from_str(
+        alloc,
+        "G1\nthe code of the module's procedures would have over 65535 instructions; run --tree runs it without code\n",
+    )
 }

@@ -2,6 +2,7 @@
 use Rattle.std.specs.Prelude.{◌≡◌, ℕ, ◌==◌, ◌&&◌, ◌||◌, nat_le, nat_lt, Bool, true, false, List, Option, None, Some, codes, drop, if◌then◌else◌, length}
 use Rattle.ob_explain.specs.Places.{line_from}
 use Rattle.ob_explain.specs.Remarks.{Remark, at}
+use Rattle.ob_explain_forms.specs.Records.{title_sentence}
 use Rattle.ob_explain_hints.specs.Slips.{begins_with}
 use Rattle.ob_checked.specs.Exports.{signatures}
 use Rattle.ob_explained.specs.ScriptPlaces.{first_place, in_line, line_begin, word_place}
@@ -31,7 +32,7 @@ is_behind (Some other) number = nat_lt other number
 
 abbrev pub form_sentence : (number : ℕ) → (behind_order : Bool) → (from : List ℕ) → List ℕ
 form_sentence number behind_order from =
-    if number == 1 then codes "the first line of a record is obl0 record 2, or obl0 record 1, which has no budget"
+    if number == 1 then title_sentence from
     else if number == 2 then codes "the second line is n and how many processes there are, 1 to 16, as n 2"
     else if behind_order then codes "behind the order stand S and V lines alone"
     else letter_sentence from

@@ -15,6 +15,7 @@ ghost use Rattle.ob_typing.specs.Program.{Program};
 use ob_check_text::TextFault;
 use ob_check_text::checked_text::checked_text;
 use ob_explain::remark::Remark;
+use ob_explain_forms::records::title_sentence;
 use ob_explain_hints::slips::begins_with;
 use ob_explained::script_place::{behind_place, first_place, script_line, word_place};
 use ob_explained_lines::cause::{Cause, Object, Spot, has_budget, line_cause};
@@ -246,7 +247,7 @@ fn form_sentence(number: usize, behind_order: bool, from: &[u8]) -> &'static str
     ensures { result.now ≡ form_sentence number behind_order from.now }
 {
     if number == 1 {
-        "the first line of a record is obl0 record 2, or obl0 record 1, which has no budget"
+        title_sentence(from)
     } else if number == 2 {
         "the second line is n and how many processes there are, 1 to 16, as n 2"
     } else if behind_order {
