@@ -2,7 +2,6 @@
 use Rattle.std.proofs.Common.{◌≡◌, ◌≢◌, ◌<◌, ◌≤◌, ◌⊎◌, ℕ, List, Result, Ok, Err, IfOk, length, false, subst, sym}
 use Rattle.ob_scan.specs.declared.fault.ScanFault.TheVariants as Scan
 use Rattle.ob_answer.specs.Explains.{AreTrapsExplained, IsCallsExplained, IsCallsFaultShown, IsModuleExplained, IsModuleFaultShown, IsRecordExplained, IsRecordFaultShown, IsRunExplained, IsRunFaultShown, untold, wrong}
-use Rattle.ob_explained.proofs.Long.{told_elsewhere}
 use Rattle.ob_answer.specs.declared.answered.Answer.{Answer}
 use Rattle.ob_check_text.specs.declared.checked_text.TextFault.TheVariants as Texts
 use Rattle.ob_command.specs.CommandLine.{RunRequest, Text}
@@ -31,7 +30,7 @@ long_module : (name : Text) (part whole : List ℕ) (e : CompileFault) (a : Answ
 long_module name part whole e a is longer told =
     let here = subst (λ (x : CompileFault). IsModuleFaultShown name part x a) is told in
     subst (λ (x : CompileFault). IsCompileFault whole 1 default_budget x × IsModuleFaultShown name whole x a) (sym is)
-    (too_long_scan whole longer, (here.0, told_elsewhere here.1, here.2))
+    (too_long_scan whole longer, (here.0, here.1, here.2))
 
 pub module_wrong_made : {E : Type 0} (name : Text) (part : List ℕ) (e : CompileFault) (result : Result Answer E)
     → IfOk result (λ a. IsModuleFaultShown name part e a) → IfOk result (λ _. Compiles.is_want_of_memory e ≡ false)
@@ -56,7 +55,7 @@ long_calls module_name part whole script_name script budget e a too_much too_lon
     budget_too_long Runs.Compile
     (λ x. IsCallsFaultShown module_name part script_name script budget x a
     → IsSeqTextFault whole script budget x × IsCallsFaultShown module_name whole script_name script budget x a)
-    budget e (λ much told. (much, told)) (λ told. (too_long_scan whole longer, (told.0, told_elsewhere told.1, told.2))) too_much too_long
+    budget e (λ much told. (much, told)) (λ told. (too_long_scan whole longer, (told.0, told.1, told.2))) too_much too_long
 
 -- a fault of calls on the beginning of a module's text is one of calls on the whole, is shown so, and rules out their replies
 record Untold (module_name : Text) (whole : List ℕ) (script_name : Text) (script : List ℕ) (budget : ℕ) (e : SeqTextFault) (a : Answer) : Type 0 where
@@ -108,7 +107,7 @@ long_run : (run : RunRequest) (part whole script schedule : List ℕ) (e : Perfo
 long_run run part whole script schedule e a processes too_much too_long longer =
     fault_too_long Perform.Compile
     (λ x. IsRunFaultShown run part script schedule x a → IsPerformFault whole run.processes run.budget script schedule x × IsRunFaultShown run whole script schedule x a)
-    whole run.processes run.budget e (λ h told. (h, told)) (λ much told. (much, told)) (λ scan told. (scan, (told.0, told_elsewhere told.1, told.2))) longer
+    whole run.processes run.budget e (λ h told. (h, told)) (λ much told. (much, told)) (λ scan told. (scan, (told.0, told.1, told.2))) longer
     processes too_much too_long
 
 pub run_wrong_made : {E : Type 0} (run : RunRequest) (part script schedule : List ℕ) (e : PerformFault) (result : Result Answer E)
@@ -136,7 +135,7 @@ long_record : (module_name : Text) (part whole : List ℕ) (record_name : Text) 
 long_record module_name part whole record_name text e a is longer told =
     let here = subst (λ (x : VerifyFault). IsRecordFaultShown module_name part record_name text x a) is told in
     subst (λ (x : VerifyFault). IsVerifyFault whole text x × IsRecordFaultShown module_name whole record_name text x a) (sym is)
-    (too_long_scan whole longer, (here.0, told_elsewhere here.1, here.2))
+    (too_long_scan whole longer, (here.0, here.1, here.2))
 
 pub record_wrong_made : {E : Type 0} (module_name : Text) (part : List ℕ) (record_name : Text) (text : List ℕ) (e : VerifyFault) (result : Result Answer E)
     → IfOk result (λ a. IsRecordFaultShown module_name part record_name text e a) → IfOk result (λ _. e ≢ Verify.NoMemory)

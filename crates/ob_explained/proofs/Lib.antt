@@ -1,5 +1,4 @@
 pub mod Feeds
 pub mod Lines
 pub mod WordPlaces
-pub mod Long
 pub mod Marked
