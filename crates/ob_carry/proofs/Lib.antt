@@ -1,0 +1,4 @@
+pub mod Rows
+pub mod Fitted
+pub mod Variables
+pub mod Carried

@@ -1,0 +1,4 @@
+pub mod View
+pub mod Values
+pub mod Carried
+pub mod Laws
