@@ -1,0 +1,9 @@
+pub mod FirstLines
+pub mod WordsTaken
+pub mod OneValue
+pub mod Marks
+pub mod Taken
+pub mod Indexing
+pub mod ToldLines
+pub mod Numerals
+pub mod ReadBack

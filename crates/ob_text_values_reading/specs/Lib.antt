@@ -1,0 +1,9 @@
+pub mod RecordTexts
+pub mod Versions
+pub mod ValueTexts
+pub mod Taking
+pub mod Variables
+pub mod ToldValues
+pub mod Indexed
+pub mod Turns
+pub mod Printed
