@@ -3,4 +3,4 @@
 
 pub mod record;
 
-pub use record::Record;
+pub use record::{Record, carried_copy, carried_state};

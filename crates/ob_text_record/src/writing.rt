@@ -1,16 +1,20 @@
 //! Records written.
 
-ghost use Rattle.std.specs.Prelude.{◌≡◌, ◌++◌, IfOk, OnErr, OnOk, string_bytes};
+ghost use Rattle.std.specs.Prelude.{◌≡◌, ◌++◌, IfOk, OnErr, OnOk, option_map, string_bytes};
 ghost use Rattle.ob_checked.specs.CheckedModule.{program_in};
+ghost use Rattle.ob_checked.specs.View.{program_of};
 ghost use Rattle.ob_object_record.specs.Record.{record_of};
-ghost use Rattle.ob_text_record.specs.RecordText.{head_text, order_text, record_text};
+ghost use Rattle.ob_text_record.specs.RecordText.{carried_text, head_text, order_text, record_text, title_text};
+ghost use Rattle.ob_store.specs.View.{state_of};
 ghost use Rattle.ob_text_words.specs.Appending.{GoesOn};
 
 use crate::events::{push_events, push_ids};
 use crate::schedule::push_schedule;
 use ob_checked::checked::Checked;
+use ob_checked::program::Program;
 use ob_object_record::Record;
-use ob_text_values::variables::push_state;
+use ob_store::state::State;
+use ob_text_values::variables::{push_opening, push_state};
 use ob_text_words::numbers::push_number;
 use std::alloc::{AllocError, Global};
 use wf_history::CallId;
@@ -19,13 +23,35 @@ use wf_history::CallId;
 pub fn write_record(alloc: Global, checked: &Checked, record: &Record) -> Result<String, AllocError>
     ensures { IfOk result (λ text. string_bytes text ≡ record_text (program_in checked.now) (record_of «record».now)) }
 {
-    let mut text = String::from_str(alloc, "obl0 record 2\n")?;
+    let mut text = String::from_str(alloc, title(&record.carried))?;
     push_head(&mut text, record.processes, record.budget)?;
+    push_carried(&mut text, checked.program(), record)?;
     push_events(&mut text, checked.exports(), record.history.events())?;
     push_order(&mut text, &record.order)?;
     push_schedule(&mut text, &record.schedule)?;
     push_state(&mut text, checked.program(), &record.state)?;
     Ok(text)
+}
+
+/// The first line: version 3 is of an object that began with values carried over.
+fn title(carried: &Option<State>) -> &str
+    ensures { result.now ≡ title_text (option_map state_of carried.now) }
+{
+    match carried {
+        Some(_) => "obl0 record 3\n",
+        None => "obl0 record 2\n",
+    }
+}
+
+/// Appends the values carried over, if there are any: a line for each of the module's variables.
+fn push_carried(text: &mut String, program: &Program, record: &Record) -> Result<(), AllocError>
+    ensures ok { OnOk result (string_bytes text.new ≡ string_bytes text.old ++ carried_text (program_of program.now) (record_of «record».now).carried) }
+    ensures left { OnErr result (GoesOn (string_bytes text.old) (string_bytes text.new)) }
+{
+    match &record.carried {
+        Some(opening) => push_opening(text, program, opening),
+        None => Ok(()),
+    }
 }
 
 /// Appends how many processes there are, and the budget of each call.

@@ -15,7 +15,7 @@ use Rattle.ob_positions.specs.Value.{Values, Parts, no_part}
 use Rattle.ob_store.specs.declared.value.Value.{Value}
 use Rattle.ob_store.specs.View.{value_in, values_in, variables_in}
 use Rattle.ob_text_values.specs.Values.{array_text, elements_text, fields_text, record_text, separator, value_text}
-use Rattle.ob_text_values.specs.Variables.{state_text, variable_line}
+use Rattle.ob_text_values.specs.Variables.{line_behind, lines_behind}
 
 -- a text, and what comes behind it
 pub behind : (text before mark more rest all : List ℕ) → text ≡ before ++ mark → mark ++ rest ≡ more → before ++ more ≡ all → text ++ rest ≡ all
@@ -111,39 +111,39 @@ text_of_none (Program.Array place size own) vs e f = absurd cc
 text_of_none (Program.Record place own) vs e f = absurd cc
 
 -- the lines of variables from a position on
-pub lines_more : (variables : List Program.Variable) (state : Activation) (i : ℕ) (v : Program.Variable) (h : Held) → i < length variables → v ≡ get_or variables i v →
+pub lines_more : (mark : List ℕ) (variables : List Program.Variable) (state : Activation) (i : ℕ) (v : Program.Variable) (h : Held) → i < length variables → v ≡ get_or variables i v →
     i < length state → h ≡ get_or state i h →
-    state_text (drop i variables) (drop i state) ≡ variable_line v (value_held h) ++ state_text (drop (i + 1) variables) (drop (i + 1) state)
-lines_more variables state i v h below at within here = rw (drop-cons variables i v, ← at, drop-cons state i h, ← here, add-one) refl
+    lines_behind mark (drop i variables) (drop i state) ≡ line_behind mark v (value_held h) ++ lines_behind mark (drop (i + 1) variables) (drop (i + 1) state)
+lines_more mark variables state i v h below at within here = rw (drop-cons variables i v, ← at, drop-cons state i h, ← here, add-one) refl
 
-no_values_left : (variables : List Program.Variable) → state_text variables [] ≡ []
-no_values_left [] = refl
-no_values_left (v ∷ variables) = refl
+no_values_left : (mark : List ℕ) (variables : List Program.Variable) → lines_behind mark variables [] ≡ []
+no_values_left mark [] = refl
+no_values_left mark (v ∷ variables) = refl
 
-pub lines_end : (variables : List Program.Variable) (state : Activation) (i : ℕ) → i ≡ min (length variables) (length state) → state_text (drop i variables) (drop i state) ≡ []
-lines_end variables state i e =
+pub lines_end : (mark : List ℕ) (variables : List Program.Variable) (state : Activation) (i : ℕ) → i ≡ min (length variables) (length state) → lines_behind mark (drop i variables) (drop i state) ≡ []
+lines_end mark variables state i e =
     elim (cases_lt i (length variables)) [
       | inl less ↦
           let none : drop i state ≡ [] = drop_all i state (omega arith) in
-          ap (state_text (drop i variables)) none ∙ no_values_left (drop i variables)
-      | inr past ↦ ap (λ vs. state_text vs (drop i state)) (drop_all i variables past)
+          ap (lines_behind mark (drop i variables)) none ∙ no_values_left mark (drop i variables)
+      | inr past ↦ ap (λ vs. lines_behind mark vs (drop i state)) (drop_all i variables past)
     ]
 
 -- the same of the variables of a program, with values of their own
-module _ (types : List Entries) (variables : List Variable) (values : List Value) (state : Activation) (own : variables_in values ≡ state) where
+module _ (mark : List ℕ) (types : List Entries) (variables : List Variable) (values : List Value) (state : Activation) (own : variables_in values ≡ state) where
   pub state_more : (text before all : List ℕ) (n : ℕ) (v : Variable) (w : Value) → n < length variables → v ≡ get_or variables n v → n < length values → w ≡ get_or values n w →
-      text ≡ before ++ variable_line (variable_of types v) (value_in w) →
-      before ++ state_text (drop n (map (variable_of types) variables)) (drop n state) ≡ all →
-      text ++ state_text (drop (n + 1) (map (variable_of types) variables)) (drop (n + 1) state) ≡ all
+      text ≡ before ++ line_behind mark (variable_of types v) (value_in w) →
+      before ++ lines_behind mark (drop n (map (variable_of types) variables)) (drop n state) ≡ all →
+      text ++ lines_behind mark (drop (n + 1) (map (variable_of types) variables)) (drop (n + 1) state) ≡ all
   state_more text before all n v w below at within here is so_far =
       let first : variable_of types v ≡ get_or (map (variable_of types) variables) n (variable_of types v) = ap (variable_of types) at ∙ sym (get_or-map (variable_of types) variables n v) in
       let second : Holds (value_in w) ≡ get_or (variables_in values) n (Holds (value_in w)) = ap (λ u. Holds (value_in u)) here ∙ sym (get_or-map (λ u. Holds (value_in u)) values n w) in
-      let parts = lines_more (map (variable_of types) variables) (variables_in values) n (variable_of types v) (Holds (value_in w)) (rw length-map below) first (rw length-map within) second in
-      behind text before _ _ _ all is (sym (subst (λ s. state_text (drop n (map (variable_of types) variables)) (drop n s) ≡ variable_line (variable_of types v) (value_in w) ++ state_text (drop (n + 1) (map (variable_of types) variables)) (drop (n + 1) s)) own parts)) so_far
+      let parts = lines_more mark (map (variable_of types) variables) (variables_in values) n (variable_of types v) (Holds (value_in w)) (rw length-map below) first (rw length-map within) second in
+      behind text before _ _ _ all is (sym (subst (λ s. lines_behind mark (drop n (map (variable_of types) variables)) (drop n s) ≡ line_behind mark (variable_of types v) (value_in w) ++ lines_behind mark (drop (n + 1) (map (variable_of types) variables)) (drop (n + 1) s)) own parts)) so_far
 
   pub state_end : (text all : List ℕ) (n : ℕ) → n ≡ min (length variables) (length values) →
-      text ++ state_text (drop n (map (variable_of types) variables)) (drop n state) ≡ all → text ≡ all
+      text ++ lines_behind mark (drop n (map (variable_of types) variables)) (drop n state) ≡ all → text ≡ all
   state_end text all n e so_far =
       let counts : length values ≡ length state = sym (length-map values (λ v. Holds (value_in v))) ∙ ap length own in
-      let none = lines_end (map (variable_of types) variables) state n (rw (length-map, ← counts) e) in
+      let none = lines_end mark (map (variable_of types) variables) state n (rw (length-map, ← counts) e) in
       sym (append-nil text) ∙ ap (λ t. text ++ t) (sym none) ∙ so_far

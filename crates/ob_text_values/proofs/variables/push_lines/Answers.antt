@@ -7,7 +7,7 @@ use Rattle.ob_checked.specs.View.{table_of}
 use Rattle.ob_store.specs.View.{state_of}
 use Rattle.ob_text_words.proofs.Appended.{left, more, some_more}
 use Rattle.ob_text_values.proofs.Texts.{state_end, state_more}
-use Rattle.ob_text_values.proofs.variables.push_state.Goals as goal
+use Rattle.ob_text_values.proofs.variables.push_lines.Goals as goal
 
 pub loop-variable-preserved : goal.loop-variable-preserved
 loop-variable-preserved c =
@@ -20,15 +20,15 @@ loop-variable-preserved c =
     record {
       so_far =
           rw length_push
-          (state_more (table_of c.args.program.now.types) c.args.program.now.variables.items c.values.result.now (state_of c.args.state.now) c.values.ensures
+          (state_more c.args.mark.now (table_of c.args.program.now.types) c.args.program.now.variables.items c.values.result.now (state_of c.args.state.now) c.values.ensures
           _ _ _ (length c.loop-variable.yielded) c.in-Some.variable.now c.in-Some.value.now turn.0 (turn.2 _) turn.1 (turn.3 _)
-          c.in_ok-push_variable_line.ensures.ok c.loop-variable.invariant.so_far);
-      kept = more _ c.loop-variable.invariant.kept c.in_ok-push_variable_line.ensures.ok;
+          c.in_ok-push_line.ensures.ok c.loop-variable.invariant.so_far);
+      kept = more _ c.loop-variable.invariant.kept c.in_ok-push_line.ensures.ok;
     }
 
-pub returns-in_err-push_variable_line-clause-left : goal.returns-in_err-push_variable_line-clause-left
-returns-in_err-push_variable_line-clause-left c =
-    left c.from_residual.result (some_more c.loop-variable.invariant.kept c.in_err-push_variable_line.ensures.left)
+pub returns-in_err-push_line-clause-left : goal.returns-in_err-push_line-clause-left
+returns-in_err-push_line-clause-left c =
+    left c.from_residual.result (some_more c.loop-variable.invariant.kept c.in_err-push_line.ensures.left)
 
 pub returns-clause-ok : goal.returns-clause-ok
 returns-clause-ok c =
@@ -37,5 +37,5 @@ returns-clause-ok c =
     (ap (λ z. iter_rest (zip_first z)) c.into_iter-variable-iterator.ensures.into_iter_gives ∙ ap iter_rest c.zip-variable-items.ensures.first ∙ c.iter.ensures.rest ∙ c.deref.ensures.value)
     (ap (λ z. iter_rest (zip_second z)) c.into_iter-variable-iterator.ensures.into_iter_gives ∙ c.zip-variable-items.ensures.second.0)
     c.loop-variable.yielded_by c.in-None.is c.next.ensures.steps in
-    state_end (table_of c.args.program.now.types) c.args.program.now.variables.items c.values.result.now (state_of c.args.state.now) c.values.ensures
+    state_end c.args.mark.now (table_of c.args.program.now.types) c.args.program.now.variables.items c.values.result.now (state_of c.args.state.now) c.values.ensures
     _ _ (length c.loop-variable.yielded) end c.loop-variable.invariant.so_far
