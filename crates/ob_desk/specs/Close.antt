@@ -46,11 +46,13 @@ pub record AreSeats {Code : Type 0} (d : Desk Code) (seats : List Seat) : Type 0
 module _ {E Run Code : Type 0} (code : E → Code) where
   -- ---- the floor
 
-  -- K5 is that this fails: number of processes, code, opening words and scripts are the desk's
+  -- K5 is that this fails: number of processes, code, opening words, whether their values were carried over, and scripts are the
+  -- desk's
   pub record IsOf (d : Desk Code) (f : Floor E Run) : Type 0 where
     pub processes : f.machine.sizes.processes ≡ d.processes
     pub code_is : code f.machine.engine ≡ d.code
     pub opening : f.machine.opening ≡ d.opening
+    pub carried : f.carried ≡ d.carried
     pub scripts : f.scripts ≡ d.scripts
 
 -- ---- seats and floor

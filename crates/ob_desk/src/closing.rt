@@ -22,6 +22,7 @@ pub fn settle<E: CodedEngine>(
 ) -> Result<Machine<E>, CloseFault>
     ensures is { IfOk result (λ m. m ≡ floor.machine) }
     ensures machine { IfOk result (IsClosed E.code E.meaning E.lawful E.fits E.ready (desk_in E.code terms.now)) }
+    ensures floor { OnOk result (IsOf E.code (desk_in E.code terms.now) floor) }
     ensures seats { OnOk result (AreSeats (desk_in E.code terms.now) seats.now) }
     ensures agree { IfOk result (λ m. All (Agrees m.state.records.history m.state.records.schedule) seats.now) }
     ensures fault { IfErr result (IsCloseFault E.code (desk_in E.code terms.now) floor seats.now) }
@@ -54,6 +55,9 @@ fn is_of<E: CodedEngine>(terms: &Terms<E>, floor: &Floor<E>) -> bool
         return false;
     }
     if !same_words(machine.opening(), terms.opening()) {
+        return false;
+    }
+    if floor.carried() != terms.carried() {
         return false;
     }
     same_submissions(floor.scripts(), terms.scripts())

@@ -1,14 +1,13 @@
 //! The lock round a floor, and what is known beside it.
 
-ghost use Rattle.std.specs.Prelude.{◌≡◌, ◌-◌, ◌<◌, ◌≤◌, All, IfErr, IfOk, OnOk, map};
-ghost use Rattle.ob_desk.specs.Desk.{desk_in, seats_of};
-ghost use Rattle.ob_desk_floor.specs.Submission.{submission_of};
+ghost use Rattle.std.specs.Prelude.{◌≡◌, ◌-◌, ◌<◌, ◌≤◌, All, IfErr, IfOk, OnOk};
+ghost use Rattle.ob_desk.specs.Desk.{desk_in, seats_of, terms_of};
 ghost use Rattle.ob_interface.specs.View.{call_of};
 
 use crate::closing::settle;
 use crate::fault::CloseFault;
 use crate::terms::Terms;
-use ob_desk_floor::{Floor, Seat, Submission, TakeTurn};
+use ob_desk_floor::{Floor, Opening, Seat, Submission, TakeTurn};
 use ob_interface::{MOST_PROCESSES, NoMemory};
 use std::alloc::{AllocError, Global};
 use std::hint::spin_loop;
@@ -50,25 +49,25 @@ impl<E: CodedEngine> Desk<E> {
         alloc: Global,
         engine: E,
         processes: usize,
-        opening: Vec<i64>,
+        opening: Opening,
         scripts: Vec<Submission>,
         tag: u64,
     ) -> Result<(Desk<E>, Vec<Seat>), NoMemory>
         requires some { 0 < processes }
         requires few { processes ≤ MOST_PROCESSES }
-        requires opening { E.lawful engine opening.items }
+        requires opening { E.lawful engine opening.words.items }
         requires callers { All (λ c. c.process < processes) scripts.items }
         requires fits { All (λ c. E.fits engine (call_of c.call)) scripts.items }
-        ensures desk { IfOk result (λ r. r.0 ≡ record { engine = engine; processes = processes; opening = opening.items; scripts = map submission_of scripts.items; tag = tag }) }
+        ensures desk { IfOk result (λ r. r.0 ≡ terms_of engine processes opening scripts.items tag) }
         ensures seats { IfOk result (λ r. r.1.items ≡ seats_of processes tag) }
     {
         let seats = seats(alloc, processes, tag)?;
         let own = engine.copy(alloc)?;
         let scripts = Arc::new(alloc, scripts)?;
         let kept = Arc::try_clone(&scripts)?;
-        let terms = Terms::sharing(engine, processes, opening, kept, tag);
-        let floor = Floor::sharing(alloc, own, processes, terms.opening(), scripts)?;
+        let floor = Floor::sharing(alloc, own, processes, &opening, scripts)?;
         let floor = Mutex::new(floor);
+        let terms = Terms::sharing(engine, processes, opening, kept, tag);
         Ok((Desk { floor, terms }, seats))
     }
 

@@ -1,36 +1,35 @@
 //! What a desk keeps beside its lock.
 
 ghost use Rattle.std.specs.Prelude.{◌≡◌, IfOk, map};
+ghost use Rattle.ob_desk.specs.Desk.{terms_of};
 ghost use Rattle.ob_desk_floor.specs.Submission.{submission_of};
 
-use ob_desk_floor::Submission;
 use ob_desk_floor::submission::copied_submissions;
+use ob_desk_floor::{Opening, Submission};
 use ob_interface::NoMemory;
 use std::alloc::Global;
 use std::marker::Model;
 use std::sync::Arc;
 use wf_coded::CodedEngine;
 
-/// An engine, the number of processes, the words with which their object begins, the calls that were submitted before any
-/// turn, and the tag of the seats.
+/// An engine, the number of processes, the words with which their object begins, whether their values were carried over, the
+/// calls that were submitted before any turn, and the tag of the seats.
 #[derive(Drop)]
 pub struct Terms<E: CodedEngine> {
     engine: E,
     processes: usize,
-    opening: Vec<i64>,
+    opening: Opening,
     scripts: Arc<Vec<Submission>, Global>,
     tag: u64,
 }
 
 impl<E: CodedEngine> Model for Terms<E> {
     ghost use Rattle.std.specs.Arc.{arc_value};
-    ghost use Rattle.std.specs.Prelude.{map};
     ghost use Rattle.ob_desk.specs.Desk as desk;
-    ghost use Rattle.ob_desk_floor.specs.Submission.{submission_of};
 
     ghost Value = { desk.Terms E };
 
-    ghost view = { λ t. record { engine = t.engine; processes = t.processes; opening = t.opening.items; scripts = map submission_of (arc_value t.scripts).items; tag = t.tag } };
+    ghost view = { λ t. desk.terms_of t.engine t.processes t.opening (arc_value t.scripts).items t.tag };
 }
 
 impl<E: CodedEngine> Terms<E> {
@@ -41,11 +40,11 @@ impl<E: CodedEngine> Terms<E> {
         alloc: Global,
         engine: E,
         processes: usize,
-        opening: Vec<i64>,
+        opening: Opening,
         scripts: &[Submission],
         tag: u64,
     ) -> Result<Terms<E>, NoMemory>
-        ensures { IfOk result (λ t. t ≡ record { engine = engine; processes = processes; opening = opening.items; scripts = map submission_of scripts.now; tag = tag }) }
+        ensures { IfOk result (λ t. t ≡ terms_of engine processes opening scripts.now tag) }
     {
         let scripts = Arc::new(alloc, copied_submissions(alloc, scripts)?)?;
         Ok(Terms::sharing(engine, processes, opening, scripts, tag))
@@ -55,11 +54,11 @@ impl<E: CodedEngine> Terms<E> {
     pub fn sharing(
         engine: E,
         processes: usize,
-        opening: Vec<i64>,
+        opening: Opening,
         scripts: Arc<Vec<Submission>, Global>,
         tag: u64,
     ) -> Terms<E>
-        ensures { result ≡ record { engine = engine; processes = processes; opening = opening.items; scripts = map submission_of (arc_value scripts).items; tag = tag } }
+        ensures { result ≡ terms_of engine processes opening (arc_value scripts).items tag }
     {
         Terms {
             engine,
@@ -81,7 +80,14 @@ impl<E: CodedEngine> Terms<E> {
     pub fn opening(&self) -> &[i64]
         ensures { result.now ≡ self.now.opening }
     {
-        self.opening.as_slice()
+        self.opening.words.as_slice()
+    }
+
+    /// Whether the values with which the object begins were carried over.
+    pub fn carried(&self) -> bool
+        ensures { result ≡ self.now.carried }
+    {
+        self.opening.carried
     }
 
     /// How many processes there are.

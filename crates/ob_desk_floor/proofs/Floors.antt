@@ -47,10 +47,10 @@ module _ {E Run : Type 0} (m : Meaning Run) (lawful : List ℤ → Type 0) (fits
   count_fits f p below h turns few = rw (h.counts p below) (few_turns f.machine.sizes.processes f.machine.state.records.schedule p turns few)
 
   -- all calls submitted, and no step yet
-  pub floor_begun : (o : Object E Run) (n : ℕ) (opening : List ℤ) (cs : List Submission) (counts : List ℕ) (start : State Run) → 0 < n → n ≤ 16 → lawful opening → All (λ c. fits (call_of c.call)) cs →
+  pub floor_begun : (o : Object E Run) (carried : Bool) (n : ℕ) (opening : List ℤ) (cs : List Submission) (counts : List ℕ) (start : State Run) → 0 < n → n ≤ 16 → lawful opening → All (λ c. fits (call_of c.call)) cs →
       o.sizes ≡ sizes_of m n → o.opening ≡ opening → IsStart ready (sizes_of m n) opening start → o.state ≡ run m (sizes_of m n) (submissions (map submission_of cs)) start → counts ≡ replicate n 0 →
-      IsFloor m lawful fits ready (record { machine = o; scripts = map submission_of cs; counts = counts }) × HasNoTurns {E = E} {Run = Run} (record { machine = o; scripts = map submission_of cs; counts = counts })
-  floor_begun o n opening cs counts start some few opens fit sizes opened begins leads zeros =
+      IsFloor m lawful fits ready (record { machine = o; carried = carried; scripts = map submission_of cs; counts = counts }) × HasNoTurns {E = E} {Run = Run} (record { machine = o; carried = carried; scripts = map submission_of cs; counts = counts })
+  floor_begun o carried n opening cs counts start some few opens fit sizes opened begins leads zeros =
       let scripts = map submission_of cs in
       let same : o.sizes.processes ≡ n = ap (λ (z : Sizes). z.processes) sizes in
       let none : o.state.records.schedule ≡ [] = ap (λ (s : State Run). s.records.schedule) leads ∙ ap (λ (r : _). r.schedule) (submitted_records m (sizes_of m n) scripts start ∙ begins.records) in
@@ -74,14 +74,14 @@ module _ {E Run : Type 0} (m : Meaning Run) (lawful : List ℤ → Type 0) (fits
 
 module _ {E Run : Type 0} (meaning : E → Meaning Run) (lawful : E → List ℤ → Type 0) (fits : E → ObjectCall → Type 0) (ready : E → Run → Type 0) where
   -- the machine of an engine, with all calls submitted
-  pub floor_opened : (engine : E) (n : ℕ) (opening : List ℤ) (cs given : List Submission) (a b : Object E Run) (counts : List ℕ) → 0 < n → n ≤ 16 → lawful engine opening → All (λ c. fits engine (call_of c.call)) cs →
+  pub floor_opened : (engine : E) (n : ℕ) (opening : List ℤ) (carried : Bool) (cs given : List Submission) (a b : Object E Run) (counts : List ℕ) → 0 < n → n ≤ 16 → lawful engine opening → All (λ c. fits engine (call_of c.call)) cs →
       a.engine ≡ engine → a.sizes ≡ sizes_of (meaning engine) n → a.opening ≡ opening → IsStart (ready engine) (sizes_of (meaning engine) n) opening a.state →
       b ≡ with_submissions (meaning a.engine) (map submission_of given) a → given ≡ cs → counts ≡ replicate n 0 →
-      IsFloor (meaning engine) (lawful engine) (fits engine) (ready engine) (record { machine = b; scripts = map submission_of cs; counts = counts }) × HasNoTurns {E = E} {Run = Run} (record { machine = b; scripts = map submission_of cs; counts = counts })
-  floor_opened engine n opening cs given a b counts some few opens fit engine_is sizes_are opening_is begins done given_are zeros =
+      IsFloor (meaning engine) (lawful engine) (fits engine) (ready engine) (record { machine = b; carried = carried; scripts = map submission_of cs; counts = counts }) × HasNoTurns {E = E} {Run = Run} (record { machine = b; carried = carried; scripts = map submission_of cs; counts = counts })
+  floor_opened engine n opening carried cs given a b counts some few opens fit engine_is sizes_are opening_is begins done given_are zeros =
       let led : b.state ≡ run (meaning engine) (sizes_of (meaning engine) n) (submissions (map submission_of cs)) a.state =
       ap (λ (o : Object E Run). o.state) done
       ∙ ap (λ (xs : List Submission). run (meaning a.engine) a.sizes (submissions (map submission_of xs)) a.state) given_are
       ∙ ap (λ (x : E). run (meaning x) a.sizes (submissions (map submission_of cs)) a.state) engine_is
       ∙ ap (λ (z : Sizes). run (meaning engine) z (submissions (map submission_of cs)) a.state) sizes_are in
-      floor_begun (meaning engine) (lawful engine) (fits engine) (ready engine) b n opening cs counts a.state some few opens fit (ap (λ (o : Object E Run). o.sizes) done ∙ sizes_are) (ap (λ (o : Object E Run). o.opening) done ∙ opening_is) begins led zeros
+      floor_begun (meaning engine) (lawful engine) (fits engine) (ready engine) b carried n opening cs counts a.state some few opens fit (ap (λ (o : Object E Run). o.sizes) done ∙ sizes_are) (ap (λ (o : Object E Run). o.opening) done ∙ opening_is) begins led zeros

@@ -1,5 +1,5 @@
 -- A floor: a machine that the run of its submissions and of its own schedule leads to, with the turns of each process.
-use Rattle.std.specs.Prelude.{◌≡◌, ℕ, ◌+◌, ◌<◌, ℤ, List, [], count_by, length, map, nat_eq, replicate, slice_index, slice_set}
+use Rattle.std.specs.Prelude.{◌≡◌, ℕ, ◌+◌, ◌<◌, ℤ, Bool, List, [], count_by, length, map, nat_eq, replicate, slice_index, slice_set}
 use Rattle.ob_desk_floor.specs.Submission.{submission_of}
 use Rattle.ob_desk_floor.specs.declared.submission.Submission.{Submission}
 use Rattle.ob_interface.specs.Call.{ObjectCall}
@@ -16,15 +16,17 @@ use Rattle.wf_table.specs.declared.schedule.Turns.{Turns}
 abbrev pub turns_in : ℕ → List Turns → ℕ
 turns_in p schedule = count_by (λ q. nat_eq q p) (steps_of schedule)
 
--- the machine, the calls that were submitted before any turn, each with its process, and each process's number of turns
+-- the machine, whether the values with which it began were carried over, the calls that were submitted before any turn, each with
+-- its process, and each process's number of turns
 pub record Floor (E Run : Type 0) : Type 0 where
   pub machine : Object E Run
+  pub carried : Bool
   pub scripts : List (ℕ × ObjectCall)
   pub counts : List ℕ
 
--- the machine with the calls and numbers that are kept beside it
-abbrev pub floor_view : {E Run : Type 0} → Object E Run → List Submission → (counts : List ℕ) → Floor E Run
-floor_view machine scripts counts = record { machine = machine; scripts = map submission_of scripts; counts = counts }
+-- the machine with what is kept beside it
+abbrev pub floor_view : {E Run : Type 0} → Object E Run → Bool → List Submission → (counts : List ℕ) → Floor E Run
+floor_view machine carried scripts counts = record { machine = machine; carried = carried; scripts = map submission_of scripts; counts = counts }
 
 -- from the machine's opening all calls of the scripts are submitted, and then the processes of its own schedule step: this leads
 -- to where it stands; and each process has taken as many turns as it stands in the schedule
@@ -56,6 +58,7 @@ machine_after m o p = record o { state = step_of m o.sizes o.state p; spent = sp
 abbrev pub floor_after : {E Run : Type 0} → Meaning Run → Floor E Run → ℕ → Floor E Run
 floor_after m f p = record {
   machine = machine_after m f.machine p;
+  carried = f.carried;
   scripts = f.scripts;
   counts = slice_set f.counts p (slice_index f.counts p + 1);
 }

@@ -5,6 +5,7 @@ ghost use Rattle.ob_desk_floor.specs.Floor.{with_submissions};
 ghost use Rattle.ob_desk_floor.specs.Submission.{submission_of};
 ghost use Rattle.ob_interface.specs.View.{call_of};
 
+use crate::opening::Opening;
 use crate::seat::Seat;
 use crate::submission::{Submission, copied_call};
 use ob_interface::NoMemory;
@@ -14,10 +15,12 @@ use std::sync::Arc;
 use wf_object::{Engine, Machine, NewFault, Seen, StepOut, Turns};
 use wf_theorems::runs::every_turn;
 
-/// A machine, the calls that were submitted to it before any step, and the turns that each process took.
+/// A machine, whether the values with which it began were carried over, the calls that were submitted to it before any step,
+/// and the turns that each process took.
 #[derive(Drop)]
 pub struct Floor<E: Engine> {
     machine: Machine<E>,
+    carried: bool,
     scripts: Arc<Vec<Submission>, Global>,
     counts: Vec<u128>,
 }
@@ -28,9 +31,9 @@ impl<E: Engine> Model for Floor<E> {
 
     ghost Value = { floor.Floor E E.Run };
 
-    ghost view = { λ f. floor.floor_view f.machine (arc_value f.scripts).items f.counts.items };
+    ghost view = { λ f. floor.floor_view f.machine f.carried (arc_value f.scripts).items f.counts.items };
 
-    ghost invariant = { λ f. floor.IsFloorOver E.meaning E.lawful E.fits E.ready (floor.floor_view f.machine (arc_value f.scripts).items f.counts.items) };
+    ghost invariant = { λ f. floor.IsFloorOver E.meaning E.lawful E.fits E.ready (floor.floor_view f.machine f.carried (arc_value f.scripts).items f.counts.items) };
 }
 
 impl<E: Engine> Floor<E> {
@@ -47,17 +50,18 @@ impl<E: Engine> Floor<E> {
         alloc: Global,
         engine: E,
         n: usize,
-        opening: &[i64],
+        opening: &Opening,
         scripts: Vec<Submission>,
     ) -> Result<Floor<E>, NoMemory>
         requires some { 0 < n }
         requires few { n ≤ 16 }
-        requires opening { E.lawful engine opening.now }
+        requires opening { E.lawful engine opening.now.words.items }
         requires callers { All (λ c. c.process < n) scripts.items }
         requires fits { All (λ c. E.fits engine (call_of c.call)) scripts.items }
         ensures engine { IfOk result (λ f. f.machine.engine ≡ engine) }
         ensures sizes { IfOk result (λ f. f.machine.sizes ≡ sizes_of (E.meaning engine) n) }
-        ensures opening { IfOk result (λ f. f.machine.opening ≡ opening.now) }
+        ensures opening { IfOk result (λ f. f.machine.opening ≡ opening.now.words.items) }
+        ensures carried { IfOk result (λ f. f.carried ≡ opening.now.carried) }
         ensures scripts { IfOk result (λ f. f.scripts ≡ map submission_of scripts.items) }
         ensures no_turns { IfOk result HasNoTurns }
         ensures floor { IfOk result (IsFloor (E.meaning engine) (E.lawful engine) (E.fits engine) (E.ready engine)) }
@@ -70,22 +74,23 @@ impl<E: Engine> Floor<E> {
         alloc: Global,
         engine: E,
         n: usize,
-        opening: &[i64],
+        opening: &Opening,
         scripts: Arc<Vec<Submission>, Global>,
     ) -> Result<Floor<E>, NoMemory>
         requires some { 0 < n }
         requires few { n ≤ 16 }
-        requires opening { E.lawful engine opening.now }
+        requires opening { E.lawful engine opening.now.words.items }
         requires callers { All (λ c. c.process < n) (arc_value scripts).items }
         requires fits { All (λ c. E.fits engine (call_of c.call)) (arc_value scripts).items }
         ensures engine { IfOk result (λ f. f.machine.engine ≡ engine) }
         ensures sizes { IfOk result (λ f. f.machine.sizes ≡ sizes_of (E.meaning engine) n) }
-        ensures opening { IfOk result (λ f. f.machine.opening ≡ opening.now) }
+        ensures opening { IfOk result (λ f. f.machine.opening ≡ opening.now.words.items) }
+        ensures carried { IfOk result (λ f. f.carried ≡ opening.now.carried) }
         ensures scripts { IfOk result (λ f. f.scripts ≡ map submission_of (arc_value scripts).items) }
         ensures no_turns { IfOk result HasNoTurns }
         ensures floor { IfOk result (IsFloor (E.meaning engine) (E.lawful engine) (E.fits engine) (E.ready engine)) }
     {
-        let mut machine = match Machine::new(alloc, engine, n, opening) {
+        let mut machine = match Machine::new(alloc, engine, n, opening.words.as_slice()) {
             Ok(machine) => machine,
             Err(NewFault::NoMemory) => return Err(NoMemory),
             Err(NewFault::Processes) => unreachable!(),
@@ -94,6 +99,7 @@ impl<E: Engine> Floor<E> {
         let counts = vec![in alloc; 0; n]?;
         Ok(Floor {
             machine,
+            carried: opening.carried,
             scripts,
             counts,
         })
@@ -148,6 +154,13 @@ impl<E: Engine> Floor<E> {
         &self.machine
     }
 
+    /// Whether the values with which the machine began were carried over.
+    pub fn carried(&self) -> bool
+        ensures { result ≡ self.now.carried }
+    {
+        self.carried
+    }
+
     /// The calls that were submitted before any turn.
     pub fn scripts(&self) -> &[Submission]
         ensures { map submission_of result.now ≡ self.now.scripts }
@@ -176,6 +189,7 @@ impl<E: Engine> Floor<E> {
     {
         let Floor {
             machine,
+            carried: _,
             scripts: _,
             counts: _,
         } = self;

@@ -4,12 +4,14 @@
 
 pub mod agreeing;
 pub mod floor;
+pub mod opening;
 pub mod seat;
 pub mod submission;
 pub mod taking;
 
 pub use agreeing::are_shown;
 pub use floor::Floor;
+pub use opening::Opening;
 pub use seat::{CallAnswer, GivenReply, Seat};
 pub use submission::Submission;
 pub use taking::TakeTurn;

@@ -1,6 +1,5 @@
-use Rattle.std.proofs.Common.{All, Global, List, Vec, ap, subst, sym, ◌∙◌}
-use Rattle.std.specs.Prelude.{ℤ, slice_index_or}
-use Rattle.ob_desk.specs.Desk.{Terms}
+use Rattle.std.proofs.Common.{All, Global, Vec, subst, sym}
+use Rattle.std.specs.Prelude.{slice_index_or}
 use Rattle.ob_desk_floor.specs.declared.submission.Submission.{Submission}
 use Rattle.ob_interface.specs.View.{call_of}
 use Rattle.ob_desk.proofs.desk.Desk.open.Goals as goal
@@ -8,7 +7,7 @@ use Rattle.ob_desk.proofs.desk.Desk.open.Goals as goal
 pub sharing-requires-clause-opening : goal.sharing-requires-clause-opening
 sharing-requires-clause-opening g c =
     let same = g.met.E.CodedEngine.same c.args.engine c.in_ok-own.own (sym c.in_ok-own.ensures) in
-    subst (λ (words : List ℤ). g.E.Engine.lawful c.in_ok-own.own words) (sym (c.opening.ensures ∙ ap (λ (t : Terms _). t.opening) c.sharing-terms.ensures)) (same.lawful_too c.args.opening.items c.requires.opening)
+    same.lawful_too c.args.opening.words.items c.requires.opening
 
 pub sharing-requires-clause-fits : goal.sharing-requires-clause-fits
 sharing-requires-clause-fits g c =

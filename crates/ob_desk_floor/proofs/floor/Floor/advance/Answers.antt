@@ -18,7 +18,7 @@ pub overflow_add-index_mut : goal.overflow_add-index_mut
 overflow_add-index_mut g c =
     let i = g.E.Engine in
     let o = c.self.inside.machine in
-    let f : Floor _ _ = record { machine = o; scripts = map submission_of (arc_value c.self.inside.scripts).items; counts = c.self.inside.counts.items } in
+    let f : Floor _ _ = record { machine = o; carried = c.self.inside.carried; scripts = map submission_of (arc_value c.self.inside.scripts).items; counts = c.self.inside.counts.items } in
     let p = c.process-process.result in
     let below : p < o.sizes.processes = rw (← c.self.view_is, ← c.process-process.ensures) at c.requires.process in
     let few : length o.state.records.schedule < 2 ^ 64 = rw c.schedule.ensures at c.count_runs.ensures in
@@ -29,7 +29,7 @@ pub invariant_of-self-2 : goal.invariant_of-self-2
 invariant_of-self-2 g c =
     let i = g.E.Engine in
     let o = c.self.inside.machine in
-    let f : Floor _ _ = record { machine = o; scripts = map submission_of (arc_value c.self.inside.scripts).items; counts = c.self.inside.counts.items } in
+    let f : Floor _ _ = record { machine = o; carried = c.self.inside.carried; scripts = map submission_of (arc_value c.self.inside.scripts).items; counts = c.self.inside.counts.items } in
     let p = c.process-process.result in
     let m = i.meaning o.engine in
     let below : p < o.sizes.processes = rw (← c.self.view_is, ← c.process-process.ensures) at c.requires.process in
