@@ -40,6 +40,9 @@ built_flag name = record (flag_rule name) {
   range = Some (record { start_inclusive = 0; end_inclusive = 0 });
 }
 
+abbrev pub built_from : Rule
+built_from = record (built_one (codes "FROM") None None parser.String) { long = Some (codes "from"); value_names = 1; required = false }
+
 abbrev pub built_record : Rule
 built_record = record (built_one (codes "RECORD") None None parser.String) { long = Some (codes "record"); required = false }
 
@@ -56,11 +59,11 @@ built_help = record help_rule {
 abbrev pub needed : Bool → Rule → Rule
 needed t a = record a { required = t }
 
--- `MODULE SCRIPT SCHEDULE -n N -b BUDGET`, and more
+-- `MODULE SCRIPT SCHEDULE -n N -b BUDGET --from RECORD`, and more
 abbrev pub run_rules : (script schedule number : Bool) → List Rule → List Rule
 run_rules script schedule number more =
     built_name 1 (codes "MODULE") ∷ needed script (built_name 2 (codes "SCRIPT")) ∷ needed schedule (built_name 3 (codes "SCHEDULE"))
-    ∷ needed number built_number ∷ built_budget ∷ more
+    ∷ needed number built_number ∷ built_budget ∷ built_from ∷ more
 
 -- ---- the commands
 
@@ -71,13 +74,13 @@ abbrev pub module_leaf : Text → Shape
 module_leaf command = leaf command (built_name 1 (codes "MODULE") ∷ built_help ∷ [])
 
 abbrev pub seq_leaf : Shape
-seq_leaf = leaf (codes "seq") (built_name 1 (codes "MODULE") ∷ built_name 2 (codes "SCRIPT") ∷ built_budget ∷ built_help ∷ [])
+seq_leaf = leaf (codes "seq") (built_name 1 (codes "MODULE") ∷ built_name 2 (codes "SCRIPT") ∷ built_budget ∷ built_from ∷ built_help ∷ [])
 
 abbrev pub run_leaf : Shape
 run_leaf = leaf (codes "run") (run_rules true true true (built_flag (codes "tree") ∷ built_flag (codes "steps") ∷ built_help ∷ []))
 
 abbrev pub serve_leaf : Shape
-serve_leaf = leaf (codes "serve") (built_name 1 (codes "MODULE") ∷ built_name 2 (codes "SCRIPT") ∷ built_number ∷ built_budget ∷ built_help ∷ [])
+serve_leaf = leaf (codes "serve") (built_name 1 (codes "MODULE") ∷ built_name 2 (codes "SCRIPT") ∷ built_number ∷ built_budget ∷ built_from ∷ built_help ∷ [])
 
 abbrev pub draw_leaf : Shape
 draw_leaf = leaf (codes "draw") (run_rules true false false (built_calls ∷ built_help ∷ []))
@@ -113,23 +116,6 @@ row id value rule = record { id = id; values = value ∷ []; count = None; sourc
 abbrev pub name_row : Text → Text → Row
 name_row id name = row id name (built_name 1 id)
 
-abbrev pub number_row : Text → Row
-number_row n = row (codes "N") n built_number
-
-abbrev pub budget_row : Text → Row
-budget_row b = row (codes "BUDGET") b built_budget
-
-abbrev pub calls_row : Text → Row
-calls_row c = row (codes "FROM-TO") c built_calls
-
--- the row of a word that stands there, and of one that doesn't
-abbrev pub flag_row : Text → Row
-flag_row name = row name (codes "true") (built_flag name)
-
+-- the row of a word that does not stand there
 abbrev pub no_flag_row : Text → Row
 no_flag_row name = record (row name (codes "false") (built_flag name)) { source = Some DefaultValue }
-
--- the word that stands before a budget
-abbrev pub budget_flag : (short : Bool) → Text
-budget_flag true = codes "-b"
-budget_flag false = codes "--budget"

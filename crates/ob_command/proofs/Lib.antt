@@ -4,11 +4,12 @@ pub mod CallPlaces
 pub mod PlainWords
 pub mod WalkedWords
 pub mod BuiltLine
-pub mod Asked
-pub mod NameForms
-pub mod RunForms
-pub mod ExplainForms
+pub mod AskedWords
+pub mod ChosenWords
+pub mod OptionRows
+pub mod CommandForms
+pub mod FormsAsked
 pub mod HelpForms
-pub mod Given
+pub mod FilledRows
 pub mod Required
 pub mod Readings

@@ -21,7 +21,7 @@ pub no_dashes : (word : Text) → is_option word ≡ false → bytes_eq word (co
 no_dashes word h = not_this (codes "--") word refl h
 
 -- behind a name it asks for no version
-no_version : (name word : Text) → is_option word ≡ false → asks_version (name ∷ word ∷ []) ≡ false
+pub no_version : (name word : Text) → is_option word ≡ false → asks_version (name ∷ word ∷ []) ≡ false
 no_version name word h =
     let long = not_this (codes "--version") word refl h in
     let short = not_this (codes "-V") word refl h in

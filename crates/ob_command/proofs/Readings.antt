@@ -1,5 +1,5 @@
 -- From what clap answers to a request.
-use Rattle.std.proofs.Common.{◌≡◌, ◌≢◌, ◌∙◌, ◌⊎◌, ◌||◌, ◌&&◌, ℕ, refl, sym, ap, ap₂, subst, List, [], ◌∷◌, true, false, not, Bool, if◌then◌else◌, Option, Some, None, Err, IsSome, Box, box_value, option_map, option_and_then, is_some, codes, inl, inr}
+use Rattle.std.proofs.Common.{◌≡◌, ◌≢◌, ◌∙◌, ◌⊎◌, ◌&&◌, refl, sym, ap, ap₂, subst, List, [], ◌∷◌, true, false, not, Bool, Option, Some, None, Err, IsSome, Box, box_value, option_map, option_and_then, is_some, codes, inl, inr}
 use Rattle.clap.specs.Words.{App, Row, Text, rows_of, subcommand_rows_of, IsAmong, HasKind, HasMatchesOf, Kinds, fault_of, is_simple, is_simple_and_free, kind_of, subcommand_of}
 use Rattle.clap.specs.declared.error.Error.{Error}
 use Rattle.clap.specs.declared.error.kind.ErrorKind.{ErrorKind}
@@ -10,19 +10,15 @@ use Rattle.clap.specs.declared.parser.matches.SubCommand.{SubCommand}
 use Rattle.clap.specs.Matches.{subcommand_name_of}
 use Rattle.clap.specs.Simple.{subcommand_rows}
 use Rattle.std.specs.Prelude.{unwrap_or}
-use Rattle.std.specs.Option.{option_map_or}
-use Rattle.std.specs.Str.{bytes_eq}
 use Rattle.clap.specs.Simple.{built}
 use Rattle.clap.specs.Walk.{nothing_held}
 use Rattle.clap.proofs.OnLiterals.{clap_on_literals}
 use Rattle.ob_command_line.specs.ClapCommand.{obl0_app}
 use Rattle.std.specs.Borrow.{Bor}
-use Rattle.clap.specs.Words.{first_of, first_value, one_of}
+use Rattle.clap.specs.Words.{first_of, first_value}
 use Rattle.clap.specs.declared.parser.matches.Found.{Found}
 use Rattle.clap.proofs.WalkLemmas.{first_value-rows}
-use Rattle.ob_command.specs.CommandLine.{Request, Bound, Check, Draw, DrawRecord, Explain, ExplainRecord, ExplainRun, ExplainTraps, Help, Listing, RunRequest, Seq, Serve, Unclear, Verify, bound_of, budget_number, budget_of, calls_by, calls_of, clap_request, command_of, default_budget, draw_mistake, draw_mistake_of, draw_of, draw_record_of, drawn_of, explain_by, explain_calls_of, explain_of, explain_record_of, explain_texts_of, explain_traps_of, form_mistake, form_mistake_of, has_negative, is_set, loose_number, made_by, made_of, processes_of, range_mistake, request_by, run_of, seq_of, serve_of, traps_of}
-use Rattle.ob_command.specs.declared.command.CallNumbers.{CallNumbers}
-use Rattle.ob_command.specs.PlainForms.{run_with}
+use Rattle.ob_command.specs.CommandLine.{Request, Help, Unclear, asked, clap_request, command_of, form_mistake, form_mistake_of, given_of, has_negative, loose_number, request_by}
 use Rattle.ob_command.specs.Commands.{IsMistake, IsReading, IsStopOf, is_loose, is_of_number, is_unknown}
 use Rattle.std.specs.List.{list_all}
 use Rattle.ob_command.specs.declared.command.Stop.{Stop}
@@ -120,157 +116,15 @@ pub first_row : (f : Found) (id : Text) (o : Option (Bor Text)) (v : Option Text
     → option_map (λ s. s.now) o ≡ v → first_of id (rows_of f) ≡ v
 first_row f id o v e h = sym (first_value-rows f id) ∙ (sym e ∙ h)
 
-some_mapped : {A B : Type 0} (g : A → B) (o : Option A) → is_some o ≡ is_some (option_map g o)
-some_mapped g None = refl
-some_mapped g (Some x) = refl
-
--- whether an argument has a row
-pub given_by : (f : Found) (id : Text) (o : Option (Bor Text)) (given : Bool) → option_map (λ s. s.now) o ≡ first_value f id → given ≡ is_some o
-    → given ≡ is_some (first_of id (rows_of f))
-given_by f id o given e is = is ∙ (some_mapped (λ s. s.now) o ∙ ap is_some (e ∙ first_value-rows f id))
+-- what an argument's text is
+pub text_is : (f : Found) (id : Text) (o : Option (Bor Text)) → option_map (λ s. s.now) o ≡ first_value f id → option_map (λ s. s.now) o ≡ first_of id (rows_of f)
+text_is f id o e = e ∙ first_value-rows f id
 
 pub no_module : (name : Text) (rows : List Row) → first_of (codes "MODULE") rows ≡ None → command_of name rows ≡ None
-no_module name rows h = rw h refl
+no_module name rows h = ap (option_and_then (λ m. asked name m (given_of rows))) h
 
-pub a_check : (name m : Text) (rows : List Row) → name ≡ codes "check" → first_of (codes "MODULE") rows ≡ Some m → command_of name rows ≡ Some (Check m)
-a_check name m rows is h = rw (is, h) refl
-
-pub a_list : (name m : Text) (rows : List Row) → name ≡ codes "list" → first_of (codes "MODULE") rows ≡ Some m → command_of name rows ≡ Some (Listing m)
-a_list name m rows is h = rw (is, h) refl
-
-pub a_seq : (name m : Text) (rows : List Row) → name ≡ codes "seq" → first_of (codes "MODULE") rows ≡ Some m → command_of name rows ≡ seq_of m rows
-a_seq name m rows is h = rw (is, h) refl
-
-pub no_seq_script : (m : Text) (rows : List Row) → first_of (codes "SCRIPT") rows ≡ None → seq_of m rows ≡ None
-no_seq_script m rows h = rw h refl
-
-pub seq_by : (m s : Text) (rows : List Row) (b : Option ℕ) → first_of (codes "SCRIPT") rows ≡ Some s → budget_of rows ≡ b
-    → seq_of m rows ≡ option_map (Seq m s) b
-seq_by m s rows b h e = rw h (ap (option_map (Seq m s)) e)
-
-pub a_run : (name m : Text) (rows : List Row) (run : Option RunRequest) → name ≡ codes "run" → first_of (codes "MODULE") rows ≡ Some m
-    → run_of m rows ≡ run → command_of name rows ≡ option_and_then (made_of rows) run
-a_run name m rows run is h e = rw (is, h) (ap (option_and_then (made_of rows)) e)
-
--- whether a word stands there, by the text that clap keeps of it
-pub set_by : (name : Text) (rows : List Row) (text : Option Text) → first_of name rows ≡ text
-    → is_set name rows ≡ option_map_or (λ t. bytes_eq t (codes "true")) text false
-set_by name rows text is = ap (λ (o : Option Text). option_map_or (λ t. bytes_eq t (codes "true")) o false) is
-
--- the run by the words that stand there
-pub made_as : (by_tree tells : Bool) (rows : List Row) (run : RunRequest) → is_set (codes "tree") rows ≡ by_tree → is_set (codes "steps") rows ≡ tells
-    → made_of rows run ≡ made_by by_tree tells run
-made_as by_tree tells rows run is_tree is_steps = ap₂ (λ (t u : Bool). made_by t u run) is_tree is_steps
-
-pub a_serve : (name m : Text) (rows : List Row) → name ≡ codes "serve" → first_of (codes "MODULE") rows ≡ Some m → command_of name rows ≡ serve_of m rows
-a_serve name m rows is h = rw (is, h) refl
-
-pub a_draw : (name m : Text) (rows : List Row) → name ≡ codes "draw" → first_of (codes "MODULE") rows ≡ Some m → command_of name rows ≡ draw_of m rows
-a_draw name m rows is h = rw (is, h) refl
-
--- what is drawn, by whether there is a schedule, and a number or a budget
-pub drawn_if : (given : Bool) (m : Text) (rows : List Row) (calls : Option CallNumbers) → calls_of rows ≡ Some calls
-    → is_some (first_of (codes "SCHEDULE") rows) ≡ given
-    → draw_of m rows ≡ (if given then option_map (λ run. Draw run calls) (run_of m rows) else draw_record_of m rows calls)
-drawn_if given m rows calls are is =
-    ap (option_and_then (drawn_of m rows)) are
-    ∙ ap (λ (t : Bool). if t then option_map (λ run. Draw run calls) (run_of m rows) else draw_record_of m rows calls) is
-
-pub no_calls : (m : Text) (rows : List Row) → calls_of rows ≡ None → draw_of m rows ≡ None
-no_calls m rows none = ap (option_and_then (drawn_of m rows)) none
-
--- the calls by the word behind `--calls`
-pub calls_if : (rows : List Row) (text : Option Text) → first_of (codes "FROM-TO") rows ≡ text → calls_of rows ≡ calls_by text
-calls_if rows text is = ap calls_by is
-
-pub unclear_range : (rows : List Row) (text : Option Text) → calls_of rows ≡ None → first_of (codes "FROM-TO") rows ≡ text
-    → draw_mistake_of rows ≡ range_mistake text
-unclear_range rows text none is =
-    ap₂ (λ (o : Option (Option CallNumbers)) (t : Option Text). if is_some o then draw_mistake else range_mistake t) none is
-
-pub neither_given : (n b : Bool) → n ≡ false → b ≡ false → (n || b) ≡ false
-neither_given n b is_n is_b = ap₂ (λ (n b : Bool). n || b) is_n is_b
-
-pub record_if : (given : Bool) (m : Text) (rows : List Row) (calls : Option CallNumbers)
-    → (is_some (first_of (codes "N") rows) || is_some (first_of (codes "BUDGET") rows)) ≡ given
-    → draw_record_of m rows calls ≡ (if given then None else option_map (λ r. DrawRecord m r calls) (first_of (codes "SCRIPT") rows))
-record_if given m rows calls is = ap (λ (t : Bool). if t then None else option_map (λ r. DrawRecord m r calls) (first_of (codes "SCRIPT") rows)) is
-
-pub a_verify : (name m : Text) (rows : List Row) (record_name : Option Text) → name ≡ codes "verify" → first_of (codes "MODULE") rows ≡ Some m
-    → first_of (codes "RECORD") rows ≡ record_name → command_of name rows ≡ option_map (Verify m) record_name
-a_verify name m rows record_name is h r = rw (is, h, r) refl
-
-pub an_explain : (name m : Text) (rows : List Row) → name ≡ codes "explain" → first_of (codes "MODULE") rows ≡ Some m → command_of name rows ≡ explain_of m rows
-an_explain name m rows is h = rw (is, h) refl
-
--- what is shown, by whether `--traps` stands there, by what is named behind `--record`, by whether there is a schedule, and a number
-pub explained_if : (given : Bool) (m : Text) (rows : List Row) → is_set (codes "traps") rows ≡ given
-    → explain_of m rows ≡ (if given then explain_traps_of m rows else explain_by m rows (first_of (codes "RECORD") rows))
-explained_if given m rows is = ap (λ (t : Bool). if t then explain_traps_of m rows else explain_by m rows (first_of (codes "RECORD") rows)) is
-
-pub explained_by : (m : Text) (rows : List Row) (name : Option Text) → is_set (codes "traps") rows ≡ false → first_of (codes "RECORD") rows ≡ name
-    → explain_of m rows ≡ explain_by m rows name
-explained_by m rows name none is = explained_if false m rows none ∙ ap (explain_by m rows) is
-
-pub traps_if : (given : Bool) (m : Text) (rows : List Row)
-    → (is_some (first_of (codes "SCHEDULE") rows) || (is_some (first_of (codes "N") rows) || is_some (first_of (codes "RECORD") rows))) ≡ given
-    → explain_traps_of m rows ≡ (if given then None else traps_of m rows)
-traps_if given m rows is = ap (λ (t : Bool). if t then None else traps_of m rows) is
-
-pub no_traps_script : (m : Text) (rows : List Row) → first_of (codes "SCRIPT") rows ≡ None → traps_of m rows ≡ None
-no_traps_script m rows h = rw h refl
-
-pub traps_by : (m s : Text) (rows : List Row) (b : Option ℕ) → first_of (codes "SCRIPT") rows ≡ Some s → budget_of rows ≡ b
-    → traps_of m rows ≡ option_map (ExplainTraps m s) b
-traps_by m s rows b h e = rw h (ap (option_map (ExplainTraps m s)) e)
-
-pub texts_if : (given : Bool) (m : Text) (rows : List Row) → is_some (first_of (codes "SCHEDULE") rows) ≡ given
-    → explain_texts_of m rows ≡ (if given then option_map ExplainRun (run_of m rows) else explain_calls_of m rows)
-texts_if given m rows is = ap (λ (t : Bool). if t then option_map ExplainRun (run_of m rows) else explain_calls_of m rows) is
-
-pub calls_by_script : (m : Text) (rows : List Row) (script : Option Text) (b : Option ℕ) → is_some (first_of (codes "N") rows) ≡ false
-    → first_of (codes "SCRIPT") rows ≡ script → budget_of rows ≡ b → explain_calls_of m rows ≡ option_map (Explain m script) b
-calls_by_script m rows script b none s e =
-    ap (λ (t : Bool). if t then None else option_map (Explain m (first_of (codes "SCRIPT") rows)) (budget_of rows)) none
-    ∙ ap₂ (λ (o : Option Text) (p : Option ℕ). option_map (Explain m o) p) s e
-
-pub no_calls_by_number : (m : Text) (rows : List Row) → is_some (first_of (codes "N") rows) ≡ true → explain_calls_of m rows ≡ None
-no_calls_by_number m rows is = ap (λ (t : Bool). if t then None else option_map (Explain m (first_of (codes "SCRIPT") rows)) (budget_of rows)) is
-
-pub record_shown_if : (given : Bool) (m r : Text) (rows : List Row)
-    → (is_some (first_of (codes "SCRIPT") rows) || (is_some (first_of (codes "N") rows) || is_some (first_of (codes "BUDGET") rows))) ≡ given
-    → explain_record_of m r rows ≡ (if given then None else Some (ExplainRecord m r))
-record_shown_if given m r rows is = ap (λ (t : Bool). if t then None else Some (ExplainRecord m r)) is
-
-pub a_bound : (name m : Text) (rows : List Row) → name ≡ codes "bound" → first_of (codes "MODULE") rows ≡ Some m → command_of name rows ≡ bound_of m rows
-a_bound name m rows is h = rw (is, h) refl
-
-pub bound_by : (m : Text) (rows : List Row) (processes budget : Option ℕ) → processes_of rows ≡ processes → budget_of rows ≡ budget
-    → bound_of m rows ≡ option_and_then (λ k. option_map (Bound m k) budget) processes
-bound_by m rows processes budget k b = ap₂ (λ p t. option_and_then (λ k. option_map (Bound m k) t) p) k b
-
--- the budget where something stands behind `-b`, and where nothing does
-pub budget_given : (rows : List Row) (t : Text) → first_of (codes "BUDGET") rows ≡ Some t → budget_of rows ≡ option_and_then budget_number (one_of (codes "BUDGET") rows)
-budget_given rows t h = rw h refl
-
-pub no_budget_given : (rows : List Row) → first_of (codes "BUDGET") rows ≡ None → budget_of rows ≡ Some default_budget
-no_budget_given rows h = rw h refl
-
-pub no_script : (m : Text) (rows : List Row) → first_of (codes "SCRIPT") rows ≡ None → run_of m rows ≡ None
-no_script m rows h = rw h refl
-
-pub run_by : (m s : Text) (rows : List Row) (schedule_name : Option Text) (processes budget : Option ℕ) → first_of (codes "SCRIPT") rows ≡ Some s
-    → first_of (codes "SCHEDULE") rows ≡ schedule_name → processes_of rows ≡ processes → budget_of rows ≡ budget
-    → run_of m rows ≡ option_and_then (λ d. option_and_then (λ k. option_map (run_with m s d k) budget) processes) schedule_name
-run_by m s rows schedule_name processes budget h d k b =
-    rw (h, d) (ap₂ (λ p t. option_and_then (λ d. option_and_then (λ k. option_map (run_with m s d k) t) p) schedule_name) k b)
-
-pub no_serve_script : (m : Text) (rows : List Row) → first_of (codes "SCRIPT") rows ≡ None → serve_of m rows ≡ None
-no_serve_script m rows h = rw h refl
-
-pub serve_by : (m s : Text) (rows : List Row) (processes budget : Option ℕ) → first_of (codes "SCRIPT") rows ≡ Some s → processes_of rows ≡ processes
-    → budget_of rows ≡ budget → serve_of m rows ≡ option_and_then (λ k. option_map (Serve m s k) budget) processes
-serve_by m s rows processes budget h k b = rw h (ap₂ (λ p t. option_and_then (λ k. option_map (Serve m s k) t) p) k b)
+pub on_module : (name m : Text) (rows : List Row) → first_of (codes "MODULE") rows ≡ Some m → command_of name rows ≡ asked name m (given_of rows)
+on_module name m rows h = ap (option_and_then (λ m. asked name m (given_of rows))) h
 
 -- ---- the command that was met
 

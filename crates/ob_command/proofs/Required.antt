@@ -16,9 +16,9 @@ use Rattle.clap.specs.Takes.{is_given}
 use Rattle.clap.specs.declared.error.kind.ErrorKind.{ErrorKind}
 use Rattle.clap.specs.declared.error.kind.ErrorKind.TheVariants as kind
 use Rattle.ob_command_line.specs.ClapCommand.{obl0_app}
-use Rattle.ob_command.specs.CommandLine.{Request, Check, Listing, Verify, asks_command, bound_of, budget_of, command_of, form_mistake, form_mistake_of, processes_of, seq_of, serve_of}
-use Rattle.ob_command.proofs.BuiltLine.{bound_leaf, built_app, built_budget, built_help, built_name, built_number, built_one, built_top, draw_leaf, explain_leaf, module_leaf, names, needed, run_leaf, seq_leaf, serve_leaf, verify_leaf}
-use Rattle.ob_command.proofs.Given.{EachFills, Filled, Fills, given_first, given_number, level_filled, neither, some_budget, suits, with_filled, without_filled}
+use Rattle.ob_command.specs.CommandLine.{Seq, Serve, Verify, asked, asks_command, calls_of, command_of, form_mistake, form_mistake_of, given_of, processes_of, sequence_of}
+use Rattle.ob_command.proofs.BuiltLine.{bound_leaf, built_app, built_budget, built_from, built_help, built_name, built_number, built_one, built_top, draw_leaf, explain_leaf, module_leaf, names, needed, run_leaf, seq_leaf, serve_leaf, verify_leaf}
+use Rattle.ob_command.proofs.FilledRows.{EachFills, Filled, Fills, given_first, given_number, level_filled, neither, suits, with_filled, without_filled}
 use Rattle.ob_command.proofs.Numbers.{budget_accepted, number_accepted}
 
 -- no default is a row
@@ -42,6 +42,9 @@ passed false k none = absurd (no_kinds k [] none)
 -- the parser lets through only what can stand for the argument
 abbrev LetsThrough : Text → ValueParser → Type 0
 LetsThrough id p = (v : Text) → accepts false p v ≡ true → suits id (read_as (reading_of p) v) ≡ true
+
+any_text : (v : Text) → true ≡ true → true ≡ true
+any_text v h = h
 
 module _ (id : Text) (place short : Option ℕ) (p : ValueParser) (lets : LetsThrough id p) where
   abbrev one : Rule
@@ -72,6 +75,9 @@ fills_budget = record {
   uses = one_uses (codes "BUDGET") None (Some 98) (parser.Signed (pos 0) (pos 4294967295)) budget_accepted;
   defaulted = λ rows f. kept (has_row (codes "BUDGET") rows) rows f;
 }
+
+fills_from : Fills built_from
+fills_from = record { uses = one_uses (codes "FROM") None None parser.String any_text; defaulted = λ rows f. kept (has_row (codes "FROM") rows) rows f }
 
 fills_help : Fills built_help
 fills_help = record { uses = λ again values rows none f. f; defaulted = λ rows f. kept (has_row (codes "help") rows) rows f }
@@ -141,50 +147,56 @@ abbrev rows_of_leaf : Shape → List Text → List Row
 rows_of_leaf s words = rows_after s.rules [] words
 
 -- the command of a leaf, by its rows
-abbrev AsksBy : Shape → (List Row → Text → Option Request) → Type 0
-AsksBy s asked = (words : List Text) → IsPassed s words → is_some (option_and_then (asked (rows_of_leaf s words)) (first_of (codes "MODULE") (rows_of_leaf s words))) ≡ true
+abbrev AsksBy : Shape → Type 0
+AsksBy s = (words : List Text) → IsPassed s words → is_some (command_of s.name (rows_of_leaf s words)) ≡ true
 
-any_text : (v : Text) → true ≡ true → true ≡ true
-any_text v h = h
+-- the rows have a module's name, and what is given beside it asks for something
+asks_with : (name : Text) (rows : List Row) → is_some (first_of (codes "MODULE") rows) ≡ true → ((m : Text) → is_some (asked name m (given_of rows)) ≡ true)
+    → is_some (command_of name rows) ≡ true
+asks_with name rows has each = some_then (first_of (codes "MODULE") rows) (λ m. asked name m (given_of rows)) has each
 
-module_asks : (command : Text) (asks : Text → Request) → AsksBy (module_leaf command) (λ rows m. Some (asks m))
-module_asks command asks words none =
-    let p = passes (module_leaf command) (fills_name 1 (codes "MODULE") any_text true, (fills_help, tt)) refl words none in
-    let rows = rows_of_leaf (module_leaf command) words in
-    some_then (first_of (codes "MODULE") rows) (λ m. Some (asks m)) (given_first (codes "MODULE") rows p.filled (p.given.0 refl)) (λ m. refl)
+check_asks : AsksBy (module_leaf (codes "check"))
+check_asks words none =
+    let p = passes (module_leaf (codes "check")) (fills_name 1 (codes "MODULE") any_text true, (fills_help, tt)) refl words none in
+    let rows = rows_of_leaf (module_leaf (codes "check")) words in
+    asks_with (codes "check") rows (given_first (codes "MODULE") rows p.filled (p.given.0 refl)) (λ m. refl)
 
-verify_asks : AsksBy verify_leaf (λ rows m. option_map (Verify m) (first_of (codes "RECORD") rows))
+list_asks : AsksBy (module_leaf (codes "list"))
+list_asks words none =
+    let p = passes (module_leaf (codes "list")) (fills_name 1 (codes "MODULE") any_text true, (fills_help, tt)) refl words none in
+    let rows = rows_of_leaf (module_leaf (codes "list")) words in
+    asks_with (codes "list") rows (given_first (codes "MODULE") rows p.filled (p.given.0 refl)) (λ m. refl)
+
+verify_asks : AsksBy verify_leaf
 verify_asks words none =
     let p = passes verify_leaf (fills_name 1 (codes "MODULE") any_text true, (fills_name 2 (codes "RECORD") any_text true, (fills_help, tt))) refl words none in
     let rows = rows_of_leaf verify_leaf words in
-    some_then (first_of (codes "MODULE") rows) (λ m. option_map (Verify m) (first_of (codes "RECORD") rows))
-    (given_first (codes "MODULE") rows p.filled (p.given.0 refl))
+    asks_with (codes "verify") rows (given_first (codes "MODULE") rows p.filled (p.given.0 refl))
     (λ m. some_map (first_of (codes "RECORD") rows) (Verify m) (given_first (codes "RECORD") rows p.filled (p.given.1.0 refl)))
 
-seq_asks : AsksBy seq_leaf (λ rows m. seq_of m rows)
+seq_asks : AsksBy seq_leaf
 seq_asks words none =
-    let p = passes seq_leaf (fills_name 1 (codes "MODULE") any_text true, (fills_name 2 (codes "SCRIPT") any_text true, (fills_budget, (fills_help, tt)))) refl words none in
+    let p = passes seq_leaf (fills_name 1 (codes "MODULE") any_text true, (fills_name 2 (codes "SCRIPT") any_text true, (fills_budget, (fills_from, (fills_help, tt))))) refl words none in
     let rows = rows_of_leaf seq_leaf words in
-    some_then (first_of (codes "MODULE") rows) (λ m. seq_of m rows) (given_first (codes "MODULE") rows p.filled (p.given.0 refl))
-    (λ m. some_then (first_of (codes "SCRIPT") rows) _ (given_first (codes "SCRIPT") rows p.filled (p.given.1.0 refl))
-    (λ script. some_map (budget_of rows) _ (some_budget rows p.filled)))
+    let script = given_first (codes "SCRIPT") rows p.filled (p.given.1.0 refl) in
+    asks_with (codes "seq") rows (given_first (codes "MODULE") rows p.filled (p.given.0 refl))
+    (λ m. some_map (sequence_of m (given_of rows)) Seq (some_map (first_of (codes "SCRIPT") rows) _ script))
 
-serve_asks : AsksBy serve_leaf (λ rows m. serve_of m rows)
+serve_asks : AsksBy serve_leaf
 serve_asks words none =
-    let p = passes serve_leaf (fills_name 1 (codes "MODULE") any_text true, (fills_name 2 (codes "SCRIPT") any_text true, (fills_number, (fills_budget, (fills_help, tt))))) refl words none in
+    let p = passes serve_leaf (fills_name 1 (codes "MODULE") any_text true, (fills_name 2 (codes "SCRIPT") any_text true, (fills_number, (fills_budget, (fills_from, (fills_help, tt)))))) refl words none in
     let rows = rows_of_leaf serve_leaf words in
-    some_then (first_of (codes "MODULE") rows) (λ m. serve_of m rows) (given_first (codes "MODULE") rows p.filled (p.given.0 refl))
-    (λ m. some_then (first_of (codes "SCRIPT") rows) _ (given_first (codes "SCRIPT") rows p.filled (p.given.1.0 refl))
-    (λ script. some_then (processes_of rows) _ (given_number rows p.filled (p.given.1.1.0 refl))
-    (λ processes. some_map (budget_of rows) _ (some_budget rows p.filled))))
+    let script = given_first (codes "SCRIPT") rows p.filled (p.given.1.0 refl) in
+    asks_with (codes "serve") rows (given_first (codes "MODULE") rows p.filled (p.given.0 refl))
+    (λ m. some_map (calls_of m (given_of rows)) Serve (some_then (processes_of rows) _ (given_number rows p.filled (p.given.1.1.0 refl))
+    (λ k. some_map (first_of (codes "SCRIPT") rows) _ script)))
 
-bound_asks : AsksBy bound_leaf (λ rows m. bound_of m rows)
+bound_asks : AsksBy bound_leaf
 bound_asks words none =
     let p = passes bound_leaf (fills_name 1 (codes "MODULE") any_text true, (fills_number, (fills_budget, (fills_help, tt)))) refl words none in
     let rows = rows_of_leaf bound_leaf words in
-    some_then (first_of (codes "MODULE") rows) (λ m. bound_of m rows) (given_first (codes "MODULE") rows p.filled (p.given.0 refl))
-    (λ m. some_then (processes_of rows) _ (given_number rows p.filled (p.given.1.0 refl))
-    (λ processes. some_map (budget_of rows) _ (some_budget rows p.filled)))
+    asks_with (codes "bound") rows (given_first (codes "MODULE") rows p.filled (p.given.0 refl))
+    (λ m. some_map (processes_of rows) _ (given_number rows p.filled (p.given.1.0 refl)))
 
 -- ---- all the words
 
@@ -228,9 +240,9 @@ several_forms s has words none h = let bad : true ≡ false = sym (has (rows_of_
 
 each_asks : EachAsks built_app.subs
 each_asks = (
-  one_form (module_leaf (codes "check")) (module_asks (codes "check") Check),
+  one_form (module_leaf (codes "check")) check_asks,
   (
-    one_form (module_leaf (codes "list")) (module_asks (codes "list") Listing),
+    one_form (module_leaf (codes "list")) list_asks,
     (
       one_form seq_leaf seq_asks,
       (

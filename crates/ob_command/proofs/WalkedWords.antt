@@ -1,10 +1,9 @@
 -- The words behind a command, one after the other, where they have no fault.
-use Rattle.std.proofs.Common.{◌≡◌, ◌∙◌, ℕ, refl, ap, ap₂, List, [], ◌∷◌, fold, true, false, Bool, if◌then◌else◌, Option, Some, None}
+use Rattle.std.proofs.Common.{◌≡◌, ◌∙◌, ℕ, refl, ap, ap₂, List, [], ◌∷◌, fold, false, Option, Some, None}
 use Rattle.clap.specs.Walk.{Held, Walk, Step, Row, Text, walked, idle, option, value, plain_word, finished, settled, word_met, to_positional, arg_by_index, after_step}
 use Rattle.clap.specs.Kinds.{Kinds, or_else}
 use Rattle.clap.specs.Faults.{walk_fault, settle_fault, defaults_fault, check_fault, turn_fault, step_fault}
 use Rattle.clap.specs.Simple.{Shape}
-use Rattle.clap.specs.declared.error.kind.ErrorKind.TheVariants as kind
 use Rattle.ob_command.specs.CommandLine.{is_option}
 use Rattle.ob_command.proofs.PlainWords.{no_dashes, no_long, no_short}
 
@@ -93,11 +92,3 @@ pub optioned : (s : Shape) (w : Walk) (flag id v : Text) (held : List Row) (posi
     → (words : List Text) (rows : List Row) → Goes s (state s held (Some (id, v ∷ [])) position) words rows → Goes s w (flag ∷ v ∷ words) rows
 optioned s w flag id v held position none meets no_v is words rows goes =
     stepped s w flag none _ meets (v ∷ words) rows (valued s held (Some (id, [])) position id v no_v _ is words rows goes)
-
--- no value is refused
-pub no_refusal : (t : Bool) → t ≡ true → or_else (or_else (if t then [] else kind.ValueValidation ∷ []) []) [] ≡ []
-no_refusal t is = ap (λ (t : Bool). or_else (or_else (if t then [] else kind.ValueValidation ∷ []) []) []) is
-
--- nor is one before a word that has none
-pub no_refusal_before : (t : Bool) → t ≡ true → or_else (or_else (or_else (if t then [] else kind.ValueValidation ∷ []) []) []) [] ≡ []
-no_refusal_before t is = ap (λ (t : Bool). or_else (or_else (or_else (if t then [] else kind.ValueValidation ∷ []) []) []) []) is

@@ -1,7 +1,7 @@
 -- What the words of the command line ask for, by what clap makes of them.
-use Rattle.std.specs.Prelude.{ℕ, ◌==◌, ◌+◌, ◌++◌, ◌&&◌, ◌||◌, Bool, true, false, not, List, [], ◌∷◌, Option, Some, None, is_some, nat_le, nat_lt, slice_get, option_and_then, option_map, unwrap_or, codes, if◌then◌else◌}
+use Rattle.std.specs.Prelude.{ℕ, ◌==◌, ◌+◌, ◌++◌, ◌&&◌, ◌||◌, Bool, false, not, List, [], ◌∷◌, Option, Some, None, find, is_some, nat_le, nat_lt, slice_get, option_and_then, option_map, unwrap_or, codes, if◌then◌else◌}
 use Rattle.std.specs.Char.{is_ascii_digit}
-use Rattle.std.specs.List.{after_first, before_first, list_any}
+use Rattle.std.specs.List.{after_first, before_first, list_all, list_any}
 use Rattle.std.specs.Option.{option_map_or}
 use Rattle.std.specs.Str.{bytes_eq}
 use Rattle.std.specs.Str.Parse.{digits_value, without_leading_plus}
@@ -10,17 +10,25 @@ use Rattle.clap.specs.Words.{Kinds, Row, fault_of, first_of, one_of, subcommand_
 use Rattle.clap.specs.declared.error.kind.ErrorKind.TheVariants as kind
 use Rattle.ob_command_line.specs.ClapCommand.{obl0_app}
 use Rattle.ob_command.specs.declared.command.CallNumbers.{CallNumbers}
+use Rattle.ob_command.specs.declared.given.Part.{Part}
+use Rattle.ob_command.specs.declared.given.Part.TheVariants.{Script, Schedule, Record, From, Processes, Budget, Tree, Steps, Traps}
 
 abbrev pub Text : Type 0
 Text = List ℕ
 
--- What a run is made of: the names of its files, how many processes there are, and how many turns each call has.
-pub record RunRequest : Type 0 where
+-- What calls are made of: the names of the files of a module and a script, how many processes there are, how many turns each call has,
+-- and the name of the file of the record whose variables the object begins with, where one is named.
+pub record CallsRequest : Type 0 where
   pub module_name : Text
   pub script_name : Text
-  pub schedule_name : Text
   pub processes : ℕ
   pub budget : ℕ
+  pub from_name : Option Text
+
+-- What a run is made of: its calls, and the name of the file of its schedule.
+pub record RunRequest : Type 0 where
+  pub calls : CallsRequest
+  pub schedule_name : Text
 
 -- What they ask for: the rules of a module checked; its code listed; the calls of a script made on it; a run's record; the record of the
 -- same run by the tree of the module; the record with the own steps of its calls beside it; the record of workers' run; a run's picture;
@@ -31,16 +39,17 @@ pub record RunRequest : Type 0 where
 pub data Request : Type 0 where
   Check : (module_name : Text) → Request
   Listing : (module_name : Text) → Request
-  Seq : (module_name script_name : Text) (budget : ℕ) → Request
+  Seq : (calls : CallsRequest) → Request
   Run : (run : RunRequest) → Request
   RunTree : (run : RunRequest) → Request
   RunSteps : (run : RunRequest) → Request
-  Serve : (module_name script_name : Text) (processes budget : ℕ) → Request
+  Serve : (calls : CallsRequest) → Request
   Draw : (run : RunRequest) (calls : Option CallNumbers) → Request
   DrawRecord : (module_name record_name : Text) (calls : Option CallNumbers) → Request
   Verify : (module_name record_name : Text) → Request
-  Explain : (module_name : Text) (script_name : Option Text) (budget : ℕ) → Request
-  ExplainTraps : (module_name script_name : Text) (budget : ℕ) → Request
+  Explain : (module_name : Text) (budget : ℕ) → Request
+  ExplainCalls : (calls : CallsRequest) → Request
+  ExplainTraps : (calls : CallsRequest) → Request
   ExplainRun : (run : RunRequest) → Request
   ExplainRecord : (module_name record_name : Text) → Request
   Bound : (module_name : Text) (processes budget : ℕ) → Request
@@ -88,132 +97,181 @@ is_turned text = are_turned (place_number (before_first is_minus text)) (place_n
 abbrev pub default_budget : ℕ
 default_budget = 100000
 
+-- of how many processes calls may be that are made one at a time
+abbrev pub sequence_processes : ℕ
+sequence_processes = 16
+
+-- ---- what stands behind a command
+
+-- What is given behind the name of a command and that of a module: the names of files, the calls of a picture as they are written, numbers,
+-- and words that have no value.
+pub record Given : Type 0 where
+  pub script_name : Option Text
+  pub schedule_name : Option Text
+  pub record_name : Option Text
+  pub from_name : Option Text
+  pub range : Option Text
+  pub processes : Option ℕ
+  pub budget : Option ℕ
+  pub tree : Bool
+  pub steps : Bool
+  pub traps : Bool
+
 -- the number that stands behind `-n`, of the rows in which clap keeps what stood behind the command
 abbrev pub processes_of : List Row → Option ℕ
 processes_of rows = option_and_then number (one_of (codes "N") rows)
 
--- the budget that stands behind `-b`, where something stands there
+-- the budget that stands behind `-b`, of the same rows
 abbrev pub budget_of : List Row → Option ℕ
-budget_of rows =
-    if is_some (first_of (codes "BUDGET") rows) then option_and_then budget_number (one_of (codes "BUDGET") rows) else Some default_budget
+budget_of rows = option_and_then budget_number (one_of (codes "BUDGET") rows)
 
--- what a run is made of, of the same rows
-abbrev pub run_of : Text → List Row → Option RunRequest
-run_of module_name rows =
-    option_and_then (λ script_name. option_and_then (λ schedule_name. option_and_then (λ processes. option_map (λ budget. record {
-      module_name = module_name;
-      script_name = script_name;
-      schedule_name = schedule_name;
-      processes = processes;
-      budget = budget;
-    }) (budget_of rows)) (processes_of rows)) (first_of (codes "SCHEDULE") rows)) (first_of (codes "SCRIPT") rows)
-
--- whether a word stands there, of the same rows
-abbrev pub is_set : Text → List Row → Bool
-is_set name rows = option_map_or (λ text. bytes_eq text (codes "true")) (first_of name rows) false
-
--- How a run is made, and what is told of it: by the engine over the module's tree, or by that over its code, where own steps may be
--- told too.
-abbrev pub made_by : (tree steps : Bool) → RunRequest → Option Request
-made_by true true run = None
-made_by true false run = Some (RunTree run)
-made_by false true run = Some (RunSteps run)
-made_by false false run = Some (Run run)
+-- whether a word stands there that has no value, by what clap keeps of it
+abbrev pub is_true : Option Text → Bool
+is_true word = option_map_or (λ text. bytes_eq text (codes "true")) word false
 
 -- the same of the rows
-abbrev pub made_of : List Row → RunRequest → Option Request
-made_of rows = made_by (is_set (codes "tree") rows) (is_set (codes "steps") rows)
+abbrev pub is_set : Text → List Row → Bool
+is_set name rows = is_true (first_of name rows)
+
+-- all that is given, of the same rows
+abbrev pub given_of : List Row → Given
+given_of rows = record {
+  script_name = first_of (codes "SCRIPT") rows;
+  schedule_name = first_of (codes "SCHEDULE") rows;
+  record_name = first_of (codes "RECORD") rows;
+  from_name = first_of (codes "FROM") rows;
+  range = first_of (codes "FROM-TO") rows;
+  processes = processes_of rows;
+  budget = budget_of rows;
+  tree = is_set (codes "tree") rows;
+  steps = is_set (codes "steps") rows;
+  traps = is_set (codes "traps") rows;
+}
+
+-- ---- the table of the commands
+
+-- how many turns each call has: as many as are given, or else so many as there are where nothing is said of it
+abbrev pub turns_of : Given → ℕ
+turns_of given = unwrap_or given.budget default_budget
+
+-- the calls of a script on a module, of so many processes
+abbrev pub calls_by : (processes : ℕ) → (module_name : Text) → Given → Option CallsRequest
+calls_by processes module_name given = option_map (λ script_name. record {
+  module_name = module_name;
+  script_name = script_name;
+  processes = processes;
+  budget = turns_of given;
+  from_name = given.from_name;
+}) given.script_name
+
+-- the calls that are made one at a time, and those of as many processes as are given
+abbrev pub sequence_of : (module_name : Text) → Given → Option CallsRequest
+sequence_of = calls_by sequence_processes
+
+abbrev pub calls_of : (module_name : Text) → Given → Option CallsRequest
+calls_of module_name given = option_and_then (λ processes. calls_by processes module_name given) given.processes
+
+-- the run of them by a schedule
+abbrev pub run_of : (module_name : Text) → Given → Option RunRequest
+run_of module_name given =
+    option_and_then (λ calls. option_map (λ schedule_name. record { calls = calls; schedule_name = schedule_name }) given.schedule_name)
+    (calls_of module_name given)
 
 -- the calls that a picture has by the word behind `--calls`: all where there is none, and none where that is no range
-abbrev pub calls_by : Option Text → Option (Option CallNumbers)
-calls_by None = Some None
-calls_by (Some text) = option_map (λ calls. Some calls) (calls_in text)
+abbrev pub range_by : Option Text → Option (Option CallNumbers)
+range_by None = Some None
+range_by (Some text) = option_map (λ calls. Some calls) (calls_in text)
 
--- the calls that a picture has, of the same rows
-abbrev pub calls_of : List Row → Option (Option CallNumbers)
-calls_of rows = calls_by (first_of (codes "FROM-TO") rows)
+-- the picture of a run, and of a record, whose file stands in the place of a script
+abbrev pub picture_of : (module_name : Text) → Given → Option Request
+picture_of module_name given = option_and_then (λ calls. option_map (λ run. Draw run calls) (run_of module_name given)) (range_by given.range)
 
--- A record is drawn of a module and a second file: of how many processes and with which budget the record tells itself.
-abbrev pub draw_record_of : Text → List Row → Option CallNumbers → Option Request
-draw_record_of module_name rows calls =
-    if is_some (first_of (codes "N") rows) || is_some (first_of (codes "BUDGET") rows) then None
-    else option_map (λ record_name. DrawRecord module_name record_name calls) (first_of (codes "SCRIPT") rows)
+abbrev pub record_picture_of : (module_name : Text) → Given → Option Request
+record_picture_of module_name given =
+    option_and_then (λ calls. option_map (λ record_name. DrawRecord module_name record_name calls) given.script_name) (range_by given.range)
 
--- what is to be drawn, of the same rows: a run where there is a schedule, else a record
-abbrev pub drawn_of : Text → List Row → Option CallNumbers → Option Request
-drawn_of module_name rows calls =
-    if is_some (first_of (codes "SCHEDULE") rows) then option_map (λ run. Draw run calls) (run_of module_name rows)
-    else draw_record_of module_name rows calls
+-- the bound of as many processes as are given
+abbrev pub bound_of : (module_name : Text) → Given → Option Request
+bound_of module_name given = option_map (λ processes. Bound module_name processes (turns_of given)) given.processes
 
--- the same of all the rows
-abbrev pub draw_of : Text → List Row → Option Request
-draw_of module_name rows = option_and_then (drawn_of module_name rows) (calls_of rows)
+-- whether a part of what may be given is given
+abbrev pub has : Given → Part → Bool
+has given Script = is_some given.script_name
+has given Schedule = is_some given.schedule_name
+has given Record = is_some given.record_name
+has given From = is_some given.from_name
+has given Processes = is_some given.processes
+has given Budget = is_some given.budget
+has given Tree = given.tree
+has given Steps = given.steps
+has given Traps = given.traps
 
--- what workers run, of the same rows
-abbrev pub serve_of : Text → List Row → Option Request
-serve_of module_name rows =
-    option_and_then (λ script_name. option_and_then (λ processes. option_map (Serve module_name script_name processes) (budget_of rows))
-    (processes_of rows)) (first_of (codes "SCRIPT") rows)
+-- what is given has all of these parts, and none of those
+abbrev pub fits : Given → (wants lacks : List Part) → Bool
+fits given wants lacks = list_all (has given) wants && not (list_any (has given) lacks)
 
--- the calls to be made, of the same rows
-abbrev pub seq_of : Text → List Row → Option Request
-seq_of module_name rows =
-    option_and_then (λ script_name. option_map (Seq module_name script_name) (budget_of rows)) (first_of (codes "SCRIPT") rows)
+-- A form of a command: what stands in it, what can't, and what it asks for.
+pub record Form : Type 0 where
+  pub wants : List Part
+  pub lacks : List Part
+  pub asks : (module_name : Text) → Given → Option Request
 
--- A record is explained with its module alone.
-abbrev pub explain_record_of : (module_name record_name : Text) → List Row → Option Request
-explain_record_of module_name record_name rows =
-    if is_some (first_of (codes "SCRIPT") rows) || (is_some (first_of (codes "N") rows) || is_some (first_of (codes "BUDGET") rows)) then None
-    else Some (ExplainRecord module_name record_name)
+abbrev pub form : (wants lacks : List Part) → ((module_name : Text) → Given → Option Request) → Form
+form wants lacks asks = record { wants = wants; lacks = lacks; asks = asks }
 
--- what is to be shown of a module and a script, of the same rows
-abbrev pub explain_calls_of : Text → List Row → Option Request
-explain_calls_of module_name rows =
-    if is_some (first_of (codes "N") rows) then None else option_map (Explain module_name (first_of (codes "SCRIPT") rows)) (budget_of rows)
+-- the one form of a command whose words clap tests alone
+abbrev pub one_form : ((module_name : Text) → Given → Option Request) → List Form
+one_form asks = form [] [] asks ∷ []
 
--- what is to be shown of texts that are no record: of a run where there is a schedule
-abbrev pub explain_texts_of : Text → List Row → Option Request
-explain_texts_of module_name rows =
-    if is_some (first_of (codes "SCHEDULE") rows) then option_map ExplainRun (run_of module_name rows) else explain_calls_of module_name rows
+abbrev pub run_forms : List Form
+run_forms =
+    form (Tree ∷ []) (Steps ∷ From ∷ []) (λ m given. option_map RunTree (run_of m given))
+    ∷ form (Steps ∷ []) (Tree ∷ []) (λ m given. option_map RunSteps (run_of m given))
+    ∷ form [] (Tree ∷ Steps ∷ []) (λ m given. option_map Run (run_of m given))
+    ∷ []
 
--- what is to be shown, by the word behind `--record`
-abbrev pub explain_by : Text → List Row → Option Text → Option Request
-explain_by module_name rows None = explain_texts_of module_name rows
-explain_by module_name rows (Some record_name) = explain_record_of module_name record_name rows
+abbrev pub draw_forms : List Form
+draw_forms =
+    form (Schedule ∷ []) [] picture_of
+    ∷ form [] (Schedule ∷ Processes ∷ Budget ∷ From ∷ []) record_picture_of
+    ∷ []
 
--- the calls whose traps are to be shown, of the same rows
-abbrev pub traps_of : Text → List Row → Option Request
-traps_of module_name rows =
-    option_and_then (λ script_name. option_map (ExplainTraps module_name script_name) (budget_of rows)) (first_of (codes "SCRIPT") rows)
+abbrev pub explain_forms : List Form
+explain_forms =
+    form (Record ∷ []) (Script ∷ Processes ∷ Budget ∷ From ∷ Traps ∷ []) (λ m given. option_map (ExplainRecord m) given.record_name)
+    ∷ form (Traps ∷ []) (Record ∷ Schedule ∷ Processes ∷ []) (λ m given. option_map ExplainTraps (sequence_of m given))
+    ∷ form (Schedule ∷ []) (Record ∷ Traps ∷ []) (λ m given. option_map ExplainRun (run_of m given))
+    ∷ form (Script ∷ []) (Record ∷ Traps ∷ Schedule ∷ Processes ∷ []) (λ m given. option_map ExplainCalls (sequence_of m given))
+    ∷ form [] (Record ∷ Traps ∷ Schedule ∷ Script ∷ Processes ∷ From ∷ []) (λ m given. Some (Explain m (turns_of given)))
+    ∷ []
 
--- Traps are those of calls that are made one at a time: of a module and a script alone.
-abbrev pub explain_traps_of : Text → List Row → Option Request
-explain_traps_of module_name rows =
-    if is_some (first_of (codes "SCHEDULE") rows) || (is_some (first_of (codes "N") rows) || is_some (first_of (codes "RECORD") rows)) then None
-    else traps_of module_name rows
+-- each command with its forms
+abbrev pub commands : List (Text × List Form)
+commands =
+    (codes "check", one_form (λ m given. Some (Check m)))
+    ∷ (codes "list", one_form (λ m given. Some (Listing m)))
+    ∷ (codes "seq", one_form (λ m given. option_map Seq (sequence_of m given)))
+    ∷ (codes "run", run_forms)
+    ∷ (codes "serve", one_form (λ m given. option_map Serve (calls_of m given)))
+    ∷ (codes "draw", draw_forms)
+    ∷ (codes "verify", one_form (λ m given. option_map (Verify m) given.record_name))
+    ∷ (codes "explain", explain_forms)
+    ∷ (codes "bound", one_form bound_of)
+    ∷ []
 
--- what is to be shown, of the same rows
-abbrev pub explain_of : Text → List Row → Option Request
-explain_of module_name rows =
-    if is_set (codes "traps") rows then explain_traps_of module_name rows else explain_by module_name rows (first_of (codes "RECORD") rows)
+-- what is asked for by the first of these forms that what is given has
+abbrev pub asked_by : List Form → (module_name : Text) → Given → Option Request
+asked_by forms module_name given =
+    option_and_then (λ form. form.asks module_name given) (find (λ form. fits given form.wants form.lacks) forms)
 
--- what is to be told of own steps, of the same rows
-abbrev pub bound_of : Text → List Row → Option Request
-bound_of module_name rows = option_and_then (λ processes. option_map (Bound module_name processes) (budget_of rows)) (processes_of rows)
+-- the same of the command of a name
+abbrev pub asked : (name module_name : Text) → Given → Option Request
+asked name module_name given =
+    option_and_then (λ command. asked_by command.1 module_name given) (find (λ command. bytes_eq name command.0) commands)
 
--- the command of a name, of the same rows
-abbrev pub command_of : Text → List Row → Option Request
-command_of name rows = option_and_then (λ module_name.
-    if bytes_eq name (codes "check") then Some (Check module_name)
-    else if bytes_eq name (codes "list") then Some (Listing module_name)
-    else if bytes_eq name (codes "seq") then seq_of module_name rows
-    else if bytes_eq name (codes "run") then option_and_then (made_of rows) (run_of module_name rows)
-    else if bytes_eq name (codes "serve") then serve_of module_name rows
-    else if bytes_eq name (codes "draw") then draw_of module_name rows
-    else if bytes_eq name (codes "verify") then option_map (Verify module_name) (first_of (codes "RECORD") rows)
-    else if bytes_eq name (codes "explain") then explain_of module_name rows
-    else if bytes_eq name (codes "bound") then bound_of module_name rows
-    else None) (first_of (codes "MODULE") rows)
+-- the same of the rows, which have the name of a module
+abbrev pub command_of : (name : Text) → List Row → Option Request
+command_of name rows = option_and_then (λ module_name. asked name module_name (given_of rows)) (first_of (codes "MODULE") rows)
 
 -- a `-` with something behind it
 abbrev pub is_option : Text → Bool
@@ -223,7 +281,7 @@ is_option _ = false
 -- what is said of words that clap accepts behind `draw`, and that are in none of its forms
 abbrev pub draw_mistake : Text
 draw_mistake =
-    codes "error: these words are in no form of draw, which are\n  obl0 draw MODULE SCRIPT SCHEDULE -n N [-b BUDGET] [--calls FROM-TO]\n  obl0 draw MODULE RECORD [--calls FROM-TO]\n\nFor more information, try '--help'.\n"
+    codes "error: these words are in no form of draw, which are\n  obl0 draw MODULE SCRIPT SCHEDULE -n N [-b BUDGET] [--from RECORD] [--calls FROM-TO]\n  obl0 draw MODULE RECORD [--calls FROM-TO]\n\nFor more information, try '--help'.\n"
 
 -- and of a word behind `--calls` that names no calls
 abbrev pub calls_mistake : Text
@@ -238,11 +296,14 @@ turned_mistake =
 -- and of words behind `explain` that are in none of its forms
 abbrev pub explain_mistake : Text
 explain_mistake =
-    codes "error: these words are in no form of explain, which are\n  obl0 explain MODULE\n  obl0 explain MODULE SCRIPT [-b BUDGET] [--traps]\n  obl0 explain MODULE SCRIPT SCHEDULE -n N [-b BUDGET]\n  obl0 explain MODULE --record RECORD\n\nFor more information, try '--help'.\n"
+    codes "error: these words are in no form of explain, which are\n  obl0 explain MODULE\n  obl0 explain MODULE SCRIPT [-b BUDGET] [--from RECORD] [--traps]\n  obl0 explain MODULE SCRIPT SCHEDULE -n N [-b BUDGET] [--from RECORD]\n  obl0 explain MODULE --record RECORD\n\nFor more information, try '--help'.\n"
 
--- and of words behind `run` that ask for own steps by the tree
-abbrev pub run_mistake : Text
-run_mistake = codes "error: --tree and --steps don't stand together\n\nFor more information, try '--help'.\n"
+-- and of words behind `run` that ask for own steps by the tree, or that begin a run by the tree with a record
+abbrev pub steps_mistake : Text
+steps_mistake = codes "error: --tree and --steps don't stand together\n\nFor more information, try '--help'.\n"
+
+abbrev pub from_mistake : Text
+from_mistake = codes "error: --tree and --from don't stand together\n\nFor more information, try '--help'.\n"
 
 -- and behind which options which numbers stand
 abbrev pub number_sentence : Text
@@ -262,16 +323,24 @@ abbrev pub range_mistake : Option Text → Text
 range_mistake text = if option_map_or is_turned text false then turned_mistake else calls_mistake
 
 -- and of all words behind `draw` that are in none of its forms
-abbrev pub draw_mistake_of : List Row → Text
-draw_mistake_of rows = if is_some (calls_of rows) then draw_mistake else range_mistake (first_of (codes "FROM-TO") rows)
+abbrev pub draw_mistake_of : (range : Option Text) → Text
+draw_mistake_of range = if is_some (range_by range) then draw_mistake else range_mistake range
+
+-- and of such words behind `run`
+abbrev pub run_mistake_of : (steps : Bool) → Text
+run_mistake_of steps = if steps then steps_mistake else from_mistake
 
 -- What is said where the words of a command that has several forms have none of these. Every other command has one form, which clap tests.
-abbrev pub form_mistake : Text → List Row → Option Text
-form_mistake name rows =
-    if bytes_eq name (codes "draw") then Some (draw_mistake_of rows)
+abbrev pub form_mistake_by : Text → Given → Option Text
+form_mistake_by name given =
+    if bytes_eq name (codes "draw") then Some (draw_mistake_of given.range)
     else if bytes_eq name (codes "explain") then Some explain_mistake
-    else if bytes_eq name (codes "run") then Some run_mistake
+    else if bytes_eq name (codes "run") then Some (run_mistake_of given.steps)
     else None
+
+-- the same of the rows
+abbrev pub form_mistake : Text → List Row → Option Text
+form_mistake name rows = form_mistake_by name (given_of rows)
 
 -- How many names of files stand behind a command that has a number of processes.
 abbrev pub names_of : Text → Option ℕ

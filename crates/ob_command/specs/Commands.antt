@@ -6,35 +6,56 @@ use Rattle.clap.specs.declared.error.kind.ErrorKind.{ErrorKind}
 use Rattle.clap.specs.declared.error.kind.ErrorKind.TheVariants as kind
 use Rattle.ob_command.specs.declared.command.Command as command
 use Rattle.ob_command.specs.declared.command.Command.TheVariants as commands
+use Rattle.ob_command.specs.declared.command.CallsCommand.{CallsCommand}
 use Rattle.ob_command.specs.declared.command.RunCommand.{RunCommand}
+use Rattle.ob_command.specs.declared.given.GivenWords.{GivenWords}
 use Rattle.ob_command.specs.declared.command.Stop.{Stop}
 use Rattle.ob_command.specs.declared.command.Stop.TheVariants as stops
 use Rattle.ob_command_line.specs.ClapCommand.{obl0_app}
-use Rattle.ob_command.specs.CommandLine.{Text, clap_words, extra_of_help, form_mistake_of, has_negative, help_mistake, loose_number, number_sentence, number_tip, Request, RunRequest, Check, Listing, Seq, Run, RunTree, RunSteps, Serve, Draw, DrawRecord, Verify, Explain, ExplainTraps, ExplainRun, ExplainRecord, Bound, Help, Version, Unclear}
+use Rattle.ob_command.specs.CommandLine.{Text, clap_words, extra_of_help, form_mistake_of, has_negative, help_mistake, loose_number, number_sentence, number_tip, CallsRequest, Given, Request, RunRequest, Check, Listing, Seq, Run, RunTree, RunSteps, Serve, Draw, DrawRecord, Verify, Explain, ExplainCalls, ExplainTraps, ExplainRun, ExplainRecord, Bound, Help, Version, Unclear}
+
+-- what is given by words
+abbrev pub given_by : GivenWords → Given
+given_by given = record {
+  script_name = option_map (λ name. name.now) given.script_name;
+  schedule_name = option_map (λ name. name.now) given.schedule_name;
+  record_name = option_map (λ name. name.now) given.record_name;
+  from_name = option_map (λ name. name.now) given.from_name;
+  range = option_map (λ text. text.now) given.range;
+  processes = given.processes;
+  budget = given.budget;
+  tree = given.tree;
+  steps = given.steps;
+  traps = given.traps;
+}
 
 -- what a command asks for
-abbrev pub run_request_of : RunCommand → RunRequest
-run_request_of run = record {
-  module_name = run.module_name.now;
-  script_name = run.script_name.now;
-  schedule_name = run.schedule_name.now;
-  processes = run.processes;
-  budget = run.budget;
+abbrev pub calls_request_of : CallsCommand → CallsRequest
+calls_request_of calls = record {
+  module_name = calls.module_name.now;
+  script_name = calls.script_name.now;
+  processes = calls.processes;
+  budget = calls.budget;
+  from_name = option_map (λ name. name.now) calls.from_name;
 }
+
+abbrev pub run_request_of : RunCommand → RunRequest
+run_request_of run = record { calls = calls_request_of run.calls; schedule_name = run.schedule_name.now }
 
 abbrev pub request_of : command.Command → Request
 request_of (commands.Check module_name) = Check module_name.now
 request_of (commands.List module_name) = Listing module_name.now
-request_of (commands.Seq module_name script_name budget) = Seq module_name.now script_name.now budget
+request_of (commands.Seq calls) = Seq (calls_request_of calls)
 request_of (commands.Run run) = Run (run_request_of run)
 request_of (commands.RunTree run) = RunTree (run_request_of run)
 request_of (commands.RunSteps run) = RunSteps (run_request_of run)
-request_of (commands.Serve module_name script_name processes budget) = Serve module_name.now script_name.now processes budget
+request_of (commands.Serve calls) = Serve (calls_request_of calls)
 request_of (commands.Draw run calls) = Draw (run_request_of run) calls
 request_of (commands.DrawRecord module_name record_name calls) = DrawRecord module_name.now record_name.now calls
 request_of (commands.Verify module_name record_name) = Verify module_name.now record_name.now
-request_of (commands.Explain module_name script_name budget) = Explain module_name.now (option_map (λ name. name.now) script_name) budget
-request_of (commands.ExplainTraps module_name script_name budget) = ExplainTraps module_name.now script_name.now budget
+request_of (commands.Explain module_name budget) = Explain module_name.now budget
+request_of (commands.ExplainCalls calls) = ExplainCalls (calls_request_of calls)
+request_of (commands.ExplainTraps calls) = ExplainTraps (calls_request_of calls)
 request_of (commands.ExplainRun run) = ExplainRun (run_request_of run)
 request_of (commands.ExplainRecord module_name record_name) = ExplainRecord module_name.now record_name.now
 request_of (commands.Bound module_name processes budget) = Bound module_name.now processes budget

@@ -1,58 +1,8 @@
--- The plain forms of the commands that run calls: names that are no options, a number of processes and a budget.
-use Rattle.std.specs.Prelude.{◌≡◌, ℕ, List, Option, Some, [], ◌∷◌, false, codes}
-use Rattle.ob_command.specs.CommandLine.{Bound, DrawRecord, Help, Request, RunRequest, Serve, Text, Version, budget_number, calls_in, default_budget, is_option, number, request}
-use Rattle.ob_command.specs.declared.command.CallNumbers.{CallNumbers}
-
--- the run of these files, with so many processes and so many turns for each call
-abbrev pub run_with : (module_name script_name schedule_name : Text) (processes budget : ℕ) → RunRequest
-run_with module_name script_name schedule_name processes budget = record {
-  module_name = module_name;
-  script_name = script_name;
-  schedule_name = schedule_name;
-  processes = processes;
-  budget = budget;
-}
-
--- The command, two names that are no options, the word that a budget stands behind, with a budget, and more words ask for these calls.
-abbrev pub IsCallsAsked : Text → Text → (more : List Text) → (Text → Text → ℕ → Request) → Type 0
-IsCallsAsked command flag more asks = (m s b : Text) (k : ℕ) → is_option m ≡ false → is_option s ≡ false → budget_number b ≡ Some k
-    → request (command ∷ m ∷ s ∷ flag ∷ b ∷ more) ≡ asks m s k
-
--- The command, three names that are no options, `-n` with a number, and more words ask for the run of these files, in which each call
--- has the budget that there is where nothing is said of it.
-abbrev pub IsRunAsked : Text → (more : List Text) → (RunRequest → Request) → Type 0
-IsRunAsked command more asks = (m s d n : Text) (k : ℕ) → is_option m ≡ false → is_option s ≡ false → is_option d ≡ false → number n ≡ Some k
-    → request (command ∷ m ∷ s ∷ d ∷ codes "-n" ∷ n ∷ more) ≡ asks (run_with m s d k default_budget)
-
--- The same, and behind the number the word that a budget stands behind, with a budget.
-abbrev pub IsBudgetRunAsked : Text → Text → (more : List Text) → (RunRequest → Request) → Type 0
-IsBudgetRunAsked command flag more asks = (m s d n b : Text) (k t : ℕ) → is_option m ≡ false → is_option s ≡ false → is_option d ≡ false
-    → number n ≡ Some k → budget_number b ≡ Some t
-    → request (command ∷ m ∷ s ∷ d ∷ codes "-n" ∷ n ∷ flag ∷ b ∷ more) ≡ asks (run_with m s d k t)
-
--- `draw`, two names that are no options, and more words ask for the picture of this record.
-abbrev pub IsRecordAsked : (more : List Text) → Option CallNumbers → Type 0
-IsRecordAsked more calls = (m r : Text) → is_option m ≡ false → is_option r ≡ false → request (codes "draw" ∷ m ∷ r ∷ more) ≡ DrawRecord m r calls
-
--- The same words with a range behind `--calls` ask for the picture of these calls.
-abbrev pub WithCalls : ((more : List Text) → Option CallNumbers → Type 0) → Type 0
-WithCalls AreAsked = (c : Text) (calls : CallNumbers) → calls_in c ≡ Some calls → AreAsked (codes "--calls" ∷ c ∷ []) (Some calls)
-
--- `serve`, two names that are no options, and `-n` with a number ask for these workers: each call has the budget that there is where
--- nothing is said of it.
-abbrev pub IsServeAskedWithoutBudget : Type 0
-IsServeAskedWithoutBudget = (m s n : Text) (k : ℕ) → is_option m ≡ false → is_option s ≡ false → number n ≡ Some k
-    → request (codes "serve" ∷ m ∷ s ∷ codes "-n" ∷ n ∷ []) ≡ Serve m s k 100000
-
--- The words of `serve` with two names ask for these workers.
-abbrev pub IsServeAsked : Text → Type 0
-IsServeAsked flag = (m s n b : Text) (k t : ℕ) → is_option m ≡ false → is_option s ≡ false → number n ≡ Some k → budget_number b ≡ Some t
-    → request (codes "serve" ∷ m ∷ s ∷ codes "-n" ∷ n ∷ flag ∷ b ∷ []) ≡ Serve m s k t
-
--- `bound`, a name that is no option, `-n` with a number, and the word that a budget stands behind, with a budget, ask for that bound.
-abbrev pub IsBoundAsked : Text → Type 0
-IsBoundAsked flag = (m n b : Text) (k t : ℕ) → is_option m ≡ false → number n ≡ Some k → budget_number b ≡ Some t
-    → request (codes "bound" ∷ m ∷ codes "-n" ∷ n ∷ flag ∷ b ∷ []) ≡ Bound m k t
+-- The plain forms of the commands: names that are no options, and options in any order.
+use Rattle.std.specs.Prelude.{◌≡◌, ℕ, Bool, true, false, not, List, [], ◌∷◌, Option, Some, None, is_some, find, option_and_then, option_map, unwrap_or, codes}
+use Rattle.std.specs.List.{list_any}
+use Rattle.std.specs.Str.{bytes_eq}
+use Rattle.ob_command.specs.CommandLine.{CallsRequest, Given, Help, Request, RunRequest, Text, Unclear, Version, asked, budget_number, calls_in, default_budget, is_option, number, request}
 
 -- `help` and the name, the name with `--help` or `-h`, and all three ask for help.
 pub record IsHelpAsked (name : Text) : Type 0 where
@@ -66,3 +16,176 @@ pub record IsHelpAsked (name : Text) : Type 0 where
 pub record IsVersionAsked (name : Text) : Type 0 where
   pub long : request (name ∷ codes "--version" ∷ []) ≡ Version
   pub short : request (name ∷ codes "-V" ∷ []) ≡ Version
+
+-- ---- options among words
+
+-- an option as it stands among words, with the word behind it where it has one: `-n`, `-b` or `--budget`, `--from`, `--calls`, `--record`,
+-- `--tree`, `--steps` and `--traps`
+pub data Chosen : Type 0 where
+  Count : (n : Text) → Chosen
+  Turns : (short : Bool) (b : Text) → Chosen
+  Start : (f : Text) → Chosen
+  Range : (c : Text) → Chosen
+  Told : (r : Text) → Chosen
+  ByTree : Chosen
+  WithSteps : Chosen
+  OfTraps : Chosen
+
+-- the name by which it is known
+abbrev pub id_of : Chosen → Text
+id_of (Count n) = codes "N"
+id_of (Turns short b) = codes "BUDGET"
+id_of (Start f) = codes "FROM"
+id_of (Range c) = codes "FROM-TO"
+id_of (Told r) = codes "RECORD"
+id_of ByTree = codes "tree"
+id_of WithSteps = codes "steps"
+id_of OfTraps = codes "traps"
+
+-- what stands behind it, and `true` where nothing does
+abbrev pub text_of : Chosen → Text
+text_of (Count n) = n
+text_of (Turns short b) = b
+text_of (Start f) = f
+text_of (Range c) = c
+text_of (Told r) = r
+text_of _ = codes "true"
+
+-- the word that stands before a budget
+abbrev pub budget_flag : (short : Bool) → Text
+budget_flag true = codes "-b"
+budget_flag false = codes "--budget"
+
+-- its words, before those that follow
+abbrev pub with_words : Chosen → List Text → List Text
+with_words (Count n) rest = codes "-n" ∷ n ∷ rest
+with_words (Turns short b) rest = budget_flag short ∷ b ∷ rest
+with_words (Start f) rest = codes "--from" ∷ f ∷ rest
+with_words (Range c) rest = codes "--calls" ∷ c ∷ rest
+with_words (Told r) rest = codes "--record" ∷ r ∷ rest
+with_words ByTree rest = codes "--tree" ∷ rest
+with_words WithSteps rest = codes "--steps" ∷ rest
+with_words OfTraps rest = codes "--traps" ∷ rest
+
+abbrev pub words_of : List Chosen → List Text
+words_of [] = []
+words_of (chosen ∷ others) = with_words chosen (words_of others)
+
+-- what stands behind it can stand there: a number, a range, or a name that is no option
+abbrev pub is_plain : Chosen → Bool
+is_plain (Count n) = is_some (number n)
+is_plain (Turns short b) = is_some (budget_number b)
+is_plain (Start f) = not (is_option f)
+is_plain (Range c) = is_some (calls_in c)
+is_plain (Told r) = not (is_option r)
+is_plain _ = true
+
+-- Options of these names in any order, each at most once, with what can stand behind them.
+abbrev pub ArePlain : (names : List Text) → List Chosen → Type 0
+ArePlain names [] = Unit {0}
+ArePlain names (chosen ∷ others) = (list_any (bytes_eq (id_of chosen)) names ≡ true) × (is_plain chosen ≡ true)
+    × (list_any (λ other. bytes_eq (id_of chosen) (id_of other)) others ≡ false) × ArePlain names others
+
+-- the options of each command
+abbrev pub seq_options : List Text
+seq_options = codes "BUDGET" ∷ codes "FROM" ∷ []
+
+abbrev pub run_options : List Text
+run_options = codes "N" ∷ codes "BUDGET" ∷ codes "FROM" ∷ codes "tree" ∷ codes "steps" ∷ []
+
+abbrev pub serve_options : List Text
+serve_options = codes "N" ∷ codes "BUDGET" ∷ codes "FROM" ∷ []
+
+abbrev pub draw_options : List Text
+draw_options = codes "N" ∷ codes "BUDGET" ∷ codes "FROM" ∷ codes "FROM-TO" ∷ []
+
+abbrev pub explain_options : List Text
+explain_options = codes "N" ∷ codes "BUDGET" ∷ codes "FROM" ∷ codes "RECORD" ∷ codes "traps" ∷ []
+
+abbrev pub bound_options : List Text
+bound_options = codes "N" ∷ codes "BUDGET" ∷ []
+
+-- what stands behind the option of a name, where it is chosen
+abbrev pub value_in : (name : Text) → List Chosen → Option Text
+value_in name chosen = option_map text_of (find (λ one. bytes_eq (id_of one) name) chosen)
+
+abbrev pub is_chosen : (name : Text) → List Chosen → Bool
+is_chosen name chosen = list_any (λ one. bytes_eq (id_of one) name) chosen
+
+-- what is given by names of files and by options
+abbrev pub given_in : (script_name schedule_name : Option Text) → List Chosen → Given
+given_in script_name schedule_name chosen = record {
+  script_name = script_name;
+  schedule_name = schedule_name;
+  record_name = value_in (codes "RECORD") chosen;
+  from_name = value_in (codes "FROM") chosen;
+  range = value_in (codes "FROM-TO") chosen;
+  processes = option_and_then number (value_in (codes "N") chosen);
+  budget = option_and_then budget_number (value_in (codes "BUDGET") chosen);
+  tree = is_chosen (codes "tree") chosen;
+  steps = is_chosen (codes "steps") chosen;
+  traps = is_chosen (codes "traps") chosen;
+}
+
+-- What stands behind a command asks for what the table of commands says of it: names that are no options, of a module and of further files,
+-- and behind them options of these names in any order, with `-n` among them where the command has to have it.
+abbrev pub IsCounted : (needed : Bool) → List Chosen → Type 0
+IsCounted needed chosen = needed ≡ true → is_chosen (codes "N") chosen ≡ true
+
+abbrev pub AsksWithModule : (command : Text) (needed : Bool) (names : List Text) → Type 0
+AsksWithModule command needed names = (m : Text) (chosen : List Chosen) → is_option m ≡ false → ArePlain names chosen → IsCounted needed chosen
+    → request (command ∷ m ∷ words_of chosen) ≡ unwrap_or (asked command m (given_in None None chosen)) Unclear
+
+abbrev pub AsksWithScript : (command : Text) (needed : Bool) (names : List Text) → Type 0
+AsksWithScript command needed names = (m s : Text) (chosen : List Chosen) → is_option m ≡ false → is_option s ≡ false → ArePlain names chosen
+    → IsCounted needed chosen
+    → request (command ∷ m ∷ s ∷ words_of chosen) ≡ unwrap_or (asked command m (given_in (Some s) None chosen)) Unclear
+
+abbrev pub AsksWithSchedule : (command : Text) (needed : Bool) (names : List Text) → Type 0
+AsksWithSchedule command needed names = (m s d : Text) (chosen : List Chosen) → is_option m ≡ false → is_option s ≡ false → is_option d ≡ false
+    → ArePlain names chosen → IsCounted needed chosen
+    → request (command ∷ m ∷ s ∷ d ∷ words_of chosen) ≡ unwrap_or (asked command m (given_in (Some s) (Some d) chosen)) Unclear
+
+-- ---- what each form asks for
+
+-- how many processes they give, and how many turns
+abbrev pub count_in : List Chosen → Option ℕ
+count_in chosen = option_and_then number (value_in (codes "N") chosen)
+
+abbrev pub turns_in : List Chosen → ℕ
+turns_in chosen = unwrap_or (option_and_then budget_number (value_in (codes "BUDGET") chosen)) default_budget
+
+-- the calls and the run of these files, of so many processes, with the other options
+abbrev pub calls_with : (m s : Text) (processes : ℕ) → List Chosen → CallsRequest
+calls_with m s processes chosen = record {
+  module_name = m;
+  script_name = s;
+  processes = processes;
+  budget = turns_in chosen;
+  from_name = value_in (codes "FROM") chosen;
+}
+
+abbrev pub run_with : (m s d : Text) (processes : ℕ) → List Chosen → RunRequest
+run_with m s d processes chosen = record { calls = calls_with m s processes chosen; schedule_name = d }
+
+-- A command on a module, on a script too, and on a schedule too, with options of these names of which that holds, asks for this.
+abbrev pub ModuleAsksFor : (command : Text) (names : List Text) (Holds : List Chosen → Type 0) (asks : (m : Text) → List Chosen → Request) → Type 0
+ModuleAsksFor command names Holds asks = (m : Text) (chosen : List Chosen) → is_option m ≡ false → ArePlain names chosen → Holds chosen
+    → request (command ∷ m ∷ words_of chosen) ≡ asks m chosen
+
+abbrev pub ScriptAsksFor : (command : Text) (names : List Text) (Holds : List Chosen → Type 0) (asks : (m s : Text) → List Chosen → Request) → Type 0
+ScriptAsksFor command names Holds asks = (m s : Text) (chosen : List Chosen) → is_option m ≡ false → is_option s ≡ false → ArePlain names chosen
+    → Holds chosen → request (command ∷ m ∷ s ∷ words_of chosen) ≡ asks m s chosen
+
+abbrev pub RunAsksFor : (command : Text) (names : List Text) (Holds : List Chosen → Type 0) (asks : RunRequest → Request) → Type 0
+RunAsksFor command names Holds asks = (m s d : Text) (chosen : List Chosen) (processes : ℕ) → is_option m ≡ false → is_option s ≡ false
+    → is_option d ≡ false → ArePlain names chosen → count_in chosen ≡ Some processes → Holds chosen
+    → request (command ∷ m ∷ s ∷ d ∷ words_of chosen) ≡ asks (run_with m s d processes chosen)
+
+-- the option of this name is among them, and the options of these names are not
+abbrev pub Has : (name : Text) → List Chosen → Type 0
+Has name chosen = is_chosen name chosen ≡ true
+
+abbrev pub Lacks : (names : List Text) → List Chosen → Type 0
+Lacks [] chosen = Unit {0}
+Lacks (name ∷ names) chosen = (is_chosen name chosen ≡ false) × Lacks names chosen

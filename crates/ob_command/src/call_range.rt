@@ -1,17 +1,15 @@
 //! The calls that a text behind `--calls` names.
 
-ghost use Rattle.std.specs.Prelude.{◌≡◌, Some};
-ghost use Rattle.clap.specs.Words.{found_of, rows_of};
-ghost use Rattle.ob_command.specs.CommandLine.{are_turned, calls_between, calls_in, calls_of, is_turned, place_number};
+ghost use Rattle.std.specs.Prelude.{◌≡◌, option_map};
+ghost use Rattle.ob_command.specs.CommandLine.{are_turned, calls_between, calls_in, is_turned, place_number, range_by};
 
 use crate::command::CallNumbers;
-use clap::ArgMatches;
 
-/// The calls of a picture, of the same matches.
-pub(crate) fn calls_of(matches: &ArgMatches<'_>) -> Option<Option<CallNumbers>>
-    ensures { result ≡ calls_of (rows_of (found_of matches.now)) }
+/// The calls of a picture by the word behind `--calls`: all where there is none.
+pub(crate) fn range_by(text: Option<&str>) -> Option<Option<CallNumbers>>
+    ensures { result ≡ range_by (option_map (λ text. text.now) text.entry) }
 {
-    match matches.get_str("FROM-TO") {
+    match text {
         None => Some(None),
         Some(text) => Some(Some(calls_in(text)?)),
     }

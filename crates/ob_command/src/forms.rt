@@ -1,16 +1,18 @@
 //! What is said of words that have none of the forms of their command.
 
-ghost use Rattle.std.specs.Prelude.{◌≡◌, Some, option_map};
+ghost use Rattle.std.specs.Prelude.{◌≡◌, option_map};
 ghost use Rattle.clap.specs.Words.{found_of, rows_of};
-ghost use Rattle.ob_command.specs.CommandLine.{calls_of, draw_mistake_of, form_mistake, is_turned, range_mistake};
+ghost use Rattle.ob_command.specs.Commands.{given_by};
+ghost use Rattle.ob_command.specs.CommandLine.{draw_mistake_of, form_mistake, form_mistake_by, is_turned, range_mistake, run_mistake_of};
 
-use crate::call_range::{calls_of, is_turned};
+use crate::call_range::{is_turned, range_by};
+use crate::given::{GivenWords, given_of};
 use clap::ArgMatches;
 
 /// What is wrong with words for a picture that are in none of the forms of `draw`.
 const UNCLEAR_DRAW: &str = "\
 error: these words are in no form of draw, which are
-  obl0 draw MODULE SCRIPT SCHEDULE -n N [-b BUDGET] [--calls FROM-TO]
+  obl0 draw MODULE SCRIPT SCHEDULE -n N [-b BUDGET] [--from RECORD] [--calls FROM-TO]
   obl0 draw MODULE RECORD [--calls FROM-TO]
 
 For more information, try '--help'.
@@ -20,16 +22,23 @@ For more information, try '--help'.
 const UNCLEAR_EXPLAIN: &str = "\
 error: these words are in no form of explain, which are
   obl0 explain MODULE
-  obl0 explain MODULE SCRIPT [-b BUDGET] [--traps]
-  obl0 explain MODULE SCRIPT SCHEDULE -n N [-b BUDGET]
+  obl0 explain MODULE SCRIPT [-b BUDGET] [--from RECORD] [--traps]
+  obl0 explain MODULE SCRIPT SCHEDULE -n N [-b BUDGET] [--from RECORD]
   obl0 explain MODULE --record RECORD
 
 For more information, try '--help'.
 ";
 
 /// What is wrong with words behind `run` that ask for own steps by the tree.
-const UNCLEAR_RUN: &str = "\
+const TREE_AND_STEPS: &str = "\
 error: --tree and --steps don't stand together
+
+For more information, try '--help'.
+";
+
+/// What is wrong with words behind `run` that begin a run by the tree with a record.
+const TREE_AND_FROM: &str = "\
+error: --tree and --from don't stand together
 
 For more information, try '--help'.
 ";
@@ -52,21 +61,35 @@ For more information, try '--help'.
 pub(crate) fn form_mistake(name: &str, matches: &ArgMatches<'_>) -> Option<&'static str>
     ensures { option_map (λ text. text.now) result ≡ form_mistake name.now (rows_of (found_of matches.now)) }
 {
+    form_mistake_by(name, &given_of(matches))
+}
+
+/// The same of what is given.
+fn form_mistake_by(name: &str, given: &GivenWords<'_>) -> Option<&'static str>
+    ensures { option_map (λ text. text.now) result ≡ form_mistake_by name.now (given_by given.now) }
+{
     match name {
-        "draw" => Some(draw_mistake_of(matches)),
+        "draw" => Some(draw_mistake_of(given.range)),
         "explain" => Some(UNCLEAR_EXPLAIN),
-        "run" => Some(UNCLEAR_RUN),
+        "run" => Some(run_mistake_of(given.steps)),
         _ => None,
     }
 }
 
-/// What is said of words that have none of the forms of `draw`.
-fn draw_mistake_of(matches: &ArgMatches<'_>) -> &'static str
-    ensures { result.now ≡ draw_mistake_of (rows_of (found_of matches.now)) }
+/// What is said of words that have none of the forms of `run`.
+fn run_mistake_of(steps: bool) -> &'static str
+    ensures { result.now ≡ run_mistake_of steps }
 {
-    match calls_of(matches) {
+    if steps { TREE_AND_STEPS } else { TREE_AND_FROM }
+}
+
+/// What is said of words that have none of the forms of `draw`.
+fn draw_mistake_of(range: Option<&str>) -> &'static str
+    ensures { result.now ≡ draw_mistake_of (option_map (λ text. text.now) range.entry) }
+{
+    match range_by(range) {
         Some(_) => UNCLEAR_DRAW,
-        None => range_mistake(matches.get_str("FROM-TO")),
+        None => range_mistake(range),
     }
 }
 

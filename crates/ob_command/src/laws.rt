@@ -1,13 +1,15 @@
 //! What plain words ask for. What a function here ensures is proved; it does nothing.
 
-ghost use Rattle.std.specs.Prelude.{◌≡◌, ◌⊎◌, ℕ, List, Some, None, [], ◌∷◌, false, true, All, codes, is_some};
+ghost use Rattle.std.specs.Prelude.{◌≡◌, ◌⊎◌, ℕ, List, Option, Some, [], ◌∷◌, false, true, All, codes, is_some};
 ghost use Rattle.clap.specs.Words.{fault_of};
 ghost use Rattle.ob_command_line.specs.ClapCommand.{obl0_app};
-ghost use Rattle.ob_command.specs.CommandLine.{Bound, Check, Draw, Explain, ExplainRecord, ExplainRun, ExplainTraps, Help, Listing, Run, RunSteps};
-ghost use Rattle.ob_command.specs.CommandLine.{RunTree, Seq, Text, Unclear, Verify, Version, asks_command, command_names, form_mistake_of};
-ghost use Rattle.ob_command.specs.CommandLine.{is_option, number, request};
-ghost use Rattle.ob_command.specs.PlainForms.{IsBoundAsked, IsBudgetRunAsked, IsCallsAsked, IsHelpAsked, IsRecordAsked, IsRunAsked, IsServeAsked};
-ghost use Rattle.ob_command.specs.PlainForms.{IsServeAskedWithoutBudget, IsVersionAsked, WithCalls};
+ghost use Rattle.ob_command.specs.CommandLine.{Bound, Check, Draw, DrawRecord, Explain, ExplainCalls, ExplainRecord, ExplainRun, ExplainTraps};
+ghost use Rattle.ob_command.specs.CommandLine.{Help, Listing, Run, RunSteps, RunTree, Seq, Serve, Text, Unclear, Verify, Version, asks_command};
+ghost use Rattle.ob_command.specs.CommandLine.{command_names, form_mistake_of, is_option, range_by, request};
+ghost use Rattle.ob_command.specs.PlainForms.{AsksWithModule, AsksWithSchedule, AsksWithScript, Has, IsHelpAsked, IsVersionAsked, Lacks};
+ghost use Rattle.ob_command.specs.PlainForms.{ModuleAsksFor, RunAsksFor, ScriptAsksFor, bound_options, calls_with, count_in, draw_options};
+ghost use Rattle.ob_command.specs.PlainForms.{explain_options, run_options, seq_options, serve_options, turns_in, value_in};
+ghost use Rattle.ob_command.specs.declared.command.CallNumbers.{CallNumbers};
 
 /// `check` and a name that is no option.
 pub fn check_is_asked()
@@ -19,79 +21,37 @@ pub fn list_is_asked()
     ensures { (m : Text) → is_option m ≡ false → request (codes "list" ∷ m ∷ []) ≡ Listing m }
 {}
 
-/// `seq` and two names that are no options: each call has the budget that there is where nothing is said of it.
+/// `seq` and two names that are no options, and its options in any order.
 pub fn seq_is_asked()
-    ensures { (m s : Text) → is_option m ≡ false → is_option s ≡ false → request (codes "seq" ∷ m ∷ s ∷ []) ≡ Seq m s 100000 }
+    ensures table { AsksWithScript (codes "seq") false seq_options }
+    ensures calls { ScriptAsksFor (codes "seq") seq_options (Lacks []) (λ m s chosen. Seq (calls_with m s 16 chosen)) }
 {}
 
-/// The same, and `-b` or `--budget` with a number.
-pub fn seq_with_budget_is_asked()
-    ensures short { IsCallsAsked (codes "seq") (codes "-b") [] Seq }
-    ensures long { IsCallsAsked (codes "seq") (codes "--budget") [] Seq }
-{}
-
-/// `run` and three names that are no options, and `-n` with a number: each call has the budget that there is where nothing is said of it.
+/// `run` and three names that are no options, and its options in any order.
 pub fn run_is_asked()
-    ensures { IsRunAsked (codes "run") [] Run }
+    ensures table { AsksWithSchedule (codes "run") true run_options }
+    ensures code { RunAsksFor (codes "run") run_options (Lacks (codes "tree" ∷ codes "steps" ∷ [])) Run }
+    ensures tree { RunAsksFor (codes "run") run_options (λ chosen. Has (codes "tree") chosen × Lacks (codes "steps" ∷ codes "FROM" ∷ []) chosen) RunTree }
+    ensures steps { RunAsksFor (codes "run") run_options (λ chosen. Has (codes "steps") chosen × Lacks (codes "tree" ∷ []) chosen) RunSteps }
+    ensures tree_steps { RunAsksFor (codes "run") run_options (λ chosen. Has (codes "tree") chosen × Has (codes "steps") chosen) (λ run. Unclear) }
+    ensures tree_from { RunAsksFor (codes "run") run_options (λ chosen. Has (codes "tree") chosen × Has (codes "FROM") chosen) (λ run. Unclear) }
 {}
 
-/// The same, and `-b` or `--budget` with a number.
-pub fn run_with_budget_is_asked()
-    ensures short { IsBudgetRunAsked (codes "run") (codes "-b") [] Run }
-    ensures long { IsBudgetRunAsked (codes "run") (codes "--budget") [] Run }
-{}
-
-/// The words of a run behind `run`, with a budget or without, and `--tree`.
-pub fn run_by_tree_is_asked()
-    ensures plain { IsRunAsked (codes "run") (codes "--tree" ∷ []) RunTree }
-    ensures short { IsBudgetRunAsked (codes "run") (codes "-b") (codes "--tree" ∷ []) RunTree }
-    ensures long { IsBudgetRunAsked (codes "run") (codes "--budget") (codes "--tree" ∷ []) RunTree }
-{}
-
-/// The same with `--steps`.
-pub fn run_with_steps_is_asked()
-    ensures plain { IsRunAsked (codes "run") (codes "--steps" ∷ []) RunSteps }
-    ensures short { IsBudgetRunAsked (codes "run") (codes "-b") (codes "--steps" ∷ []) RunSteps }
-    ensures long { IsBudgetRunAsked (codes "run") (codes "--budget") (codes "--steps" ∷ []) RunSteps }
-{}
-
-/// `serve` and two names that are no options, and `-n` with a number.
+/// `serve` and two names that are no options, and its options in any order.
 pub fn serve_is_asked()
-    ensures { IsServeAskedWithoutBudget }
+    ensures table { AsksWithScript (codes "serve") true serve_options }
+    ensures calls { (k : ℕ) → ScriptAsksFor (codes "serve") serve_options (λ chosen. count_in chosen ≡ Some k) (λ m s chosen. Serve (calls_with m s k chosen)) }
 {}
 
-/// The same, and `-b` or `--budget` with a number.
-pub fn serve_with_budget_is_asked()
-    ensures short { IsServeAsked (codes "-b") }
-    ensures long { IsServeAsked (codes "--budget") }
-{}
-
-/// `draw` and the words of a run.
+/// `draw` and three names that are no options, or two, and its options in any order.
 pub fn draw_is_asked()
-    ensures { IsRunAsked (codes "draw") [] (λ run. Draw run None) }
-{}
-
-/// The same, and `-b` or `--budget` with a number.
-pub fn draw_with_budget_is_asked()
-    ensures short { IsBudgetRunAsked (codes "draw") (codes "-b") [] (λ run. Draw run None) }
-    ensures long { IsBudgetRunAsked (codes "draw") (codes "--budget") [] (λ run. Draw run None) }
-{}
-
-/// The words of a run behind `draw`, with a budget or without, and `--calls` with a range.
-pub fn draw_of_calls_is_asked()
-    ensures plain { WithCalls (λ more calls. IsRunAsked (codes "draw") more (λ run. Draw run calls)) }
-    ensures short { WithCalls (λ more calls. IsBudgetRunAsked (codes "draw") (codes "-b") more (λ run. Draw run calls)) }
-    ensures long { WithCalls (λ more calls. IsBudgetRunAsked (codes "draw") (codes "--budget") more (λ run. Draw run calls)) }
-{}
-
-/// `draw` and two names that are no options.
-pub fn draw_record_is_asked()
-    ensures { IsRecordAsked [] None }
-{}
-
-/// The same, and `--calls` with a range.
-pub fn draw_record_of_calls_is_asked()
-    ensures { WithCalls IsRecordAsked }
+    ensures table { AsksWithSchedule (codes "draw") false draw_options }
+    ensures table_of_two { AsksWithScript (codes "draw") false draw_options }
+    ensures run { (calls : Option CallNumbers) → RunAsksFor (codes "draw") draw_options
+        (λ chosen. range_by (value_in (codes "FROM-TO") chosen) ≡ Some calls) (λ run. Draw run calls) }
+    ensures record { (calls : Option CallNumbers) → ScriptAsksFor (codes "draw") draw_options
+        (λ chosen. (range_by (value_in (codes "FROM-TO") chosen) ≡ Some calls) × Lacks (codes "N" ∷ codes "BUDGET" ∷ codes "FROM" ∷ []) chosen)
+        (λ m r chosen. DrawRecord m r calls) }
 {}
 
 /// `verify` and two names that are no options.
@@ -99,52 +59,27 @@ pub fn verify_is_asked()
     ensures { (m r : Text) → is_option m ≡ false → is_option r ≡ false → request (codes "verify" ∷ m ∷ r ∷ []) ≡ Verify m r }
 {}
 
-/// `explain` and a name that is no option.
+/// `explain` and up to three names that are no options, and its options in any order.
 pub fn explain_is_asked()
-    ensures { (m : Text) → is_option m ≡ false → request (codes "explain" ∷ m ∷ []) ≡ Explain m None 100000 }
+    ensures table_of_one { AsksWithModule (codes "explain") false explain_options }
+    ensures table_of_two { AsksWithScript (codes "explain") false explain_options }
+    ensures table { AsksWithSchedule (codes "explain") false explain_options }
+    ensures module { ModuleAsksFor (codes "explain") explain_options
+        (Lacks (codes "RECORD" ∷ codes "FROM" ∷ codes "N" ∷ codes "traps" ∷ [])) (λ m chosen. Explain m (turns_in chosen)) }
+    ensures record { (r : Text) → ModuleAsksFor (codes "explain") explain_options
+        (λ chosen. (value_in (codes "RECORD") chosen ≡ Some r) × Lacks (codes "FROM" ∷ codes "N" ∷ codes "BUDGET" ∷ codes "traps" ∷ []) chosen)
+        (λ m chosen. ExplainRecord m r) }
+    ensures calls { ScriptAsksFor (codes "explain") explain_options
+        (Lacks (codes "RECORD" ∷ codes "N" ∷ codes "traps" ∷ [])) (λ m s chosen. ExplainCalls (calls_with m s 16 chosen)) }
+    ensures traps { ScriptAsksFor (codes "explain") explain_options
+        (λ chosen. Has (codes "traps") chosen × Lacks (codes "RECORD" ∷ codes "N" ∷ []) chosen) (λ m s chosen. ExplainTraps (calls_with m s 16 chosen)) }
+    ensures run { RunAsksFor (codes "explain") explain_options (Lacks (codes "RECORD" ∷ codes "traps" ∷ [])) ExplainRun }
 {}
 
-/// `explain` and two names that are no options.
-pub fn explain_of_script_is_asked()
-    ensures { (m s : Text) → is_option m ≡ false → is_option s ≡ false → request (codes "explain" ∷ m ∷ s ∷ []) ≡ Explain m (Some s) 100000 }
-{}
-
-/// The same, and `-b` or `--budget` with a number.
-pub fn explain_with_budget_is_asked()
-    ensures short { IsCallsAsked (codes "explain") (codes "-b") [] (λ m s k. Explain m (Some s) k) }
-    ensures long { IsCallsAsked (codes "explain") (codes "--budget") [] (λ m s k. Explain m (Some s) k) }
-{}
-
-/// `explain` and two names that are no options, with a budget or without, and `--traps`.
-pub fn explain_of_traps_is_asked()
-    ensures plain { (m s : Text) → is_option m ≡ false → is_option s ≡ false
-        → request (codes "explain" ∷ m ∷ s ∷ codes "--traps" ∷ []) ≡ ExplainTraps m s 100000 }
-    ensures short { IsCallsAsked (codes "explain") (codes "-b") (codes "--traps" ∷ []) ExplainTraps }
-    ensures long { IsCallsAsked (codes "explain") (codes "--budget") (codes "--traps" ∷ []) ExplainTraps }
-{}
-
-/// The words of a run behind `explain`, with a budget or without.
-pub fn explain_of_run_is_asked()
-    ensures plain { IsRunAsked (codes "explain") [] ExplainRun }
-    ensures short { IsBudgetRunAsked (codes "explain") (codes "-b") [] ExplainRun }
-    ensures long { IsBudgetRunAsked (codes "explain") (codes "--budget") [] ExplainRun }
-{}
-
-/// `explain` and a name that is no option, and `--record` with a second one.
-pub fn explain_of_record_is_asked()
-    ensures { (m r : Text) → is_option m ≡ false → is_option r ≡ false
-        → request (codes "explain" ∷ m ∷ codes "--record" ∷ r ∷ []) ≡ ExplainRecord m r }
-{}
-
-/// `bound` and a name that is no option, and `-n` with a number.
+/// `bound` and a name that is no option, and its options in any order.
 pub fn bound_is_asked()
-    ensures { (m n : Text) (k : ℕ) → is_option m ≡ false → number n ≡ Some k → request (codes "bound" ∷ m ∷ codes "-n" ∷ n ∷ []) ≡ Bound m k 100000 }
-{}
-
-/// The same, and `-b` or `--budget` with a number.
-pub fn bound_with_budget_is_asked()
-    ensures short { IsBoundAsked (codes "-b") }
-    ensures long { IsBoundAsked (codes "--budget") }
+    ensures table { AsksWithModule (codes "bound") true bound_options }
+    ensures bound { (k : ℕ) → ModuleAsksFor (codes "bound") bound_options (λ chosen. count_in chosen ≡ Some k) (λ m chosen. Bound m k (turns_in chosen)) }
 {}
 
 /// The words that ask for the help of a command.

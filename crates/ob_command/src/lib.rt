@@ -1,11 +1,13 @@
 //! The command line of the program: what its words ask for.
 #![tactic(auto)]
 
+mod asked;
 mod call_range;
 pub mod command;
 mod forms;
+mod given;
 mod help;
 pub mod laws;
 mod mistakes;
 
-pub use command::{CallNumbers, Command, RunCommand, Stop, read_command};
+pub use command::{CallNumbers, CallsCommand, Command, RunCommand, Stop, read_command};

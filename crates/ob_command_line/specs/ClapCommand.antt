@@ -1,8 +1,10 @@
 -- The command line in the words of clap.
-use Rattle.std.specs.Prelude.{Some, pos, true, false, [], ◌∷◌, codes, fold}
+use Rattle.std.specs.Prelude.{List, Some, pos, true, false, [], ◌∷◌, codes, fold}
 use Rattle.clap.specs.Words.{App, Rule, Shape, Text, new_app, new_rule, with_rule, with_subcommand}
 use Rattle.clap.specs.declared.builder.action.ArgAction.TheVariants.{SetTrue}
 use Rattle.clap.specs.declared.builder.value_parser.ValueParser.TheVariants.{Signed}
+
+-- ---- files and options
 
 -- a word that has to be there
 abbrev pub name_rule : Text → Rule
@@ -20,6 +22,10 @@ optional_number_rule = record number_rule { required = false }
 abbrev pub budget_rule : Rule
 budget_rule = record (new_rule (codes "BUDGET")) { short = Some 98; long = Some (codes "budget"); parser = Some (Signed (pos 0) (pos 4294967295)) }
 
+-- `--from RECORD`, which may be missing
+abbrev pub from_rule : Rule
+from_rule = record (new_rule (codes "FROM")) { long = Some (codes "from"); value_names = 1 }
+
 -- a word that stands there or not, as `--tree`
 abbrev pub flag_rule : Text → Rule
 flag_rule name = record (new_rule name) { long = Some name; action = Some SetTrue }
@@ -32,57 +38,59 @@ calls_rule = record (new_rule (codes "FROM-TO")) { long = Some (codes "calls") }
 abbrev pub record_rule : Rule
 record_rule = record (new_rule (codes "RECORD")) { long = Some (codes "record") }
 
--- `check MODULE`, `list MODULE`
+-- ---- the table of the commands
+
+-- A command of this name: what may stand behind it, in the order in which help lists it.
+abbrev pub command_app : Text → List Rule → App
+command_app command rules = fold with_rule (new_app command) rules
+
+-- `MODULE`
 abbrev pub module_app : Text → App
-module_app command = with_rule (new_app command) (name_rule (codes "MODULE"))
+module_app command = command_app command (name_rule (codes "MODULE") ∷ [])
 
--- `MODULE SCRIPT` behind a command
-abbrev pub script_app : Text → App
-script_app command = with_rule (module_app command) (name_rule (codes "SCRIPT"))
-
--- `seq MODULE SCRIPT -b BUDGET`
-abbrev pub seq_app : Text → App
-seq_app command = with_rule (script_app command) budget_rule
-
--- `MODULE SCRIPT SCHEDULE` behind a command, of which the last two may be missing
-abbrev pub texts_app : Text → App
-texts_app command = with_rule (with_rule (module_app command) (new_rule (codes "SCRIPT"))) (new_rule (codes "SCHEDULE"))
-
--- `MODULE SCRIPT SCHEDULE -n N -b BUDGET` behind a command, of which all but the first may be missing
-abbrev pub optional_run_app : Text → App
-optional_run_app command = with_rule (with_rule (texts_app command) optional_number_rule) budget_rule
-
--- `explain MODULE`, `explain MODULE SCRIPT -b BUDGET --traps`, `explain MODULE SCRIPT SCHEDULE -n N -b BUDGET`, `explain MODULE --record RECORD`
-abbrev pub explain_app : Text → App
-explain_app command = with_rule (with_rule (optional_run_app command) record_rule) (flag_rule (codes "traps"))
-
--- `MODULE SCRIPT SCHEDULE -n N -b BUDGET` behind a command
-abbrev pub schedule_app : Text → App
-schedule_app command = with_rule (with_rule (with_rule (script_app command) (name_rule (codes "SCHEDULE"))) number_rule) budget_rule
-
--- `run MODULE SCRIPT SCHEDULE -n N -b BUDGET --tree --steps`
-abbrev pub run_app : Text → App
-run_app command = with_rule (with_rule (schedule_app command) (flag_rule (codes "tree"))) (flag_rule (codes "steps"))
-
--- `MODULE SCRIPT SCHEDULE` behind a command, of which the last may be missing
-abbrev pub drawn_app : Text → App
-drawn_app command = with_rule (script_app command) (new_rule (codes "SCHEDULE"))
-
--- `draw MODULE SCRIPT SCHEDULE -n N -b BUDGET --calls FROM-TO`, `draw MODULE RECORD --calls FROM-TO`
-abbrev pub draw_app : Text → App
-draw_app command = with_rule (with_rule (with_rule (drawn_app command) optional_number_rule) budget_rule) calls_rule
-
--- `serve MODULE SCRIPT -n N -b BUDGET`
-abbrev pub serve_app : Text → App
-serve_app command = with_rule (with_rule (script_app command) number_rule) budget_rule
-
--- `bound MODULE -n N -b BUDGET`
-abbrev pub bound_app : Text → App
-bound_app command = with_rule (with_rule (module_app command) number_rule) budget_rule
-
--- `verify MODULE RECORD`
+-- `MODULE RECORD`
 abbrev pub record_app : Text → App
-record_app command = with_rule (module_app command) (name_rule (codes "RECORD"))
+record_app command = command_app command (name_rule (codes "MODULE") ∷ name_rule (codes "RECORD") ∷ [])
+
+-- `MODULE -n N -b BUDGET`
+abbrev pub bound_app : Text → App
+bound_app command = command_app command (name_rule (codes "MODULE") ∷ number_rule ∷ budget_rule ∷ [])
+
+-- `MODULE SCRIPT -b BUDGET --from RECORD`
+abbrev pub seq_app : Text → App
+seq_app command = command_app command (name_rule (codes "MODULE") ∷ name_rule (codes "SCRIPT") ∷ budget_rule ∷ from_rule ∷ [])
+
+-- `MODULE SCRIPT -n N -b BUDGET --from RECORD`
+abbrev pub serve_app : Text → App
+serve_app command = command_app command (name_rule (codes "MODULE") ∷ name_rule (codes "SCRIPT") ∷ number_rule ∷ budget_rule ∷ from_rule ∷ [])
+
+-- `MODULE SCRIPT SCHEDULE -n N -b BUDGET`, with which the words of `run` begin, and what of it those of `draw` and of `explain` begin with
+abbrev pub schedule_app : Text → App
+schedule_app command =
+    command_app command (name_rule (codes "MODULE") ∷ name_rule (codes "SCRIPT") ∷ name_rule (codes "SCHEDULE") ∷ number_rule ∷ budget_rule ∷ [])
+
+abbrev pub drawn_app : Text → App
+drawn_app command =
+    command_app command (name_rule (codes "MODULE") ∷ name_rule (codes "SCRIPT") ∷ new_rule (codes "SCHEDULE") ∷ optional_number_rule ∷ budget_rule ∷ [])
+
+abbrev pub texts_app : Text → App
+texts_app command =
+    command_app command (name_rule (codes "MODULE") ∷ new_rule (codes "SCRIPT") ∷ new_rule (codes "SCHEDULE") ∷ optional_number_rule ∷ budget_rule ∷ [])
+
+-- `MODULE SCRIPT SCHEDULE -n N -b BUDGET --from RECORD --tree --steps`
+abbrev pub run_app : Text → App
+run_app command = command_app command (name_rule (codes "MODULE") ∷ name_rule (codes "SCRIPT") ∷ name_rule (codes "SCHEDULE")
+    ∷ number_rule ∷ budget_rule ∷ from_rule ∷ flag_rule (codes "tree") ∷ flag_rule (codes "steps") ∷ [])
+
+-- `MODULE SCRIPT SCHEDULE -n N -b BUDGET --from RECORD --calls FROM-TO`, `MODULE RECORD --calls FROM-TO`
+abbrev pub draw_app : Text → App
+draw_app command = command_app command (name_rule (codes "MODULE") ∷ name_rule (codes "SCRIPT") ∷ new_rule (codes "SCHEDULE")
+    ∷ optional_number_rule ∷ budget_rule ∷ from_rule ∷ calls_rule ∷ [])
+
+-- `MODULE`, `MODULE SCRIPT -b BUDGET --from RECORD --traps`, `MODULE SCRIPT SCHEDULE -n N -b BUDGET --from RECORD`, `MODULE --record RECORD`
+abbrev pub explain_app : Text → App
+explain_app command = command_app command (name_rule (codes "MODULE") ∷ new_rule (codes "SCRIPT") ∷ new_rule (codes "SCHEDULE")
+    ∷ optional_number_rule ∷ budget_rule ∷ from_rule ∷ record_rule ∷ flag_rule (codes "traps") ∷ [])
 
 abbrev pub top_shape : Shape
 top_shape = record (new_app (codes "obl0")).top {

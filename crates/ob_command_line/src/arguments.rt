@@ -2,7 +2,7 @@
 
 ghost use Rattle.std.specs.Prelude.{◌≡◌, false};
 ghost use Rattle.clap.specs.Words.{new_rule, rule_of};
-ghost use Rattle.ob_command_line.specs.ClapCommand.{budget_rule, calls_rule, flag_rule, name_rule, number_rule, optional_number_rule, record_rule};
+ghost use Rattle.ob_command_line.specs.ClapCommand.{budget_rule, calls_rule, flag_rule, from_rule, name_rule, number_rule, optional_number_rule, record_rule};
 
 use clap::{Arg, ArgAction};
 use std::alloc::Global;
@@ -11,6 +11,9 @@ const HELP_RECORD: &str = "The file of the record, as `run` prints it";
 
 const HELP_BUDGET: &str =
     "How many turns each call has, 0 to 1000000; 100000 where nothing is said";
+
+const HELP_FROM: &str =
+    "The file of a record whose variables the object begins with, in the place of the module's body";
 
 const HELP_CALLS: &str =
     "Which calls are drawn: the places of the first and the last, from 1; all where nothing is said";
@@ -87,4 +90,15 @@ pub fn call_budget<'a>(alloc: Global) -> Arg<'a>
         .long("budget")
         .value_parser(clap::value_parser!(u32))
         .help(HELP_BUDGET)
+}
+
+/// The option that names a record whose variables an object begins with.
+pub fn first_record<'a>(alloc: Global) -> Arg<'a>
+    ensures rule { rule_of result ≡ from_rule }
+    ensures local { result.global ≡ false }
+{
+    Arg::new(alloc, "FROM")
+        .long("from")
+        .value_name("RECORD")
+        .help(HELP_FROM)
 }

@@ -34,22 +34,24 @@ const USAGE_CHECK: &str = "obl0 check MODULE";
 
 const USAGE_LIST: &str = "obl0 list MODULE";
 
-const USAGE_SEQ: &str = "obl0 seq MODULE SCRIPT [-b BUDGET]";
+const USAGE_SEQ: &str = "obl0 seq MODULE SCRIPT [-b BUDGET] [--from RECORD]";
 
-const USAGE_RUN: &str = "obl0 run MODULE SCRIPT SCHEDULE -n N [-b BUDGET] [--tree | --steps]";
+const USAGE_RUN: &str = "\
+obl0 run MODULE SCRIPT SCHEDULE -n N [-b BUDGET] [--from RECORD] [--steps]
+       obl0 run MODULE SCRIPT SCHEDULE -n N [-b BUDGET] --tree";
 
-const USAGE_SERVE: &str = "obl0 serve MODULE SCRIPT -n N [-b BUDGET]";
+const USAGE_SERVE: &str = "obl0 serve MODULE SCRIPT -n N [-b BUDGET] [--from RECORD]";
 
 const USAGE_DRAW: &str = "\
-obl0 draw MODULE SCRIPT SCHEDULE -n N [-b BUDGET] [--calls FROM-TO]
+obl0 draw MODULE SCRIPT SCHEDULE -n N [-b BUDGET] [--from RECORD] [--calls FROM-TO]
        obl0 draw MODULE RECORD [--calls FROM-TO]";
 
 const USAGE_VERIFY: &str = "obl0 verify MODULE RECORD";
 
 const USAGE_EXPLAIN: &str = "\
 obl0 explain MODULE
-       obl0 explain MODULE SCRIPT [-b BUDGET] [--traps]
-       obl0 explain MODULE SCRIPT SCHEDULE -n N [-b BUDGET]
+       obl0 explain MODULE SCRIPT [-b BUDGET] [--from RECORD] [--traps]
+       obl0 explain MODULE SCRIPT SCHEDULE -n N [-b BUDGET] [--from RECORD]
        obl0 explain MODULE --record RECORD";
 
 const USAGE_BOUND: &str = "obl0 bound MODULE -n N [-b BUDGET]";

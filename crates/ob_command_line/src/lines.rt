@@ -3,11 +3,11 @@
 ghost use Rattle.std.specs.Prelude.{◌≡◌, false, IfOk};
 ghost use Rattle.clap.specs.Words.{app_of};
 ghost use Rattle.clap.specs.declared.builder.command.Command.TheViews.{out-Command as fields_of};
-ghost use Rattle.ob_command_line.specs.ClapCommand.{bound_app, draw_app, drawn_app, explain_app, module_app, optional_run_app, record_app, run_app, schedule_app, script_app, seq_app, serve_app, texts_app};
+ghost use Rattle.ob_command_line.specs.ClapCommand.{bound_app, draw_app, drawn_app, explain_app, module_app, record_app, run_app, schedule_app, seq_app, serve_app, texts_app};
 
 use crate::arguments::{
-    call_budget, drawn_calls, explained_record, file_name, flag, optional_count, optional_name,
-    process_count,
+    call_budget, drawn_calls, explained_record, file_name, first_record, flag, optional_count,
+    optional_name, process_count,
 };
 use std::alloc::{AllocError, Global};
 
@@ -50,11 +50,12 @@ pub fn run_line<'a>(
 {
     schedule_line(alloc, command, about)?
         .after_help(ITEMS)
+        .arg(first_record(alloc))?
         .arg(flag(alloc, "tree", HELP_TREE))?
         .arg(flag(alloc, "steps", HELP_STEPS))
 }
 
-/// The words behind a command on a module, a script and a schedule, for a number of processes with a budget.
+/// The words behind a command on a module, a script and a schedule, for a number of processes.
 pub fn schedule_line<'a>(
     alloc: Global,
     command: &'a str,
@@ -63,7 +64,8 @@ pub fn schedule_line<'a>(
     ensures app { IfOk result (λ c. app_of c ≡ schedule_app command.entry.now) }
     ensures local { IfOk result (λ c. (fields_of c).has_globals ≡ false) }
 {
-    script_line(alloc, command, about)?
+    module_line(alloc, command, about)?
+        .arg(file_name(alloc, "SCRIPT", HELP_SCRIPT))?
         .arg(file_name(alloc, "SCHEDULE", HELP_SCHEDULE))?
         .arg(process_count(alloc))?
         .arg(call_budget(alloc))
@@ -80,8 +82,7 @@ pub fn draw_line<'a>(
 {
     drawn_line(alloc, command, about)?
         .after_help(ITEMS)
-        .arg(optional_count(alloc))?
-        .arg(call_budget(alloc))?
+        .arg(first_record(alloc))?
         .arg(drawn_calls(alloc))
 }
 
@@ -96,7 +97,9 @@ pub fn drawn_line<'a>(
 {
     module_line(alloc, command, about)?
         .arg(file_name(alloc, "SCRIPT", HELP_DRAWN))?
-        .arg(optional_name(alloc, "SCHEDULE", HELP_SCHEDULE))
+        .arg(optional_name(alloc, "SCHEDULE", HELP_SCHEDULE))?
+        .arg(optional_count(alloc))?
+        .arg(call_budget(alloc))
 }
 
 /// The words behind a command on a module and a script, for a number of processes with a budget.
@@ -108,21 +111,11 @@ pub fn serve_line<'a>(
     ensures app { IfOk result (λ c. app_of c ≡ serve_app command.entry.now) }
     ensures local { IfOk result (λ c. (fields_of c).has_globals ≡ false) }
 {
-    script_line(alloc, command, about)?
+    module_line(alloc, command, about)?
+        .arg(file_name(alloc, "SCRIPT", HELP_SCRIPT))?
         .arg(process_count(alloc))?
-        .arg(call_budget(alloc))
-}
-
-/// The words behind a command on a module and a script.
-pub fn script_line<'a>(
-    alloc: Global,
-    command: &'a str,
-    about: &'a str,
-) -> Result<clap::Command<'a>, AllocError>
-    ensures app { IfOk result (λ c. app_of c ≡ script_app command.entry.now) }
-    ensures local { IfOk result (λ c. (fields_of c).has_globals ≡ false) }
-{
-    module_line(alloc, command, about)?.arg(file_name(alloc, "SCRIPT", HELP_SCRIPT))
+        .arg(call_budget(alloc))?
+        .arg(first_record(alloc))
 }
 
 /// The words behind a command that makes the calls of a script on a module.
@@ -134,7 +127,10 @@ pub fn seq_line<'a>(
     ensures app { IfOk result (λ c. app_of c ≡ seq_app command.entry.now) }
     ensures local { IfOk result (λ c. (fields_of c).has_globals ≡ false) }
 {
-    script_line(alloc, command, about)?.arg(call_budget(alloc))
+    module_line(alloc, command, about)?
+        .arg(file_name(alloc, "SCRIPT", HELP_SCRIPT))?
+        .arg(call_budget(alloc))?
+        .arg(first_record(alloc))
 }
 
 /// The words behind a command on a module, on a script where one is named, and on a schedule or a record.
@@ -146,24 +142,11 @@ pub fn explain_line<'a>(
     ensures app { IfOk result (λ c. app_of c ≡ explain_app command.entry.now) }
     ensures local { IfOk result (λ c. (fields_of c).has_globals ≡ false) }
 {
-    optional_run_line(alloc, command, about)?
+    texts_line(alloc, command, about)?
         .after_help(ITEMS)
+        .arg(first_record(alloc))?
         .arg(explained_record(alloc))?
         .arg(flag(alloc, "traps", HELP_TRAPS))
-}
-
-/// The words of a run behind a command, of which all but the module's name may be missing.
-pub fn optional_run_line<'a>(
-    alloc: Global,
-    command: &'a str,
-    about: &'a str,
-) -> Result<clap::Command<'a>, AllocError>
-    ensures app { IfOk result (λ c. app_of c ≡ optional_run_app command.entry.now) }
-    ensures local { IfOk result (λ c. (fields_of c).has_globals ≡ false) }
-{
-    texts_line(alloc, command, about)?
-        .arg(optional_count(alloc))?
-        .arg(call_budget(alloc))
 }
 
 /// The names behind a command that explains: of a module, of a script and of a schedule, where they are named.
@@ -177,7 +160,9 @@ pub fn texts_line<'a>(
 {
     module_line(alloc, command, about)?
         .arg(optional_name(alloc, "SCRIPT", HELP_SCRIPT))?
-        .arg(optional_name(alloc, "SCHEDULE", HELP_SCHEDULE))
+        .arg(optional_name(alloc, "SCHEDULE", HELP_SCHEDULE))?
+        .arg(optional_count(alloc))?
+        .arg(call_budget(alloc))
 }
 
 /// The words behind a command on a module, for a number of processes with a budget.

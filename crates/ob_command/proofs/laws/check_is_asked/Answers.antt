@@ -1,4 +1,4 @@
-use Rattle.ob_command.proofs.NameForms.{check_asked}
+use Rattle.ob_command.proofs.CommandForms.{check_asked}
 use Rattle.ob_command.proofs.laws.check_is_asked.Goals as goal
 
 pub returns : goal.returns

@@ -1,4 +1,4 @@
-use Rattle.ob_command.proofs.NameForms.{list_asked}
+use Rattle.ob_command.proofs.CommandForms.{list_asked}
 use Rattle.ob_command.proofs.laws.list_is_asked.Goals as goal
 
 pub returns : goal.returns

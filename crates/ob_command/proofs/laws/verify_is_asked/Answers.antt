@@ -1,4 +1,4 @@
-use Rattle.ob_command.proofs.NameForms.{verify_asked}
+use Rattle.ob_command.proofs.CommandForms.{verify_asked}
 use Rattle.ob_command.proofs.laws.verify_is_asked.Goals as goal
 
 pub returns : goal.returns

@@ -1,0 +1,210 @@
+-- What each form of a command asks for.
+use Rattle.std.proofs.Common.{◌≡◌, ◌∙◌, ◌||◌, ℕ, refl, ap, List, [], ◌∷◌, find, codes, true, false, Bool, if◌then◌else◌, Option, Some, None, is_some, option_and_then, option_map, unwrap_or}
+use Rattle.std.specs.Str.{bytes_eq}
+use Rattle.clap.specs.Walk.{Text}
+use Rattle.ob_command.specs.CommandLine.{Bound, CallsRequest, Draw, DrawRecord, Explain, ExplainCalls, ExplainRecord, ExplainRun, ExplainTraps, Given, Request, Run, RunRequest, RunSteps, RunTree, Seq, Serve, Unclear, asked, budget_number, default_budget, number, range_by}
+use Rattle.ob_command.specs.PlainForms.{Chosen, Has, Lacks, ModuleAsksFor, RunAsksFor, ScriptAsksFor, bound_options, calls_with, count_in, draw_options, explain_options, id_of, is_chosen, run_options, seq_options, serve_options, text_of, turns_in, value_in}
+use Rattle.ob_command.specs.declared.command.CallNumbers.{CallNumbers}
+use Rattle.ob_command.proofs.CommandForms.{bound_asks, draw_schedule_asks, draw_script_asks, explain_module_asks, explain_schedule_asks, explain_script_asks, run_asks, seq_asks, serve_asks}
+use Rattle.ob_command.proofs.OptionRows.{given_as}
+
+-- ---- options that are there, and that are not
+
+no_value : (name : Text) (chosen : List Chosen) → is_chosen name chosen ≡ false → value_in name chosen ≡ None
+no_value name [] none = refl
+no_value name (one ∷ others) none = go (bytes_eq (id_of one) name) none (no_value name others)
+  where
+    go : (t : Bool) → (t || is_chosen name others) ≡ false → (is_chosen name others ≡ false → value_in name others ≡ None)
+        → option_map text_of (if t then Some one else find (λ x. bytes_eq (id_of x) name) others) ≡ None
+    go true h later = cc
+    go false h later = later h
+
+a_value : (name : Text) (chosen : List Chosen) → is_chosen name chosen ≡ true → is_some (value_in name chosen) ≡ true
+a_value name [] is = cc
+a_value name (one ∷ others) is = go (bytes_eq (id_of one) name) is (a_value name others)
+  where
+    go : (t : Bool) → (t || is_chosen name others) ≡ true → (is_chosen name others ≡ true → is_some (value_in name others) ≡ true)
+        → is_some (option_map text_of (if t then Some one else find (λ x. bytes_eq (id_of x) name) others)) ≡ true
+    go true h later = refl
+    go false h later = later h
+
+is_there : (t : Bool) (name : Text) (chosen : List Chosen) (k : ℕ) → count_in chosen ≡ Some k → is_chosen (codes "N") chosen ≡ t → t ≡ true
+is_there true name chosen k is h = refl
+is_there false name chosen k is h =
+    let none : count_in chosen ≡ None = ap (option_and_then number) (no_value (codes "N") chosen h) in
+    cc
+
+counted : (chosen : List Chosen) (k : ℕ) → count_in chosen ≡ Some k → is_chosen (codes "N") chosen ≡ true
+counted chosen k is = is_there (is_chosen (codes "N") chosen) (codes "N") chosen k is refl
+
+no_count : (chosen : List Chosen) → is_chosen (codes "N") chosen ≡ false → count_in chosen ≡ None
+no_count chosen none = ap (option_and_then number) (no_value (codes "N") chosen none)
+
+no_turns : (chosen : List Chosen) → is_chosen (codes "BUDGET") chosen ≡ false → option_and_then budget_number (value_in (codes "BUDGET") chosen) ≡ None
+no_turns chosen none = ap (option_and_then budget_number) (no_value (codes "BUDGET") chosen none)
+
+not_needed : (chosen : List Chosen) → false ≡ true → is_chosen (codes "N") chosen ≡ true
+not_needed chosen h = cc
+
+-- ---- the table, where these are given
+
+abbrev asks : (command m : Text) → Given → Request
+asks command m given = unwrap_or (asked command m given) Unclear
+
+abbrev calls_as : (m s : Text) (k : ℕ) (t : Option ℕ) (f : Option Text) → CallsRequest
+calls_as m s k t f = record { module_name = m; script_name = s; processes = k; budget = unwrap_or t default_budget; from_name = f }
+
+abbrev run_as : (m s d : Text) (k : ℕ) (t : Option ℕ) (f : Option Text) → RunRequest
+run_as m s d k t f = record { calls = calls_as m s k t f; schedule_name = d }
+
+module _ (m s d : Text) (r f c : Option Text) (o t : Option ℕ) (x y z : Bool) where
+  abbrev alone : Given
+  alone = given_as None None r f c o t x y z
+
+  abbrev with_script : Given
+  with_script = given_as (Some s) None r f c o t x y z
+
+  abbrev with_schedule : Given
+  with_schedule = given_as (Some s) (Some d) r f c o t x y z
+
+  a_run : (k : ℕ) → o ≡ Some k → x ≡ false → y ≡ false → asks (codes "run") m with_schedule ≡ Run (run_as m s d k t f)
+  a_run k is_o is_x is_y = rw (is_o, is_x, is_y) refl
+
+  by_tree : (k : ℕ) → o ≡ Some k → x ≡ true → y ≡ false → f ≡ None → asks (codes "run") m with_schedule ≡ RunTree (run_as m s d k t f)
+  by_tree k is_o is_x is_y is_f = rw (is_o, is_x, is_y, is_f) refl
+
+  with_steps : (k : ℕ) → o ≡ Some k → y ≡ true → x ≡ false → asks (codes "run") m with_schedule ≡ RunSteps (run_as m s d k t f)
+  with_steps k is_o is_y is_x = rw (is_o, is_x, is_y) refl
+
+  no_steps : x ≡ true → y ≡ true → asks (codes "run") m with_schedule ≡ Unclear
+  no_steps is_x is_y = rw (is_x, is_y) refl
+
+  served : (k : ℕ) → o ≡ Some k → asks (codes "serve") m with_script ≡ Serve (calls_as m s k t f)
+  served k is_o = rw is_o refl
+
+  bounded : (k : ℕ) → o ≡ Some k → asks (codes "bound") m alone ≡ Bound m k (unwrap_or t default_budget)
+  bounded k is_o = rw is_o refl
+
+  drawn : (k : ℕ) (calls : Option CallNumbers) → o ≡ Some k → range_by c ≡ Some calls → asks (codes "draw") m with_schedule ≡ Draw (run_as m s d k t f) calls
+  drawn k calls is_o is_c = rw is_o (ap (λ u. unwrap_or (option_and_then (λ calls. Some (Draw (run_as m s d k t f) calls)) u) Unclear) is_c)
+
+  record_drawn : (calls : Option CallNumbers) → range_by c ≡ Some calls → o ≡ None → t ≡ None → f ≡ None
+      → asks (codes "draw") m with_script ≡ DrawRecord m s calls
+  record_drawn calls is_c is_o is_t is_f =
+      rw (is_o, is_t, is_f) (ap (λ u. unwrap_or (option_and_then (λ calls. Some (DrawRecord m s calls)) u) Unclear) is_c)
+
+  explained : r ≡ None → f ≡ None → o ≡ None → z ≡ false → asks (codes "explain") m alone ≡ Explain m (unwrap_or t default_budget)
+  explained is_r is_f is_o is_z = rw (is_r, is_f, is_o, is_z) refl
+
+  record_explained : (q : Text) → r ≡ Some q → f ≡ None → o ≡ None → t ≡ None → z ≡ false → asks (codes "explain") m alone ≡ ExplainRecord m q
+  record_explained q is_r is_f is_o is_t is_z = rw (is_r, is_f, is_o, is_t, is_z) refl
+
+  calls_explained : r ≡ None → o ≡ None → z ≡ false → asks (codes "explain") m with_script ≡ ExplainCalls (calls_as m s 16 t f)
+  calls_explained is_r is_o is_z = rw (is_r, is_o, is_z) refl
+
+  traps_explained : z ≡ true → r ≡ None → o ≡ None → asks (codes "explain") m with_script ≡ ExplainTraps (calls_as m s 16 t f)
+  traps_explained is_z is_r is_o = rw (is_r, is_o, is_z) refl
+
+  run_explained : (k : ℕ) → o ≡ Some k → r ≡ None → z ≡ false → asks (codes "explain") m with_schedule ≡ ExplainRun (run_as m s d k t f)
+  run_explained k is_o is_r is_z = rw (is_r, is_o, is_z) refl
+
+no_from : (m s d : Text) (r f c : Option Text) (o t : Option ℕ) (x y z : Bool) → x ≡ true → is_some f ≡ true
+    → asks (codes "run") m (given_as (Some s) (Some d) r f c o t x y z) ≡ Unclear
+no_from m s d r None c o t x y z is_x is_f = cc
+no_from m s d r (Some f) c o t x true z is_x is_f = rw is_x refl
+no_from m s d r (Some f) c o t x false z is_x is_f = rw is_x refl
+
+-- ---- what is given by options
+
+abbrev told : List Chosen → Option Text
+told = value_in (codes "RECORD")
+
+abbrev begun : List Chosen → Option Text
+begun = value_in (codes "FROM")
+
+abbrev shown : List Chosen → Option Text
+shown = value_in (codes "FROM-TO")
+
+abbrev spent : List Chosen → Option ℕ
+spent chosen = option_and_then budget_number (value_in (codes "BUDGET") chosen)
+
+abbrev treed : List Chosen → Bool
+treed = is_chosen (codes "tree")
+
+abbrev stepped : List Chosen → Bool
+stepped = is_chosen (codes "steps")
+
+abbrev trapped : List Chosen → Bool
+trapped = is_chosen (codes "traps")
+
+-- ---- so much for the words
+
+pub seq_form : ScriptAsksFor (codes "seq") seq_options (Lacks []) (λ m s chosen. Seq (calls_with m s 16 chosen))
+seq_form m s chosen no_m no_s plain lacks = seq_asks m s chosen no_m no_s plain (not_needed chosen)
+
+pub run_form : RunAsksFor (codes "run") run_options (Lacks (codes "tree" ∷ codes "steps" ∷ [])) Run
+run_form m s d chosen k no_m no_s no_d plain count lacks =
+    run_asks m s d chosen no_m no_s no_d plain (λ e. counted chosen k count) ∙ a_run m s d (told chosen) (begun chosen) (shown chosen) (count_in chosen) (spent chosen) (treed chosen) (stepped chosen) (trapped chosen) k count lacks.0 lacks.1.0
+
+pub tree_form : RunAsksFor (codes "run") run_options (λ chosen. Has (codes "tree") chosen × Lacks (codes "steps" ∷ codes "FROM" ∷ []) chosen) RunTree
+tree_form m s d chosen k no_m no_s no_d plain count holds =
+    run_asks m s d chosen no_m no_s no_d plain (λ e. counted chosen k count)
+    ∙ by_tree m s d (told chosen) (begun chosen) (shown chosen) (count_in chosen) (spent chosen) (treed chosen) (stepped chosen) (trapped chosen) k count holds.0 holds.1.0 (no_value (codes "FROM") chosen holds.1.1.0)
+
+pub steps_form : RunAsksFor (codes "run") run_options (λ chosen. Has (codes "steps") chosen × Lacks (codes "tree" ∷ []) chosen) RunSteps
+steps_form m s d chosen k no_m no_s no_d plain count holds =
+    run_asks m s d chosen no_m no_s no_d plain (λ e. counted chosen k count) ∙ with_steps m s d (told chosen) (begun chosen) (shown chosen) (count_in chosen) (spent chosen) (treed chosen) (stepped chosen) (trapped chosen) k count holds.0 holds.1.0
+
+pub tree_steps_form : RunAsksFor (codes "run") run_options (λ chosen. Has (codes "tree") chosen × Has (codes "steps") chosen) (λ run. Unclear)
+tree_steps_form m s d chosen k no_m no_s no_d plain count holds =
+    run_asks m s d chosen no_m no_s no_d plain (λ e. counted chosen k count) ∙ no_steps m s d (told chosen) (begun chosen) (shown chosen) (count_in chosen) (spent chosen) (treed chosen) (stepped chosen) (trapped chosen) holds.0 holds.1
+
+pub tree_from_form : RunAsksFor (codes "run") run_options (λ chosen. Has (codes "tree") chosen × Has (codes "FROM") chosen) (λ run. Unclear)
+tree_from_form m s d chosen k no_m no_s no_d plain count holds =
+    run_asks m s d chosen no_m no_s no_d plain (λ e. counted chosen k count)
+    ∙ no_from m s d (told chosen) (begun chosen) (shown chosen) (count_in chosen) (spent chosen) (treed chosen) (stepped chosen) (trapped chosen) holds.0 (a_value (codes "FROM") chosen holds.1)
+
+pub serve_form : (k : ℕ) → ScriptAsksFor (codes "serve") serve_options (λ chosen. count_in chosen ≡ Some k) (λ m s chosen. Serve (calls_with m s k chosen))
+serve_form k m s chosen no_m no_s plain count =
+    serve_asks m s chosen no_m no_s plain (λ e. counted chosen k count) ∙ served m s [] (told chosen) (begun chosen) (shown chosen) (count_in chosen) (spent chosen) (treed chosen) (stepped chosen) (trapped chosen) k count
+
+pub bound_form : (k : ℕ) → ModuleAsksFor (codes "bound") bound_options (λ chosen. count_in chosen ≡ Some k) (λ m chosen. Bound m k (turns_in chosen))
+bound_form k m chosen no_m plain count = bound_asks m chosen no_m plain (λ e. counted chosen k count) ∙ bounded m [] [] (told chosen) (begun chosen) (shown chosen) (count_in chosen) (spent chosen) (treed chosen) (stepped chosen) (trapped chosen) k count
+
+pub draw_form : (calls : Option CallNumbers) → RunAsksFor (codes "draw") draw_options (λ chosen. range_by (value_in (codes "FROM-TO") chosen) ≡ Some calls) (λ run. Draw run calls)
+draw_form calls m s d chosen k no_m no_s no_d plain count range =
+    draw_schedule_asks m s d chosen no_m no_s no_d plain (not_needed chosen) ∙ drawn m s d (told chosen) (begun chosen) (shown chosen) (count_in chosen) (spent chosen) (treed chosen) (stepped chosen) (trapped chosen) k calls count range
+
+pub draw_record_form : (calls : Option CallNumbers) → ScriptAsksFor (codes "draw") draw_options
+    (λ chosen. (range_by (value_in (codes "FROM-TO") chosen) ≡ Some calls) × Lacks (codes "N" ∷ codes "BUDGET" ∷ codes "FROM" ∷ []) chosen) (λ m r chosen. DrawRecord m r calls)
+draw_record_form calls m r chosen no_m no_r plain holds =
+    draw_script_asks m r chosen no_m no_r plain (not_needed chosen)
+    ∙ record_drawn m r [] (told chosen) (begun chosen) (shown chosen) (count_in chosen) (spent chosen) (treed chosen) (stepped chosen) (trapped chosen) calls holds.0 (no_count chosen holds.1.0) (no_turns chosen holds.1.1.0) (no_value (codes "FROM") chosen holds.1.1.1.0)
+
+pub explain_form : ModuleAsksFor (codes "explain") explain_options (Lacks (codes "RECORD" ∷ codes "FROM" ∷ codes "N" ∷ codes "traps" ∷ [])) (λ m chosen. Explain m (turns_in chosen))
+explain_form m chosen no_m plain lacks =
+    explain_module_asks m chosen no_m plain (not_needed chosen)
+    ∙ explained m [] [] (told chosen) (begun chosen) (shown chosen) (count_in chosen) (spent chosen) (treed chosen) (stepped chosen) (trapped chosen) (no_value (codes "RECORD") chosen lacks.0) (no_value (codes "FROM") chosen lacks.1.0) (no_count chosen lacks.1.1.0) lacks.1.1.1.0
+
+pub explain_record_form : (r : Text) → ModuleAsksFor (codes "explain") explain_options
+    (λ chosen. (value_in (codes "RECORD") chosen ≡ Some r) × Lacks (codes "FROM" ∷ codes "N" ∷ codes "BUDGET" ∷ codes "traps" ∷ []) chosen) (λ m chosen. ExplainRecord m r)
+explain_record_form r m chosen no_m plain holds =
+    explain_module_asks m chosen no_m plain (not_needed chosen)
+    ∙ record_explained m [] [] (told chosen) (begun chosen) (shown chosen) (count_in chosen) (spent chosen) (treed chosen) (stepped chosen) (trapped chosen) r holds.0 (no_value (codes "FROM") chosen holds.1.0) (no_count chosen holds.1.1.0) (no_turns chosen holds.1.1.1.0) holds.1.1.1.1.0
+
+pub explain_calls_form : ScriptAsksFor (codes "explain") explain_options (Lacks (codes "RECORD" ∷ codes "N" ∷ codes "traps" ∷ []))
+    (λ m s chosen. ExplainCalls (calls_with m s 16 chosen))
+explain_calls_form m s chosen no_m no_s plain lacks =
+    explain_script_asks m s chosen no_m no_s plain (not_needed chosen)
+    ∙ calls_explained m s [] (told chosen) (begun chosen) (shown chosen) (count_in chosen) (spent chosen) (treed chosen) (stepped chosen) (trapped chosen) (no_value (codes "RECORD") chosen lacks.0) (no_count chosen lacks.1.0) lacks.1.1.0
+
+pub explain_traps_form : ScriptAsksFor (codes "explain") explain_options (λ chosen. Has (codes "traps") chosen × Lacks (codes "RECORD" ∷ codes "N" ∷ []) chosen)
+    (λ m s chosen. ExplainTraps (calls_with m s 16 chosen))
+explain_traps_form m s chosen no_m no_s plain holds =
+    explain_script_asks m s chosen no_m no_s plain (not_needed chosen)
+    ∙ traps_explained m s [] (told chosen) (begun chosen) (shown chosen) (count_in chosen) (spent chosen) (treed chosen) (stepped chosen) (trapped chosen) holds.0 (no_value (codes "RECORD") chosen holds.1.0) (no_count chosen holds.1.1.0)
+
+pub explain_run_form : RunAsksFor (codes "explain") explain_options (Lacks (codes "RECORD" ∷ codes "traps" ∷ [])) ExplainRun
+explain_run_form m s d chosen k no_m no_s no_d plain count lacks =
+    explain_schedule_asks m s d chosen no_m no_s no_d plain (not_needed chosen)
+    ∙ run_explained m s d (told chosen) (begun chosen) (shown chosen) (count_in chosen) (spent chosen) (treed chosen) (stepped chosen) (trapped chosen) k count (no_value (codes "RECORD") chosen lacks.0) lacks.1.0

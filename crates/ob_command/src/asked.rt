@@ -1,0 +1,217 @@
+//! What a command asks for, of what is given behind it.
+
+ghost use Rattle.std.specs.Prelude.{◌≡◌, option_map};
+ghost use Rattle.ob_command.specs.CommandLine.{asked, asked_by, bound_of, calls_by, calls_of, draw_forms, explain_forms};
+ghost use Rattle.ob_command.specs.CommandLine.{picture_of, record_picture_of, run_forms, run_of, sequence_of, turns_of};
+ghost use Rattle.ob_command.specs.Commands.{calls_request_of, given_by, request_of, run_request_of};
+
+use crate::call_range::range_by;
+use crate::command::{CallsCommand, Command, RunCommand};
+use crate::given::{GivenWords, Part, fits};
+
+/// How many turns each call has where nothing is said of them.
+const DEFAULT_BUDGET: u32 = 100_000;
+
+/// Of how many processes calls may be that are made one at a time.
+const SEQUENCE_PROCESSES: usize = 16;
+
+/// The command of a name on a module, of what is given behind it.
+pub(crate) fn asked<'a>(
+    name: &str,
+    module_name: &'a str,
+    given: &GivenWords<'a>,
+) -> Option<Command<'a>>
+    ensures { option_map request_of result ≡ asked name.now module_name.entry.now (given_by given.now) }
+{
+    match name {
+        "check" => Some(Command::Check { module_name }),
+        "list" => Some(Command::List { module_name }),
+        "seq" => Some(Command::Seq(sequence_of(module_name, given)?)),
+        "run" => run_asked(module_name, given),
+        "serve" => Some(Command::Serve(calls_of(module_name, given)?)),
+        "draw" => draw_asked(module_name, given),
+        "verify" => Some(Command::Verify {
+            module_name,
+            record_name: given.record_name?,
+        }),
+        "explain" => explain_asked(module_name, given),
+        "bound" => bound_of(module_name, given),
+        _ => None,
+    }
+}
+
+/// How a run is made and what is told of it, of what is given behind `run`.
+fn run_asked<'a>(module_name: &'a str, given: &GivenWords<'a>) -> Option<Command<'a>>
+    ensures { option_map request_of result ≡ asked_by run_forms module_name.entry.now (given_by given.now) }
+{
+    if fits(given, &[Part::Tree], &[Part::Steps, Part::From]) {
+        return Some(Command::RunTree(run_of(module_name, given)?));
+    }
+    if fits(given, &[Part::Steps], &[Part::Tree]) {
+        return Some(Command::RunSteps(run_of(module_name, given)?));
+    }
+    if fits(given, &[], &[Part::Tree, Part::Steps]) {
+        return Some(Command::Run(run_of(module_name, given)?));
+    }
+    None
+}
+
+/// What is to be drawn, of what is given behind `draw`.
+fn draw_asked<'a>(module_name: &'a str, given: &GivenWords<'a>) -> Option<Command<'a>>
+    ensures { option_map request_of result ≡ asked_by draw_forms module_name.entry.now (given_by given.now) }
+{
+    if fits(given, &[Part::Schedule], &[]) {
+        return picture_of(module_name, given);
+    }
+    if fits(
+        given,
+        &[],
+        &[Part::Schedule, Part::Processes, Part::Budget, Part::From],
+    ) {
+        return record_picture_of(module_name, given);
+    }
+    None
+}
+
+/// The picture of a run.
+fn picture_of<'a>(module_name: &'a str, given: &GivenWords<'a>) -> Option<Command<'a>>
+    ensures { option_map request_of result ≡ picture_of module_name.entry.now (given_by given.now) }
+{
+    let calls = range_by(given.range)?;
+    let run = run_of(module_name, given)?;
+    Some(Command::Draw { run, calls })
+}
+
+/// The picture of a record, whose file stands in the place of a script.
+fn record_picture_of<'a>(module_name: &'a str, given: &GivenWords<'a>) -> Option<Command<'a>>
+    ensures { option_map request_of result ≡ record_picture_of module_name.entry.now (given_by given.now) }
+{
+    let calls = range_by(given.range)?;
+    let record_name = given.script_name?;
+    Some(Command::DrawRecord {
+        module_name,
+        record_name,
+        calls,
+    })
+}
+
+/// What is to be shown, of what is given behind `explain`.
+fn explain_asked<'a>(module_name: &'a str, given: &GivenWords<'a>) -> Option<Command<'a>>
+    ensures { option_map request_of result ≡ asked_by explain_forms module_name.entry.now (given_by given.now) }
+{
+    if fits(
+        given,
+        &[Part::Record],
+        &[
+            Part::Script,
+            Part::Processes,
+            Part::Budget,
+            Part::From,
+            Part::Traps,
+        ],
+    ) {
+        return Some(Command::ExplainRecord {
+            module_name,
+            record_name: given.record_name?,
+        });
+    }
+    if fits(
+        given,
+        &[Part::Traps],
+        &[Part::Record, Part::Schedule, Part::Processes],
+    ) {
+        return Some(Command::ExplainTraps(sequence_of(module_name, given)?));
+    }
+    if fits(given, &[Part::Schedule], &[Part::Record, Part::Traps]) {
+        return Some(Command::ExplainRun(run_of(module_name, given)?));
+    }
+    if fits(
+        given,
+        &[Part::Script],
+        &[Part::Record, Part::Traps, Part::Schedule, Part::Processes],
+    ) {
+        return Some(Command::ExplainCalls(sequence_of(module_name, given)?));
+    }
+    if fits(
+        given,
+        &[],
+        &[
+            Part::Record,
+            Part::Traps,
+            Part::Schedule,
+            Part::Script,
+            Part::Processes,
+            Part::From,
+        ],
+    ) {
+        return Some(Command::Explain {
+            module_name,
+            budget: turns_of(given),
+        });
+    }
+    None
+}
+
+/// What is to be told of own steps.
+fn bound_of<'a>(module_name: &'a str, given: &GivenWords<'a>) -> Option<Command<'a>>
+    ensures { option_map request_of result ≡ bound_of module_name.entry.now (given_by given.now) }
+{
+    let processes = given.processes?;
+    Some(Command::Bound {
+        module_name,
+        processes: usize::from(processes),
+        budget: turns_of(given),
+    })
+}
+
+/// The run of calls by a schedule.
+fn run_of<'a>(module_name: &'a str, given: &GivenWords<'a>) -> Option<RunCommand<'a>>
+    ensures { option_map run_request_of result ≡ run_of module_name.entry.now (given_by given.now) }
+{
+    let calls = calls_of(module_name, given)?;
+    let schedule_name = given.schedule_name?;
+    Some(RunCommand {
+        calls,
+        schedule_name,
+    })
+}
+
+/// The calls of as many processes as are given.
+fn calls_of<'a>(module_name: &'a str, given: &GivenWords<'a>) -> Option<CallsCommand<'a>>
+    ensures { option_map calls_request_of result ≡ calls_of module_name.entry.now (given_by given.now) }
+{
+    let processes = given.processes?;
+    calls_by(usize::from(processes), module_name, given)
+}
+
+/// The calls that are made one at a time.
+fn sequence_of<'a>(module_name: &'a str, given: &GivenWords<'a>) -> Option<CallsCommand<'a>>
+    ensures { option_map calls_request_of result ≡ sequence_of module_name.entry.now (given_by given.now) }
+{
+    calls_by(SEQUENCE_PROCESSES, module_name, given)
+}
+
+/// The calls of a script on a module, of so many processes.
+fn calls_by<'a>(
+    processes: usize,
+    module_name: &'a str,
+    given: &GivenWords<'a>,
+) -> Option<CallsCommand<'a>>
+    ensures { option_map calls_request_of result ≡ calls_by processes module_name.entry.now (given_by given.now) }
+{
+    let script_name = given.script_name?;
+    Some(CallsCommand {
+        module_name,
+        script_name,
+        processes,
+        budget: turns_of(given),
+        from_name: given.from_name,
+    })
+}
+
+/// How many turns each call has.
+fn turns_of(given: &GivenWords<'_>) -> u32
+    ensures { result ≡ turns_of (given_by given.now) }
+{
+    given.budget.unwrap_or(DEFAULT_BUDGET)
+}
