@@ -1,8 +1,9 @@
 -- The machine of a desk that was closed on an object, and its record.
-use Rattle.std.proofs.Common.{◌≡◌, ◌∙◌, ℕ, List, [], ◌∷◌, ap, subst, sym}
-use Rattle.std.specs.Prelude.{ℤ}
+use Rattle.std.proofs.Common.{◌≡◌, ◌∙◌, ℕ, List, ap, refl, subst, sym}
+use Rattle.std.proofs.Math.Logic.{∥∥₁_map}
+use Rattle.std.specs.Prelude.{Option, ℤ}
+use Rattle.ob_positions.specs.Store.{Activation}
 use Rattle.ob_code_engine.specs.CodeEngine.{CompiledParts}
-use Rattle.ob_code_law.proofs.CodeLaw.{openings_lawful}
 use Rattle.ob_code_law.specs.CodeMeaning.{EngineParts, code_meaning}
 use Rattle.ob_code_law.specs.Compiled.{HasReserve, IsFitting}
 use Rattle.ob_code_law.specs.Parts.{IsLawfulFor}
@@ -14,12 +15,12 @@ use Rattle.ob_desk.specs.Desk.{Desk}
 use Rattle.ob_desk.specs.declared.fault.CloseFault.{CloseFault}
 use Rattle.ob_desk_floor.specs.Seat.{Seat}
 use Rattle.ob_desk_serve.specs.Served.{IsLegalRecord, IsMeantRecord, IsRecordOf, desk_of}
-use Rattle.ob_meaning.specs.Object.{most_turns}
-use Rattle.ob_object_compile.proofs.Openings.{opening_named}
-use Rattle.ob_object_compile.specs.Compilation.{ObjectParts, Opens}
+use Rattle.ob_agreement.specs.Same.{SameState}
+use Rattle.ob_meaning.specs.Object as Named
+use Rattle.ob_object_compile.specs.Compilation.{ObjectParts}
 use Rattle.ob_object_compile.specs.Sound.{IsSoundObject}
 use Rattle.ob_object_order.specs.LegalOrder.{IsLegalOrder}
-use Rattle.ob_object_record.specs.Record.{Record}
+use Rattle.ob_object_record.specs.Record.{Record, carried_from}
 use Rattle.ob_object_run.specs.Recorded.{IsLegalFor, IsMeantFor, IsMeantOrder, IsNamedObjectOf, IsObject, IsObjectOf}
 use Rattle.ob_text_words.specs.ScriptCalls.{ScriptCall}
 use Rattle.wf_object.specs.View.{Object}
@@ -34,11 +35,11 @@ IsClosed d m = Close.IsClosed (λ (x : CompiledParts). x.parts) (λ x. code_mean
 abbrev pub TellsClosing : Desk EngineParts → List Seat → CloseFault → Type 0
 TellsClosing d seats e = Close.TellsClosing (λ (x : CompiledParts). x.parts) (λ x. code_meaning x.parts) (λ x. IsLawfulFor x.parts) (λ x. IsFitting x.parts.exports) (λ x. HasReserve x.parts) d seats e
 
--- the opening of a sound object has the words of the object
+-- the state with which a sound object begins has the words of the object
 opening_of : (o : ObjectParts) → IsSoundObject o → IsObjectOf o.program o.engine o.opening (encoded o.opening)
 opening_of o sound = record {
   compiled = record { well = sound.well; parts_are = sound.engine_is };
-  encodes = openings_lawful o.program most_turns sound.begins.0 (o.opening ∷ []) sound.well sound.begins.1;
+  encodes = record { typed = sound.begins; words_are = refl };
 }
 
 -- of an engine of the object's parts, with the words of its opening
@@ -68,18 +69,14 @@ module _ (o : ObjectParts) (parts : EngineParts) (words : List ℤ) (sound : IsS
     legal_of r legal =
         subst (λ (k : ℕ). ∥ IsLegalOrder o.program k o.opening r.history r.order r.state ∥₁) budget (legal o.program o.opening variables object_of)
 
-    opens : Opens o.program o.opening
-    opens = opening_named o.program sound.resolved o.opening sound.begins
-
-    named_of : IsNamedObjectOf o.program parts opens.state words
-    named_of = record { resolved = sound.resolved; activation = o.opening; same = opens.same; is = object_of }
+    named_of : (state : Named.State) → SameState o.program state o.opening → IsNamedObjectOf o.program parts state words
+    named_of state same = record { resolved = sound.resolved; activation = o.opening; same = same; is = object_of }
 
     -- and by what its calls mean
-    pub meant_of : (r : Record) → IsMeantFor layout.variables parts words r → IsMeantRecord o r
-    meant_of r meant = record {
-      opens = opens;
-      meant = subst (λ (k : ℕ). ∥ IsMeantOrder o.program k opens.state r ∥₁) budget (meant o.program opens.state variables named_of);
-    }
+    pub meant_of : (r : Record) (was : Option Activation) → IsMeantFor layout.variables parts words r → IsMeantRecord o (record r { carried = was })
+    meant_of r was meant = λ state same.
+        ∥∥₁_map (subst (λ (k : ℕ). ∥ IsMeantOrder o.program k state r ∥₁) budget (meant o.program state variables (named_of state same)))
+        (λ m. record { last = m.last; legal = m.legal; same = m.same })
 
 module _ (o : ObjectParts) (scripts : List ScriptCall) (m : Object CompiledParts Run) (closed : IsClosed (desk_of o scripts) m) where
   -- the run to the machine, as one of the object
@@ -92,6 +89,7 @@ module _ (o : ObjectParts) (scripts : List ScriptCall) (m : Object CompiledParts
   pub record Shows (r : Record) : Type 0 where
     pub processes : r.processes ≡ o.processes
     pub budget : r.budget ≡ o.engine.budget
+    pub carried : r.carried ≡ carried_from o.carried o.opening
     pub history : r.history ≡ m.state.records.history
     pub order : r.order ≡ m.state.records.order
     pub schedule : r.schedule ≡ m.state.records.schedule
@@ -104,6 +102,7 @@ module _ (o : ObjectParts) (scripts : List ScriptCall) (m : Object CompiledParts
     runs = run_of;
     processes = h.processes;
     budget = h.budget;
+    carried = h.carried;
     history = h.history;
     order = h.order;
     schedule = h.schedule;

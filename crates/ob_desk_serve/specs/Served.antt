@@ -10,9 +10,11 @@ use Rattle.ob_desk.specs.Desk.{Desk, Terms, desk_in}
 use Rattle.ob_desk_floor.specs.Floor.{turns_in}
 use Rattle.ob_desk_workers.specs.Rounds.{IsLet, Says}
 use Rattle.ob_interface.specs.Call.{ObjectCall, Reply}
-use Rattle.ob_object_compile.specs.Compilation.{ObjectParts, Opens}
+use Rattle.ob_agreement.specs.Same.{SameState}
+use Rattle.ob_meaning.specs.Object as Named
+use Rattle.ob_object_compile.specs.Compilation.{ObjectParts}
 use Rattle.ob_object_order.specs.LegalOrder.{IsLegalOrder}
-use Rattle.ob_object_record.specs.Record.{Record}
+use Rattle.ob_object_record.specs.Record.{Record, carried_from}
 use Rattle.ob_object_run.specs.Recorded.{IsMeantOrder}
 use Rattle.ob_text_words.specs.ScriptCalls.{ScriptCall}
 use Rattle.wf_history.specs.History.{Event, own_answers}
@@ -28,13 +30,12 @@ kept_desk d = desk_in (λ (e : CompiledParts). e.parts) d
 
 -- the desk at which the workers of an object's processes take their turns
 abbrev pub desk_of : ObjectParts → List ScriptCall → Desk EngineParts
-desk_of o scripts = record { code = o.engine; processes = o.processes; opening = encoded o.opening; scripts = scripts_of scripts; tag = 0 }
+desk_of o scripts = record { code = o.engine; processes = o.processes; opening = encoded o.opening; carried = o.carried; scripts = scripts_of scripts; tag = 0 }
 
--- from the state of the module with which the object opens, the record's order is a legal order of its history by what calls mean with
--- the object's budget, and leads to the record's state
-pub record IsMeantRecord (o : ObjectParts) (r : Record) : Type 0 where
-  pub opens : Opens o.program o.opening
-  pub meant : ∥ IsMeantOrder o.program o.engine.budget opens.state r ∥₁
+-- from the state by name with which the object begins, the record's order is a legal order of its history by what calls mean with the
+-- object's budget, and leads to the record's state
+abbrev pub IsMeantRecord : ObjectParts → Record → Type 0
+IsMeantRecord o r = (opening : Named.State) → SameState o.program opening o.opening → ∥ IsMeantOrder o.program o.engine.budget opening r ∥₁
 
 -- the same by what calls come to by position
 abbrev pub IsLegalRecord : ObjectParts → Record → Type 0
@@ -47,6 +48,7 @@ pub record IsRecordOf (o : ObjectParts) (scripts : List ScriptCall) (r : Record)
   pub runs : IsRun (code_meaning o.engine) (IsLawfulFor o.engine) (IsFitting o.engine.exports) (HasReserve o.engine) o.processes (encoded o.opening) (performed (scripts_of scripts) state.records.schedule) state
   pub processes : r.processes ≡ o.processes
   pub budget : r.budget ≡ o.engine.budget
+  pub carried : r.carried ≡ carried_from o.carried o.opening
   pub history : r.history ≡ state.records.history
   pub order : r.order ≡ state.records.order
   pub schedule : r.schedule ≡ state.records.schedule

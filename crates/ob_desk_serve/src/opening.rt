@@ -13,7 +13,7 @@ ghost use Rattle.wf_play.specs.Played.{scripts_of};
 use ob_code_engine::CodeEngine;
 use ob_code_layout::encode;
 use ob_desk::Desk;
-use ob_desk_floor::{Seat, Submission};
+use ob_desk_floor::{Opening, Seat, Submission};
 use ob_interface::{MOST_PROCESSES, NoMemory};
 use ob_object_compile::Object;
 use ob_text_words::script_call::ScriptCall;
@@ -37,7 +37,10 @@ pub fn opened_desk(
     ensures seats { IfOk result (λ r. r.1.items ≡ seats_of (object_in object.now).processes 0) }
 {
     let engine = object.engine().copy(alloc)?;
-    let opening = encode(alloc, object.opening())?;
+    let opening = Opening {
+        words: encode(alloc, object.opening())?,
+        carried: object.carried(),
+    };
     let calls = submissions(alloc, scripts)?;
     Desk::open(alloc, engine, object.processes(), opening, calls, TAG)
 }

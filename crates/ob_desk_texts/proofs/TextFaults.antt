@@ -1,109 +1,76 @@
--- What the faults of serving texts say, from what those of its parts say.
-use Rattle.std.proofs.Common.{◌≡◌, ℕ, List, arith, subst}
-use Rattle.ob_checked.specs.Exports.{signatures}
-use Rattle.ob_typing.specs.Program.{Program}
+-- What is said with the faults of serving texts, from what is said with those of its parts.
+use Rattle.std.proofs.Common.{◌≡◌, ℕ, List, arith}
 use Rattle.ob_desk_workers.specs.Rounds.{Says}
-use Rattle.ob_object_compile.specs.Compilation as Compilation
-use Rattle.ob_object_compile.specs.Compilation.{HasNoObject, IsCompilation, IsCompileFault, ObjectParts}
-use Rattle.ob_object_compile.specs.declared.compiling.CompileFault.{CompileFault}
-use Rattle.ob_object_compile.specs.declared.compiling.CompileFault.TheVariants as Compile
-use Rattle.ob_typing.specs.ModuleText.{IsModule}
+use Rattle.ob_object_compile.specs.Asked.{Asked}
+use Rattle.ob_object_compile.specs.Compilation.{IsShort, ObjectParts}
+use Rattle.ob_object_perform.specs.Performance as Performs
+use Rattle.ob_object_perform.specs.declared.performing.PerformFault.{PerformFault}
+use Rattle.ob_object_perform.specs.declared.performing.PerformFault.TheVariants as Perform
 use Rattle.ob_desk_serve.specs.ServeFaults.{IsServeFault}
-use Rattle.ob_desk_texts.specs.ServedTexts.{AreReadCalls, HasNoCalls, IsOfTexts, IsReadFault, IsServeTextFault, IsUngatedFault, TellsMemoryApart, of_compile, of_script, of_serve}
 use Rattle.ob_desk_serve.specs.declared.fault.ServeFault.{ServeFault}
 use Rattle.ob_desk_serve.specs.declared.fault.ServeFault.TheVariants as Serve
-use Rattle.ob_desk_texts.specs.declared.texts.ServeTextFault.{ServeTextFault}
+use Rattle.ob_desk_texts.specs.ServedTexts.{AreReadCalls, IsOfTexts, IsServeRefusal, IsServeTextFault, IsUngatedRefusal, TellsMemoryApart, calls_texts, of_serve, of_texts}
 use Rattle.ob_desk_texts.specs.declared.texts.ServeTextFault.TheVariants as Faults
 use Rattle.ob_text_words.specs.ScriptCalls.{ScriptCall}
-use Rattle.ob_text_scripts.specs.Script.{IsScript, IsScriptFault}
-use Rattle.ob_text_scripts.specs.declared.script.ScriptFault.{ScriptFault}
-use Rattle.ob_text_scripts.specs.declared.script.ScriptFault.TheVariants as Script
 
--- ---- want of memory
+module _ (refuses : Says) (limit : ℕ) (a : Asked) (scripts : List ℕ) where
+  -- ---- of the texts
 
-pub compile_memory : (e : CompileFault) → Compilation.TellsMemoryApart e → TellsMemoryApart (of_compile e)
-compile_memory Compile.Processes h = (h, λ bad. cc)
-compile_memory Compile.Budget h = (h, λ bad. cc)
-compile_memory (Compile.Text e) h = (h, λ bad. cc)
-compile_memory Compile.TooLong h = (h, λ bad. cc)
-compile_memory (Compile.Open e) h = (h, λ bad. cc)
-compile_memory Compile.NoMemory h = tt
+  texts_say : (e : PerformFault) → Performs.IsFaultOf IsShort (calls_texts a scripts) e → IsServeTextFault refuses limit a scripts (of_texts e)
+  texts_say (Perform.Compile e) h = h
+  texts_say (Perform.Script e) h = h
+  texts_say (Perform.Schedule e) h = h
+  texts_say (Perform.TooLong number) h = h
+  texts_say Perform.NoMemory h = tt
 
-pub script_memory : (e : ScriptFault) → TellsMemoryApart (of_script e)
-script_memory (Script.Form line) = λ bad. cc
-script_memory (Script.Procedure line) = λ bad. cc
-script_memory (Script.Arguments line) = λ bad. cc
-script_memory (Script.Process line) = λ bad. cc
-script_memory Script.NoMemory = tt
+  texts_own : (e : PerformFault) → IsOfTexts (of_texts e) → Performs.IsOfTexts e
+  texts_own (Perform.Compile e) h = h
+  texts_own (Perform.Script e) h = h
+  texts_own (Perform.Schedule e) h = h
+  texts_own (Perform.TooLong number) h = h
+  texts_own Perform.NoMemory h = absurd h
 
-pub serve_memory : (e : ServeFault) → TellsMemoryApart (of_serve e)
-serve_memory (Serve.NotStarted p) = λ bad. cc
-serve_memory Serve.NoMemory = tt
-serve_memory (Serve.Refused p) = λ bad. cc
-serve_memory (Serve.Lost p) = λ bad. cc
-serve_memory (Serve.Close e) = λ bad. cc
+  texts_apart : (e : PerformFault) → Performs.TellsMemoryApart e → TellsMemoryApart (of_texts e)
+  texts_apart (Perform.Compile e) h = (h, λ bad. cc)
+  texts_apart (Perform.Script e) h = (h, λ bad. cc)
+  texts_apart (Perform.Schedule e) h = (h, λ bad. cc)
+  texts_apart (Perform.TooLong number) h = (h, λ bad. cc)
+  texts_apart Perform.NoMemory h = tt
 
-module _ (text : List ℕ) (n budget : ℕ) (scripts : List ℕ) where
-  -- ---- what faults say
+  pub texts_refused : (e : PerformFault) → Performs.IsRefusal IsShort (calls_texts a scripts) e → IsServeRefusal refuses limit a scripts (of_texts e)
+  texts_refused e h = record { says = texts_say e h.says; unread = λ own. h.unread (texts_own e own); memory = texts_apart e h.memory }
 
-  pub compile_fault : (e : CompileFault) → IsCompileFault text n budget e → IsReadFault text n budget scripts (of_compile e)
-  compile_fault Compile.Processes h = h
-  compile_fault Compile.Budget h = h
-  compile_fault (Compile.Text e) h = h
-  compile_fault Compile.TooLong h = h
-  compile_fault (Compile.Open e) h = h
-  compile_fault Compile.NoMemory h = tt
+  -- ---- of the workers
 
-  pub script_fault : (o : ObjectParts) → IsCompilation text n budget o → (e : ScriptFault) → IsScriptFault (signatures o.program) n scripts e → IsReadFault text n budget scripts (of_script e)
-  script_fault o c (Script.Form line) h = record { object = o; compiled = c; fails = h }
-  script_fault o c (Script.Procedure line) h = record { object = o; compiled = c; fails = h }
-  script_fault o c (Script.Arguments line) h = record { object = o; compiled = c; fails = h }
-  script_fault o c (Script.Process line) h = record { object = o; compiled = c; fails = h }
-  script_fault o c Script.NoMemory h = tt
+  serve_says : (o : ObjectParts) (calls : List ScriptCall) → AreReadCalls a scripts o calls → (e : ServeFault) → IsServeFault refuses limit o calls e → IsServeTextFault refuses limit a scripts (of_serve e)
+  serve_says o calls read (Serve.NotStarted p) h = record { object = o; calls = calls; read = read; fails = h }
+  serve_says o calls read Serve.NoMemory h = tt
+  serve_says o calls read (Serve.Refused p) h = record { object = o; calls = calls; read = read; fails = h }
+  serve_says o calls read (Serve.Lost p) h = record { object = o; calls = calls; read = read; fails = h }
+  serve_says o calls read (Serve.Close e) h = record { object = o; calls = calls; read = read; fails = h }
 
-  -- whatever gate there is
-  pub read_fault : (refuses : Says) (limit : ℕ) (e : ServeTextFault) → IsReadFault text n budget scripts e → IsServeTextFault refuses limit text n budget scripts e
-  read_fault refuses limit (Faults.Compile e) h = h
-  read_fault refuses limit (Faults.Script e) h = h
-  read_fault refuses limit (Faults.Serve e) h = absurd h
-  read_fault refuses limit Faults.NoMemory h = tt
+  not_of_texts : (e : ServeFault) → IsOfTexts (of_serve e) → ⊥
+  not_of_texts (Serve.NotStarted p) h = h
+  not_of_texts Serve.NoMemory h = h
+  not_of_texts (Serve.Refused p) h = h
+  not_of_texts (Serve.Lost p) h = h
+  not_of_texts (Serve.Close e) h = h
 
-  pub serve_fault : (refuses : Says) (limit : ℕ) (o : ObjectParts) (calls : List ScriptCall) → AreReadCalls text n budget scripts o calls → (e : ServeFault) → IsServeFault refuses limit o calls e → IsServeTextFault refuses limit text n budget scripts (of_serve e)
-  serve_fault refuses limit o calls read (Serve.NotStarted p) h = record { object = o; calls = calls; read = read; fails = h }
-  serve_fault refuses limit o calls read Serve.NoMemory h = tt
-  serve_fault refuses limit o calls read (Serve.Refused p) h = record { object = o; calls = calls; read = read; fails = h }
-  serve_fault refuses limit o calls read (Serve.Lost p) h = record { object = o; calls = calls; read = read; fails = h }
-  serve_fault refuses limit o calls read (Serve.Close e) h = record { object = o; calls = calls; read = read; fails = h }
+  serve_apart : (e : ServeFault) → TellsMemoryApart (of_serve e)
+  serve_apart (Serve.NotStarted p) = λ bad. cc
+  serve_apart Serve.NoMemory = tt
+  serve_apart (Serve.Refused p) = λ bad. cc
+  serve_apart (Serve.Lost p) = λ bad. cc
+  serve_apart (Serve.Close e) = λ bad. cc
 
-  -- a gate that never refuses has no V1
-  pub not_refused : (p : ℕ) → IsUngatedFault text n budget scripts (Faults.Serve (Serve.Refused p)) → ⊥
-  not_refused p h = h.fails.1.1 0 (omega arith)
+  pub serve_refused : (o : ObjectParts) (calls : List ScriptCall) → AreReadCalls a scripts o calls → (e : ServeFault) → IsServeFault refuses limit o calls e → IsServeRefusal refuses limit a scripts (of_serve e)
+  serve_refused o calls read e h = record { says = serve_says o calls read e h; unread = λ own. absurd (not_of_texts e own); memory = serve_apart e }
 
-  -- ---- no object, or no calls
+  -- ---- no memory
 
-  pub no_object : (e : CompileFault) → (Compilation.IsNumbered e → HasNoObject text n budget) → IsOfTexts (of_compile e) → HasNoCalls text n budget scripts
-  no_object Compile.Processes none h o calls c are = none h o c
-  no_object Compile.Budget none h o calls c are = none h o c
-  no_object (Compile.Text e) none h o calls c are = none h o c
-  no_object Compile.TooLong none h o calls c are = none h o c
-  no_object (Compile.Open e) none h o calls c are = none h o c
-  no_object Compile.NoMemory none h o calls c are = h
+  pub memory_refused : IsServeRefusal refuses limit a scripts Faults.NoMemory
+  memory_refused = record { says = tt; unread = λ own. absurd own; memory = tt }
 
-  module _ (program : Program) (alone : (other : Program) → IsModule text other → other ≡ program) where
-    calls_of : (o : ObjectParts) (calls : List ScriptCall) → IsCompilation text n budget o → IsScript (signatures o.program) n scripts calls → IsScript (signatures program) n scripts calls
-    calls_of o calls c are = subst (λ (q : Program). IsScript (signatures q) n scripts calls) (alone o.program c.is_module) are
-
-    pub no_calls : (e : ScriptFault) → IsScriptFault (signatures program) n scripts e → IsOfTexts (of_script e) → HasNoCalls text n budget scripts
-    no_calls (Script.Form line) f h o calls c are = f.none tt calls (calls_of o calls c are)
-    no_calls (Script.Procedure line) f h o calls c are = f.none tt calls (calls_of o calls c are)
-    no_calls (Script.Arguments line) f h o calls c are = f.none tt calls (calls_of o calls c are)
-    no_calls (Script.Process line) f h o calls c are = f.none tt calls (calls_of o calls c are)
-    no_calls Script.NoMemory f h o calls c are = h
-
--- no fault of the workers is one of the texts
-pub not_of_texts : (e : ServeFault) → IsOfTexts (of_serve e) → ⊥
-not_of_texts (Serve.NotStarted p) h = h
-not_of_texts Serve.NoMemory h = h
-not_of_texts (Serve.Refused p) h = h
-not_of_texts (Serve.Lost p) h = h
-not_of_texts (Serve.Close e) h = h
+-- a gate that never refuses has no V1
+pub not_refused : (a : Asked) (scripts : List ℕ) (p : ℕ) → IsUngatedRefusal a scripts (Faults.Serve (Serve.Refused p)) → ⊥
+not_refused a scripts p h = h.says.fails.1.1 0 (omega arith)

@@ -1,15 +1,15 @@
 -- Workers served from the texts of a module and of scripts: what is printed of them, and why there is nothing.
-use Rattle.std.specs.Prelude.{◌≡◌, ◌≢◌, ℕ, ◌<◌, ◌^◌, List, length}
-use Rattle.ob_checked.specs.Exports.{signatures}
-use Rattle.ob_typing.specs.Program.{Program}
+use Rattle.std.specs.Prelude.{◌≡◌, ◌≢◌, ℕ, ◌<◌, ◌^◌, List, [], length}
 use Rattle.ob_desk_workers.specs.Rounds.{Says, never}
-use Rattle.ob_object_compile.specs.Compilation as Compilation
-use Rattle.ob_object_compile.specs.Compilation.{ObjectParts, IsCompilation, IsCompileFault}
-use Rattle.ob_object_perform.specs.Performance.{IsScriptFaultOf}
-use Rattle.ob_object_compile.specs.declared.compiling.CompileFault.{CompileFault}
-use Rattle.ob_object_compile.specs.declared.compiling.CompileFault.TheVariants as Compile
-use Rattle.ob_typing.specs.ModuleText.{IsModule}
+use Rattle.ob_object_compile.specs.Asked.{Asked}
+use Rattle.ob_object_compile.specs.Compilation.{ObjectParts, IsShort}
+use Rattle.ob_object_perform.specs.Performance as Performs
+use Rattle.ob_object_perform.specs.Performance.{AreReadOf, HasNoReading, IsFaultOf}
+use Rattle.ob_object_perform.specs.Texts.{Texts, run_texts}
+use Rattle.ob_object_perform.specs.declared.performing.PerformFault.{PerformFault}
+use Rattle.ob_object_perform.specs.declared.performing.PerformFault.TheVariants as Perform
 use Rattle.ob_object_record.specs.Record.{Record}
+use Rattle.ob_schedule.specs.declared.item.Item.{Item}
 use Rattle.ob_text_record.specs.RecordText.{record_text}
 use Rattle.ob_desk_serve.specs.ServeFaults.{IsServeFault}
 use Rattle.ob_desk_serve.specs.Served.{AreTurnsLet, HaveEnded, IsRecordOf}
@@ -18,68 +18,49 @@ use Rattle.ob_desk_serve.specs.declared.fault.ServeFault.TheVariants as Serve
 use Rattle.ob_desk_texts.specs.declared.texts.ServeTextFault.{ServeTextFault}
 use Rattle.ob_desk_texts.specs.declared.texts.ServeTextFault.TheVariants as Faults
 use Rattle.ob_text_words.specs.ScriptCalls.{ScriptCall}
-use Rattle.ob_text_scripts.specs.Script.{IsScript}
-use Rattle.ob_text_scripts.specs.declared.script.ScriptFault.{ScriptFault}
-use Rattle.ob_text_scripts.specs.declared.script.ScriptFault.TheVariants as Script
 
--- the object of a module's text for n processes with a budget of each call, and the calls of the scripts: each text has one program and
--- one list of calls
-pub record AreReadCalls (text : List ℕ) (n budget : ℕ) (scripts : List ℕ) (o : ObjectParts) (calls : List ScriptCall) : Type 0 where
-  pub compiled : IsCompilation text n budget o
-  pub alone : (other : Program) → IsModule text other → other ≡ o.program
-  pub calls_are : IsScript (signatures o.program) n scripts calls
-  pub only_calls : (others : List ScriptCall) → IsScript (signatures o.program) n scripts others → others ≡ calls
+-- the texts that workers are given: those of a run of which no schedule says who steps
+abbrev pub calls_texts : Asked → (scripts : List ℕ) → Texts
+calls_texts a scripts = run_texts a scripts []
 
--- the bytes are the text of a record in which workers made the calls of the scripts on the module's object, each to its end
-pub record IsServedPrinted (text : List ℕ) (n budget : ℕ) (scripts output : List ℕ) : Type 0 where
+-- the object that is asked for and the calls of the scripts: each text has one program and one list of calls
+abbrev pub AreReadCalls : Asked → (scripts : List ℕ) → ObjectParts → List ScriptCall → Type 0
+AreReadCalls a scripts o calls = (items : List Item) × AreReadOf IsShort (calls_texts a scripts) o calls items
+
+-- the bytes are the text of a record in which workers made the calls of the scripts on the object that is asked for, each to its end
+pub record IsServedPrinted (a : Asked) (scripts output : List ℕ) : Type 0 where
   pub object : ObjectParts
   pub calls : List ScriptCall
-  pub read : AreReadCalls text n budget scripts object calls
+  pub read : AreReadCalls a scripts object calls
   pub shown : Record
   pub is_record : IsRecordOf object calls shown
   pub events : length shown.history < 2 ^ 64
-  pub ended : HaveEnded n calls shown.history
+  pub ended : HaveEnded a.processes calls shown.history
   pub printed : output ≡ record_text object.program shown
 
 -- so they are of workers whose gate let them take each turn of the record, by this limit
-pub record IsServedBy (passes : Says) (limit : ℕ) (text : List ℕ) (n budget : ℕ) (scripts output : List ℕ) : Type 0 where
-  pub served : IsServedPrinted text n budget scripts output
-  pub passed : AreTurnsLet passes limit n served.shown.schedule
+pub record IsServedBy (passes : Says) (limit : ℕ) (a : Asked) (scripts output : List ℕ) : Type 0 where
+  pub served : IsServedPrinted a scripts output
+  pub passed : AreTurnsLet passes limit a.processes served.shown.schedule
 
--- The workers on the texts' object fail so with their calls, by a gate that says so where it refuses, and by this limit.
-pub record IsServeFaultOf (refuses : Says) (limit : ℕ) (text : List ℕ) (n budget : ℕ) (scripts : List ℕ) (fault : ServeFault) : Type 0 where
+-- The workers on the object fail so with their calls, by a gate that says so where it refuses, and by this limit.
+pub record IsServeFaultOf (refuses : Says) (limit : ℕ) (a : Asked) (scripts : List ℕ) (fault : ServeFault) : Type 0 where
   pub object : ObjectParts
   pub calls : List ScriptCall
-  pub read : AreReadCalls text n budget scripts object calls
+  pub read : AreReadCalls a scripts object calls
   pub fails : IsServeFault refuses limit object calls fault
 
--- what each fault says that comes before there are workers
-abbrev pub IsReadFault : (text : List ℕ) (n budget : ℕ) (scripts : List ℕ) → ServeTextFault → Type 0
-IsReadFault text n budget scripts (Faults.Compile e) = IsCompileFault text n budget e
-IsReadFault text n budget scripts (Faults.Script e) = IsScriptFaultOf text n budget scripts e
-IsReadFault text n budget scripts (Faults.Serve e) = ⊥
-IsReadFault text n budget scripts Faults.NoMemory = Unit {0}
-
 -- what each fault says
-abbrev pub IsServeTextFault : (refuses : Says) (limit : ℕ) (text : List ℕ) (n budget : ℕ) (scripts : List ℕ) → ServeTextFault → Type 0
-IsServeTextFault refuses limit text n budget scripts (Faults.Compile e) = IsCompileFault text n budget e
-IsServeTextFault refuses limit text n budget scripts (Faults.Script e) = IsScriptFaultOf text n budget scripts e
-IsServeTextFault refuses limit text n budget scripts (Faults.Serve e) = IsServeFaultOf refuses limit text n budget scripts e
-IsServeTextFault refuses limit text n budget scripts Faults.NoMemory = Unit {0}
-
--- what each says of workers in whose way no gate stands: V1 is none of them
-abbrev pub IsUngatedFault : (text : List ℕ) (n budget : ℕ) (scripts : List ℕ) → ServeTextFault → Type 0
-IsUngatedFault text n budget scripts fault = IsServeTextFault never 1 text n budget scripts fault
+abbrev pub IsServeTextFault : (refuses : Says) (limit : ℕ) → Asked → (scripts : List ℕ) → ServeTextFault → Type 0
+IsServeTextFault refuses limit a scripts (Faults.Texts e) = IsFaultOf IsShort (calls_texts a scripts) e
+IsServeTextFault refuses limit a scripts (Faults.Serve e) = IsServeFaultOf refuses limit a scripts e
+IsServeTextFault refuses limit a scripts Faults.NoMemory = Unit {0}
 
 -- want of memory is told in one place
 
-abbrev pub of_compile : CompileFault → ServeTextFault
-of_compile Compile.NoMemory = Faults.NoMemory
-of_compile e = Faults.Compile e
-
-abbrev pub of_script : ScriptFault → ServeTextFault
-of_script Script.NoMemory = Faults.NoMemory
-of_script e = Faults.Script e
+abbrev pub of_texts : PerformFault → ServeTextFault
+of_texts Perform.NoMemory = Faults.NoMemory
+of_texts e = Faults.Texts e
 
 abbrev pub of_serve : ServeFault → ServeTextFault
 of_serve Serve.NoMemory = Faults.NoMemory
@@ -87,8 +68,7 @@ of_serve e = Faults.Serve e
 
 -- want of memory is told by its own variant alone
 abbrev pub TellsMemoryApart : ServeTextFault → Type 0
-TellsMemoryApart (Faults.Compile e) = Compilation.TellsMemoryApart e × (e ≢ Compile.NoMemory)
-TellsMemoryApart (Faults.Script e) = e ≢ Script.NoMemory
+TellsMemoryApart (Faults.Texts e) = Performs.TellsMemoryApart e × (e ≢ Perform.NoMemory)
 TellsMemoryApart (Faults.Serve e) = e ≢ Serve.NoMemory
 TellsMemoryApart Faults.NoMemory = Unit {0}
 
@@ -96,12 +76,18 @@ TellsMemoryApart Faults.NoMemory = Unit {0}
 abbrev pub IsNumbered : ServeTextFault → Type 0
 IsNumbered e = (e ≢ Faults.NoMemory) × TellsMemoryApart e
 
--- a fault of the texts, and with a number
+-- a fault of the texts themselves, and with a number
 abbrev pub IsOfTexts : ServeTextFault → Type 0
-IsOfTexts (Faults.Compile e) = Compilation.IsNumbered e
-IsOfTexts (Faults.Script e) = e ≢ Script.NoMemory
+IsOfTexts (Faults.Texts e) = Performs.IsOfTexts e
 IsOfTexts _ = ⊥
 
--- the texts have no object, or no calls on it
-abbrev pub HasNoCalls : (text : List ℕ) (n budget : ℕ) (scripts : List ℕ) → Type 0
-HasNoCalls text n budget scripts = (o : ObjectParts) (calls : List ScriptCall) → IsCompilation text n budget o → IsScript (signatures o.program) n scripts calls → ⊥
+-- What is said with a fault, by a gate that says so where it refuses, and by a limit: what the fault says; that where it is one of the
+-- texts they can't be read, whatever else is wrong; and that want of memory is told by its own variant alone.
+pub record IsServeRefusal (refuses : Says) (limit : ℕ) (a : Asked) (scripts : List ℕ) (fault : ServeTextFault) : Type 0 where
+  pub says : IsServeTextFault refuses limit a scripts fault
+  pub unread : IsOfTexts fault → HasNoReading IsShort (calls_texts a scripts)
+  pub memory : TellsMemoryApart fault
+
+-- of workers in whose way no gate stands: V1 is none of their faults
+abbrev pub IsUngatedRefusal : Asked → (scripts : List ℕ) → ServeTextFault → Type 0
+IsUngatedRefusal a scripts fault = IsServeRefusal never 1 a scripts fault

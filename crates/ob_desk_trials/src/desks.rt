@@ -5,6 +5,7 @@ use ob_desk::{CloseFault, Desk};
 use ob_desk_floor::{Seat, TakeTurn};
 use ob_desk_serve::opened_desk;
 use ob_desk_texts::read_calls;
+use ob_object_compile::{Asked, Beginning};
 use ob_object_perform::perform;
 use std::alloc::Global;
 use std::sync::Wait;
@@ -26,7 +27,13 @@ type CodeDesk = Desk<CodeEngine>;
 
 /// A desk of two processes, and its seats.
 fn opened(alloc: Global, text: &[u8], calls: &[u8]) -> Result<(CodeDesk, Vec<Seat>), Fail> {
-    let (object, calls) = read_calls(alloc, text, 2, BUDGET, calls)?;
+    let asked = Asked {
+        text,
+        processes: 2,
+        budget: BUDGET,
+        beginning: Beginning::Body,
+    };
+    let (object, calls) = read_calls(alloc, asked, calls)?;
     Ok(opened_desk(alloc, &object, calls.as_slice())?)
 }
 

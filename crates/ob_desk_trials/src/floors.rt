@@ -7,7 +7,7 @@ ghost use Rattle.ob_object_compile.specs.View.{object_in};
 use ob_code_engine::CodeEngine;
 use ob_code_layout::encode;
 use ob_desk::{CloseFault, Terms, settle};
-use ob_desk_floor::{Floor, Seat};
+use ob_desk_floor::{Floor, Opening, Seat};
 use ob_desk_serve::opening::submissions;
 use ob_object_compile::laws::compilations_are_sound;
 use ob_object_compile::{Object, compile};
@@ -36,12 +36,19 @@ fn object_of(alloc: Global, text: &[u8], n: usize, budget: u64) -> Result<Object
     Ok(compile(alloc, text, n, budget)?)
 }
 
-/// A floor of the module's object, without calls.
-fn floor_of(alloc: Global, text: &[u8], n: usize, budget: u64) -> Result<Floor<CodeEngine>, Fail> {
+/// A floor of the module's object, without calls, and whether its values are said to be carried over.
+fn floor_of(
+    alloc: Global,
+    text: &[u8],
+    n: usize,
+    budget: u64,
+    carried: bool,
+) -> Result<Floor<CodeEngine>, Fail> {
     let object = object_of(alloc, text, n, budget)?;
     let engine = object.engine().copy(alloc)?;
-    let opening = encode(alloc, object.opening())?;
-    Ok(Floor::new(alloc, engine, n, opening.as_slice(), Vec::new(alloc))?)
+    let words = encode(alloc, object.opening())?;
+    let opening = Opening { words, carried };
+    Ok(Floor::new(alloc, engine, n, &opening, Vec::new(alloc))?)
 }
 
 /// What a desk of two processes of the counter keeps, with these calls.
@@ -50,7 +57,10 @@ fn terms_of(alloc: Global, calls: &[u8]) -> Result<Terms<CodeEngine>, Fail> {
     let scripts = read_scripts(alloc, object.checked(), 2, calls)?;
     let calls = submissions(alloc, scripts.calls())?;
     let engine = object.engine().copy(alloc)?;
-    let opening = encode(alloc, object.opening())?;
+    let opening = Opening {
+        words: encode(alloc, object.opening())?,
+        carried: false,
+    };
     Ok(Terms::new(alloc, engine, 2, opening, calls.as_slice(), 0)?)
 }
 
@@ -61,7 +71,18 @@ fn two_seats(alloc: Global) -> Result<Vec<Seat>, Fail> {
     Ok(seats)
 }
 
-/// What closing tells of such a desk over a floor of the text.
+/// What closing tells of such a desk over a floor.
+fn told_over(
+    alloc: Global,
+    calls: &[u8],
+    floor: Floor<CodeEngine>,
+) -> Result<Option<CloseFault>, Fail> {
+    let seats = two_seats(alloc)?;
+    let terms = terms_of(alloc, calls)?;
+    Ok(settle(&terms, floor, seats.as_slice()).err())
+}
+
+/// The same over a floor of the text.
 fn told(
     alloc: Global,
     calls: &[u8],
@@ -69,10 +90,8 @@ fn told(
     n: usize,
     budget: u64,
 ) -> Result<Option<CloseFault>, Fail> {
-    let seats = two_seats(alloc)?;
-    let terms = terms_of(alloc, calls)?;
-    let floor = floor_of(alloc, text, n, budget)?;
-    Ok(settle(&terms, floor, seats.as_slice()).err())
+    let floor = floor_of(alloc, text, n, budget, false)?;
+    told_over(alloc, calls, floor)
 }
 
 /// Whether closing tells that the floor is not the desk's.
@@ -99,6 +118,15 @@ fn a_floor_that_is_not_the_desks(rt: HostRuntime) -> Result<(), Fail> {
     assert!(rt; is_other_floor(rt.alloc(), b"", BY_TWO, 2, BUDGET)?);
     assert!(rt; is_other_floor(rt.alloc(), b"", FROM_ONE, 2, BUDGET)?);
     assert!(rt; is_other_floor(rt.alloc(), b"0 Inc\n", COUNTER, 2, BUDGET)?);
+    Ok(())
+}
+
+/// The same words, but said to be carried over.
+#[test]
+fn a_floor_of_carried_values(rt: HostRuntime) -> Result<(), Fail> {
+    let floor = floor_of(rt.alloc(), COUNTER, 2, BUDGET, true)?;
+    let fault = told_over(rt.alloc(), b"", floor)?;
+    assert!(rt; matches!(fault, Some(CloseFault::OtherFloor)));
     Ok(())
 }
 

@@ -3,6 +3,7 @@ use Rattle.std.specs.Prelude.{◌≡◌, ℕ, ◌+◌, ◌*◌, List, ◌++◌, 
 use Rattle.ob_code_engine.specs.Total.{body_limit}
 use Rattle.ob_code_law.specs.CodeMeaning.{code_meaning}
 use Rattle.ob_object_bound.specs.declared.numbers.Numbers.{Numbers}
+use Rattle.ob_object_compile.specs.Asked.{by_body}
 use Rattle.ob_object_compile.specs.Compilation.{IsCompilation, ObjectParts}
 use Rattle.wf_bound.specs.Bound.{bound}
 use Rattle.wf_table.specs.Start.{sizes_of}
@@ -39,5 +40,5 @@ numbers_text k =
 -- the bytes tell the numbers of the object of a text, for n processes with a budget
 pub record IsBoundText (text : List ℕ) (n budget : ℕ) (output : List ℕ) : Type 0 where
   pub object : ObjectParts
-  pub compiled : IsCompilation text n budget object
+  pub compiled : IsCompilation (by_body text n budget) object
   pub printed : output ≡ numbers_text (numbers_of object)

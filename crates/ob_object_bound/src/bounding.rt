@@ -1,14 +1,13 @@
 //! The numbers of the object of a module's text, from bytes to bytes.
 
-ghost use Rattle.std.specs.Prelude.{◌≡◌, ◌<◌, ◌≤◌, ◌⊎◌, ◌↔◌, ◌++◌, Err, IfOk, IfErr, OnOk, length, string_bytes};
-ghost use Rattle.ob_meaning.specs.Object.{most_turns};
+ghost use Rattle.std.specs.Prelude.{◌≡◌, ◌++◌, Err, IfOk, IfErr, OnOk, string_bytes};
 ghost use Rattle.ob_object_bound.specs.Numbers.{IsBoundText, number_line, numbers_text};
-ghost use Rattle.ob_object_compile.specs.Compilation.{HasNoObject, InRange, IsCompileFault, IsNumbered, TellsMemoryApart, too_long};
+ghost use Rattle.ob_object_compile.specs.Asked.{TellsAtOnce, by_body};
+ghost use Rattle.ob_object_compile.specs.Compilation.{IsRefusal, IsShort};
 
 use crate::numbers::{Numbers, numbers_of};
-use ob_interface::{MOST_PROCESSES, NoMemory};
+use ob_interface::NoMemory;
 use ob_object_compile::{CompileFault, compile};
-use ob_scan::scanner::LONGEST_TEXT;
 use ob_text_words::numbers::push_number;
 use std::alloc::{AllocError, Global};
 
@@ -20,20 +19,8 @@ pub fn bound_text(
     budget: u64,
 ) -> Result<String, CompileFault>
     ensures numbers { IfOk result (λ lines. IsBoundText «module».now n budget (string_bytes lines)) }
-    ensures fault { IfErr result (IsCompileFault «module».now n budget) }
-
-    // With a fault that has a number there is no such object, whatever else is wrong.
-    ensures none { IfErr result (λ e. IsNumbered e → HasNoObject «module».now n budget) }
-
-    // Want of memory is told by its own variant alone.
-    ensures memory { IfErr result TellsMemoryApart }
-    ensures processes { (result ≡ Err CompileFault.Processes) ↔ ((n ≡ 0) ⊎ (MOST_PROCESSES < n)) }
-
-    // Behind that the budget is looked at.
-    ensures budget { 0 < n → n ≤ MOST_PROCESSES → ((result ≡ Err CompileFault.Budget) ↔ (most_turns < budget)) }
-
-    // A text over the scanner's bound is refused, whatever it says.
-    ensures too_long { InRange n budget (LONGEST_TEXT < length «module».now → result ≡ Err too_long) }
+    ensures refused { IfErr result (IsRefusal IsShort (by_body «module».now n budget)) }
+    ensures at_once { TellsAtOnce (by_body «module».now n budget) (λ e. result ≡ Err e) }
 {
     let object = compile(alloc, module, n, budget)?;
     Ok(numbers_text(alloc, numbers_of(&object))?)

@@ -1,3 +1,5 @@
+pub mod CarriedStates
+pub mod CarryFaults
 pub mod Compilations
 pub mod CompileFaults
 pub mod Openings

@@ -1,3 +1,4 @@
+pub mod Asked
 pub mod Compilation
 pub mod CompilationParts
 pub mod Listed

@@ -1,21 +1,25 @@
 //! The compilation of a module's text.
 
-ghost use Rattle.std.specs.Prelude.{◌≡◌, ◌<◌, ◌≤◌, ◌⊎◌, ◌↔◌, Err, IfOk, IfErr, OnOk, length};
+ghost use Rattle.std.specs.Prelude.{◌≡◌, ◌≤◌, Err, IfOk, IfErr, OnOk};
+ghost use Rattle.ob_carry.specs.View.{entries_of};
 ghost use Rattle.ob_checked.specs.CheckedModule.{program_in};
 ghost use Rattle.ob_code_law.specs.Compiled as Compiled;
 ghost use Rattle.ob_code_layout.specs.Layout.{layout_of, parts_of};
 ghost use Rattle.ob_grammar.specs.Texts.{IsTextOf};
 ghost use Rattle.ob_grammar.specs.Tree as Tree;
-ghost use Rattle.ob_interpreter.specs.Sequences.{IsOpening};
 ghost use Rattle.ob_meaning.specs.Object.{most_turns};
-ghost use Rattle.ob_object_compile.specs.Compilation.{HasNoObject, InRange, IsCompilation, IsCompileFault, IsNumbered, IsShort, TellsMemoryApart, default_budget, too_long};
-ghost use Rattle.ob_object_compile.specs.CompilationParts.{IsEngineFault, IsOpeningFault};
-ghost use Rattle.ob_object_compile.specs.View.{object_in};
+ghost use Rattle.ob_object_compile.specs.Asked.{TellsAtOnce, by_body, by_values, is_carried};
+ghost use Rattle.ob_object_compile.specs.Compilation.{IsCompilation, IsRefusal, IsShort, default_budget};
+ghost use Rattle.ob_object_compile.specs.CompilationParts.{BeginsByPosition, IsBeginningFault, IsEngineFault};
+ghost use Rattle.ob_object_compile.specs.View.{asked_of, beginning_of, object_in};
 ghost use Rattle.ob_store.specs.View.{state_of};
 ghost use Rattle.ob_typing.specs.ModuleText.{IsModule};
 ghost use Rattle.ob_typing.specs.Program.{Program};
 
+use crate::asked::{Asked, Beginning};
 use crate::object::Object;
+use ob_carry::carrying::{CarryFault, carry};
+use ob_carry::named::NamedField;
 use ob_check_text::checked_text::{TextFault, checked_text};
 use ob_checked::checked::Checked;
 use ob_code_engine::CodeEngine;
@@ -24,7 +28,6 @@ use ob_code_layout::Layout;
 use ob_code_machine::CodeFault;
 use ob_interface::{MOST_PROCESSES, NoMemory};
 use ob_interpreter::opening::{MOST_TURNS, OpenFault, opening};
-use ob_scan::scanner::LONGEST_TEXT;
 use ob_store::state::State;
 use std::alloc::Global;
 use thiserror::Error;
@@ -59,6 +62,9 @@ pub enum CompileFault {
     /// O2: the module has no opening state.
     #[error("{0}")]
     Open(OpenFault),
+    /// M1 or M2: values that are carried over are none of the module's variables.
+    #[error("{0}")]
+    Carry(CarryFault),
     /// Want of memory.
     #[error("NoMemory")]
     NoMemory,
@@ -106,6 +112,20 @@ impl From<OpenFault> for CompileFault {
     }
 }
 
+impl From<CarryFault> for CompileFault {
+    ghost use Rattle.std.specs.Prelude.{◌≡◌};
+    ghost use Rattle.ob_object_compile.specs.CompilationParts.{of_carry};
+
+    ghost from_gives = { λ e f. f ≡ of_carry e };
+
+    fn from(fault: CarryFault) -> CompileFault {
+        match fault {
+            CarryFault::NoMemory => CompileFault::NoMemory,
+            other => CompileFault::Carry(other),
+        }
+    }
+}
+
 impl From<NoMemory> for CompileFault {
     ghost use Rattle.std.specs.Prelude.{◌≡◌};
     ghost use Rattle.ob_object_compile.specs.declared.compiling.CompileFault.TheVariants as Faults;
@@ -117,31 +137,69 @@ impl From<NoMemory> for CompileFault {
     }
 }
 
-/// The object of a module's text for n processes, whose calls have so many turns each. The code comes before the opening: so
-/// G1 is told before a fault of the opening.
+/// The object of a module's text for n processes, whose calls have so many turns each. It begins by the module's body. The code
+/// comes before the opening: so G1 is told before a fault of the opening.
 pub fn compile(alloc: Global, text: &[u8], n: usize, budget: u64) -> Result<Object, CompileFault>
-    ensures object { IfOk result (λ o. IsCompilation text.now n budget (object_in o)) }
+    ensures object { IfOk result (λ o. IsCompilation (by_body text.now n budget) (object_in o)) }
+
+    // Each text has one program and one tree.
     ensures alone { IfOk result (λ o. (other : Program) → IsModule text.now other → other ≡ (object_in o).program) }
-
-    // Its tree is that of the text, which has no other one.
     ensures one_tree { IfOk result (λ o. (other : Tree.Module) → IsTextOf text.now other → other ≡ (object_in o).tree) }
-
-    ensures processes { (result ≡ Err CompileFault.Processes) ↔ ((n ≡ 0) ⊎ (MOST_PROCESSES < n)) }
-
-    // Behind that the budget is looked at.
-    ensures budget { 0 < n → n ≤ MOST_PROCESSES → ((result ≡ Err CompileFault.Budget) ↔ (most_turns < budget)) }
-    ensures fault { IfErr result (IsCompileFault text.now n budget) }
-
-    // With a fault that has a number there is no object of this text for so many processes with this budget.
-    ensures none { IfErr result (λ e. IsNumbered e → HasNoObject text.now n budget) }
-
-    // Want of memory is told by its own variant alone.
-    ensures memory { IfErr result TellsMemoryApart }
-
-    // A text over the scanner's bound is refused, whatever it says.
-    ensures too_long { InRange n budget (LONGEST_TEXT < length text.now → result ≡ Err too_long) }
+    ensures refused { IfErr result (IsRefusal IsShort (by_body text.now n budget)) }
+    ensures at_once { TellsAtOnce (by_body text.now n budget) (λ e. result ≡ Err e) }
 {
-    if n == 0 || n > MOST_PROCESSES {
+    compile_asked(
+        alloc,
+        Asked {
+            text,
+            processes: n,
+            budget,
+            beginning: Beginning::Body,
+        },
+    )
+}
+
+/// The same of an object that begins with values by the names of its variables, and runs no body. Where they are none of its
+/// variables' M1 or M2 is told, where a fault of the opening would be.
+pub fn compile_from(
+    alloc: Global,
+    text: &[u8],
+    n: usize,
+    budget: u64,
+    values: &[NamedField],
+) -> Result<Object, CompileFault>
+    ensures object { IfOk result (λ o. IsCompilation (by_values text.now n budget (entries_of values.now)) (object_in o)) }
+    ensures alone { IfOk result (λ o. (other : Program) → IsModule text.now other → other ≡ (object_in o).program) }
+    ensures one_tree { IfOk result (λ o. (other : Tree.Module) → IsTextOf text.now other → other ≡ (object_in o).tree) }
+    ensures refused { IfErr result (IsRefusal IsShort (by_values text.now n budget (entries_of values.now))) }
+    ensures at_once { TellsAtOnce (by_values text.now n budget (entries_of values.now)) (λ e. result ≡ Err e) }
+{
+    compile_asked(
+        alloc,
+        Asked {
+            text,
+            processes: n,
+            budget,
+            beginning: Beginning::Carried(values),
+        },
+    )
+}
+
+/// The object that is asked for.
+pub fn compile_asked(alloc: Global, asked: Asked<'_>) -> Result<Object, CompileFault>
+    ensures object { IfOk result (λ o. IsCompilation (asked_of asked.entry) (object_in o)) }
+    ensures alone { IfOk result (λ o. (other : Program) → IsModule asked.entry.text.now other → other ≡ (object_in o).program) }
+    ensures one_tree { IfOk result (λ o. (other : Tree.Module) → IsTextOf asked.entry.text.now other → other ≡ (object_in o).tree) }
+    ensures refused { IfErr result (IsRefusal IsShort (asked_of asked.entry)) }
+    ensures at_once { TellsAtOnce (asked_of asked.entry) (λ e. result ≡ Err e) }
+{
+    let Asked {
+        text,
+        processes,
+        budget,
+        beginning,
+    } = asked;
+    if processes == 0 || processes > MOST_PROCESSES {
         return Err(CompileFault::Processes);
     }
     if budget > MOST_BUDGET {
@@ -149,8 +207,9 @@ pub fn compile(alloc: Global, text: &[u8], n: usize, budget: u64) -> Result<Obje
     }
     let checked = checked_text(alloc, text)?;
     let (layout, engine) = engine_of(alloc, &checked, budget)?;
-    let opening = opening_of(alloc, &checked)?;
-    Ok(Object::of(n, checked, layout, engine, opening))
+    let opening = opening_of(alloc, &checked, beginning)?;
+    let carried = is_carried(beginning);
+    Ok(Object::of(processes, checked, layout, engine, opening, carried))
 }
 
 /// The layout of a checked module, and the engine over its code.
@@ -171,10 +230,27 @@ fn engine_of(
     Ok((layout, engine))
 }
 
-/// The opening state of a checked module.
-pub(crate) fn opening_of(alloc: Global, checked: &Checked) -> Result<State, CompileFault>
-    ensures state { IfOk result (λ s. IsOpening (program_in checked.now) (state_of s)) }
-    ensures fault { IfErr result (IsOpeningFault (program_in checked.now)) }
+/// The state in which an object of a checked module begins.
+pub(crate) fn opening_of(
+    alloc: Global,
+    checked: &Checked,
+    beginning: Beginning<'_>,
+) -> Result<State, CompileFault>
+    ensures state { IfOk result (λ s. BeginsByPosition (beginning_of beginning.entry) (program_in checked.now) (state_of s)) }
+    ensures fault { IfErr result (IsBeginningFault (beginning_of beginning.entry) (program_in checked.now)) }
 {
-    Ok(opening(alloc, checked)?)
+    match beginning {
+        Beginning::Body => Ok(opening(alloc, checked)?),
+        Beginning::Carried(values) => Ok(carry(alloc, checked, values)?),
+    }
+}
+
+/// Whether values are carried over.
+pub(crate) fn is_carried(beginning: Beginning<'_>) -> bool
+    ensures { result ≡ is_carried (beginning_of beginning.entry) }
+{
+    match beginning {
+        Beginning::Body => false,
+        Beginning::Carried(_) => true,
+    }
 }

@@ -2,6 +2,7 @@
 //! but `verify`, and `draw` and `explain` of a record.
 #![tactic(auto)]
 
+pub mod asked;
 pub mod compiling;
 pub mod laws;
 pub mod listing;
@@ -9,7 +10,10 @@ pub mod object;
 pub mod tree_compiling;
 pub mod tree_object;
 
-pub use compiling::{CompileFault, DEFAULT_BUDGET, MOST_BUDGET, compile};
+pub use asked::{Asked, Beginning};
+pub use compiling::{
+    CompileFault, DEFAULT_BUDGET, MOST_BUDGET, compile, compile_asked, compile_from,
+};
 pub use listing::list_text;
 pub use object::Object;
 pub use tree_compiling::compile_tree;

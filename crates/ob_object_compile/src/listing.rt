@@ -1,29 +1,21 @@
 //! The listing of a module's code, from bytes to bytes.
 
-ghost use Rattle.std.specs.Prelude.{◌≡◌, ◌<◌, Err, IfOk, IfErr, map, length, string_bytes};
-ghost use Rattle.ob_object_compile.specs.Compilation.{IsCompileFault, IsNumbered, HasNoObject, TellsMemoryApart, default_budget, too_long};
+ghost use Rattle.std.specs.Prelude.{◌≡◌, Err, IfOk, IfErr, map, string_bytes};
+ghost use Rattle.ob_object_compile.specs.Asked.{TellsAtOnce, by_body};
+ghost use Rattle.ob_object_compile.specs.Compilation.{IsRefusal, IsShort, default_budget};
 ghost use Rattle.ob_object_compile.specs.Listed.{IsListing};
 
 use crate::compiling::{CompileFault, DEFAULT_BUDGET, compile};
 use ob_checked::program::Procedure;
 use ob_code_machine::list;
 use ob_interface::NoMemory;
-use ob_scan::scanner::LONGEST_TEXT;
 use std::alloc::Global;
 
 /// The listing of the code of a text's module, which has to be an object's, if of one process alone.
 pub fn list_text(alloc: Global, text: &[u8]) -> Result<String, CompileFault>
     ensures listing { IfOk result (λ lines. IsListing text.now (string_bytes lines)) }
-    ensures fault { IfErr result (IsCompileFault text.now 1 default_budget) }
-
-    // With a fault that has a number there is no listing, whatever else is wrong.
-    ensures none { IfErr result (λ e. IsNumbered e → HasNoObject text.now 1 default_budget) }
-
-    // Want of memory is told by its own variant alone.
-    ensures memory { IfErr result TellsMemoryApart }
-
-    // A text over the scanner's bound is refused, whatever it says.
-    ensures too_long { LONGEST_TEXT < length text.now → result ≡ Err too_long }
+    ensures refused { IfErr result (IsRefusal IsShort (by_body text.now 1 default_budget)) }
+    ensures at_once { TellsAtOnce (by_body text.now 1 default_budget) (λ e. result ≡ Err e) }
 {
     let object = compile(alloc, text, 1, DEFAULT_BUDGET)?;
     let names = names_of(alloc, object.checked().program().procedures.as_slice())?;

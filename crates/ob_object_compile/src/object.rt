@@ -6,7 +6,7 @@ use ob_code_layout::Layout;
 use ob_store::state::State;
 
 /// What a text was compiled to, for so many processes and with a budget of turns for each call: the checked module, its layout,
-/// the engine over its code, and the state in which the object begins.
+/// the engine over its code, the state in which the object begins, and whether that was carried over.
 #[derive(Drop)]
 pub struct Object {
     processes: usize,
@@ -14,6 +14,7 @@ pub struct Object {
     layout: Layout,
     engine: CodeEngine,
     opening: State,
+    carried: bool,
 }
 
 impl Object {
@@ -30,6 +31,7 @@ impl Object {
         layout: Layout,
         engine: CodeEngine,
         opening: State,
+        carried: bool,
     ) -> Object
         ensures processes { (object_in result).processes ≡ processes }
         ensures tree { (object_in result).tree ≡ tree_in checked }
@@ -37,6 +39,7 @@ impl Object {
         ensures layout { (object_in result).layout ≡ parts_of layout }
         ensures engine { (object_in result).engine ≡ engine.parts }
         ensures opening { (object_in result).opening ≡ state_of opening }
+        ensures carried { (object_in result).carried ≡ carried }
     {
         Object {
             processes,
@@ -44,6 +47,7 @@ impl Object {
             layout,
             engine,
             opening,
+            carried,
         }
     }
 
@@ -90,14 +94,22 @@ impl Object {
         &self.opening
     }
 
-    /// The number of processes, the checked module, the layout, the engine and the opening state.
-    pub fn into_parts(self) -> (usize, Checked, Layout, CodeEngine, State)
+    /// Whether that state was carried over, and no body ran.
+    pub fn carried(&self) -> bool
+        ensures { result ≡ (object_in self.now).carried }
+    {
+        self.carried
+    }
+
+    /// The number of processes, the checked module, the layout, the engine, the opening state, and whether that was carried over.
+    pub fn into_parts(self) -> (usize, Checked, Layout, CodeEngine, State, bool)
         ensures processes { result.0 ≡ (object_in self).processes }
         ensures program { program_in result.1 ≡ (object_in self).program }
         ensures tree { tree_in result.1 ≡ (object_in self).tree }
         ensures layout { parts_of result.2 ≡ (object_in self).layout }
         ensures engine { result.3.parts ≡ (object_in self).engine }
         ensures opening { state_of result.4 ≡ (object_in self).opening }
+        ensures carried { result.5 ≡ (object_in self).carried }
     {
         let Object {
             processes,
@@ -105,7 +117,8 @@ impl Object {
             layout,
             engine,
             opening,
+            carried,
         } = self;
-        (processes, checked, layout, engine, opening)
+        (processes, checked, layout, engine, opening, carried)
     }
 }

@@ -5,7 +5,7 @@ use ob_code_layout::Layout;
 use ob_store::state::State;
 
 /// What a text was compiled to without code, for so many processes and with a budget of turns for each call: the checked module,
-/// whose tree an engine runs, its layout, and the state in which the object begins.
+/// whose tree an engine runs, its layout, the state in which the object begins, and whether that was carried over.
 #[derive(Drop)]
 pub struct TreeObject {
     processes: usize,
@@ -13,6 +13,7 @@ pub struct TreeObject {
     layout: Layout,
     budget: u64,
     opening: State,
+    carried: bool,
 }
 
 impl TreeObject {
@@ -30,6 +31,7 @@ impl TreeObject {
         layout: Layout,
         budget: u64,
         opening: State,
+        carried: bool,
     ) -> TreeObject
         ensures processes { (tree_object_in result).processes ≡ processes }
         ensures tree { (tree_object_in result).tree ≡ tree_in checked }
@@ -37,6 +39,7 @@ impl TreeObject {
         ensures layout { (tree_object_in result).layout ≡ parts_of layout }
         ensures engine { (tree_object_in result).engine ≡ Compiled.parts_of (program_in checked) budget }
         ensures opening { (tree_object_in result).opening ≡ state_of opening }
+        ensures carried { (tree_object_in result).carried ≡ carried }
     {
         TreeObject {
             processes,
@@ -44,6 +47,7 @@ impl TreeObject {
             layout,
             budget,
             opening,
+            carried,
         }
     }
 
@@ -81,5 +85,12 @@ impl TreeObject {
         ensures { state_of result.now ≡ (tree_object_in self.now).opening }
     {
         &self.opening
+    }
+
+    /// Whether that state was carried over, and no body ran.
+    pub fn carried(&self) -> bool
+        ensures { result ≡ (tree_object_in self.now).carried }
+    {
+        self.carried
     }
 }

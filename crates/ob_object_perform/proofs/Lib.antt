@@ -1,7 +1,6 @@
 pub mod Objects
 pub mod ScriptFits
-pub mod PerformFaults
-pub mod NoPerformance
+pub mod Refusals
 pub mod Runs
 pub mod Readings
 mod Alone

@@ -13,7 +13,7 @@ use Rattle.ob_interface.specs.Call.{ObjectCall}
 use Rattle.ob_meaning.specs.Object as Named
 use Rattle.ob_object_compile.specs.Compilation.{ObjectParts}
 use Rattle.ob_object_compile.specs.Sound.{IsSoundObject}
-use Rattle.ob_object_run.specs.Laws.{OpeningsAreObjects}
+use Rattle.ob_object_run.specs.Laws.{StatesAreObjects}
 use Rattle.ob_object_run.specs.Recorded.{IsNamedObjectOf, IsObject, IsObjectOf}
 use Rattle.ob_positions.specs.Store.{Activation}
 use Rattle.ob_schedule.specs.Schedule.{AreItems, IsSchedule, item_words, more, none, process_of}
@@ -28,11 +28,11 @@ module _ (o : ObjectParts) (sound : IsSoundObject o) where
   pub fits_program : (parts : EngineParts) → parts ≡ o.engine → (call : ObjectCall) → IsFitting parts.exports call → Fits o.program call
   fits_program parts parts_is call h = subst (λ (e : EngineParts). IsFitting e.exports call) (parts_is ∙ sound.engine_is) h
 
-  module _ (openings : OpeningsAreObjects) where
+  module _ (states_are : StatesAreObjects) where
     pub is_object : IsObjectOf o.program o.engine o.opening (encoded o.opening)
     is_object =
         subst (λ (e : EngineParts). IsObjectOf o.program e o.opening (encoded o.opening)) (sym sound.engine_is)
-        (openings o.program o.engine.budget o.opening sound.well sound.begins)
+        (states_are o.program o.engine.budget o.opening sound.well sound.begins)
 
     pub named_object : (opening : Named.State) → SameState o.program opening o.opening → IsNamedObjectOf o.program o.engine opening (encoded o.opening)
     named_object opening same = record { resolved = sound.resolved; activation = o.opening; same = same; is = is_object }

@@ -1,5 +1,6 @@
 -- What a run over an object's engine shows is a run on the object.
-use Rattle.std.proofs.Common.{◌≡◌, ℕ, List, subst}
+use Rattle.std.proofs.Common.{◌≡◌, ℕ, Bool, List, Option, subst}
+use Rattle.std.proofs.Math.Logic.{∥∥₁_map}
 use Rattle.std.specs.Prelude.{ℤ}
 use Rattle.ob_code_engine.specs.CodeEngine.{CompiledParts}
 use Rattle.ob_code_law.specs.CodeMeaning.{EngineParts, code_meaning}
@@ -13,8 +14,8 @@ use Rattle.ob_object_compile.specs.Compilation.{ObjectParts}
 use Rattle.ob_object_compile.specs.Sound.{IsSoundObject}
 use Rattle.ob_object_perform.proofs.Objects.{engine, named_object_of, variables_are}
 use Rattle.ob_object_perform.specs.Performance.{AreMakersIn, IsMeantIn, IsRunFault, Shows, ShowsNone}
-use Rattle.ob_object_record.specs.Record.{Record}
-use Rattle.ob_object_run.specs.Laws.{OpeningsAreObjects}
+use Rattle.ob_object_record.specs.Record.{Record, carried_from}
+use Rattle.ob_object_run.specs.Laws.{StatesAreObjects}
 use Rattle.ob_object_run.specs.Recorded.{IsMeantFor, IsMeantOrder, IsNoRun, IsRecorded}
 use Rattle.ob_positions.specs.Store.{Activation}
 use Rattle.ob_schedule.specs.declared.item.Item.{Item}
@@ -30,13 +31,31 @@ use Rattle.wf_table.specs.Schedule.{steps_of}
 module _ (o : ObjectParts) (calls : List ScriptCall) (items : List Item)
     (parts : EngineParts) (n : ℕ) (opening : Activation) (made : List ScriptCall) (its : List Item)
     (parts_are : parts ≡ o.engine) (n_is : n ≡ o.processes) (opening_is : opening ≡ o.opening) (made_are : made ≡ calls) (items_are : its ≡ items) where
-  pub shows_in : (r : Record) → IsRecorded parts n (encoded opening) (scripts_of made) its r → Shows o calls items r
-  shows_in r h =
+  pub recorded_in : (r : Record) → IsRecorded parts n (encoded opening) (scripts_of made) its r → IsRecorded o.engine o.processes (encoded o.opening) (scripts_of calls) items r
+  recorded_in r h =
       subst (λ (e : EngineParts). IsRecorded e o.processes (encoded o.opening) (scripts_of calls) items r) parts_are
       (subst (λ (k : ℕ). IsRecorded parts k (encoded o.opening) (scripts_of calls) items r) n_is
       (subst (λ (a : Activation). IsRecorded parts n (encoded a) (scripts_of calls) items r) opening_is
       (subst (λ (cs : List ScriptCall). IsRecorded parts n (encoded opening) (scripts_of cs) items r) made_are
       (subst (λ (is : List Item). IsRecorded parts n (encoded opening) (scripts_of made) is r) items_are h))))
+
+  -- and tells what the object began with
+  pub shows_in : (r : Record) (flag : Bool) → flag ≡ o.carried → IsRecorded parts n (encoded opening) (scripts_of made) its r →
+      Shows o calls items (record r { carried = carried_from flag opening })
+  shows_in r flag flag_is h =
+      let is = recorded_in r h in
+      record {
+        recorded = record {
+          state = is.state;
+          played = is.played;
+          processes = is.processes;
+          budget = is.budget;
+          history = is.history;
+          order = is.order;
+          schedule = is.schedule;
+        };
+        carried = let same = opening_is in cc;
+      }
 
   pub fault_in : (e : PlayFault) → IsNoRun parts n (encoded opening) (scripts_of made) its e → IsRunFault o calls items e
   fault_in fault h =
@@ -57,13 +76,15 @@ makers_in o calls r makers parts n words made steps parts_are n_is words_are mad
     (subst (λ (cs : List ScriptCall). AreMakersOf (code_meaning parts) (HasReserve parts) n words (scripts_of cs) (steps_of r.schedule) makers) made_are
     (subst (λ (ps : List ℕ). AreMakersOf (code_meaning parts) (HasReserve parts) n words (scripts_of made) ps makers) steps_are h))))
 
-module _ (o : ObjectParts) (sound : IsSoundObject o) (openings : OpeningsAreObjects) where
+module _ (o : ObjectParts) (sound : IsSoundObject o) (states_are : StatesAreObjects) where
   -- the order is legal by name
   pub meant_in : (layout : LayoutParts) (parts : EngineParts) (opening : Activation) → layout ≡ o.layout → parts ≡ o.engine → opening ≡ o.opening →
-      (r : Record) → IsMeantFor layout.variables parts (encoded opening) r → IsMeantIn o r
-  meant_in layout parts opening laid parts_are opening_is r h = λ state same.
-      subst (λ (e : EngineParts). ∥ IsMeantOrder o.program e.budget state r ∥₁) parts_are
-      (h o.program state (variables_are o sound openings parts opening parts_are opening_is layout laid) (named_object_of o sound openings parts opening parts_are opening_is state same))
+      (r : Record) (was : Option Activation) → IsMeantFor layout.variables parts (encoded opening) r → IsMeantIn o (record r { carried = was })
+  meant_in layout parts opening laid parts_are opening_is r was h = λ state same.
+      ∥∥₁_map
+      (subst (λ (e : EngineParts). ∥ IsMeantOrder o.program e.budget state r ∥₁) parts_are
+      (h o.program state (variables_are o sound states_are parts opening parts_are opening_is layout laid) (named_object_of o sound states_are parts opening parts_are opening_is state same)))
+      (λ m. record { last = m.last; legal = m.legal; same = m.same })
 
   -- where an item is too long, there is no run
   abbrev pub TooLongIsNoRun : Type 0
@@ -75,5 +96,5 @@ module _ (o : ObjectParts) (sound : IsSoundObject o) (openings : OpeningsAreObje
   pub none_in : TooLongIsNoRun → (calls : List ScriptCall) (items : List Item) (e : PlayFault) → IsRunFault o calls items e → ShowsNone o calls items e
   none_in law calls items Play.Processes h = tt
   none_in law calls items (Play.TooLong number) h = λ r shown.
-      law (engine o sound openings) o.processes number (encoded o.opening) (scripts_of calls) items shown.state h shown.played
+      law (engine o sound states_are) o.processes number (encoded o.opening) (scripts_of calls) items shown.recorded.state h shown.recorded.played
   none_in law calls items Play.NoMemory h = tt

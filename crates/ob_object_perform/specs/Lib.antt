@@ -1,3 +1,4 @@
+pub mod Texts
 pub mod Performance
 pub mod Printed
 pub mod Laws

@@ -1,5 +1,5 @@
 -- A run from the texts of a module, of scripts and of a schedule: what its record is, and why there is none.
-use Rattle.std.specs.Prelude.{◌≡◌, ◌≢◌, ℕ, ◌<◌, All, Bool, true, false, List}
+use Rattle.std.specs.Prelude.{◌≡◌, ◌≢◌, ℕ, ◌<◌, All, Bool, true, false, List, Option}
 use Rattle.ob_agreement.specs.Same.{SameState}
 use Rattle.ob_checked.specs.Exports.{signatures}
 use Rattle.ob_code_law.specs.CodeMeaning.{code_meaning}
@@ -7,14 +7,16 @@ use Rattle.ob_code_law.specs.Compiled.{Fits, HasReserve}
 use Rattle.ob_code_scheme.specs.Layout.{encoded}
 use Rattle.ob_meaning.specs.Object as Named
 use Rattle.ob_object_compile.specs.Compilation as Compilation
-use Rattle.ob_object_compile.specs.Compilation.{IsAny, IsCompileFault, IsObjectOf, IsShort, IsTreeFault, ObjectParts}
+use Rattle.ob_object_compile.specs.Compilation.{IsAny, IsObjectFault, IsObjectOf, IsShort, ObjectParts}
 use Rattle.ob_object_compile.specs.Sound.{IsSoundObject}
 use Rattle.ob_object_compile.specs.declared.compiling.CompileFault.{CompileFault}
 use Rattle.ob_object_compile.specs.declared.compiling.CompileFault.TheVariants as Compile
+use Rattle.ob_object_perform.specs.Texts.{Texts}
 use Rattle.ob_object_perform.specs.declared.performing.PerformFault.{PerformFault}
 use Rattle.ob_object_perform.specs.declared.performing.PerformFault.TheVariants as Faults
-use Rattle.ob_object_record.specs.Record.{Record}
+use Rattle.ob_object_record.specs.Record.{Record, carried_from}
 use Rattle.ob_object_run.specs.Recorded.{IsMeantOrder, IsNoRun, IsRecorded}
+use Rattle.ob_positions.specs.Store.{Activation}
 use Rattle.ob_schedule.specs.Schedule.{IsSchedule, IsScheduleFault, process_of}
 use Rattle.ob_schedule.specs.declared.item.Item.{Item}
 use Rattle.ob_schedule.specs.declared.schedule.ScheduleFault.{ScheduleFault}
@@ -40,9 +42,14 @@ pub record IsReady (o : ObjectParts) (calls : List ScriptCall) (items : List Ite
   pub fit : All (λ c. Fits o.program (object_call c)) calls
   pub turns : All (λ item. process_of item < o.processes) items
 
+-- the state with which an object begins, where it was carried over
+abbrev pub carried_in : ObjectParts → Option Activation
+carried_in o = carried_from o.carried o.opening
+
 -- a record shows a run of these calls and items on an object
-abbrev pub Shows : ObjectParts → List ScriptCall → List Item → Record → Type 0
-Shows o calls items r = IsRecorded o.engine o.processes (encoded o.opening) (scripts_of calls) items r
+pub record Shows (o : ObjectParts) (calls : List ScriptCall) (items : List Item) (r : Record) : Type 0 where
+  pub recorded : IsRecorded o.engine o.processes (encoded o.opening) (scripts_of calls) items r
+  pub carried : r.carried ≡ carried_in o
 
 -- why there is no run of these calls and items on an object
 abbrev pub IsRunFault : ObjectParts → List ScriptCall → List Item → PlayFault → Type 0
@@ -65,92 +72,77 @@ IsMeantIn o r = (opening : Named.State) → SameState o.program opening o.openin
 -- ---- from texts, where an object is asked for of certain programs alone
 
 module _ (Allowed : Program → Type 0) where
-  -- Of the texts of a module, of scripts and of a schedule, for n processes and with a budget: the record shows a run of the module's
-  -- object, and its order is a legal order of its history by what the calls mean by name with the budget, from the module's opening
-  -- state to the record's state.
-  pub record IsRunOf (text : List ℕ) (n budget : ℕ) (scripts schedule : List ℕ) (r : Record) : Type 0 where
+  -- The record shows a run of the object that is asked for, and its order is a legal order of its history by what the calls mean by name
+  -- with the budget, from the state with which the object begins to the record's state.
+  pub record IsRunOf (t : Texts) (r : Record) : Type 0 where
     pub object : ObjectParts
-    pub compiled : IsObjectOf Allowed text n budget object
+    pub compiled : IsObjectOf Allowed t.asked object
     pub calls : List ScriptCall
-    pub calls_are : IsScript (signatures object.program) n scripts calls
+    pub calls_are : IsScript (signatures object.program) t.asked.processes t.scripts calls
     pub items : List Item
-    pub items_are : IsSchedule n schedule items
+    pub items_are : IsSchedule t.asked.processes t.schedule items
     pub shows : Shows object calls items r
-    pub legal : ∥ IsMeantOrder object.program budget compiled.opens.state r ∥₁
+    pub legal : ∥ IsMeantOrder object.program t.asked.budget compiled.opens.state r ∥₁
 
   -- the object of a module's text, the calls of scripts and the items of a schedule: each text has one program, one list of calls and
   -- one list of items
-  pub record AreReadOf (text : List ℕ) (n budget : ℕ) (scripts schedule : List ℕ) (o : ObjectParts) (calls : List ScriptCall) (items : List Item) : Type 0 where
-    pub compiled : IsObjectOf Allowed text n budget o
-    pub alone : (other : Program) → IsModule text other → other ≡ o.program
-    pub calls_are : IsScript (signatures o.program) n scripts calls
-    pub only_calls : (others : List ScriptCall) → IsScript (signatures o.program) n scripts others → others ≡ calls
-    pub items_are : IsSchedule n schedule items
-    pub only_items : (others : List Item) → IsSchedule n schedule others → others ≡ items
+  pub record AreReadOf (t : Texts) (o : ObjectParts) (calls : List ScriptCall) (items : List Item) : Type 0 where
+    pub compiled : IsObjectOf Allowed t.asked o
+    pub alone : (other : Program) → IsModule t.asked.text other → other ≡ o.program
+    pub calls_are : IsScript (signatures o.program) t.asked.processes t.scripts calls
+    pub only_calls : (others : List ScriptCall) → IsScript (signatures o.program) t.asked.processes t.scripts others → others ≡ calls
+    pub items_are : IsSchedule t.asked.processes t.schedule items
+    pub only_items : (others : List Item) → IsSchedule t.asked.processes t.schedule others → others ≡ items
+
+  -- there is no object that is asked for with such calls and such items
+  abbrev pub HasNoReading : Texts → Type 0
+  HasNoReading t =
+      (o : ObjectParts) (calls : List ScriptCall) (items : List Item) → IsObjectOf Allowed t.asked o →
+      IsScript (signatures o.program) t.asked.processes t.scripts calls → IsSchedule t.asked.processes t.schedule items → ⊥
 
   -- the texts have no run
-  abbrev pub HasNoRun : (text : List ℕ) (n budget : ℕ) (scripts schedule : List ℕ) → Type 0
-  HasNoRun text n budget scripts schedule = (r : Record) → IsRunOf text n budget scripts schedule r → ⊥
+  abbrev pub HasNoRun : Texts → Type 0
+  HasNoRun t = (r : Record) → IsRunOf t r → ⊥
 
-  -- the scripts are none for the text's object
-  pub record IsScriptFaultFor (text : List ℕ) (n budget : ℕ) (scripts : List ℕ) (fault : ScriptFault) : Type 0 where
+  -- the scripts are none for the object
+  pub record IsScriptFaultFor (t : Texts) (fault : ScriptFault) : Type 0 where
     pub object : ObjectParts
-    pub compiled : IsObjectOf Allowed text n budget object
-    pub fails : IsScriptFault (signatures object.program) n scripts fault
+    pub compiled : IsObjectOf Allowed t.asked object
+    pub fails : IsScriptFault (signatures object.program) t.asked.processes t.scripts fault
 
-  -- the scripts are calls on the text's object, and the schedule is none
-  pub record IsScheduleFaultFor (text : List ℕ) (n budget : ℕ) (scripts schedule : List ℕ) (fault : ScheduleFault) : Type 0 where
+  -- the scripts are calls on the object, and the schedule is none
+  pub record IsScheduleFaultFor (t : Texts) (fault : ScheduleFault) : Type 0 where
     pub object : ObjectParts
-    pub compiled : IsObjectOf Allowed text n budget object
+    pub compiled : IsObjectOf Allowed t.asked object
     pub calls : List ScriptCall
-    pub calls_are : IsScript (signatures object.program) n scripts calls
-    pub fails : IsScheduleFault n schedule fault
+    pub calls_are : IsScript (signatures object.program) t.asked.processes t.scripts calls
+    pub fails : IsScheduleFault t.asked.processes t.schedule fault
 
   -- the item of this number, from 1, is the first one that stands for more steps than an item may take
-  pub record PassesLimit (text : List ℕ) (n budget : ℕ) (scripts schedule : List ℕ) (number : ℕ) : Type 0 where
+  pub record PassesLimit (t : Texts) (number : ℕ) : Type 0 where
     pub object : ObjectParts
-    pub compiled : IsObjectOf Allowed text n budget object
+    pub compiled : IsObjectOf Allowed t.asked object
     pub calls : List ScriptCall
-    pub calls_are : IsScript (signatures object.program) n scripts calls
+    pub calls_are : IsScript (signatures object.program) t.asked.processes t.scripts calls
     pub items : List Item
-    pub items_are : IsSchedule n schedule items
+    pub items_are : IsSchedule t.asked.processes t.schedule items
     pub long : IsRunFault object calls items (Play.TooLong number)
 
-  -- what each fault says behind that of the object
-  abbrev pub IsFaultOf : (CompileFault → Type 0) → (text : List ℕ) (n budget : ℕ) (scripts schedule : List ℕ) → PerformFault → Type 0
-  IsFaultOf IsOfObject text n budget scripts schedule (Faults.Compile e) = IsOfObject e
-  IsFaultOf IsOfObject text n budget scripts schedule (Faults.Script e) = IsScriptFaultFor text n budget scripts e
-  IsFaultOf IsOfObject text n budget scripts schedule (Faults.Schedule e) = IsScheduleFaultFor text n budget scripts schedule e
-  IsFaultOf IsOfObject text n budget scripts schedule (Faults.TooLong number) = PassesLimit text n budget scripts schedule number
-  IsFaultOf IsOfObject text n budget scripts schedule Faults.NoMemory = Unit {0}
+  -- what each fault says
+  abbrev pub IsFaultOf : Texts → PerformFault → Type 0
+  IsFaultOf t (Faults.Compile e) = IsObjectFault Allowed t.asked e
+  IsFaultOf t (Faults.Script e) = IsScriptFaultFor t e
+  IsFaultOf t (Faults.Schedule e) = IsScheduleFaultFor t e
+  IsFaultOf t (Faults.TooLong number) = PassesLimit t number
+  IsFaultOf t Faults.NoMemory = Unit {0}
 
--- ---- of an object over code
-
-abbrev pub IsPerformance : (text : List ℕ) (n budget : ℕ) (scripts schedule : List ℕ) → Record → Type 0
+-- a run of an object over code
+abbrev pub IsPerformance : Texts → Record → Type 0
 IsPerformance = IsRunOf IsShort
 
-abbrev pub AreRead : (text : List ℕ) (n budget : ℕ) (scripts schedule : List ℕ) → ObjectParts → List ScriptCall → List Item → Type 0
-AreRead = AreReadOf IsShort
-
-abbrev pub HasNoPerformance : (text : List ℕ) (n budget : ℕ) (scripts schedule : List ℕ) → Type 0
-HasNoPerformance = HasNoRun IsShort
-
-abbrev pub IsScriptFaultOf : (text : List ℕ) (n budget : ℕ) (scripts : List ℕ) → ScriptFault → Type 0
-IsScriptFaultOf = IsScriptFaultFor IsShort
-
-abbrev pub IsPerformFault : (text : List ℕ) (n budget : ℕ) (scripts schedule : List ℕ) → PerformFault → Type 0
-IsPerformFault text n budget scripts schedule = IsFaultOf IsShort (IsCompileFault text n budget) text n budget scripts schedule
-
--- ---- of an object over the module's tree: the run is one over the code of the scheme, of whatever length
-
-abbrev pub IsTreePerformance : (text : List ℕ) (n budget : ℕ) (scripts schedule : List ℕ) → Record → Type 0
+-- over the module's tree: the run is one over the code of the scheme, of whatever length
+abbrev pub IsTreePerformance : Texts → Record → Type 0
 IsTreePerformance = IsRunOf IsAny
-
-abbrev pub HasNoTreePerformance : (text : List ℕ) (n budget : ℕ) (scripts schedule : List ℕ) → Type 0
-HasNoTreePerformance = HasNoRun IsAny
-
-abbrev pub IsTreePerformFault : (text : List ℕ) (n budget : ℕ) (scripts schedule : List ℕ) → PerformFault → Type 0
-IsTreePerformFault text n budget scripts schedule = IsFaultOf IsAny (IsTreeFault text n budget) text n budget scripts schedule
 
 -- ---- faults
 
@@ -187,3 +179,18 @@ is_want_of_memory _ = false
 -- a fault with a number, so no want of memory
 abbrev pub IsNumbered : PerformFault → Type 0
 IsNumbered fault = (is_want_of_memory fault ≡ false) × TellsMemoryApart fault
+
+-- a fault of the texts themselves, and with a number
+abbrev pub IsOfTexts : PerformFault → Type 0
+IsOfTexts (Faults.Compile e) = Compilation.IsNumbered e
+IsOfTexts (Faults.Script e) = e ≢ Script.NoMemory
+IsOfTexts (Faults.Schedule e) = e ≢ Schedule.NoMemory
+IsOfTexts _ = ⊥
+
+-- What is said with a fault of texts: what the fault says of them; that where it has a number they have no run, and where it is their
+-- own can't be read, whatever else is wrong; and that want of memory is told by its own variant alone.
+pub record IsRefusal (Allowed : Program → Type 0) (t : Texts) (fault : PerformFault) : Type 0 where
+  pub says : IsFaultOf Allowed t fault
+  pub none : IsNumbered fault → HasNoRun Allowed t
+  pub unread : IsOfTexts fault → HasNoReading Allowed t
+  pub memory : TellsMemoryApart fault

@@ -1,8 +1,10 @@
 -- What is drawn of a run from texts, and why there is no picture.
 use Rattle.std.specs.Prelude.{◌≡◌, ◌≢◌, ℕ, List, Option, length}
+use Rattle.ob_object_compile.specs.Compilation.{IsShort}
 use Rattle.ob_checked.specs.Exports.{signatures}
 use Rattle.ob_object_perform.specs.Performance as Performance
-use Rattle.ob_object_perform.specs.Performance.{AreMakersIn, HasNoPerformance, IsNumbered, IsPerformance, IsPerformFault}
+use Rattle.ob_object_perform.specs.Performance.{AreMakersIn, HasNoRun, IsFaultOf, IsNumbered, IsPerformance}
+use Rattle.ob_object_perform.specs.Texts.{Texts}
 use Rattle.ob_object_perform.specs.declared.drawing.DrawFault.{DrawFault}
 use Rattle.ob_object_perform.specs.declared.drawing.DrawFault.TheVariants as Faults
 use Rattle.ob_object_perform.specs.declared.performing.PerformFault.TheVariants as Perform
@@ -18,8 +20,8 @@ use Rattle.ob_typing.specs.Program.{Program}
 
 -- the record is that of a run from the texts, the program that of its object, and the makers are for each event the process whose step showed
 -- it
-pub record IsWithMakers (text : List ℕ) (n budget : ℕ) (scripts schedule : List ℕ) (program : Program) (r : Record) (makers : List ℕ) : Type 0 where
-  pub performs : IsPerformance text n budget scripts schedule r
+pub record IsWithMakers (t : Texts) (program : Program) (r : Record) (makers : List ℕ) : Type 0 where
+  pub performs : IsPerformance t r
   pub program_is : program ≡ performs.object.program
   pub made : AreMakersIn performs.object performs.calls r makers
 
@@ -28,34 +30,29 @@ abbrev pub moments_of : Record → (makers : List ℕ) → List Moment
 moments_of r makers = seen_from makers 0 r.history
 
 -- a run from the texts, with its program and its makers
-pub record Shown (text : List ℕ) (n budget : ℕ) (scripts schedule : List ℕ) : Type 0 where
+pub record Shown (t : Texts) : Type 0 where
   pub program : Program
   pub shown : Record
   pub makers : List ℕ
-  pub is : IsWithMakers text n budget scripts schedule program shown makers
+  pub is : IsWithMakers t program shown makers
 
 -- the bytes are the picture of the calls of a range of a run from the texts: there are such calls, no more than a picture has
-pub record IsPicturePrinted (text : List ℕ) (n budget : ℕ) (scripts schedule : List ℕ) (calls : Option CallRange) (output : List ℕ) : Type 0 where
-  pub run : Shown text n budget scripts schedule
+pub record IsPicturePrinted (t : Texts) (calls : Option CallRange) (output : List ℕ) : Type 0 where
+  pub run : Shown t
   pub within : MayBeShown (length (begun (moments_of run.shown run.makers))) calls
   pub printed :
       let moments = moments_of run.shown run.makers in
-      output ≡ picture_text (signatures run.program) (chart_of n moments run.shown.order (range_of (length (begun moments)) calls))
+      output ≡ picture_text (signatures run.program) (chart_of t.asked.processes moments run.shown.order (range_of (length (begun moments)) calls))
 
 -- the texts have a run, and the range this fault
-pub record IsPictureFault (text : List ℕ) (n budget : ℕ) (scripts schedule : List ℕ) (calls : Option CallRange) (fault : PictureFault) : Type 0 where
-  pub run : Shown text n budget scripts schedule
+pub record IsPictureFault (t : Texts) (calls : Option CallRange) (fault : PictureFault) : Type 0 where
+  pub run : Shown t
   pub fails : IsRangeFault (length (begun (moments_of run.shown run.makers))) calls fault
 
 -- what each fault says
-abbrev pub IsDrawFault : (text : List ℕ) (n budget : ℕ) (scripts schedule : List ℕ) → Option CallRange → DrawFault → Type 0
-IsDrawFault text n budget scripts schedule calls (Faults.Run e) = IsPerformFault text n budget scripts schedule e
-IsDrawFault text n budget scripts schedule calls (Faults.Calls e) = IsPictureFault text n budget scripts schedule calls e
-
--- with a fault of the run that has a number the texts have none
-abbrev pub SaysNoRun : (text : List ℕ) (n budget : ℕ) (scripts schedule : List ℕ) → DrawFault → Type 0
-SaysNoRun text n budget scripts schedule (Faults.Run e) = IsNumbered e → HasNoPerformance text n budget scripts schedule
-SaysNoRun text n budget scripts schedule (Faults.Calls e) = Unit {0}
+abbrev pub IsDrawFault : (t : Texts) → Option CallRange → DrawFault → Type 0
+IsDrawFault t calls (Faults.Run e) = IsFaultOf IsShort t e
+IsDrawFault t calls (Faults.Calls e) = IsPictureFault t calls e
 
 -- want of memory is told in one place
 abbrev pub of_picture : PictureFault → DrawFault
@@ -66,3 +63,14 @@ of_picture e = Faults.Calls e
 abbrev pub TellsMemoryApart : DrawFault → Type 0
 TellsMemoryApart (Faults.Run e) = Performance.TellsMemoryApart e
 TellsMemoryApart (Faults.Calls e) = e ≢ Pictures.NoMemory
+
+-- with a fault of the run that has a number the texts have none
+abbrev pub SaysNoRun : Texts → DrawFault → Type 0
+SaysNoRun t (Faults.Run e) = IsNumbered e → HasNoRun IsShort t
+SaysNoRun t (Faults.Calls e) = Unit {0}
+
+-- what is said with a fault of a picture
+pub record IsDrawRefusal (t : Texts) (calls : Option CallRange) (fault : DrawFault) : Type 0 where
+  pub says : IsDrawFault t calls fault
+  pub none : SaysNoRun t fault
+  pub memory : TellsMemoryApart fault

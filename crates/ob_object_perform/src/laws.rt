@@ -6,14 +6,14 @@ use ob_object_compile::laws::compilations_are_sound;
 use ob_object_run::laws as runs;
 
 /// In a record of one process the order is a beginning of the script's calls, and each call that ended has the reply of its
-/// place: the one that the calls have when they are made one at a time by name, with the budget, from the opening state.
+/// place: the one that the calls have when they are made one at a time by name, with the budget, from the state with which the object begins.
 pub fn one_process()
     ensures in_turn { OneProcessInTurn }
     ensures answers { OneProcessAnswers }
 {
     runs::one_process();
     runs::one_process_answers();
-    runs::openings_are_objects();
+    runs::states_are_objects();
     compilations_are_sound();
 }
 
@@ -31,6 +31,6 @@ pub fn performances_pass_check()
     ensures { PerformancesPassCheck }
 {
     runs::runs_pass_check();
-    runs::openings_are_objects();
+    runs::states_are_objects();
     compilations_are_sound();
 }

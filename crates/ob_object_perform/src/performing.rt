@@ -1,25 +1,28 @@
 //! Runs from texts.
 
-ghost use Rattle.std.specs.Prelude.{◌≡◌, ◌<◌, ◌≤◌, ◌^◌, ◌⊎◌, All, Err, IfOk, IfErr, length};
+ghost use Rattle.std.specs.Prelude.{◌≡◌, ◌<◌, ◌^◌, All, Err, IfOk, IfErr, length};
+ghost use Rattle.ob_carry.specs.View.{entries_of};
 ghost use Rattle.ob_checked.specs.CheckedModule.{program_in};
 ghost use Rattle.ob_code_law.specs.Carried.{BegunFit};
 ghost use Rattle.ob_code_law.specs.Compiled.{Fits};
-ghost use Rattle.ob_meaning.specs.Object.{most_turns};
-ghost use Rattle.ob_object_compile.specs.Compilation.{InRange, too_long};
+ghost use Rattle.ob_object_compile.specs.Asked.{TellsAtOnce, by_body, by_values};
+ghost use Rattle.ob_object_compile.specs.Compilation.{IsShort};
 ghost use Rattle.ob_object_compile.specs.View.{object_in};
-ghost use Rattle.ob_object_perform.specs.Performance.{AreRead, HasNoPerformance, IsNumbered, IsPerformance, IsPerformFault, IsReady, TellsMemoryApart};
+ghost use Rattle.ob_object_perform.specs.Performance.{AreReadOf, IsPerformance, IsReady, IsRefusal};
+ghost use Rattle.ob_object_perform.specs.Texts.{run_texts, texts_of};
 ghost use Rattle.ob_object_record.specs.Record.{record_of};
 ghost use Rattle.ob_typing.specs.ModuleText.{IsModule};
 ghost use Rattle.ob_typing.specs.Program.{Program};
 
 use crate::running::run_on;
+use crate::texts::Texts;
+use ob_carry::named::NamedField;
 use ob_checked::checked::Checked;
 use ob_code_law::laws::calls_fit;
-use ob_interface::{MOST_PROCESSES, NoMemory};
+use ob_interface::NoMemory;
 use ob_object_compile::laws::compilations_are_sound;
-use ob_object_compile::{CompileFault, Object, compile};
+use ob_object_compile::{Asked, Beginning, CompileFault, Object, compile_asked};
 use ob_object_record::Record;
-use ob_scan::scanner::LONGEST_TEXT;
 use ob_schedule::{Item, ScheduleFault, read_schedule};
 use ob_text_scripts::{ScriptFault, Scripts, read_scripts};
 use std::alloc::{AllocError, Global};
@@ -124,7 +127,7 @@ impl From<PlayFault> for PerformFault {
 }
 
 /// The record of the run that the scripts and the schedule make on the module's object, which n processes share, and whose
-/// calls have so many turns each.
+/// calls have so many turns each. The object begins by the module's body.
 pub fn perform(
     alloc: Global,
     text: &[u8],
@@ -133,59 +136,73 @@ pub fn perform(
     scripts: &[u8],
     schedule: &[u8],
 ) -> Result<Record, PerformFault>
-    ensures performance { IfOk result (λ r. IsPerformance text.now n budget scripts.now schedule.now (record_of r)) }
+    ensures performance { IfOk result (λ r. IsPerformance (run_texts (by_body text.now n budget) scripts.now schedule.now) (record_of r)) }
     ensures events { IfOk result (λ r. length r.history < 2 ^ 64) }
-    ensures fault { IfErr result (IsPerformFault text.now n budget scripts.now schedule.now) }
-
-    // With a fault that has a number the texts have no run.
-    ensures none { IfErr result (λ e. IsNumbered e → HasNoPerformance text.now n budget scripts.now schedule.now) }
-
-    // Want of memory is told by its own variant alone.
-    ensures memory { IfErr result TellsMemoryApart }
-
-    // The number of processes is looked at first, and behind it the budget.
-    ensures processes { (n ≡ 0) ⊎ (MOST_PROCESSES < n) → result ≡ Err (PerformFault.Compile CompileFault.Processes) }
-    ensures budget { 0 < n → n ≤ MOST_PROCESSES → most_turns < budget → result ≡ Err (PerformFault.Compile CompileFault.Budget) }
-
-    // A text over the scanner's bound is refused, whatever it says.
-    ensures too_long { InRange n budget (LONGEST_TEXT < length text.now → result ≡ Err (PerformFault.Compile too_long)) }
+    ensures refused { IfErr result (IsRefusal IsShort (run_texts (by_body text.now n budget) scripts.now schedule.now)) }
+    ensures at_once { TellsAtOnce (by_body text.now n budget) (λ e. result ≡ Err (PerformFault.Compile e)) }
 {
-    let (_, record) = performed(alloc, text, n, budget, scripts, schedule)?;
+    let asked = Asked {
+        text,
+        processes: n,
+        budget,
+        beginning: Beginning::Body,
+    };
+    let (_, record) = performed(
+        alloc,
+        Texts {
+            asked,
+            scripts,
+            schedule,
+        },
+    )?;
     Ok(record)
 }
 
-/// The same, with the checked module, by which the record is written.
-pub fn performed(
+/// The same of an object that begins with values by the names of its variables, and runs no body.
+pub fn perform_from(
     alloc: Global,
     text: &[u8],
     n: usize,
     budget: u64,
+    values: &[NamedField],
     scripts: &[u8],
     schedule: &[u8],
-) -> Result<(Checked, Record), PerformFault>
-    ensures alone { IfOk result (λ r. (other : Program) → IsModule text.now other → other ≡ program_in r.0) }
-    ensures performance { IfOk result (λ r. IsPerformance text.now n budget scripts.now schedule.now (record_of r.1)) }
+) -> Result<Record, PerformFault>
+    ensures performance { IfOk result (λ r. IsPerformance (run_texts (by_values text.now n budget (entries_of values.now)) scripts.now schedule.now) (record_of r)) }
+    ensures events { IfOk result (λ r. length r.history < 2 ^ 64) }
+    ensures refused { IfErr result (IsRefusal IsShort (run_texts (by_values text.now n budget (entries_of values.now)) scripts.now schedule.now)) }
+    ensures at_once { TellsAtOnce (by_values text.now n budget (entries_of values.now)) (λ e. result ≡ Err (PerformFault.Compile e)) }
+{
+    let asked = Asked {
+        text,
+        processes: n,
+        budget,
+        beginning: Beginning::Carried(values),
+    };
+    let (_, record) = performed(
+        alloc,
+        Texts {
+            asked,
+            scripts,
+            schedule,
+        },
+    )?;
+    Ok(record)
+}
+
+/// The record of the run that the texts make, with the checked module, by which the record is written.
+pub fn performed(alloc: Global, texts: Texts<'_>) -> Result<(Checked, Record), PerformFault>
+    ensures alone { IfOk result (λ r. (other : Program) → IsModule texts.entry.asked.text.now other → other ≡ program_in r.0) }
+    ensures performance { IfOk result (λ r. IsPerformance (texts_of texts.entry) (record_of r.1)) }
 
     // Each call that begins fits the module.
     ensures exports { IfOk result (λ r. BegunFit (Fits (program_in r.0)) r.1.history) }
-    ensures turns { IfOk result (λ r. All (λ t. t.process < n) r.1.schedule.items) }
+    ensures turns { IfOk result (λ r. All (λ t. t.process < texts.entry.asked.processes) r.1.schedule.items) }
     ensures events { IfOk result (λ r. length r.1.history < 2 ^ 64) }
-    ensures fault { IfErr result (IsPerformFault text.now n budget scripts.now schedule.now) }
-
-    // With a fault that has a number the texts have no run.
-    ensures none { IfErr result (λ e. IsNumbered e → HasNoPerformance text.now n budget scripts.now schedule.now) }
-
-    // Want of memory is told by its own variant alone.
-    ensures memory { IfErr result TellsMemoryApart }
-
-    // The number of processes is looked at first, and behind it the budget.
-    ensures processes { (n ≡ 0) ⊎ (MOST_PROCESSES < n) → result ≡ Err (PerformFault.Compile CompileFault.Processes) }
-    ensures budget { 0 < n → n ≤ MOST_PROCESSES → most_turns < budget → result ≡ Err (PerformFault.Compile CompileFault.Budget) }
-
-    // A text over the scanner's bound is refused, whatever it says.
-    ensures too_long { InRange n budget (LONGEST_TEXT < length text.now → result ≡ Err (PerformFault.Compile too_long)) }
+    ensures refused { IfErr result (IsRefusal IsShort (texts_of texts.entry)) }
+    ensures at_once { TellsAtOnce (texts_of texts.entry).asked (λ e. result ≡ Err (PerformFault.Compile e)) }
 {
-    let (object, calls, items) = read_texts(alloc, text, n, budget, scripts, schedule)?;
+    let (object, calls, items) = read_texts(alloc, texts)?;
     let (checked, record) = run_on(alloc, object, calls, items)?;
     count_events(&record.history);
     Ok((checked, record))
@@ -198,27 +215,24 @@ fn count_events(history: &History)
     let _ = history.len();
 }
 
-/// What a run is made of: the object of the module's text, the calls of the scripts and the items of the schedule.
+/// What a run is made of: the object that is asked for, the calls of the scripts and the items of the schedule.
 pub fn read_texts(
     alloc: Global,
-    text: &[u8],
-    n: usize,
-    budget: u64,
-    scripts: &[u8],
-    schedule: &[u8],
+    texts: Texts<'_>,
 ) -> Result<(Object, Scripts, Vec<Item>), PerformFault>
-    ensures read { IfOk result (λ r. AreRead text.now n budget scripts.now schedule.now (object_in r.0) r.1 r.2.items) }
+    ensures read { IfOk result (λ r. AreReadOf IsShort (texts_of texts.entry) (object_in r.0) r.1 r.2.items) }
     ensures ready { IfOk result (λ r. IsReady (object_in r.0) r.1 r.2.items) }
-    ensures fault { IfErr result (IsPerformFault text.now n budget scripts.now schedule.now) }
-    ensures none { IfErr result (λ e. IsNumbered e → HasNoPerformance text.now n budget scripts.now schedule.now) }
-    ensures memory { IfErr result TellsMemoryApart }
-    ensures processes { (n ≡ 0) ⊎ (MOST_PROCESSES < n) → result ≡ Err (PerformFault.Compile CompileFault.Processes) }
-    ensures budget { 0 < n → n ≤ MOST_PROCESSES → most_turns < budget → result ≡ Err (PerformFault.Compile CompileFault.Budget) }
-    ensures too_long { InRange n budget (LONGEST_TEXT < length text.now → result ≡ Err (PerformFault.Compile too_long)) }
+    ensures refused { IfErr result (IsRefusal IsShort (texts_of texts.entry)) }
+    ensures at_once { TellsAtOnce (texts_of texts.entry).asked (λ e. result ≡ Err (PerformFault.Compile e)) }
 {
-    let object = compile(alloc, text, n, budget)?;
-    let calls = read_scripts(alloc, object.checked(), n, scripts)?;
-    let items = read_schedule(alloc, n, schedule)?;
+    let Texts {
+        asked,
+        scripts,
+        schedule,
+    } = texts;
+    let object = compile_asked(alloc, asked)?;
+    let calls = read_scripts(alloc, object.checked(), asked.processes, scripts)?;
+    let items = read_schedule(alloc, asked.processes, schedule)?;
     // Both do nothing: what was read is what a run asks for.
     compilations_are_sound();
     calls_fit();

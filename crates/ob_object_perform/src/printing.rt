@@ -1,43 +1,23 @@
 //! Runs as texts: their records.
 
-ghost use Rattle.std.specs.Prelude.{◌≡◌, ◌<◌, ◌≤◌, ◌⊎◌, Err, IfErr, IfOk, length, string_bytes};
-ghost use Rattle.ob_meaning.specs.Object.{most_turns};
-ghost use Rattle.ob_object_compile.specs.Compilation.{InRange, too_long};
-ghost use Rattle.ob_object_perform.specs.Performance.{HasNoPerformance, IsNumbered, IsPerformFault, TellsMemoryApart};
+ghost use Rattle.std.specs.Prelude.{◌≡◌, Err, IfErr, IfOk, string_bytes};
+ghost use Rattle.ob_object_compile.specs.Asked.{TellsAtOnce};
+ghost use Rattle.ob_object_compile.specs.Compilation.{IsShort};
+ghost use Rattle.ob_object_perform.specs.Performance.{IsRefusal};
 ghost use Rattle.ob_object_perform.specs.Printed.{IsRecordPrinted};
+ghost use Rattle.ob_object_perform.specs.Texts.{texts_of};
 
 use crate::performing::{PerformFault, performed};
-use ob_interface::MOST_PROCESSES;
-use ob_object_compile::CompileFault;
-use ob_scan::scanner::LONGEST_TEXT;
+use crate::texts::Texts;
 use ob_text_record::write_record;
 use std::alloc::Global;
 
-/// The text of the record of a run.
-pub fn run_text(
-    alloc: Global,
-    text: &[u8],
-    n: usize,
-    budget: u64,
-    scripts: &[u8],
-    schedule: &[u8],
-) -> Result<String, PerformFault>
-    ensures run { IfOk result (λ lines. IsRecordPrinted text.now n budget scripts.now schedule.now (string_bytes lines)) }
-    ensures fault { IfErr result (IsPerformFault text.now n budget scripts.now schedule.now) }
-
-    // With a fault that has a number the texts have no run.
-    ensures none { IfErr result (λ e. IsNumbered e → HasNoPerformance text.now n budget scripts.now schedule.now) }
-
-    // Want of memory is told by its own variant alone.
-    ensures memory { IfErr result TellsMemoryApart }
-
-    // The number of processes is looked at first, and behind it the budget.
-    ensures processes { (n ≡ 0) ⊎ (MOST_PROCESSES < n) → result ≡ Err (PerformFault.Compile CompileFault.Processes) }
-    ensures budget { 0 < n → n ≤ MOST_PROCESSES → most_turns < budget → result ≡ Err (PerformFault.Compile CompileFault.Budget) }
-
-    // A text over the scanner's bound is refused, whatever it says.
-    ensures too_long { InRange n budget (LONGEST_TEXT < length text.now → result ≡ Err (PerformFault.Compile too_long)) }
+/// The text of the record of the run that texts make.
+pub fn run_text(alloc: Global, texts: Texts<'_>) -> Result<String, PerformFault>
+    ensures run { IfOk result (λ lines. IsRecordPrinted (texts_of texts.entry) (string_bytes lines)) }
+    ensures refused { IfErr result (IsRefusal IsShort (texts_of texts.entry)) }
+    ensures at_once { TellsAtOnce (texts_of texts.entry).asked (λ e. result ≡ Err (PerformFault.Compile e)) }
 {
-    let (checked, record) = performed(alloc, text, n, budget, scripts, schedule)?;
+    let (checked, record) = performed(alloc, texts)?;
     Ok(write_record(alloc, &checked, &record)?)
 }

@@ -14,8 +14,8 @@ use ob_code_engine::CodeEngine;
 use ob_code_layout::encode;
 use ob_interface::{MOST_PROCESSES, NoMemory};
 use ob_object_compile::Object;
-use ob_object_record::Record;
-use ob_object_run::laws::openings_are_objects;
+use ob_object_record::{Record, carried_state};
+use ob_object_run::laws::states_are_objects;
 use ob_object_run::record_run;
 use ob_schedule::Item;
 use ob_text_scripts::Scripts;
@@ -39,9 +39,9 @@ pub fn run_on(
     ensures fault { IfErr result (IsRunFault (object_in object) calls items.items) }
     ensures none { IfErr result (ShowsNone (object_in object) calls items.items) }
 {
-    openings_are_objects();
+    states_are_objects();
     too_long_items_are_no_run::<CodeEngine>();
-    let (processes, checked, layout, engine, opening) = object.into_parts();
+    let (processes, checked, layout, engine, opening, carried) = object.into_parts();
     let record = record_run(
         alloc,
         engine,
@@ -51,7 +51,7 @@ pub fn run_on(
         calls.into_calls(),
         items.as_slice(),
     )?;
-    Ok((checked, record))
+    Ok((checked, record.begun_by(carried_state(opening, carried))))
 }
 
 /// What a run begins with.
@@ -81,8 +81,8 @@ pub(crate) fn run_with_makers(
     ensures fault { IfErr result (IsRunFault (object_in object) calls items.items) }
     ensures none { IfErr result (ShowsNone (object_in object) calls items.items) }
 {
-    // This does nothing: an opening is an object over its engine.
-    openings_are_objects();
+    // This does nothing: a state is an object over its engine.
+    states_are_objects();
     let (checked, record, again) = run_to_repeat(alloc, object, calls, items)?;
     let Beginning {
         processes,

@@ -1,5 +1,5 @@
 -- The record of a run of an object fits the object's module.
-use Rattle.std.proofs.Common.{◌≡◌, ℕ, ◌-◌, ◌<◌, ◌≤◌, ◌^◌, List, ◌∷◌, ◌++◌, All, Some, get_or, length, sym, ◌∙◌, ap, subst, arith}
+use Rattle.std.proofs.Common.{◌≡◌, ℕ, ◌-◌, ◌<◌, ◌≤◌, ◌^◌, Bool, List, ◌∷◌, ◌++◌, All, Some, None, get_or, length, sym, ◌∙◌, ap, subst, arith}
 use Rattle.std.specs.Prelude.{ℤ, Contains, slice_get, take}
 use Rattle.std.proofs.lemmas.List.Elements.{All-contains, Contains-get_or}
 use Rattle.ll_cell.specs.Cell.{block_of}
@@ -16,6 +16,7 @@ use Rattle.ob_interface.specs.Call.{ObjectCall, Reply}
 use Rattle.ob_interface.specs.Processes.{most_processes}
 use Rattle.ob_meaning.specs.Object as Named
 use Rattle.ob_meaning.specs.Object.{most_turns}
+use Rattle.ob_object_compile.specs.Asked.{ByBody, by_body}
 use Rattle.ob_object_compile.specs.Compilation.{IsCompilation, ObjectParts, Opens}
 use Rattle.ob_object_compile.specs.Sound.{IsSoundObject}
 use Rattle.ob_object_printed.proofs.Along.{all_begun, replied}
@@ -24,8 +25,9 @@ use Rattle.ob_object_printed.proofs.OneEnd.{one_end}
 use Rattle.ob_object_printed.proofs.Positions.{ByPosition, by_position}
 use Rattle.ob_object_printed.proofs.Replies.{call_fits}
 use Rattle.ob_object_printed.proofs.SameStates.{one_state}
-use Rattle.ob_object_record.specs.Record.{Record}
-use Rattle.ob_object_run.specs.Laws.{OpeningsAreObjects}
+use Rattle.ob_object_perform.specs.Performance.{carried_in}
+use Rattle.ob_object_record.specs.Record.{Record, carried_from}
+use Rattle.ob_object_run.specs.Laws.{StatesAreObjects}
 use Rattle.ob_object_run.specs.Recorded.{IsMeantOrder, IsObjectOf}
 use Rattle.ob_positions.specs.Store.{Activation}
 use Rattle.ob_text_read_back.specs.Writable.{IsCounted, IsReplyOf, IsWritable, IsWritableEvent}
@@ -43,10 +45,10 @@ use Rattle.wf_table.specs.Object.{State}
 use Rattle.wf_table.specs.Sound.{IsSound}
 use Rattle.wf_table.specs.Start.{sizes_of}
 
-module _ (openings : OpeningsAreObjects) (carry : PositionsCarryLegal) (text : List ℕ) (n budget : ℕ) (o : ObjectParts) (compiled : IsCompilation text n budget o) (so : IsSoundObject o) (opens : Opens o.program o.opening)
+module _ (states : StatesAreObjects) (carry : PositionsCarryLegal) (text : List ℕ) (n budget : ℕ) (o : ObjectParts) (compiled : IsCompilation (by_body text n budget) o) (so : IsSoundObject o) (opens : Opens ByBody o.program o.opening)
     (s : State Run) (few : o.processes ≤ most_processes) (some : 0 < o.processes)
     (sound : IsSound (code_meaning o.engine) (IsLawfulFor o.engine) (IsFitting o.engine.exports) (HasReserve o.engine) (sizes_of (code_meaning o.engine) o.processes) (encoded o.opening) s)
-    (r : Record) (processes : r.processes ≡ o.processes) (budget_is : r.budget ≡ o.engine.budget) (history : r.history ≡ s.records.history) (order : r.order ≡ s.records.order) (schedule : r.schedule ≡ s.records.schedule)
+    (r : Record) (processes : r.processes ≡ o.processes) (budget_is : r.budget ≡ o.engine.budget) (carried : r.carried ≡ carried_in o) (history : r.history ≡ s.records.history) (order : r.order ≡ s.records.order) (schedule : r.schedule ≡ s.records.schedule)
     (events : length r.history < 2 ^ 64) where
   abbrev program : Program
   program = o.program
@@ -98,12 +100,15 @@ module _ (openings : OpeningsAreObjects) (carry : PositionsCarryLegal) (text : L
       let within = compiled.within in
       omega (arith, same, within)
 
+  uncarried : r.carried ≡ None
+  uncarried = carried ∙ ap (λ (b : Bool). carried_from b o.opening) compiled.carried_is
+
   -- ---- the order, by position
 
   abbrev object : IsObjectOf program o.engine o.opening (encoded o.opening)
   object = record {
     compiled = record { well = so.well; parts_are = so.engine_is };
-    encodes = (openings program o.engine.budget o.opening so.well so.begins).encodes;
+    encodes = (states program o.engine.budget o.opening so.well so.begins).encodes;
   }
 
   module _ (legal_words : IsLegal (IsEffectOf o.engine) (encoded o.opening) s.records.history s.records.order words) (meant : IsMeantOrder program o.engine.budget opens.state r) where
@@ -158,6 +163,7 @@ module _ (openings : OpeningsAreObjects) (carry : PositionsCarryLegal) (text : L
       least = subst (λ (k : ℕ). 1 ≤ k) (sym processes) some;
       most = subst (λ (k : ℕ). k ≤ most_processes) (sym processes) few;
       budget = small_turns;
+      by_body = uncarried;
       whole = whole;
       events = λ before behind e is.
           let has = member_of before behind e r.history is in

@@ -10,11 +10,13 @@ use Rattle.ob_code_law.specs.Named.{CallMeans, PositionsCarryLegal}
 use Rattle.ob_code_law.specs.Parts.{IsEffectOf, IsLawfulFor}
 use Rattle.ob_code_machine.specs.Body.{Run}
 use Rattle.ob_code_scheme.specs.Layout.{encoded}
+use Rattle.ob_object_compile.specs.Asked.{ByBody, by_body}
 use Rattle.ob_object_compile.specs.Compilation.{IsCompilation, ObjectParts, Opens}
 use Rattle.ob_object_compile.specs.Sound.{IsSoundObject}
 use Rattle.ob_object_printed.proofs.Records.{writable}
+use Rattle.ob_object_perform.specs.Performance.{carried_in}
 use Rattle.ob_object_record.specs.Record.{Record}
-use Rattle.ob_object_run.specs.Laws.{OpeningsAreObjects}
+use Rattle.ob_object_run.specs.Laws.{StatesAreObjects}
 use Rattle.ob_object_run.specs.Recorded.{IsMeantOrder}
 use Rattle.ob_object_verify.specs.Verified.{IsVerified}
 use Rattle.ob_text_read_back.specs.Writable.{IsWritable, LegalIsVerified}
@@ -40,10 +42,10 @@ HasLegalOrder =
     (e : CompiledParts) (n : ℕ) (opening : List ℤ) (acts : List Act) (s : State Run) → Runs e.parts n opening acts s →
     ∥ IsLegal (IsEffectOf e.parts) opening s.records.history s.records.order (take (code_meaning e.parts).variables (block_of s.cell s.cell.root)) ∥₁
 
-module _ (every : KeepsSound) (ordered : HasLegalOrder) (openings : OpeningsAreObjects) (carry : PositionsCarryLegal)
-    (text : List ℕ) (n budget : ℕ) (o : ObjectParts) (compiled : IsCompilation text n budget o) (so : IsSoundObject o) (opens : Opens o.program o.opening)
+module _ (every : KeepsSound) (ordered : HasLegalOrder) (states : StatesAreObjects) (carry : PositionsCarryLegal)
+    (text : List ℕ) (n budget : ℕ) (o : ObjectParts) (compiled : IsCompilation (by_body text n budget) o) (so : IsSoundObject o) (opens : Opens ByBody o.program o.opening)
     (acts : List Act) (s : State Run) (runs : Runs o.engine o.processes (encoded o.opening) acts s)
-    (r : Record) (processes : r.processes ≡ o.processes) (budget_is : r.budget ≡ o.engine.budget) (history : r.history ≡ s.records.history) (order : r.order ≡ s.records.order) (schedule : r.schedule ≡ s.records.schedule)
+    (r : Record) (processes : r.processes ≡ o.processes) (budget_is : r.budget ≡ o.engine.budget) (carried : r.carried ≡ carried_in o) (history : r.history ≡ s.records.history) (order : r.order ≡ s.records.order) (schedule : r.schedule ≡ s.records.schedule)
     (events : length r.history < 2 ^ 64) where
   abbrev engine : CompiledParts
   engine = record { parts = o.engine; compiled = ∣ (o.program, record { well = so.well; parts_are = so.engine_is }) ∣₁ }
@@ -52,10 +54,10 @@ module _ (every : KeepsSound) (ordered : HasLegalOrder) (openings : OpeningsAreO
   writable_run meant =
       ∥∥₁_elim (ordered engine o.processes (encoded o.opening) acts s runs) squash₁ (λ l.
       ∥∥₁_map meant (λ m.
-      writable openings carry text n budget o compiled so opens s runs.few runs.some (every engine o.processes (encoded o.opening) acts s runs) r processes budget_is history order schedule events l m))
+      writable states carry text n budget o compiled so opens s runs.few runs.some (every engine o.processes (encoded o.opening) acts s runs) r processes budget_is carried history order schedule events l m))
 
 -- the text of a writable record whose order is legal is verified
-module _ (verified : LegalIsVerified) (text : List ℕ) (n budget : ℕ) (o : ObjectParts) (compiled : IsCompilation text n budget o) (opens : Opens o.program o.opening)
+module _ (verified : LegalIsVerified) (text : List ℕ) (n budget : ℕ) (o : ObjectParts) (compiled : IsCompilation (by_body text n budget) o) (opens : Opens ByBody o.program o.opening)
     (r : Record) (budget_is : r.budget ≡ o.engine.budget) where
   pub verified_record : IsWritable o.program r → IsMeantOrder o.program o.engine.budget opens.state r → IsVerified text (record_text o.program r)
   verified_record w m =

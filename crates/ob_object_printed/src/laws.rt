@@ -5,12 +5,13 @@ ghost use Rattle.ob_object_printed.specs.Printed.{PerformedIsWritable, PrintedIs
 use ob_code_engine::CodeEngine;
 use ob_code_law::laws::orders_are_carried;
 use ob_object_compile::laws::compilations_are_sound;
-use ob_object_run::laws::openings_are_objects;
+use ob_object_run::laws::states_are_objects;
 use ob_text_read_back::laws::legal_is_verified;
 use wf_theorems::runs::every_run;
 use wf_theorems::standing::legal_order;
 
-/// The record of a run from texts is writable, and so is the record of workers: its text tells what it holds.
+/// The record of a run from texts, of an object that begins by its module's body, is writable, and so is the record of workers: its text
+/// tells what it holds.
 pub fn performed_is_writable()
     ensures performed { PerformedIsWritable }
     ensures served { ServedIsWritable }
@@ -18,7 +19,7 @@ pub fn performed_is_writable()
     every_run::<CodeEngine>();
     legal_order::<CodeEngine>();
     orders_are_carried();
-    openings_are_objects();
+    states_are_objects();
     compilations_are_sound();
 }
 

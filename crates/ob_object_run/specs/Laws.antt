@@ -8,8 +8,8 @@ use Rattle.ob_code_engine.specs.Total.{body_limit}
 use Rattle.ob_code_law.specs.CodeMeaning.{EngineParts, code_meaning}
 use Rattle.ob_code_law.specs.Compiled.{parts_of}
 use Rattle.ob_code_scheme.specs.Layout.{encoded}
+use Rattle.ob_code_scheme.specs.Types.{IsStateOf}
 use Rattle.ob_code_scheme.specs.WellFormed.{IsWellFormed}
-use Rattle.ob_interpreter.specs.Sequences.{IsOpening}
 use Rattle.ob_object_order.specs.OrderFaults.{IsOrderFault}
 use Rattle.ob_object_order.specs.declared.order.OrderFault.{OrderFault}
 use Rattle.ob_object_order.specs.declared.order.OrderFault.TheVariants.{NoMemory}
@@ -20,11 +20,11 @@ use Rattle.ob_object_run.specs.Recorded.{IsNamedObjectOf, IsObjectOf, IsRecorded
 use Rattle.ob_schedule.specs.declared.item.Item.{Item}
 use Rattle.wf_theorems.specs.FirstCalls.{AreFirstCalls, own_ids}
 
--- the opening state of a well-formed program is an object over the engine of its code, with any budget
-abbrev pub OpeningsAreObjects : Type 0
-OpeningsAreObjects =
-    (program : Program) (budget : ℕ) (opening : Activation) → IsWellFormed program → IsOpening program opening →
-    IsObjectOf program (parts_of program budget) opening (encoded opening)
+-- a state of a well-formed program, its variables with values of their types, is an object over the engine of its code, with any budget
+abbrev pub StatesAreObjects : Type 0
+StatesAreObjects =
+    (program : Program) (budget : ℕ) (state : Activation) → IsWellFormed program → IsStateOf program.variables state →
+    IsObjectOf program (parts_of program budget) state (encoded state)
 
 -- all calls of the scripts are of process 0
 abbrev pub AreOfOneProcess : List (ℕ × ObjectCall) → Type 0

@@ -1,6 +1,6 @@
 //! Laws of the records of runs. What a function here ensures is proved; it does nothing.
 
-ghost use Rattle.ob_object_run.specs.Laws.{OneProcessAnswers, OneProcessInTurn, OpeningsAreObjects, OwnCallsInTurn, RunsKeepBound, RunsKeepBoundByCall, RunsKeepTotal, RunsPassCheck};
+ghost use Rattle.ob_object_run.specs.Laws.{OneProcessAnswers, OneProcessInTurn, OwnCallsInTurn, RunsKeepBound, RunsKeepBoundByCall, RunsKeepTotal, RunsPassCheck, StatesAreObjects};
 
 use ob_code_engine::CodeEngine;
 use ob_code_engine::laws::engines_keep_total;
@@ -10,9 +10,10 @@ use wf_theorems::bound::{every_bound, every_call};
 use wf_theorems::runs::every_run;
 use wf_theorems::standing::legal_order;
 
-/// The opening state of a well-formed program is an object over the engine of its code, with any budget.
-pub fn openings_are_objects()
-    ensures { OpeningsAreObjects }
+/// A state of a well-formed program, its variables with values of their types, is an object over the engine of its code, with any
+/// budget.
+pub fn states_are_objects()
+    ensures { StatesAreObjects }
 {}
 
 /// In a record the calls of each process stand in the order as in the scripts.

@@ -83,5 +83,6 @@ pub fn recorded(
         order,
         schedule,
         state,
+        carried: None,
     })
 }

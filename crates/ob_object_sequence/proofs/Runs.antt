@@ -1,20 +1,20 @@
--- The parts of a run: the calls of a script as they were read, what is printed of their replies, and the object of a run's module.
-use Rattle.std.proofs.Common.{◌≡◌, ℕ, ◌<◌, List, [], ◌∷◌, map, refl, ap, All, subst, arith}
+-- The parts of a run: the calls of a script as they were read, and what is printed of their replies.
+use Rattle.std.proofs.Common.{◌≡◌, ℕ, ◌<◌, List, [], ◌∷◌, map, refl, ap, All, subst}
 use Rattle.std.proofs.lemmas.List.{length-map}
 use Rattle.std.proofs.lemmas.List.Elements.{All-map}
 use Rattle.std.proofs.Math.ListN.{get_or-map}
-use Rattle.ob_code_law.specs.Compiled.{parts_of}
-use Rattle.ob_code_layout.specs.Layout.{layout_of}
-use Rattle.ob_interface.specs.Call.{Reply}
-use Rattle.ob_interface.specs.Processes.{most_processes}
-use Rattle.ob_meaning.specs.Object.{AreReplies}
-use Rattle.ob_object_compile.specs.Compilation.{ObjectParts, IsCompilation}
-use Rattle.ob_object_compile.proofs.Openings.{module_resolved}
-use Rattle.ob_object_sequence.specs.SequentialRun.{HasObject, IsSequentialRun, PrintsReplies}
-use Rattle.ob_object_sequence.proofs.Named.{opening_placed}
+use Rattle.ob_agreement.specs.Resolved.{IsResolved}
+use Rattle.ob_agreement.specs.Same.{SameState}
+use Rattle.ob_checked.specs.Exports.{signatures}
+use Rattle.ob_interface.specs.Export.{CallFits}
+use Rattle.ob_interpreter.specs.Sequences as Positions
+use Rattle.ob_meaning.specs.Object.{State}
+use Rattle.ob_object_sequence.specs.SequentialRun.{PrintsReplies}
+use Rattle.ob_object_sequence.proofs.Named.{replies_same}
 use Rattle.ob_object_sequence.specs.ReplyLines.{reply_lines}
 use Rattle.ob_text_words.specs.declared.script_call.ScriptCall as Declared
 use Rattle.ob_text_words.specs.ScriptCalls.{object_call, script_call_of}
+use Rattle.ob_positions.specs.Store.{Activation}
 use Rattle.ob_typing.specs.Program.{Program}
 
 -- what holds of each of the views holds so of the values
@@ -32,39 +32,11 @@ calls_in (x ∷ xs) = ap (λ cs. object_call (script_call_of x) ∷ cs) (calls_i
 pub callers_below : (n : ℕ) (xs : List Declared.ScriptCall) (callers : List ℕ) → callers ≡ map (λ c. c.process) xs → All (λ c. c.process < n) xs → All (λ p. p < n) callers
 callers_below n xs callers is h = rw is (All-map (λ (p : ℕ). p < n) (λ (c : Declared.ScriptCall). c.process) xs h)
 
-pub prints : (program : Program) (budget : ℕ) (xs : List Declared.ScriptCall) (callers : List ℕ) (replies : List Reply) (output : List ℕ) → callers ≡ map (λ c. c.process) xs →
-    AreReplies program budget (map (λ c. object_call (script_call_of c)) xs) replies → output ≡ reply_lines [] callers replies → PrintsReplies program budget (map script_call_of xs) output
-prints program budget xs callers replies output is replied printed =
-    record {
-      replies = replies;
-      replied = rw calls_in replied;
-      printed = rw (callers_in, ← is) printed;
-    }
-
--- the module of a run has an object
-pub object_of : (text script : List ℕ) (budget : ℕ) {output : List ℕ} → IsSequentialRun text script budget output → HasObject text most_processes budget
-object_of text script budget run =
-    let good = module_resolved text run.program run.is_module in
-    let opened = opening_placed run.program good run.prints.replied.state run.prints.replied.opens in
-    let object : ObjectParts = record {
-      processes = most_processes;
-      tree = run.is_module.tree;
-      program = run.program;
-      layout = layout_of run.program;
-      engine = parts_of run.program budget;
-      opening = opened.0;
-    } in
-    let compiled : IsCompilation text most_processes budget object = record {
-      some = omega arith;
-      few = omega arith;
-      processes = refl;
-      within = run.within;
-      tree_is = run.is_module.text_of;
-      is_module = run.is_module;
-      layout_is = refl;
-      allowed = run.short;
-      engine_is = refl;
-      opens = record { state = run.prints.replied.state; opens = run.prints.replied.opens; same = opened.1.1 };
-      begins = opened.1.0;
-    } in
-    (object, compiled)
+-- replies by position are those by name
+pub prints : (program : Program) (good : IsResolved program) (budget : ℕ) (state : State) (activation : Activation) → SameState program state activation →
+    (xs : List Declared.ScriptCall) → All (λ c. CallFits (signatures program) (object_call (script_call_of c))) xs →
+    (output : List ℕ) → output ≡ reply_lines [] (map (λ c. c.process) xs) (Positions.replies_to program budget activation (map (λ c. object_call (script_call_of c)) xs)) →
+    PrintsReplies program budget state (map script_call_of xs) output
+prints program good budget state activation same xs fit output printed =
+    let replies = replies_same program good (λ (c : Declared.ScriptCall). object_call (script_call_of c)) budget xs fit state activation same in
+    rw (callers_in, calls_in, replies) printed

@@ -3,8 +3,9 @@
 
 pub mod calls;
 pub mod check;
+mod replies;
 pub mod reply_lines;
 pub mod sequential;
 
 pub use check::check_text;
-pub use sequential::{SeqTextFault, seq_text};
+pub use sequential::{SeqTextFault, seq_asked, seq_text};

@@ -1,22 +1,19 @@
 //! A sequential run: the calls of a script made one at a time, from bytes to bytes.
 
-ghost use Rattle.std.specs.Prelude.{◌≡◌, ◌<◌, ◌≤◌, ℕ, Err, All, IfOk, IfErr, map, length, string_bytes};
-ghost use Rattle.ob_agreement.specs.Resolved.{IsResolved};
-ghost use Rattle.ob_checked.specs.CheckedModule.{program_in};
-ghost use Rattle.ob_checked.specs.Exports.{signatures};
-ghost use Rattle.ob_interface.specs.Export.{CallFits};
-ghost use Rattle.ob_interpreter.specs.Sequences.{OpeningTraps};
-ghost use Rattle.ob_meaning.specs.Object.{most_turns};
-ghost use Rattle.ob_object_sequence.specs.SequentialRun.{HasNoRun, IsNumbered, IsSequentialRun, IsSeqTextFault, PrintsReplies, TellsMemoryApart, too_long};
+ghost use Rattle.std.specs.Prelude.{◌≡◌, ◌<◌, [], Err, All, IfOk, IfErr, map, string_bytes};
+ghost use Rattle.ob_interface.specs.Processes.{most_processes};
+ghost use Rattle.ob_interpreter.specs.Sequences.{replies_to};
+ghost use Rattle.ob_object_compile.specs.Asked.{TellsAtOnce, by_body};
+ghost use Rattle.ob_object_compile.specs.View.{asked_of, object_in};
+ghost use Rattle.ob_object_sequence.specs.ReplyLines.{reply_lines};
+ghost use Rattle.ob_object_sequence.specs.SequentialRun.{IsSeqRefusal, IsSequentialRun};
 ghost use Rattle.ob_text_words.specs.ScriptCalls.{object_call, script_call_of};
 
 use crate::calls::{callers, object_calls, object_replies};
+use crate::replies::replies_from;
 use crate::reply_lines::print_replies;
-use ob_checked::checked::Checked;
 use ob_interface::{MOST_PROCESSES, NoMemory};
-use ob_interpreter::sequence::{SeqFault, sequence};
-use ob_object_compile::{CompileFault, compile};
-use ob_scan::scanner::LONGEST_TEXT;
+use ob_object_compile::{Asked, Beginning, CompileFault, Object, compile_asked};
 use ob_text_scripts::{ScriptFault, read_scripts};
 use ob_text_words::script_call::ScriptCall;
 use std::alloc::Global;
@@ -75,55 +72,49 @@ impl From<NoMemory> for SeqTextFault {
     }
 }
 
-/// The E lines of the replies to the script's calls, made one at a time in line order, each with the budget of turns.
+/// The E lines of the replies to the script's calls, made one at a time in line order from the module's opening state, each with the
+/// budget of turns. The script may name all processes that an object can have.
 pub fn seq_text(
     alloc: Global,
     module: &[u8],
     script: &[u8],
     budget: u64,
 ) -> Result<String, SeqTextFault>
-    ensures run { IfOk result (λ text. IsSequentialRun «module».now script.now budget (string_bytes text)) }
-    ensures fault { IfErr result (IsSeqTextFault «module».now script.now budget) }
-
-    // With a fault that has a number there is no run, whatever else is wrong.
-    ensures no_run { IfErr result (λ e. IsNumbered e → HasNoRun «module».now script.now budget) }
-
-    // Want of memory is told by its own variant alone.
-    ensures memory { IfErr result TellsMemoryApart }
-
-    // A budget of more turns than there may be is refused before all else.
-    ensures too_much { most_turns < budget → result ≡ Err (SeqTextFault.Compile CompileFault.Budget) }
-
-    // Behind that, a text over the scanner's bound is refused, whatever it says.
-    ensures too_long { budget ≤ most_turns → LONGEST_TEXT < length «module».now → result ≡ Err too_long }
+    ensures run { IfOk result (λ text. IsSequentialRun (by_body «module».now most_processes budget) script.now (string_bytes text)) }
+    ensures refused { IfErr result (IsSeqRefusal (by_body «module».now most_processes budget) script.now) }
+    ensures at_once { TellsAtOnce (by_body «module».now most_processes budget) (λ e. result ≡ Err (SeqTextFault.Compile e)) }
 {
-    let object = compile(alloc, module, MOST_PROCESSES, budget)?;
-    let checked = object.checked();
-    let scripts = read_scripts(alloc, checked, MOST_PROCESSES, script)?;
-    Ok(replies_text(alloc, checked, scripts.calls(), budget)?)
+    let asked = Asked {
+        text: module,
+        processes: MOST_PROCESSES,
+        budget,
+        beginning: Beginning::Body,
+    };
+    seq_asked(alloc, asked, script)
 }
 
-/// The E lines of the replies to calls on the exports of a module whose opening ends, each with the budget of turns.
-fn replies_text(
-    alloc: Global,
-    checked: &Checked,
-    calls: &[ScriptCall],
-    budget: u64,
-) -> Result<String, NoMemory>
-    requires processes { All (λ c. c.process < MOST_PROCESSES) calls.now }
-    requires program { IsResolved (program_in checked.now) }
-    requires opens { (k : ℕ) → OpeningTraps (program_in checked.now) k → ⊥ }
-    requires fit { All (λ c. CallFits (signatures (program_in checked.now)) (object_call (script_call_of c))) calls.now }
-    ensures { IfOk result (λ text. PrintsReplies (program_in checked.now) budget (map script_call_of calls.now) (string_bytes text)) }
+/// The same of an object that is asked for, from the state with which it begins.
+pub fn seq_asked(alloc: Global, asked: Asked<'_>, script: &[u8]) -> Result<String, SeqTextFault>
+    ensures run { IfOk result (λ text. IsSequentialRun (asked_of asked.entry) script.now (string_bytes text)) }
+    ensures refused { IfErr result (IsSeqRefusal (asked_of asked.entry) script.now) }
+    ensures at_once { TellsAtOnce (asked_of asked.entry) (λ e. result ≡ Err (SeqTextFault.Compile e)) }
+{
+    let object = compile_asked(alloc, asked)?;
+    let scripts = read_scripts(alloc, object.checked(), asked.processes, script)?;
+    Ok(replies_text(alloc, &object, scripts.calls())?)
+}
+
+/// The E lines of the replies to calls that are made one at a time on an object, each with its budget of turns.
+fn replies_text(alloc: Global, object: &Object, calls: &[ScriptCall]) -> Result<String, NoMemory>
+    requires { All (λ c. c.process < (object_in object.now).processes) calls.now }
+    ensures { IfOk result (λ text. string_bytes text ≡ reply_lines [] (map (λ c. c.process) calls.now)
+        (replies_to (object_in object.now).program (object_in object.now).engine.budget (object_in object.now).opening
+        (map (λ c. object_call (script_call_of c)) calls.now))) }
 {
     let callers = callers(alloc, calls)?;
     let asked = object_calls(alloc, calls)?;
-    match sequence(alloc, checked, &asked, budget) {
-        Ok(answers) => {
-            let replies = object_replies(alloc, &answers)?;
-            Ok(print_replies(alloc, MOST_PROCESSES, &callers, &replies)?)
-        }
-        Err(SeqFault::OpeningTrap(_)) => unreachable!(),
-        Err(SeqFault::NoMemory) => Err(NoMemory),
-    }
+    let opening = object.opening().copy(alloc)?;
+    let answers = replies_from(alloc, object.checked(), opening, &asked, object.budget())?;
+    let replies = object_replies(alloc, &answers)?;
+    Ok(print_replies(alloc, object.processes(), &callers, &replies)?)
 }

@@ -4,8 +4,9 @@ use Rattle.std.specs.Prelude.{ℤ}
 use Rattle.ob_code_law.specs.CodeMeaning.{EngineParts, code_meaning}
 use Rattle.ob_code_law.specs.Compiled.{HasReserve}
 use Rattle.ob_code_scheme.specs.Layout.{encoded}
-use Rattle.ob_object_compile.specs.Compilation.{ObjectParts}
-use Rattle.ob_object_perform.specs.Performance.{AreRead, IsMeantIn, Shows}
+use Rattle.ob_object_compile.specs.Compilation.{IsShort, ObjectParts}
+use Rattle.ob_object_perform.specs.Performance.{AreReadOf, IsMeantIn, Shows}
+use Rattle.ob_object_perform.specs.Texts.{Texts}
 use Rattle.ob_object_record.specs.Record.{Record}
 use Rattle.ob_object_run.specs.Recorded.{IsMeantOrder}
 use Rattle.ob_object_spent.specs.Spent.{AreEndedIn, IsPrintedWithSteps, IsWithSteps, steps_text}
@@ -29,11 +30,11 @@ ended_in o calls r ended parts n words made steps parts_are n_is words_are made_
     (subst (λ (cs : List ScriptCall). AreEndedOf (code_meaning parts) (HasReserve parts) n words (scripts_of cs) (steps_of r.schedule) ended) made_are
     (subst (λ (ps : List ℕ). AreEndedOf (code_meaning parts) (HasReserve parts) n words (scripts_of made) ps ended) steps_are h))))
 
-module _ (text : List ℕ) (n budget : ℕ) (scripts schedule : List ℕ) where
+module _ (t : Texts) where
   -- a run of what was read of the texts
-  pub with_steps : (o : ObjectParts) (calls : List ScriptCall) (items : List Item) → AreRead text n budget scripts schedule o calls items →
+  pub with_steps : (o : ObjectParts) (calls : List ScriptCall) (items : List Item) → AreReadOf IsShort t o calls items →
       (program : Program) (r : Record) (ended : List EndedCall) → Shows o calls items r → IsMeantIn o r → program ≡ o.program → AreEndedIn o calls r ended →
-      IsWithSteps text n budget scripts schedule program r ended
+      IsWithSteps t program r ended
   with_steps o calls items read program r ended shown meant same are =
       let opens = read.compiled.opens in
       record {
@@ -52,8 +53,8 @@ module _ (text : List ℕ) (n budget : ℕ) (scripts schedule : List ℕ) where
       }
 
   -- and what is printed of it
-  pub printed : (program : Program) (r : Record) (ended : List EndedCall) (output lines : List ℕ) → IsWithSteps text n budget scripts schedule program r ended →
-      length r.history < 2 ^ 64 → output ≡ record_text program r → lines ≡ steps_text ended → IsPrintedWithSteps text n budget scripts schedule output lines
+  pub printed : (program : Program) (r : Record) (ended : List EndedCall) (output lines : List ℕ) → IsWithSteps t program r ended →
+      length r.history < 2 ^ 64 → output ≡ record_text program r → lines ≡ steps_text ended → IsPrintedWithSteps t output lines
   printed program r ended output lines is events written told = record {
     run = record { shown = r; performs = is.performs; events = events; printed = written ∙ ap (λ (p : Program). record_text p r) is.program_is };
     ended = ended;

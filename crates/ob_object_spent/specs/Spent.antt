@@ -7,6 +7,7 @@ use Rattle.ob_code_scheme.specs.Layout.{encoded}
 use Rattle.ob_object_compile.specs.Compilation.{ObjectParts}
 use Rattle.ob_object_perform.specs.Performance.{IsPerformance}
 use Rattle.ob_object_perform.specs.Printed.{IsRecordPrinted}
+use Rattle.ob_object_perform.specs.Texts.{Texts}
 use Rattle.ob_object_record.specs.Record.{Record}
 use Rattle.ob_text_record.specs.RecordText.{id_text}
 use Rattle.ob_text_words.specs.ScriptCalls.{ScriptCall}
@@ -22,8 +23,8 @@ AreEndedIn o calls r ended =
     AreEndedOf (code_meaning o.engine) (HasReserve o.engine) o.processes (encoded o.opening) (scripts_of calls) (steps_of r.schedule) ended
 
 -- the record is that of a run from the texts, the program that of its object, and these are the calls that ended in it
-pub record IsWithSteps (text : List ℕ) (n budget : ℕ) (scripts schedule : List ℕ) (program : Program) (r : Record) (ended : List EndedCall) : Type 0 where
-  pub performs : IsPerformance text n budget scripts schedule r
+pub record IsWithSteps (t : Texts) (program : Program) (r : Record) (ended : List EndedCall) : Type 0 where
+  pub performs : IsPerformance t r
   pub program_is : program ≡ performs.object.program
   pub ended_are : AreEndedIn performs.object performs.calls r ended
 
@@ -35,8 +36,8 @@ abbrev pub steps_text : List EndedCall → List ℕ
 steps_text = flat_map steps_line
 
 -- the bytes are the text of the record of a run from the texts, and beside it a line for each call that ended in that run
-pub record IsPrintedWithSteps (text : List ℕ) (n budget : ℕ) (scripts schedule output lines : List ℕ) : Type 0 where
-  pub run : IsRecordPrinted text n budget scripts schedule output
+pub record IsPrintedWithSteps (t : Texts) (output lines : List ℕ) : Type 0 where
+  pub run : IsRecordPrinted t output
   pub ended : List EndedCall
   pub ended_are : AreEndedIn run.performs.object run.performs.calls run.shown ended
   pub lines_are : lines ≡ steps_text ended

@@ -12,7 +12,7 @@ use ob_interface::MOST_PROCESSES;
 use ob_object_compile::Object;
 use ob_object_perform::running::{Beginning, run_to_repeat};
 use ob_object_record::Record;
-use ob_object_run::laws::openings_are_objects;
+use ob_object_run::laws::states_are_objects;
 use ob_schedule::Item;
 use ob_text_scripts::Scripts;
 use std::alloc::Global;
@@ -37,8 +37,8 @@ pub(crate) fn run_with_steps(
     ensures fault { IfErr result (IsRunFault (object_in object) calls items.items) }
     ensures none { IfErr result (ShowsNone (object_in object) calls items.items) }
 {
-    // This does nothing: an opening is an object over its engine.
-    openings_are_objects();
+    // This does nothing: a state is an object over its engine.
+    states_are_objects();
     let (checked, record, again) = run_to_repeat(alloc, object, calls, items)?;
     let Beginning {
         processes,

@@ -72,5 +72,5 @@ pub none_by_code : (o : ObjectParts) (calls : List ScriptCall) (items : List Ite
 none_by_code o calls items Play.Processes h = tt
 none_by_code o calls items (Play.TooLong number) h = λ r shown.
     let e = o.engine in
-    too_long_no_run (code_meaning e) (HasReserve e) o.processes (encoded o.opening) (scripts_of calls) (IsLawfulFor e) (IsFitting e.exports) items number shown.state h shown.played
+    too_long_no_run (code_meaning e) (HasReserve e) o.processes (encoded o.opening) (scripts_of calls) (IsLawfulFor e) (IsFitting e.exports) items number shown.recorded.state h shown.recorded.played
 none_by_code o calls items Play.NoMemory h = tt

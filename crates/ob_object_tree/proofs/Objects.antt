@@ -1,10 +1,12 @@
 -- The engine over a tree stands for that of the object; and a run over the tree of a module that has code is one over the code.
-use Rattle.std.proofs.Common.{◌≡◌, ◌∙◌, ℕ, List, ap, subst, sym}
+use Rattle.std.proofs.Common.{◌≡◌, ◌∙◌, ℕ, ap, subst, sym}
 use Rattle.ob_code_law.specs.CodeMeaning.{EngineParts}
 use Rattle.ob_code_law.specs.Compiled.{parts_of}
+use Rattle.ob_object_compile.specs.Asked.{Asked}
 use Rattle.ob_object_compile.specs.Compilation.{IsAny, IsObjectOf, IsShort, ObjectParts}
 use Rattle.ob_object_compile.specs.Sound.{IsSoundObject}
 use Rattle.ob_object_perform.specs.Performance.{IsTreePerformance}
+use Rattle.ob_object_perform.specs.Texts.{Texts}
 use Rattle.ob_object_record.specs.Record.{Record}
 use Rattle.ob_object_tree.specs.TreeRuns.{IsOfCode}
 use Rattle.ob_typing.specs.ModuleText.{IsModule}
@@ -16,8 +18,8 @@ engine_is o sound parts program budget made program_is budget_is =
     made ∙ ap (λ (q : Program). parts_of q budget) program_is ∙ ap (λ (k : ℕ). parts_of o.program k) budget_is ∙ sym sound.engine_is
 
 -- an object over the tree is one over code where that is short enough
-abbrev short_of : (text : List ℕ) (n budget : ℕ) (o : ObjectParts) → IsObjectOf IsAny text n budget o → IsShort o.program → IsObjectOf IsShort text n budget o
-short_of text n budget o h short = record {
+abbrev short_of : (a : Asked) (o : ObjectParts) → IsObjectOf IsAny a o → IsShort o.program → IsObjectOf IsShort a o
+short_of a o h short = record {
   some = h.some;
   few = h.few;
   processes = h.processes;
@@ -28,15 +30,14 @@ short_of text n budget o h short = record {
   allowed = short;
   engine_is = h.engine_is;
   opens = h.opens;
-  begins = h.begins;
+  carried_is = h.carried_is;
 }
 
 -- where a text has one program
-pub of_code : (text : List ℕ) (n budget : ℕ) (scripts schedule : List ℕ) (q : Program) → ((other : Program) → IsModule text other → other ≡ q) →
-    (r : Record) → IsTreePerformance text n budget scripts schedule r → IsOfCode text n budget scripts schedule r
-of_code text n budget scripts schedule q alone r p program is short = record {
+pub of_code : (t : Texts) (q : Program) → ((other : Program) → IsModule t.asked.text other → other ≡ q) → (r : Record) → IsTreePerformance t r → IsOfCode t r
+of_code t q alone r p program is short = record {
   object = p.object;
-  compiled = short_of text n budget p.object p.compiled (subst IsShort (alone program is ∙ sym (alone p.object.program p.compiled.is_module)) short);
+  compiled = short_of t.asked p.object p.compiled (subst IsShort (alone program is ∙ sym (alone p.object.program p.compiled.is_module)) short);
   calls = p.calls;
   calls_are = p.calls_are;
   items = p.items;

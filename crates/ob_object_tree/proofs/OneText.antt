@@ -15,9 +15,12 @@ use Rattle.ob_code_law.specs.Parts.{IsLawfulFor}
 use Rattle.ob_code_scheme.specs.Layout.{encoded}
 use Rattle.ob_interface.specs.Call.{ObjectCall, Reply}
 use Rattle.ob_meaning.specs.Object as Named
+use Rattle.ob_object_compile.proofs.Openings.{one_beginning}
+use Rattle.ob_object_compile.specs.Asked.{Asked, BeginsWith}
 use Rattle.ob_object_compile.specs.Compilation.{IsAny, IsObjectOf, IsShort, ObjectParts}
-use Rattle.ob_object_perform.proofs.NoPerformance.{shows_of}
+use Rattle.ob_object_perform.proofs.Refusals.{shows_of}
 use Rattle.ob_object_perform.specs.Performance.{AreReadOf, IsMeantIn, IsPerformance, IsRunOf, Shows}
+use Rattle.ob_object_perform.specs.Texts.{Texts}
 use Rattle.ob_object_record.specs.Record.{Record}
 use Rattle.ob_object_run.specs.Recorded.{IsMeantOrder}
 use Rattle.ob_positions.specs.Store.{Activation}
@@ -54,27 +57,18 @@ module _ (program : Program) (budget : ℕ) (history : List (Event ObjectCall Re
 -- ---- one text
 
 -- two records that differ in nothing but what stands for one state have one text
-same_text : (program : Program) (r other : Record) → other.processes ≡ r.processes → other.budget ≡ r.budget → other.history ≡ r.history → other.order ≡ r.order → other.schedule ≡ r.schedule →
+same_text : (program : Program) (r other : Record) → other.processes ≡ r.processes → other.budget ≡ r.budget → other.carried ≡ r.carried → other.history ≡ r.history → other.order ≡ r.order → other.schedule ≡ r.schedule →
     state_text program.variables other.state ≡ state_text program.variables r.state → record_text program other ≡ record_text program r
-same_text program r other processes budget history order schedule states =
-    ap (λ (k : ℕ). codes "obl0 record 2\n" ++ head_text k other.budget ++ flat_map (event_text (signatures program)) other.history ++ order_text other.order ++ schedule_text other.schedule ++ state_text program.variables other.state) processes
-    ∙ ap (λ (k : ℕ). codes "obl0 record 2\n" ++ head_text r.processes k ++ flat_map (event_text (signatures program)) other.history ++ order_text other.order ++ schedule_text other.schedule ++ state_text program.variables other.state) budget
-    ∙ ap (λ (es : List (Event ObjectCall Reply)). codes "obl0 record 2\n" ++ head_text r.processes r.budget ++ flat_map (event_text (signatures program)) es ++ order_text other.order ++ schedule_text other.schedule ++ state_text program.variables other.state) history
-    ∙ ap (λ (ids : List CallId). codes "obl0 record 2\n" ++ head_text r.processes r.budget ++ flat_map (event_text (signatures program)) r.history ++ order_text ids ++ schedule_text other.schedule ++ state_text program.variables other.state) order
-    ∙ ap (λ (ts : List Turns). codes "obl0 record 2\n" ++ head_text r.processes r.budget ++ flat_map (event_text (signatures program)) r.history ++ order_text r.order ++ schedule_text ts ++ state_text program.variables other.state) schedule
-    ∙ ap (λ (bytes : List ℕ). codes "obl0 record 2\n" ++ head_text r.processes r.budget ++ flat_map (event_text (signatures program)) r.history ++ order_text r.order ++ schedule_text r.schedule ++ bytes) states
+same_text program r other processes budget carried history order schedule states =
+    rw (processes, budget, carried, history, order, schedule, states) refl
 
 -- what is said of the texts of states: by position as by name
 abbrev pub TextsAgree : Type 0
 TextsAgree = (program : Program) (state : Named.State) (activation : Activation) → SameState program state activation → state_text program.variables activation ≡ named_state_text state
 
--- an opening leaves one state
-one_opening : (program : Program) (a b : Named.State) → Named.IsOpening program a → Named.IsOpening program b → a ≡ b
-one_opening program a b h k = let first = h.1 in let second = k.1 in cc
-
 -- an object over code is one over the tree
-abbrev any_of : (text : List ℕ) (n budget : ℕ) (o : ObjectParts) → IsObjectOf IsShort text n budget o → IsObjectOf IsAny text n budget o
-any_of text n budget o h = record {
+abbrev any_of : (a : Asked) (o : ObjectParts) → IsObjectOf IsShort a o → IsObjectOf IsAny a o
+any_of a o h = record {
   some = h.some;
   few = h.few;
   processes = h.processes;
@@ -85,17 +79,17 @@ any_of text n budget o h = record {
   allowed = tt;
   engine_is = h.engine_is;
   opens = h.opens;
-  begins = h.begins;
+  carried_is = h.carried_is;
 }
 
-module _ (agree : TextsAgree) (text : List ℕ) (n budget : ℕ) (scripts schedule : List ℕ) (o : ObjectParts) (calls : List ScriptCall) (items : List Item)
-    (read : AreReadOf IsAny text n budget scripts schedule o calls items)
+module _ (agree : TextsAgree) (t : Texts) (o : ObjectParts) (calls : List ScriptCall) (items : List Item)
+    (read : AreReadOf IsAny t o calls items)
     (r : Record) (shown : Shows o calls items r) (meant : IsMeantIn o r) (whole : IsHistory r.history)
-    (other : Record) (p : IsPerformance text n budget scripts schedule other) where
-  over_any : IsRunOf IsAny text n budget scripts schedule other
+    (other : Record) (p : IsPerformance t other) where
+  over_any : IsRunOf IsAny t other
   over_any = record {
     object = p.object;
-    compiled = any_of text n budget p.object p.compiled;
+    compiled = any_of t.asked p.object p.compiled;
     calls = p.calls;
     calls_are = p.calls_are;
     items = p.items;
@@ -105,7 +99,7 @@ module _ (agree : TextsAgree) (text : List ℕ) (n budget : ℕ) (scripts schedu
   }
 
   shown_too : Shows o calls items other
-  shown_too = shows_of IsAny text n budget scripts schedule o calls items read over_any
+  shown_too = shows_of IsAny t o calls items read over_any
 
   same_program : p.object.program ≡ o.program
   same_program = read.alone p.object.program p.compiled.is_module
@@ -113,30 +107,30 @@ module _ (agree : TextsAgree) (text : List ℕ) (n budget : ℕ) (scripts schedu
   same_records : other.history ≡ r.history × other.order ≡ r.order × other.schedule ≡ r.schedule
   same_records =
       let e = o.engine in
-      let same : shown_too.state.records ≡ shown.state.records =
-      one_record (code_meaning e) (HasReserve e) o.processes (encoded o.opening) (scripts_of calls) (IsLawfulFor e) (IsFitting e.exports) items shown_too.state shown.state shown_too.played shown.played in (
-        shown_too.history ∙ ap (λ (x : Records). x.history) same ∙ sym shown.history,
-        shown_too.order ∙ ap (λ (x : Records). x.order) same ∙ sym shown.order,
-        shown_too.schedule ∙ ap (λ (x : Records). x.schedule) same ∙ sym shown.schedule,
+      let same : shown_too.recorded.state.records ≡ shown.recorded.state.records =
+      one_record (code_meaning e) (HasReserve e) o.processes (encoded o.opening) (scripts_of calls) (IsLawfulFor e) (IsFitting e.exports) items shown_too.recorded.state shown.recorded.state shown_too.recorded.played shown.recorded.played in (
+        shown_too.recorded.history ∙ ap (λ (x : Records). x.history) same ∙ sym shown.recorded.history,
+        shown_too.recorded.order ∙ ap (λ (x : Records). x.order) same ∙ sym shown.recorded.order,
+        shown_too.recorded.schedule ∙ ap (λ (x : Records). x.schedule) same ∙ sym shown.recorded.schedule,
       )
 
   -- both orders lead to one state, by name
-  same_states : (a : IsMeantOrder o.program budget read.compiled.opens.state r) (b : IsMeantOrder o.program budget read.compiled.opens.state other) → state_text o.program.variables other.state ≡ state_text o.program.variables r.state
+  same_states : (a : IsMeantOrder o.program t.asked.budget read.compiled.opens.state r) (b : IsMeantOrder o.program t.asked.budget read.compiled.opens.state other) → state_text o.program.variables other.state ≡ state_text o.program.variables r.state
   same_states a b =
       let opening = read.compiled.opens.state in
-      let moved = subst (λ (ids : List CallId). OneAtATime (HasBegun r.history) (CallMeans o.program budget) opening ids b.legal.replies b.last) same_records.1
-      (subst (λ (es : List (Event ObjectCall Reply)). OneAtATime (HasBegun es) (CallMeans o.program budget) opening other.order b.legal.replies b.last) same_records.0 b.legal.made) in
-      let last = one_last o.program budget r.history whole r.order a.legal.replies b.legal.replies opening a.last b.last a.legal.made moved in
+      let moved = subst (λ (ids : List CallId). OneAtATime (HasBegun r.history) (CallMeans o.program t.asked.budget) opening ids b.legal.replies b.last) same_records.1
+      (subst (λ (es : List (Event ObjectCall Reply)). OneAtATime (HasBegun es) (CallMeans o.program t.asked.budget) opening other.order b.legal.replies b.last) same_records.0 b.legal.made) in
+      let last = one_last o.program t.asked.budget r.history whole r.order a.legal.replies b.legal.replies opening a.last b.last a.legal.made moved in
       agree o.program b.last other.state b.same ∙ ap named_state_text (sym last) ∙ sym (agree o.program a.last r.state a.same)
 
-  meant_too : ∥ IsMeantOrder o.program budget read.compiled.opens.state other ∥₁
+  meant_too : ∥ IsMeantOrder o.program t.asked.budget read.compiled.opens.state other ∥₁
   meant_too =
       let opening : p.compiled.opens.state ≡ read.compiled.opens.state =
-      one_opening o.program p.compiled.opens.state read.compiled.opens.state (subst (λ (q : Program). Named.IsOpening q p.compiled.opens.state) same_program p.compiled.opens.opens) read.compiled.opens.opens in
-      subst (λ (s : Named.State). ∥ IsMeantOrder o.program budget s other ∥₁) opening
-      (subst (λ (q : Program). ∥ IsMeantOrder q budget p.compiled.opens.state other ∥₁) same_program p.legal)
+      one_beginning o.program t.asked.beginning p.compiled.opens.state read.compiled.opens.state (subst (λ (q : Program). BeginsWith t.asked.beginning q p.compiled.opens.state) same_program p.compiled.opens.opens) read.compiled.opens.opens in
+      subst (λ (s : Named.State). ∥ IsMeantOrder o.program t.asked.budget s other ∥₁) opening
+      (subst (λ (q : Program). ∥ IsMeantOrder q t.asked.budget p.compiled.opens.state other ∥₁) same_program p.legal)
 
-  meant_here : ∥ IsMeantOrder o.program budget read.compiled.opens.state r ∥₁
+  meant_here : ∥ IsMeantOrder o.program t.asked.budget read.compiled.opens.state r ∥₁
   meant_here =
       subst (λ (k : ℕ). ∥ IsMeantOrder o.program k read.compiled.opens.state r ∥₁) (ap (λ (e : EngineParts). e.budget) read.compiled.engine_is) (meant read.compiled.opens.state read.compiled.opens.same)
 
@@ -148,7 +142,7 @@ module _ (agree : TextsAgree) (text : List ℕ) (n budget : ℕ) (scripts schedu
       let one = Bool-set (bytes_eq left right) true in
       let state_texts = decides.0 (∥∥₁_elim meant_here one (λ a. ∥∥₁_elim meant_too one (λ b. decides.1 (same_states a b)))) in
       ap (λ (q : Program). record_text q other) same_program
-      ∙ same_text o.program r other (shown_too.processes ∙ sym shown.processes) (shown_too.budget ∙ sym shown.budget) same_records.0 same_records.1 same_records.2 state_texts
+      ∙ same_text o.program r other (shown_too.recorded.processes ∙ sym shown.recorded.processes) (shown_too.recorded.budget ∙ sym shown.recorded.budget) (shown_too.carried ∙ sym shown.carried) same_records.0 same_records.1 same_records.2 state_texts
 
   -- by the program that the run over code is of
   pub text_of_code : record_text p.object.program other ≡ record_text p.object.program r

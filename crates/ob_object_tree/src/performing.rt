@@ -1,10 +1,11 @@
 //! Runs from texts over a module's tree.
 
-ghost use Rattle.std.specs.Prelude.{◌≡◌, ◌<◌, ◌≤◌, ◌^◌, ◌⊎◌, Err, IfOk, IfErr, length};
-ghost use Rattle.ob_meaning.specs.Object.{most_turns};
-ghost use Rattle.ob_object_compile.specs.Compilation.{InRange, IsAny, too_long};
+ghost use Rattle.std.specs.Prelude.{◌≡◌, ◌<◌, ◌^◌, Err, IfOk, IfErr, length};
+ghost use Rattle.ob_object_compile.specs.Asked.{TellsAtOnce, by_body};
+ghost use Rattle.ob_object_compile.specs.Compilation.{IsAny};
 ghost use Rattle.ob_object_compile.specs.View.{tree_object_in};
-ghost use Rattle.ob_object_perform.specs.Performance.{AreReadOf, HasNoTreePerformance, IsNumbered, IsReady, IsTreePerformance, IsTreePerformFault, TellsMemoryApart};
+ghost use Rattle.ob_object_perform.specs.Performance.{AreReadOf, IsReady, IsRefusal, IsTreePerformance};
+ghost use Rattle.ob_object_perform.specs.Texts.{run_texts, texts_of};
 ghost use Rattle.ob_object_record.specs.Record.{record_of};
 ghost use Rattle.ob_object_tree.specs.TreeRuns.{HasTextOfCode, IsOfCode};
 ghost use Rattle.ob_typing.specs.ModuleText.{IsModule};
@@ -12,12 +13,10 @@ ghost use Rattle.ob_typing.specs.Program.{Program};
 
 use crate::running::run_on_tree;
 use ob_code_law::laws::calls_fit;
-use ob_interface::MOST_PROCESSES;
 use ob_object_compile::laws::compilations_are_sound;
-use ob_object_compile::{CompileFault, TreeObject, compile_tree};
-use ob_object_perform::PerformFault;
+use ob_object_compile::{Asked, Beginning, TreeObject, compile_tree};
+use ob_object_perform::{PerformFault, Texts};
 use ob_object_record::Record;
-use ob_scan::scanner::LONGEST_TEXT;
 use ob_schedule::{Item, read_schedule};
 use ob_text_scripts::{Scripts, read_scripts};
 use ob_text_values::laws::texts_agree;
@@ -34,53 +33,46 @@ pub fn perform_tree(
     scripts: &[u8],
     schedule: &[u8],
 ) -> Result<Record, PerformFault>
-    ensures performance { IfOk result (λ r. IsTreePerformance text.now n budget scripts.now schedule.now (record_of r)) }
+    ensures performance { IfOk result (λ r. IsTreePerformance (run_texts (by_body text.now n budget) scripts.now schedule.now) (record_of r)) }
 
     // Where there is code, the record is one of a run over it, and all of those have its text.
-    ensures coded { IfOk result (λ r. IsOfCode text.now n budget scripts.now schedule.now (record_of r)) }
-    ensures same { IfOk result (λ r. HasTextOfCode text.now n budget scripts.now schedule.now (record_of r)) }
+    ensures coded { IfOk result (λ r. IsOfCode (run_texts (by_body text.now n budget) scripts.now schedule.now) (record_of r)) }
+    ensures same { IfOk result (λ r. HasTextOfCode (run_texts (by_body text.now n budget) scripts.now schedule.now) (record_of r)) }
     ensures events { IfOk result (λ r. length r.history < 2 ^ 64) }
-    ensures fault { IfErr result (IsTreePerformFault text.now n budget scripts.now schedule.now) }
-
-    // With a fault that has a number the texts have no such run.
-    ensures none { IfErr result (λ e. IsNumbered e → HasNoTreePerformance text.now n budget scripts.now schedule.now) }
-
-    // Want of memory is told by its own variant alone.
-    ensures memory { IfErr result TellsMemoryApart }
-
-    // The number of processes is looked at first, and behind it the budget.
-    ensures processes { (n ≡ 0) ⊎ (MOST_PROCESSES < n) → result ≡ Err (PerformFault.Compile CompileFault.Processes) }
-    ensures budget { 0 < n → n ≤ MOST_PROCESSES → most_turns < budget → result ≡ Err (PerformFault.Compile CompileFault.Budget) }
-
-    // A text over the scanner's bound is refused, whatever it says.
-    ensures too_long { InRange n budget (LONGEST_TEXT < length text.now → result ≡ Err (PerformFault.Compile too_long)) }
+    ensures refused { IfErr result (IsRefusal IsAny (run_texts (by_body text.now n budget) scripts.now schedule.now)) }
+    ensures at_once { TellsAtOnce (by_body text.now n budget) (λ e. result ≡ Err (PerformFault.Compile e)) }
 {
-    let (_, record) = performed_tree(alloc, text, n, budget, scripts, schedule)?;
+    let asked = Asked {
+        text,
+        processes: n,
+        budget,
+        beginning: Beginning::Body,
+    };
+    let (_, record) = performed_tree(
+        alloc,
+        Texts {
+            asked,
+            scripts,
+            schedule,
+        },
+    )?;
     Ok(record)
 }
 
-/// The record, with the object of the run.
+/// The record of the run that texts make over the module's tree, with the object of the run.
 pub(crate) fn performed_tree(
     alloc: Global,
-    text: &[u8],
-    n: usize,
-    budget: u64,
-    scripts: &[u8],
-    schedule: &[u8],
+    texts: Texts<'_>,
 ) -> Result<(TreeObject, Record), PerformFault>
-    ensures alone { IfOk result (λ r. (other : Program) → IsModule text.now other → other ≡ (tree_object_in r.0).program) }
-    ensures performance { IfOk result (λ r. IsTreePerformance text.now n budget scripts.now schedule.now (record_of r.1)) }
-    ensures coded { IfOk result (λ r. IsOfCode text.now n budget scripts.now schedule.now (record_of r.1)) }
-    ensures same { IfOk result (λ r. HasTextOfCode text.now n budget scripts.now schedule.now (record_of r.1)) }
+    ensures alone { IfOk result (λ r. (other : Program) → IsModule texts.entry.asked.text.now other → other ≡ (tree_object_in r.0).program) }
+    ensures performance { IfOk result (λ r. IsTreePerformance (texts_of texts.entry) (record_of r.1)) }
+    ensures coded { IfOk result (λ r. IsOfCode (texts_of texts.entry) (record_of r.1)) }
+    ensures same { IfOk result (λ r. HasTextOfCode (texts_of texts.entry) (record_of r.1)) }
     ensures events { IfOk result (λ r. length r.1.history < 2 ^ 64) }
-    ensures fault { IfErr result (IsTreePerformFault text.now n budget scripts.now schedule.now) }
-    ensures none { IfErr result (λ e. IsNumbered e → HasNoTreePerformance text.now n budget scripts.now schedule.now) }
-    ensures memory { IfErr result TellsMemoryApart }
-    ensures processes { (n ≡ 0) ⊎ (MOST_PROCESSES < n) → result ≡ Err (PerformFault.Compile CompileFault.Processes) }
-    ensures budget { 0 < n → n ≤ MOST_PROCESSES → most_turns < budget → result ≡ Err (PerformFault.Compile CompileFault.Budget) }
-    ensures too_long { InRange n budget (LONGEST_TEXT < length text.now → result ≡ Err (PerformFault.Compile too_long)) }
+    ensures refused { IfErr result (IsRefusal IsAny (texts_of texts.entry)) }
+    ensures at_once { TellsAtOnce (texts_of texts.entry).asked (λ e. result ≡ Err (PerformFault.Compile e)) }
 {
-    let (object, calls, items) = read_tree_texts(alloc, text, n, budget, scripts, schedule)?;
+    let (object, calls, items) = read_tree_texts(alloc, texts)?;
     let record = run_on_tree(alloc, &object, calls, items)?;
     count_events(&record.history);
     // This does nothing: a state has one text, by position as by name.
@@ -95,27 +87,24 @@ fn count_events(history: &History)
     let _ = history.len();
 }
 
-/// What a run is made of: the object of the module's text, the calls of the scripts and the items of the schedule.
+/// What a run is made of: the object that is asked for, the calls of the scripts and the items of the schedule.
 fn read_tree_texts(
     alloc: Global,
-    text: &[u8],
-    n: usize,
-    budget: u64,
-    scripts: &[u8],
-    schedule: &[u8],
+    texts: Texts<'_>,
 ) -> Result<(TreeObject, Scripts, Vec<Item>), PerformFault>
-    ensures read { IfOk result (λ r. AreReadOf IsAny text.now n budget scripts.now schedule.now (tree_object_in r.0) r.1 r.2.items) }
+    ensures read { IfOk result (λ r. AreReadOf IsAny (texts_of texts.entry) (tree_object_in r.0) r.1 r.2.items) }
     ensures ready { IfOk result (λ r. IsReady (tree_object_in r.0) r.1 r.2.items) }
-    ensures fault { IfErr result (IsTreePerformFault text.now n budget scripts.now schedule.now) }
-    ensures none { IfErr result (λ e. IsNumbered e → HasNoTreePerformance text.now n budget scripts.now schedule.now) }
-    ensures memory { IfErr result TellsMemoryApart }
-    ensures processes { (n ≡ 0) ⊎ (MOST_PROCESSES < n) → result ≡ Err (PerformFault.Compile CompileFault.Processes) }
-    ensures budget { 0 < n → n ≤ MOST_PROCESSES → most_turns < budget → result ≡ Err (PerformFault.Compile CompileFault.Budget) }
-    ensures too_long { InRange n budget (LONGEST_TEXT < length text.now → result ≡ Err (PerformFault.Compile too_long)) }
+    ensures refused { IfErr result (IsRefusal IsAny (texts_of texts.entry)) }
+    ensures at_once { TellsAtOnce (texts_of texts.entry).asked (λ e. result ≡ Err (PerformFault.Compile e)) }
 {
-    let object = compile_tree(alloc, text, n, budget)?;
-    let calls = read_scripts(alloc, object.checked(), n, scripts)?;
-    let items = read_schedule(alloc, n, schedule)?;
+    let Texts {
+        asked,
+        scripts,
+        schedule,
+    } = texts;
+    let object = compile_tree(alloc, asked)?;
+    let calls = read_scripts(alloc, object.checked(), asked.processes, scripts)?;
+    let items = read_schedule(alloc, asked.processes, schedule)?;
     // Both do nothing: what was read is what a run asks for.
     compilations_are_sound();
     calls_fit();

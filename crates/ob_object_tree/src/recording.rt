@@ -82,5 +82,6 @@ fn recorded(
         order,
         schedule,
         state,
+        carried: None,
     })
 }

@@ -9,8 +9,8 @@ ghost use Rattle.wf_history.specs.History.{IsHistory};
 
 use crate::recording::record_tree_run;
 use ob_object_compile::TreeObject;
-use ob_object_record::Record;
-use ob_object_run::laws::openings_are_objects;
+use ob_object_record::{Record, carried_copy};
+use ob_object_run::laws::states_are_objects;
 use ob_schedule::Item;
 use ob_text_scripts::Scripts;
 use ob_tree::TreeEngine;
@@ -32,11 +32,11 @@ pub(crate) fn run_on_tree(
     ensures fault { IfErr result (IsRunFault (tree_object_in object.now) calls items.items) }
     ensures none { IfErr result (ShowsNone (tree_object_in object.now) calls items.items) }
 {
-    // This does nothing: an opening is an object over its engine.
-    openings_are_objects();
+    // This does nothing: a state is an object over its engine.
+    states_are_objects();
     let layout = object.layout();
     let engine = TreeEngine::new(alloc, object.checked(), layout, object.budget())?;
-    record_tree_run(
+    let record = record_tree_run(
         alloc,
         engine,
         object.processes(),
@@ -44,5 +44,7 @@ pub(crate) fn run_on_tree(
         object.opening(),
         calls.into_calls(),
         items.as_slice(),
-    )
+    )?;
+    let carried = carried_copy(alloc, object.opening(), object.carried())?;
+    Ok(record.begun_by(carried))
 }

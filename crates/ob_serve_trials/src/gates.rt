@@ -5,6 +5,7 @@ ghost use Rattle.std.specs.Prelude.{◌≤◌};
 use ob_desk_serve::ServeFault;
 use ob_desk_texts::{ServeTextFault, serve_text_with};
 use ob_desk_workers::Gate;
+use ob_object_compile::{Asked, Beginning};
 use std::alloc::Global;
 use std::sync::Wait;
 use std::sync::atomic::{AtomicU64, Ordering};
@@ -27,7 +28,13 @@ fn served<R: Threads + Wait + Sync, G: Gate + Sync>(
 ) -> Result<String, ServeTextFault>
     requires { 1 ≤ limit }
 {
-    serve_text_with(rt, alloc, COUNTER, 2, 100, b"0 Inc\n1 Inc\n", gate, limit)
+    let asked = Asked {
+        text: COUNTER,
+        processes: 2,
+        budget: 100,
+        beginning: Beginning::Body,
+    };
+    serve_text_with(rt, alloc, asked, b"0 Inc\n1 Inc\n", gate, limit)
 }
 
 /// A gate that never passes.

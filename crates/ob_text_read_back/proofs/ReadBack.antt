@@ -110,7 +110,7 @@ module _ (m : Module) (program : Program) (text : HasText m) (typed : WellTyped 
   read : IsReadBack program r
   read =
       subst (λ (ls : List Line). IsRecordOf (signatures program) ls (told_by r))
-      (sym (ap Lines.record_lines (record_written program r)
+      (sym (ap Lines.record_lines (record_written program r h.by_body)
       ∙ lines_of_text title_line (count_line r.processes ∷ budget_line r.budget ∷ lines_behind program r) (all_words m program text typed r h)))
       all_read
 

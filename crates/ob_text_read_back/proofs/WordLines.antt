@@ -1,5 +1,5 @@
 -- The lines of a record's text, as words.
-use Rattle.std.proofs.Common.{◌≡◌, ℕ, ◌-◌, zero, suc, List, [], ◌∷◌, ◌++◌, All, codes, decimal, map, flat_map, slice_get, Some, refl, sym, ◌∙◌, ap, ap₂, subst, arith, append_assoc, append-nil}
+use Rattle.std.proofs.Common.{◌≡◌, ℕ, ◌-◌, zero, suc, List, [], ◌∷◌, ◌++◌, All, codes, decimal, map, flat_map, slice_get, Option, Some, None, refl, sym, ◌∙◌, ap, ap₂, subst, arith, append_assoc, append-nil}
 use Rattle.std.specs.List.{AllByRecursion}
 use Rattle.std.proofs.lemmas.Grind.{flat_map-append}
 use Rattle.std.proofs.lemmas.List.Elements.{All-head, All-tail}
@@ -25,7 +25,7 @@ use Rattle.ob_text_read_back.proofs.PlainWords.{AllWords, AreWords, spaced, text
 use Rattle.ob_text_read_back.proofs.PlainWords as Plain
 use Rattle.ob_text_read_back.proofs.ValueWords.{value_word}
 use Rattle.ob_text_read_back.proofs.Words.{IsWord, byte_word, word_more, words_joined}
-use Rattle.ob_text_record.specs.RecordText.{event_text, id_text, name_of, order_text, record_text, schedule_text}
+use Rattle.ob_text_record.specs.RecordText.{carried_text, event_text, head_text, id_text, name_of, order_text, record_text, schedule_text, title_text}
 use Rattle.ob_text_record_reading.specs.RecordLines.{Line}
 use Rattle.ob_text_values.specs.Values.{value_text}
 use Rattle.ob_text_values.specs.Variables.{state_text, variable_line}
@@ -119,10 +119,10 @@ head_written P B Y =
     ∙ append_assoc P (10 ∷ 98 ∷ 32 ∷ []) (B ++ (feed ++ Y)) ∙ ap (λ (bs : List ℕ). P ++ 10 ∷ 98 ∷ 32 ∷ bs) (sym (append_assoc B feed Y))
     ∙ sym (append_assoc P feed (98 ∷ 32 ∷ ((B ++ feed) ++ Y)))
 
--- a record's text is its lines of words
-pub record_written : (program : Program) (r : Record) →
+-- the text of a record of an object that began by its module's body is its lines of words
+pub record_written : (program : Program) (r : Record) → r.carried ≡ None →
     record_text program r ≡ text_of (title_line ∷ count_line r.processes ∷ budget_line r.budget ∷ lines_behind program r)
-record_written program r =
+record_written program r by_body =
     let P = decimal r.processes in
     let B = decimal r.budget in
     let X = ((P ++ (10 ∷ 98 ∷ 32 ∷ [])) ++ B) ++ feed in
@@ -131,6 +131,7 @@ record_written program r =
     let S = schedule_text r.schedule in
     let V = state_text program.variables r.state in
     let last = order_line r.order ∷ schedule_line r.schedule ∷ value_lines program.variables r.state in
+    let beginning = λ (c : Option Activation). title_text c ++ head_text r.processes r.budget ++ carried_text program c ++ E ++ O ++ S ++ V in
     let tails : O ++ (S ++ V) ≡ text_of last =
     ap₂ (λ (a b : List ℕ). a ++ b) (order_written r.order) (ap₂ (λ (a b : List ℕ). a ++ b) (schedule_written r.schedule) (state_written program.variables r.state)) in
     let behind : E ++ (O ++ (S ++ V)) ≡ text_of (lines_behind program r) =
@@ -138,9 +139,11 @@ record_written program r =
     ∙ sym (flat_map-append (λ (l : Line). written l ++ feed) (map (event_line (signatures program)) r.history) last) in
     let apart : (((X ++ E) ++ O) ++ S) ++ V ≡ X ++ (E ++ (O ++ (S ++ V))) =
     append_assoc ((X ++ E) ++ O) S V ∙ append_assoc (X ++ E) O (S ++ V) ∙ append_assoc X E (O ++ (S ++ V)) in
+    let nothing : X ++ [] ≡ X = append-nil X in
     let numbers = ap₂ (λ (p b : List ℕ). (p ++ feed) ++ 98 ∷ 32 ∷ ((b ++ feed) ++ (E ++ (O ++ (S ++ V))))) (sym (append-nil P)) (sym (append-nil B)) in
-    ap (λ (bs : List ℕ). codes "obl0 record 2\nn " ++ bs)
-    (apart ∙ head_written P B (E ++ (O ++ (S ++ V))) ∙ numbers ∙ ap (λ (bs : List ℕ). ((P ++ []) ++ feed) ++ 98 ∷ 32 ∷ (((B ++ []) ++ feed) ++ bs)) behind)
+    ap beginning by_body
+    ∙ ap (λ (bs : List ℕ). codes "obl0 record 2\nn " ++ bs)
+    (ap (λ (x : List ℕ). (((x ++ E) ++ O) ++ S) ++ V) nothing ∙ apart ∙ head_written P B (E ++ (O ++ (S ++ V))) ∙ numbers ∙ ap (λ (bs : List ℕ). ((P ++ []) ++ feed) ++ 98 ∷ 32 ∷ (((B ++ []) ++ feed) ++ bs)) behind)
 
 -- ---- all lines are lines of words
 

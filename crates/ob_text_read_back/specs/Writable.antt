@@ -1,5 +1,5 @@
 -- Records whose text tells what they hold.
-use Rattle.std.specs.Prelude.{◌≡◌, ℕ, ◌-◌, ◌<◌, ◌≤◌, ◌^◌, List, ◌∷◌, ◌++◌, All, slice_get, Some}
+use Rattle.std.specs.Prelude.{◌≡◌, ℕ, ◌-◌, ◌<◌, ◌≤◌, ◌^◌, List, ◌∷◌, ◌++◌, All, slice_get, Some, None}
 use Rattle.ob_checked.specs.Exports.{signatures}
 use Rattle.ob_code_law.specs.Named.{CallMeans}
 use Rattle.ob_code_scheme.specs.Correct.{IsInRange, values_of}
@@ -63,12 +63,13 @@ module _ (program : Program) where
   IsWritableEvent processes before (Applied ids) = All (IsNamed processes) ids
   IsWritableEvent processes before (End id reply) = IsNamed processes id × RepliesTo before id reply
 
-  -- a record that fits the module: there are 1 to 16 processes, and the budget is one that a call may have; the events of each
-  -- process take turns, calls and replies fit the exports, and each variable has a value of its type
+  -- a record that fits the module: there are 1 to 16 processes, and the budget is one that a call may have; the object began by the
+  -- module's body; the events of each process take turns, calls and replies fit the exports, and each variable has a value of its type
   pub record IsWritable (r : Record) : Type 0 where
     pub least : 1 ≤ r.processes
     pub most : r.processes ≤ most_processes
     pub budget : r.budget ≤ most_turns
+    pub by_body : r.carried ≡ None
     pub whole : IsHistory r.history
     pub events : (before behind : List (Event ObjectCall Reply)) (e : Event ObjectCall Reply) → r.history ≡ before ++ e ∷ behind →
         IsWritableEvent r.processes before e

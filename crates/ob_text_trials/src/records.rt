@@ -25,6 +25,7 @@ fn a_record_that_is_read_is_written_again(rt: HostRuntime) -> Result<(), Fail> {
     let record = Record {
         processes: told.processes,
         budget: told.budget,
+        carried: None,
         history: told.history,
         order: told.order,
         schedule: vec![in alloc;

@@ -6,7 +6,7 @@ use ob_code_layout::Layout;
 use ob_code_well_formed::laws::well_typed_is_well_formed;
 use ob_interface::scalar::Scalar;
 use ob_interpreter::opening::opening;
-use ob_object_run::laws::openings_are_objects;
+use ob_object_run::laws::states_are_objects;
 use ob_object_run::record_run;
 use ob_schedule::Item;
 use ob_store::value::Value;
@@ -32,7 +32,7 @@ fn a_run_without_calls_keeps_the_opening(rt: HostRuntime) -> Result<(), Fail> {
     let engine = CodeEngine::new(alloc, &checked, &layout, code, 100)?;
     let opening = opening(alloc, &checked)?;
     well_typed_is_well_formed();
-    openings_are_objects();
+    states_are_objects();
     let items = [Item::Steps {
         process: 1,
         count: 3,

@@ -15,7 +15,7 @@ pub open-requires-clause-opening : goal.open-requires-clause-opening
 open-requires-clause-opening c =
     let o = object_in c.args.object.now in
     let code : c.in_ok-engine.engine.parts ≡ o.engine = ap (λ (x : CompiledParts). x.parts) c.in_ok-engine.ensures ∙ c.engine.ensures in
-    lawful_opening o c.in_ok-engine.engine.parts c.in_ok-opening.opening.items c.requires.sound code (c.in_ok-opening.ensures ∙ ap encoded c.opening.ensures)
+    lawful_opening o c.in_ok-engine.engine.parts c.in_ok-encode.field-0.items c.requires.sound code (c.in_ok-encode.ensures ∙ ap encoded c.opening.ensures)
 
 pub open-requires-clause-callers : goal.open-requires-clause-callers
 open-requires-clause-callers c =

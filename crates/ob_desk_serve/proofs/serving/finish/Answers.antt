@@ -79,7 +79,7 @@ returns-in-Some-clause-fault c =
     record {
       shown = shown;
       is_record = record_of_closed o calls m closed shown
-          (record { processes = known.processes; budget = known.budget; history = known.history; order = known.order; schedule = known.schedule; legal = known.legal; meant = known.meant });
+          (record { processes = known.processes; budget = known.budget; carried = known.carried; history = known.history; order = known.order; schedule = known.schedule; legal = known.legal; meant = known.meant });
       own = subst (λ (d : Desk EngineParts). AreSeats d c.args.seats.now) c.requires.desk c.in_ok-machine.ensures.seats;
       agree = agreed m c.args.seats.now shown.history shown.schedule known.history known.schedule c.in_ok-machine.ensures.agree;
       lowest = lowest_sent n shown.history calls answers lists by p

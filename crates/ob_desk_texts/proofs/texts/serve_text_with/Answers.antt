@@ -2,24 +2,24 @@ use Rattle.std.proofs.Common.{◌∙◌, ◌<◌, All, List, ℕ, ap, map, subst
 use Rattle.std.proofs.lemmas.Result.{err_from_is_err_and}
 use Rattle.ob_typing.specs.Program.{Program}
 use Rattle.ob_code_law.specs.Compiled.{IsFitting}
-use Rattle.ob_object_compile.specs.View.{object_in}
+use Rattle.ob_object_compile.specs.View.{asked_of, object_in}
 use Rattle.ob_object_record.specs.Record.{record_of}
 use Rattle.ob_text_record.specs.RecordText.{record_text}
 use Rattle.ob_desk_serve.specs.ServeFaults.{IsServeFault}
 use Rattle.ob_desk_serve.specs.Served.{AreTurnsLet, HaveEnded, IsRecordOf}
 use Rattle.ob_desk_texts.proofs.ReadCalls as Read
-use Rattle.ob_desk_texts.proofs.TextFaults.{read_fault, serve_fault}
+use Rattle.ob_desk_texts.proofs.TextFaults.{memory_refused, serve_refused, texts_refused}
 use Rattle.ob_text_words.specs.ScriptCalls.{object_call, script_call_of}
 use Rattle.ob_text_words.specs.declared.script_call.ScriptCall.{ScriptCall}
 use Rattle.ob_desk_texts.proofs.texts.serve_text_with.Goals as goal
 
 pub serve-requires-clause-some : goal.serve-requires-clause-some
 serve-requires-clause-some g c κs within =
-    Read.some c.args.text.now c.args.n c.args.budget c.args.scripts.now (object_in c.in_ok-object.object) c.in_ok-object.calls.items c.in_ok-object.ensures.ready
+    Read.some (asked_of c.args.asked) c.args.scripts.now (object_in c.in_ok-object.object) (map script_call_of c.in_ok-object.calls.items) c.in_ok-object.ensures.ready
 
 pub serve-requires-clause-few : goal.serve-requires-clause-few
 serve-requires-clause-few g c κs within =
-    Read.few c.args.text.now c.args.n c.args.budget c.args.scripts.now (object_in c.in_ok-object.object) c.in_ok-object.calls.items c.in_ok-object.ensures.ready
+    Read.few (asked_of c.args.asked) c.args.scripts.now (object_in c.in_ok-object.object) (map script_call_of c.in_ok-object.calls.items) c.in_ok-object.ensures.ready
 
 pub serve-requires-clause-callers : goal.serve-requires-clause-callers
 serve-requires-clause-callers g c κs within =
@@ -31,10 +31,10 @@ serve-requires-clause-fits g c κs within =
     let o = object_in c.in_ok-object.object in
     subst (λ (xs : List ScriptCall). All (λ x. IsFitting o.engine.exports (object_call (script_call_of x))) xs) (sym c.as_slice.ensures.value) c.in_ok-object.ensures.fits
 
-pub returns-in_err-write_record-clause-none : goal.returns-in_err-write_record-clause-none
-returns-in_err-write_record-clause-none g c =
+pub returns-in_err-write_record-clause-refused : goal.returns-in_err-write_record-clause-refused
+returns-in_err-write_record-clause-refused g c =
     let p = err_from_is_err_and c.from_residual-in_err-write_record.result c.from_residual-in_err-write_record.ensures.1 in
-    rw (p.1, p.2) (λ of_texts. absurd of_texts)
+    rw (p.1, p.2) (memory_refused (g.G.Gate.refuses c.args.gate.now) c.args.limit (asked_of c.args.asked) c.args.scripts.now)
 
 pub returns-clause-served : goal.returns-clause-served
 returns-clause-served g c =
@@ -51,24 +51,24 @@ returns-clause-served g c =
         shown = shown;
         is_record = subst (λ (xs : List ScriptCall). IsRecordOf o (map script_call_of xs) shown) given c.in_ok-record.ensures.record;
         events = c.count_events.ensures;
-        ended = subst (λ (k : ℕ). HaveEnded k calls shown.history) ready.compiled.processes
+        ended = subst (λ (k : ℕ). HaveEnded k calls shown.history) ready.1.compiled.processes
             (subst (λ (xs : List ScriptCall). HaveEnded o.processes (map script_call_of xs) shown.history) given c.in_ok-record.ensures.ended);
         printed = c.in_ok-write_record.ensures ∙ ap (λ (p : Program). record_text p shown) c.checked.ensures.program;
       };
-      passed = subst (λ (k : ℕ). AreTurnsLet (g.G.Gate.passes c.args.gate.now) c.args.limit k shown.schedule) ready.compiled.processes c.in_ok-record.ensures.passed;
+      passed = subst (λ (k : ℕ). AreTurnsLet (g.G.Gate.passes c.args.gate.now) c.args.limit k shown.schedule) ready.1.compiled.processes c.in_ok-record.ensures.passed;
     }
 
-pub returns-in_err-object-clause-fault : goal.returns-in_err-object-clause-fault
-returns-in_err-object-clause-fault g c =
+pub returns-in_err-object-clause-refused : goal.returns-in_err-object-clause-refused
+returns-in_err-object-clause-refused g c =
     let p = err_from_is_err_and c.from_residual.result c.from_residual.ensures.1 in
-    rw (p.1, p.2) (read_fault c.args.text.now c.args.n c.args.budget c.args.scripts.now (g.G.Gate.refuses c.args.gate.now) c.args.limit c.in_err-object.field-0.0 c.in_err-object.ensures.fault)
+    rw (p.1, p.2) (texts_refused (g.G.Gate.refuses c.args.gate.now) c.args.limit (asked_of c.args.asked) c.args.scripts.now c.in_err-object.field-0.0 c.in_err-object.ensures.refused)
 
-pub returns-in_err-record-clause-fault : goal.returns-in_err-record-clause-fault
-returns-in_err-record-clause-fault g c =
+pub returns-in_err-record-clause-refused : goal.returns-in_err-record-clause-refused
+returns-in_err-record-clause-refused g c =
     let p = err_from_is_err_and c.from_residual-in_err-record.result c.from_residual-in_err-record.ensures.1 in
     let o = object_in c.in_ok-object.object in
     let refuses = g.G.Gate.refuses c.args.gate.now in
     let e = c.in_err-record.field-0.0 in
     rw (p.1, p.2)
-    (serve_fault c.args.text.now c.args.n c.args.budget c.args.scripts.now refuses c.args.limit o (map script_call_of c.in_ok-object.calls.items) c.in_ok-object.ensures.ready e
+    (serve_refused refuses c.args.limit (asked_of c.args.asked) c.args.scripts.now o (map script_call_of c.in_ok-object.calls.items) c.in_ok-object.ensures.ready e
     (subst (λ (xs : List ScriptCall). IsServeFault refuses c.args.limit o (map script_call_of xs) e) c.as_slice.ensures.value c.in_err-record.ensures.fault))

@@ -9,5 +9,5 @@ pub new-requires-2-clause-opening : goal.new-requires-2-clause-opening
 new-requires-2-clause-opening c =
     let o = object_in c.in_ok-object.object in
     let code : c.in_ok-engine.engine.parts ≡ o.engine = ap (λ (x : CompiledParts). x.parts) c.in_ok-engine.ensures ∙ c.engine.ensures in
-    lawful_opening o c.in_ok-engine.engine.parts c.as_slice.result.now c.in_ok-object.ensures.sound code
-    (c.as_slice.ensures.value ∙ c.in_ok-opening.ensures ∙ ap encoded c.opening.ensures)
+    lawful_opening o c.in_ok-engine.engine.parts c.in_ok-words.words.items c.in_ok-object.ensures.sound code
+    (c.in_ok-words.ensures ∙ ap encoded c.opening.ensures)

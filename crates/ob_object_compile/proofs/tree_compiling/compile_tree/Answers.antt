@@ -2,39 +2,24 @@ use Rattle.std.proofs.Common.{arith, refl, sym, ◌∙◌}
 use Rattle.std.proofs.lemmas.Result.{err_from_is_err_and}
 use Rattle.ob_checked.specs.CheckedModule.{program_in}
 use Rattle.ob_object_compile.proofs.Compilations.{compilation}
-use Rattle.ob_object_compile.proofs.CompileFaults.{opening_memory, opening_none, text_memory, text_none, tree_opening_fault}
+use Rattle.ob_object_compile.proofs.CompileFaults.{beginning_refused, text_refused}
 use Rattle.ob_object_compile.specs.Compilation.{IsAny}
-use Rattle.ob_object_compile.specs.View.{tree_object_in}
+use Rattle.ob_object_compile.specs.View.{asked_of, tree_object_in}
 use Rattle.ob_object_compile.proofs.tree_compiling.compile_tree.Goals as goal
 
-pub returns-in_err-checked-clause-none : goal.returns-in_err-checked-clause-none
-returns-in_err-checked-clause-none c =
+pub returns-in_err-checked-clause-refused : goal.returns-in_err-checked-clause-refused
+returns-in_err-checked-clause-refused c =
     let p = err_from_is_err_and c.from_residual.result c.from_residual.ensures.1 in
-    rw (p.1, p.2) (text_none IsAny c.args.text.now c.args.n c.args.budget c.in_err-checked.field-0.0 c.in_err-checked.ensures.none)
+    rw (p.1, p.2) (text_refused IsAny (asked_of c.args.asked) c.in_err-checked.field-0.0 c.in_err-checked.ensures.fault c.in_err-checked.ensures.none c.in_err-checked.ensures.memory)
 
-pub returns-in_err-checked-clause-memory : goal.returns-in_err-checked-clause-memory
-returns-in_err-checked-clause-memory c =
-    let p = err_from_is_err_and c.from_residual.result c.from_residual.ensures.1 in
-    rw (p.1, p.2) (text_memory c.in_err-checked.field-0.0 c.in_err-checked.ensures.memory)
-
-pub returns-in_err-opening-clause-fault : goal.returns-in_err-opening-clause-fault
-returns-in_err-opening-clause-fault c =
+pub returns-in_err-opening-clause-refused : goal.returns-in_err-opening-clause-refused
+returns-in_err-opening-clause-refused c =
     let p = err_from_is_err_and c.from_residual-in_err-opening.result c.from_residual-in_err-opening.ensures.1 in
-    rw (p.1, p.2) (tree_opening_fault c.args.text.now c.args.n c.args.budget (program_in c.in_ok-checked.checked) c.in_ok-checked.ensures.program c.in_err-opening.field-0.0 c.in_err-opening.ensures.fault)
-
-pub returns-in_err-opening-clause-none : goal.returns-in_err-opening-clause-none
-returns-in_err-opening-clause-none c =
-    let p = err_from_is_err_and c.from_residual-in_err-opening.result c.from_residual-in_err-opening.ensures.1 in
-    rw (p.1, p.2) (opening_none IsAny c.args.text.now c.args.n c.args.budget (program_in c.in_ok-checked.checked) c.in_ok-checked.ensures.alone c.in_err-opening.field-0.0 c.in_err-opening.ensures.fault)
-
-pub returns-in_err-opening-clause-memory : goal.returns-in_err-opening-clause-memory
-returns-in_err-opening-clause-memory c =
-    let p = err_from_is_err_and c.from_residual-in_err-opening.result c.from_residual-in_err-opening.ensures.1 in
-    rw (p.1, p.2) (opening_memory (program_in c.in_ok-checked.checked) c.in_err-opening.field-0.0 c.in_err-opening.ensures.fault)
+    rw (p.1, p.2) (beginning_refused IsAny (asked_of c.args.asked) (program_in c.in_ok-checked.checked) c.in_ok-checked.ensures.program tt c.in_ok-checked.ensures.alone c.in_err-opening.field-0.0 c.in_err-opening.ensures.fault)
 
 pub returns-clause-object : goal.returns-clause-object
 returns-clause-object c =
-    compilation IsAny c.args.text.now c.args.n c.args.budget _ _ _ _ _ (tree_object_in c.made_of.result)
+    compilation IsAny (asked_of c.args.asked) _ _ _ _ _ _ (tree_object_in c.made_of.result)
     (record {
       processes = c.made_of.ensures.processes;
       tree_is = c.made_of.ensures.tree;
@@ -42,6 +27,7 @@ returns-clause-object c =
       layout_is = c.made_of.ensures.layout;
       engine_is = c.made_of.ensures.engine;
       opening_is = c.made_of.ensures.opening;
+      carried_is = c.made_of.ensures.carried;
     })
     (record {
       some = omega arith;
@@ -53,6 +39,7 @@ returns-clause-object c =
       allowed = tt;
       engine_is = refl;
       begins = c.in_ok-opening.ensures.state;
+      carried_is = c.is_carried-carried.ensures;
     })
 
 pub returns-clause-alone : goal.returns-clause-alone

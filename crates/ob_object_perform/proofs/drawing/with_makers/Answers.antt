@@ -1,27 +1,21 @@
 use Rattle.std.proofs.lemmas.Result.{err_from_is_err_and}
-use Rattle.ob_object_compile.specs.Compilation.{IsCompileFault, IsShort}
+use Rattle.ob_object_compile.specs.Compilation.{IsShort}
 use Rattle.ob_object_compile.specs.View.{object_in}
-use Rattle.ob_object_perform.proofs.NoPerformance.{no_run}
-use Rattle.ob_object_perform.proofs.Readings.{run_fault, with_makers}
+use Rattle.ob_object_perform.proofs.Readings.{with_makers}
+use Rattle.ob_object_perform.proofs.Refusals.{run_refused}
+use Rattle.ob_object_perform.specs.Texts.{texts_of}
 use Rattle.ob_object_record.specs.Record.{record_of}
 use Rattle.ob_object_perform.proofs.drawing.with_makers.Goals as goal
 
-pub returns-in_err-run_with_makers-clause-fault : goal.returns-in_err-run_with_makers-clause-fault
-returns-in_err-run_with_makers-clause-fault c =
+pub returns-in_err-run_with_makers-clause-refused : goal.returns-in_err-run_with_makers-clause-refused
+returns-in_err-run_with_makers-clause-refused c =
     let p = err_from_is_err_and c.from_residual-in_err-run_with_makers.result c.from_residual-in_err-run_with_makers.ensures.1 in
     rw (p.1, p.2)
-    (run_fault IsShort c.args.text.now c.args.n c.args.budget c.args.scripts.now c.args.schedule.now (object_in c.in_ok-object.object) c.in_ok-object.calls c.in_ok-object.items.items c.in_ok-object.ensures.read
-    (IsCompileFault c.args.text.now c.args.n c.args.budget) (λ h. h) c.in_err-run_with_makers.field-0.0 c.in_err-run_with_makers.ensures.fault)
-
-pub returns-in_err-run_with_makers-clause-none : goal.returns-in_err-run_with_makers-clause-none
-returns-in_err-run_with_makers-clause-none c =
-    let p = err_from_is_err_and c.from_residual-in_err-run_with_makers.result c.from_residual-in_err-run_with_makers.ensures.1 in
-    rw (p.1, p.2)
-    (no_run IsShort c.args.text.now c.args.n c.args.budget c.args.scripts.now c.args.schedule.now (object_in c.in_ok-object.object) c.in_ok-object.calls c.in_ok-object.items.items c.in_ok-object.ensures.read
+    (run_refused IsShort (texts_of c.args.texts) (object_in c.in_ok-object.object) c.in_ok-object.calls c.in_ok-object.items.items c.in_ok-object.ensures.read
     c.in_err-run_with_makers.field-0.0 c.in_err-run_with_makers.ensures.fault c.in_err-run_with_makers.ensures.none)
 
 pub returns-clause-run : goal.returns-clause-run
 returns-clause-run c =
-    with_makers c.args.text.now c.args.n c.args.budget c.args.scripts.now c.args.schedule.now (object_in c.in_ok-object.object) c.in_ok-object.calls c.in_ok-object.items.items c.in_ok-object.ensures.read
+    with_makers (texts_of c.args.texts) (object_in c.in_ok-object.object) c.in_ok-object.calls c.in_ok-object.items.items c.in_ok-object.ensures.read
     _ (record_of c.in_ok-run_with_makers.field-0.1) _ c.in_ok-run_with_makers.ensures.shows c.in_ok-run_with_makers.ensures.meant c.in_ok-run_with_makers.ensures.program
     c.in_ok-run_with_makers.ensures.makers

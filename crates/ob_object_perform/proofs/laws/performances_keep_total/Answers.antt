@@ -7,11 +7,11 @@ use Rattle.wf_play.specs.Played.{scripts_of}
 use Rattle.ob_object_perform.proofs.laws.performances_keep_total.Goals as goal
 
 pub returns : goal.returns
-returns c = λ text n budget scripts schedule r p.
+returns c = λ t r p.
     let o = p.object in
     let calls = scripts_of p.calls in
-    let start = p.shows.played.runs.start in
+    let start = p.shows.recorded.played.runs.start in
     let limit = ap (λ (e : EngineParts). Total.body_limit e) p.compiled.engine_is in
-    subst (λ (k : ℕ). KeepsLimit (code_meaning o.engine) n calls start k r.schedule) limit
+    subst (λ (k : ℕ). KeepsLimit (code_meaning o.engine) t.asked.processes calls start k r.schedule) limit
     (subst (λ (k : ℕ). KeepsLimit (code_meaning o.engine) k calls start (Total.body_limit o.engine) r.schedule) p.compiled.processes
-    (c.runs_keep_total.ensures o.engine o.processes (encoded o.opening) calls p.items r p.shows))
+    (c.runs_keep_total.ensures o.engine o.processes (encoded o.opening) calls p.items r p.shows.recorded))

@@ -12,7 +12,7 @@ pub makers-requires-clause-opening : goal.makers-requires-clause-opening
 makers-requires-clause-opening c =
     let again = c.in_ok-checked.again in
     let ensures = c.in_ok-checked.ensures in
-    lawful (object_in c.args.object) c.requires.ready.sound c.openings_are_objects.ensures again.engine.parts c.as_slice.result.now
+    lawful (object_in c.args.object) c.requires.ready.sound c.states_are_objects.ensures again.engine.parts c.as_slice.result.now
     ensures.engine (c.as_slice.ensures.value ∙ ensures.opening)
 
 pub makers-requires-clause-callers : goal.makers-requires-clause-callers

@@ -16,4 +16,4 @@ returns c = λ text n budget scripts schedule output printed.
     ∥∥₁_elim (c.performed_is_writable.ensures.performed text n budget scripts schedule r p printed.events) squash₁ (λ w.
     ∥∥₁_map legal (λ m.
     subst (λ (bytes : List ℕ). IsVerified text bytes) (sym printed.printed)
-    (verified_record c.legal_is_verified.ensures text n budget o p.compiled p.compiled.opens r p.shows.budget w m)))
+    (verified_record c.legal_is_verified.ensures text n budget o p.compiled p.compiled.opens r p.shows.recorded.budget w m)))

@@ -6,9 +6,9 @@ use Rattle.ob_object_printed.proofs.laws.served_is_verified.Goals as goal
 
 pub returns : goal.returns
 returns c = λ text n budget scripts output printed.
-    let read = printed.read in
+    let compiled = printed.read.1.compiled in
     let shows = printed.is_record in
-    ∥∥₁_elim (c.performed_is_writable.ensures.served text n budget scripts printed.object printed.calls printed.shown read shows printed.events) squash₁ (λ w.
-    ∥∥₁_map shows.meant.meant (λ m.
+    ∥∥₁_elim (c.performed_is_writable.ensures.served text n budget scripts printed.object printed.calls printed.shown printed.read shows printed.events) squash₁ (λ w.
+    ∥∥₁_map (shows.meant compiled.opens.state compiled.opens.same) (λ m.
     subst (λ (bytes : List ℕ). IsVerified text bytes) (sym printed.printed)
-    (verified_record c.legal_is_verified.ensures text n budget printed.object read.compiled shows.meant.opens printed.shown shows.budget w m)))
+    (verified_record c.legal_is_verified.ensures text n budget printed.object compiled compiled.opens printed.shown shows.budget w m)))

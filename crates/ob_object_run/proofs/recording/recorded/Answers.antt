@@ -1,5 +1,5 @@
 use Rattle.std.proofs.Common.{List, sym, ap, ◌∙◌, subst}
-use Rattle.std.specs.Prelude.{ℤ, option_map, take}
+use Rattle.std.specs.Prelude.{None, ℤ, option_map, take}
 use Rattle.ll_cell.specs.Cell.{block_of}
 use Rattle.ob_code_law.specs.CodeMeaning.{code_meaning}
 use Rattle.ob_code_law.specs.Compiled.{HasReserve, IsFitting}
@@ -45,12 +45,12 @@ returns-clause-legal c =
     let read = sym c.in_ok-state.ensures ∙ ap (option_map state_of) c.in-Some.is in
     rw (c.into_parts-history.ensures.history, c.into_parts-history.ensures.order)
     (legal_for (parts_of c.args.layout.now).variables q a.opening c.variables.result.now
-    (record { processes = c.args.processes; budget = q.budget; history = a.state.records.history; order = a.state.records.order; schedule = a.state.records.schedule; state = state_of c.in-Some.state })
+    (record { processes = c.args.processes; budget = q.budget; history = a.state.records.history; order = a.state.records.order; schedule = a.state.records.schedule; state = state_of c.in-Some.state; carried = None })
     fit read by_words)
 
 pub returns-clause-meant : goal.returns-clause-meant
 returns-clause-meant c =
     let a = c.args.machine in
     let shown = c.into_parts-history.result in
-    let r : Record = record { processes = c.args.processes; budget = c.budget-budget.result; history = shown.1; order = shown.2.items; schedule = shown.3.items; state = state_of c.in-Some.state } in
+    let r : Record = record { processes = c.args.processes; budget = c.budget-budget.result; history = shown.1; order = shown.2.items; schedule = shown.3.items; state = state_of c.in-Some.state; carried = None } in
     meant_for c.orders_are_carried.ensures.by_name (parts_of c.args.layout.now).variables a.engine.parts a.opening r (returns-clause-begun c) (returns-clause-legal c)

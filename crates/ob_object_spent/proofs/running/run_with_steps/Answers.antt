@@ -12,7 +12,7 @@ pub ended_calls-requires-clause-opening : goal.ended_calls-requires-clause-openi
 ended_calls-requires-clause-opening c =
     let again = c.in_ok-checked.again in
     let ensures = c.in_ok-checked.ensures in
-    lawful (object_in c.args.object) c.requires.ready.sound c.openings_are_objects.ensures again.engine.parts c.as_slice.result.now
+    lawful (object_in c.args.object) c.requires.ready.sound c.states_are_objects.ensures again.engine.parts c.as_slice.result.now
     ensures.engine (c.as_slice.ensures.value ∙ ensures.opening)
 
 pub ended_calls-requires-clause-callers : goal.ended_calls-requires-clause-callers

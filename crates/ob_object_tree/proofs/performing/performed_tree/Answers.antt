@@ -2,10 +2,11 @@ use Rattle.std.proofs.Common.{◌≤◌, ℕ, ap, subst, sym}
 use Rattle.std.proofs.lemmas.Result.{err_from_is_err_and}
 use Rattle.ob_code_law.specs.CodeMeaning.{EngineParts}
 use Rattle.ob_meaning.specs.Object.{most_turns}
-use Rattle.ob_object_compile.specs.Compilation.{IsAny, IsTreeFault}
+use Rattle.ob_object_compile.specs.Compilation.{IsAny}
 use Rattle.ob_object_compile.specs.View.{tree_object_in}
-use Rattle.ob_object_perform.proofs.NoPerformance.{no_run}
-use Rattle.ob_object_perform.proofs.Readings.{performs, run_fault}
+use Rattle.ob_object_perform.proofs.Readings.{performs}
+use Rattle.ob_object_perform.proofs.Refusals.{run_refused}
+use Rattle.ob_object_perform.specs.Texts.{texts_of}
 use Rattle.ob_object_record.specs.Record.{record_of}
 use Rattle.ob_object_tree.proofs.Objects.{of_code}
 use Rattle.ob_object_tree.proofs.OneText.{text_of_code}
@@ -16,31 +17,24 @@ run_on_tree-requires-clause-within c =
     let compiled = c.in_ok-object.ensures.read.compiled in
     subst (λ (k : ℕ). k ≤ most_turns) (sym (ap (λ (e : EngineParts). e.budget) compiled.engine_is)) compiled.within
 
-pub returns-in_err-record-clause-fault : goal.returns-in_err-record-clause-fault
-returns-in_err-record-clause-fault c =
+pub returns-in_err-record-clause-refused : goal.returns-in_err-record-clause-refused
+returns-in_err-record-clause-refused c =
     let p = err_from_is_err_and c.from_residual-in_err-record.result c.from_residual-in_err-record.ensures.1 in
     rw (p.1, p.2)
-    (run_fault IsAny c.args.text.now c.args.n c.args.budget c.args.scripts.now c.args.schedule.now (tree_object_in c.in_ok-object.object) c.in_ok-object.calls c.in_ok-object.items.items c.in_ok-object.ensures.read
-    (IsTreeFault c.args.text.now c.args.n c.args.budget) (λ h. h) c.in_err-record.field-0.0 c.in_err-record.ensures.fault)
-
-pub returns-in_err-record-clause-none : goal.returns-in_err-record-clause-none
-returns-in_err-record-clause-none c =
-    let p = err_from_is_err_and c.from_residual-in_err-record.result c.from_residual-in_err-record.ensures.1 in
-    rw (p.1, p.2)
-    (no_run IsAny c.args.text.now c.args.n c.args.budget c.args.scripts.now c.args.schedule.now (tree_object_in c.in_ok-object.object) c.in_ok-object.calls c.in_ok-object.items.items c.in_ok-object.ensures.read
+    (run_refused IsAny (texts_of c.args.texts) (tree_object_in c.in_ok-object.object) c.in_ok-object.calls c.in_ok-object.items.items c.in_ok-object.ensures.read
     c.in_err-record.field-0.0 c.in_err-record.ensures.fault c.in_err-record.ensures.none)
 
 pub returns-clause-performance : goal.returns-clause-performance
 returns-clause-performance c =
-    performs IsAny c.args.text.now c.args.n c.args.budget c.args.scripts.now c.args.schedule.now (tree_object_in c.in_ok-object.object) c.in_ok-object.calls c.in_ok-object.items.items c.in_ok-object.ensures.read
+    performs IsAny (texts_of c.args.texts) (tree_object_in c.in_ok-object.object) c.in_ok-object.calls c.in_ok-object.items.items c.in_ok-object.ensures.read
     (record_of c.in_ok-record.record) c.in_ok-record.ensures.shows c.in_ok-record.ensures.meant
 
 pub returns-clause-coded : goal.returns-clause-coded
 returns-clause-coded c =
-    of_code c.args.text.now c.args.n c.args.budget c.args.scripts.now c.args.schedule.now (tree_object_in c.in_ok-object.object).program c.in_ok-object.ensures.read.alone
+    of_code (texts_of c.args.texts) (tree_object_in c.in_ok-object.object).program c.in_ok-object.ensures.read.alone
     (record_of c.in_ok-record.record) (returns-clause-performance c)
 
 pub returns-clause-same : goal.returns-clause-same
 returns-clause-same c = λ other p.
-    text_of_code c.texts_agree.ensures c.args.text.now c.args.n c.args.budget c.args.scripts.now c.args.schedule.now (tree_object_in c.in_ok-object.object) c.in_ok-object.calls c.in_ok-object.items.items c.in_ok-object.ensures.read
+    text_of_code c.texts_agree.ensures (texts_of c.args.texts) (tree_object_in c.in_ok-object.object) c.in_ok-object.calls c.in_ok-object.items.items c.in_ok-object.ensures.read
     (record_of c.in_ok-record.record) c.in_ok-record.ensures.shows c.in_ok-record.ensures.meant c.in_ok-record.ensures.whole other p

@@ -1,5 +1,5 @@
 use Rattle.std.proofs.Common.{List, sym, ap, ◌∙◌, subst}
-use Rattle.std.specs.Prelude.{ℤ, option_map, take}
+use Rattle.std.specs.Prelude.{None, ℤ, option_map, take}
 use Rattle.ll_cell.specs.Cell.{block_of}
 use Rattle.ob_checked.specs.CheckedModule.{program_in}
 use Rattle.ob_code_law.specs.Compiled.{Fits}
@@ -47,6 +47,6 @@ returns-clause-meant c =
     let by_order = subst (λ (order : List CallId). ∥ IsLegal (IsEffectOf q) a.opening a.state.records.history order (take a.sizes.variables (block_of a.state.cell a.state.cell.root)) ∥₁) c.order.ensures.calls c.order.ensures.legal in
     let by_words = subst (λ (ws : List ℤ). ∥ IsLegal (IsEffectOf q) a.opening a.state.records.history a.state.records.order ws ∥₁) (sym words) by_order in
     let read = sym c.in_ok-state.ensures ∙ ap (option_map state_of) c.in-Some.is in
-    let r : Record = record { processes = c.args.processes; budget = c.budget-budget.result; history = a.state.records.history; order = a.state.records.order; schedule = a.state.records.schedule; state = state_of c.in-Some.state } in
+    let r : Record = record { processes = c.args.processes; budget = c.budget-budget.result; history = a.state.records.history; order = a.state.records.order; schedule = a.state.records.schedule; state = state_of c.in-Some.state; carried = None } in
     rw (c.into_parts-history.ensures.history, c.into_parts-history.ensures.order, c.into_parts-history.ensures.schedule)
     (meant_for c.orders_are_carried.ensures.by_name variables q a.opening r fit (legal_for variables q a.opening c.variables.result.now r fit read by_words))
