@@ -1,5 +1,6 @@
 pub mod Beginnings
+pub mod AtOnce
 pub mod Made
-pub mod FaultsShown
-pub mod PlainWords
+pub mod Shown
 pub mod FilesRead
+pub mod Begun

@@ -1,6 +1,8 @@
 pub mod Printed
+pub mod Reads
+pub mod Beginnings
+pub mod Refusals
+pub mod CommandTexts
 pub mod Explains
 pub mod Answers
 pub mod ShownNames
-pub mod Reads
-pub mod PlainAnswers

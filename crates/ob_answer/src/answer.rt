@@ -1,27 +1,21 @@
 //! From the words of the command line to what the program prints and its exit status.
 
-ghost use Rattle.std.specs.Prelude.{◌≡◌, ◌∷◌, [], None, Some, IfOk, map, codes, count_by, nat_lt};
+ghost use Rattle.std.specs.Prelude.{◌≡◌, IfOk, count_by, map, nat_lt};
 ghost use Rattle.std.specs.Str.{bytes_eq};
-ghost use Rattle.ob_answer.specs.Answers.{IsAnswer, IsObeyed, IsRunObeyed, files_of, files_of_run, input_name, range_of, reads_input_twice};
-ghost use Rattle.ob_answer.specs.PlainAnswers.{AreBudgetCallsDrawn, AreCallsDrawn, AreRecordCallsDrawn, AreTrapsShown, IsBudgetNumbersAnswered};
-ghost use Rattle.ob_answer.specs.PlainAnswers.{IsBudgetRunAnswered, IsBudgetWorkersAnswered, IsCallsAnswered, IsModuleAnswered, IsNumbersAnswered};
-ghost use Rattle.ob_answer.specs.PlainAnswers.{IsPairAnswered, IsRecordShown, IsRunAnswered, IsWorkersAnswered};
-ghost use Rattle.ob_command.specs.CommandLine.{Bound, Check, Draw, DrawRecord, Explain, ExplainRun, ExplainTraps, Listing, Run, RunSteps, RunTree};
-ghost use Rattle.ob_command.specs.CommandLine.{Seq, Serve, Verify, request};
-ghost use Rattle.ob_command.specs.Commands.{request_of, run_request_of};
+ghost use Rattle.ob_answer.specs.Answers.{IsAnswer, IsObeyed, files_of, input_name, range_of, reads_input_twice};
+ghost use Rattle.ob_answer.specs.Reads.{files_of_calls, files_of_run};
+ghost use Rattle.ob_command.specs.CommandLine.{Bound, Check, DrawRecord, Listing, Verify, request};
+ghost use Rattle.ob_command.specs.Commands.{calls_request_of, request_of, run_request_of};
 
 use crate::answered::Answer;
-use crate::explaining::obey_explain;
-use crate::explaining_runs::{obey_explain_record, obey_explain_run};
-use crate::explaining_traps::obey_explain_traps;
+use crate::explaining::obey_explain_module;
+use crate::explaining_runs::obey_explain_record;
 use crate::files::{FileFault, Files};
-use crate::making::{
-    answer_bound, answer_check, answer_draw_record, answer_list, answer_run, answer_seq,
-    answer_serve, answer_verify,
-};
-use crate::product::Product;
-use crate::reading::{MODULE_BYTES, ThreeFiles, TwoFiles, read_three, read_two, unreadable};
-use ob_command::command::{CallNumbers, Command, RunCommand, Stop, read_command};
+use crate::making::{answer_bound, answer_check, answer_draw_record, answer_list, answer_verify};
+use crate::obeying::{obey_calls, obey_run};
+use crate::product::{CallsProduct, Product};
+use crate::reading::{MODULE_BYTES, TwoFiles, read_two, unreadable};
+use ob_command::command::{CallNumbers, CallsCommand, Command, RunCommand, Stop, read_command};
 use ob_interface::NoMemory;
 use ob_text_picture_chart::CallRange;
 use std::alloc::Global;
@@ -29,7 +23,7 @@ use std::sync::Wait;
 use std::thread::Threads;
 
 /// The program's name and version, and the kit that it is built with.
-const VERSION: &str = "obl0 0.1.0\nrattle-kit-13b logic dac8208d650f15bf\n";
+const VERSION: &str = "obl0 0.1.0\nrattle-kit-13f logic dac8208d650f15bf\n";
 
 /// The name of standard input.
 pub const INPUT_NAME: &str = "-";
@@ -38,7 +32,8 @@ pub const INPUT_NAME: &str = "-";
 const INPUT_TWICE: &str = "error: `-`, which is standard input, stands for one file alone\n";
 
 /// The answer to the words behind the program's name. Files are read in the order in which the words
-/// name them, before anything is made of them. Only `serve` starts threads and waits.
+/// name them, that of the record with whose values an object begins behind the others, before anything is made of them. Only `serve`
+/// starts threads and waits.
 pub fn answer<R: Threads + Wait + Sync + AllocGlobal, F: Files>(
     rt: &R,
     words: &[&str],
@@ -46,48 +41,6 @@ pub fn answer<R: Threads + Wait + Sync + AllocGlobal, F: Files>(
 ) -> Result<Answer, NoMemory>
     // To any words: what they ask for is answered.
     ensures asked { IfOk result (λ a. IsAnswer F.reads (request (map (λ word. word.now) words.now)) files.old a files.new) }
-
-    // To a command's name and names of files: the outcome of these files. A call has 100,000 turns where nothing is said of them.
-    ensures check { IsModuleAnswered F.reads (map (λ word. word.now) words.now) files.old result files.new (codes "check") Check }
-    ensures list { IsModuleAnswered F.reads (map (λ word. word.now) words.now) files.old result files.new (codes "list") Listing }
-    ensures seq { IsPairAnswered F.reads (map (λ word. word.now) words.now) files.old result files.new (codes "seq") (λ m s. Seq m s 100000) }
-    ensures seq_budget { IsCallsAnswered F.reads (map (λ word. word.now) words.now) files.old result files.new (codes "seq") [] Seq }
-    ensures run { IsRunAnswered F.reads (map (λ word. word.now) words.now) files.old result files.new (codes "run") [] Run }
-    ensures run_budget { IsBudgetRunAnswered F.reads (map (λ word. word.now) words.now) files.old result files.new (codes "run") [] Run }
-    ensures run_tree { IsRunAnswered F.reads (map (λ word. word.now) words.now) files.old result files.new (codes "run") (codes "--tree" ∷ []) RunTree }
-    ensures run_tree_budget { IsBudgetRunAnswered F.reads (map (λ word. word.now) words.now) files.old result files.new (codes "run") (codes "--tree" ∷ []) RunTree }
-    ensures run_steps { IsRunAnswered F.reads (map (λ word. word.now) words.now) files.old result files.new (codes "run") (codes "--steps" ∷ []) RunSteps }
-    ensures run_steps_budget { IsBudgetRunAnswered F.reads (map (λ word. word.now) words.now) files.old result files.new (codes "run") (codes "--steps" ∷ []) RunSteps }
-    ensures serve { IsWorkersAnswered F.reads (map (λ word. word.now) words.now) files.old result files.new (codes "serve") Serve }
-    ensures serve_budget { IsBudgetWorkersAnswered F.reads (map (λ word. word.now) words.now) files.old result files.new (codes "serve") Serve }
-    ensures draw { IsRunAnswered F.reads (map (λ word. word.now) words.now) files.old result files.new (codes "draw") [] (λ run. Draw run None) }
-    ensures draw_budget { IsBudgetRunAnswered F.reads (map (λ word. word.now) words.now) files.old result files.new (codes "draw") [] (λ run. Draw run None) }
-    ensures draw_calls { AreCallsDrawn F.reads (map (λ word. word.now) words.now) files.old result files.new }
-    ensures draw_budget_calls { AreBudgetCallsDrawn F.reads (map (λ word. word.now) words.now) files.old result files.new }
-    ensures draw_record { IsPairAnswered F.reads (map (λ word. word.now) words.now) files.old result files.new (codes "draw") (λ m r. DrawRecord m r None) }
-    ensures draw_record_calls { AreRecordCallsDrawn F.reads (map (λ word. word.now) words.now) files.old result files.new }
-    ensures verify { IsPairAnswered F.reads (map (λ word. word.now) words.now) files.old result files.new (codes "verify") Verify }
-    ensures explain { IsModuleAnswered F.reads (map (λ word. word.now) words.now) files.old result files.new (codes "explain") (λ m. Explain m None 100000) }
-    ensures explain_calls { IsPairAnswered F.reads (map (λ word. word.now) words.now) files.old result files.new (codes "explain") (λ m s. Explain m (Some s) 100000) }
-    ensures explain_budget { IsCallsAnswered F.reads (map (λ word. word.now) words.now) files.old result files.new (codes "explain") [] (λ m s k. Explain m (Some s) k) }
-    ensures explain_traps { AreTrapsShown F.reads (map (λ word. word.now) words.now) files.old result files.new }
-    ensures explain_traps_budget { IsCallsAnswered F.reads (map (λ word. word.now) words.now) files.old result files.new (codes "explain") (codes "--traps" ∷ []) ExplainTraps }
-    ensures explain_run { IsRunAnswered F.reads (map (λ word. word.now) words.now) files.old result files.new (codes "explain") [] ExplainRun }
-    ensures explain_run_budget { IsBudgetRunAnswered F.reads (map (λ word. word.now) words.now) files.old result files.new (codes "explain") [] ExplainRun }
-    ensures explain_record { IsRecordShown F.reads (map (λ word. word.now) words.now) files.old result files.new }
-    ensures bound { IsNumbersAnswered F.reads (map (λ word. word.now) words.now) files.old result files.new (codes "bound") Bound }
-    ensures bound_budget { IsBudgetNumbersAnswered F.reads (map (λ word. word.now) words.now) files.old result files.new (codes "bound") Bound }
-{
-    obey_words(rt, words, files)
-}
-
-/// The answer to what words ask for.
-fn obey_words<R: Threads + Wait + Sync + AllocGlobal, F: Files>(
-    rt: &R,
-    words: &[&str],
-    files: &mut F,
-) -> Result<Answer, NoMemory>
-    ensures { IfOk result (λ a. IsAnswer F.reads (request (map (λ word. word.now) words.now)) files.old a files.new) }
 {
     let alloc = rt.alloc();
     match read_command(alloc, words) {
@@ -122,16 +75,8 @@ fn reads_input_twice(command: Command<'_>) -> bool
         Command::Check { .. } => false,
         Command::List { .. } => false,
         Command::Bound { .. } => false,
-        Command::Seq {
-            module_name,
-            script_name,
-            ..
-        } => are_two_inputs(&[module_name, script_name]),
-        Command::Serve {
-            module_name,
-            script_name,
-            ..
-        } => are_two_inputs(&[module_name, script_name]),
+        Command::Seq(calls) => are_inputs_of_calls(calls),
+        Command::Serve(calls) => are_inputs_of_calls(calls),
         Command::Run(run) => are_inputs_of_run(run),
         Command::RunTree(run) => are_inputs_of_run(run),
         Command::RunSteps(run) => are_inputs_of_run(run),
@@ -145,19 +90,9 @@ fn reads_input_twice(command: Command<'_>) -> bool
             module_name,
             record_name,
         } => are_two_inputs(&[module_name, record_name]),
-        Command::Explain {
-            module_name,
-            script_name,
-            ..
-        } => match script_name {
-            Some(script_name) => are_two_inputs(&[module_name, script_name]),
-            None => false,
-        },
-        Command::ExplainTraps {
-            module_name,
-            script_name,
-            ..
-        } => are_two_inputs(&[module_name, script_name]),
+        Command::Explain { .. } => false,
+        Command::ExplainCalls(calls) => are_inputs_of_calls(calls),
+        Command::ExplainTraps(calls) => are_inputs_of_calls(calls),
         Command::ExplainRun(run) => are_inputs_of_run(run),
         Command::ExplainRecord {
             module_name,
@@ -166,11 +101,31 @@ fn reads_input_twice(command: Command<'_>) -> bool
     }
 }
 
+/// Whether calls name standard input for two files.
+fn are_inputs_of_calls(calls: CallsCommand<'_>) -> bool
+    ensures { result ≡ reads_input_twice (files_of_calls (calls_request_of calls.entry)) }
+{
+    match calls.from_name {
+        Some(from_name) => are_two_inputs(&[calls.module_name, calls.script_name, from_name]),
+        None => are_two_inputs(&[calls.module_name, calls.script_name]),
+    }
+}
+
 /// Whether a run names standard input for two files.
 fn are_inputs_of_run(run: RunCommand<'_>) -> bool
     ensures { result ≡ reads_input_twice (files_of_run (run_request_of run.entry)) }
 {
-    are_two_inputs(&[run.module_name, run.script_name, run.schedule_name])
+    let calls = run.calls;
+    let schedule_name = run.schedule_name;
+    match calls.from_name {
+        Some(from_name) => are_two_inputs(&[
+            calls.module_name,
+            calls.script_name,
+            schedule_name,
+            from_name,
+        ]),
+        None => are_two_inputs(&[calls.module_name, calls.script_name, schedule_name]),
+    }
 }
 
 /// Whether more than one of these names is that of standard input.
@@ -192,30 +147,13 @@ fn obey<R: Threads + Wait + Sync, F: Files>(
     match command {
         Command::Check { module_name } => obey_check(alloc, module_name, files),
         Command::List { module_name } => obey_list(alloc, module_name, files),
-        Command::Seq {
-            module_name,
-            script_name,
-            budget,
-        } => obey_seq(alloc, module_name, script_name, budget, files),
-        Command::Run(run) => obey_run(alloc, run, Product::Record, files),
-        Command::RunTree(run) => obey_run(alloc, run, Product::TreeRecord, files),
-        Command::RunSteps(run) => obey_run(alloc, run, Product::RecordWithSteps, files),
-        Command::Serve {
-            module_name,
-            script_name,
-            processes,
-            budget,
-        } => obey_serve(
-            rt,
-            alloc,
-            module_name,
-            script_name,
-            processes,
-            budget,
-            files,
-        ),
+        Command::Seq(calls) => obey_calls(rt, alloc, CallsProduct::Replies, calls, files),
+        Command::Run(run) => obey_run(alloc, Product::Record, run, files),
+        Command::RunTree(run) => obey_run(alloc, Product::TreeRecord, run, files),
+        Command::RunSteps(run) => obey_run(alloc, Product::RecordWithSteps, run, files),
+        Command::Serve(calls) => obey_calls(rt, alloc, CallsProduct::Workers, calls, files),
         Command::Draw { run, calls } => {
-            obey_run(alloc, run, Product::Picture(range_of(calls)), files)
+            obey_run(alloc, Product::Picture(range_of(calls)), run, files)
         }
         Command::DrawRecord {
             module_name,
@@ -226,17 +164,12 @@ fn obey<R: Threads + Wait + Sync, F: Files>(
             module_name,
             record_name,
         } => obey_verify(alloc, module_name, record_name, files),
-        Command::Explain {
-            module_name,
-            script_name,
-            budget,
-        } => obey_explain(alloc, module_name, script_name, budget, files),
-        Command::ExplainTraps {
-            module_name,
-            script_name,
-            budget,
-        } => obey_explain_traps(alloc, module_name, script_name, budget, files),
-        Command::ExplainRun(run) => obey_explain_run(alloc, run, files),
+        Command::Explain { module_name, .. } => obey_explain_module(alloc, module_name, files),
+        Command::ExplainCalls(calls) => {
+            obey_calls(rt, alloc, CallsProduct::Explanation, calls, files)
+        }
+        Command::ExplainTraps(calls) => obey_calls(rt, alloc, CallsProduct::Traps, calls, files),
+        Command::ExplainRun(run) => obey_run(alloc, Product::Explanation, run, files),
         Command::ExplainRecord {
             module_name,
             record_name,
@@ -285,82 +218,6 @@ fn obey_bound<F: Files>(
         Ok(module) => answer_bound(alloc, module.as_slice(), processes, budget),
         Err(FileFault::Unreadable) => Ok(unreadable(alloc, module_name)?),
         Err(FileFault::NoMemory) => Err(NoMemory),
-    }
-}
-
-/// The answer to `seq`, of the names of its files and the budget of each call.
-fn obey_seq<F: Files>(
-    alloc: Global,
-    module_name: &str,
-    script_name: &str,
-    budget: u32,
-    files: &mut F,
-) -> Result<Answer, NoMemory>
-    ensures { IfOk result (λ a. IsObeyed F.reads (Seq module_name.now script_name.now budget) files.old a files.new) }
-{
-    match read_two(alloc, module_name, script_name, files)? {
-        TwoFiles::Read { module, second } => {
-            answer_seq(alloc, module.as_slice(), second.as_slice(), budget)
-        }
-        TwoFiles::Unread(answer) => Ok(answer),
-    }
-}
-
-/// The answer to `serve`, of the names of its files, the number of its workers and the budget of each call.
-fn obey_serve<R: Threads + Wait + Sync, F: Files>(
-    rt: &R,
-    alloc: Global,
-    module_name: &str,
-    script_name: &str,
-    processes: usize,
-    budget: u32,
-    files: &mut F,
-) -> Result<Answer, NoMemory>
-    ensures { IfOk result (λ a. IsObeyed F.reads (Serve module_name.now script_name.now processes budget) files.old a files.new) }
-{
-    match read_two(alloc, module_name, script_name, files)? {
-        TwoFiles::Read { module, second } => answer_serve(
-            rt,
-            alloc,
-            module.as_slice(),
-            processes,
-            budget,
-            second.as_slice(),
-        ),
-        TwoFiles::Unread(answer) => Ok(answer),
-    }
-}
-
-/// The answer to `run` and to `draw`.
-fn obey_run<F: Files>(
-    alloc: Global,
-    run: RunCommand<'_>,
-    product: Product,
-    files: &mut F,
-) -> Result<Answer, NoMemory>
-    ensures { IfOk result (λ a. IsRunObeyed F.reads product (run_request_of run.entry) files.old a files.new) }
-{
-    match read_three(
-        alloc,
-        run.module_name,
-        run.script_name,
-        run.schedule_name,
-        files,
-    )? {
-        ThreeFiles::Read {
-            module,
-            second,
-            third,
-        } => answer_run(
-            alloc,
-            product,
-            module.as_slice(),
-            run.processes,
-            run.budget,
-            second.as_slice(),
-            third.as_slice(),
-        ),
-        ThreeFiles::Unread(answer) => Ok(answer),
     }
 }
 

@@ -1,78 +1,41 @@
-//! The answers of `explain`. Of a module's text they have the beginning: a module of more bytes is too long.
+//! The answers of `explain` on a module, and on calls. Of a module's text they have the beginning: a module of more bytes is too long.
 
-ghost use Rattle.std.specs.Prelude.{◌≡◌, ℕ, None, Some, false, IfOk, option_map, string_bytes};
+ghost use Rattle.std.specs.Prelude.{◌≡◌, ℕ, false, IfOk, option_map, string_bytes};
 ghost use Rattle.ob_answer.specs.Answers.{IsObeyed};
-ghost use Rattle.ob_answer.specs.Explains.{IsCallsExplained, IsCallsFaultShown, IsModuleExplained, IsModuleFaultShown};
+ghost use Rattle.ob_answer.specs.Explains.{IsCallsExplained, IsCallsFaultShown, IsCallsTold, IsModuleExplained, IsModuleFaultShown};
+ghost use Rattle.ob_answer.specs.Explains.{carry_fault_in, carry_fault_of_calls};
 ghost use Rattle.ob_answer.specs.Reads.{OfWhole};
-ghost use Rattle.ob_answer.specs.ShownNames.{shown};
+ghost use Rattle.ob_answer.specs.CommandTexts.{calls_of_text, calls_texts_of};
 ghost use Rattle.ob_command.specs.CommandLine.{Explain};
 ghost use Rattle.ob_object_compile.specs.Compilation as Compiles;
 ghost use Rattle.ob_object_sequence.specs.SequentialRun.{is_want_of_memory};
 
 use crate::answered::Answer;
 use crate::files::{FileFault, Files};
-use crate::making::refused;
-use crate::reading::{MODULE_BYTES, TwoFiles, read_two, unreadable};
-use crate::shown_name::push_name;
+use crate::reading::{MODULE_BYTES, unreadable};
+use crate::showing::{carry_shown, shown_name, shown_or};
+use crate::texts::Calls;
+use ob_carry::carrying::CarryFault;
 use ob_explained::{calls_explanation, module_explanation};
 use ob_fault_lines::compile_faults::compile_fault_line;
 use ob_fault_lines::sequential_faults::seq_fault_line;
 use ob_interface::NoMemory;
-use ob_object_compile::CompileFault;
-use ob_object_sequence::{SeqTextFault, check_text, seq_text};
+use ob_object_compile::{Beginning, CompileFault};
+use ob_object_sequence::{SeqTextFault, check_text, seq_asked};
 use std::alloc::{AllocError, Global};
 
-/// The answer to `explain`, of the names of its files and the budget of each call. Of a module by itself no call is made.
-pub(crate) fn obey_explain<F: Files>(
-    alloc: Global,
-    module_name: &str,
-    script_name: Option<&str>,
-    budget: u32,
-    files: &mut F,
-) -> Result<Answer, NoMemory>
-    ensures { IfOk result (λ a. IsObeyed F.reads (Explain module_name.now (option_map (λ name. name.now) script_name.entry) budget) files.old a files.new) }
-{
-    match script_name {
-        None => obey_explain_module(alloc, module_name, files),
-        Some(script_name) => obey_explain_calls(alloc, module_name, script_name, budget, files),
-    }
-}
-
-/// The answer to `explain`, of the name of a module.
-fn obey_explain_module<F: Files>(
+/// The answer to `explain`, of the name of a module, of which no call is made.
+pub(crate) fn obey_explain_module<F: Files>(
     alloc: Global,
     module_name: &str,
     files: &mut F,
 ) -> Result<Answer, NoMemory>
-    ensures { IfOk result (λ a. (budget : ℕ) → IsObeyed F.reads (Explain module_name.now None budget) files.old a files.new) }
+    ensures { IfOk result (λ a. (budget : ℕ) → IsObeyed F.reads (Explain module_name.now budget) files.old a files.new) }
 {
     match files.read_beginning(module_name, MODULE_BYTES) {
         Ok(module) => explain_module(alloc, module_name, module.as_slice()),
         Err(FileFault::Unreadable) => Ok(unreadable(alloc, module_name)?),
         Err(FileFault::NoMemory) => Err(NoMemory),
-    }
-}
-
-/// The answer to `explain`, of the names of a module and a script and the budget of each call.
-fn obey_explain_calls<F: Files>(
-    alloc: Global,
-    module_name: &str,
-    script_name: &str,
-    budget: u32,
-    files: &mut F,
-) -> Result<Answer, NoMemory>
-    ensures { IfOk result (λ a. IsObeyed F.reads (Explain module_name.now (Some script_name.now) budget) files.old a files.new) }
-{
-    match read_two(alloc, module_name, script_name, files)? {
-        TwoFiles::Read { module, second } => explain_calls(
-            alloc,
-            module_name,
-            module.as_slice(),
-            script_name,
-            second.as_slice(),
-            budget,
-        ),
-        TwoFiles::Unread(answer) => Ok(answer),
     }
 }
 
@@ -100,76 +63,79 @@ fn module_wrong(
         return Err(NoMemory);
     }
     let shown = shown_name(alloc, name)?;
-    match module_explanation(alloc, &shown, module, fault)? {
-        Some(text) => Ok(Answer::refused(alloc, 1, text)),
-        None => Ok(refused(alloc, compile_fault_line(alloc, fault)?)?),
-    }
+    let told = module_explanation(alloc, &shown, module, fault)?;
+    let line = compile_fault_line(alloc, Beginning::Body, fault)?;
+    Ok(shown_or(alloc, told, line)?)
 }
 
-/// The answer to the name and the beginning of a module's text, and to the name and the text of a script, whose calls have the
-/// budget of turns each.
-fn explain_calls(
-    alloc: Global,
-    module_name: &str,
-    module: &[u8],
-    script_name: &str,
-    script: &[u8],
-    budget: u32,
-) -> Result<Answer, NoMemory>
-    ensures { IfOk result (OfWhole «module».now (λ whole. IsCallsExplained module_name.now whole script_name.now script.now budget)) }
+/// The answer to calls.
+pub(crate) fn explain_calls(alloc: Global, calls: Calls<'_>) -> Result<Answer, NoMemory>
+    ensures { IfOk result (OfWhole calls.entry.asked.text.now (λ whole. IsCallsExplained (calls_of_text (calls_texts_of calls.entry) whole))) }
 {
-    let turns = u64::from(budget);
-    match seq_text(alloc, module, script, turns) {
+    match seq_asked(alloc, calls.asked, calls.script) {
         Ok(_lines) => Ok(Answer::printed(alloc, String::from_str(alloc, "ok\n")?)),
-        Err(fault) => calls_wrong(
-            alloc,
-            module_name,
-            module,
-            script_name,
-            script,
-            turns,
-            fault,
-        ),
+        Err(fault) => calls_wrong(alloc, calls, fault),
     }
 }
 
-/// The answer to a fault of a module and a script, whose calls have the budget of turns each.
+/// The answer to a fault of calls.
 pub(crate) fn calls_wrong(
     alloc: Global,
-    module_name: &str,
-    module: &[u8],
-    script_name: &str,
-    script: &[u8],
-    budget: u64,
+    calls: Calls<'_>,
     fault: SeqTextFault,
 ) -> Result<Answer, NoMemory>
-    ensures fault { IfOk result (λ a. IsCallsFaultShown module_name.now «module».now script_name.now script.now budget fault a) }
+    ensures fault { IfOk result (λ a. IsCallsFaultShown (calls_texts_of calls.entry) fault a) }
     ensures memory { IfOk result (λ _. is_want_of_memory fault ≡ false) }
 {
     if let SeqTextFault::NoMemory = fault {
         return Err(NoMemory);
     }
-    let module_shown = shown_name(alloc, module_name)?;
-    let script_shown = shown_name(alloc, script_name)?;
-    match calls_explanation(
+    let told = calls_told(alloc, calls, fault)?;
+    let line = seq_fault_line(alloc, calls.asked.beginning, fault)?;
+    Ok(shown_or(alloc, told, line)?)
+}
+
+/// What is shown of a fault of calls.
+fn calls_told(
+    alloc: Global,
+    calls: Calls<'_>,
+    fault: SeqTextFault,
+) -> Result<Option<String>, AllocError>
+    ensures { IfOk result (λ told. IsCallsTold (calls_texts_of calls.entry) fault (option_map string_bytes told)) }
+{
+    let command = calls.command;
+    if let Some(fault) = carry_fault_of_calls(fault) {
+        return carry_shown(alloc, command.from_name, calls.record_text, fault);
+    }
+    let module_shown = shown_name(alloc, command.module_name)?;
+    let script_shown = shown_name(alloc, command.script_name)?;
+    calls_explanation(
         alloc,
         &module_shown,
-        module,
+        calls.asked.text,
         &script_shown,
-        script,
-        budget,
+        calls.script,
+        calls.asked.budget,
         fault,
-    )? {
-        Some(text) => Ok(Answer::refused(alloc, 1, text)),
-        None => Ok(refused(alloc, seq_fault_line(alloc, fault)?)?),
+    )
+}
+
+/// A fault of calls that is one of values that are carried over.
+fn carry_fault_of_calls(fault: SeqTextFault) -> Option<CarryFault>
+    ensures { result ≡ carry_fault_of_calls fault }
+{
+    match fault {
+        SeqTextFault::Compile(fault) => carry_fault_in(fault),
+        _ => None,
     }
 }
 
-/// A file's name as it is shown.
-pub(crate) fn shown_name(alloc: Global, name: &str) -> Result<String, AllocError>
-    ensures { IfOk result (λ text. string_bytes text ≡ shown name.now) }
+/// The same of a fault of an object.
+pub(crate) fn carry_fault_in(fault: CompileFault) -> Option<CarryFault>
+    ensures { result ≡ carry_fault_in fault }
 {
-    let mut text = String::new(alloc);
-    push_name(&mut text, name)?;
-    Ok(text)
+    match fault {
+        CompileFault::Carry(fault) => Some(fault),
+        _ => None,
+    }
 }

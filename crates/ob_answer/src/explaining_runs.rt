@@ -1,109 +1,93 @@
 //! The answers of `explain` on runs and records. Of a module's text they have the beginning: a module of more bytes is too long.
 
-ghost use Rattle.std.specs.Prelude.{◌≡◌, ◌≢◌, false, IfOk};
+ghost use Rattle.std.specs.Prelude.{◌≡◌, ◌≢◌, false, IfOk, option_map, string_bytes};
 ghost use Rattle.ob_answer.specs.Answers.{IsObeyed};
-ghost use Rattle.ob_answer.specs.Explains.{IsRecordExplained, IsRecordFaultShown, IsRunExplained, IsRunFaultShown};
+ghost use Rattle.ob_answer.specs.Explains.{IsRecordExplained, IsRecordFaultShown, IsRunExplained, IsRunFaultShown, IsRunTold, carry_fault_of_run};
 ghost use Rattle.ob_answer.specs.Reads.{OfWhole};
-ghost use Rattle.ob_command.specs.CommandLine.{ExplainRecord, ExplainRun};
-ghost use Rattle.ob_command.specs.Commands.{run_request_of};
+ghost use Rattle.ob_answer.specs.CommandTexts.{run_of_text, run_texts_of};
+ghost use Rattle.ob_command.specs.CommandLine.{ExplainRecord};
 ghost use Rattle.ob_object_perform.specs.Performance as Performs;
 
 use crate::answered::Answer;
-use crate::explaining::shown_name;
+use crate::explaining::carry_fault_in;
 use crate::files::Files;
-use crate::making::refused;
-use crate::reading::{ThreeFiles, TwoFiles, read_three, read_two};
-use ob_command::command::RunCommand;
+use crate::reading::{TwoFiles, read_two};
+use crate::showing::{carry_shown, shown_name, shown_or};
+use crate::texts::Run;
+use ob_carry::carrying::CarryFault;
 use ob_explained_records::record_explanation;
 use ob_explained_runs::{Source, run_explanation};
 use ob_fault_lines::run_faults::run_fault_line;
 use ob_fault_lines::verify_faults::verify_fault_line;
 use ob_interface::NoMemory;
-use ob_object_perform::{PerformFault, perform};
+use ob_object_perform::{PerformFault, performed};
 use ob_object_verify::{VerifyFault, verify_text};
-use std::alloc::Global;
+use std::alloc::{AllocError, Global};
 
-/// The answer to `explain` on a run.
-pub(crate) fn obey_explain_run<F: Files>(
-    alloc: Global,
-    run: RunCommand<'_>,
-    files: &mut F,
-) -> Result<Answer, NoMemory>
-    ensures { IfOk result (λ a. IsObeyed F.reads (ExplainRun (run_request_of run.entry)) files.old a files.new) }
+/// The answer to a run.
+pub(crate) fn explain_run(alloc: Global, run: Run<'_>) -> Result<Answer, NoMemory>
+    ensures { IfOk result (OfWhole run.entry.texts.asked.text.now (λ whole. IsRunExplained (run_of_text (run_texts_of run.entry) whole))) }
 {
-    match read_three(
-        alloc,
-        run.module_name,
-        run.script_name,
-        run.schedule_name,
-        files,
-    )? {
-        ThreeFiles::Read {
-            module,
-            second,
-            third,
-        } => explain_run(
-            alloc,
-            run,
-            module.as_slice(),
-            second.as_slice(),
-            third.as_slice(),
-        ),
-        ThreeFiles::Unread(answer) => Ok(answer),
-    }
-}
-
-/// The answer to the beginning of a module's text, and to the texts of a script and a schedule.
-fn explain_run(
-    alloc: Global,
-    run: RunCommand<'_>,
-    module: &[u8],
-    script: &[u8],
-    schedule: &[u8],
-) -> Result<Answer, NoMemory>
-    ensures { IfOk result (OfWhole «module».now (λ whole. IsRunExplained (run_request_of run.entry) whole script.now schedule.now)) }
-{
-    let turns = u64::from(run.budget);
-    match perform(alloc, module, run.processes, turns, script, schedule) {
-        Ok(_record) => Ok(Answer::printed(alloc, String::from_str(alloc, "ok\n")?)),
-        Err(fault) => run_wrong(alloc, run, module, script, schedule, fault),
+    match performed(alloc, run.texts) {
+        Ok((_checked, _record)) => Ok(Answer::printed(alloc, String::from_str(alloc, "ok\n")?)),
+        Err(fault) => run_wrong(alloc, run, fault),
     }
 }
 
 /// The answer to a fault of a run.
-fn run_wrong(
-    alloc: Global,
-    run: RunCommand<'_>,
-    module: &[u8],
-    script: &[u8],
-    schedule: &[u8],
-    fault: PerformFault,
-) -> Result<Answer, NoMemory>
-    ensures fault { IfOk result (λ a. IsRunFaultShown (run_request_of run.entry) «module».now script.now schedule.now fault a) }
+fn run_wrong(alloc: Global, run: Run<'_>, fault: PerformFault) -> Result<Answer, NoMemory>
+    ensures fault { IfOk result (λ a. IsRunFaultShown (run_texts_of run.entry) fault a) }
     ensures memory { IfOk result (λ _. Performs.is_want_of_memory fault ≡ false) }
 {
     if let PerformFault::NoMemory = fault {
         return Err(NoMemory);
     }
-    let module_shown = shown_name(alloc, run.module_name)?;
-    let script_shown = shown_name(alloc, run.script_name)?;
-    let schedule_shown = shown_name(alloc, run.schedule_name)?;
+    let told = run_told(alloc, run, fault)?;
+    let line = run_fault_line(alloc, run.texts.asked.beginning, fault)?;
+    Ok(shown_or(alloc, told, line)?)
+}
+
+/// What is shown of a fault of a run.
+fn run_told(alloc: Global, run: Run<'_>, fault: PerformFault) -> Result<Option<String>, AllocError>
+    ensures { IfOk result (λ told. IsRunTold (run_texts_of run.entry) fault (option_map string_bytes told)) }
+{
+    if let Some(fault) = carry_fault_of_run(fault) {
+        return carry_shown(alloc, run.command.calls.from_name, run.record_text, fault);
+    }
+    let module_shown = shown_name(alloc, run.command.calls.module_name)?;
+    let script_shown = shown_name(alloc, run.command.calls.script_name)?;
+    let schedule_shown = shown_name(alloc, run.command.schedule_name)?;
+    let asked = run.texts.asked;
     let object = Source {
         name: &module_shown,
-        text: module,
+        text: asked.text,
     };
     let scripts = Source {
         name: &script_shown,
-        text: script,
+        text: run.texts.scripts,
     };
     let items = Source {
         name: &schedule_shown,
-        text: schedule,
+        text: run.texts.schedule,
     };
-    let turns = u64::from(run.budget);
-    match run_explanation(alloc, object, scripts, items, run.processes, turns, fault)? {
-        Some(text) => Ok(Answer::refused(alloc, 1, text)),
-        None => Ok(refused(alloc, run_fault_line(alloc, fault)?)?),
+    run_explanation(
+        alloc,
+        object,
+        scripts,
+        items,
+        asked.processes,
+        asked.budget,
+        fault,
+    )
+}
+
+/// A fault of a run that is one of values that are carried over.
+fn carry_fault_of_run(fault: PerformFault) -> Option<CarryFault>
+    ensures { result ≡ carry_fault_of_run fault }
+{
+    match fault {
+        PerformFault::Compile(fault) => carry_fault_in(fault),
+        _ => None,
     }
 }
 
@@ -169,8 +153,7 @@ fn record_wrong(
         name: &record_shown,
         text: record,
     };
-    match record_explanation(alloc, object, file, fault)? {
-        Some(text) => Ok(Answer::refused(alloc, 1, text)),
-        None => Ok(refused(alloc, verify_fault_line(alloc, fault)?)?),
-    }
+    let told = record_explanation(alloc, object, file, fault)?;
+    let line = verify_fault_line(alloc, fault)?;
+    Ok(shown_or(alloc, told, line)?)
 }

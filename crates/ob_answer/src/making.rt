@@ -1,9 +1,10 @@
 //! Answers made of the bytes of files. Of a module's text they have the beginning: a module of more bytes is too long.
 
-ghost use Rattle.std.specs.Prelude.{◌≡◌, ◌≢◌, ◌<◌, ◌++◌, false, Err, IfOk, codes, string_bytes};
+ghost use Rattle.std.specs.Prelude.{◌≡◌, ◌≢◌, ◌++◌, false, IfOk, codes, string_bytes};
 ghost use Rattle.ob_answer.specs.Answers.{IsBoundAnswer, IsCheckAnswer, IsListAnswer, IsPictureAnswer, IsRecordAnswer, IsRecordPictureAnswer};
-ghost use Rattle.ob_answer.specs.Answers.{IsRunAnswer, IsSeqAnswer, IsServeAnswer, IsStepsAnswer, IsTreeRecordAnswer, IsVerifyAnswer};
+ghost use Rattle.ob_answer.specs.Answers.{IsSeqAnswer, IsServeAnswer, IsStepsAnswer, IsTreeRecordAnswer, IsVerifyAnswer};
 ghost use Rattle.ob_answer.specs.Reads.{OfWhole};
+ghost use Rattle.ob_answer.specs.CommandTexts.{of_text, texts_of_text};
 ghost use Rattle.ob_answer.specs.Printed.{IsRefused};
 ghost use Rattle.ob_fault_lines.specs.CompileFaultLines.{compile_line};
 ghost use Rattle.ob_fault_lines.specs.DrawFaultLines.{draw_fault_line, draw_record_fault_line};
@@ -11,12 +12,14 @@ ghost use Rattle.ob_fault_lines.specs.RunFaultLines.{run_fault_line};
 ghost use Rattle.ob_fault_lines.specs.SequentialFaultLines.{seq_fault_line};
 ghost use Rattle.ob_fault_lines.specs.ServeFaultLines.{serve_fault_line};
 ghost use Rattle.ob_fault_lines.specs.VerifyFaultLines.{verify_fault_line};
+ghost use Rattle.ob_object_compile.specs.Asked.{ByBody};
 ghost use Rattle.ob_object_compile.specs.Compilation as Compiles;
+ghost use Rattle.ob_object_compile.specs.View.{asked_of, beginning_of};
 ghost use Rattle.ob_object_perform.specs.Performance as Performs;
+ghost use Rattle.ob_object_perform.specs.Texts.{texts_of};
 ghost use Rattle.ob_object_sequence.specs.SequentialRun.{is_want_of_memory};
 
 use crate::answered::Answer;
-use crate::product::Product;
 use ob_desk_texts::{ServeTextFault, serve_text};
 use ob_fault_lines::compile_faults::compile_fault_line;
 use ob_fault_lines::draw_faults::{draw_fault_line, draw_record_fault_line};
@@ -26,10 +29,10 @@ use ob_fault_lines::serve_faults::serve_fault_line;
 use ob_fault_lines::verify_faults::verify_fault_line;
 use ob_interface::NoMemory;
 use ob_object_bound::bound_text;
-use ob_object_compile::{CompileFault, list_text};
+use ob_object_compile::{Asked, Beginning, CompileFault, list_text};
 use ob_object_draw::{DrawRecordFault, draw_record_text};
-use ob_object_perform::{DrawFault, PerformFault, draw_text, run_text};
-use ob_object_sequence::{SeqTextFault, check_text, seq_text};
+use ob_object_perform::{DrawFault, PerformFault, Texts, draw_text, run_text};
+use ob_object_sequence::{SeqTextFault, check_text, seq_asked};
 use ob_object_spent::run_text_with_steps;
 use ob_object_tree::run_tree_text;
 use ob_object_verify::{VerifyFault, verify_text};
@@ -76,12 +79,12 @@ pub(crate) fn answer_bound(
 
 /// The answer to a fault of a module by itself.
 fn compile_refused(alloc: Global, fault: CompileFault) -> Result<Answer, NoMemory>
-    ensures fault { IfOk result (λ a. IsRefused a 1 (compile_line fault ++ codes "\n")) }
+    ensures fault { IfOk result (λ a. IsRefused a 1 (compile_line ByBody fault ++ codes "\n")) }
     ensures memory { IfOk result (λ _. Compiles.is_want_of_memory fault ≡ false) }
 {
     match fault {
         CompileFault::NoMemory => Err(NoMemory),
-        fault => Ok(refused(alloc, compile_fault_line(alloc, fault)?)?),
+        fault => Ok(refused(alloc, compile_fault_line(alloc, Beginning::Body, fault)?)?),
     }
 }
 
@@ -93,169 +96,132 @@ pub(crate) fn refused(alloc: Global, mut line: String) -> Result<Answer, AllocEr
     Ok(Answer::refused(alloc, 1, line))
 }
 
-/// The answer to the beginning of a module's text and to the text of a script, whose calls have the budget of turns each.
-pub(crate) fn answer_seq(
-    alloc: Global,
-    module: &[u8],
-    script: &[u8],
-    budget: u32,
-) -> Result<Answer, NoMemory>
-    ensures { IfOk result (OfWhole «module».now (λ whole. IsSeqAnswer whole script.now budget)) }
+/// The answer of `seq`, of the object that is asked for and the text of a script.
+pub(crate) fn answer_seq(alloc: Global, asked: Asked<'_>, script: &[u8]) -> Result<Answer, NoMemory>
+    ensures { IfOk result (OfWhole asked.entry.text.now (λ whole. IsSeqAnswer (of_text (asked_of asked.entry) whole) script.now)) }
 {
-    match seq_text(alloc, module, script, u64::from(budget)) {
+    match seq_asked(alloc, asked, script) {
         Ok(lines) => Ok(Answer::printed(alloc, lines)),
-        Err(fault) => seq_refused(alloc, fault),
+        Err(fault) => seq_refused(alloc, asked.beginning, fault),
     }
 }
 
-/// The answer to a fault of a sequential run.
-fn seq_refused(alloc: Global, fault: SeqTextFault) -> Result<Answer, NoMemory>
-    ensures fault { IfOk result (λ a. IsRefused a 1 (seq_fault_line fault ++ codes "\n")) }
+/// The answer to a fault of a sequential run on an object that begins so.
+fn seq_refused(
+    alloc: Global,
+    beginning: Beginning<'_>,
+    fault: SeqTextFault,
+) -> Result<Answer, NoMemory>
+    ensures fault { IfOk result (λ a. IsRefused a 1 (seq_fault_line (beginning_of beginning.entry) fault ++ codes "\n")) }
     ensures memory { IfOk result (λ _. is_want_of_memory fault ≡ false) }
 {
     match fault {
         SeqTextFault::NoMemory => Err(NoMemory),
-        fault => Ok(refused(alloc, seq_fault_line(alloc, fault)?)?),
+        fault => Ok(refused(alloc, seq_fault_line(alloc, beginning, fault)?)?),
     }
 }
 
-/// The answer to the beginning of a module's text, and to the texts of a script and of a schedule of so many processes, whose calls
-/// have the budget of turns each.
-pub(crate) fn answer_run(
+/// The answer of `serve`, of the object that is asked for and the text of a script: of a worker for each of its processes.
+pub(crate) fn answer_serve<R: Threads + Wait + Sync>(
+    rt: &R,
     alloc: Global,
-    product: Product,
-    module: &[u8],
-    processes: usize,
-    budget: u32,
+    asked: Asked<'_>,
     script: &[u8],
-    schedule: &[u8],
 ) -> Result<Answer, NoMemory>
-    ensures { IfOk result (OfWhole «module».now (λ whole. IsRunAnswer product whole processes budget script.now schedule.now)) }
+    ensures { IfOk result (OfWhole asked.entry.text.now (λ whole. IsServeAnswer (of_text (asked_of asked.entry) whole) script.now)) }
 {
-    match product {
-        Product::Record => answer_record(alloc, module, processes, budget, script, schedule),
-        Product::TreeRecord => {
-            answer_tree_record(alloc, module, processes, budget, script, schedule)
-        }
-        Product::RecordWithSteps => {
-            answer_steps(alloc, module, processes, budget, script, schedule)
-        }
-        Product::Picture(calls) => answer_picture(
-            alloc, module, processes, budget, script, schedule, calls,
-        ),
+    match serve_text(rt, alloc, asked, script) {
+        Ok(lines) => Ok(Answer::printed(alloc, lines)),
+        Err(fault) => serve_refused(alloc, asked.beginning, fault),
+    }
+}
+
+/// The answer to a fault of workers on an object that begins so.
+fn serve_refused(
+    alloc: Global,
+    beginning: Beginning<'_>,
+    fault: ServeTextFault,
+) -> Result<Answer, NoMemory>
+    ensures fault { IfOk result (λ a. IsRefused a 1 (serve_fault_line (beginning_of beginning.entry) fault ++ codes "\n")) }
+    ensures memory { IfOk result (λ _. fault ≢ ServeTextFault.NoMemory) }
+{
+    match fault {
+        ServeTextFault::NoMemory => Err(NoMemory),
+        fault => Ok(refused(alloc, serve_fault_line(alloc, beginning, fault)?)?),
     }
 }
 
 /// The answer of `run`.
-fn answer_record(
-    alloc: Global,
-    module: &[u8],
-    processes: usize,
-    budget: u32,
-    script: &[u8],
-    schedule: &[u8],
-) -> Result<Answer, NoMemory>
-    ensures { IfOk result (OfWhole «module».now (λ whole. IsRecordAnswer whole processes budget script.now schedule.now)) }
+pub(crate) fn answer_record(alloc: Global, texts: Texts<'_>) -> Result<Answer, NoMemory>
+    ensures { IfOk result (OfWhole texts.entry.asked.text.now (λ whole. IsRecordAnswer (texts_of_text (texts_of texts.entry) whole))) }
 {
-    match run_text(
-        alloc,
-        module,
-        processes,
-        u64::from(budget),
-        script,
-        schedule,
-    ) {
+    match run_text(alloc, texts) {
         Ok(lines) => Ok(Answer::printed(alloc, lines)),
-        Err(fault) => run_refused(alloc, fault),
+        Err(fault) => run_refused(alloc, texts.asked.beginning, fault),
     }
 }
 
 /// The answer of `run --tree`.
-fn answer_tree_record(
-    alloc: Global,
-    module: &[u8],
-    processes: usize,
-    budget: u32,
-    script: &[u8],
-    schedule: &[u8],
-) -> Result<Answer, NoMemory>
-    ensures { IfOk result (OfWhole «module».now (λ whole. IsTreeRecordAnswer whole processes budget script.now schedule.now)) }
+pub(crate) fn answer_tree_record(alloc: Global, texts: Texts<'_>) -> Result<Answer, NoMemory>
+    ensures { IfOk result (OfWhole texts.entry.asked.text.now (λ whole. IsTreeRecordAnswer (texts_of_text (texts_of texts.entry) whole))) }
 {
-    match run_tree_text(
-        alloc,
-        module,
-        processes,
-        u64::from(budget),
-        script,
-        schedule,
-    ) {
+    match run_tree_text(alloc, texts) {
         Ok(lines) => Ok(Answer::printed(alloc, lines)),
-        Err(fault) => run_refused(alloc, fault),
+        Err(fault) => run_refused(alloc, texts.asked.beginning, fault),
     }
 }
 
 /// The answer of `run --steps`.
-fn answer_steps(
-    alloc: Global,
-    module: &[u8],
-    processes: usize,
-    budget: u32,
-    script: &[u8],
-    schedule: &[u8],
-) -> Result<Answer, NoMemory>
-    ensures { IfOk result (OfWhole «module».now (λ whole. IsStepsAnswer whole processes budget script.now schedule.now)) }
+pub(crate) fn answer_steps(alloc: Global, texts: Texts<'_>) -> Result<Answer, NoMemory>
+    ensures { IfOk result (OfWhole texts.entry.asked.text.now (λ whole. IsStepsAnswer (texts_of_text (texts_of texts.entry) whole))) }
 {
-    match run_text_with_steps(
-        alloc,
-        module,
-        processes,
-        u64::from(budget),
-        script,
-        schedule,
-    ) {
+    match run_text_with_steps(alloc, texts) {
         Ok((lines, steps)) => Ok(Answer::printed_beside(lines, steps)),
-        Err(fault) => run_refused(alloc, fault),
+        Err(fault) => run_refused(alloc, texts.asked.beginning, fault),
     }
 }
 
-/// The answer to a fault of a run.
-fn run_refused(alloc: Global, fault: PerformFault) -> Result<Answer, NoMemory>
-    ensures fault { IfOk result (λ a. IsRefused a 1 (run_fault_line fault ++ codes "\n")) }
+/// The answer to a fault of a run on an object that begins so.
+fn run_refused(
+    alloc: Global,
+    beginning: Beginning<'_>,
+    fault: PerformFault,
+) -> Result<Answer, NoMemory>
+    ensures fault { IfOk result (λ a. IsRefused a 1 (run_fault_line (beginning_of beginning.entry) fault ++ codes "\n")) }
     ensures memory { IfOk result (λ _. Performs.is_want_of_memory fault ≡ false) }
 {
     match fault {
         PerformFault::NoMemory => Err(NoMemory),
-        fault => Ok(refused(alloc, run_fault_line(alloc, fault)?)?),
+        fault => Ok(refused(alloc, run_fault_line(alloc, beginning, fault)?)?),
     }
 }
 
-/// The answer of `draw`.
-fn answer_picture(
+/// The answer of `draw` of a run, of some calls or of all.
+pub(crate) fn answer_picture(
     alloc: Global,
-    module: &[u8],
-    processes: usize,
-    budget: u32,
-    script: &[u8],
-    schedule: &[u8],
+    texts: Texts<'_>,
     calls: Option<CallRange>,
 ) -> Result<Answer, NoMemory>
-    ensures { IfOk result (OfWhole «module».now (λ whole. IsPictureAnswer calls whole processes budget script.now schedule.now)) }
+    ensures { IfOk result (OfWhole texts.entry.asked.text.now (λ whole. IsPictureAnswer calls (texts_of_text (texts_of texts.entry) whole))) }
 {
-    let turns = u64::from(budget);
-    match draw_text(alloc, module, processes, turns, script, schedule, calls) {
+    match draw_text(alloc, texts, calls) {
         Ok(picture) => Ok(Answer::printed(alloc, picture)),
-        Err(fault) => draw_refused(alloc, fault),
+        Err(fault) => draw_refused(alloc, texts.asked.beginning, fault),
     }
 }
 
-/// The answer to a fault of a picture.
-fn draw_refused(alloc: Global, fault: DrawFault) -> Result<Answer, NoMemory>
-    ensures fault { IfOk result (λ a. IsRefused a 1 (draw_fault_line fault ++ codes "\n")) }
+/// The answer to a fault of the picture of a run on an object that begins so.
+fn draw_refused(
+    alloc: Global,
+    beginning: Beginning<'_>,
+    fault: DrawFault,
+) -> Result<Answer, NoMemory>
+    ensures fault { IfOk result (λ a. IsRefused a 1 (draw_fault_line (beginning_of beginning.entry) fault ++ codes "\n")) }
     ensures memory { IfOk result (λ _. fault ≢ DrawFault.Run PerformFault.NoMemory) }
 {
     match fault {
         DrawFault::Run(PerformFault::NoMemory) => Err(NoMemory),
-        fault => Ok(refused(alloc, draw_fault_line(alloc, fault)?)?),
+        fault => Ok(refused(alloc, draw_fault_line(alloc, beginning, fault)?)?),
     }
 }
 
@@ -282,35 +248,6 @@ fn draw_record_refused(alloc: Global, fault: DrawRecordFault) -> Result<Answer, 
     match fault {
         DrawRecordFault::NoMemory => Err(NoMemory),
         fault => Ok(refused(alloc, draw_record_fault_line(alloc, fault)?)?),
-    }
-}
-
-/// The answer to the beginning of a module's text and to the text of a script, of a worker for each of so many processes. Each call
-/// has the budget of turns.
-pub(crate) fn answer_serve<R: Threads + Wait + Sync>(
-    rt: &R,
-    alloc: Global,
-    module: &[u8],
-    processes: usize,
-    budget: u32,
-    script: &[u8],
-) -> Result<Answer, NoMemory>
-    ensures { IfOk result (OfWhole «module».now (λ whole. IsServeAnswer whole processes budget script.now)) }
-{
-    match serve_text(rt, alloc, module, processes, u64::from(budget), script) {
-        Ok(lines) => Ok(Answer::printed(alloc, lines)),
-        Err(fault) => serve_refused(alloc, fault),
-    }
-}
-
-/// The answer to a fault of workers.
-fn serve_refused(alloc: Global, fault: ServeTextFault) -> Result<Answer, NoMemory>
-    ensures fault { IfOk result (λ a. IsRefused a 1 (serve_fault_line fault ++ codes "\n")) }
-    ensures memory { IfOk result (λ _. fault ≢ ServeTextFault.NoMemory) }
-{
-    match fault {
-        ServeTextFault::NoMemory => Err(NoMemory),
-        fault => Ok(refused(alloc, serve_fault_line(alloc, fault)?)?),
     }
 }
 

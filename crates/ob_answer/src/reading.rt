@@ -1,12 +1,14 @@
 //! The files that the words of a command name, read in their order. Of a module no more is read than shows that it is too long.
 
-ghost use Rattle.std.specs.Prelude.{IfOk};
+ghost use Rattle.std.specs.Prelude.{IfOk, option_map};
 ghost use Rattle.ob_answer.specs.Printed.{IsUnreadable};
-ghost use Rattle.ob_answer.specs.Reads.{AreThreeRead, AreTwoRead};
+ghost use Rattle.ob_answer.specs.Reads.{AreCallsRead, AreThreeRead, AreTwoRead, IsRecordRead, IsRunRead};
+ghost use Rattle.ob_command.specs.Commands.{calls_request_of, run_request_of};
 
 use crate::answered::Answer;
 use crate::files::{FileFault, Files};
 use crate::shown_name::push_name;
+use ob_command::command::{CallsCommand, RunCommand};
 use ob_interface::NoMemory;
 use ob_scan::scanner::LONGEST_TEXT;
 use std::alloc::{AllocError, Global};
@@ -29,6 +31,45 @@ pub(crate) enum ThreeFiles {
         second: Vec<u8>,
         third: Vec<u8>,
     },
+    Unread(Answer),
+}
+
+/// What the file of a record holds, where one is named, or the answer where it can't be read.
+#[derive(Drop)]
+pub(crate) enum RecordFile {
+    Read(Option<Vec<u8>>),
+    Unread(Answer),
+}
+
+/// What the files of calls hold: the beginning of a module's text, the text of a script, and that of the record with whose values
+/// the object begins, where one is named.
+#[derive(Drop)]
+pub(crate) struct CallsBytes {
+    pub(crate) text: Vec<u8>,
+    pub(crate) script: Vec<u8>,
+    pub(crate) from: Option<Vec<u8>>,
+}
+
+/// The same, or the answer where one can't be read.
+#[derive(Drop)]
+pub(crate) enum CallsFiles {
+    Read(CallsBytes),
+    Unread(Answer),
+}
+
+/// What the files of a run hold: those of its calls, and that of its schedule.
+#[derive(Drop)]
+pub(crate) struct RunBytes {
+    pub(crate) text: Vec<u8>,
+    pub(crate) script: Vec<u8>,
+    pub(crate) schedule: Vec<u8>,
+    pub(crate) from: Option<Vec<u8>>,
+}
+
+/// The same, or the answer where one can't be read.
+#[derive(Drop)]
+pub(crate) enum RunFiles {
+    Read(RunBytes),
     Unread(Answer),
 }
 
@@ -73,6 +114,78 @@ pub(crate) fn read_three<F: Files>(
             }),
             Err(FileFault::Unreadable) => Ok(ThreeFiles::Unread(unreadable(alloc, third_name)?)),
             Err(FileFault::NoMemory) => Err(NoMemory),
+        },
+    }
+}
+
+/// The file of a record, where one is named.
+fn read_record<F: Files>(
+    alloc: Global,
+    name: Option<&str>,
+    files: &mut F,
+) -> Result<RecordFile, NoMemory>
+    ensures { IfOk result (λ read. IsRecordRead F.reads (option_map (λ name. name.now) name.entry) files.old read files.new) }
+{
+    match name {
+        None => Ok(RecordFile::Read(None)),
+        Some(name) => match files.read(name) {
+            Ok(bytes) => Ok(RecordFile::Read(Some(bytes))),
+            Err(FileFault::Unreadable) => Ok(RecordFile::Unread(unreadable(alloc, name)?)),
+            Err(FileFault::NoMemory) => Err(NoMemory),
+        },
+    }
+}
+
+/// The files of calls, that of the record behind the others.
+pub(crate) fn read_calls<F: Files>(
+    alloc: Global,
+    calls: CallsCommand<'_>,
+    files: &mut F,
+) -> Result<CallsFiles, NoMemory>
+    ensures { IfOk result (λ read. AreCallsRead F.reads (calls_request_of calls.entry) files.old read files.new) }
+{
+    match read_two(alloc, calls.module_name, calls.script_name, files)? {
+        TwoFiles::Unread(answer) => Ok(CallsFiles::Unread(answer)),
+        TwoFiles::Read { module, second } => match read_record(alloc, calls.from_name, files)? {
+            RecordFile::Unread(answer) => Ok(CallsFiles::Unread(answer)),
+            RecordFile::Read(from) => Ok(CallsFiles::Read(CallsBytes {
+                text: module,
+                script: second,
+                from,
+            })),
+        },
+    }
+}
+
+/// The files of a run, that of the record behind the others.
+pub(crate) fn read_run<F: Files>(
+    alloc: Global,
+    run: RunCommand<'_>,
+    files: &mut F,
+) -> Result<RunFiles, NoMemory>
+    ensures { IfOk result (λ read. IsRunRead F.reads (run_request_of run.entry) files.old read files.new) }
+{
+    let calls = run.calls;
+    match read_three(
+        alloc,
+        calls.module_name,
+        calls.script_name,
+        run.schedule_name,
+        files,
+    )? {
+        ThreeFiles::Unread(answer) => Ok(RunFiles::Unread(answer)),
+        ThreeFiles::Read {
+            module,
+            second,
+            third,
+        } => match read_record(alloc, calls.from_name, files)? {
+            RecordFile::Unread(answer) => Ok(RunFiles::Unread(answer)),
+            RecordFile::Read(from) => Ok(RunFiles::Read(RunBytes {
+                text: module,
+                script: second,
+                schedule: third,
+                from,
+            })),
         },
     }
 }

@@ -12,6 +12,6 @@ pub fn title_sentence(from: &[u8]) -> &'static str
     if begins_order_mark(from) {
         ORDER_MARK
     } else {
-        "the first line of a record is obl0 record 2, or obl0 record 1, which has no budget"
+        "the first line of a record is obl0 record 2, or obl0 record 1, which has no budget, or obl0 record 3, which has I lines"
     }
 }

@@ -8,11 +8,12 @@ use Rattle.ob_grammar.specs.Texts.{IsTextOf}
 use Rattle.ob_grammar.specs.Tree
 use Rattle.ob_interface.specs.Call.{ObjectCall}
 use Rattle.ob_interface.specs.Export.{CallFits}
-use Rattle.ob_interface.specs.Processes.{most_processes}
+use Rattle.ob_code_law.specs.CodeMeaning.{EngineParts}
 use Rattle.ob_interpreter.specs.Sequences.{replies_to}
 use Rattle.ob_object_compile.proofs.Openings.{module_resolved}
+use Rattle.ob_object_compile.specs.Asked.{Asked}
 use Rattle.ob_object_compile.specs.Compilation.{IsCompilation, ObjectParts}
-use Rattle.ob_object_sequence.proofs.Named.{replies_named}
+use Rattle.ob_object_sequence.proofs.Named.{replies_same}
 use Rattle.ob_positions.specs.Object.{effect}
 use Rattle.ob_positions.specs.Store.{Activation}
 use Rattle.ob_text_scripts.specs.Script.{IsScript}
@@ -22,7 +23,7 @@ use Rattle.ob_trap_places.proofs.PlacedCalls.{call_placed}
 use Rattle.ob_trap_places.specs.Places.{place_of}
 use Rattle.ob_trap_sequence.proofs.Sited.{length-sites, numbers_answered}
 use Rattle.ob_trap_sequence.specs.Sequence.{sites_from}
-use Rattle.ob_trap_sites.specs.Object.{site_of_call}
+use Rattle.ob_trap_sites.specs.Object.{site_of_call, trap_of}
 use Rattle.ob_trap_sites.specs.Site.{Site}
 use Rattle.ob_typing.specs.Declarations.{WellTyped}
 use Rattle.ob_typing.specs.Program.{Program}
@@ -43,24 +44,26 @@ each_placed tree program typed budget state (call ∷ calls) =
     (one_placed tree (site_of_call program call budget state) (λ site e. call_placed tree program call budget state site typed e))
     (each_placed tree program typed budget after calls)
 
-pub all_told : (text script : Source) (budget : ℕ) (object : ObjectParts) (calls : List ScriptCall) (output : List ℕ) →
-    IsCompilation text.text most_processes budget object → ((other : Tree.Module) → IsTextOf text.text other → other ≡ object.tree) →
-    IsScript (signatures object.program) most_processes script.text calls → All (λ c. CallFits (signatures object.program) (object_call c)) calls →
-    output ≡ traps_text text script budget object calls → IsTrapsText text script budget output
-all_told text script budget object calls output compiled one_tree read fit printed =
+pub all_told : (name : List ℕ) (a : Asked) (script : Source) (object : ObjectParts) (calls : List ScriptCall) (output : List ℕ) →
+    IsCompilation a object → ((other : Tree.Module) → IsTextOf a.text other → other ≡ object.tree) →
+    IsScript (signatures object.program) a.processes script.text calls → All (λ c. CallFits (signatures object.program) (object_call c)) calls →
+    output ≡ traps_text (record { name = name; text = a.text }) script object calls → IsTrapsText name a script output
+all_told name a script object calls output compiled one_tree read fit printed =
     let program = object.program in
-    let good = module_resolved text.text program compiled.is_module in
+    let good = module_resolved a.text program compiled.is_module in
     let typed = subst (λ (t : Tree.Module). WellTyped t program) (one_tree compiled.is_module.tree compiled.is_module.text_of) compiled.is_module.typed in
     let asked = map object_call calls in
+    let budget_is : object.engine.budget ≡ a.budget = ap (λ (e : EngineParts). e.budget) compiled.engine_is in
+    let named = replies_same program good object_call a.budget calls fit compiled.opens.state object.opening compiled.opens.same in
     record {
       object = object;
       calls = calls;
       compiled = compiled;
       read = read;
-      replies = replies_to program budget object.opening asked;
-      replied = replies_named program good object_call budget calls _ fit (record { state = object.opening; opens = compiled.begins; made = refl });
-      trapped = numbers_answered program budget object.opening asked;
-      placed = each_placed object.tree program typed budget object.opening asked;
+      trapped =
+          numbers_answered program object.engine.budget object.opening asked
+          ∙ ap (λ (b : ℕ). map trap_of (replies_to program b object.opening asked)) budget_is ∙ ap (map trap_of) (sym named);
+      placed = each_placed object.tree program typed object.engine.budget object.opening asked;
       printed = printed;
     }
 
@@ -74,23 +77,25 @@ asked_in : (xs : List Declared.ScriptCall) → map object_call (map script_call_
 asked_in [] = refl
 asked_in (x ∷ xs) = ap (λ cs. object_call (script_call_of x) ∷ cs) (asked_in xs)
 
-module _ (text script : Source) (budget : ℕ) (object : ObjectParts) (xs : List Declared.ScriptCall) where
-  abbrev setting_with : Tree.Module → Setting
-  setting_with tree = record { object = text; tree = tree; script_name = script.name; budget = budget }
+module _ (text script : Source) (object : ObjectParts) (xs : List Declared.ScriptCall) where
+  abbrev setting_with : Tree.Module → (budget : ℕ) → Setting
+  setting_with tree budget = record { object = text; tree = tree; script_name = script.name; budget = budget }
 
-  pub lines_of_calls : (tree : Tree.Module) (program : Program) (opening : Activation) (callers numbers : List ℕ) (asked : List ObjectCall) (sites : List (Option Site)) (told : List ℕ) →
-      tree ≡ object.tree → program ≡ object.program → opening ≡ object.opening → callers ≡ map (λ c. c.process) xs →
+  pub lines_of_calls : (tree : Tree.Module) (program : Program) (budget : ℕ) (opening : Activation) (callers numbers : List ℕ) (asked : List ObjectCall) (sites : List (Option Site)) (told : List ℕ) →
+      tree ≡ object.tree → program ≡ object.program → budget ≡ object.engine.budget → opening ≡ object.opening → callers ≡ map (λ c. c.process) xs →
       asked ≡ map (λ c. object_call (script_call_of c)) xs → numbers ≡ call_lines script.text → sites ≡ sites_from program budget opening asked →
-      told ≡ traps_lines (setting_with tree) callers numbers 0 sites → or_none told ≡ traps_text text script budget object (map script_call_of xs)
-  lines_of_calls tree program opening callers numbers asked sites told of_tree of_program of_opening of_callers of_asked of_numbers of_sites is =
-      let found = of_sites ∙ ap (λ p. sites_from p budget opening asked) of_program ∙ ap (λ s. sites_from object.program budget s asked) of_opening
-      ∙ ap (sites_from object.program budget object.opening) (of_asked ∙ sym (asked_in xs)) in
+      told ≡ traps_lines (setting_with tree budget) callers numbers 0 sites → or_none told ≡ traps_text text script object (map script_call_of xs)
+  lines_of_calls tree program budget opening callers numbers asked sites told of_tree of_program of_budget of_opening of_callers of_asked of_numbers of_sites is =
+      let b = object.engine.budget in
+      let found = of_sites ∙ ap (λ p. sites_from p budget opening asked) of_program ∙ ap (λ (k : ℕ). sites_from object.program k opening asked) of_budget
+      ∙ ap (λ s. sites_from object.program b s asked) of_opening ∙ ap (sites_from object.program b object.opening) (of_asked ∙ sym (asked_in xs)) in
       ap or_none
       (is
-      ∙ ap (λ t. traps_lines (setting_with t) callers numbers 0 sites) of_tree
-      ∙ ap (λ ps. traps_lines (setting_with object.tree) ps numbers 0 sites) (of_callers ∙ sym (processes_in xs))
-      ∙ ap (λ ns. traps_lines (setting_with object.tree) (map (λ c. c.process) (map script_call_of xs)) ns 0 sites) of_numbers
-      ∙ ap (traps_lines (setting_with object.tree) (map (λ c. c.process) (map script_call_of xs)) (call_lines script.text) 0) found)
+      ∙ ap (λ t. traps_lines (setting_with t budget) callers numbers 0 sites) of_tree
+      ∙ ap (λ (k : ℕ). traps_lines (setting_with object.tree k) callers numbers 0 sites) of_budget
+      ∙ ap (λ ps. traps_lines (setting_with object.tree b) ps numbers 0 sites) (of_callers ∙ sym (processes_in xs))
+      ∙ ap (λ ns. traps_lines (setting_with object.tree b) (map (λ c. c.process) (map script_call_of xs)) ns 0 sites) of_numbers
+      ∙ ap (traps_lines (setting_with object.tree b) (map (λ c. c.process) (map script_call_of xs)) (call_lines script.text) 0) found)
 
 -- there are as many sites as calls
 pub sites_long : {A : Type 0} (view : A → Option Site) (found : List A) (program : Program) (budget : ℕ) (opening : Activation) (asked : List ObjectCall) (xs : List Declared.ScriptCall) →

@@ -4,9 +4,8 @@ use Rattle.ob_checked.specs.Exports.{signatures}
 use Rattle.ob_explained_runs.specs.Sources.{Source, source_of}
 use Rattle.ob_explained_runs.specs.declared.source.Source as Rust
 use Rattle.ob_grammar.specs.Tree
-use Rattle.ob_interface.specs.Call.{Reply}
-use Rattle.ob_interface.specs.Processes.{most_processes}
-use Rattle.ob_meaning.specs.Object.{AreReplies}
+use Rattle.ob_meaning.specs.Object.{replies_to}
+use Rattle.ob_object_compile.specs.Asked.{Asked}
 use Rattle.ob_object_compile.specs.Compilation.{IsCompilation, ObjectParts}
 use Rattle.ob_object_compile.specs.View.{object_in}
 use Rattle.ob_object_compile.specs.declared.object.Object.{Object}
@@ -20,9 +19,9 @@ use Rattle.ob_trap_sites.specs.Site.{Site}
 use Rattle.ob_explained_traps.specs.CallLines.{call_lines}
 use Rattle.ob_explained_traps.specs.TrapLines.{traps_lines}
 
--- where the traps of these calls come from, made one at a time from the opening state, each with the budget
-abbrev pub sites_of : ObjectParts → (budget : ℕ) → List ScriptCall → List (Option Site)
-sites_of object budget calls = sites_from object.program budget object.opening (map object_call calls)
+-- where the traps of these calls come from, made one at a time from the state with which the object begins, each with its budget
+abbrev pub sites_of : ObjectParts → List ScriptCall → List (Option Site)
+sites_of object calls = sites_from object.program object.engine.budget object.opening (map object_call calls)
 
 -- a line where there are no others
 abbrev pub or_none : List ℕ → List ℕ
@@ -30,30 +29,29 @@ or_none [] = codes "no call traps\n"
 or_none (b ∷ bytes) = b ∷ bytes
 
 -- what is printed of the calls of a script on an object: the lines of each call that traps, in line order
-abbrev pub traps_text : (text script : Source) → (budget : ℕ) → ObjectParts → List ScriptCall → List ℕ
-traps_text text script budget object calls =
-    or_none (traps_lines (record { object = text; tree = object.tree; script_name = script.name; budget = budget })
-    (map (λ c. c.process) calls) (call_lines script.text) 0 (sites_of object budget calls))
+abbrev pub traps_text : (text script : Source) → ObjectParts → List ScriptCall → List ℕ
+traps_text text script object calls =
+    or_none (traps_lines (record { object = text; tree = object.tree; script_name = script.name; budget = object.engine.budget })
+    (map (λ c. c.process) calls) (call_lines script.text) 0 (sites_of object calls))
 
 -- the same of texts, an object and calls as the code has them
-abbrev pub told_of_calls : (text script : Rust.Source) → (budget : ℕ) → Object → List Declared.ScriptCall → List ℕ
-told_of_calls text script budget object calls =
-    traps_text (source_of text) (source_of script) budget (object_in object) (map script_call_of calls)
+abbrev pub told_of_calls : (text script : Rust.Source) → Object → List Declared.ScriptCall → List ℕ
+told_of_calls text script object calls = traps_text (source_of text) (source_of script) (object_in object) (map script_call_of calls)
 
 -- where a call traps, the operation has a place in the text
 abbrev pub IsPlaced : Tree.Module → Option Site → Type 0
 IsPlaced tree None = Unit {0}
 IsPlaced tree (Some site) = (place : ℕ) × (place_of tree site ≡ Some place)
 
--- The printed bytes are what is told of the calls of a script on the object of a module, for all processes that an object can have. A
--- call is told of where the meaning replies with a trap, and with the number of that.
-pub record IsTrapsText (text script : Source) (budget : ℕ) (output : List ℕ) : Type 0 where
+-- The printed bytes are what is told of the calls of a script on the object that is asked for, whose module has this name. A call is
+-- told of where the meaning replies with a trap, from the state with which the object begins, and with the number of that.
+pub record IsTrapsText (module_name : List ℕ) (a : Asked) (script : Source) (output : List ℕ) : Type 0 where
   pub object : ObjectParts
   pub calls : List ScriptCall
-  pub compiled : IsCompilation text.text most_processes budget object
-  pub read : IsScript (signatures object.program) most_processes script.text calls
-  pub replies : List Reply
-  pub replied : AreReplies object.program budget (map object_call calls) replies
-  pub trapped : map (option_map (λ site. site.number)) (sites_of object budget calls) ≡ map trap_of replies
-  pub placed : All (IsPlaced object.tree) (sites_of object budget calls)
-  pub printed : output ≡ traps_text text script budget object calls
+  pub compiled : IsCompilation a object
+  pub read : IsScript (signatures object.program) a.processes script.text calls
+  pub trapped :
+      map (option_map (λ site. site.number)) (sites_of object calls)
+      ≡ map trap_of (replies_to object.program a.budget compiled.opens.state (map object_call calls))
+  pub placed : All (IsPlaced object.tree) (sites_of object calls)
+  pub printed : output ≡ traps_text (record { name = module_name; text = a.text }) script object calls

@@ -1,52 +1,45 @@
 //! Where the calls of a script trap: from bytes to bytes.
 
-ghost use Rattle.std.specs.Prelude.{◌≡◌, ◌<◌, ◌≤◌, Err, All, IfOk, IfErr, length, string_bytes};
+ghost use Rattle.std.specs.Prelude.{◌≡◌, ◌<◌, Err, All, IfOk, IfErr, length, string_bytes};
 ghost use Rattle.ob_explained_runs.specs.Sources.{source_of};
 ghost use Rattle.ob_explained_traps.specs.CallLines.{call_lines};
 ghost use Rattle.ob_explained_traps.specs.TrapsText.{IsTrapsText, or_none, told_of_calls};
-ghost use Rattle.ob_meaning.specs.Object.{most_turns};
-ghost use Rattle.ob_object_sequence.specs.SequentialRun.{HasNoRun, IsNumbered, IsSeqTextFault, TellsMemoryApart, too_long};
+ghost use Rattle.ob_object_compile.specs.Asked.{TellsAtOnce};
+ghost use Rattle.ob_object_compile.specs.View.{asked_of, object_in};
+ghost use Rattle.ob_object_sequence.specs.SequentialRun.{IsSeqRefusal};
 
 use crate::call_lines::call_lines;
 use crate::told::{Setting, traps_told};
 use ob_explained_runs::Source;
-use ob_interface::{MOST_PROCESSES, NoMemory};
-use ob_object_compile::object::Object;
-use ob_object_compile::{CompileFault, compile};
+use ob_interface::NoMemory;
+use ob_object_compile::{Asked, CompileFault, Object, compile_asked};
 use ob_object_sequence::SeqTextFault;
 use ob_object_sequence::calls::{callers, object_calls};
-use ob_scan::scanner::LONGEST_TEXT;
 use ob_text_scripts::read_scripts;
 use ob_text_words::script_call::ScriptCall;
 use ob_trap_sequence::sequence::sites_in_turn;
 use std::alloc::{AllocError, Global};
 
-/// What is told of the script's calls that trap, made one at a time in line order on the object of a module's text, each with
-/// the budget of turns: which call it is, the line of the operation in that text, and what could not be done.
+/// What is told of the script's calls that trap, made one at a time in line order on the object that is asked for, from the state
+/// with which it begins: which call it is, the line of the operation in the module's text, which has this name, and what could not
+/// be done.
 pub fn traps_text(
     alloc: Global,
-    object: Source<'_>,
+    module_name: &str,
+    asked: Asked<'_>,
     script: Source<'_>,
-    budget: u64,
 ) -> Result<String, SeqTextFault>
-    ensures told { IfOk result (λ text. IsTrapsText (source_of object.entry) (source_of script.entry) budget (string_bytes text)) }
-    ensures fault { IfErr result (IsSeqTextFault object.entry.text.now script.entry.text.now budget) }
-
-    // With a fault that has a number there is no run of the calls, whatever else is wrong.
-    ensures no_run { IfErr result (λ e. IsNumbered e → HasNoRun object.entry.text.now script.entry.text.now budget) }
-
-    // Want of memory is told by its own variant alone.
-    ensures memory { IfErr result TellsMemoryApart }
-
-    // A budget of more turns than there may be is refused before all else.
-    ensures too_much { most_turns < budget → result ≡ Err (SeqTextFault.Compile CompileFault.Budget) }
-
-    // Behind that, a text over the scanner's bound is refused, whatever it says.
-    ensures too_long { budget ≤ most_turns → LONGEST_TEXT < length object.entry.text.now → result ≡ Err too_long }
+    ensures told { IfOk result (λ text. IsTrapsText module_name.now (asked_of asked.entry) (source_of script.entry) (string_bytes text)) }
+    ensures refused { IfErr result (IsSeqRefusal (asked_of asked.entry) script.entry.text.now) }
+    ensures at_once { TellsAtOnce (asked_of asked.entry) (λ e. result ≡ Err (SeqTextFault.Compile e)) }
 {
-    let compiled = compile(alloc, object.text, MOST_PROCESSES, budget)?;
-    let scripts = read_scripts(alloc, compiled.checked(), MOST_PROCESSES, script.text)?;
-    let told = told_of_calls(alloc, object, &compiled, script, scripts.calls(), budget)?;
+    let compiled = compile_asked(alloc, asked)?;
+    let scripts = read_scripts(alloc, compiled.checked(), asked.processes, script.text)?;
+    let object = Source {
+        name: module_name,
+        text: asked.text,
+    };
+    let told = told_of_calls(alloc, object, &compiled, script, scripts.calls())?;
     Ok(told)
 }
 
@@ -57,16 +50,16 @@ fn told_of_calls(
     compiled: &Object,
     script: Source<'_>,
     calls: &[ScriptCall],
-    budget: u64,
 ) -> Result<String, NoMemory>
-    requires processes { All (λ c. c.process < MOST_PROCESSES) calls.now }
+    requires processes { All (λ c. c.process < (object_in compiled.now).processes) calls.now }
     requires lined { length (call_lines script.text.now) ≡ length calls.now }
-    ensures { IfOk result (λ text. string_bytes text ≡ told_of_calls object.entry script.entry budget compiled.now calls.now) }
+    ensures { IfOk result (λ text. string_bytes text ≡ told_of_calls object.entry script.entry compiled.now calls.now) }
 {
     let callers = callers(alloc, calls)?;
     let asked = object_calls(alloc, calls)?;
     let opening = compiled.opening().copy(alloc)?;
     let checked = compiled.checked();
+    let budget = compiled.budget();
     let sites = sites_in_turn(alloc, checked, opening, &asked, budget)?;
     let lines = call_lines(alloc, script.text)?;
     let setting = Setting {
@@ -75,7 +68,14 @@ fn told_of_calls(
         script_name: script.name,
         budget,
     };
-    let told = traps_told(alloc, setting, MOST_PROCESSES, &callers, &lines, &sites)?;
+    let told = traps_told(
+        alloc,
+        setting,
+        compiled.processes(),
+        &callers,
+        &lines,
+        &sites,
+    )?;
     Ok(or_none(alloc, told)?)
 }
 

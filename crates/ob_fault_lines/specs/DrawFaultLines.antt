@@ -1,5 +1,6 @@
 -- The line that tells each fault of a picture, of a run or of a record.
 use Rattle.std.specs.Prelude.{ℕ, ◌++◌, codes, decimal}
+use Rattle.ob_object_compile.specs.Asked.{Beginning}
 use Rattle.ob_object_draw.specs.declared.drawing.DrawRecordFault.{DrawRecordFault}
 use Rattle.ob_object_draw.specs.declared.drawing.DrawRecordFault.TheVariants as Records
 use Rattle.ob_object_perform.specs.declared.drawing.DrawFault.{DrawFault}
@@ -16,9 +17,9 @@ picture_line (Pictures.NoCalls count) = codes "I1 of " ++ decimal count ++ codes
 picture_line (Pictures.TooMany count) = codes "I2 " ++ decimal count ++ codes " calls"
 picture_line Pictures.NoMemory = no_memory_line
 
-abbrev pub draw_fault_line : DrawFault → Text
-draw_fault_line (Faults.Run e) = run_fault_line e
-draw_fault_line (Faults.Calls e) = picture_line e
+abbrev pub draw_fault_line : Beginning → DrawFault → Text
+draw_fault_line beginning (Faults.Run e) = run_fault_line beginning e
+draw_fault_line beginning (Faults.Calls e) = picture_line e
 
 abbrev pub draw_record_fault_line : DrawRecordFault → Text
 draw_record_fault_line (Records.Text e) = text_line e

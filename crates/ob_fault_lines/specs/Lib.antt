@@ -6,3 +6,4 @@ pub mod RunFaultLines
 pub mod DrawFaultLines
 pub mod ServeFaultLines
 pub mod VerifyFaultLines
+pub mod ValuesFaultLines

@@ -1,5 +1,6 @@
 -- The line that tells each fault of a run by a schedule.
 use Rattle.std.specs.Prelude.{ℕ, ◌++◌, codes, decimal}
+use Rattle.ob_object_compile.specs.Asked.{Beginning}
 use Rattle.ob_object_perform.specs.declared.performing.PerformFault.{PerformFault}
 use Rattle.ob_object_perform.specs.declared.performing.PerformFault.TheVariants as Faults
 use Rattle.ob_schedule.specs.declared.schedule.ScheduleFault.{ScheduleFault}
@@ -17,9 +18,9 @@ schedule_line (Schedule.Form item) = at_item (codes "Q1") item
 schedule_line (Schedule.Process item) = at_item (codes "Q2") item
 schedule_line Schedule.NoMemory = no_memory_line
 
-abbrev pub run_fault_line : PerformFault → Text
-run_fault_line (Faults.Compile e) = compile_line e
-run_fault_line (Faults.Script e) = script_line e
-run_fault_line (Faults.Schedule e) = schedule_line e
-run_fault_line (Faults.TooLong item) = at_item (codes "Q3") item
-run_fault_line Faults.NoMemory = no_memory_line
+abbrev pub run_fault_line : Beginning → PerformFault → Text
+run_fault_line beginning (Faults.Compile e) = compile_line beginning e
+run_fault_line beginning (Faults.Script e) = script_line e
+run_fault_line beginning (Faults.Schedule e) = schedule_line e
+run_fault_line beginning (Faults.TooLong item) = at_item (codes "Q3") item
+run_fault_line beginning Faults.NoMemory = no_memory_line

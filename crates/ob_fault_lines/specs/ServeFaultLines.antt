@@ -7,8 +7,8 @@ use Rattle.ob_desk_serve.specs.declared.fault.ServeFault.TheVariants as Serve
 use Rattle.ob_desk_texts.specs.declared.texts.ServeTextFault.{ServeTextFault}
 use Rattle.ob_desk_texts.specs.declared.texts.ServeTextFault.TheVariants as Faults
 use Rattle.ob_fault_lines.specs.ModuleFaultLines.{Text, no_memory_line}
-use Rattle.ob_fault_lines.specs.CompileFaultLines.{compile_line}
-use Rattle.ob_fault_lines.specs.ScriptFaultLines.{script_line}
+use Rattle.ob_fault_lines.specs.RunFaultLines.{run_fault_line}
+use Rattle.ob_object_compile.specs.Asked.{Beginning}
 
 -- of a process
 abbrev pub of_process : Text → ℕ → Text
@@ -27,8 +27,7 @@ serve_line (Serve.Refused process) = of_process (codes "V1") process
 serve_line (Serve.Lost process) = of_process (codes "V2") process
 serve_line (Serve.Close e) = close_line e
 
-abbrev pub serve_fault_line : ServeTextFault → Text
-serve_fault_line (Faults.Compile e) = compile_line e
-serve_fault_line (Faults.Script e) = script_line e
-serve_fault_line (Faults.Serve e) = serve_line e
-serve_fault_line Faults.NoMemory = no_memory_line
+abbrev pub serve_fault_line : Beginning → ServeTextFault → Text
+serve_fault_line beginning (Faults.Texts e) = run_fault_line beginning e
+serve_fault_line beginning (Faults.Serve e) = serve_line e
+serve_fault_line beginning Faults.NoMemory = no_memory_line

@@ -2,22 +2,28 @@
 
 ghost use Rattle.std.specs.Prelude.{◌≡◌, ◌++◌, IfOk, OnOk, codes, decimal, string_bytes};
 ghost use Rattle.ob_fault_lines.specs.DrawFaultLines.{draw_fault_line, draw_record_fault_line, picture_line};
+ghost use Rattle.ob_object_compile.specs.View.{beginning_of};
 
 use crate::module_faults::push_text_fault;
 use crate::run_faults::run_fault_line;
 use crate::script_faults::push_line_number;
+use ob_object_compile::Beginning;
 use ob_object_draw::DrawRecordFault;
 use ob_object_perform::DrawFault;
 use ob_text_picture_chart::PictureFault;
 use ob_text_words::numbers::push_number;
 use std::alloc::{AllocError, Global};
 
-/// The line of a fault of a run's picture, without a line feed.
-pub fn draw_fault_line(alloc: Global, fault: DrawFault) -> Result<String, AllocError>
-    ensures { IfOk result (λ line. string_bytes line ≡ draw_fault_line fault) }
+/// The line of a fault of the picture of a run on an object that is to begin so, without a line feed.
+pub fn draw_fault_line(
+    alloc: Global,
+    beginning: Beginning<'_>,
+    fault: DrawFault,
+) -> Result<String, AllocError>
+    ensures { IfOk result (λ line. string_bytes line ≡ draw_fault_line (beginning_of beginning.entry) fault) }
 {
     match fault {
-        DrawFault::Run(fault) => run_fault_line(alloc, fault),
+        DrawFault::Run(fault) => run_fault_line(alloc, beginning, fault),
         DrawFault::Calls(fault) => picture_fault_line(alloc, fault),
     }
 }

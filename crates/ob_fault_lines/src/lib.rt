@@ -8,4 +8,5 @@ pub mod run_faults;
 pub mod script_faults;
 pub mod sequential_faults;
 pub mod serve_faults;
+pub mod values_faults;
 pub mod verify_faults;

@@ -2,27 +2,44 @@
 
 ghost use Rattle.std.specs.Prelude.{◌≡◌, ◌++◌, IfOk, OnOk, string_bytes};
 ghost use Rattle.ob_fault_lines.specs.RunFaultLines.{at_item, run_fault_line, schedule_line};
+ghost use Rattle.ob_object_compile.specs.View.{beginning_of};
 
 use crate::compile_faults::push_compile_fault;
 use crate::script_faults::push_script_fault;
+use ob_object_compile::Beginning;
 use ob_object_perform::PerformFault;
 use ob_schedule::ScheduleFault;
 use ob_text_words::numbers::push_number;
 use std::alloc::{AllocError, Global};
 
-/// The line of a fault of a run, without a line feed.
-pub fn run_fault_line(alloc: Global, fault: PerformFault) -> Result<String, AllocError>
-    ensures { IfOk result (λ line. string_bytes line ≡ run_fault_line fault) }
+/// The line of a fault of a run on an object that is to begin so, without a line feed.
+pub fn run_fault_line(
+    alloc: Global,
+    beginning: Beginning<'_>,
+    fault: PerformFault,
+) -> Result<String, AllocError>
+    ensures { IfOk result (λ line. string_bytes line ≡ run_fault_line (beginning_of beginning.entry) fault) }
 {
     let mut line = String::new(alloc);
-    match fault {
-        PerformFault::Compile(fault) => push_compile_fault(&mut line, fault)?,
-        PerformFault::Script(fault) => push_script_fault(&mut line, fault)?,
-        PerformFault::Schedule(fault) => push_schedule_fault(&mut line, fault)?,
-        PerformFault::TooLong(item) => push_item(&mut line, "Q3", item)?,
-        PerformFault::NoMemory => line.push_str("NoMemory")?,
-    }
+    push_run_fault(&mut line, beginning, fault)?;
     Ok(line)
+}
+
+/// Appends the line of such a fault, without a line feed.
+pub(crate) fn push_run_fault(
+    line: &mut String,
+    beginning: Beginning<'_>,
+    fault: PerformFault,
+) -> Result<(), AllocError>
+    ensures { OnOk result (string_bytes line.new ≡ string_bytes line.old ++ run_fault_line (beginning_of beginning.entry) fault) }
+{
+    match fault {
+        PerformFault::Compile(fault) => push_compile_fault(line, beginning, fault),
+        PerformFault::Script(fault) => push_script_fault(line, fault),
+        PerformFault::Schedule(fault) => push_schedule_fault(line, fault),
+        PerformFault::TooLong(item) => push_item(line, "Q3", item),
+        PerformFault::NoMemory => line.push_str("NoMemory"),
+    }
 }
 
 fn push_schedule_fault(line: &mut String, fault: ScheduleFault) -> Result<(), AllocError>

@@ -2,23 +2,27 @@
 
 ghost use Rattle.std.specs.Prelude.{◌≡◌, ◌++◌, IfOk, OnOk, string_bytes};
 ghost use Rattle.ob_fault_lines.specs.ServeFaultLines.{close_line, of_process, serve_fault_line, serve_line};
+ghost use Rattle.ob_object_compile.specs.View.{beginning_of};
 
-use crate::compile_faults::push_compile_fault;
-use crate::script_faults::push_script_fault;
+use crate::run_faults::push_run_fault;
 use ob_desk::CloseFault;
 use ob_desk_serve::ServeFault;
 use ob_desk_texts::ServeTextFault;
+use ob_object_compile::Beginning;
 use ob_text_words::numbers::push_number;
 use std::alloc::{AllocError, Global};
 
-/// The line of a fault of workers served from texts, without a line feed.
-pub fn serve_fault_line(alloc: Global, fault: ServeTextFault) -> Result<String, AllocError>
-    ensures { IfOk result (λ line. string_bytes line ≡ serve_fault_line fault) }
+/// The line of a fault of workers on an object that is to begin so, without a line feed.
+pub fn serve_fault_line(
+    alloc: Global,
+    beginning: Beginning<'_>,
+    fault: ServeTextFault,
+) -> Result<String, AllocError>
+    ensures { IfOk result (λ line. string_bytes line ≡ serve_fault_line (beginning_of beginning.entry) fault) }
 {
     let mut line = String::new(alloc);
     match fault {
-        ServeTextFault::Compile(fault) => push_compile_fault(&mut line, fault)?,
-        ServeTextFault::Script(fault) => push_script_fault(&mut line, fault)?,
+        ServeTextFault::Texts(fault) => push_run_fault(&mut line, beginning, fault)?,
         ServeTextFault::Serve(fault) => push_serve_fault(&mut line, fault)?,
         ServeTextFault::NoMemory => line.push_str("NoMemory")?,
     }

@@ -6,8 +6,8 @@ use Rattle.std.specs.List.{after_first, before_first, list_all, starts_with}
 use Rattle.std.specs.Str.{bytes_eq}
 use Rattle.std.specs.declared.io.ErrorKind.{ErrorKind}
 use Rattle.std.specs.declared.io.ErrorKind.TheVariants as Kind
-use Rattle.ob_command.specs.CommandLine.{Text, Request, RunRequest, Check, Listing, Seq, Run, RunTree, RunSteps, Serve, Draw, DrawRecord, Verify}
-use Rattle.ob_command.specs.CommandLine.{Explain, ExplainTraps, ExplainRun, ExplainRecord, Bound, default_budget}
+use Rattle.ob_command.specs.CommandLine.{Text, CallsRequest, Request, RunRequest, Check, Listing, Seq, Run, RunTree, RunSteps, Serve, Draw, DrawRecord, Verify}
+use Rattle.ob_command.specs.CommandLine.{Explain, ExplainCalls, ExplainTraps, ExplainRun, ExplainRecord, Bound, default_budget}
 
 -- the exit status of a fault with a number
 abbrev pub is_fault : (status : ℕ) → Bool
@@ -49,12 +49,20 @@ count_words processes = codes " -n " ++ decimal processes
 abbrev pub module_words : (module_name : Text) → Text
 module_words module_name = codes "`obl0 explain" ++ name_word (codes "MODULE") module_name
 
-abbrev pub script_words : (module_name script_name : Text) → Text
-script_words module_name script_name = module_words module_name ++ name_word (codes "SCRIPT") script_name
+abbrev pub script_words : CallsRequest → Text
+script_words calls = module_words calls.module_name ++ name_word (codes "SCRIPT") calls.script_name
 
 abbrev pub run_words : RunRequest → Text
-run_words run =
-    (script_words run.module_name run.script_name ++ name_word (codes "SCHEDULE") run.schedule_name) ++ count_words run.processes
+run_words run = (script_words run.calls ++ name_word (codes "SCHEDULE") run.schedule_name) ++ count_words run.calls.processes
+
+-- the record with whose values an object begins behind its option, where one is named
+abbrev pub from_words : (from_name : Option Text) → Text
+from_words None = []
+from_words (Some name) = codes " --from" ++ name_word (codes "RECORD") name
+
+-- the options behind the names of files
+abbrev pub option_words : CallsRequest → Text
+option_words calls = budget_words calls.budget ++ from_words calls.from_name
 
 -- what is said of such words
 abbrev pub telling : Text
@@ -63,21 +71,15 @@ telling = codes "` tells more\n"
 abbrev pub module_form : (module_name : Text) → Text
 module_form module_name = module_words module_name ++ telling
 
-abbrev pub calls_form : (module_name script_name : Text) (budget : ℕ) → Text
-calls_form module_name script_name budget = (script_words module_name script_name ++ budget_words budget) ++ telling
+abbrev pub calls_form : CallsRequest → Text
+calls_form calls = (script_words calls ++ option_words calls) ++ telling
 
 abbrev pub run_form : RunRequest → Text
-run_form run = (run_words run ++ budget_words run.budget) ++ telling
+run_form run = (run_words run ++ option_words run.calls) ++ telling
 
 -- calls that workers make are explained as a run by a schedule with no items
-abbrev pub served : (module_name script_name : Text) (processes budget : ℕ) → RunRequest
-served module_name script_name processes budget = record {
-  module_name = module_name;
-  script_name = script_name;
-  schedule_name = codes "/dev/null";
-  processes = processes;
-  budget = budget;
-}
+abbrev pub served : CallsRequest → RunRequest
+served calls = record { calls = calls; schedule_name = codes "/dev/null" }
 
 abbrev pub record_form : (module_name record_name : Text) → Text
 record_form module_name record_name =
@@ -107,12 +109,12 @@ abbrev pub form_about : Request → (line : Text) → Text
 form_about (Check module_name) line = module_form module_name
 form_about (Listing module_name) line = module_form module_name
 form_about (Bound module_name processes budget) line = module_form module_name
-form_about (Seq module_name script_name budget) line = calls_form module_name script_name budget
+form_about (Seq calls) line = calls_form calls
 form_about (Run run) line = run_form run
 form_about (RunTree run) line = tree_form run line
 form_about (RunSteps run) line = run_form run
-form_about (Draw run calls) line = run_form run
-form_about (Serve module_name script_name processes budget) line = run_form (served module_name script_name processes budget)
+form_about (Draw run range) line = run_form run
+form_about (Serve calls) line = run_form (served calls)
 form_about (DrawRecord module_name record_name calls) line = drawn_form module_name record_name line
 form_about (Verify module_name record_name) line = record_form module_name record_name
 form_about request line = []
@@ -154,8 +156,9 @@ told_of request line = if begins (codes "I1") line then first_place (third_word 
 
 -- a command shows its faults to people itself
 abbrev pub is_explain : Request → Bool
-is_explain (Explain module_name script_name budget) = true
-is_explain (ExplainTraps module_name script_name budget) = true
+is_explain (Explain module_name budget) = true
+is_explain (ExplainCalls calls) = true
+is_explain (ExplainTraps calls) = true
 is_explain (ExplainRun run) = true
 is_explain (ExplainRecord module_name record_name) = true
 is_explain request = false
@@ -174,7 +177,7 @@ is_fault_name name = false
 
 -- `explain` and such a number
 abbrev pub asks_of_fault : Request → Bool
-asks_of_fault (Explain name None budget) = is_fault_name name
+asks_of_fault (Explain name budget) = is_fault_name name
 asks_of_fault request = false
 
 -- why the host gives no bytes of a file

@@ -2,13 +2,13 @@
 
 ghost use Rattle.std.specs.Prelude.{◌≡◌, ◌++◌, IfOk, OnOk, option_map, string_bytes};
 ghost use Rattle.std.specs.List.{after_first, before_first, list_all};
-ghost use Rattle.obl0.specs.Hints.{asks_of_fault, beside_texts, budget_words, calls_form, cause, count_words, drawn_form, first_place, form_about};
+ghost use Rattle.obl0.specs.Hints.{asks_of_fault, beside_texts, budget_words, from_words, calls_form, cause, count_words, drawn_form, first_place, form_about};
 ghost use Rattle.obl0.specs.Hints.{is_blank, is_explain, is_fault, is_fault_name, is_of_record, is_of_text, is_plain, is_plain_byte, module_form};
-ghost use Rattle.obl0.specs.Hints.{module_words, more_about, more_about_unread, more_of, name_word, named, record_form, run_form, run_words};
+ghost use Rattle.obl0.specs.Hints.{module_words, more_about, more_about_unread, more_of, name_word, named, option_words, record_form, run_form, run_words};
 ghost use Rattle.obl0.specs.Hints.{script_words, served, third_word, told_of, tree_form};
-ghost use Rattle.ob_command.specs.Commands.{request_of, run_request_of};
+ghost use Rattle.ob_command.specs.Commands.{calls_request_of, request_of, run_request_of};
 
-use ob_command::command::{Command, RunCommand};
+use ob_command::command::{CallsCommand, Command, RunCommand};
 use ob_text_words::numbers::push_number;
 use std::alloc::{AllocError, Global};
 use std::io;
@@ -80,7 +80,8 @@ fn is_explain(command: Command<'_>) -> bool
     matches!(
         command,
         Command::Explain { .. }
-            | Command::ExplainTraps { .. }
+            | Command::ExplainCalls(_)
+            | Command::ExplainTraps(_)
             | Command::ExplainRun(_)
             | Command::ExplainRecord { .. }
     )
@@ -154,21 +155,12 @@ fn form_about(alloc: Global, command: Command<'_>, line: &[u8]) -> Result<String
         Command::Check { module_name } => module_form(alloc, module_name),
         Command::List { module_name } => module_form(alloc, module_name),
         Command::Bound { module_name, .. } => module_form(alloc, module_name),
-        Command::Seq {
-            module_name,
-            script_name,
-            budget,
-        } => calls_form(alloc, module_name, script_name, budget),
+        Command::Seq(calls) => calls_form(alloc, calls),
         Command::Run(run) => run_form(alloc, run),
         Command::RunTree(run) => tree_form(alloc, run, line),
         Command::RunSteps(run) => run_form(alloc, run),
         Command::Draw { run, .. } => run_form(alloc, run),
-        Command::Serve {
-            module_name,
-            script_name,
-            processes,
-            budget,
-        } => run_form(alloc, served(module_name, script_name, processes, budget)),
+        Command::Serve(calls) => run_form(alloc, served(calls)),
         Command::DrawRecord {
             module_name,
             record_name,
@@ -179,27 +171,20 @@ fn form_about(alloc: Global, command: Command<'_>, line: &[u8]) -> Result<String
             record_name,
         } => record_form(alloc, module_name, record_name),
         Command::Explain { .. }
-        | Command::ExplainTraps { .. }
+        | Command::ExplainCalls(_)
+        | Command::ExplainTraps(_)
         | Command::ExplainRun(_)
         | Command::ExplainRecord { .. } => Ok(String::new(alloc)),
     }
 }
 
 /// The run by a schedule with no items as which calls that workers make are explained.
-fn served<'a>(
-    module_name: &'a str,
-    script_name: &'a str,
-    processes: usize,
-    budget: u32,
-) -> RunCommand<'a>
-    ensures { run_request_of result ≡ served module_name.entry.now script_name.entry.now processes budget }
+fn served<'a>(calls: CallsCommand<'a>) -> RunCommand<'a>
+    ensures { run_request_of result ≡ served (calls_request_of calls.entry) }
 {
     RunCommand {
-        module_name,
-        script_name,
+        calls,
         schedule_name: NO_ITEMS,
-        processes,
-        budget,
     }
 }
 
@@ -211,16 +196,11 @@ fn module_form(alloc: Global, module_name: &str) -> Result<String, AllocError>
     Ok(text)
 }
 
-fn calls_form(
-    alloc: Global,
-    module_name: &str,
-    script_name: &str,
-    budget: u32,
-) -> Result<String, AllocError>
-    ensures { IfOk result (λ text. string_bytes text ≡ calls_form module_name.now script_name.now budget) }
+fn calls_form(alloc: Global, calls: CallsCommand<'_>) -> Result<String, AllocError>
+    ensures { IfOk result (λ text. string_bytes text ≡ calls_form (calls_request_of calls.entry)) }
 {
-    let mut text = script_words(alloc, module_name, script_name)?;
-    push_budget(&mut text, budget)?;
+    let mut text = script_words(alloc, calls)?;
+    push_options(&mut text, calls)?;
     text.push_str(TELLING)?;
     Ok(text)
 }
@@ -229,7 +209,7 @@ fn run_form(alloc: Global, run: RunCommand<'_>) -> Result<String, AllocError>
     ensures { IfOk result (λ text. string_bytes text ≡ run_form (run_request_of run.entry)) }
 {
     let mut text = run_words(alloc, run)?;
-    push_budget(&mut text, run.budget)?;
+    push_options(&mut text, run.calls)?;
     text.push_str(TELLING)?;
     Ok(text)
 }
@@ -295,11 +275,11 @@ fn module_words(alloc: Global, module_name: &str) -> Result<String, AllocError>
 }
 
 /// `explain` of a module and a script.
-fn script_words(alloc: Global, module_name: &str, script_name: &str) -> Result<String, AllocError>
-    ensures { IfOk result (λ text. string_bytes text ≡ script_words module_name.now script_name.now) }
+fn script_words(alloc: Global, calls: CallsCommand<'_>) -> Result<String, AllocError>
+    ensures { IfOk result (λ text. string_bytes text ≡ script_words (calls_request_of calls.entry)) }
 {
-    let mut text = module_words(alloc, module_name)?;
-    push_name(&mut text, "SCRIPT", script_name)?;
+    let mut text = module_words(alloc, calls.module_name)?;
+    push_name(&mut text, "SCRIPT", calls.script_name)?;
     Ok(text)
 }
 
@@ -307,10 +287,31 @@ fn script_words(alloc: Global, module_name: &str, script_name: &str) -> Result<S
 fn run_words(alloc: Global, run: RunCommand<'_>) -> Result<String, AllocError>
     ensures { IfOk result (λ text. string_bytes text ≡ run_words (run_request_of run.entry)) }
 {
-    let mut text = script_words(alloc, run.module_name, run.script_name)?;
+    let mut text = script_words(alloc, run.calls)?;
     push_name(&mut text, "SCHEDULE", run.schedule_name)?;
-    push_count(&mut text, run.processes)?;
+    push_count(&mut text, run.calls.processes)?;
     Ok(text)
+}
+
+/// Appends the options behind the names of files.
+fn push_options(text: &mut String, calls: CallsCommand<'_>) -> Result<(), AllocError>
+    ensures { OnOk result (string_bytes text.new ≡ string_bytes text.old ++ option_words (calls_request_of calls.entry)) }
+{
+    push_budget(text, calls.budget)?;
+    push_from(text, calls.from_name)
+}
+
+/// Appends the record with whose values an object begins behind its option, where one is named.
+fn push_from(text: &mut String, from_name: Option<&str>) -> Result<(), AllocError>
+    ensures { OnOk result (string_bytes text.new ≡ string_bytes text.old ++ from_words (option_map (λ name. name.now) from_name.entry)) }
+{
+    match from_name {
+        Some(name) => {
+            text.push_str(" --from")?;
+            push_name(text, "RECORD", name)
+        }
+        None => Ok(()),
+    }
 }
 
 /// Appends the name of a file as a word.
@@ -388,11 +389,7 @@ fn asks_of_fault(command: Command<'_>) -> bool
     ensures { result ≡ asks_of_fault (request_of command.entry) }
 {
     match command {
-        Command::Explain {
-            module_name,
-            script_name: None,
-            ..
-        } => is_fault_name(module_name),
+        Command::Explain { module_name, .. } => is_fault_name(module_name),
         _ => false,
     }
 }

@@ -1,4 +1,5 @@
 use Rattle.std.proofs.Common.{IfOk, Option, subst}
+use Rattle.std.proofs.lemmas.Result.{IfOk-weaker}
 use Rattle.ob_answer.specs.Answers.{IsRunObeyed}
 use Rattle.ob_answer.specs.declared.product.Product.TheVariants as Products
 use Rattle.ob_command.specs.Commands.{run_request_of}
@@ -12,7 +13,7 @@ pub returns-in-List : goal.returns-in-List
 returns-in-List g c = rw c.in-List.is c.obey_list.ensures
 
 pub returns-in-Seq : goal.returns-in-Seq
-returns-in-Seq g c = rw c.in-Seq.is c.obey_seq.ensures
+returns-in-Seq g c = rw c.in-Seq.is c.obey_calls.ensures
 
 pub returns-in-Run : goal.returns-in-Run
 returns-in-Run g c = rw c.in-Run.is c.obey_run.ensures
@@ -24,7 +25,7 @@ pub returns-in-RunSteps : goal.returns-in-RunSteps
 returns-in-RunSteps g c = rw c.in-RunSteps.is c.obey_run-in-RunSteps.ensures
 
 pub returns-in-Serve : goal.returns-in-Serve
-returns-in-Serve g c = rw c.in-Serve.is c.obey_serve.ensures
+returns-in-Serve g c = rw c.in-Serve.is c.obey_calls-in-Serve.ensures
 
 pub returns-in-Draw : goal.returns-in-Draw
 returns-in-Draw g c =
@@ -39,13 +40,16 @@ pub returns-in-Verify : goal.returns-in-Verify
 returns-in-Verify g c = rw c.in-Verify.is c.obey_verify.ensures
 
 pub returns-in-Explain : goal.returns-in-Explain
-returns-in-Explain g c = rw c.in-Explain.is c.obey_explain.ensures
+returns-in-Explain g c = rw c.in-Explain.is (IfOk-weaker c.obey_explain_module.result _ _ (λ a h. h 0) c.obey_explain_module.ensures)
+
+pub returns-in-ExplainCalls : goal.returns-in-ExplainCalls
+returns-in-ExplainCalls g c = rw c.in-ExplainCalls.is c.obey_calls-in-ExplainCalls.ensures
 
 pub returns-in-ExplainTraps : goal.returns-in-ExplainTraps
-returns-in-ExplainTraps g c = rw c.in-ExplainTraps.is c.obey_explain_traps.ensures
+returns-in-ExplainTraps g c = rw c.in-ExplainTraps.is c.obey_calls-in-ExplainTraps.ensures
 
 pub returns-in-ExplainRun : goal.returns-in-ExplainRun
-returns-in-ExplainRun g c = rw c.in-ExplainRun.is c.obey_explain_run.ensures
+returns-in-ExplainRun g c = rw c.in-ExplainRun.is c.obey_run-in-ExplainRun.ensures
 
 pub returns-in-ExplainRecord : goal.returns-in-ExplainRecord
 returns-in-ExplainRecord g c = rw c.in-ExplainRecord.is c.obey_explain_record.ensures

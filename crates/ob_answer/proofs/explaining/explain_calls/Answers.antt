@@ -1,22 +1,24 @@
-use Rattle.std.proofs.Common.{◌≡◌, ℕ, codes, rules, string_bytes, subst}
-use Rattle.ob_answer.specs.Explains.{IsCallsExplained, right}
-use Rattle.ob_object_sequence.specs.SequentialRun.{IsSequentialRun}
-use Rattle.ob_answer.proofs.Beginnings.{of_whole}
-use Rattle.ob_answer.proofs.FaultsShown.{calls_wrong_made}
-use Rattle.ob_answer.proofs.Made.{no_budget}
+use Rattle.std.proofs.Common.{◌≡◌, codes, rules, string_bytes}
+use Rattle.std.proofs.lemmas.Result.{IfOk-weaker}
+use Rattle.ob_answer.specs.CommandTexts.{calls_of_text, calls_texts_of, of_text}
+use Rattle.ob_answer.specs.Explains.{HasRun, IsCallsFaultShown, right}
+use Rattle.ob_answer.proofs.AtOnce.{calls_refused, holds_of_whole}
+use Rattle.ob_answer.proofs.Shown.{calls_shown, wrong_made}
+use Rattle.ob_object_sequence.specs.SequentialRun.{IsNumbered, IsSeqRefusal, IsSequentialRun}
+use Rattle.ob_object_sequence.specs.declared.sequential.SeqTextFault.TheVariants as Runs
 use Rattle.ob_answer.proofs.explaining.explain_calls.Goals as goal
 
 pub returns-in_ok-from_str-in-Ok : goal.returns-in_ok-from_str-in-Ok
 returns-in_ok-from_str-in-Ok c whole is =
-    let of = of_whole (λ t. IsSequentialRun t c.args.script.now c.from-turns.result (string_bytes c.in-Ok._lines)) c.args.module.now whole is
-    (λ long. no_budget c.from-turns.result (λ much. let bad = c.in-Ok.ensures.too_much much in cc) (λ few. let bad = c.in-Ok.ensures.too_long few long in cc)) c.in-Ok.ensures.run in
+    let t = calls_texts_of c.args.calls in
+    let of = holds_of_whole Runs.Compile t.asked (λ text. IsSequentialRun (of_text t.asked text) t.script (string_bytes c.in-Ok._lines)) _ whole is c.in-Ok.ensures.at_once c.in-Ok.ensures.run in
     let text : string_bytes c.in_ok-from_str-in-Ok.field-0 ≡ codes "ok\n" = search rules in
-    subst (λ (b : ℕ). IsCallsExplained c.args.module_name.now whole c.args.script_name.now c.args.script.now b c.printed.result) c.from-turns.ensures
-    (right (string_bytes c.in-Ok._lines, of) (rw (← text) c.printed.ensures))
+    right (string_bytes c.in-Ok._lines, of) (rw (← text) c.printed.ensures)
 
 pub returns-in-Err : goal.returns-in-Err
 returns-in-Err c =
-    rw (← c.from-turns.ensures) (calls_wrong_made c.args.module_name.now c.args.module.now c.args.script_name.now c.args.script.now c.from-turns.result c.in-Err.fault
-    c.in-Err.ensures.fault c.in-Err.ensures.memory c.in-Err.ensures.no_run
-    (λ much. let e = c.in-Err.ensures.too_much much in cc) (λ few long. let e = c.in-Err.ensures.too_long few long in cc)
-    c.calls_wrong.result c.calls_wrong.ensures.fault c.calls_wrong.ensures.memory)
+    let t = calls_texts_of c.args.calls in
+    wrong_made Runs.Compile t.asked (λ text. IsSeqRefusal (of_text t.asked text) t.script) (λ text. IsCallsFaultShown (calls_of_text t text)) c.in-Err.fault
+    c.in-Err.ensures.at_once (λ whole. calls_refused (of_text t.asked whole) t.script) (calls_shown t)
+    (λ text. HasRun (of_text t.asked text) t.script) IsNumbered c.calls_wrong.result c.calls_wrong.ensures.fault
+    (IfOk-weaker c.calls_wrong.result _ _ (λ _ known. (known, c.in-Err.ensures.refused.memory)) c.calls_wrong.ensures.memory) c.in-Err.ensures.refused

@@ -2,7 +2,7 @@ use Rattle.std.proofs.Common.{◌≡◌, codes, rules, string_bytes}
 use Rattle.ob_answer.specs.Explains.{right}
 use Rattle.ob_object_verify.specs.Verified.{IsVerified}
 use Rattle.ob_answer.proofs.Beginnings.{of_whole}
-use Rattle.ob_answer.proofs.FaultsShown.{record_wrong_made}
+use Rattle.ob_answer.proofs.Shown.{record_wrong_made}
 use Rattle.ob_answer.proofs.explaining_runs.explain_record.Goals as goal
 
 pub returns-in_ok-from_str-in-Ok : goal.returns-in_ok-from_str-in-Ok

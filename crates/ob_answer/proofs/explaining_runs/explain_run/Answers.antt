@@ -1,30 +1,27 @@
-use Rattle.std.proofs.Common.{◌≡◌, ℕ, IfOk, codes, rules, string_bytes, subst, sym}
-use Rattle.ob_answer.specs.Explains.{IsRunExplained, IsRunFaultShown, right}
-use Rattle.ob_answer.specs.Reads.{OfWhole}
-use Rattle.ob_command.specs.Commands.{run_request_of}
-use Rattle.ob_object_perform.specs.Performance.{IsPerformance}
+use Rattle.std.proofs.Common.{◌≡◌, codes, rules, string_bytes}
+use Rattle.std.proofs.lemmas.Result.{IfOk-weaker}
+use Rattle.ob_answer.specs.CommandTexts.{run_of_text, run_texts_of, texts_of_text}
+use Rattle.ob_answer.specs.Explains.{IsRunFaultShown, right}
+use Rattle.ob_answer.proofs.AtOnce.{holds_of_whole, run_refused}
+use Rattle.ob_answer.proofs.Shown.{run_shown, wrong_made}
+use Rattle.ob_object_compile.specs.Compilation.{IsShort}
+use Rattle.ob_object_perform.specs.Performance.{IsNumbered, IsPerformance, IsRefusal}
+use Rattle.ob_object_perform.specs.Printed.{HasPerformance}
+use Rattle.ob_object_perform.specs.declared.performing.PerformFault.TheVariants as Perform
 use Rattle.ob_object_record.specs.Record.{record_of}
-use Rattle.ob_answer.proofs.Beginnings.{of_whole}
-use Rattle.ob_answer.proofs.FaultsShown.{run_wrong_made}
-use Rattle.ob_answer.proofs.Made.{no_numbers}
 use Rattle.ob_answer.proofs.explaining_runs.explain_run.Goals as goal
 
 pub returns-in_ok-from_str-in-Ok : goal.returns-in_ok-from_str-in-Ok
 returns-in_ok-from_str-in-Ok c whole is =
-    let of = of_whole (λ t. IsPerformance t c.args.run.processes c.from-turns.result c.args.script.now c.args.schedule.now (record_of c.in-Ok._record)) c.args.module.now whole is
-    (λ long. no_numbers c.args.run.processes c.from-turns.result (λ h. let bad = c.in-Ok.ensures.processes h in cc) (λ some few much. let bad = c.in-Ok.ensures.budget some few much in cc)
-    (λ some few within. let bad = c.in-Ok.ensures.too_long some few within long in cc)) c.in-Ok.ensures.performance in
+    let t = (run_texts_of c.args.run).texts in
+    let of = holds_of_whole Perform.Compile t.asked (λ text. IsPerformance (texts_of_text t text) (record_of c.in-Ok._record)) _ whole is c.in-Ok.ensures.at_once c.in-Ok.ensures.performance in
     let text : string_bytes c.in_ok-from_str-in-Ok.field-0 ≡ codes "ok\n" = search rules in
-    let within = subst (λ (b : ℕ). IsPerformance whole c.args.run.processes b c.args.script.now c.args.schedule.now (record_of c.in-Ok._record)) c.from-turns.ensures of in
-    right (record_of c.in-Ok._record, within) (rw (← text) c.printed.ensures)
+    right (record_of c.in-Ok._record, of) (rw (← text) c.printed.ensures)
 
 pub returns-in-Err : goal.returns-in-Err
 returns-in-Err c =
-    let shown = subst (λ (b : ℕ). IfOk c.run_wrong.result (λ a. IsRunFaultShown (record (run_request_of c.args.run) { budget = b }) c.args.module.now c.args.script.now c.args.schedule.now c.in-Err.fault a))
-    (sym c.from-turns.ensures) c.run_wrong.ensures.fault in
-    subst (λ (b : ℕ). IfOk c.run_wrong.result (OfWhole c.args.module.now (λ whole. IsRunExplained (record (run_request_of c.args.run) { budget = b }) whole c.args.script.now c.args.schedule.now)))
-    c.from-turns.ensures
-    (run_wrong_made (record (run_request_of c.args.run) { budget = c.from-turns.result }) c.args.module.now c.args.script.now c.args.schedule.now c.in-Err.fault
-    c.run_wrong.result shown c.run_wrong.ensures.memory
-    c.in-Err.ensures.fault c.in-Err.ensures.memory c.in-Err.ensures.none (λ h. let e = c.in-Err.ensures.processes h in cc)
-    (λ some few much. let e = c.in-Err.ensures.budget some few much in cc) (λ some few within long. let e = c.in-Err.ensures.too_long some few within long in cc))
+    let t = run_texts_of c.args.run in
+    wrong_made Perform.Compile t.texts.asked (λ text. IsRefusal IsShort (texts_of_text t.texts text)) (λ text. IsRunFaultShown (run_of_text t text)) c.in-Err.fault
+    c.in-Err.ensures.at_once (λ whole. run_refused IsShort (texts_of_text t.texts whole)) (run_shown t)
+    (λ text. HasPerformance (texts_of_text t.texts text)) IsNumbered c.run_wrong.result c.run_wrong.ensures.fault
+    (IfOk-weaker c.run_wrong.result _ _ (λ _ known. (known, c.in-Err.ensures.refused.memory)) c.run_wrong.ensures.memory) c.in-Err.ensures.refused

@@ -1,24 +1,24 @@
-use Rattle.std.proofs.Common.{◌≡◌, ◌∙◌, ℕ, string_bytes, subst}
-use Rattle.ob_answer.specs.Explains.{AreTrapsExplained, source, told}
-use Rattle.ob_explained_traps.specs.TrapsText.{IsTrapsText}
-use Rattle.ob_answer.proofs.Beginnings.{of_whole}
-use Rattle.ob_answer.proofs.FaultsShown.{traps_untold_made}
-use Rattle.ob_answer.proofs.Made.{no_budget}
+use Rattle.std.proofs.Common.{string_bytes}
+use Rattle.std.proofs.lemmas.Result.{IfOk-weaker}
+use Rattle.ob_answer.specs.CommandTexts.{calls_of_text, calls_texts_of}
+use Rattle.ob_answer.specs.Explains.{TellsTraps, traps_told}
+use Rattle.ob_answer.proofs.AtOnce.{holds_of_whole}
+use Rattle.ob_answer.proofs.Shown.{traps_untold_made}
+use Rattle.ob_object_sequence.specs.declared.sequential.SeqTextFault.TheVariants as Runs
 use Rattle.ob_answer.proofs.explaining_traps.explain_traps.Goals as goal
 
 pub returns-in-Ok : goal.returns-in-Ok
 returns-in-Ok c whole is =
-    let here : IsTrapsText (source c.args.module_name.now c.args.module.now) (source c.args.script_name.now c.args.script.now) c.from-turns.result (string_bytes c.in-Ok.text) =
-    rw (← c.in_ok-module_shown.ensures, ← c.deref.ensures, ← c.in_ok-script_shown.ensures, ← c.deref-2.ensures) c.in-Ok.ensures.told in
-    subst (λ (b : ℕ). AreTrapsExplained c.args.module_name.now whole c.args.script_name.now c.args.script.now b c.printed.result) c.from-turns.ensures
-    (told (string_bytes c.in-Ok.text)
-    (of_whole (λ t. IsTrapsText (source c.args.module_name.now t) (source c.args.script_name.now c.args.script.now) c.from-turns.result (string_bytes c.in-Ok.text)) c.args.module.now whole is
-    (λ long. no_budget c.from-turns.result (λ much. let bad = c.in-Ok.ensures.too_much much in cc) (λ few. let bad = c.in-Ok.ensures.too_long few long in cc)) here)
-    c.printed.ensures)
+    let t = calls_texts_of c.args.calls in
+    let here : TellsTraps t (string_bytes c.in-Ok.text) =
+    rw (← c.in_ok-module_shown.ensures, ← c.deref-2.ensures, ← c.in_ok-script_shown.ensures, ← c.deref.ensures) c.in-Ok.ensures.told in
+    traps_told (string_bytes c.in-Ok.text)
+    (holds_of_whole Runs.Compile t.asked (λ text. TellsTraps (calls_of_text t text) (string_bytes c.in-Ok.text)) _ whole is c.in-Ok.ensures.at_once here)
+    c.printed.ensures
 
 pub returns : goal.returns
 returns c =
-    rw (← c.from-turns.ensures) (traps_untold_made c.args.module_name.now c.args.module.now c.args.script_name.now c.args.script.now c.from-turns.result c.in-Err.fault
-    c.in-Err.ensures.fault c.in-Err.ensures.memory c.in-Err.ensures.no_run
-    (λ much. let e = c.in-Err.ensures.too_much much in cc) (λ few long. let e = c.in-Err.ensures.too_long few long in cc)
-    c.calls_wrong.result c.calls_wrong.ensures.fault c.calls_wrong.ensures.memory)
+    let t = calls_texts_of c.args.calls in
+    traps_untold_made t c.in-Err.fault c.calls_wrong.result c.calls_wrong.ensures.fault
+    (IfOk-weaker c.calls_wrong.result _ _ (λ _ known. (known, c.in-Err.ensures.refused.memory)) c.calls_wrong.ensures.memory)
+    c.in-Err.ensures.at_once c.in-Err.ensures.refused

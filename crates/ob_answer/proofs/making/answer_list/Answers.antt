@@ -1,16 +1,22 @@
 use Rattle.std.proofs.Common.{string_bytes}
+use Rattle.std.proofs.lemmas.Result.{IfOk-weaker}
 use Rattle.ob_answer.specs.Answers.{said}
+use Rattle.ob_answer.proofs.AtOnce.{holds_of_whole, object_refused}
+use Rattle.ob_answer.proofs.Made.{text_refused}
+use Rattle.ob_fault_lines.specs.CompileFaultLines.{compile_line}
+use Rattle.ob_object_compile.specs.Asked.{ByBody, by_body}
+use Rattle.ob_object_compile.specs.Compilation.{IsNumbered, IsRefusal, IsShort, default_budget}
 use Rattle.ob_object_compile.specs.Listed.{IsListing}
-use Rattle.ob_answer.proofs.Beginnings.{of_whole}
-use Rattle.ob_answer.proofs.Made.{list_refused_made}
 use Rattle.ob_answer.proofs.making.answer_list.Goals as goal
 
 pub returns-in-Ok : goal.returns-in-Ok
 returns-in-Ok c whole is =
     said (string_bytes c.in-Ok.lines)
-    (of_whole (λ t. IsListing t (string_bytes c.in-Ok.lines)) c.args.module.now whole is (λ long. let bad = c.in-Ok.ensures.too_long long in cc) c.in-Ok.ensures.listing)
+    (holds_of_whole (λ e. e) (by_body c.args.module.now 1 default_budget) (λ t. IsListing t (string_bytes c.in-Ok.lines)) _ whole is c.in-Ok.ensures.at_once c.in-Ok.ensures.listing)
     c.printed.ensures
 
 pub returns-in-Err : goal.returns-in-Err
-returns-in-Err c = list_refused_made c.args.module.now c.in-Err.fault c.compile_refused.result c.compile_refused.ensures.fault c.compile_refused.ensures.memory
-    c.in-Err.ensures.fault c.in-Err.ensures.memory c.in-Err.ensures.none (λ long. let e = c.in-Err.ensures.too_long long in cc)
+returns-in-Err c = text_refused (λ e. e) (by_body c.args.module.now 1 default_budget) IsListing (λ t. IsRefusal IsShort (by_body t 1 default_budget)) IsNumbered (compile_line ByBody)
+    c.in-Err.fault c.compile_refused.result c.compile_refused.ensures.fault
+    (IfOk-weaker c.compile_refused.result _ _ (λ _ known. (known, c.in-Err.ensures.refused.memory)) c.compile_refused.ensures.memory)
+    c.in-Err.ensures.at_once (λ whole. object_refused IsShort (by_body whole 1 default_budget)) c.in-Err.ensures.refused

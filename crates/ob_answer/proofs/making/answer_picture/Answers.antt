@@ -1,22 +1,30 @@
-use Rattle.std.proofs.Common.{ℕ, string_bytes, subst}
-use Rattle.ob_answer.specs.Answers.{IsPictureAnswer, said}
-use Rattle.ob_answer.proofs.Beginnings.{of_whole}
-use Rattle.ob_answer.proofs.Made.{draw_refused_made, no_numbers}
-use Rattle.ob_object_perform.specs.Pictured.{IsPicturePrinted}
+use Rattle.std.proofs.Common.{string_bytes}
+use Rattle.std.proofs.lemmas.Result.{IfOk-weaker}
+use Rattle.ob_answer.specs.Answers.{said}
+use Rattle.ob_answer.specs.CommandTexts.{texts_of_text}
+use Rattle.ob_answer.specs.Refusals.{IsNumberedDraw}
+use Rattle.ob_answer.proofs.AtOnce.{holds_of_whole, picture_refused}
+use Rattle.ob_answer.proofs.Made.{numbered_draw, text_refused}
+use Rattle.ob_fault_lines.specs.DrawFaultLines.{draw_fault_line}
+use Rattle.ob_object_compile.specs.View.{beginning_of}
+use Rattle.ob_object_perform.specs.Pictured.{IsDrawRefusal, IsPicturePrinted}
+use Rattle.ob_object_perform.specs.Texts.{texts_of}
+use Rattle.ob_object_perform.specs.declared.drawing.DrawFault.TheVariants as Draw
+use Rattle.ob_object_perform.specs.declared.performing.PerformFault.TheVariants as Perform
 use Rattle.ob_answer.proofs.making.answer_picture.Goals as goal
 
 pub returns-in-Ok : goal.returns-in-Ok
 returns-in-Ok c whole is =
-    subst (λ (b : ℕ). IsPictureAnswer c.args.calls whole c.args.processes b c.args.script.now c.args.schedule.now c.printed.result) c.from-turns.ensures
-    (said (string_bytes c.in-Ok.picture)
-    (of_whole (λ t. IsPicturePrinted t c.args.processes c.from-turns.result c.args.script.now c.args.schedule.now c.args.calls (string_bytes c.in-Ok.picture)) c.args.module.now whole is
-    (λ long. no_numbers c.args.processes c.from-turns.result (λ h. let bad = c.in-Ok.ensures.processes h in cc) (λ some few much. let bad = c.in-Ok.ensures.budget some few much in cc)
-    (λ some few within. let bad = c.in-Ok.ensures.too_long some few within long in cc)) c.in-Ok.ensures.picture)
-    c.printed.ensures)
+    let t = texts_of c.args.texts in
+    said (string_bytes c.in-Ok.picture)
+    (holds_of_whole (λ e. Draw.Run (Perform.Compile e)) t.asked (λ text. IsPicturePrinted (texts_of_text t text) c.args.calls (string_bytes c.in-Ok.picture)) _ whole is
+    c.in-Ok.ensures.at_once c.in-Ok.ensures.picture)
+    c.printed.ensures
 
 pub returns-in-Err : goal.returns-in-Err
 returns-in-Err c =
-    rw (← c.from-turns.ensures) (draw_refused_made c.args.calls c.args.module.now c.args.processes c.from-turns.result c.args.script.now c.args.schedule.now c.in-Err.fault
-    c.draw_refused.result c.draw_refused.ensures.fault c.draw_refused.ensures.memory
-    c.in-Err.ensures.fault c.in-Err.ensures.memory c.in-Err.ensures.none (λ h. let e = c.in-Err.ensures.processes h in cc)
-    (λ some few much. let e = c.in-Err.ensures.budget some few much in cc) (λ some few within long. let e = c.in-Err.ensures.too_long some few within long in cc))
+    let t = texts_of c.args.texts in
+    text_refused (λ e. Draw.Run (Perform.Compile e)) t.asked (λ text. IsPicturePrinted (texts_of_text t text) c.args.calls) (λ text. IsDrawRefusal (texts_of_text t text) c.args.calls) IsNumberedDraw
+    (draw_fault_line (beginning_of c.args.texts.asked.beginning)) c.in-Err.fault c.draw_refused.result c.draw_refused.ensures.fault
+    (IfOk-weaker c.draw_refused.result _ _ (λ _ known. numbered_draw c.in-Err.fault known c.in-Err.ensures.refused.memory) c.draw_refused.ensures.memory)
+    c.in-Err.ensures.at_once (λ whole. picture_refused (texts_of_text t whole) c.args.calls) c.in-Err.ensures.refused

@@ -1,22 +1,28 @@
-use Rattle.std.proofs.Common.{ℕ, string_bytes, subst}
-use Rattle.ob_answer.specs.Answers.{IsServeAnswer, said}
-use Rattle.ob_answer.proofs.Beginnings.{of_whole}
-use Rattle.ob_answer.proofs.Made.{no_numbers, serve_refused_made}
-use Rattle.ob_desk_texts.specs.ServedTexts.{IsServedPrinted}
+use Rattle.std.proofs.Common.{string_bytes}
+use Rattle.std.proofs.lemmas.Result.{IfOk-weaker}
+use Rattle.ob_answer.specs.Answers.{said}
+use Rattle.ob_answer.specs.CommandTexts.{of_text}
+use Rattle.ob_answer.proofs.AtOnce.{holds_of_whole, workers_refused}
+use Rattle.ob_answer.proofs.Made.{text_refused}
+use Rattle.ob_desk_texts.specs.ServedTexts.{IsNumbered, IsServedPrinted, IsUngatedRefusal}
+use Rattle.ob_desk_texts.specs.declared.texts.ServeTextFault.TheVariants as Serve
+use Rattle.ob_fault_lines.specs.ServeFaultLines.{serve_fault_line}
+use Rattle.ob_object_compile.specs.View.{asked_of, beginning_of}
+use Rattle.ob_object_perform.specs.declared.performing.PerformFault.TheVariants as Perform
 use Rattle.ob_answer.proofs.making.answer_serve.Goals as goal
 
 pub returns-in-Ok : goal.returns-in-Ok
 returns-in-Ok g c whole is =
-    subst (λ (b : ℕ). IsServeAnswer whole c.args.processes b c.args.script.now c.printed.result) c.from.ensures
-    (said (string_bytes c.in-Ok.lines)
-    (of_whole (λ t. IsServedPrinted t c.args.processes c.from.result c.args.script.now (string_bytes c.in-Ok.lines)) c.args.module.now whole is
-    (λ long. no_numbers c.args.processes c.from.result (λ h. let bad = c.in-Ok.ensures.processes h in cc) (λ some few much. let bad = c.in-Ok.ensures.budget some few much in cc)
-    (λ some few within. let bad = c.in-Ok.ensures.too_long some few within long in cc)) c.in-Ok.ensures.served)
-    c.printed.ensures)
+    let a = asked_of c.args.asked in
+    said (string_bytes c.in-Ok.lines)
+    (holds_of_whole (λ e. Serve.Texts (Perform.Compile e)) a (λ t. IsServedPrinted (of_text a t) c.args.script.now (string_bytes c.in-Ok.lines)) _ whole is
+    c.in-Ok.ensures.at_once c.in-Ok.ensures.served)
+    c.printed.ensures
 
 pub returns-in-Err : goal.returns-in-Err
 returns-in-Err g c =
-    rw (← c.from.ensures) (serve_refused_made c.args.module.now c.args.processes c.from.result c.args.script.now c.in-Err.fault
-    c.serve_refused.result c.serve_refused.ensures.fault c.serve_refused.ensures.memory
-    c.in-Err.ensures.fault c.in-Err.ensures.memory c.in-Err.ensures.none (λ h. let e = c.in-Err.ensures.processes h in cc)
-    (λ some few much. let e = c.in-Err.ensures.budget some few much in cc) (λ some few within long. let e = c.in-Err.ensures.too_long some few within long in cc))
+    let a = asked_of c.args.asked in
+    text_refused (λ e. Serve.Texts (Perform.Compile e)) a (λ t. IsServedPrinted (of_text a t) c.args.script.now) (λ t. IsUngatedRefusal (of_text a t) c.args.script.now) IsNumbered
+    (serve_fault_line (beginning_of c.args.asked.beginning)) c.in-Err.fault c.serve_refused.result c.serve_refused.ensures.fault
+    (IfOk-weaker c.serve_refused.result _ _ (λ _ known. (known, c.in-Err.ensures.refused.memory)) c.serve_refused.ensures.memory)
+    c.in-Err.ensures.at_once (λ whole. workers_refused (of_text a whole) c.args.script.now) c.in-Err.ensures.refused

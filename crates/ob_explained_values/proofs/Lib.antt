@@ -1,0 +1,2 @@
+pub mod ValueLines
+pub mod ToldLines

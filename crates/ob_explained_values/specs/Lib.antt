@@ -1,0 +1,3 @@
+pub mod ValueLines
+pub mod ValueMarks
+pub mod ExplainedValues
