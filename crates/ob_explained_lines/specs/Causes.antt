@@ -1,5 +1,5 @@
 -- Why a line of a record can't stand where it does, by the lines before it and by the exports of the module.
-use Rattle.std.specs.Prelude.{◌≡◌, ◌≢◌, ◌⊎◌, ◌<◌, ◌^◌, ◌+◌, ◌-◌, ◌==◌, ℕ, suc, Bool, false, List, [], ◌∷◌, ◌++◌, Option, None, Some, MatchOption, codes}
+use Rattle.std.specs.Prelude.{◌≡◌, ◌≢◌, ◌⊎◌, ◌<◌, ◌^◌, ◌+◌, ◌-◌, ◌==◌, ◌||◌, ℕ, suc, Bool, false, List, [], ◌∷◌, ◌++◌, Option, None, Some, MatchOption, codes}
 use Rattle.std.specs.Prelude.{decimal, if◌then◌else◌, length, map, option_and_then, option_map, slice_get, string_bytes, unwrap_or}
 use Rattle.std.specs.Option.{option_map_or}
 use Rattle.std.specs.Str.{bytes_eq}
@@ -45,9 +45,13 @@ words_before (Spots.Value number) = suc (suc (suc number))
 abbrev pub line_words : List ℕ → (number : ℕ) → List Word
 line_words text number = words (unwrap_or (slice_get (lines text) (number - 1)) [])
 
--- the title of a record says version 2, which has a budget
+-- the title of a record says version 2 or 3, which have a budget
 abbrev pub has_budget : (title : List Word) → Bool
-has_budget title = option_map_or (λ version. bytes_eq version (codes "2")) (slice_get title 2) false
+has_budget title = option_map_or (λ version. bytes_eq version (codes "2") || bytes_eq version (codes "3")) (slice_get title 2) false
+
+-- the title says version 3, which has the values that the object began with
+abbrev pub has_openings : (title : List Word) → Bool
+has_openings title = option_map_or (λ version. bytes_eq version (codes "3")) (slice_get title 2) false
 
 -- how many processes there are, by the words of the second line
 abbrev pub IsProcessCount : List Word → Option ℕ → Type 0

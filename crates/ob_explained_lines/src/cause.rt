@@ -6,7 +6,7 @@ ghost use Rattle.ob_explain_arguments.specs.Calls.{told_of};
 ghost use Rattle.ob_explained_lines.specs.CallPlaces.{NamesNoCall};
 ghost use Rattle.ob_explained_lines.specs.Causes.{IsBeginCause, IsCallsCause, IsCountedCause, IsDoneCause, IsEndCause, IsLetter, IsLetterCause, IsLineCause};
 ghost use Rattle.ob_explained_lines.specs.Causes.{IsDoneTold, IsSaidBegin, IsSaidEnd, IsOutcome, IsOutcomeCause, IsPlacedBegin, IsPlacedEnd, IsProcessCount};
-ghost use Rattle.ob_explained_lines.specs.Causes.{IsReplyCause, IsStranger, IsWordsCause, begin_told, called_by, cause_at, cause_of, done_told, has_budget};
+ghost use Rattle.ob_explained_lines.specs.Causes.{IsReplyCause, IsStranger, IsWordsCause, begin_told, called_by, cause_at, cause_of, done_told, has_budget, has_openings};
 ghost use Rattle.ob_explained_lines.specs.Causes.{id_sentence, line_words, object_of, reply_sentence, told_spot, trap_sentence};
 ghost use Rattle.ob_interface.specs.Export.{var_types};
 ghost use Rattle.ob_interface.specs.View.{signature_of};
@@ -105,15 +105,33 @@ pub fn has_budget(alloc: Global, text: &[u8]) -> Result<bool, AllocError>
     ensures { IfOk result (λ has. has ≡ has_budget (line_words text.now 1)) }
 {
     let words = line_words(alloc, text, 1)?;
-    Ok(is_second(&words))
+    Ok(is_budgeted(&words))
 }
 
-/// Whether a title says version 2.
-fn is_second(title: &[&[u8]]) -> bool
+/// Whether a title says version 2 or 3.
+fn is_budgeted(title: &[&[u8]]) -> bool
     ensures { result ≡ has_budget (map (λ w. w.now) title.now) }
 {
     match title.get(2) {
-        Some(version) => *version == b"2".as_slice(),
+        Some(version) => *version == b"2".as_slice() || *version == b"3".as_slice(),
+        None => false,
+    }
+}
+
+/// Whether a record has lines for the values that its object began with, by its title.
+pub fn has_openings(alloc: Global, text: &[u8]) -> Result<bool, AllocError>
+    ensures { IfOk result (λ has. has ≡ has_openings (line_words text.now 1)) }
+{
+    let words = line_words(alloc, text, 1)?;
+    Ok(is_opened(&words))
+}
+
+/// Whether a title says version 3.
+fn is_opened(title: &[&[u8]]) -> bool
+    ensures { result ≡ has_openings (map (λ w. w.now) title.now) }
+{
+    match title.get(2) {
+        Some(version) => *version == b"3".as_slice(),
         None => false,
     }
 }

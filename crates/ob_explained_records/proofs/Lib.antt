@@ -1,1 +1,2 @@
 pub mod Somewhere
+pub mod VariableNames

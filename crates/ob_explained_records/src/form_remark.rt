@@ -1,24 +1,25 @@
 //! What is wrong in a line of a record, in a sentence.
 
-ghost use Rattle.std.specs.Prelude.{◌≡◌, ℕ, suc, IfOk, IfSome, None, map, option_map};
+ghost use Rattle.std.specs.Prelude.{◌≡◌, ℕ, suc, IfOk, IfSome, None, map, option_map, string_bytes};
 ghost use Rattle.ob_check_text.specs.CheckedText.{IsNumberedText, TellsTextMemoryApart, is_text_memory};
 ghost use Rattle.ob_explain.specs.Remarks.{remark_of};
 ghost use Rattle.ob_explained.specs.Marks.{MarksWord};
 ghost use Rattle.ob_explained.specs.ScriptPlaces.{in_line, word_place};
-ghost use Rattle.ob_explained_lines.specs.Causes.{IsLineCause, cause_of, words_before};
-ghost use Rattle.ob_explained_records.specs.FormRemarks.{IsBodyCause, IsFormCause, IsFormRemark, IsModuleCause, budget_cause, form_sentence, is_apart};
-ghost use Rattle.ob_explained_records.specs.FormRemarks.{is_behind, is_budget_line, letter_sentence, told_form};
+ghost use Rattle.ob_explained_lines.specs.Causes.{IsLineCause, cause_of, has_openings, line_words, words_before};
+ghost use Rattle.ob_explained_records.specs.FormRemarks.{IsBodyCause, IsFormCause, IsFormRemark, IsModuleCause, IsPlacedCause, budget_cause, form_sentence, is_apart};
+ghost use Rattle.ob_explained_records.specs.FormRemarks.{is_behind, is_budget_line, letter_sentence, opened_at, opening_cause, told_form};
 ghost use Rattle.ob_interface.specs.View.{signature_of};
 ghost use Rattle.ob_typing.specs.ModuleText.{IsModule};
 ghost use Rattle.ob_typing.specs.Program.{Program};
 
 use ob_check_text::TextFault;
 use ob_check_text::checked_text::checked_text;
+use ob_checked::program::Variable;
 use ob_explain::remark::Remark;
 use ob_explain_forms::records::title_sentence;
 use ob_explain_hints::slips::begins_with;
 use ob_explained::script_place::{behind_place, first_place, script_line, word_place};
-use ob_explained_lines::cause::{Cause, Object, Spot, has_budget, line_cause};
+use ob_explained_lines::cause::{Cause, Object, Spot, has_budget, has_openings, line_cause};
 use ob_explained_lines::record_line::{Wanted, first_line};
 use ob_interface::export::Export;
 use std::alloc::{AllocError, Global};
@@ -107,7 +108,7 @@ fn budget_cause(alloc: Global) -> Result<Option<Cause>, AllocError>
 {
     let sentence = String::from_str(
         alloc,
-        "the third line of a record of version 2 is b and how many turns each call has, 0 to 1000000, as b 100000",
+        "the third line of a record of version 2 or 3 is b and how many turns each call has, 0 to 1000000, as b 100000",
     )?;
     Ok(Some(Cause {
         spot: Spot::Word(0),
@@ -115,7 +116,7 @@ fn budget_cause(alloc: Global) -> Result<Option<Cause>, AllocError>
     }))
 }
 
-/// Why a line can't stand where it does, by the exports of the module.
+/// Why a line can't stand where it does, by the variables and the exports of the module.
 fn module_cause(
     alloc: Global,
     object: &[u8],
@@ -125,9 +126,58 @@ fn module_cause(
     ensures { IfOk result (λ cause. IsModuleCause object.now text.now number (option_map cause_of cause)) }
 {
     match checked_text(alloc, object) {
-        Ok(checked) => exports_cause(alloc, object, checked.exports(), text, number),
+        Ok(checked) => {
+            let openings = has_openings(alloc, text)?;
+            let variables = checked.program().variables.as_slice();
+            let opened = opened_at(openings, variables, number);
+            placed_cause(alloc, object, checked.exports(), text, number, opened)
+        }
         Err(fault) => no_cause(object, text, number, fault),
     }
+}
+
+/// The variable whose value stands in the line of a number, from 4 on.
+fn opened_at(openings: bool, variables: &[Variable], number: usize) -> Option<&str>
+    ensures { option_map (λ n. n.now) result ≡ opened_at openings (map (λ v. string_bytes v.name) variables.now) number }
+{
+    if openings {
+        let variable = variables.get(number.saturating_sub(4))?;
+        Some(variable.name.as_str())
+    } else {
+        None
+    }
+}
+
+/// Why a line can't stand where it does that is the one of a variable, or any other.
+fn placed_cause(
+    alloc: Global,
+    object: &[u8],
+    exports: &[Export],
+    text: &[u8],
+    number: usize,
+    opened: Option<&str>,
+) -> Result<Option<Cause>, AllocError>
+    ensures { IfOk result (λ cause.
+        IsPlacedCause (option_map (λ n. n.now) opened.entry) (record { text = object.now; exports = map signature_of exports.now }) text.now number
+        (option_map cause_of cause)) }
+{
+    match opened {
+        Some(name) => opening_cause(alloc, name),
+        None => exports_cause(alloc, object, exports, text, number),
+    }
+}
+
+/// That a value of the variable stands there.
+fn opening_cause(alloc: Global, name: &str) -> Result<Option<Cause>, AllocError>
+    ensures { IfOk result (λ cause. option_map cause_of cause ≡ opening_cause name.now) }
+{
+    let mut sentence = String::from_str(alloc, "here stands I, the variable ")?;
+    sentence.push_str(name)?;
+    sentence.push_str(" of the module and a value of its type, with which the object began")?;
+    Ok(Some(Cause {
+        spot: Spot::Word(0),
+        sentence,
+    }))
 }
 
 /// Why a line can't stand where it does, where these are the exports.
@@ -270,7 +320,9 @@ fn letter_sentence(from: &[u8]) -> &'static str
     } else if begins_with(from, b'A') || begins_with(from, b'O') {
         "behind A and O stand calls, as 0.1, of processes that there are"
     } else if begins_with(from, b'b') {
-        "the third line of version 2 is b and the budget, 0 to 1000000, and no other line is"
+        "the third line of versions 2 and 3 is b and the budget, 0 to 1000000, and no other line is"
+    } else if begins_with(from, b'I') {
+        "I lines stand in version 3 alone, behind the third line, one for each variable of the module"
     } else {
         "here stands an event (B, A, E) or the order (O)"
     }

@@ -3,7 +3,6 @@ use Rattle.std.proofs.Common.{◌≡◌, ◌≢◌, ℕ, List, Option, Some, Non
 use Rattle.ob_check_text.specs.CheckedText.{IsNumberedText}
 use Rattle.ob_check_text.specs.declared.checked_text.TextFault.{TextFault}
 use Rattle.ob_check_text.specs.declared.checked_text.TextFault.TheVariants as Text
-use Rattle.ob_checked.specs.Exports.{signatures}
 use Rattle.ob_object_draw.specs.RecordPictures.{HasNoPicture, IsNumbered, IsRecordPicture, moments_of, of_picture, of_record, of_text}
 use Rattle.ob_text_picture_chart.specs.Charts.{begun}
 use Rattle.ob_text_picture_chart.specs.Faults.{IsRangeFault, MayBeShown}
@@ -40,15 +39,15 @@ module _ (module_text record_text : List ℕ) (calls : Option CallRange) where
 
   module _ (program : Program) (only : (other : Program) → IsModule module_text other → other ≡ program) where
     -- the record of a picture is one of this program's object
-    record_here : (output : List ℕ) (p : IsRecordPicture module_text record_text calls output) → IsRecord (signatures program) record_text p.tells
+    record_here : (output : List ℕ) (p : IsRecordPicture module_text record_text calls output) → IsRecord program record_text p.tells
     record_here output p =
-        subst (λ (q : Program). IsRecord (signatures q) record_text p.tells) (only p.program p.read.is_module) p.read.is_record
+        subst (λ (q : Program). IsRecord q record_text p.tells) (only p.program p.read.is_module) p.read.is_record
 
-    pub no_record : (e : RecordFault) → IsRecordFault (signatures program) record_text e → IsNumbered (of_record e) → HasNoPicture module_text record_text calls
+    pub no_record : (e : RecordFault) → IsRecordFault program record_text e → IsNumbered (of_record e) → HasNoPicture module_text record_text calls
     no_record (Record.Form line) h numbered output p = h.none tt p.tells (record_here output p)
     no_record Record.NoMemory h numbered output p = numbered.0 refl
 
-    module _ (tells : Told) (alone : (other : Told) → IsRecord (signatures program) record_text other → other ≡ tells) (seen : List Moment) (same : seen ≡ moments_of tells) where
+    module _ (tells : Told) (alone : (other : Told) → IsRecord program record_text other → other ≡ tells) (seen : List Moment) (same : seen ≡ moments_of tells) where
       shown_here : (output : List ℕ) → IsRecordPicture module_text record_text calls output → MayBeShown (length (begun seen)) calls
       shown_here output p =
           rw same

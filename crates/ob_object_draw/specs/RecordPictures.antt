@@ -26,7 +26,7 @@ moments_of t = placed_from t.order 0 t.events
 -- one text is a module, and the other one a record of its object that tells this
 pub record IsRead (module_text record_text : List ℕ) (program : Program) (tells : Told) : Type 0 where
   pub is_module : IsModule module_text program
-  pub is_record : IsRecord (signatures program) record_text tells
+  pub is_record : IsRecord program record_text tells
 
 -- the bytes are the picture of the calls of a range of what the record tells: there are such calls, no more than a picture has
 pub record IsRecordPicture (module_text record_text : List ℕ) (calls : Option CallRange) (output : List ℕ) : Type 0 where
@@ -45,7 +45,7 @@ HasNoPicture module_text record_text calls = (output : List ℕ) → IsRecordPic
 pub record IsFormFault (module_text record_text : List ℕ) (line : ℕ) : Type 0 where
   pub program : Program
   pub is_module : IsModule module_text program
-  pub fails : IsRecordFault (signatures program) record_text (Record.Form line)
+  pub fails : IsRecordFault program record_text (Record.Form line)
 
 -- the record is read, and the range has this fault
 pub record IsRangeFaultOf (module_text record_text : List ℕ) (calls : Option CallRange) (fault : PictureFault) : Type 0 where

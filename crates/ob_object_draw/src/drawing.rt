@@ -2,7 +2,6 @@
 
 ghost use Rattle.std.specs.Prelude.{◌≡◌, ◌<◌, ◌≤◌, Err, IfErr, IfOk, length, string_bytes};
 ghost use Rattle.ob_checked.specs.CheckedModule.{program_in};
-ghost use Rattle.ob_checked.specs.Exports.{signatures};
 ghost use Rattle.ob_interface.specs.Processes.{most_processes};
 ghost use Rattle.ob_object_draw.specs.RecordPictures.{HasNoPicture, IsDrawRecordFault, IsNumbered, IsRecordPicture, TellsMemoryApart};
 ghost use Rattle.ob_text_record_reading.specs.RecordLines.{IsRecord, IsRecordFault, Told};
@@ -123,10 +122,10 @@ pub fn draw_record_text(
 
 /// What a record tells, whose processes are no more than an object has.
 fn read_few(alloc: Global, checked: &Checked, text: &[u8]) -> Result<ReadRecord, RecordFault>
-    ensures record { IfOk result (λ r. IsRecord (signatures (program_in checked.now)) text.now (told_of «r»)) }
-    ensures alone { IfOk result (λ r. (other : Told) → IsRecord (signatures (program_in checked.now)) text.now other → other ≡ told_of «r») }
+    ensures record { IfOk result (λ r. IsRecord (program_in checked.now) text.now (told_of «r»)) }
+    ensures alone { IfOk result (λ r. (other : Told) → IsRecord (program_in checked.now) text.now other → other ≡ told_of «r») }
     ensures few { IfOk result (λ r. r.processes ≤ most_processes) }
-    ensures fault { IfErr result (λ e. IsRecordFault (signatures (program_in checked.now)) text.now e) }
+    ensures fault { IfErr result (λ e. IsRecordFault (program_in checked.now) text.now e) }
 {
     let read = read_record(alloc, checked, text)?;
     Ok(read)

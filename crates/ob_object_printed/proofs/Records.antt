@@ -1,5 +1,5 @@
 -- The record of a run of an object fits the object's module.
-use Rattle.std.proofs.Common.{◌≡◌, ℕ, ◌-◌, ◌<◌, ◌≤◌, ◌^◌, Bool, List, ◌∷◌, ◌++◌, All, Some, None, get_or, length, sym, ◌∙◌, ap, subst, arith}
+use Rattle.std.proofs.Common.{◌≡◌, ℕ, ◌-◌, ◌<◌, ◌≤◌, ◌^◌, Bool, true, false, List, ◌∷◌, ◌++◌, All, Option, Some, get_or, length, sym, ◌∙◌, ap, subst, arith}
 use Rattle.std.specs.Prelude.{ℤ, Contains, slice_get, take}
 use Rattle.std.proofs.lemmas.List.Elements.{All-contains, Contains-get_or}
 use Rattle.ll_cell.specs.Cell.{block_of}
@@ -16,7 +16,7 @@ use Rattle.ob_interface.specs.Call.{ObjectCall, Reply}
 use Rattle.ob_interface.specs.Processes.{most_processes}
 use Rattle.ob_meaning.specs.Object as Named
 use Rattle.ob_meaning.specs.Object.{most_turns}
-use Rattle.ob_object_compile.specs.Asked.{ByBody, by_body}
+use Rattle.ob_object_compile.specs.Asked.{Asked}
 use Rattle.ob_object_compile.specs.Compilation.{IsCompilation, ObjectParts, Opens}
 use Rattle.ob_object_compile.specs.Sound.{IsSoundObject}
 use Rattle.ob_object_printed.proofs.Along.{all_begun, replied}
@@ -30,7 +30,7 @@ use Rattle.ob_object_record.specs.Record.{Record, carried_from}
 use Rattle.ob_object_run.specs.Laws.{StatesAreObjects}
 use Rattle.ob_object_run.specs.Recorded.{IsMeantOrder, IsObjectOf}
 use Rattle.ob_positions.specs.Store.{Activation}
-use Rattle.ob_text_read_back.specs.Writable.{IsCounted, IsReplyOf, IsWritable, IsWritableEvent}
+use Rattle.ob_text_read_back.specs.Writable.{AreCarried, IsCounted, IsReplyOf, IsWritable, IsWritableEvent}
 use Rattle.ob_typing.specs.Program.{Program}
 use Rattle.wf_help.proofs.Effects.{begun_fits}
 use Rattle.wf_history.proofs.Positions.{place_of}
@@ -45,7 +45,7 @@ use Rattle.wf_table.specs.Object.{State}
 use Rattle.wf_table.specs.Sound.{IsSound}
 use Rattle.wf_table.specs.Start.{sizes_of}
 
-module _ (states : StatesAreObjects) (carry : PositionsCarryLegal) (text : List ℕ) (n budget : ℕ) (o : ObjectParts) (compiled : IsCompilation (by_body text n budget) o) (so : IsSoundObject o) (opens : Opens ByBody o.program o.opening)
+module _ (states : StatesAreObjects) (carry : PositionsCarryLegal) (a : Asked) (o : ObjectParts) (compiled : IsCompilation a o) (so : IsSoundObject o) (opens : Opens a.beginning o.program o.opening)
     (s : State Run) (few : o.processes ≤ most_processes) (some : 0 < o.processes)
     (sound : IsSound (code_meaning o.engine) (IsLawfulFor o.engine) (IsFitting o.engine.exports) (HasReserve o.engine) (sizes_of (code_meaning o.engine) o.processes) (encoded o.opening) s)
     (r : Record) (processes : r.processes ≡ o.processes) (budget_is : r.budget ≡ o.engine.budget) (carried : r.carried ≡ carried_in o) (history : r.history ≡ s.records.history) (order : r.order ≡ s.records.order) (schedule : r.schedule ≡ s.records.schedule)
@@ -100,8 +100,10 @@ module _ (states : StatesAreObjects) (carry : PositionsCarryLegal) (text : List 
       let within = compiled.within in
       omega (arith, same, within)
 
-  uncarried : r.carried ≡ None
-  uncarried = carried ∙ ap (λ (b : Bool). carried_from b o.opening) compiled.carried_is
+  -- where the object's state was carried over, it is one of the program's
+  are_carried : (b : Bool) → AreCarried program (carried_from b o.opening)
+  are_carried true = so.begins
+  are_carried false = tt
 
   -- ---- the order, by position
 
@@ -163,7 +165,7 @@ module _ (states : StatesAreObjects) (carry : PositionsCarryLegal) (text : List 
       least = subst (λ (k : ℕ). 1 ≤ k) (sym processes) some;
       most = subst (λ (k : ℕ). k ≤ most_processes) (sym processes) few;
       budget = small_turns;
-      by_body = uncarried;
+      carried = subst (λ (c : Option Activation). AreCarried program c) (sym carried) (are_carried o.carried);
       whole = whole;
       events = λ before behind e is.
           let has = member_of before behind e r.history is in

@@ -10,8 +10,7 @@ use ob_text_read_back::laws::legal_is_verified;
 use wf_theorems::runs::every_run;
 use wf_theorems::standing::legal_order;
 
-/// The record of a run from texts, of an object that begins by its module's body, is writable, and so is the record of workers: its text
-/// tells what it holds.
+/// The record of a run from texts is writable, and so is the record of workers, however the object begins: its text tells what it holds.
 pub fn performed_is_writable()
     ensures performed { PerformedIsWritable }
     ensures served { ServedIsWritable }
@@ -23,7 +22,8 @@ pub fn performed_is_writable()
     compilations_are_sound();
 }
 
-/// So what is printed of a run is verified by the text of the module: `verify_text` answers Ok or want of memory of it.
+/// So what is printed of a run, also of an object that began with values carried over, is verified by the text of the module:
+/// `verify_text` answers Ok or want of memory of it.
 pub fn printed_is_verified()
     ensures { PrintedIsVerified }
 {

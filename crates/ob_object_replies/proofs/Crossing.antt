@@ -1,17 +1,15 @@
 -- What calls come to by position is what they come to by name.
-use Rattle.std.proofs.Common.{◌≡◌, ◌∙◌, ℕ, List, [], ◌∷◌, false, None, Option, Some, subst, sym}
+use Rattle.std.proofs.Common.{◌≡◌, ℕ, List, false, None, Option, Some, subst}
 use Rattle.ob_agreement.specs.Resolved.{IsResolved}
 use Rattle.ob_agreement.specs.Same.{SameState}
 use Rattle.ob_check_text.specs.CheckedText.{IsNumberedText, TellsTextMemoryApart, is_text_memory}
 use Rattle.ob_check_text.specs.declared.checked_text.TextFault.{TextFault}
-use Rattle.ob_checked.specs.Exports.{signatures}
 use Rattle.ob_code_law.proofs.Named.{names_simulate}
 use Rattle.ob_code_law.specs.Carried.{BegunFit, Simulates}
 use Rattle.ob_code_law.specs.Compiled.{Fits}
 use Rattle.ob_code_law.specs.Named.{CallMeans}
 use Rattle.ob_interface.specs.Call.{ObjectCall, Reply}
-use Rattle.ob_interpreter.specs.Sequences as Positions
-use Rattle.ob_meaning.specs.Object as Named
+use Rattle.ob_meaning.specs.Object.{State}
 use Rattle.ob_object_order.specs.LegalOrder.{CallEnds}
 use Rattle.ob_object_order.specs.OrderFaults.{AnswersOtherwise, IsArranged, IsListFault}
 use Rattle.ob_object_order.specs.declared.order.OrderFault.{OrderFault}
@@ -19,14 +17,15 @@ use Rattle.ob_object_order.specs.declared.order.OrderFault.TheVariants as Order
 use Rattle.ob_object_replies.specs.MadeCalls.{IsFound, IsMadeThere, MadeCall}
 use Rattle.ob_object_replies.specs.Early.{IsOvertakenFound}
 use Rattle.ob_object_replies.specs.RecordCalls.{IsCallFound, IsFoundIn, IsMadeIn, IsOvertakenFoundIn, IsCallOvertaken}
+use Rattle.ob_object_verify.proofs.Beginnings.{beginning_named, no_trap, one_state, record_opened}
 use Rattle.ob_object_verify.proofs.Fitting.{calls_fit}
-use Rattle.ob_object_verify.proofs.Openings.{module_resolved, opening_named}
+use Rattle.ob_object_verify.proofs.Openings.{module_resolved}
 use Rattle.ob_object_verify.proofs.Texts.{fault_in}
+use Rattle.ob_object_verify.specs.Beginnings.{BeginsNamed, BeginsPlaced, TrapsPlaced}
 use Rattle.ob_object_verify.specs.VerifyFaults.{HasOrderFault, IsFaultOfRecord}
 use Rattle.ob_object_verify.specs.declared.verifying.VerifyFault.{VerifyFault}
 use Rattle.ob_object_verify.specs.declared.verifying.VerifyFault.TheVariants as Faults
-use Rattle.ob_positions.specs.Statements.{Done, Outcome, Trap}
-use Rattle.ob_positions.specs.Store.{Activation, Store}
+use Rattle.ob_positions.specs.Store.{Activation}
 use Rattle.ob_text_record_reading.specs.RecordLines.{IsRecord, IsRecordFault, Told}
 use Rattle.ob_text_record_reading.specs.declared.reading.RecordFault.TheVariants as Record
 use Rattle.ob_typing.specs.ModuleText.{IsModule}
@@ -70,16 +69,16 @@ module _ {From To : Type 0} (fits : ObjectCall → Type 0) (Is : From → To →
       }
 
 in_named : (program : Program) → IsResolved program → (text : List ℕ) (id : CallId) (made : MadeCall) →
-    IsMadeIn Positions.IsOpening CallEnds program text id made → IsMadeIn Named.IsOpening CallMeans program text id made
+    IsMadeIn BeginsPlaced CallEnds program text id made → IsMadeIn BeginsNamed CallMeans program text id made
 in_named program good text id made m =
-    let o = opening_named program good m.opening m.opens in
+    let o = beginning_named program good m.tells.carried (record_opened program text m.tells m.is_record) m.opening m.begins in
     let fit = calls_fit program text m.tells m.is_record in
     record {
       tells = m.tells;
       is_record = m.is_record;
       opening = o.0;
-      opens = o.1;
-      there = made_named (Fits program) (λ (activation : Activation) (state : Named.State). SameState program state activation) (CallEnds program m.tells.budget)
+      begins = o.1;
+      there = made_named (Fits program) (λ (activation : Activation) (state : State). SameState program state activation) (CallEnds program m.tells.budget)
           (CallMeans program m.tells.budget) (names_simulate program m.tells.budget good) m.tells.events m.tells.order fit m.opening o.0 o.2 id made m.there;
     }
 
@@ -98,44 +97,34 @@ pub no_fault_of_text : (module_text record_text : List ℕ) (e : TextFault) (fau
 no_fault_of_text module_text record_text e fault no_module apart numbered f = no_module (numbered, apart) f.program f.is_module
 
 -- nor has a text that is no record one of an order
-pub no_fault_of_record : (program : Program) (text : List ℕ) (line : ℕ) (e : OrderFault) → IsRecordFault (signatures program) text (Record.Form line) →
-    ¬ HasOrderFault Positions.IsOpening Positions.OpeningTraps CallEnds program text e
+pub no_fault_of_record : (program : Program) (text : List ℕ) (line : ℕ) (e : OrderFault) → IsRecordFault program text (Record.Form line) →
+    ¬ HasOrderFault BeginsPlaced TrapsPlaced CallEnds program text e
 no_fault_of_record program text line e h f = h.none tt f.tells f.is_record
 
 module _ (program : Program) (text : List ℕ) (id : CallId) where
-  abbrev done : ℕ → Store → Outcome
-  done left store = Done left store
-
-  abbrev trapped : ℕ → Outcome
-  trapped k = Trap k
-
-  done_or_trapped : (left k : ℕ) (store : Store) → done left store ≡ trapped k → ⊥
-  done_or_trapped left k store e = cc
-
-  -- nothing is found where the opening traps
-  pub none_of_opening : (k : ℕ) → Positions.OpeningTraps program k → IsFoundIn program text id None
-  none_of_opening k traps f = done_or_trapped f.opens.0 k (f.opening ∷ []) (sym f.opens.1 ∙ traps)
-
-  one_state : (state other : Activation) → Positions.IsOpening program state → Positions.IsOpening program other → state ≡ other
-  one_state state other h k = let is = h.1 in let also = k.1 in cc
-
   -- the order that the record tells has the fault of another reply
   abbrev Fails : Told → Activation → Type 0
   Fails tells opening = IsArranged tells.events tells.order × AnswersOtherwise (CallEnds program tells.budget) opening tells.events tells.order id
 
-  -- what is found in the order that the record tells
-  pub found_here : (tells : Told) → IsRecord (signatures program) text tells → ((other : Told) → IsRecord (signatures program) text other → other ≡ tells) →
-      (opening : Activation) → Positions.IsOpening program opening → (made : Option MadeCall) →
-      IsFound (CallEnds program tells.budget) opening tells.events tells.order id made → IsFoundIn program text id made
-  found_here tells is_record alone opening opens None lacks =
-      λ f. lacks
-      (subst (λ (t : Told). Fails t opening) (alone f.tells f.is_record)
-      (subst (λ (s : Activation). Fails f.tells s) (one_state f.opening opening f.opens opens) f.fails))
-  found_here tells is_record alone opening opens (Some made) m =
-      record { tells = tells; is_record = is_record; opening = opening; opens = opens; there = m }
+  module _ (tells : Told) (is_record : IsRecord program text tells) (alone : (other : Told) → IsRecord program text other → other ≡ tells) where
+    same_beginning : (other : Told) → IsRecord program text other → (state : Activation) → BeginsPlaced program other.carried state → BeginsPlaced program tells.carried state
+    same_beginning other r state h = subst (λ (t : Told). BeginsPlaced program t.carried state) (alone other r) h
+
+    -- nothing is found where the body traps
+    pub none_of_beginning : (k : ℕ) → TrapsPlaced program tells.carried k → IsFoundIn program text id None
+    none_of_beginning k traps f = no_trap program tells.carried f.opening k (same_beginning f.tells f.is_record f.opening f.begins) traps
+
+    -- what is found in the order that the record tells
+    pub found_here : (opening : Activation) → BeginsPlaced program tells.carried opening → (made : Option MadeCall) →
+        IsFound (CallEnds program tells.budget) opening tells.events tells.order id made → IsFoundIn program text id made
+    found_here opening begins None lacks =
+        λ f. lacks
+        (subst (λ (t : Told). Fails t opening) (alone f.tells f.is_record)
+        (subst (λ (s : Activation). Fails f.tells s) (one_state program tells.carried f.opening opening (same_beginning f.tells f.is_record f.opening f.begins) begins) f.fails))
+    found_here opening begins (Some made) m = record { tells = tells; is_record = is_record; opening = opening; begins = begins; there = m }
 
   -- the call that another one overtook, in the order that the record tells
-  pub overtaken_here : (tells : Told) → IsRecord (signatures program) text tells → ((other : Told) → IsRecord (signatures program) text other → other ≡ tells) →
+  pub overtaken_here : (tells : Told) → IsRecord program text tells → ((other : Told) → IsRecord program text other → other ≡ tells) →
       (other : Option CallId) → IsOvertakenFound tells.events tells.order id other → IsOvertakenFoundIn program text id other
   overtaken_here tells is_record alone None lacks =
       λ f. lacks (subst (λ (t : Told). IsListFault t.events t.order (Order.TooEarly id)) (alone f.tells f.is_record) f.fails)

@@ -11,13 +11,14 @@ use crate::made::{MadeCall, made_call};
 use ob_check_text::checked_text::{TextFault, checked_text};
 use ob_checked::checked::Checked;
 use ob_interface::NoMemory;
-use ob_interpreter::opening::{OpenFault, opening};
+use ob_interpreter::opening::OpenFault;
+use ob_object_verify::beginning::beginning;
 use ob_text_record_reading::{RecordFault, read_record};
 use std::alloc::Global;
 use wf_history::CallId;
 
-/// What a call of a record comes to, where it and the calls before it in the record's order are made one at a time from the module's
-/// opening, each with the record's budget. There is one where `verify_text` tells H4 of the call.
+/// What a call of a record comes to, where it and the calls before it in the record's order are made one at a time from the values that
+/// were carried over, or else from the module's opening, each with the record's budget. There is one where `verify_text` tells H4 of the call.
 pub fn call_made(
     alloc: Global,
     object: &[u8],
@@ -61,8 +62,8 @@ fn call_in_record(
         Err(RecordFault::NoMemory) => return Err(NoMemory),
         Err(RecordFault::Form(_)) => return Ok(None),
     };
-    let opened = match opening(alloc, checked) {
-        Ok(opened) => opened,
+    let begun = match beginning(alloc, checked, read.carried) {
+        Ok(begun) => begun,
         Err(OpenFault::NoMemory) => return Err(NoMemory),
         Err(OpenFault::Trap(_)) => return Ok(None),
     };
@@ -71,7 +72,7 @@ fn call_in_record(
         &read.history,
         &read.order,
         checked,
-        &opened,
+        &begun,
         read.budget,
         id,
     )

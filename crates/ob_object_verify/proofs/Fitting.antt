@@ -19,7 +19,7 @@ use Rattle.ob_text_exports.specs.ExportNames.{export_named}
 use Rattle.ob_text_exports.specs.Values as Values
 use Rattle.ob_text_exports.specs.Values.{AreValues, IsValue}
 use Rattle.ob_text_record_reading.specs.RecordLines as Lines
-use Rattle.ob_text_record_reading.specs.RecordLines.{AreLines, IsEvent, IsRecord, IsRecordOf, Line, Told}
+use Rattle.ob_text_record_reading.specs.RecordLines.{AreLines, IsEvent, IsRecord, Line, Told}
 use Rattle.ob_text_words.specs.Words as Words
 use Rattle.ob_text_words.specs.Words.{IsInteger, Word}
 use Rattle.ob_typing.specs.Program.{Program}
@@ -100,10 +100,6 @@ module _ (program : Program) where
   none_begun : BegunFit {Reply = Reply} (Fits program) []
   none_begun id call begun = let p = place_of [] (Begin id call) begun in absurd (cc (p.1))
 
-  record_fits : (ls : List Line) (tells : Told) → IsRecordOf (signatures program) ls tells → BegunFit (Fits program) tells.events
-  record_fits ls tells (Lines.of_version_1 title number most lines) = lines_fit tells.processes lines none_begun
-  record_fits ls tells (Lines.of_version_2 title number turns lines) = lines_fit tells.processes lines none_begun
-
   -- each call of a record fits
-  pub calls_fit : (text : List ℕ) (tells : Told) → IsRecord (signatures program) text tells → BegunFit (Fits program) tells.events
-  calls_fit text tells h = record_fits _ tells h
+  pub calls_fit : (text : List ℕ) (tells : Told) → IsRecord program text tells → BegunFit (Fits program) tells.events
+  calls_fit text tells r = lines_fit tells.processes r.tells none_begun

@@ -1,3 +1,4 @@
+pub mod Beginnings
 pub mod Crossing
 pub mod Fitting
 pub mod OneLine

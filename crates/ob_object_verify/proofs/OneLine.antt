@@ -2,29 +2,29 @@
 use Rattle.std.proofs.Common.{◌≡◌, ◌∙◌, ℕ, ◌+◌, ◌<◌, ◌≤◌, suc, List, [], ◌∷◌, ◌++◌, length, take, drop, refl, sym, ap, subst, inl, inr, arith, append_assoc, length-append}
 use Rattle.std.proofs.lemmas.Bool.{cases_lt}
 use Rattle.std.proofs.lemmas.List.{take-append-drop, take-append-le, take-take, take_all}
-use Rattle.ob_interface.specs.Export.{Signature}
 use Rattle.ob_text_record_reading.specs.RecordLines as Lines
-use Rattle.ob_text_record_reading.specs.RecordLines.{BeginsRecord, FailsAtLine, IsRecordOf, Line}
+use Rattle.ob_text_record_reading.specs.RecordLines.{BeginsRecord, FailsAtLine, IsRecordPart, Line}
+use Rattle.ob_typing.specs.Program.{Program}
 
-module _ (signatures : List Signature) where
+module _ (program : Program) where
   -- lines with which a record begins, and fewer of them
-  begins_fewer : (front back : List Line) → BeginsRecord signatures (front ++ back) → BeginsRecord signatures front
+  begins_fewer : (front back : List Line) → BeginsRecord program (front ++ back) → BeginsRecord program front
   begins_fewer front back b =
-      record { rest = back ++ b.rest; tells = b.tells; whole = subst (λ (ls : List Line). IsRecordOf signatures ls b.tells) (append_assoc front back b.rest) b.whole }
+      record { rest = back ++ b.rest; part = subst (λ (ls : List Line). IsRecordPart program ls) (append_assoc front back b.rest) b.part }
 
-  begins_first : (ls : List Line) (count more : ℕ) → count ≤ more → BeginsRecord signatures (take more ls) → BeginsRecord signatures (take count ls)
+  begins_first : (ls : List Line) (count more : ℕ) → count ≤ more → BeginsRecord program (take more ls) → BeginsRecord program (take count ls)
   begins_first ls count more le b =
-      subst (λ (front : List Line). BeginsRecord signatures front) (take-take count more ls le)
+      subst (λ (front : List Line). BeginsRecord program front) (take-take count more ls le)
       (begins_fewer (take count (take more ls)) (drop count (take more ls))
-      (subst (λ (all : List Line). BeginsRecord signatures all) (sym (take-append-drop count (take more ls))) b))
+      (subst (λ (all : List Line). BeginsRecord program all) (sym (take-append-drop count (take more ls))) b))
 
   -- a record begins with the first so many lines, and none does with one more
   record Stops (ls : List Line) (count : ℕ) : Type 0 where
     within : count ≤ length ls
-    begins : BeginsRecord signatures (take count ls)
-    ends : count < length ls → ¬ BeginsRecord signatures (take (suc count) ls)
+    begins : BeginsRecord program (take count ls)
+    ends : count < length ls → ¬ BeginsRecord program (take (suc count) ls)
 
-  stops : (ls : List Line) (number : ℕ) → FailsAtLine signatures ls number → (count : ℕ) × (number ≡ count + 1) × Stops ls count
+  stops : (ls : List Line) (number : ℕ) → FailsAtLine program ls number → (count : ℕ) × (number ≡ count + 1) × Stops ls count
   stops ls number (Lines.misplaced before line rest good bad) =
       let long = length-append before (line ∷ rest) in
       let one : length (before ++ line ∷ []) ≡ length before + 1 = length-append before (line ∷ []) in
@@ -38,8 +38,8 @@ module _ (signatures : List Signature) where
         refl,
         record {
           within = omega (arith, long);
-          begins = subst (λ (front : List Line). BeginsRecord signatures front) (sym first) good;
-          ends = λ more h. bad (subst (λ (front : List Line). BeginsRecord signatures front) next h);
+          begins = subst (λ (front : List Line). BeginsRecord program front) (sym first) good;
+          ends = λ more h. bad (subst (λ (front : List Line). BeginsRecord program front) next h);
         },
       )
   stops ls number (Lines.missing good bad) = (
@@ -47,7 +47,7 @@ module _ (signatures : List Signature) where
     refl,
     record {
       within = omega arith;
-      begins = subst (λ (front : List Line). BeginsRecord signatures front) (sym (take_all (length ls) ls (omega arith))) good;
+      begins = subst (λ (front : List Line). BeginsRecord program front) (sym (take_all (length ls) ls (omega arith))) good;
       ends = λ more h. omega (arith, more);
     },
   )
@@ -57,7 +57,7 @@ module _ (signatures : List Signature) where
       let within = later.within in
       first.ends (omega (arith, within, lt)) (begins_first ls (suc count) more (omega (arith, lt)) later.begins)
 
-  pub one_line : (ls : List Line) (number other : ℕ) → FailsAtLine signatures ls number → FailsAtLine signatures ls other → number ≡ other
+  pub one_line : (ls : List Line) (number other : ℕ) → FailsAtLine program ls number → FailsAtLine program ls other → number ≡ other
   one_line ls number other f g =
       let a = stops ls number f in
       let b = stops ls other g in

@@ -1,21 +1,19 @@
 -- What is found of a record's text, as what is answered.
 use Rattle.std.proofs.Common.{◌≡◌, ◌≢◌, List, [], ◌∷◌, ℕ, refl, ap, sym, ◌∙◌, subst, ◌⊎◌, inl, inr}
-use Rattle.ob_checked.specs.Exports.{signatures}
-use Rattle.ob_interpreter.specs.Faults.{IsOpenFault}
-use Rattle.ob_interpreter.specs.Sequences.{IsOpening, OpeningTraps}
 use Rattle.ob_interpreter.specs.declared.opening.OpenFault.{OpenFault}
 use Rattle.ob_interpreter.specs.declared.opening.OpenFault.TheVariants as Open
 use Rattle.ob_object_order.specs.LegalOrder.{CallEnds, IsLegalOrder}
 use Rattle.ob_object_order.specs.OrderFaults.{IsOrderFault}
 use Rattle.ob_object_order.specs.declared.order.OrderFault.{OrderFault}
 use Rattle.ob_object_order.specs.declared.order.OrderFault.TheVariants as Order
+use Rattle.ob_object_verify.proofs.Beginnings.{no_trap, one_state, one_trap}
 use Rattle.ob_object_verify.proofs.OneLine.{one_line}
+use Rattle.ob_object_verify.specs.Beginnings.{BeginsPlaced, IsBeginningFault, TrapsPlaced}
 use Rattle.ob_object_verify.specs.Verified.{IsLegalRecord}
 use Rattle.ob_object_verify.specs.VerifyFaults.{HasFaultFrom, HasRecordFault, IsNumbered, TellsMemoryApart, of_open, of_order, of_record}
 use Rattle.ob_object_verify.specs.declared.verifying.VerifyFault.{VerifyFault}
 use Rattle.ob_object_verify.specs.declared.verifying.VerifyFault.TheVariants as Faults
-use Rattle.ob_positions.specs.Statements.{Outcome, Done, Trap}
-use Rattle.ob_positions.specs.Store.{Activation, Store}
+use Rattle.ob_positions.specs.Store.{Activation}
 use Rattle.ob_text_record_reading.specs.RecordLines.{IsRecord, IsRecordFault, record_lines, Told}
 use Rattle.ob_text_record_reading.specs.declared.reading.RecordFault.{RecordFault}
 use Rattle.ob_text_record_reading.specs.declared.reading.RecordFault.TheVariants as Record
@@ -56,87 +54,73 @@ order_told e fault numbered h =
     kept (Order.OtherReply id) numbered = refl
     kept Order.NoMemory numbered = absurd (numbered refl)
 
-abbrev done : ℕ → Store → Outcome
-done left store = Done left store
-
-abbrev trapped : ℕ → Outcome
-trapped k = Trap k
-
-done_or_trapped : (left k : ℕ) (store : Store) → done left store ≡ trapped k → ⊥
-done_or_trapped left k store e = cc
-
-same_trap : (k j : ℕ) → trapped k ≡ trapped j → k ≡ j
-same_trap k j e = cc
-
-one_state : (program : Program) (state other : Activation) → IsOpening program state → IsOpening program other → state ≡ other
-one_state program state other h k = let is = h.1 in let is' = k.1 in cc
-
-no_trap : (program : Program) (state : Activation) (k : ℕ) → IsOpening program state → OpeningTraps program k → ⊥
-no_trap program state k h traps = done_or_trapped h.0 k (state ∷ []) (sym h.1 ∙ traps)
-
-one_trap : (program : Program) (k j : ℕ) → OpeningTraps program k → OpeningTraps program j → k ≡ j
-one_trap program k j h i = same_trap k j (sym h ∙ i)
-
 abbrev Legal : Program → List ℕ → Type 0
-Legal program text = IsLegalRecord IsOpening CallEnds program text
+Legal program text = IsLegalRecord BeginsPlaced CallEnds program text
 
 abbrev HasFault : Program → List ℕ → VerifyFault → Type 0
-HasFault program text fault = HasRecordFault IsOpening OpeningTraps CallEnds program text fault
+HasFault program text fault = HasRecordFault BeginsPlaced TrapsPlaced CallEnds program text fault
 
 module _ (program : Program) (text : List ℕ) where
   -- a text that is no record
 
-  pub record_fails : (e : RecordFault) → IsRecordFault (signatures program) text e → HasFault program text (of_record e)
+  pub record_fails : (e : RecordFault) → IsRecordFault program text e → HasFault program text (of_record e)
   record_fails (Record.Form line) h = h
   record_fails Record.NoMemory h = tt
 
-  pub no_record : (e : RecordFault) → IsRecordFault (signatures program) text e → Legal program text → of_record e ≡ Faults.NoMemory
+  pub no_record : (e : RecordFault) → IsRecordFault program text e → Legal program text → of_record e ≡ Faults.NoMemory
   no_record (Record.Form line) h r = absurd (h.none tt r.tells r.is_record)
   no_record Record.NoMemory h r = refl
 
-  pub one_form : (e : RecordFault) → IsRecordFault (signatures program) text e → (fault : VerifyFault) → IsNumbered fault → HasFault program text fault →
+  pub one_form : (e : RecordFault) → IsRecordFault program text e → (fault : VerifyFault) → IsNumbered fault → HasFault program text fault →
       (of_record e ≡ fault) ⊎ (of_record e ≡ Faults.NoMemory)
   one_form Record.NoMemory h fault numbered f = inr refl
   one_form (Record.Form line) h (Faults.Text e) numbered f = absurd f
-  one_form (Record.Form line) h (Faults.Form other) numbered f = inl (ap Faults.Form (one_line (signatures program) (record_lines text) line other h.stands f.stands))
+  one_form (Record.Form line) h (Faults.Form other) numbered f = inl (ap Faults.Form (one_line program (record_lines text) line other h.stands f.stands))
   one_form (Record.Form line) h (Faults.Open (Open.Trap k)) numbered f = absurd (h.none tt f.tells f.is_record)
   one_form (Record.Form line) h (Faults.Open Open.NoMemory) numbered f = absurd f
   one_form (Record.Form line) h (Faults.Order e) numbered f = absurd (h.none tt f.tells f.is_record)
   one_form (Record.Form line) h Faults.NoMemory numbered f = absurd numbered
 
   -- one that is a record
-  module _ (tells : Told) (is_record : IsRecord (signatures program) text tells) (alone : (other : Told) → IsRecord (signatures program) text other → other ≡ tells) where
-    no_form : (line : ℕ) → IsRecordFault (signatures program) text (Record.Form line) → ⊥
+  module _ (tells : Told) (is_record : IsRecord program text tells) (alone : (other : Told) → IsRecord program text other → other ≡ tells) where
+    no_form : (line : ℕ) → IsRecordFault program text (Record.Form line) → ⊥
     no_form line h = h.none tt tells is_record
 
-    -- the opening fails
+    -- the record tells one beginning
+    same_beginning : (other : Told) → IsRecord program text other → (state : Activation) → BeginsPlaced program other.carried state → BeginsPlaced program tells.carried state
+    same_beginning other r state h = subst (λ (t : Told). BeginsPlaced program t.carried state) (alone other r) h
 
-    pub open_fails : (e : OpenFault) → IsOpenFault program e → HasFault program text (of_open e)
+    same_trapping : (other : Told) → IsRecord program text other → (k : ℕ) → TrapsPlaced program other.carried k → TrapsPlaced program tells.carried k
+    same_trapping other r k h = subst (λ (t : Told). TrapsPlaced program t.carried k) (alone other r) h
+
+    -- no state to begin with
+
+    pub open_fails : (e : OpenFault) → IsBeginningFault program tells.carried e → HasFault program text (of_open e)
     open_fails (Open.Trap k) h = record { tells = tells; is_record = is_record; traps = h }
     open_fails Open.NoMemory h = tt
 
-    pub no_opening : (e : OpenFault) → IsOpenFault program e → Legal program text → of_open e ≡ Faults.NoMemory
-    no_opening (Open.Trap k) h r = absurd (no_trap program r.opening k r.opens h)
+    pub no_opening : (e : OpenFault) → IsBeginningFault program tells.carried e → Legal program text → of_open e ≡ Faults.NoMemory
+    no_opening (Open.Trap k) h r = absurd (no_trap program tells.carried r.opening k (same_beginning r.tells r.is_record r.opening r.begins) h)
     no_opening Open.NoMemory h r = refl
 
-    pub one_opening : (e : OpenFault) → IsOpenFault program e → (fault : VerifyFault) → IsNumbered fault → HasFault program text fault →
+    pub one_opening : (e : OpenFault) → IsBeginningFault program tells.carried e → (fault : VerifyFault) → IsNumbered fault → HasFault program text fault →
         (of_open e ≡ fault) ⊎ (of_open e ≡ Faults.NoMemory)
     one_opening Open.NoMemory h fault numbered f = inr refl
     one_opening (Open.Trap k) h (Faults.Text e) numbered f = absurd f
     one_opening (Open.Trap k) h (Faults.Form line) numbered f = absurd (no_form line f)
-    one_opening (Open.Trap k) h (Faults.Open (Open.Trap j)) numbered f = inl (ap (λ (n : ℕ). Faults.Open (Open.Trap n)) (one_trap program k j h f.traps))
+    one_opening (Open.Trap k) h (Faults.Open (Open.Trap j)) numbered f = inl (ap (λ (n : ℕ). Faults.Open (Open.Trap n)) (one_trap program tells.carried k j h (same_trapping f.tells f.is_record j f.traps)))
     one_opening (Open.Trap k) h (Faults.Open Open.NoMemory) numbered f = absurd f
-    one_opening (Open.Trap k) h (Faults.Order e) numbered f = absurd (no_trap program f.opening k f.opens h)
+    one_opening (Open.Trap k) h (Faults.Order e) numbered f = absurd (no_trap program tells.carried f.opening k (same_beginning f.tells f.is_record f.opening f.begins) h)
     one_opening (Open.Trap k) h Faults.NoMemory numbered f = absurd numbered
 
-    -- the opening ends
-    module _ (opening : Activation) (opens : IsOpening program opening) where
+    -- a state to begin with
+    module _ (opening : Activation) (begins : BeginsPlaced program tells.carried opening) where
       pub legal_here : (last : Activation) → IsLegalOrder program tells.budget opening tells.events tells.order last → Legal program text
-      legal_here last legal = record { tells = tells; is_record = is_record; opening = opening; opens = opens; last = last; legal = legal }
+      legal_here last legal = record { tells = tells; is_record = is_record; opening = opening; begins = begins; last = last; legal = legal }
 
       order_of : (r : Legal program text) → IsLegalOrder program tells.budget opening tells.events tells.order r.last
       order_of r =
-          subst (λ (s : Activation). IsLegalOrder program tells.budget s tells.events tells.order r.last) (one_state program r.opening opening r.opens opens)
+          subst (λ (s : Activation). IsLegalOrder program tells.budget s tells.events tells.order r.last) (one_state program tells.carried r.opening opening (same_beginning r.tells r.is_record r.opening r.begins) begins)
           (subst (λ (t : Told). IsLegalOrder program t.budget r.opening t.events t.order r.last) (alone r.tells r.is_record) r.legal)
 
       order_fault : (e : OrderFault) → IsOrderFault program tells.budget opening tells.events tells.order e → HasFaultFrom (CallEnds program tells.budget) opening tells.events tells.order e
@@ -154,7 +138,7 @@ module _ (program : Program) (text : List ℕ) where
       fault_of_order Order.NoMemory h = tt
 
       fault_at : (e : OrderFault) → IsOrderFault program tells.budget opening tells.events tells.order e → HasFault program text (Faults.Order e)
-      fault_at e h = record { tells = tells; is_record = is_record; opening = opening; opens = opens; fails = order_fault e h }
+      fault_at e h = record { tells = tells; is_record = is_record; opening = opening; begins = begins; fails = order_fault e h }
 
       pub order_fails : (e : OrderFault) → IsOrderFault program tells.budget opening tells.events tells.order e → HasFault program text (of_order e)
       order_fails (Order.Unknown id) h = fault_at (Order.Unknown id) h
@@ -170,7 +154,7 @@ module _ (program : Program) (text : List ℕ) where
       found : (fault : OrderFault) → HasFault program text (Faults.Order fault) → IsOrderFault program tells.budget opening tells.events tells.order fault
       found fault f =
           fault_of_order fault
-          (subst (λ (s : Activation). HasFaultFrom (CallEnds program tells.budget) s tells.events tells.order fault) (one_state program f.opening opening f.opens opens)
+          (subst (λ (s : Activation). HasFaultFrom (CallEnds program tells.budget) s tells.events tells.order fault) (one_state program tells.carried f.opening opening (same_beginning f.tells f.is_record f.opening f.begins) begins)
           (subst (λ (t : Told). HasFaultFrom (CallEnds program t.budget) f.opening t.events t.order fault) (alone f.tells f.is_record) f.fails))
 
       -- the order is told to have this fault, or to be legal
@@ -178,7 +162,7 @@ module _ (program : Program) (text : List ℕ) where
         pub one_order : (fault : VerifyFault) → IsNumbered fault → HasFault program text fault → (of_order e ≡ fault) ⊎ (of_order e ≡ Faults.NoMemory)
         one_order (Faults.Text other) numbered f = absurd f
         one_order (Faults.Form line) numbered f = absurd (no_form line f)
-        one_order (Faults.Open (Open.Trap k)) numbered f = absurd (no_trap program opening k opens f.traps)
+        one_order (Faults.Open (Open.Trap k)) numbered f = absurd (no_trap program tells.carried opening k begins (same_trapping f.tells f.is_record k f.traps))
         one_order (Faults.Open Open.NoMemory) numbered f = absurd f
         one_order (Faults.Order fault) numbered f = order_told e fault numbered (exact fault (found fault f))
         one_order Faults.NoMemory numbered f = absurd numbered
@@ -188,7 +172,7 @@ module _ (program : Program) (text : List ℕ) where
           (fault : VerifyFault) → IsNumbered fault → HasFault program text fault → ⊥
       no_fault exact (Faults.Text other) numbered f = f
       no_fault exact (Faults.Form line) numbered f = no_form line f
-      no_fault exact (Faults.Open (Open.Trap k)) numbered f = no_trap program opening k opens f.traps
+      no_fault exact (Faults.Open (Open.Trap k)) numbered f = no_trap program tells.carried opening k begins (same_trapping f.tells f.is_record k f.traps)
       no_fault exact (Faults.Open Open.NoMemory) numbered f = f
       no_fault exact (Faults.Order fault) numbered f = elim (exact fault (found fault f)) [ inl none ↦ numbered none | inr never ↦ never ]
       no_fault exact Faults.NoMemory numbered f = numbered

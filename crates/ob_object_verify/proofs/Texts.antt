@@ -3,10 +3,10 @@ use Rattle.std.proofs.Common.{◌≡◌, List, ℕ, Result, Ok, Err, IfErr, ◌�
 use Rattle.ob_check_text.specs.CheckedText.{IsNumberedText, IsTextFault, TellsTextMemoryApart}
 use Rattle.ob_check_text.specs.declared.checked_text.TextFault.{TextFault}
 use Rattle.ob_check_text.specs.declared.checked_text.TextFault.TheVariants as Text
-use Rattle.ob_interpreter.specs.Sequences as Positions
 use Rattle.ob_object_order.specs.LegalOrder.{CallEnds}
 use Rattle.ob_object_verify.proofs.Crossing.{fault_named, fault_placed, legal_named, legal_placed}
 use Rattle.ob_object_verify.proofs.Openings.{module_resolved}
+use Rattle.ob_object_verify.specs.Beginnings.{BeginsPlaced, TrapsPlaced}
 use Rattle.ob_object_verify.specs.Verified.{IsLegalRecord, IsVerified}
 use Rattle.ob_object_verify.specs.VerifyFaults.{HasRecordFault, IsFaultOfRecord, IsNumbered, IsVerifyFault, TellsMemoryApart, of_text}
 use Rattle.ob_object_verify.specs.declared.verifying.VerifyFault.{VerifyFault}
@@ -57,7 +57,7 @@ module _ (module_text record_text : List ℕ) where
     memory_only fault f = inr (memory_alone f.program f.is_module)
 
   module _ (program : Program) (is_module : IsModule module_text program) (alone : (other : Program) → IsModule module_text other → other ≡ program) where
-    pub verified_by : IsLegalRecord Positions.IsOpening CallEnds program record_text → IsVerified module_text record_text
+    pub verified_by : IsLegalRecord BeginsPlaced CallEnds program record_text → IsVerified module_text record_text
     verified_by r =
         record {
           program = program;
@@ -65,17 +65,17 @@ module _ (module_text record_text : List ℕ) where
           is_legal = legal_named program (module_resolved module_text program is_module) record_text r;
         }
 
-    pub record_in : IsVerified module_text record_text → IsLegalRecord Positions.IsOpening CallEnds program record_text
+    pub record_in : IsVerified module_text record_text → IsLegalRecord BeginsPlaced CallEnds program record_text
     record_in r =
-        subst (λ (p : Program). IsLegalRecord Positions.IsOpening CallEnds p record_text) (alone r.program r.is_module)
+        subst (λ (p : Program). IsLegalRecord BeginsPlaced CallEnds p record_text) (alone r.program r.is_module)
         (legal_placed r.program (module_resolved module_text r.program r.is_module) record_text r.is_legal)
 
-    pub fault_in : (fault : VerifyFault) → IsFaultOfRecord module_text record_text fault → HasRecordFault Positions.IsOpening Positions.OpeningTraps CallEnds program record_text fault
+    pub fault_in : (fault : VerifyFault) → IsFaultOfRecord module_text record_text fault → HasRecordFault BeginsPlaced TrapsPlaced CallEnds program record_text fault
     fault_in fault f =
-        subst (λ (p : Program). HasRecordFault Positions.IsOpening Positions.OpeningTraps CallEnds p record_text fault) (alone f.program f.is_module)
+        subst (λ (p : Program). HasRecordFault BeginsPlaced TrapsPlaced CallEnds p record_text fault) (alone f.program f.is_module)
         (fault_placed f.program (module_resolved module_text f.program f.is_module) record_text fault f.fails)
 
-    fault_of : (fault : VerifyFault) → HasRecordFault Positions.IsOpening Positions.OpeningTraps CallEnds program record_text fault → IsFaultOfRecord module_text record_text fault
+    fault_of : (fault : VerifyFault) → HasRecordFault BeginsPlaced TrapsPlaced CallEnds program record_text fault → IsFaultOfRecord module_text record_text fault
     fault_of fault f =
         record {
           program = program;
@@ -83,7 +83,7 @@ module _ (module_text record_text : List ℕ) where
           fails = fault_named program (module_resolved module_text program is_module) record_text fault f;
         }
 
-    pub told_of : (fault : VerifyFault) → HasRecordFault Positions.IsOpening Positions.OpeningTraps CallEnds program record_text fault → IsVerifyFault module_text record_text fault
+    pub told_of : (fault : VerifyFault) → HasRecordFault BeginsPlaced TrapsPlaced CallEnds program record_text fault → IsVerifyFault module_text record_text fault
     told_of (Faults.Text e) f = absurd f
     told_of (Faults.Form line) f = fault_of (Faults.Form line) f
     told_of (Faults.Open e) f = fault_of (Faults.Open e) f

@@ -102,7 +102,7 @@ module _ {Call Reply : Type 0} where
         }
 
 pub runs_verified : LegalRunsAreVerified
-runs_verified module_text record_text program opening last events tells is_module opens is_record shown legal =
+runs_verified module_text record_text program opening last events tells is_module is_record begins shown legal =
     record {
       program = program;
       is_module = is_module;
@@ -110,7 +110,7 @@ runs_verified module_text record_text program opening last events tells is_modul
         tells = tells;
         is_record = is_record;
         opening = opening;
-        opens = opens;
+        begins = begins;
         last = last;
         legal = subst (λ (es : List (Event ObjectCall Reply)). IsLegal (CallMeans program tells.budget) opening es tells.order last) (sym shown)
             (legal_still (CallMeans program tells.budget) events opening last tells.order legal);

@@ -1,3 +1,4 @@
+pub mod Beginnings
 pub mod RunRecords
 pub mod Verified
 pub mod VerifyFaults

@@ -1,9 +1,9 @@
 -- Records of runs: what a run's events and order come to where a record tells them.
 use Rattle.std.specs.Prelude.{◌≡◌, ℕ, List, [], ◌∷◌}
-use Rattle.ob_checked.specs.Exports.{signatures}
 use Rattle.ob_code_law.specs.Named.{CallMeans}
 use Rattle.ob_interface.specs.Call.{ObjectCall, Reply}
-use Rattle.ob_meaning.specs.Object.{IsOpening, State}
+use Rattle.ob_meaning.specs.Object.{State}
+use Rattle.ob_object_verify.specs.Beginnings.{BeginsNamed}
 use Rattle.ob_object_verify.specs.Verified.{IsVerified}
 use Rattle.ob_text_record_reading.specs.RecordLines.{IsRecord, Told}
 use Rattle.ob_typing.specs.ModuleText.{IsModule}
@@ -23,5 +23,5 @@ without_applied (End id reply ∷ events) = End id reply ∷ without_applied eve
 abbrev pub LegalRunsAreVerified : Type 0
 LegalRunsAreVerified =
     (module_text record_text : List ℕ) (program : Program) (opening last : State) (events : List (Event ObjectCall Reply)) (tells : Told) →
-    IsModule module_text program → IsOpening program opening → IsRecord (signatures program) record_text tells →
+    IsModule module_text program → IsRecord program record_text tells → BeginsNamed program tells.carried opening →
     tells.events ≡ without_applied events → IsLegal (CallMeans program tells.budget) opening events tells.order last → IsVerified module_text record_text

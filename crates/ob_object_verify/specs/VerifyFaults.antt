@@ -1,19 +1,19 @@
 -- What each fault says of the bytes of a module and of a record.
-use Rattle.std.specs.Prelude.{◌≡◌, ◌≢◌, ◌⊎◌, ℕ, List, MatchResult, Result}
+use Rattle.std.specs.Prelude.{◌≡◌, ◌≢◌, ◌⊎◌, ℕ, List, MatchResult, Option, Result}
 use Rattle.ob_check_text.specs.CheckedText.{IsNumberedText, IsTextFault}
 use Rattle.ob_check_text.specs.declared.checked_text.TextFault.{TextFault}
 use Rattle.ob_check_text.specs.declared.checked_text.TextFault.TheVariants as Text
-use Rattle.ob_checked.specs.Exports.{signatures}
 use Rattle.ob_code_law.specs.Named.{CallMeans}
 use Rattle.ob_interface.specs.Call.{ObjectCall, Reply}
 use Rattle.ob_interpreter.specs.declared.opening.OpenFault.{OpenFault}
 use Rattle.ob_interpreter.specs.declared.opening.OpenFault.TheVariants as Open
-use Rattle.ob_meaning.specs.Object as Named
 use Rattle.ob_object_order.specs.OrderFaults.{AnswersOtherwise, IsArranged, IsListFault}
 use Rattle.ob_object_order.specs.declared.order.OrderFault.{OrderFault}
 use Rattle.ob_object_order.specs.declared.order.OrderFault.TheVariants as Order
+use Rattle.ob_object_verify.specs.Beginnings.{BeginsNamed, TrapsNamed}
 use Rattle.ob_object_verify.specs.declared.verifying.VerifyFault.{VerifyFault}
 use Rattle.ob_object_verify.specs.declared.verifying.VerifyFault.TheVariants as Faults
+use Rattle.ob_positions.specs.Store.{Activation}
 use Rattle.ob_scan.specs.declared.fault.ScanFault.TheVariants as Scan
 use Rattle.ob_text_record_reading.specs.RecordLines.{IsRecord, IsRecordFault, Told}
 use Rattle.ob_text_record_reading.specs.declared.reading.RecordFault.{RecordFault}
@@ -31,27 +31,28 @@ HasFaultFrom Effect opening history order (Order.TooEarly id) = IsListFault hist
 HasFaultFrom Effect opening history order (Order.OtherReply id) = IsArranged history order × AnswersOtherwise Effect opening history order id
 HasFaultFrom Effect opening history order Order.NoMemory = Unit {0}
 
--- which state the opening of a program leaves, or its trap, and how its calls with a budget lead from state to state
-module _ {State : Type 0} (Opens : Program → State → Type 0) (Traps : Program → ℕ → Type 0) (Ends : Program → (budget : ℕ) → ObjectCall → State → State → Reply → Type 0) where
+-- with which state the calls of a record begin, or with which trap they do not, by the values that were carried over, and how calls with
+-- a budget lead from state to state
+module _ {State : Type 0} (Begins : Program → Option Activation → State → Type 0) (Traps : Program → Option Activation → ℕ → Type 0) (Ends : Program → (budget : ℕ) → ObjectCall → State → State → Reply → Type 0) where
   module _ (program : Program) (text : List ℕ) where
-    -- the text is a record of the program's object, and the program's opening traps
+    -- the text is a record of the program's object, whose body traps before its calls begin
     pub record HasOpenTrap (trap : ℕ) : Type 0 where
       pub tells : Told
-      pub is_record : IsRecord (signatures program) text tells
-      pub traps : Traps program trap
+      pub is_record : IsRecord program text tells
+      pub traps : Traps program tells.carried trap
 
-    -- the text is a record of the program's object, the opening ends, and the record's order has this fault from there
+    -- the text is a record of the program's object, there is a state with which its calls begin, and its order has this fault from there
     pub record HasOrderFault (fault : OrderFault) : Type 0 where
       pub tells : Told
-      pub is_record : IsRecord (signatures program) text tells
+      pub is_record : IsRecord program text tells
       pub opening : State
-      pub opens : Opens program opening
+      pub begins : Begins program tells.carried opening
       pub fails : HasFaultFrom (Ends program tells.budget) opening tells.events tells.order fault
 
     -- what each fault says of the text, as a record of the program's object
     abbrev pub HasRecordFault : VerifyFault → Type 0
     HasRecordFault (Faults.Text e) = ⊥
-    HasRecordFault (Faults.Form line) = IsRecordFault (signatures program) text (Record.Form line)
+    HasRecordFault (Faults.Form line) = IsRecordFault program text (Record.Form line)
     HasRecordFault (Faults.Open (Open.Trap trap)) = HasOpenTrap trap
     HasRecordFault (Faults.Open Open.NoMemory) = ⊥
     HasRecordFault (Faults.Order e) = HasOrderFault e
@@ -62,7 +63,7 @@ module _ (module_text record_text : List ℕ) where
   pub record IsFaultOfRecord (fault : VerifyFault) : Type 0 where
     pub program : Program
     pub is_module : IsModule module_text program
-    pub fails : HasRecordFault Named.IsOpening Named.OpeningTraps CallMeans program record_text fault
+    pub fails : HasRecordFault BeginsNamed TrapsNamed CallMeans program record_text fault
 
   -- what each fault says of both texts
   abbrev pub IsVerifyFault : VerifyFault → Type 0

@@ -1,6 +1,7 @@
 //! From the bytes of a module and of a record: whether the record's order is a legal order of its history.
 #![tactic(auto)]
 
+pub mod beginning;
 pub mod laws;
 pub mod verifying;
 

@@ -2,16 +2,17 @@
 
 ghost use Rattle.std.specs.Prelude.{◌≡◌, ◌<◌, Err, OnOk, IfErr, length};
 ghost use Rattle.ob_checked.specs.CheckedModule.{program_in};
-ghost use Rattle.ob_interpreter.specs.Sequences.{IsOpening, OpeningTraps};
 ghost use Rattle.ob_object_order.specs.LegalOrder.{CallEnds};
+ghost use Rattle.ob_object_verify.specs.Beginnings.{BeginsPlaced, TrapsPlaced};
 ghost use Rattle.ob_object_verify.specs.Verified.{IsLegalRecord, IsVerified};
 ghost use Rattle.ob_object_verify.specs.VerifyFaults.{HasRecordFault, IsFaultOfRecord, IsNumbered, IsVerifyFault, TellsFault, TellsMemoryApart, too_long};
 ghost use Rattle.ob_object_verify.specs.declared.verifying.VerifyFault.{VerifyFault};
 ghost use Rattle.ob_object_verify.specs.declared.verifying.VerifyFault.TheVariants as Faults;
 
+use crate::beginning::beginning;
 use ob_check_text::checked_text::{TextFault, checked_text};
 use ob_checked::checked::Checked;
-use ob_interpreter::opening::{OpenFault, opening};
+use ob_interpreter::opening::OpenFault;
 use ob_object_order::{OrderFault, check_order};
 use ob_scan::scanner::LONGEST_TEXT;
 use ob_text_record_reading::{RecordFault, read_record};
@@ -27,7 +28,7 @@ pub enum VerifyFault {
     /// F1: the record's line is missing, or not of its form or place. Lines count from 1.
     #[error("F1 line {0}")]
     Form(usize),
-    /// O2: the module has no opening state.
+    /// O2: the module has no opening state, and no values were carried over.
     #[error("{0}")]
     Open(OpenFault),
     /// H1 to H4: the record's order is no legal order of its history.
@@ -94,8 +95,8 @@ impl From<OrderFault> for VerifyFault {
     }
 }
 
-/// Whether a text is a record of a module's object, and its order a legal order of its history: made one at a time from
-/// the module's opening, each with the record's budget of turns, the calls give the record's replies.
+/// Whether a text is a record of a module's object, and its order a legal order of its history: made one at a time from the values that
+/// were carried over, or else from the module's opening, each with the record's budget of turns, the calls give the record's replies.
 pub fn verify_text(alloc: Global, module: &[u8], record: &[u8]) -> Result<(), VerifyFault>
     ensures verified { OnOk result (IsVerified «module».now «record».now) }
     ensures fault { IfErr result (IsVerifyFault «module».now «record».now) }
@@ -121,21 +122,21 @@ pub fn verify_text(alloc: Global, module: &[u8], record: &[u8]) -> Result<(), Ve
 
 /// The same, of a checked module, where variables go by their positions.
 fn verify_record(alloc: Global, checked: &Checked, text: &[u8]) -> Result<(), VerifyFault>
-    ensures legal { OnOk result (IsLegalRecord IsOpening CallEnds (program_in checked.now) text.now) }
-    ensures fault { IfErr result (HasRecordFault IsOpening OpeningTraps CallEnds (program_in checked.now) text.now) }
-    ensures lawful { IsLegalRecord IsOpening CallEnds (program_in checked.now) text.now → IfErr result (λ e. e ≡ Faults.NoMemory) }
-    ensures exact { (fault : VerifyFault) → IsNumbered fault → HasRecordFault IsOpening OpeningTraps CallEnds (program_in checked.now) text.now fault
+    ensures legal { OnOk result (IsLegalRecord BeginsPlaced CallEnds (program_in checked.now) text.now) }
+    ensures fault { IfErr result (HasRecordFault BeginsPlaced TrapsPlaced CallEnds (program_in checked.now) text.now) }
+    ensures lawful { IsLegalRecord BeginsPlaced CallEnds (program_in checked.now) text.now → IfErr result (λ e. e ≡ Faults.NoMemory) }
+    ensures exact { (fault : VerifyFault) → IsNumbered fault → HasRecordFault BeginsPlaced TrapsPlaced CallEnds (program_in checked.now) text.now fault
         → TellsFault result fault }
     ensures memory { IfErr result TellsMemoryApart }
 {
     let read = read_record(alloc, checked, text)?;
-    let opened = opening(alloc, checked)?;
+    let begun = beginning(alloc, checked, read.carried)?;
     check_order(
         alloc,
         &read.history,
         &read.order,
         checked,
-        &opened,
+        &begun,
         read.budget,
     )?;
     Ok(())

@@ -1,4 +1,4 @@
--- What a module declares has words for its names: its variables with the fields of their types, and its exports.
+-- What a module declares has names: its variables with the fields of their types, and its exports.
 use Rattle.std.proofs.Common.{ℕ, Bool, true, false, List, [], ◌∷◌, ◌++◌, if◌then◌else◌, Option, Some, None, flat_map, refl, subst}
 use Rattle.std.specs.List.{AllByRecursion}
 use Rattle.ob_agreement.specs.Exported.{Export, exports_declared, exports_in, formals_in}
@@ -9,9 +9,9 @@ use Rattle.ob_scan.specs.declared.token.Kind.{Kind}
 use Rattle.ob_syntax.proofs.Worded.{derived_words}
 use Rattle.ob_syntax.specs.Printing as Printing
 use Rattle.ob_syntax.specs.Printing.{body_words, const_words, declaration_words, fixed, heading_words, ident, name_words, part_words, procedure_words, type_decl_words, type_words, var_decl_words, words_behind}
-use Rattle.ob_text_read_back.proofs.FieldNames.{AreWorded, HasWords, denoted, opening_worded, variable_worded, worded_more}
-use Rattle.ob_text_read_back.proofs.Names.{AreNamed, AreWords, IsNamed, both, left, names_listed, right, tokens_named}
-use Rattle.ob_text_read_back.proofs.Words.{IsWord}
+use Rattle.ob_text_read_back.proofs.FieldNames.{AreWorded, IsSayable, denoted, opening_worded, variable_worded, worded_more}
+use Rattle.ob_text_read_back.proofs.Names.{AreNamed, AreNames, IsNamed, both, left, names_listed, right, tokens_named}
+use Rattle.ob_text_words.specs.Words.{IsName}
 use Rattle.ob_typing.specs.Declarations as Typing
 use Rattle.ob_typing.specs.Declarations.{Constants, Declares, Room, Types, Variables, WellTyped, declared_by, variables_of, with_variables, with_words}
 use Rattle.ob_typing.specs.Program.{DataType, Program, Variable}
@@ -21,8 +21,8 @@ use Rattle.ob_typing.specs.Statements.{listed}
 -- ---- of variables and of their types
 
 pub record IsWordedVariable (v : Variable) : Type 0 where
-  pub name : IsWord v.name
-  pub type : HasWords v.type
+  pub name : IsName v.name
+  pub type : IsSayable v.type
 
 abbrev pub AreWordedVariables : List Variable → Type 0
 AreWordedVariables vs = AllByRecursion IsWordedVariable vs
@@ -44,7 +44,7 @@ variables_more env room t (name ∷ names) worded =
     variables_more (declared env name.text (variable_in env room.names t)) (with_words room (words t)) t names
     (worded_more env name.text (variable_in env room.names t) worded (variable_worded env room.names t))
 
-one_list : (t : DataType) (names : List Tree.Name) → AreWords names → HasWords t → AreWordedVariables (variables_of t names)
+one_list : (t : DataType) (names : List Tree.Name) → AreNames names → IsSayable t → AreWordedVariables (variables_of t names)
 one_list t [] h k = tt
 one_list t (name ∷ names) h k = (record { name = h.0; type = k }, one_list t names h.1 k)
 
@@ -65,7 +65,7 @@ part_named kind each (Some part) h = h.1
 -- ---- of exports
 
 abbrev pub IsWordedExport : Export → Type 0
-IsWordedExport e = IsWord e.name
+IsWordedExport e = IsName e.name
 
 one_more : (b : Bool) (e : Export) (es : List Export) → IsWordedExport e → AllByRecursion IsWordedExport es → AllByRecursion IsWordedExport (if b then e ∷ es else es)
 one_more true e es h k = (h, k)

@@ -9,5 +9,6 @@ pub mod Fronts
 pub mod EndedCalls
 pub mod ValueWords
 pub mod WordLines
+pub mod SaidValues
 pub mod ReadValues
 pub mod ReadBack

@@ -1,5 +1,5 @@
 -- A writable record's lines are a record that tells it.
-use Rattle.std.proofs.Common.{◌≡◌, ℕ, ◌-◌, ◌≤◌, List, [], ◌∷◌, ◌++◌, All, codes, map, slice_get, Some, refl, sym, ◌∙◌, ap, subst, arith, append_assoc, append-nil}
+use Rattle.std.proofs.Common.{◌≡◌, ℕ, ◌-◌, ◌≤◌, List, [], ◌∷◌, ◌++◌, All, codes, map, slice_get, Option, Some, None, refl, sym, ◌∙◌, ap, subst, arith, append_assoc, append-nil}
 use Rattle.std.proofs.lemmas.List.Elements.{All-cons, All-head, All-nil, All-tail}
 use Rattle.ob_checked.specs.Exports.{signatures}
 use Rattle.ob_grammar.specs.Texts.{HasText}
@@ -12,16 +12,18 @@ use Rattle.ob_object_verify.specs.RunRecords.{without_applied}
 use Rattle.ob_positions.specs.Store.{Activation}
 use Rattle.ob_scan.proofs.TokenFacts.{lexemes_spelled}
 use Rattle.ob_scan.specs.Lexemes.{lexemes}
-use Rattle.ob_text_read_back.specs.Writable.{IsNamed, IsReadBack, IsWritable, IsWritableEvent, LegalIsVerified, ModulesAreRead, WellTypedIsRead, told_by}
+use Rattle.ob_text_read_back.specs.Writable.{AreCarried, IsNamed, IsReadBack, IsWritable, IsWritableEvent, LegalIsVerified, ModulesAreRead, WellTypedIsRead, told_by}
+use Rattle.ob_text_read_back.proofs.DeclaredNames.{module_words}
 use Rattle.ob_text_read_back.proofs.ExportNames.{own_named}
 use Rattle.ob_text_read_back.proofs.Fronts.{history_front, history_without, same_calls, without-append}
 use Rattle.ob_text_read_back.proofs.Numbers.{id_named, numeral}
 use Rattle.ob_text_read_back.proofs.PlainWords.{lines_of_text}
 use Rattle.ob_text_read_back.proofs.ReadValues.{values_read}
-use Rattle.ob_text_read_back.proofs.WordLines.{all_words, answered, budget_line, count_line, event_line, lines_behind, order_line, record_written, schedule_line, title_line, value_lines}
+use Rattle.ob_text_read_back.proofs.SaidValues.{lines_open}
+use Rattle.ob_text_read_back.proofs.WordLines.{all_words, answered, budget_line, carried_lines, count_line, event_line, head_lines, lines_behind, order_line, record_written, schedule_line, title_line, value_lines}
 use Rattle.ob_text_record.specs.RecordText.{id_text, name_of, record_text}
 use Rattle.ob_text_record_reading.specs.RecordLines as Lines
-use Rattle.ob_text_record_reading.specs.RecordLines.{AreIds, AreLines, IsEvent, IsNextEvent, IsRecordOf, IsTail, Line}
+use Rattle.ob_text_record_reading.specs.RecordLines.{AreIds, AreLines, IsEvent, IsHead, IsRecordOf, IsTail, Line}
 use Rattle.ob_text_words.specs.ScalarTexts.{scalar_text}
 use Rattle.ob_text_words.specs.Words.{Word}
 use Rattle.ob_typing.specs.Declarations.{WellTyped}
@@ -34,10 +36,10 @@ ids_read n [] few all = Lines.AreIds.none
 ids_read n (id ∷ ids) few all =
     Lines.AreIds.more (id_named n id few (All-head (IsNamed n) id ids all)) (ids_read n ids few (All-tail (IsNamed n) id ids all))
 
-variable_tails : (vs : List Variable) (state : Activation) → All IsTail (value_lines vs state)
+variable_tails : (vs : List Variable) (state : Activation) → All IsTail (value_lines 86 vs state)
 variable_tails [] state = All-nil IsTail
 variable_tails (v ∷ vs) [] = All-nil IsTail
-variable_tails (v ∷ vs) (h ∷ state) = All-cons IsTail _ (value_lines vs state) Lines.variable (variable_tails vs state)
+variable_tails (v ∷ vs) (h ∷ state) = All-cons IsTail _ (value_lines 86 vs state) Lines.variable (variable_tails vs state)
 
 module _ (m : Module) (program : Program) (text : HasText m) (typed : WellTyped m program) (r : Record) (h : IsWritable program r) where
   abbrev told : List (Event ObjectCall Reply) → List (Event ObjectCall Reply)
@@ -78,7 +80,7 @@ module _ (m : Module) (program : Program) (text : HasText m) (typed : WellTyped 
       Lines.end (id_named r.processes id h.most k) (begun before id call.0 call.1) (Lines.trap (numeral n (omega (arith, trap.1))) trap.0 trap.1)
 
   abbrev tail : List Line
-  tail = order_line r.order ∷ schedule_line r.schedule ∷ value_lines program.variables r.state
+  tail = order_line r.order ∷ schedule_line r.schedule ∷ value_lines 86 program.variables r.state
 
   abbrev AreLeft : List (Event ObjectCall Reply) → List (Event ObjectCall Reply) → Type 0
   AreLeft before behind = AreLines r.processes (signatures program) before (map (event_line (signatures program)) behind ++ tail) (told r.history) r.order
@@ -88,7 +90,7 @@ module _ (m : Module) (program : Program) (text : HasText m) (typed : WellTyped 
   lines_read before [] is =
       subst (λ (es : List (Event ObjectCall Reply)). AreLeft (told es) []) (is ∙ append-nil before)
       (Lines.AreLines.order (Lines.IsOrder.order (ids_read r.processes r.order h.most h.order))
-      (All-cons IsTail (schedule_line r.schedule) (value_lines program.variables r.state) Lines.schedule (variable_tails program.variables r.state)))
+      (All-cons IsTail (schedule_line r.schedule) (value_lines 86 program.variables r.state) Lines.schedule (variable_tails program.variables r.state)))
   lines_read before (Begin id call ∷ behind) is =
       Lines.AreLines.event (record { form = begin_read before id call (h.events before behind (Begin id call) is); place = place before behind (Begin id call) is refl })
       (subst (λ (es : List (Event ObjectCall Reply)). AreLeft es behind) (without-append before (Begin id call ∷ []))
@@ -102,16 +104,23 @@ module _ (m : Module) (program : Program) (text : HasText m) (typed : WellTyped 
       (subst (λ (es : List (Event ObjectCall Reply)). AreLeft es behind) (without-append before (End id reply ∷ []))
       (lines_read (before ++ End id reply ∷ []) behind (is ∙ sym (append_assoc before (End id reply ∷ []) behind))))
 
-  all_read : IsRecordOf (signatures program) (title_line ∷ count_line r.processes ∷ budget_line r.budget ∷ lines_behind program r) (told_by r)
+  heads : (carried : Option Activation) → AreCarried program carried →
+      IsHead program.variables (title_line carried ∷ count_line r.processes ∷ budget_line r.budget ∷ carried_lines program carried) r.processes r.budget carried
+  heads None k =
+      Lines.of_version_2 refl (Lines.count (numeral r.processes (omega (arith, h.most))) h.least h.most) (Lines.budget (numeral r.budget (omega (arith, h.budget))) h.budget)
+  heads (Some held) k =
+      Lines.of_version_3 refl (Lines.count (numeral r.processes (omega (arith, h.most))) h.least h.most) (Lines.budget (numeral r.budget (omega (arith, h.budget))) h.budget)
+      (lines_open program.variables held (module_words m program text typed).variables k)
+
+  all_read : IsRecordOf program (head_lines program r ++ lines_behind program r) (told_by r)
   all_read =
-      Lines.of_version_2 refl (Lines.count (numeral r.processes (omega (arith, h.most))) h.least h.most)
-      (Lines.budget (numeral r.budget (omega (arith, h.budget))) h.budget) (lines_read [] r.history refl)
+      record { head = head_lines program r; behind = lines_behind program r; parts = refl; heads = heads r.carried h.carried; tells = lines_read [] r.history refl }
 
   read : IsReadBack program r
   read =
-      subst (λ (ls : List Line). IsRecordOf (signatures program) ls (told_by r))
-      (sym (ap Lines.record_lines (record_written program r h.by_body)
-      ∙ lines_of_text title_line (count_line r.processes ∷ budget_line r.budget ∷ lines_behind program r) (all_words m program text typed r h)))
+      subst (λ (ls : List Line). IsRecordOf program ls (told_by r))
+      (sym (ap Lines.record_lines (record_written program r)
+      ∙ lines_of_text (title_line r.carried) (count_line r.processes ∷ budget_line r.budget ∷ carried_lines program r.carried ++ lines_behind program r) (all_words m program text typed r h)))
       all_read
 
 pub well_typed_is_read : WellTypedIsRead
@@ -124,4 +133,4 @@ modules_are_read text program r is h =
 
 pub legal_is_verified : LegalIsVerified
 legal_is_verified module_text program opening last r is opens h legal =
-    runs_verified module_text (record_text program r) program opening last r.history (told_by r) is opens (modules_are_read module_text program r is h) refl legal
+    runs_verified module_text (record_text program r) program opening last r.history (told_by r) is (modules_are_read module_text program r is h) opens refl legal

@@ -1,5 +1,5 @@
 -- Records whose text tells what they hold.
-use Rattle.std.specs.Prelude.{◌≡◌, ℕ, ◌-◌, ◌<◌, ◌≤◌, ◌^◌, List, ◌∷◌, ◌++◌, All, slice_get, Some, None}
+use Rattle.std.specs.Prelude.{◌≡◌, ℕ, ◌-◌, ◌<◌, ◌≤◌, ◌^◌, List, ◌∷◌, ◌++◌, All, slice_get, Option, Some, None}
 use Rattle.ob_checked.specs.Exports.{signatures}
 use Rattle.ob_code_law.specs.Named.{CallMeans}
 use Rattle.ob_code_scheme.specs.Correct.{IsInRange, values_of}
@@ -9,10 +9,12 @@ use Rattle.ob_grammar.specs.Tree.{Module}
 use Rattle.ob_interface.specs.Call.{ObjectCall, Reply, Answers, Trapped}
 use Rattle.ob_interface.specs.Export.{CallFits, ReplyFits, Signature}
 use Rattle.ob_interface.specs.Processes.{most_processes}
-use Rattle.ob_meaning.specs.Object.{IsOpening, State, most_turns}
+use Rattle.ob_meaning.specs.Object.{State, most_turns}
 use Rattle.ob_object_record.specs.Record.{Record}
+use Rattle.ob_object_verify.specs.Beginnings.{BeginsNamed}
 use Rattle.ob_object_verify.specs.RunRecords.{without_applied}
 use Rattle.ob_object_verify.specs.Verified.{IsVerified}
+use Rattle.ob_positions.specs.Store.{Activation}
 use Rattle.ob_text_record.specs.RecordText.{record_text}
 use Rattle.ob_text_record_reading.specs.RecordLines.{IsRecord, Told}
 use Rattle.ob_typing.specs.Arithmetic.{no_turn_left}
@@ -63,13 +65,18 @@ module _ (program : Program) where
   IsWritableEvent processes before (Applied ids) = All (IsNamed processes) ids
   IsWritableEvent processes before (End id reply) = IsNamed processes id × RepliesTo before id reply
 
-  -- a record that fits the module: there are 1 to 16 processes, and the budget is one that a call may have; the object began by the
-  -- module's body; the events of each process take turns, calls and replies fit the exports, and each variable has a value of its type
+  -- where values were carried over, each variable has one of its type
+  abbrev pub AreCarried : Option Activation → Type 0
+  AreCarried None = Unit {0}
+  AreCarried (Some held) = IsStateOf program.variables held
+
+  -- a record that fits the module: there are 1 to 16 processes, and the budget is one that a call may have; the events of each process
+  -- take turns, calls and replies fit the exports, and each variable has a value of its type, as it has among the values carried over
   pub record IsWritable (r : Record) : Type 0 where
     pub least : 1 ≤ r.processes
     pub most : r.processes ≤ most_processes
     pub budget : r.budget ≤ most_turns
-    pub by_body : r.carried ≡ None
+    pub carried : AreCarried r.carried
     pub whole : IsHistory r.history
     pub events : (before behind : List (Event ObjectCall Reply)) (e : Event ObjectCall Reply) → r.history ≡ before ++ e ∷ behind →
         IsWritableEvent r.processes before e
@@ -79,11 +86,11 @@ module _ (program : Program) where
 
 -- what the text of a record tells
 abbrev pub told_by : Record → Told
-told_by r = record { processes = r.processes; budget = r.budget; events = without_applied r.history; order = r.order }
+told_by r = record { processes = r.processes; budget = r.budget; carried = r.carried; events = without_applied r.history; order = r.order }
 
 -- the text of the record is a record of the module, which tells what was written
 abbrev pub IsReadBack : Program → Record → Type 0
-IsReadBack program r = IsRecord (signatures program) (record_text program r) (told_by r)
+IsReadBack program r = IsRecord program (record_text program r) (told_by r)
 
 -- so it is with each writable record of a program that a module with a text is well typed as
 abbrev pub WellTypedIsRead : Type 0
@@ -93,9 +100,9 @@ WellTypedIsRead = (m : Module) (program : Program) (r : Record) → HasText m �
 abbrev pub ModulesAreRead : Type 0
 ModulesAreRead = (text : List ℕ) (program : Program) (r : Record) → IsModule text program → IsWritable program r → IsReadBack program r
 
--- and where its order is a legal order of its history, from the opening of the module on and with the budget of the record, the text
--- is verified
+-- and where its order is a legal order of its history, from the state with which its calls begin and with its budget, the text is
+-- verified
 abbrev pub LegalIsVerified : Type 0
 LegalIsVerified =
-    (module_text : List ℕ) (program : Program) (opening last : State) (r : Record) → IsModule module_text program → IsOpening program opening →
+    (module_text : List ℕ) (program : Program) (opening last : State) (r : Record) → IsModule module_text program → BeginsNamed program r.carried opening →
     IsWritable program r → IsLegal (CallMeans program r.budget) opening r.history r.order last → IsVerified module_text (record_text program r)

@@ -7,8 +7,8 @@ ghost use Rattle.ob_text_read_back.specs.Writable.{IsReadBack, IsWritable, Legal
 use ob_checked::checked::Checked;
 use ob_object_record::Record;
 
-/// The text of a writable record of a well typed module, so of an object that began by the module's body, is a record of that module,
-/// which tells what was written: the number of processes, the budget, the Begin and End events and the order.
+/// The text of a writable record of a well typed module is a record of that module, which tells what was written: the number of
+/// processes, the budget, the values carried over where there are such, the Begin and End events and the order.
 pub fn well_typed_is_read()
     ensures { WellTypedIsRead }
 {}
@@ -29,8 +29,8 @@ pub fn checked_is_read(checked: &Checked, record: &Record)
     let _record = record;
 }
 
-/// The text of a writable record of a module, whose order is a legal order of its history, is verified, so `verify_text` answers Ok or
-/// want of memory of it.
+/// The text of a writable record of a module, whose order is a legal order of its history from the state with which its calls begin,
+/// is verified, so `verify_text` answers Ok or want of memory of it.
 pub fn legal_is_verified()
     ensures { LegalIsVerified }
 {}

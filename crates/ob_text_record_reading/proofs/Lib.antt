@@ -4,9 +4,11 @@ pub mod Seating
 pub mod OneEvent
 pub mod LineRuns
 pub mod Faults
+pub mod OpeningLines
+pub mod RecordHeads
+pub mod Opened
 pub mod Places
 mod Fronts
-pub mod FirstLines
 pub mod Numbers
 pub mod NothingSaid
 pub mod WrittenWords

@@ -19,7 +19,8 @@ use Rattle.ob_scan.specs.Spelling.{number_value}
 use Rattle.ob_text_words.specs.Words.{Word, is_blank, lines, words}
 use Rattle.ob_text_record_reading.specs.LineReading.{BeginsLine, BeginsWithId, BeginsWithWord, EndsWord, TakesId, ends_word}
 use Rattle.ob_text_record_reading.specs.RecordLines.{IsId, Line, id}
-use Rattle.ob_text_record_reading.proofs.WordsTaken.{HasNoBlank, behind_blank, digit_is, both, word_alone, word_then}
+use Rattle.ob_text_record_reading.proofs.WordsTaken.{digit_is, both}
+use Rattle.ob_text_values_reading.proofs.WordsTaken.{HasNoBlank, behind_blank, word_alone, word_then}
 use Rattle.wf_history.specs.declared.event.CallId.{CallId}
 
 -- no blank and no line feed

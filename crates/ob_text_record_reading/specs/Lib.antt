@@ -1,3 +1,4 @@
+pub mod Openings
 pub mod RecordLines
 pub mod Told
 pub mod Heads

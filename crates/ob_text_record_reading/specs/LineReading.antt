@@ -1,5 +1,5 @@
 -- What is read of one line behind a record's head, and of all of them.
-use Rattle.std.specs.Prelude.{◌≡◌, ℕ, ◌+◌, List, [], ◌∷◌, ◌++◌, ◌≤◌, ◌==◌, ◌||◌, length, map, take, codes, Bool, true, false, All, Option, Some, None, MatchOption}
+use Rattle.std.specs.Prelude.{◌≡◌, ℕ, ◌+◌, List, [], ◌∷◌, ◌++◌, ◌==◌, ◌||◌, length, map, codes, Bool, true, All, Option, MatchOption}
 use Rattle.std.specs.Borrow.{Bor}
 use Rattle.ob_interface.specs.Call.{ObjectCall, Reply}
 use Rattle.ob_interface.specs.Export.{Signature}
@@ -12,11 +12,6 @@ use Rattle.ob_text_words.specs.Words.{Word, is_blank, lines, words}
 use Rattle.wf_history.specs.declared.event.CallId.{CallId}
 use Rattle.wf_history.specs.History.{Event, Begin, End}
 use Rattle.wf_history.specs.View.{kept_call, kept_reply}
-
--- what stands behind a line feed, if there is one, as lines
-abbrev pub lines_behind : Option (Bor (List ℕ)) → List Line
-lines_behind None = []
-lines_behind (Some text) = map words (lines text.now)
 
 -- these words behind an O say this order
 abbrev pub IsOrderRead : ℕ → List Word → Rust.Line → Type 0

@@ -1,38 +1,33 @@
 -- Records as they are read: which lines of words are a record, and where lines stop being one. Words are separated as in
 -- scripts; A lines and the lines behind the O line are read for their form alone.
-use Rattle.std.specs.Prelude.{◌≡◌, ℕ, ◌+◌, ◌-◌, ◌<◌, ◌≤◌, ◌^◌, List, [], ◌∷◌, ◌++◌, All, length, map, codes, slice_get, Some}
-use Rattle.std.specs.Io.BufRead.{strip_last}
+use Rattle.std.specs.Prelude.{◌≡◌, ℕ, ◌+◌, ◌-◌, ◌<◌, ◌≤◌, ◌^◌, List, [], ◌∷◌, ◌++◌, All, length, codes, slice_get, Option, Some, None}
 use Rattle.ob_interface.specs.declared.scalar.Scalar.{Scalar}
 use Rattle.ob_interface.specs.Call.{ObjectCall, Reply, Answers, Trapped}
 use Rattle.ob_interface.specs.Processes.{most_processes}
 use Rattle.ob_typing.specs.Arithmetic.{no_turn_left}
 use Rattle.ob_meaning.specs.Object.{most_turns}
-use Rattle.ob_text_words.specs.Words.{IsNumeral, Word, lines, words}
+use Rattle.ob_text_words.specs.Words.{IsNumeral, Word}
 use Rattle.ob_text_exports.specs.ExportNames.{export_named}
 use Rattle.ob_text_exports.specs.Values.{AreValues}
 use Rattle.ob_interface.specs.Export.{Signature, value_types, var_types}
+use Rattle.ob_checked.specs.Exports.{signatures}
+use Rattle.ob_positions.specs.Store.{Activation}
+use Rattle.ob_typing.specs.Program.{Program, Variable}
+pub use Rattle.ob_text_values_reading.specs.RecordTexts.{IsTitle, Line, record_lines}
+use Rattle.ob_text_record_reading.specs.Openings.{AreOpenings}
 use Rattle.ob_text_record_reading.specs.declared.reading.RecordFault.{RecordFault}
 use Rattle.ob_text_record_reading.specs.declared.reading.RecordFault.TheVariants as Faults
 use Rattle.wf_history.specs.declared.event.CallId.{CallId}
 use Rattle.wf_history.specs.History.{Event, Begin, End, IsHistory, own_calls}
 
-abbrev pub Line : Type 0
-Line = List Word
-
--- the words of each line; a line feed at the end of the text begins no line
-abbrev pub record_lines : List ℕ → List Line
-record_lines text = map words (lines (strip_last 10 text))
-
--- what a record tells its reader: how many processes there are, the budget of each call, the Begin and End events, and the order
+-- what a record tells its reader: how many processes there are, the budget of each call, the values that its object began with
+-- where they were carried over, the Begin and End events, and the order
 pub record Told : Type 0 where
   pub processes : ℕ
   pub budget : ℕ
+  pub carried : Option Activation
   pub events : List (Event ObjectCall Reply)
   pub order : List CallId
-
--- obl0 record, and the version
-abbrev pub IsTitle : Word → Line → Type 0
-IsTitle version line = line ≡ codes "obl0" ∷ codes "record" ∷ version ∷ []
 
 -- n N: 1 to 16 processes
 pub data IsCount : Line → ℕ → Type 0 where
@@ -100,24 +95,40 @@ module _ (processes : ℕ) where
       order : {before : List (Event ObjectCall Reply)} {line : Line} {rest : List Line} {ids : List CallId} →
           IsOrder line ids → All IsTail rest → AreLines before (line ∷ rest) before ids
 
-module _ (signatures : List Signature) where
-  -- the lines are a record that tells this; one of version 1 has no budget line, and tells the greatest budget
-  pub data IsRecordOf : List Line → Told → Type 0 where
-    of_version_1 : {title second : Line} {rest : List Line} {t : Told} → IsTitle (codes "1") title → IsCount second t.processes → t.budget ≡ most_turns →
-        AreLines t.processes signatures [] rest t.events t.order → IsRecordOf (title ∷ second ∷ rest) t
-    of_version_2 : {title second third : Line} {rest : List Line} {t : Told} → IsTitle (codes "2") title → IsCount second t.processes → IsBudget third t.budget →
-        AreLines t.processes signatures [] rest t.events t.order → IsRecordOf (title ∷ second ∷ third ∷ rest) t
+-- the lines of a head: the title, how many processes there are, and from version 2 on the budget of each call, which in version 1 is
+-- the greatest one; in version 3 the openings of the module's variables behind it
+pub data IsHead (variables : List Variable) : List Line → (processes budget : ℕ) → Option Activation → Type 0 where
+  of_version_1 : {title second : Line} {n : ℕ} → IsTitle (codes "1") title → IsCount second n → IsHead variables (title ∷ second ∷ []) n most_turns None
+  of_version_2 : {title second third : Line} {n b : ℕ} → IsTitle (codes "2") title → IsCount second n → IsBudget third b →
+      IsHead variables (title ∷ second ∷ third ∷ []) n b None
+  of_version_3 : {title second third : Line} {openings : List Line} {n b : ℕ} {held : Activation} → IsTitle (codes "3") title → IsCount second n → IsBudget third b →
+      AreOpenings variables openings held → IsHead variables (title ∷ second ∷ third ∷ openings) n b (Some held)
+
+module _ (program : Program) where
+  -- the lines are a record of the program's object that tells this
+  pub record IsRecordOf (ls : List Line) (t : Told) : Type 0 where
+    pub head : List Line
+    pub behind : List Line
+    pub parts : ls ≡ head ++ behind
+    pub heads : IsHead program.variables head t.processes t.budget t.carried
+    pub tells : AreLines t.processes (signatures program) [] behind t.events t.order
 
   abbrev pub IsRecord : List ℕ → Told → Type 0
   IsRecord text t = IsRecordOf (record_lines text) t
 
-  -- some record begins with these lines
+  -- a whole record, or the first lines of one of version 3, as far as the openings of some of the variables, in their order
+  pub data IsRecordPart : List Line → Type 0 where
+    whole : {ls : List Line} {t : Told} → IsRecordOf ls t → IsRecordPart ls
+    opened : {title second third : Line} {openings : List Line} {n b : ℕ} {held : Activation} (first others : List Variable) →
+        program.variables ≡ first ++ others → IsTitle (codes "3") title → IsCount second n → IsBudget third b → AreOpenings first openings held →
+        IsRecordPart (title ∷ second ∷ third ∷ openings)
+
+  -- some of these begin with the lines
   pub record BeginsRecord (ls : List Line) : Type 0 where
     pub rest : List Line
-    pub tells : Told
-    pub whole : IsRecordOf (ls ++ rest) tells
+    pub part : IsRecordPart (ls ++ rest)
 
-  -- F1: the first line with which no record begins, or the line that is missing; lines count from 1
+  -- F1: the first line with which none of them begins, so that it is out of form or place, or the line that is missing; lines count from 1
   pub data FailsAtLine : List Line → ℕ → Type 0 where
     misplaced : (before : List Line) (line : Line) (rest : List Line) → BeginsRecord before → ¬ BeginsRecord (before ++ line ∷ []) →
         FailsAtLine (before ++ line ∷ rest) (length before + 1)

@@ -5,9 +5,10 @@ ghost use Rattle.std.specs.Char.{is_ascii_digit};
 ghost use Rattle.std.specs.List.{list_all, position};
 ghost use Rattle.ob_scan.specs.Spelling.{number_value};
 ghost use Rattle.ob_text_words.specs.Words.{lines, words};
-ghost use Rattle.ob_text_record_reading.specs.LineReading.{BeginsLine, BeginsWithId, BeginsWithWord, ends_word, lines_behind};
+ghost use Rattle.ob_text_record_reading.specs.LineReading.{BeginsLine, BeginsWithId, BeginsWithWord, ends_word};
+ghost use Rattle.ob_text_values_reading.specs.RecordTexts.{lines_behind};
 
-use crate::splitting::split_line;
+use ob_text_values_reading::lines::split_line;
 use wf_history::CallId;
 
 /// The most digits that are read without a look at whether the number grows too large.

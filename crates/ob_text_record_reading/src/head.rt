@@ -1,51 +1,31 @@
-//! The lines before the first event: the title, how many processes there are, and the budget of each call.
+//! The lines behind the title and before the first event: how many processes there are, and the budget of each call.
 
-ghost use Rattle.std.specs.Prelude.{◌≡◌, ◌∷◌, [], ℕ, map, MatchOption};
-ghost use Rattle.ob_text_record_reading.specs.Heads.{version_word};
-ghost use Rattle.ob_text_record_reading.specs.RecordLines.{IsBudget, IsCount, IsTitle};
-ghost use Rattle.ob_text_words.specs.Finding.{Finds};
+ghost use Rattle.std.specs.Prelude.{◌≡◌, ℕ, map, MatchOption, None};
+ghost use Rattle.ob_text_record_reading.specs.RecordLines.{IsBudget, IsCount};
 
 use crate::number::read_only_number;
 use ob_interface::MOST_PROCESSES;
 use ob_interpreter::opening::MOST_TURNS;
+use ob_store::state::State;
 
-/// The version of a record: the first one has no budget.
-#[derive(Clone, Copy)]
-pub(crate) enum Version {
-    First,
-    Second,
+/// What the lines before the first event tell, and how many they are.
+#[derive(Drop)]
+pub(crate) struct Head {
+    pub(crate) processes: usize,
+    pub(crate) budget: u64,
+    pub(crate) carried: Option<State>,
+    pub(crate) lines: usize,
 }
 
-/// The version that a title tells: `obl0 record 1` or `obl0 record 2`.
-pub(crate) fn read_title(words: &[&[u8]]) -> Option<Version>
-    ensures { Finds (λ version. IsTitle (version_word version) (map (λ w. w.now) words.now)) result }
+/// A head that tells of no values that were carried over.
+pub(crate) fn plain_head(processes: usize, budget: u64, lines: usize) -> Head
+    ensures { result ≡ record { processes = processes; budget = budget; carried = None; lines = lines } }
 {
-    let Some((name, behind)) = words.split_first() else {
-        return None;
-    };
-    let Some((kind, rest)) = behind.split_first() else {
-        return None;
-    };
-    if *name != b"obl0".as_slice() {
-        return None;
-    }
-    if *kind != b"record".as_slice() {
-        return None;
-    }
-    read_version(rest)
-}
-
-/// The version that the only word is: `1` or `2`.
-fn read_version(words: &[&[u8]]) -> Option<Version>
-    ensures { Finds (λ version. map (λ w. w.now) words.now ≡ version_word version ∷ []) result }
-{
-    let [word] = words else {
-        return None;
-    };
-    match *word {
-        b"1" => Some(Version::First),
-        b"2" => Some(Version::Second),
-        _ => None,
+    Head {
+        processes,
+        budget,
+        carried: None,
+        lines,
     }
 }
 

@@ -6,7 +6,8 @@ ghost use Rattle.ob_text_words.specs.Words.{words};
 ghost use Rattle.wf_history.specs.declared.event.CallId.{CallId};
 
 use crate::number::read_number;
-use crate::taking::{next_word, take_id};
+use crate::taking::take_id;
+use ob_text_values_reading::words::next_word;
 use ob_text_words::numbers::split_digits;
 use std::alloc::{AllocError, Global};
 use wf_history::CallId;

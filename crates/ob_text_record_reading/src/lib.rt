@@ -7,6 +7,7 @@ mod head;
 mod id;
 mod line;
 mod number;
+mod opening;
 pub mod reading;
 mod splitting;
 mod taking;

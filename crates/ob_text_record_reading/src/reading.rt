@@ -1,35 +1,40 @@
 //! Records read back.
 
-ghost use Rattle.std.specs.Prelude.{◌≡◌, ◌+◌, ◌<◌, ◌^◌, ◌∷◌, [], length, map, IfOk, IfErr};
+ghost use Rattle.std.specs.Prelude.{◌≡◌, ◌+◌, ◌<◌, ◌^◌, ◌∷◌, [], codes, length, map, IfOk, IfErr, MatchOption};
 ghost use Rattle.ob_checked.specs.CheckedModule.{program_in};
-ghost use Rattle.ob_checked.specs.Exports.{signatures};
 ghost use Rattle.ob_interface.specs.View.{signature_of};
-ghost use Rattle.ob_text_record_reading.specs.Heads.{ForEachHead};
-ghost use Rattle.ob_text_record_reading.specs.LineReading.{FaultBehind, lines_behind};
+ghost use Rattle.ob_text_record_reading.specs.Heads.{ForEachHead, TakesBudget, TakesNoBudget};
+ghost use Rattle.ob_text_record_reading.specs.LineReading.{FaultBehind};
 ghost use Rattle.ob_text_record_reading.specs.RecordLines.{AreLines, FaultStands, IsRecord, IsRecordFault, IsRecordOf, Told};
-ghost use Rattle.ob_text_record_reading.specs.Told.{told_of};
+ghost use Rattle.ob_text_record_reading.specs.Told.{carried_of, told_of};
+ghost use Rattle.ob_text_values_reading.specs.RecordTexts.{lines_behind};
 ghost use Rattle.ob_text_words.specs.Words.{lines, words};
 
 use crate::calls::Calls;
-use crate::head::{Version, read_budget, read_count, read_title};
+use crate::head::{Head, plain_head, read_budget, read_count};
 use crate::line::{Line, read_line};
-use crate::splitting::{first_other, split_line, without_last_feed};
+use crate::opening::read_openings;
+use crate::splitting::first_other;
 use crate::written::take_written;
 use ob_checked::checked::Checked;
 use ob_interface::NoMemory;
 use ob_interface::export::Export;
 use ob_interpreter::opening::MOST_TURNS;
+use ob_store::state::State;
+use ob_text_values_reading::lines::{split_line, without_last_feed};
+use ob_text_values_reading::title::{Version, read_title};
 use ob_text_words::words::words_of;
 use std::alloc::{AllocError, AllocFailed, Global};
 use thiserror::Error;
 use wf_history::{CallId, History};
 
-/// What a record tells: how many processes there are, the budget of each call, the Begin and End events alone, and the
-/// order of the applied calls.
+/// What a record tells: how many processes there are, the budget of each call, the values that its object began with where they
+/// were carried over, the Begin and End events alone, and the order of the applied calls.
 #[derive(Drop)]
 pub struct ReadRecord {
     pub processes: usize,
     pub budget: u64,
+    pub carried: Option<State>,
     pub history: History,
     pub order: Vec<CallId>,
 }
@@ -69,17 +74,17 @@ impl From<NoMemory> for RecordFault {
 
 /// What the text of a record of a module's object tells.
 pub fn read_record(alloc: Global, checked: &Checked, text: &[u8]) -> Result<ReadRecord, RecordFault>
-    ensures record { IfOk result (λ r. IsRecord (signatures (program_in checked.now)) text.now (told_of «r»)) }
-    ensures alone { IfOk result (λ r. (other : Told) → IsRecord (signatures (program_in checked.now)) text.now other → other ≡ told_of «r») }
-    ensures fault { IfErr result (λ e. IsRecordFault (signatures (program_in checked.now)) text.now e) }
+    ensures record { IfOk result (λ r. IsRecord (program_in checked.now) text.now (told_of «r»)) }
+    ensures alone { IfOk result (λ r. (other : Told) → IsRecord (program_in checked.now) text.now other → other ≡ told_of «r») }
+    ensures fault { IfErr result (λ e. IsRecordFault (program_in checked.now) text.now e) }
 {
-    read_lines(alloc, checked.exports(), without_last_feed(text))
+    read_lines(alloc, checked, without_last_feed(text))
 }
 
 /// What the lines of a text tell.
-fn read_lines(alloc: Global, exports: &[Export], text: &[u8]) -> Result<ReadRecord, RecordFault>
-    ensures record { IfOk result (λ r. IsRecordOf (map signature_of exports.now) (map words (lines text.now)) (told_of «r»)) }
-    ensures fault { IfErr result (λ e. FaultStands (map signature_of exports.now) (map words (lines text.now)) e) }
+fn read_lines(alloc: Global, checked: &Checked, text: &[u8]) -> Result<ReadRecord, RecordFault>
+    ensures record { IfOk result (λ r. IsRecordOf (program_in checked.now) (map words (lines text.now)) (told_of «r»)) }
+    ensures fault { IfErr result (λ e. FaultStands (program_in checked.now) (map words (lines text.now)) e) }
 {
     let (title, behind) = split_line(text);
     let first = words_of(alloc, title)?;
@@ -95,55 +100,107 @@ fn read_lines(alloc: Global, exports: &[Export], text: &[u8]) -> Result<ReadReco
         return Err(RecordFault::Form(2));
     };
     match version {
-        Version::First => read_behind(alloc, exports, processes, MOST_TURNS, 2, rest),
-        Version::Second => read_budgeted(alloc, exports, processes, rest),
+        Version::First => {
+            let head = plain_head(processes, MOST_TURNS, 2);
+            read_behind(alloc, checked.exports(), head, rest)
+        }
+        Version::Second => read_second(alloc, checked, processes, rest),
+        Version::Third => read_third(alloc, checked, processes, rest),
     }
 }
 
 /// What the lines behind the first two of a record of version 2 tell.
-fn read_budgeted(
+fn read_second(
     alloc: Global,
-    exports: &[Export],
+    checked: &Checked,
     processes: usize,
     behind: Option<&[u8]>,
 ) -> Result<ReadRecord, RecordFault>
     requires { length (lines_behind behind) + 3 < 2 ^ 64 }
-    ensures record { ForEachHead processes (λ title second.
-        IfOk result (λ r. IsRecordOf (map signature_of exports.now) (title ∷ second ∷ lines_behind behind.entry) (told_of «r»))) }
-    ensures fault { ForEachHead processes (λ title second.
-        IfErr result (λ e. FaultStands (map signature_of exports.now) (title ∷ second ∷ lines_behind behind.entry) e)) }
+    ensures record { ForEachHead (codes "2") processes (λ title second.
+        IfOk result (λ r. IsRecordOf (program_in checked.now) (title ∷ second ∷ lines_behind behind.entry) (told_of «r»))) }
+    ensures fault { ForEachHead (codes "2") processes (λ title second.
+        IfErr result (λ e. FaultStands (program_in checked.now) (title ∷ second ∷ lines_behind behind.entry) e)) }
 {
-    let Some(text) = behind else {
+    let Some((budget, rest)) = take_budget(alloc, behind)? else {
         return Err(RecordFault::Form(3));
     };
-    let (line, rest) = split_line(text);
-    let third = words_of(alloc, line)?;
-    let Some(budget) = read_budget(&third) else {
-        return Err(RecordFault::Form(3));
-    };
-    read_behind(alloc, exports, processes, budget, 3, rest)
+    let head = plain_head(processes, budget, 3);
+    read_behind(alloc, checked.exports(), head, rest)
 }
 
-/// What the lines behind the head, which has so many lines, tell.
+/// What the lines behind the first two of a record of version 3 tell.
+fn read_third(
+    alloc: Global,
+    checked: &Checked,
+    processes: usize,
+    behind: Option<&[u8]>,
+) -> Result<ReadRecord, RecordFault>
+    requires { length (lines_behind behind) + 3 < 2 ^ 64 }
+    ensures record { ForEachHead (codes "3") processes (λ title second.
+        IfOk result (λ r. IsRecordOf (program_in checked.now) (title ∷ second ∷ lines_behind behind.entry) (told_of «r»))) }
+    ensures fault { ForEachHead (codes "3") processes (λ title second.
+        IfErr result (λ e. FaultStands (program_in checked.now) (title ∷ second ∷ lines_behind behind.entry) e)) }
+{
+    let Some((budget, rest)) = take_budget(alloc, behind)? else {
+        return Err(RecordFault::Form(3));
+    };
+    let program = checked.program();
+    let variables = program.variables.as_slice();
+    let mut values = Vec::new(alloc);
+    match read_openings(alloc, &program.types, variables, rest, &mut values) {
+        Ok(left) => {
+            let head = Head {
+                processes,
+                budget,
+                carried: Some(State::new(values)),
+                lines: 3 + variables.len(),
+            };
+            read_behind(alloc, checked.exports(), head, left)
+        }
+        Err(fault) => Err(fault),
+    }
+}
+
+/// The budget that the first of some lines tells, and what stands behind it; `None` where it tells none, or there is no line.
+fn take_budget(
+    alloc: Global,
+    behind: Option<&[u8]>,
+) -> Result<Option<(u64, Option<&[u8]>)>, AllocError>
+    ensures { IfOk result (λ taken. MatchOption taken
+        (TakesNoBudget (lines_behind behind.entry))
+        (λ t. TakesBudget (lines_behind behind.entry) t.0 (lines_behind t.1))) }
+{
+    let Some(text) = behind else {
+        return Ok(None);
+    };
+    let (line, rest) = split_line(text);
+    let words = words_of(alloc, line)?;
+    match read_budget(&words) {
+        Some(budget) => Ok(Some((budget, rest))),
+        None => Ok(None),
+    }
+}
+
+/// What the lines behind a head tell.
 fn read_behind(
     alloc: Global,
     exports: &[Export],
-    processes: usize,
-    budget: u64,
-    head: usize,
+    head: Head,
     behind: Option<&[u8]>,
 ) -> Result<ReadRecord, RecordFault>
-    requires { head + length (lines_behind behind) + 1 < 2 ^ 64 }
-    ensures told { IfOk result (λ r. (r.processes ≡ processes) × (r.budget ≡ budget)) }
-    ensures record { IfOk result (λ r. AreLines processes (map signature_of exports.now) [] (lines_behind behind.entry) r.history r.order.items) }
-    ensures fault { IfErr result (λ e. FaultBehind processes (map signature_of exports.now) head (lines_behind behind.entry) e) }
+    requires { head.lines + length (lines_behind behind) + 1 < 2 ^ 64 }
+    ensures told { IfOk result (λ r. (r.processes ≡ head.processes) × (r.budget ≡ head.budget) × (carried_of r.carried ≡ carried_of head.carried)) }
+    ensures record { IfOk result (λ r. AreLines head.processes (map signature_of exports.now) [] (lines_behind behind.entry) r.history r.order.items) }
+    ensures fault { IfErr result (λ e. FaultBehind head.processes (map signature_of exports.now) head.lines (lines_behind behind.entry) e) }
 {
-    let mut calls = Calls::new(alloc, processes)?;
+    let mut calls = Calls::new(alloc, head.processes)?;
     let mut words = Vec::new(alloc);
-    let order = read_events(alloc, exports, &mut calls, head, behind, &mut words)?;
+    let order = read_events(alloc, exports, &mut calls, head.lines, behind, &mut words)?;
     Ok(ReadRecord {
-        processes,
-        budget,
+        processes: head.processes,
+        budget: head.budget,
+        carried: head.carried,
         history: calls.into_history(),
         order,
     })

@@ -1,42 +1,14 @@
-//! The lines of a text, taken off one at a time.
+//! The lines behind the order.
 
-ghost use Rattle.std.specs.Prelude.{◌≡◌, ◌↔◌, ◌<◌, ◌^◌, ◌∷◌, ◌==◌, All, IfOk, IfSome, IsTrue, MatchOption, length, map};
-ghost use Rattle.std.specs.List.{position};
-ghost use Rattle.std.specs.Io.BufRead.{strip_last};
-ghost use Rattle.ob_text_words.specs.Words.{lines, words};
-ghost use Rattle.ob_text_record_reading.specs.LineReading.{IsFirstOther, lines_behind};
+ghost use Rattle.std.specs.Prelude.{◌↔◌, ◌<◌, ◌^◌, All, IfOk, IfSome, IsTrue, MatchOption, length, map};
+ghost use Rattle.ob_text_words.specs.Words.{words};
+ghost use Rattle.ob_text_record_reading.specs.LineReading.{IsFirstOther};
 ghost use Rattle.ob_text_record_reading.specs.RecordLines.{IsTail};
+ghost use Rattle.ob_text_values_reading.specs.RecordTexts.{lines_behind};
 
-use memchr::memchr;
+use ob_text_values_reading::lines::split_line;
 use ob_text_words::words::words_of;
 use std::alloc::{AllocError, Global};
-
-/// A text without the line feed at its end, if it has one.
-pub(crate) fn without_last_feed(text: &[u8]) -> &[u8]
-    ensures { result.now ≡ strip_last 10 text.now }
-{
-    match text.split_last() {
-        Some((b'\n', before)) => before,
-        _ => text,
-    }
-}
-
-/// The first line of a text, and the text behind its line feed, if it has one.
-pub(crate) fn split_line(text: &[u8]) -> (&[u8], Option<&[u8]>)
-    ensures { map words (lines text.now) ≡ words result.0.now ∷ lines_behind result.1 }
-{
-    match feed_in(text) {
-        Some(place) => (&text[..place], Some(&text[place + 1..])),
-        None => (text, None),
-    }
-}
-
-/// The place of the first line feed.
-fn feed_in(text: &[u8]) -> Option<usize>
-    ensures { result ≡ position (λ b. b == 10) text.now }
-{
-    memchr(b'\n', text)
-}
 
 /// The place of the first line whose first byte is neither `S` nor `V`, among those behind a line feed.
 pub(crate) fn first_other(alloc: Global, behind: Option<&[u8]>) -> Result<Option<usize>, AllocError>

@@ -1,56 +1,12 @@
-//! The words of a line, taken off one at a time.
+//! The names of calls, taken off a line one at a time.
 
-ghost use Rattle.std.specs.Prelude.{◌≡◌, ◌<◌, ◌∷◌, [], false, ℕ, List, length, IfSome, MatchOption};
-ghost use Rattle.std.specs.List.{position};
-ghost use Rattle.ob_text_words.specs.Words.{is_blank, words};
+ghost use Rattle.std.specs.Prelude.{◌<◌, length, IfSome, MatchOption};
 ghost use Rattle.ob_text_record_reading.specs.LineReading.{EndsWord, TakesId, TakesNoId};
 
 use crate::front::front_id;
 use crate::id::read_id;
+use ob_text_values_reading::words::{is_blank, next_word};
 use wf_history::CallId;
-
-/// The first word of a line, and what stands behind the blank that ends it; `None` where there is none.
-#[inline(always)]
-pub(crate) fn next_word(line: &[u8]) -> Option<(&[u8], &[u8])>
-    ensures words { MatchOption result (words line.now ≡ []) (λ r. words line.now ≡ r.0.now ∷ words r.1.now) }
-    ensures shorter { IfSome result (λ r. length r.1.now < length line.now) }
-{
-    let mut left = line;
-    while let Some((first, behind)) = left.split_first() {
-        if !is_blank(*first) {
-            return Some(split_word(left));
-        }
-        left = behind;
-    }
-    None
-}
-
-/// The word that a text begins with, and what stands behind the blank that ends it.
-#[inline(always)]
-fn split_word(text: &[u8]) -> (&[u8], &[u8])
-    requires { (first : ℕ) × (behind : List ℕ) × (text.now ≡ first ∷ behind) × (is_blank first ≡ false) }
-    ensures words { words text.now ≡ result.0.now ∷ words result.1.now }
-    ensures shorter { length result.1.now < length text.now }
-{
-    match blank_in(text) {
-        Some(place) => (&text[..place], &text[place + 1..]),
-        None => (text, &text[text.len()..]),
-    }
-}
-
-/// The place of the first blank.
-#[inline(always)]
-fn blank_in(text: &[u8]) -> Option<usize>
-    ensures { result ≡ position (λ b. is_blank b) text.now }
-{
-    text.iter().position(|byte| is_blank(*byte))
-}
-
-fn is_blank(byte: u8) -> bool
-    ensures { result ≡ is_blank byte }
-{
-    matches!(byte, b' ' | b'\t' | b'\r')
-}
 
 /// The call that the first word of a line names, by a process below `processes`, and what stands behind the word.
 #[inline(always)]

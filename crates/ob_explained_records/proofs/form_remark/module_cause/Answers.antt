@@ -1,14 +1,25 @@
-use Rattle.std.proofs.Common.{List, subst, option_map}
+use Rattle.std.proofs.Common.{◌≡◌, ◌∙◌, ap, ap₂, sym, map, subst, option_map, string_bytes}
 use Rattle.std.proofs.lemmas.Result.{IfOk-weaker}
 use Rattle.ob_checked.specs.CheckedModule.{program_in}
-use Rattle.ob_explained_lines.specs.Causes.{IsLineCause, cause_of}
-use Rattle.ob_explained_records.specs.FormRemarks.{of_module}
-use Rattle.ob_interface.specs.Export.{Signature}
+use Rattle.ob_checked.specs.Exports.{signatures}
+use Rattle.ob_checked.specs.View.{table_of, variable_of}
+use Rattle.ob_explained_lines.specs.Causes.{cause_of}
+use Rattle.ob_explained_records.proofs.VariableNames.{names_of}
+use Rattle.ob_explained_records.specs.FormRemarks.{IsPlacedCause, of_module, opened_at}
+use Rattle.ob_typing.specs.Program.{Program}
 use Rattle.ob_explained_records.proofs.form_remark.module_cause.Goals as goal
 
-pub returns-in-Ok : goal.returns-in-Ok
-returns-in-Ok c =
-    IfOk-weaker c.exports_cause.result _ _
-    (λ cause is. of_module (program_in c.in-Ok.checked) c.in-Ok.ensures.program
-    (subst (λ (ss : List Signature). IsLineCause (record { text = c.args.object.now; exports = ss }) c.args.text.now c.args.number (option_map cause_of cause)) c.exports.ensures is))
-    c.exports_cause.ensures
+pub returns-in_ok-openings-in-Ok : goal.returns-in_ok-openings-in-Ok
+returns-in_ok-openings-in-Ok c =
+    let program = program_in c.in-Ok.checked in
+    let types = table_of c.program.result.now.types in
+    let own : map (variable_of types) c.as_slice-variables.result.now ≡ program.variables =
+    ap (map (variable_of types)) c.as_slice-variables.ensures.value ∙ ap (λ (p : Program). p.variables) c.program.ensures.program in
+    let names : map (λ v. string_bytes v.name) c.as_slice-variables.result.now ≡ map (λ v. v.name) program.variables =
+    sym (names_of types c.as_slice-variables.result.now) ∙ ap (map (λ v. v.name)) own in
+    let opened = c.opened_at-opened.ensures ∙ ap₂ (λ b ns. opened_at b ns c.args.number) c.in_ok-openings-in-Ok.ensures names in
+    IfOk-weaker c.placed_cause.result _ _
+    (λ cause is. of_module program c.in-Ok.ensures.program
+    (subst (λ name. IsPlacedCause name (record { text = c.args.object.now; exports = signatures program }) c.args.text.now c.args.number (option_map cause_of cause)) opened
+    (rw c.exports.ensures at is)))
+    c.placed_cause.ensures

@@ -5,10 +5,10 @@ use Rattle.ob_object_verify.specs.Verified.{IsVerified}
 use Rattle.ob_object_printed.proofs.laws.served_is_verified.Goals as goal
 
 pub returns : goal.returns
-returns c = λ text n budget scripts output printed.
+returns c = λ a scripts output printed.
     let compiled = printed.read.1.compiled in
     let shows = printed.is_record in
-    ∥∥₁_elim (c.performed_is_writable.ensures.served text n budget scripts printed.object printed.calls printed.shown printed.read shows printed.events) squash₁ (λ w.
+    ∥∥₁_elim (c.performed_is_writable.ensures.served a scripts printed.object printed.calls printed.shown printed.read shows printed.events) squash₁ (λ w.
     ∥∥₁_map (shows.meant compiled.opens.state compiled.opens.same) (λ m.
-    subst (λ (bytes : List ℕ). IsVerified text bytes) (sym printed.printed)
-    (verified_record c.legal_is_verified.ensures text n budget printed.object compiled compiled.opens printed.shown shows.budget w m)))
+    subst (λ (bytes : List ℕ). IsVerified a.text bytes) (sym printed.printed)
+    (verified_record c.legal_is_verified.ensures a printed.object compiled compiled.opens printed.shown shows.budget shows.carried w m)))

@@ -1,5 +1,5 @@
 use Rattle.std.proofs.Common.{◌∙◌, ap, length, refl, arith}
-use Rattle.ob_text_record_reading.specs.LineReading.{lines_behind}
+use Rattle.ob_text_values_reading.specs.RecordTexts.{lines_behind}
 use Rattle.ob_text_record_reading.proofs.Faults.{begin_below, end_below}
 use Rattle.ob_text_record_reading.proofs.Places.{all_read, applied_more, event_more, no_line, none_read, number_within, one_line_more, order_fails, order_told, read_same}
 use Rattle.ob_text_record_reading.proofs.reading.read_events.Goals as goal

@@ -1,7 +1,7 @@
 -- The events of the lines so far.
 use Rattle.std.proofs.Common.{◌≡◌, length, map}
 use Rattle.ob_interface.specs.View.{signature_of}
-use Rattle.ob_text_record_reading.specs.LineReading.{lines_behind}
+use Rattle.ob_text_values_reading.specs.RecordTexts.{lines_behind}
 use Rattle.ob_text_record_reading.proofs.Places.{ReadTo}
 use Rattle.ob_text_record_reading.proofs.reading.read_events.Given as goal
 

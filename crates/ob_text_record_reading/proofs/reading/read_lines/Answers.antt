@@ -1,7 +1,8 @@
 use Rattle.std.proofs.Common.{◌∙◌, ap, length, arith}
-use Rattle.ob_text_record_reading.specs.LineReading.{lines_behind}
-use Rattle.ob_text_record_reading.proofs.Faults.{count_missing, fault_result, first_head, no_count, no_title, told_result}
-use Rattle.ob_text_record_reading.proofs.FirstLines.{few_lines}
+use Rattle.ob_text_record_reading.proofs.RecordHeads.{count_missing, fault_result, no_count, no_title, told_result}
+use Rattle.ob_text_record_reading.specs.RecordLines as Lines
+use Rattle.ob_text_values_reading.proofs.FirstLines.{few_lines}
+use Rattle.ob_text_values_reading.specs.RecordTexts.{lines_behind}
 use Rattle.ob_text_record_reading.proofs.reading.read_lines.Goals as goal
 
 pub returns-in_default-clause-fault : goal.returns-in_default-clause-fault
@@ -22,10 +23,17 @@ read_behind-requires c =
     let few = few_lines c.args.text.now in
     let first = ap length c.split_line.ensures in
     let second = ap length (ap lines_behind c.in-Some-behind.is ∙ c.split_line-2.ensures) in
+    rw c.plain_head-head.ensures (omega (arith, few, first, second))
+
+pub read_second-requires : goal.read_second-requires
+read_second-requires c =
+    let few = few_lines c.args.text.now in
+    let first = ap length c.split_line.ensures in
+    let second = ap length (ap lines_behind c.in-Some-behind.is ∙ c.split_line-2.ensures) in
     omega (arith, few, first, second)
 
-pub read_budgeted-requires : goal.read_budgeted-requires
-read_budgeted-requires c =
+pub read_third-requires : goal.read_third-requires
+read_third-requires c =
     let few = few_lines c.args.text.now in
     let first = ap length c.split_line.ensures in
     let second = ap length (ap lines_behind c.in-Some-behind.is ∙ c.split_line-2.ensures) in
@@ -34,11 +42,13 @@ read_budgeted-requires c =
 pub returns-in-First-clause-record : goal.returns-in-First-clause-record
 returns-in-First-clause-record c =
     rw (c.split_line.ensures, ap lines_behind c.in-Some-behind.is ∙ c.split_line-2.ensures)
-    (told_result _ _ _ _ (first_head _ (rw (c.deref.ensures.value, c.in_ok-first.ensures, c.in-First.is) at c.in-Some.ensures) (rw (c.deref-2.ensures.value, c.in_ok-second.ensures) at c.in-Some-read_count.ensures)) _ _
-    c.read_behind.ensures.told c.read_behind.ensures.record)
+    (told_result _ _ _ _ _
+    (Lines.of_version_1 (rw (c.deref.ensures.value, c.in_ok-first.ensures, c.in-First.is) at c.in-Some.ensures) (rw (c.deref-2.ensures.value, c.in_ok-second.ensures) at c.in-Some-read_count.ensures))
+    _ _ (rw c.plain_head-head.ensures at c.read_behind.ensures.told) (rw (c.plain_head-head.ensures, c.exports.ensures) at c.read_behind.ensures.record))
 
 pub returns-in-First-clause-fault : goal.returns-in-First-clause-fault
 returns-in-First-clause-fault c =
     rw (c.split_line.ensures, ap lines_behind c.in-Some-behind.is ∙ c.split_line-2.ensures)
-    (fault_result _ _ _ _ (first_head _ (rw (c.deref.ensures.value, c.in_ok-first.ensures, c.in-First.is) at c.in-Some.ensures) (rw (c.deref-2.ensures.value, c.in_ok-second.ensures) at c.in-Some-read_count.ensures)) _ _
-    c.read_behind.ensures.fault)
+    (fault_result _ _ _ _ _
+    (Lines.of_version_1 (rw (c.deref.ensures.value, c.in_ok-first.ensures, c.in-First.is) at c.in-Some.ensures) (rw (c.deref-2.ensures.value, c.in_ok-second.ensures) at c.in-Some-read_count.ensures))
+    _ _ (rw (c.plain_head-head.ensures, c.exports.ensures) at c.read_behind.ensures.fault))

@@ -1,6 +1,6 @@
 use Rattle.std.proofs.Common.{◌∙◌, ap, sym, length, arith}
 use Rattle.std.proofs.lemmas.Bool.{false≢true}
-use Rattle.ob_text_record_reading.specs.LineReading.{lines_behind}
+use Rattle.ob_text_values_reading.specs.RecordTexts.{lines_behind}
 use Rattle.ob_text_record_reading.proofs.Places.{all_tails, no_tail_yet, one_tail_more, other_here, tail_within}
 use Rattle.ob_text_record_reading.proofs.splitting.first_other.Goals as goal
 

@@ -1,6 +1,6 @@
 -- The lines so far begin with S or V.
 use Rattle.std.proofs.Common.{length}
-use Rattle.ob_text_record_reading.specs.LineReading.{lines_behind}
+use Rattle.ob_text_values_reading.specs.RecordTexts.{lines_behind}
 use Rattle.ob_text_record_reading.proofs.Places.{TailsTo}
 use Rattle.ob_text_record_reading.proofs.splitting.first_other.Given as goal
 

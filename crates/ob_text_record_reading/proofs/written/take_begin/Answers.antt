@@ -1,6 +1,7 @@
 use Rattle.std.proofs.Common.{◌≡◌, ◌∷◌, ◌∙◌, ℕ, List, Option, Bor, ap, map, sym}
 use Rattle.ob_text_words.specs.Words.{lines, words}
-use Rattle.ob_text_record_reading.specs.LineReading.{event, lines_behind}
+use Rattle.ob_text_record_reading.specs.LineReading.{event}
+use Rattle.ob_text_values_reading.specs.RecordTexts.{lines_behind}
 use Rattle.ob_text_record_reading.specs.RecordLines.{begin}
 use Rattle.ob_text_record_reading.proofs.written.take_begin.Goals as goal
 

@@ -1,7 +1,8 @@
 use Rattle.std.proofs.Common.{◌≡◌, ◌∷◌, ◌∙◌, ℕ, List, Option, Bor, ap, map, sym, codes}
 use Rattle.ob_text_words.specs.Words.{lines, words}
 use Rattle.ob_interface.specs.View.{signature_of}
-use Rattle.ob_text_record_reading.specs.LineReading.{event, lines_behind}
+use Rattle.ob_text_record_reading.specs.LineReading.{event}
+use Rattle.ob_text_values_reading.specs.RecordTexts.{lines_behind}
 use Rattle.ob_text_record_reading.specs.RecordLines.{done}
 use Rattle.ob_text_record_reading.proofs.OneEvent.{ended}
 use Rattle.ob_text_record_reading.proofs.written.take_end.Goals as goal
