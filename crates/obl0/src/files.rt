@@ -1,11 +1,13 @@
 //! The files of the host.
 
 ghost use Rattle.std.specs.Prelude.{◌≡◌, ◌≤◌, length, IfOk, Some};
-ghost use Rattle.std.specs.IoError.{error_kind};
 ghost use Rattle.obl0.specs.Refusals.{file_fault};
+ghost use Rattle.ob_device.specs.Devices.{IsAll};
 
 use ob_answer::answer::INPUT_NAME;
 use ob_answer::files::{FileFault, Files};
+use ob_device::{Counted, IoFault, slurp};
+use std::alloc::Global;
 use std::io::Read;
 use std::rt::Files as HostRead;
 use std::{fs, io};
@@ -20,12 +22,12 @@ pub struct HostFiles<'a, R> {
 
 impl<R> HostFiles<'_, R> {
     /// Keeps what the host said of a file, and gives the fault that it is.
-    fn refused(&mut self, error: io::Error) -> FileFault
-        ensures fault { result ≡ file_fault (error_kind error) }
-        ensures kept { self.new.refusal ≡ Some (error_kind error) }
+    fn refused(&mut self, kind: io::ErrorKind) -> FileFault
+        ensures fault { result ≡ file_fault kind }
+        ensures kept { self.new.refusal ≡ Some kind }
     {
-        self.refusal = Some(error.kind());
-        fault_of(error)
+        self.refusal = Some(kind);
+        fault_of(kind)
     }
 }
 
@@ -35,7 +37,7 @@ impl<R: HostRead + Input + AllocGlobal> Files for HostFiles<'_, R> {
     fn read(&mut self, name: &str) -> Result<Vec<u8>, FileFault> {
         match whole(self.rt, name) {
             Ok(bytes) => Ok(bytes),
-            Err(error) => Err(self.refused(error)),
+            Err(kind) => Err(self.refused(kind)),
         }
     }
 
@@ -43,19 +45,20 @@ impl<R: HostRead + Input + AllocGlobal> Files for HostFiles<'_, R> {
     fn read_beginning(&mut self, name: &str, most: usize) -> Result<Vec<u8>, FileFault> {
         match beginning(self.rt, name, most) {
             Ok(bytes) => Ok(bytes),
-            Err(error) => Err(self.refused(error)),
+            Err(kind) => Err(self.refused(kind)),
         }
     }
 }
 
 /// All bytes of a file, or of standard input.
-fn whole<R: HostRead + Input + AllocGlobal>(rt: &R, name: &str) -> io::Result<Vec<u8>> {
-    if name != INPUT_NAME {
-        return fs::read(rt, name);
+fn whole<R: HostRead + Input + AllocGlobal>(rt: &R, name: &str) -> Result<Vec<u8>, io::ErrorKind> {
+    if name == INPUT_NAME {
+        return all_of(rt.alloc(), rt.reader());
     }
-    let mut bytes = Vec::new(rt.alloc());
-    rt.reader().read_to_end(&mut bytes)?;
-    Ok(bytes)
+    match fs::open(rt, name) {
+        Ok(file) => all_of(rt.alloc(), file),
+        Err(error) => Err(error.kind()),
+    }
 }
 
 /// The first `most` bytes of a file, or of standard input; all where there are fewer.
@@ -63,26 +66,39 @@ fn beginning<R: HostRead + Input + AllocGlobal>(
     rt: &R,
     name: &str,
     most: usize,
-) -> io::Result<Vec<u8>>
+) -> Result<Vec<u8>, io::ErrorKind>
     ensures { IfOk result (λ bytes. length bytes.items ≤ most) }
 {
-    let mut bytes = Vec::new(rt.alloc());
-    if name == INPUT_NAME {
-        rt.reader().take(most as u64).read_to_end(&mut bytes)?;
+    let read = if name == INPUT_NAME {
+        all_of(rt.alloc(), rt.reader().take(most as u64))
     } else {
-        fs::open(rt, name)?
-            .take(most as u64)
-            .read_to_end(&mut bytes)?;
-    }
+        match fs::open(rt, name) {
+            Ok(file) => all_of(rt.alloc(), file.take(most as u64)),
+            Err(error) => Err(error.kind()),
+        }
+    };
+    let mut bytes = read?;
     bytes.truncate(most);
     Ok(bytes)
 }
 
-/// What a refusal of the host says of the file.
-fn fault_of(error: io::Error) -> FileFault
-    ensures { result ≡ file_fault (error_kind error) }
+/// All that a reader has left, or what was said where it failed.
+fn all_of<S: Read + Drop>(alloc: Global, reader: S) -> Result<Vec<u8>, io::ErrorKind>
+    ensures { IfOk result (λ bytes. IsAll (S.remaining reader) bytes.items) }
 {
-    match error.kind() {
+    let mut source = Counted::new(reader);
+    match slurp(alloc, &mut source) {
+        Ok(bytes) => Ok(bytes),
+        Err(IoFault::NoMemory) => Err(io::ErrorKind::OutOfMemory),
+        Err(IoFault::Device) => Err(source.reason().unwrap_or(io::ErrorKind::Other)),
+    }
+}
+
+/// What a refusal of the host says of the file.
+fn fault_of(kind: io::ErrorKind) -> FileFault
+    ensures { result ≡ file_fault kind }
+{
+    match kind {
         io::ErrorKind::OutOfMemory => FileFault::NoMemory,
         _ => FileFault::Unreadable,
     }

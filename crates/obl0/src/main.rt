@@ -14,6 +14,7 @@ use hint::more_of;
 use ob_answer::answer::{INPUT_NAME, answer};
 use ob_answer::answered::Answer;
 use ob_command::command::read_command;
+use ob_device::{Counted, emit};
 use refusal::{Refusal, refusal_of_words};
 use std::alloc::Global;
 use std::io::IsTerminal;
@@ -186,8 +187,8 @@ fn printed<R: Print + Eprint>(rt: &R, answer: &Answer) -> Result<u8, Refusal>
     // It is refused by standard output alone: what standard error refuses is passed over.
     ensures refusal { IfErr result (λ refusal. refusal ≡ Refusal.Output) }
 {
-    rt.write_all(answer.out.as_bytes())
-        .map_err(|_| Refusal::Output)?;
+    let mut output = Counted::new(io::writer(rt));
+    emit(&mut output, answer.out.as_bytes()).map_err(|_| Refusal::Output)?;
     let _ = rt.eprint(answer.err.as_str());
     Ok(answer.status)
 }
