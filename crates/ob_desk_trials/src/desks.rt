@@ -80,6 +80,24 @@ fn turns_by_hand_are_the_run_of_their_schedule(rt: HostRuntime) -> Result<(), Fa
     Ok(())
 }
 
+/// Process 0 stops when it has announced its call, which process 1 makes together with its own. Of each of three blocks one word of
+/// variables and two parts of two words are kept; toggles are no words.
+#[test]
+fn the_words_of_a_stopped_run(rt: HostRuntime) -> Result<(), Fail> {
+    let alloc = rt.alloc();
+    let (desk, mut seats) = opened(alloc, COUNTER, b"0 Inc\n1 Inc\n")?;
+    take_turns(&rt, &desk, &mut seats, 0, 3)?;
+    take_turns(&rt, &desk, &mut seats, 1, 59)?;
+    let machine = desk.close(seats.as_slice())?;
+    assert_eq!(rt; machine.history().len(), 4);
+    assert_eq!(rt; machine.table_words(), 15);
+    assert_eq!(rt; machine.bound(), 126);
+    let words = machine.state_words()?;
+    assert_eq!(rt; words.as_slice(), [2].as_slice());
+    assert_eq!(rt; machine.variables(), words.as_slice());
+    Ok(())
+}
+
 #[test]
 fn a_seat_is_missing(rt: HostRuntime) -> Result<(), Fail> {
     let alloc = rt.alloc();

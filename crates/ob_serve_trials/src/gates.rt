@@ -28,13 +28,26 @@ fn served<R: Threads + Wait + Sync, G: Gate + Sync>(
 ) -> Result<String, ServeTextFault>
     requires { 1 ≤ limit }
 {
+    served_calls(rt, alloc, b"0 Inc\n1 Inc\n", gate, limit)
+}
+
+/// The text that two workers give of these calls.
+fn served_calls<R: Threads + Wait + Sync, G: Gate + Sync>(
+    rt: &R,
+    alloc: Global,
+    calls: &[u8],
+    gate: &G,
+    limit: u64,
+) -> Result<String, ServeTextFault>
+    requires { 1 ≤ limit }
+{
     let asked = Asked {
         text: COUNTER,
         processes: 2,
         budget: 100,
         beginning: Beginning::Body,
     };
-    serve_text_with(rt, alloc, asked, b"0 Inc\n1 Inc\n", gate, limit)
+    serve_text_with(rt, alloc, asked, calls, gate, limit)
 }
 
 /// A gate that never passes.
@@ -136,6 +149,26 @@ impl Gate for Reluctant {
     fn answered(&self, _process: usize, _number: u64) {}
 }
 
+/// A gate that always passes, and counts the answers that it is told of.
+#[derive(Drop)]
+struct Counting {
+    answers: AtomicU64,
+}
+
+impl Gate for Counting {
+    ghost passes = { λ _ _ _ _. Unit {0} };
+
+    ghost refuses = { λ _ _ _ _. Unit {0} };
+
+    fn pass(&self, _process: usize, _turns: u128, _refusals: u64) -> bool {
+        true
+    }
+
+    fn answered(&self, _process: usize, _number: u64) {
+        self.answers.fetch_add(1, Ordering::SeqCst);
+    }
+}
+
 #[test]
 fn a_gate_that_never_passes(rt: HostRuntime) {
     let fault = served(&rt, rt.alloc(), &Closed, 1000).err();
@@ -173,6 +206,19 @@ fn one_worker_stands_still(rt: HostRuntime) -> Result<(), Fail> {
         "obl0 record 2\nn 2\nb 100\nB 0.1 Inc\nB 1.1 Inc\nA 0.1 1.1\nE 1.1 done\nE 0.1 done\nO 0.1 1.1\nS 0*3 1*";
     assert!(rt; text.starts_with(told), "the events and the order");
     assert!(rt; text.ends_with("\nV x 2\n"), "both are applied");
+    Ok(())
+}
+
+/// Of three calls of one process, and of one of the other.
+#[test]
+fn each_answer_is_told_once(rt: HostRuntime) -> Result<(), Fail> {
+    let gate = Counting {
+        answers: AtomicU64::new(0),
+    };
+    let calls = b"0 Inc\n0 Inc\n0 Inc\n1 Inc\n";
+    let text = served_calls(&rt, rt.alloc(), calls, &gate, 1)?;
+    assert!(rt; text.ends_with("\nV x 4\n"), "all are applied");
+    assert_eq!(rt; gate.answers.load(Ordering::SeqCst), 4);
     Ok(())
 }
 

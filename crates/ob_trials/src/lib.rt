@@ -1,4 +1,4 @@
-//! Tests of what no row of the program shows: printed texts, faults as people read them, a call on its own,
+//! Tests of what no row of the program shows: tokens, printed texts, faults as people read them, a call on its own,
 //! the words of variables and their parts, and the record of a run over compiled code. Nothing stands on this crate.
 #![tactic(auto)]
 
@@ -14,3 +14,5 @@ mod nesting;
 mod printing;
 #[cfg(test)]
 mod runs;
+#[cfg(test)]
+mod tokens;

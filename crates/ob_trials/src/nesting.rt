@@ -17,6 +17,13 @@ const IFS: Nest = ["MODULE M; BEGIN ", "IF a THEN ", "END ", "END M."];
 
 const ELSES: Nest = ["MODULE M; BEGIN ", "IF a THEN ELSE ", "END ", "END M."];
 
+const ELSIFS: Nest = [
+    "MODULE M; BEGIN ",
+    "IF a THEN ELSIF b THEN ",
+    "END ",
+    "END M.",
+];
+
 const WHILES: Nest = ["MODULE M; BEGIN ", "WHILE a DO ", "END ", "END M."];
 
 const REPEATS: Nest = ["MODULE M; BEGIN ", "REPEAT ", "UNTIL a ", "END M."];
@@ -61,6 +68,7 @@ fn prints_the_deepest_trees(rt: HostRuntime) -> Result<(), Fail> {
         (RECORDS, "T"),
         (IFS, ""),
         (ELSES, ""),
+        (ELSIFS, ""),
         (WHILES, ""),
         (REPEATS, ""),
         (PARENTHESES, "1"),
