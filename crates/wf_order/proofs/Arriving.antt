@@ -1,0 +1,145 @@
+-- One try of a search: what is found, and that less is left to be done.
+use Rattle.std.proofs.Common.{◌≡◌, refl, sym, ap, ◌∙◌, subst, ℕ, ◌+◌, ◌-◌, ◌<◌, ◌≤◌, List, [], ◌∷◌, ◌++◌, length, get_or, set, map, Option, Some, None, option_map, arith, inl, inr, length-set}
+use Rattle.std.specs.Prelude.{MatchOption}
+use Rattle.std.proofs.lemmas.List.{map-append, length-map, get_or-map, get_or_at}
+use Rattle.std.proofs.lemmas.List.Elements.{Contains-push}
+use Rattle.std.proofs.lemmas.Option.{slice_get_within, get_or_from_slice_get}
+use Rattle.std.specs.List.{slice_get, Contains}
+use Rattle.ob_interface.specs.Call.{ObjectCall, Reply}
+use Rattle.wf_history.specs.declared.event.CallId.{CallId}
+use Rattle.wf_history.specs.History.{Event}
+use Rattle.wf_history.specs.Legal.{IsLegal}
+use Rattle.wf_history.proofs.Positions.{place_push, place_left, contains_at, one_item}
+use Rattle.wf_order.specs.declared.rows.Rows.{Rows}
+use Rattle.wf_order.specs.declared.search.Frame.{Frame}
+use Rattle.wf_order.specs.Rows.{AreRows, begun_rows, row_of}
+use Rattle.wf_order.specs.Rules.{IsBehind, IsAnswered}
+use Rattle.wf_order.specs.Steps.{Configuration, IsTaken, IsLimit, IsStep}
+use Rattle.wf_order.specs.Search.{HasNoStep, IsOnlyStep, IsSilentStep, IsSearch, IsArrival, left, weights, work}
+use Rattle.wf_order.proofs.Searching.{top_led, popped, advanced, pushed, found_legal, places_within}
+use Rattle.wf_order.proofs.Weights.{left_step, pop_less, try_less, push_less}
+
+module _ {M : Type 0} (Effect : ObjectCall → M → M → Reply → Type 0) (history : List (Event ObjectCall Reply)) (processes : ℕ) (rows : Rows) (are : AreRows history processes rows)
+    (start : Configuration M) (found : List (Configuration M)) (xs : List Frame) (f : Frame) (h : IsSearch Effect history processes start found (xs ++ f ∷ [])) where
+  abbrev counts_in : Configuration M → List ℕ
+  counts_in c = c.counts
+
+  -- the configuration of the frame on top, with its limit
+  pub top_at : (c : Configuration M) → slice_get found f.place ≡ Some c → AreRows history (length c.counts) rows × IsLimit history c.counts f.limit
+  top_at c at =
+      let t = top_led Effect history processes start found xs f h in (
+        subst (λ (n : ℕ). AreRows history n rows) (sym (h.sizes c (contains_at found f.place c at))) are,
+        subst (λ (x : Configuration M). IsLimit history x.counts f.limit) (one_item found f.place t.0 c t.1 at) t.3,
+      )
+
+  pub after_pop : processes ≤ f.next → IsSearch Effect history processes start found xs × (work processes rows found xs < work processes rows found (xs ++ f ∷ []))
+  unfolding work
+  after_pop all = (
+    popped Effect history processes start found xs f h all,
+    pop_less processes (map length (begun_rows rows)) (map (λ c. c.counts) found) xs f,
+  )
+
+  module _ (c : Configuration M) (at : slice_get found f.place ≡ Some c) (g : Frame) (place : g.place ≡ f.place) (next : f.next < g.next) (limit : g.limit ≡ f.limit) (within : f.next < processes) where
+    tried_less : work processes rows found (xs ++ g ∷ []) < work processes rows found (xs ++ f ∷ [])
+    unfolding work
+    tried_less = try_less processes (map length (begun_rows rows)) (map (λ c. c.counts) found) xs f g place next within
+
+    pub after_none : g.next ≡ f.next + 1 → HasNoStep Effect history c f.next → IsSearch Effect history processes start found (xs ++ g ∷ []) × (work processes rows found (xs ++ g ∷ []) < work processes rows found (xs ++ f ∷ []))
+    after_none one no_step = (advanced Effect history processes start found xs f g h c at place next limit (λ id d le lt s. absurd (no_step id d (omega (arith, one, le, lt)) s)), tried_less)
+
+    pub after_behind : g.next ≡ f.next + 1 → ((id : CallId) (d : Configuration M) → id.process ≡ f.next → IsStep Effect history c id d → IsBehind Effect history c id) →
+        IsSearch Effect history processes start found (xs ++ g ∷ []) × (work processes rows found (xs ++ g ∷ []) < work processes rows found (xs ++ f ∷ []))
+    after_behind one behind = (advanced Effect history processes start found xs f g h c at place next limit (λ id d le lt s. inr (inr (behind id d (omega (arith, one, le, lt)) s))), tried_less)
+
+    module _ (d : Configuration M) (step : IsStep Effect history c g.id d)
+        (covers : (all : List (Configuration M)) → Contains all d → (id : CallId) (y : Configuration M) → f.next ≤ id.process → id.process < g.next → IsStep Effect history c id y → IsAnswered Effect history all c id y) where
+      counted_here : row_of (map (λ c. c.counts) found) f.place ≡ c.counts
+      counted_here =
+          let lt = slice_get_within found f.place c at in
+          get_or-map counts_in found f.place c [] lt ∙ ap (λ (x : Configuration M). x.counts) (get_or_from_slice_get found f.place c c at)
+
+      left_less : left (map length (begun_rows rows)) d.counts + 1 ≡ left (map length (begun_rows rows)) (row_of (map (λ c. c.counts) found) f.place)
+      left_less =
+          let s = step in
+          let p = s.process in
+          let number = s.number in
+          let every = are.every_begun g.id s.call s.begun in
+          let size = are.row_count in
+          let few = every.0 in
+          let row : get_or (map length (begun_rows rows)) g.id.process 0 ≡ length (row_of (begun_rows rows) g.id.process) = get_or-map length (begun_rows rows) g.id.process [] 0 (omega (arith, few, size)) in
+          let inside = slice_get_within (row_of (begun_rows rows) g.id.process) (g.id.number - 1) every.2 every.3 in
+          let set_is : d.counts ≡ set c.counts g.id.process (get_or c.counts g.id.process 0 + 1) = s.counts ∙ ap (set c.counts g.id.process) number in
+          ap (λ (l : List ℕ). left (map length (begun_rows rows)) l + 1) set_is
+          ∙ left_step (map length (begun_rows rows)) c.counts g.id.process (get_or c.counts g.id.process 0) refl p (omega (arith, number, row, inside))
+          ∙ ap (left (map length (begun_rows rows))) (sym counted_here)
+
+      places_tried : (k : ℕ) (x : Frame) → slice_get (xs ++ g ∷ []) k ≡ Some x → x.place < length (map (λ c. c.counts) found)
+      places_tried k x here =
+          let size = length-map found counts_in in
+          elim (place_push xs g k x here) [
+            | inl old ↦ let p = places_within Effect history processes start found (xs ++ f ∷ []) h k x (place_left xs (f ∷ []) k x old) in omega (arith, size, p)
+            | inr top ↦
+                let lt = slice_get_within found f.place c at in
+                let same : g.place ≡ x.place = ap (λ (y : Frame). y.place) top.1 in
+                omega (arith, size, lt, same, place)
+          ]
+
+      new_less : (new : Frame) → new.place ≡ length found → new.next ≡ 0 → work processes rows (found ++ d ∷ []) ((xs ++ g ∷ []) ++ new ∷ []) < work processes rows found (xs ++ f ∷ [])
+      unfolding work
+      new_less new new_place new_next =
+          let size = length-map found counts_in in
+          let here : row_of (map (λ c. c.counts) found ++ d.counts ∷ []) new.place ≡ d.counts = get_or_at (map (λ c. c.counts) found) d.counts [] [] new.place (size ∙ sym new_place) in
+          subst (λ (l : List (List ℕ)). weights processes (map length (begun_rows rows)) l ((xs ++ g ∷ []) ++ new ∷ []) < weights processes (map length (begun_rows rows)) (map (λ c. c.counts) found) (xs ++ f ∷ []))
+          (sym (map-append counts_in found (d ∷ [])))
+          (push_less processes (map length (begun_rows rows)) (map (λ c. c.counts) found) xs f g place next within d.counts new places_tried here new_next left_less)
+
+      pub after_arrival : (more : List (Configuration M)) (stack : List Frame) → IsArrival Effect history d found more (xs ++ g ∷ []) stack None →
+          IsSearch Effect history processes start more stack × (work processes rows more stack < work processes rows found (xs ++ f ∷ []))
+      after_arrival more stack a =
+          elim a.1 [
+            | inl old ↦
+                subst (λ (l : List (Configuration M)). IsSearch Effect history processes start l stack × (work processes rows l stack < work processes rows found (xs ++ f ∷ []))) (sym old.1)
+                (subst (λ (l : List Frame). IsSearch Effect history processes start found l × (work processes rows found l < work processes rows found (xs ++ f ∷ []))) (sym old.2)
+                (advanced Effect history processes start found xs f g h c at place next limit (covers found old.0), tried_less))
+            | inr new ↦
+                subst (λ (l : List (Configuration M)). IsSearch Effect history processes start l stack × (work processes rows l stack < work processes rows found (xs ++ f ∷ []))) (sym new.0)
+                (subst (λ (l : List Frame). IsSearch Effect history processes start (found ++ d ∷ []) l × (work processes rows (found ++ d ∷ []) l < work processes rows found (xs ++ f ∷ []))) (sym new.2)
+                (pushed Effect history processes start found xs f g h c at place next limit d step (covers (found ++ d ∷ []) (Contains-push found d)) a.0 new.1 new.3 new.4 new.5, new_less new.1 new.3 new.4))
+          ]
+
+      pub after_found : (more : List (Configuration M)) (stack : List Frame) (path : List CallId) → IsArrival Effect history d found more (xs ++ g ∷ []) stack (Some path) →
+          ((id : CallId) → ¬ IsTaken start.counts id) → (last : M) × IsLegal Effect start.state history path last
+      after_found more stack path a fresh = (
+        d.state,
+        subst (λ (l : List CallId). IsLegal Effect start.state history l d.state) (sym a.0)
+            (found_legal Effect history processes start found xs f g h c at place next limit fresh d step a.1),
+      )
+
+      at_arrival : {V : Type 0} (items : V → List CallId) (more : List (Configuration M)) (stack : List Frame) (to : Option V) → IsArrival Effect history d found more (xs ++ g ∷ []) stack (option_map items to) →
+          MatchOption to (IsSearch Effect history processes start more stack × (work processes rows more stack < work processes rows found (xs ++ f ∷ [])))
+          (λ v. ((id : CallId) → ¬ IsTaken start.counts id) → (last : M) × IsLegal Effect start.state history (items v) last)
+      at_arrival items more stack None a = after_arrival more stack a
+      at_arrival items more stack (Some v) a = after_found more stack (items v) a
+
+      pub concluded : {V : Type 0} (items : V → List CallId) (tried : List Frame) (more : List (Configuration M)) (stack : List Frame) (to : Option V) → tried ≡ xs ++ g ∷ [] →
+          IsArrival Effect history d found more tried stack (option_map items to) →
+          MatchOption to (IsSearch Effect history processes start more stack × (work processes rows more stack < work processes rows found (xs ++ f ∷ [])))
+          (λ v. ((id : CallId) → ¬ IsTaken start.counts id) → (last : M) × IsLegal Effect start.state history (items v) last)
+      concluded items tried more stack to t a =
+          at_arrival items more stack to (subst (λ (l : List Frame). IsArrival Effect history d found more l stack (option_map items to)) t a)
+
+-- a step leaves the number of processes
+pub step_rows : {M : Type 0} (Effect : ObjectCall → M → M → Reply → Type 0) (history : List (Event ObjectCall Reply)) (rows : Rows) (c d : Configuration M) (id : CallId) →
+    IsStep Effect history c id d → AreRows history (length c.counts) rows → AreRows history (length d.counts) rows
+step_rows Effect history rows c d id s are =
+    subst (λ (n : ℕ). AreRows history n rows) (sym (length-set c.counts id.process id.number) ∙ ap length (sym s.counts)) are
+
+module _ {M : Type 0} (Effect : ObjectCall → M → M → Reply → Type 0) (history : List (Event ObjectCall Reply)) (c : Configuration M) (from to : ℕ) (id : CallId) (d : Configuration M)
+    (all : List (Configuration M)) (there : Contains all d) (other : CallId) (y : Configuration M) (le : from ≤ other.process) (lt : other.process < to) (s : IsStep Effect history c other y) where
+  -- the one step of a process is tried
+  pub only_covers : IsOnlyStep Effect history c from id d → to ≡ from + 1 → IsAnswered Effect history all c other y
+  only_covers only one = inl (subst (λ (x : Configuration M). Contains all x) (sym (only.only other y (omega (arith, one, le, lt)) s)) there)
+
+  -- a silent call is tried
+  pub silent_covers : IsSilentStep Effect history c id d → IsAnswered Effect history all c other y
+  silent_covers silent = inr (inl (record { id = id; to = d; step = silent.0; silent = silent.1; there = there }))

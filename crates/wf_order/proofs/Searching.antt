@@ -1,0 +1,293 @@
+-- What a search has found, one step on.
+use Rattle.std.proofs.Common.{◌≡◌, refl, sym, ap, ◌∙◌, subst, ℕ, ◌+◌, ◌<◌, ◌≤◌, zero, suc, List, [], ◌∷◌, ◌++◌, length, take, Some, arith, inl, inr, length-set}
+use Rattle.std.proofs.lemmas.Bool.{cases_lt}
+use Rattle.std.proofs.lemmas.List.{map-append, take_at, take-append-le}
+use Rattle.std.proofs.lemmas.List.Elements.{Contains-append_left, Contains-push, Contains-push_cases}
+use Rattle.std.proofs.lemmas.Option.{same_Some, slice_get_within}
+use Rattle.std.specs.List.{slice_get, Contains}
+use Rattle.ob_interface.specs.Call.{ObjectCall, Reply}
+use Rattle.wf_history.specs.declared.event.CallId.{CallId}
+use Rattle.wf_history.specs.History.{Event, End, IsHistory}
+use Rattle.wf_history.specs.Legal.{IsLegal}
+use Rattle.wf_history.proofs.Positions.{place_push, place_left, place_here, place_of, contains_at, one_item}
+use Rattle.wf_order.specs.declared.rows.Rows.{Rows}
+use Rattle.wf_order.specs.declared.search.Frame.{Frame}
+use Rattle.wf_order.specs.Rows.{AreRows}
+use Rattle.wf_order.specs.Steps.{Configuration, IsTaken, IsLimit, IsStep, Leads, none, more, IsDone, start_at}
+use Rattle.wf_order.specs.Verdict.{HasLegal}
+use Rattle.wf_order.specs.Rules.{ComesFirst, ends, open_ones, IsOpen, IsBehind, IsAnswered}
+use Rattle.wf_order.specs.Search.{ids_of, IsSearch}
+use Rattle.wf_order.proofs.Exchange.{IsHopeful, hope_more, silent_first, alike_first}
+use Rattle.wf_order.proofs.Soundness.{sound}
+use Rattle.wf_order.proofs.Completeness.{complete, none_taken}
+
+-- how late a call comes: by its end, and behind all ends where it is open
+module _ {Call Reply : Type 0} (history : List (Event Call Reply)) where
+  pub data IsRank (id : CallId) : ℕ → Type 0 where
+    ended : {place : ℕ} (reply : Reply) → slice_get history place ≡ Some (End id reply) → IsRank id place
+    opened : {rank : ℕ} → IsOpen history id → rank ≡ length history + id.process → IsRank id rank
+
+  ranked : (a b : CallId) → ComesFirst history a b → (s : ℕ) × IsRank a s
+  ranked a b (ends f) = (f.place, ended f.reply f.at)
+  ranked a b (open_ones over _ _) = (length history + a.process, opened over refl)
+
+  -- what comes first has the lower rank
+  lower : (a b : CallId) → ComesFirst history a b → (r : ℕ) → IsRank b r → (s : ℕ) × IsRank a s × (s < r)
+  lower a b (ends f) r (ended reply at) = (f.place, ended f.reply f.at, f.later r reply at)
+  lower a b (ends f) r (opened over is) = let lt = slice_get_within history f.place (End a f.reply) f.at in (f.place, ended f.reply f.at, omega (arith, lt, is))
+  lower a b (open_ones _ over _) r (ended reply at) = absurd (over reply (contains_at history r (End b reply) at))
+  lower a b (open_ones over _ less) r (opened _ is) = (length history + a.process, opened over refl, omega (arith, less, is))
+
+module _ {State Call Reply : Type 0} (Effect : Call → State → State → Reply → Type 0) (history : List (Event Call Reply)) where
+  leads_push : {c d e : Configuration State} {id : CallId} {ids : List CallId} → Leads Effect history c ids d → IsStep Effect history d id e → Leads Effect history c (ids ++ id ∷ []) e
+  leads_push none s = more s none
+  leads_push (more t l) s = more t (leads_push l s)
+
+  -- where each step from what was found is answered, and nothing that was found is done, steps lead to nothing that is done
+  module _ (whole : IsHistory history)
+      (determined : (call : Call) (before after other : State) (reply answer : Reply) → Effect call before after reply → Effect call before other answer → (after ≡ other) × (reply ≡ answer))
+      (found : List (Configuration State)) (closed : (c d : Configuration State) (id : CallId) → Contains found c → IsStep Effect history c id d → IsAnswered Effect history found c id d)
+      (not_done : (c : Configuration State) → Contains found c → ¬ IsDone Effect history c) where
+    abbrev AreHopeless : ℕ → Type 0
+    AreHopeless n = (c : Configuration State) → Contains found c → IsHopeful Effect history n c → ⊥
+
+    by_cases : (n : ℕ) → AreHopeless n → (c d : Configuration State) (id : CallId) → Contains found c → IsStep Effect history c id d → IsHopeful Effect history n d →
+        ((behind : IsBehind Effect history c id) → IsHopeful Effect history n behind.to → ⊥) → ⊥
+    by_cases n shorter c d id in_found s h go =
+        elim (closed c d id in_found s) [
+          | inl seen ↦ shorter d seen h
+          | inr rules ↦ elim rules [
+            | inl forced ↦ shorter forced.to forced.there (silent_first Effect history forced.id forced.silent n c forced.to (hope_more Effect history n c d id s h) forced.step)
+            | inr behind ↦ go behind (alike_first Effect history whole determined n c behind.to d id s h behind.sooner behind.call behind.step behind.same behind.own behind.first)
+          ]
+        ]
+
+    -- by the rank of the call
+    among : (n : ℕ) → AreHopeless n → (bound : ℕ) (c d : Configuration State) (id : CallId) → Contains found c → IsStep Effect history c id d → IsHopeful Effect history n d →
+        (rank : ℕ) → IsRank history id rank → rank < bound → ⊥
+    among n shorter zero c d id in_found s h rank is lt = omega arith
+    among n shorter (suc bound) c d id in_found s h rank is lt =
+        by_cases n shorter c d id in_found s h
+        (λ behind hope. let low = lower history behind.sooner id behind.first rank is in
+        among n shorter bound c behind.to behind.sooner in_found behind.step hope low.0 low.1 (let less = low.2 in omega (arith, lt, less)))
+
+    at_end : {c e : Configuration State} {ids : List CallId} → Leads Effect history c ids e → length ids ≡ 0 → Contains found c → IsDone Effect history e → ⊥
+    at_end (none {c}) size in_found done = not_done c in_found done
+    at_end (more s l) size in_found done = absurd (cc)
+
+    first_of : (n : ℕ) {c e : Configuration State} {ids : List CallId} → Leads Effect history c ids e → length ids ≡ suc n → IsDone Effect history e →
+        (id : CallId) × (d : Configuration State) × IsStep Effect history c id d × IsHopeful Effect history n d
+    first_of n none size done = absurd (cc)
+    first_of n (more {c} {d} {e} {id} {ids} s l) size done = (id, d, s, record { ids = ids; last = e; path = l; done = done; size = omega (arith, size) })
+
+    pub hopeless : (n : ℕ) (c : Configuration State) → Contains found c → IsHopeful Effect history n c → ⊥
+    hopeless zero c in_found h = at_end h.path h.size in_found h.done
+    hopeless (suc n) c in_found h =
+        let r = first_of n h.path h.size h.done in
+        by_cases n (hopeless n) c r.1 r.0 in_found r.2 r.3
+        (λ behind hope. let own = ranked history behind.sooner r.0 behind.first in
+        among n (hopeless n) (suc own.0) c behind.to behind.sooner in_found behind.step hope own.0 own.1 (omega arith))
+
+module _ {State Call Reply : Type 0} (Effect : Call → State → State → Reply → Type 0) (history : List (Event Call Reply)) (processes : ℕ) (start : Configuration State) where
+  -- what was answered stays so, where more is found
+  answered_grown : (found : List (Configuration State)) (d c : Configuration State) (id : CallId) (e : Configuration State) → IsAnswered Effect history found c id e → IsAnswered Effect history (found ++ d ∷ []) c id e
+  answered_grown found d c id e h =
+      elim h [
+        | inl seen ↦ inl (Contains-append_left found (d ∷ []) e seen)
+        | inr rules ↦ elim rules [
+          | inl forced ↦ inr (inl (record { id = forced.id; to = forced.to; step = forced.step; silent = forced.silent; there = Contains-append_left found (d ∷ []) forced.to forced.there }))
+          | inr behind ↦ inr (inr behind)
+        ]
+      ]
+
+  abbrev IsLed : List (Configuration State) → List CallId → Frame → Type 0
+  IsLed found ids f = (c : Configuration State) × (slice_get found f.place ≡ Some c) × Leads Effect history start ids c × IsLimit history c.counts f.limit
+
+  abbrev AreLed : List (Configuration State) → List Frame → Type 0
+  AreLed found stack = (k : ℕ) (f : Frame) → slice_get stack k ≡ Some f → IsLed found (ids_of (take k stack)) f
+
+  led_front : (found : List (Configuration State)) (xs ys : List Frame) → AreLed found (xs ++ ys) → AreLed found xs
+  led_front found xs ys h k f at =
+      let lt = slice_get_within xs k f at in
+      subst (λ (l : List Frame). IsLed found (ids_of l) f) (take-append-le k xs ys (omega arith)) (h k f (place_left xs ys k f at))
+
+  led_last : (found : List (Configuration State)) (xs : List Frame) (f : Frame) → AreLed found (xs ++ f ∷ []) → IsLed found (ids_of xs) f
+  led_last found xs f h =
+      subst (λ (l : List Frame). IsLed found (ids_of l) f) (take_at xs (f ∷ []) (length xs) refl) (h (length xs) f (place_here xs [] f))
+
+  led_more : (found : List (Configuration State)) (xs : List Frame) (f : Frame) → AreLed found xs → IsLed found (ids_of xs) f → AreLed found (xs ++ f ∷ [])
+  led_more found xs f h last k g at =
+      elim (place_push xs f k g at) [
+        | inl old ↦
+            let lt = slice_get_within xs k g old in
+            subst (λ (l : List Frame). IsLed found (ids_of l) g) (sym (take-append-le k xs (f ∷ []) (omega arith))) (h k g old)
+        | inr new ↦
+            subst (λ (l : List Frame). IsLed found (ids_of l) g) (sym (take_at xs (f ∷ []) k (sym new.0))) (subst (λ (x : Frame). IsLed found (ids_of xs) x) new.1 last)
+      ]
+
+  led_grown : (found : List (Configuration State)) (d : Configuration State) (xs : List Frame) → AreLed found xs → AreLed (found ++ d ∷ []) xs
+  led_grown found d xs h k f at = let r = h k f at in (r.0, place_left found (d ∷ []) f.place r.0 r.1, r.2, r.3)
+
+  -- the configuration of the frame on top
+  pub top_led : (found : List (Configuration State)) (xs : List Frame) (f : Frame) → IsSearch Effect history processes start found (xs ++ f ∷ []) →
+      (c : Configuration State) × (slice_get found f.place ≡ Some c) × Leads Effect history start (ids_of xs) c × IsLimit history c.counts f.limit
+  top_led found xs f h = led_last found xs f h.led
+
+  pub places_within : (found : List (Configuration State)) (xs : List Frame) → IsSearch Effect history processes start found xs → (k : ℕ) (f : Frame) → slice_get xs k ≡ Some f → f.place < length found
+  places_within found xs h k f at = let r = h.led k f at in slice_get_within found f.place r.0 r.1
+
+  pub begun_search : length start.counts ≡ processes → ¬ IsDone Effect history start → (f : Frame) → f.place ≡ 0 → f.next ≡ 0 → IsLimit history start.counts f.limit → IsSearch Effect history processes start (start ∷ []) (f ∷ [])
+  begun_search size undone f place next limit = record {
+    start_found = contains_at (start ∷ []) 0 start refl;
+    sizes = λ c h. subst (λ (x : Configuration State). length x.counts ≡ processes) (only c h) size;
+    led = led_more (start ∷ []) [] f (λ k g at. absurd (cc)) (start, ap (slice_get (start ∷ [])) place, none, limit);
+    reached = λ c h. ([], subst (λ (x : Configuration State). Leads Effect history start [] x) (only c h) none);
+    not_done = λ c h. subst (λ (x : Configuration State). ¬ IsDone Effect history x) (only c h) undone;
+    next = λ c d id h s. inr (f, contains_at (f ∷ []) 0 f refl, ap (slice_get (start ∷ [])) place ∙ ap Some (only c h), omega arith);
+  }
+    where
+      only : (c : Configuration State) → Contains (start ∷ []) c → start ≡ c
+      only c h = only_at (place_of (start ∷ []) c h).0 c (place_of (start ∷ []) c h).1
+        where
+          only_at : (k : ℕ) (c : Configuration State) → slice_get (start ∷ []) k ≡ Some c → start ≡ c
+          only_at zero c e = same_Some start c e
+          only_at (suc k) c e = absurd (cc)
+
+  -- all processes of the frame were tried
+  pub popped : (found : List (Configuration State)) (xs : List Frame) (f : Frame) → IsSearch Effect history processes start found (xs ++ f ∷ []) → processes ≤ f.next → IsSearch Effect history processes start found xs
+  popped found xs f h all = record {
+    start_found = h.start_found;
+    sizes = h.sizes;
+    led = led_front found xs (f ∷ []) h.led;
+    reached = h.reached;
+    not_done = h.not_done;
+    next = λ c d id in_found s.
+        elim (h.next c d id in_found s) [
+          | inl seen ↦ inl seen
+          | inr undone ↦
+              elim (Contains-push_cases xs f undone.0 undone.1) [
+                | inl old ↦ inr (undone.0, old, undone.2, undone.3)
+                | inr same ↦
+                    let size = h.sizes c in_found in
+                    let within = s.process in
+                    let next : f.next ≡ undone.0.next = ap (λ (x : Frame). x.next) same in
+                    let le = undone.3 in
+                    absurd (omega (arith, size, within, next, le))
+              ]
+        ];
+  }
+
+  module _ (found : List (Configuration State)) (xs : List Frame) (f g : Frame) (h : IsSearch Effect history processes start found (xs ++ f ∷ []))
+      (c : Configuration State) (at : slice_get found f.place ≡ Some c) (place : g.place ≡ f.place) (next : f.next < g.next) (limit : g.limit ≡ f.limit) where
+    top_same : (x : Configuration State) (o : Frame) → f ≡ o → slice_get found o.place ≡ Some x → c ≡ x
+    top_same x o same there = one_item found f.place c x at (ap (λ (y : Frame). slice_get found y.place) same ∙ there)
+
+    led_to : Leads Effect history start (ids_of xs) c
+    led_to =
+        let r = led_last found xs f h.led in
+        subst (λ (x : Configuration State). Leads Effect history start (ids_of xs) x) (one_item found f.place r.0 c r.1 at) r.2
+
+    limit_here : IsLimit history c.counts g.limit
+    limit_here =
+        let r = led_last found xs f h.led in
+        subst (λ (n : ℕ). IsLimit history c.counts n) (sym limit) (subst (λ (x : Configuration State). IsLimit history x.counts f.limit) (one_item found f.place r.0 c r.1 at) r.3)
+
+    led_tried : AreLed found (xs ++ g ∷ [])
+    led_tried = led_more found xs g (led_front found xs (f ∷ []) h.led) (c, ap (slice_get found) place ∙ at, led_to, limit_here)
+
+    -- the next process of the frame was tried, and leads to nothing new
+    pub advanced : ((id : CallId) (d : Configuration State) → f.next ≤ id.process → id.process < g.next → IsStep Effect history c id d → IsAnswered Effect history found c id d) → IsSearch Effect history processes start found (xs ++ g ∷ [])
+    advanced old_ones = record {
+      start_found = h.start_found;
+      sizes = h.sizes;
+      led = led_tried;
+      reached = h.reached;
+      not_done = h.not_done;
+      next = λ x d id in_found s.
+          elim (h.next x d id in_found s) [
+            | inl seen ↦ inl seen
+            | inr undone ↦
+                elim (Contains-push_cases xs f undone.0 undone.1) [
+                  | inl old ↦ inr (undone.0, Contains-append_left xs (g ∷ []) undone.0 old, undone.2, undone.3)
+                  | inr same ↦
+                      let is = top_same x undone.0 same undone.2 in
+                      let top : f.next ≡ undone.0.next = ap (λ (y : Frame). y.next) same in
+                      let le = undone.3 in
+                      elim (cases_lt id.process g.next) [
+                        | inl lt ↦ inl (subst (λ (y : Configuration State). IsAnswered Effect history found y id d) is
+                            (old_ones id d (omega (arith, le, top)) lt (subst (λ (y : Configuration State). IsStep Effect history y id d) (sym is) s)))
+                        | inr ge ↦ inr (g, Contains-push xs g, ap (slice_get found) place ∙ at ∙ ap Some is, ge)
+                      ]
+                ]
+          ];
+    }
+
+    -- the next process of the frame was tried, and leads to one that is new
+    pub pushed : (d : Configuration State) → IsStep Effect history c g.id d →
+        ((id : CallId) (y : Configuration State) → f.next ≤ id.process → id.process < g.next → IsStep Effect history c id y → IsAnswered Effect history (found ++ d ∷ []) c id y) → ¬ IsDone Effect history d → (new : Frame) → new.place ≡ length found → new.next ≡ 0 → IsLimit history d.counts new.limit →
+        IsSearch Effect history processes start (found ++ d ∷ []) ((xs ++ g ∷ []) ++ new ∷ [])
+    pushed d step covers undone new new_place new_next new_limit = record {
+      start_found = Contains-append_left found (d ∷ []) start h.start_found;
+      sizes = λ x in_found. elim (Contains-push_cases found d x in_found) [
+        | inl old ↦ h.sizes x old
+        | inr same ↦ subst (λ (y : Configuration State). length y.counts ≡ processes) same
+            (ap length step.counts ∙ length-set c.counts g.id.process g.id.number ∙ h.sizes c (contains_at found f.place c at))
+      ];
+      led = led_more (found ++ d ∷ []) (xs ++ g ∷ []) new (led_grown found d (xs ++ g ∷ []) led_tried) (
+        d,
+        ap (slice_get (found ++ d ∷ [])) new_place ∙ place_here found [] d,
+        subst (λ (l : List CallId). Leads Effect history start l d) (sym (map-append (λ y. y.id) xs (g ∷ []))) (leads_push Effect history led_to step),
+        new_limit,
+      );
+      reached = λ x in_found. elim (Contains-push_cases found d x in_found) [
+        | inl old ↦ h.reached x old
+        | inr same ↦ (ids_of xs ++ g.id ∷ [], subst (λ (y : Configuration State). Leads Effect history start (ids_of xs ++ g.id ∷ []) y) same (leads_push Effect history led_to step))
+      ];
+      not_done = λ x in_found. elim (Contains-push_cases found d x in_found) [
+        | inl old ↦ h.not_done x old
+        | inr same ↦ subst (λ (y : Configuration State). ¬ IsDone Effect history y) same undone
+      ];
+      next = λ x y id in_found s. elim (Contains-push_cases found d x in_found) [
+        | inl old ↦
+            elim (h.next x y id old s) [
+              | inl seen ↦ inl (answered_grown found d x id y seen)
+              | inr still ↦
+                  elim (Contains-push_cases xs f still.0 still.1) [
+                    | inl below ↦ inr (still.0, Contains-append_left (xs ++ g ∷ []) (new ∷ []) still.0 (Contains-append_left xs (g ∷ []) still.0 below), place_left found (d ∷ []) still.0.place x still.2, still.3)
+                    | inr same ↦
+                        let is = top_same x still.0 same still.2 in
+                        let top : f.next ≡ still.0.next = ap (λ (z : Frame). z.next) same in
+                        let le = still.3 in
+                        elim (cases_lt id.process g.next) [
+                          | inl lt ↦ inl (subst (λ (z : Configuration State). IsAnswered Effect history (found ++ d ∷ []) z id y) is
+                              (covers id y (omega (arith, le, top)) lt (subst (λ (z : Configuration State). IsStep Effect history z id y) (sym is) s)))
+                          | inr ge ↦ inr (g, Contains-append_left (xs ++ g ∷ []) (new ∷ []) g (Contains-push xs g), place_left found (d ∷ []) g.place x (ap (slice_get found) place ∙ at ∙ ap Some is), ge)
+                        ]
+                  ]
+            ]
+        | inr same ↦ inr (new, Contains-push (xs ++ g ∷ []) new, ap (slice_get (found ++ d ∷ [])) new_place ∙ place_here found [] d ∙ ap Some same, omega (arith, new_next))
+      ];
+    }
+
+    -- the next process of the frame leads to one that is done
+    pub found_legal : ((a : CallId) → IsTaken start.counts a → ⊥) → (d : Configuration State) → IsStep Effect history c g.id d → IsDone Effect history d →
+        IsLegal Effect start.state history (ids_of (xs ++ g ∷ [])) d.state
+    found_legal fresh d s done =
+        subst (λ (l : List CallId). IsLegal Effect start.state history l d.state) (sym (map-append (λ y. y.id) xs (g ∷ [])))
+        (sound Effect history (leads_push Effect history led_to s) fresh done)
+
+module _ {M : Type 0} (Effect : ObjectCall → M → M → Reply → Type 0) (history : List (Event ObjectCall Reply)) (processes : ℕ) (rows : Rows) (are : AreRows history processes rows) (opening : M) where
+  -- nothing is left to be tried
+  pub none_legal : (determined : (call : ObjectCall) (before after other : M) (reply answer : Reply) → Effect call before after reply → Effect call before other answer → (after ≡ other) × (reply ≡ answer))
+      (found : List (Configuration M)) → IsSearch Effect history processes (start_at processes opening) found [] → ¬ HasLegal Effect opening history
+  none_legal determined found h some =
+      let order = some.0 in
+      let r = complete Effect history are.whole processes (λ id call begun. (are.every_begun id call begun).0) opening some.1 order some.2 in
+      hopeless Effect history are.whole determined found
+      (λ c d id in_found s. elim (h.next c d id in_found s) [ inl seen ↦ seen | inr undone ↦ let p = place_of [] undone.0 undone.1 in let e = p.1 in absurd (cc) ])
+      h.not_done (length order) (start_at processes opening) h.start_found
+      (record { ids = order; last = r.0; path = r.1; done = r.2; size = refl })
+
+  -- there is nothing to be done
+  pub empty_legal : IsDone Effect history (start_at processes opening) → IsLegal Effect opening history [] opening
+  empty_legal done = sound Effect history (none {c = (start_at processes opening)}) (none_taken processes) done

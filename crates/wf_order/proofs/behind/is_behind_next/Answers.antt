@@ -1,0 +1,28 @@
+-- The equal call's step.
+use Rattle.std.proofs.Common.{◌≡◌, ap, sym, subst, ◌∙◌, ℕ, true, List, length, get_or}
+use Rattle.std.specs.Prelude.{nat_lt}
+use Rattle.std.proofs.lemmas.Bool.{ltb-true}
+use Rattle.std.proofs.lemmas.List.{get_or_read}
+use Rattle.std.proofs.lemmas.Option.{MatchOption-at_some}
+use Rattle.wf_order.specs.Rows.{call_at}
+use Rattle.wf_order.specs.Rules.{AreAlike}
+use Rattle.wf_order.specs.Search.{found_in, HasNoStep, IsOnlyStep}
+use Rattle.wf_order.proofs.Replacing.{alike_behind}
+use Rattle.wf_order.proofs.behind.is_behind_next.Goals as goal
+
+taken_is : (xs ys : List ℕ) (p x : ℕ) → true ≡ nat_lt p (length xs) → x ≡ get_or xs p x → xs ≡ ys → x ≡ get_or ys p 0
+taken_is xs ys p x t h e = get_or_read xs p x (ltb-true p (length xs) (sym t)) h 0 ∙ ap (λ (l : List ℕ). get_or l p 0) e
+
+pub returns : goal.returns
+returns g c = λ history at.
+    let process = c.args.process in
+    let other = c.args.other in
+    let found = c.args.here.now.found.now in
+    let here = found_in g.O.Object.meaning found in
+    let effect = g.O.Object.effect c.args.task.now.object.now in
+    let own = taken_is c.deref.result.now found.counts.items process c.in-Some.place.now c.in-Some.ensures.lookup.0 c.in-Some.ensures.lookup.1 c.deref.ensures.value in
+    let others = taken_is c.deref-2.result.now found.counts.items other c.in-Some-get.other_place.now c.in-Some-get.ensures.lookup.0 c.in-Some-get.ensures.lookup.1 c.deref-2.ensures.value in
+    let alike = subst (λ (k : ℕ). AreAlike history (call_at other k) (call_at process (get_or here.counts process 0))) others
+    (subst (λ (k : ℕ). AreAlike history (call_at other c.in-Some-get.other_place.now) (call_at process k)) own (c.are_alike.ensures history (length here.counts) at.0 c.if-not-are_alike.false)) in
+    let only = MatchOption-at_some (HasNoStep effect history here other) (λ to. IsOnlyStep effect history here other to.0 (found_in g.O.Object.meaning to.1)) c.in-Some-2._to c.in-Some-2.is (c.in_ok-_to.ensures.only history at) in
+    λ t. alike_behind effect history at.0.whole here process other alike c.in-Some-2._to.0 (found_in g.O.Object.meaning c.in-Some-2._to.1) only

@@ -1,0 +1,5 @@
+pub mod Rows
+pub mod Rules
+pub mod Search
+pub mod Steps
+pub mod Verdict

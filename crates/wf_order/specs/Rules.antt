@@ -1,0 +1,80 @@
+-- Steps that a search need not try.
+use Rattle.std.specs.Prelude.{◌≡◌, ℕ, ◌+◌, ◌<◌, List, length, get_or, slice_get, Some, Contains, ◌⊎◌}
+use Rattle.wf_history.specs.declared.event.CallId.{CallId}
+use Rattle.wf_history.specs.History.{Event, End, Before}
+use Rattle.wf_history.specs.Legal.{HasBegun}
+use Rattle.wf_order.specs.Steps.{Configuration, IsTaken, IsStep}
+
+-- the call does not end
+abbrev pub IsOpen : {Call Reply : Type 0} → List (Event Call Reply) → CallId → Type 0
+IsOpen {Call} {Reply} history id = (reply : Reply) → ¬ Contains history (End id reply)
+
+-- a has ended, and b ended later or not at all
+pub record EndsFirst {Call Reply : Type 0} (history : List (Event Call Reply)) (a b : CallId) : Type 0 where
+  pub place : ℕ
+  pub reply : Reply
+  pub at : slice_get history place ≡ Some (End a reply)
+  pub later : (other : ℕ) (r : Reply) → slice_get history other ≡ Some (End b r) → place < other
+
+-- a ends before b, which may be open; or both are open, and a is of the smaller process
+pub data ComesFirst {Call Reply : Type 0} (history : List (Event Call Reply)) (a b : CallId) : Type 0 where
+  ends : EndsFirst history a b → ComesFirst history a b
+  open_ones : IsOpen history a → IsOpen history b → a.process < b.process → ComesFirst history a b
+
+-- both have ended, with the same reply
+pub record AreSameReplies {Call Reply : Type 0} (history : List (Event Call Reply)) (a b : CallId) : Type 0 where
+  pub reply : Reply
+  pub first : Contains history (End a reply)
+  pub other : Contains history (End b reply)
+
+-- An equal call of another process has the same reply, comes first, and may be taken as well.
+pub record HasSooner {Call Reply : Type 0} (history : List (Event Call Reply)) (counts : List ℕ) (id : CallId) : Type 0 where
+  pub sooner : CallId
+  pub call : Call
+  pub same : HasBegun history sooner call
+  pub own : HasBegun history id call
+  pub replies : AreSameReplies history sooner id
+  pub first : ComesFirst history sooner id
+  pub process : sooner.process < length counts
+  pub number : sooner.number ≡ get_or counts sooner.process 0 + 1
+  pub earlier : (a : CallId) → Before history a sooner → IsTaken counts a
+
+-- two equal calls, of which a comes first
+pub record AreAlike {Call Reply : Type 0} (history : List (Event Call Reply)) (a b : CallId) : Type 0 where
+  pub call : Call
+  pub same : HasBegun history a call
+  pub own : HasBegun history b call
+  pub first : ComesFirst history a b
+
+module _ {State Call Reply : Type 0} (Effect : Call → State → State → Reply → Type 0) (history : List (Event Call Reply)) where
+  -- the call has ended, and wherever it has the reply that it has in the history, it leaves the state as it is
+  pub record IsSilent (id : CallId) : Type 0 where
+    pub reply : Reply
+    pub ended : Contains history (End id reply)
+    pub leaves : (call : Call) (before after : State) → HasBegun history id call → Effect call before after reply → before ≡ after
+
+  -- a silent call is next, and what it leads to was found
+  pub record IsForced (found : List (Configuration State)) (c : Configuration State) : Type 0 where
+    pub id : CallId
+    pub to : Configuration State
+    pub step : IsStep Effect history c id to
+    pub silent : IsSilent id
+    pub there : Contains found to
+
+  -- another process's equal call, which comes first, may be taken as well
+  pub record IsBehind (c : Configuration State) (id : CallId) : Type 0 where
+    pub sooner : CallId
+    pub to : Configuration State
+    pub step : IsStep Effect history c sooner to
+    pub call : Call
+    pub same : HasBegun history sooner call
+    pub own : HasBegun history id call
+    pub first : ComesFirst history sooner id
+
+  -- no step by a call of the process need be tried
+  abbrev pub AreBehind : Configuration State → ℕ → Type 0
+  AreBehind c process = (id : CallId) (d : Configuration State) → id.process ≡ process → IsStep Effect history c id d → IsBehind c id
+
+  -- the step was tried, or need not be
+  abbrev pub IsAnswered : List (Configuration State) → Configuration State → CallId → Configuration State → Type 0
+  IsAnswered found c id d = Contains found d ⊎ (IsForced found c ⊎ IsBehind c id)

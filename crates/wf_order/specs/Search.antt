@@ -1,0 +1,110 @@
+-- What a search has found so far.
+use Rattle.std.specs.Prelude.{◌≡◌, ℕ, zero, suc, ◌+◌, ◌-◌, ◌*◌, ◌<◌, ◌≤◌, List, [], ◌∷◌, ◌++◌, map, length, slice_get, Option, Some, None, IfSome, Contains, ◌⊎◌}
+use Rattle.std.proofs.Common.{take}
+use Rattle.wf_history.specs.declared.event.CallId.{CallId}
+use Rattle.ob_interface.specs.Call.{ObjectCall, Reply}
+use Rattle.wf_history.specs.History.{Event}
+use Rattle.wf_history.specs.Legal.{IsLegal}
+use Rattle.std.specs.HashSet.{HashSet}
+use Rattle.wf_order.specs.declared.search.Answer.{Answer}
+use Rattle.wf_order.specs.declared.search.Answer.TheVariants as Answers
+use Rattle.wf_order.specs.declared.search.Frame.{Frame}
+use Rattle.wf_order.specs.declared.step.Here.{Here}
+use Rattle.wf_order.specs.declared.rows.Rows.{Rows}
+use Rattle.wf_order.specs.declared.seen.Found as Rust
+use Rattle.wf_order.specs.Rows.{AreRows, begun_rows, row_of}
+use Rattle.wf_order.specs.Rules.{IsAnswered, IsSilent}
+use Rattle.wf_order.specs.Steps.{Configuration, IsLimit, IsStep, Leads, IsDone}
+use Rattle.wf_order.specs.Verdict.{HasLegal, HasMore}
+
+-- a configuration that is kept, as the definitions see it
+abbrev pub found_in : {State Meaning : Type 0} → (State → Meaning) → Rust.Found State → Configuration Meaning
+found_in meaning c = record { counts = c.counts.items; state = meaning c.state }
+
+abbrev pub all_found : {State Meaning S : Type 0} → (State → Meaning) → HashSet (Rust.Found State) S → List (Configuration Meaning)
+all_found meaning seen = map (found_in meaning) seen.keys
+
+-- the words that are kept are those of the state
+abbrev pub IsWorded : {State Meaning : Type 0} → (State → Meaning) → (Meaning → List ℕ) → Rust.Found State → Type 0
+IsWorded meaning words_of found = found.words.items ≡ words_of (meaning found.state)
+
+abbrev pub AreWorded : {State Meaning S : Type 0} → (State → Meaning) → (Meaning → List ℕ) → HashSet (Rust.Found State) S → Type 0
+AreWorded {State} meaning words_of seen = (found : Rust.Found State) → Contains seen.keys found → IsWorded meaning words_of found
+
+-- a configuration of a history that stands in these rows, with its limit
+abbrev pub IsAt : {State : Type 0} → List (Event ObjectCall Reply) → Rows → Here State → Type 0
+IsAt history rows here = AreRows history (length here.found.now.counts.items) rows × IsLimit history here.found.now.counts.items here.limit
+
+-- the calls that the frames are at
+abbrev pub ids_of : List Frame → List CallId
+ids_of frames = map (λ f. f.id) frames
+
+-- the state after a call, where its reply is the one that is known, if one is
+abbrev pub IsOutcome : {State Reply : Type 0} → (State → State → Reply → Type 0) → State → Option Reply → Option State → Type 0
+IsOutcome {State} {Reply} Effect before known (Some after) = (reply : Reply) × Effect before after reply × IfSome known (λ r. r ≡ reply)
+IsOutcome {State} {Reply} Effect before known None = (after : State) × (reply : Reply) × Effect before after reply × (r : Reply) × (known ≡ Some r) × (r ≡ reply → ⊥)
+
+module _ {State Call Reply : Type 0} (Effect : Call → State → State → Reply → Type 0) (history : List (Event Call Reply)) where
+  -- no call of the process is next
+  abbrev pub HasNoStep : Configuration State → ℕ → Type 0
+  HasNoStep c process = (id : CallId) (d : Configuration State) → id.process ≡ process → IsStep Effect history c id d → ⊥
+
+  -- a step by a silent call
+  abbrev pub IsSilentStep : Configuration State → CallId → Configuration State → Type 0
+  IsSilentStep c id d = IsStep Effect history c id d × IsSilent Effect history id
+
+  -- this is the one step by a call of the process
+  pub record IsOnlyStep (c : Configuration State) (process : ℕ) (id : CallId) (d : Configuration State) : Type 0 where
+    pub own : id.process ≡ process
+    pub step : IsStep Effect history c id d
+    pub only : (other : CallId) (e : Configuration State) → other.process ≡ process → IsStep Effect history c other e → e ≡ d
+
+  -- Each configuration that was found can be reached, and none is done. Each step from one of them leads to one of them or
+  -- need not be tried, unless a frame has still to try it.
+  pub record IsSearch (processes : ℕ) (start : Configuration State) (found : List (Configuration State)) (stack : List Frame) : Type 0 where
+    pub start_found : Contains found start
+    pub sizes : (c : Configuration State) → Contains found c → length c.counts ≡ processes
+    pub led : (k : ℕ) (f : Frame) → slice_get stack k ≡ Some f →
+        (c : Configuration State) × (slice_get found f.place ≡ Some c) × Leads Effect history start (ids_of (take k stack)) c × IsLimit history c.counts f.limit
+    pub reached : (c : Configuration State) → Contains found c → (ids : List CallId) × Leads Effect history start ids c
+    pub not_done : (c : Configuration State) → Contains found c → ¬ IsDone Effect history c
+    pub next : (c d : Configuration State) (id : CallId) → Contains found c → IsStep Effect history c id d →
+        IsAnswered Effect history found c id d ⊎ ((f : Frame) × Contains stack f × (slice_get found f.place ≡ Some c) × (f.next ≤ id.process))
+
+  -- what an arrival at a configuration makes of what was found: a path, or nothing
+  abbrev pub IsArrival : Configuration State → (found more : List (Configuration State)) → (stack new : List Frame) → Option (List CallId) → Type 0
+  IsArrival d found more stack new (Some path) = (path ≡ ids_of stack) × IsDone Effect history d
+  IsArrival d found more stack new None =
+      (¬ IsDone Effect history d)
+      × ((Contains found d × (more ≡ found) × (new ≡ stack))
+      ⊎ ((more ≡ found ++ d ∷ []) × (f : Frame) × (new ≡ stack ++ f ∷ []) × (f.place ≡ length found) × (f.next ≡ 0) × IsLimit history d.counts f.limit))
+
+-- how many calls are not taken, where each process has begun so many
+abbrev pub left : List ℕ → List ℕ → ℕ
+left [] counts = 0
+left (n ∷ lengths) [] = n + left lengths []
+left (n ∷ lengths) (c ∷ counts) = (n - c) + left lengths counts
+
+-- what one try may cost, where so many calls are left
+abbrev pub try_cost : ℕ → ℕ → ℕ
+try_cost n zero = 1
+try_cost n (suc r) = 2 + n * try_cost n r
+
+-- what is left of a frame, where those found have these counts
+abbrev pub weight : ℕ → List ℕ → List (List ℕ) → Frame → ℕ
+weight n lengths counted f = 1 + (n - f.next) * try_cost n (left lengths (row_of counted f.place))
+
+abbrev pub weights : ℕ → List ℕ → List (List ℕ) → List Frame → ℕ
+weights n lengths counted [] = 0
+weights n lengths counted (f ∷ fs) = weight n lengths counted f + weights n lengths counted fs
+
+-- a bound on the work that is left
+unfoldable pub work : {State : Type 0} → ℕ → Rows → List (Configuration State) → List Frame → ℕ
+work processes rows found stack = weights processes (map length (begun_rows rows)) (map (λ c. c.counts) found) stack
+
+-- what a search answers: a legal order, that there is none, or that there is more than the most to be looked at, which is
+-- less than one try may cost
+abbrev pub IsAnswer : {M : Type 0} → (ObjectCall → M → M → Reply → Type 0) → M → List (Event ObjectCall Reply) → (processes most : ℕ) → Answer → Type 0
+IsAnswer {M} Effect opening history processes most (Answers.Order order) = (last : M) × IsLegal Effect opening history order.items last
+IsAnswer Effect opening history processes most Answers.NoOrder = ¬ HasLegal Effect opening history
+IsAnswer Effect opening history processes most Answers.TooMany = HasMore Effect opening history processes most × (most < try_cost processes (length history + 1))

@@ -1,0 +1,161 @@
+//! A legal order of a history, or where it ceases to have one.
+
+ghost use Rattle.std.specs.Prelude.{◌≡◌, ◌<◌, ◌≤◌, ◌-◌, ℕ, List, map, length, take, Some, IfOk, MatchOption, slice_get};
+ghost use Rattle.ob_interface.specs.Call.{ObjectCall, Reply};
+ghost use Rattle.wf_history.specs.History.{Event as AnyEvent, End, IsHistory};
+ghost use Rattle.wf_history.specs.View.{event_of};
+ghost use Rattle.wf_order.specs.declared.find.Verdict.TheVariants as Verdicts;
+ghost use Rattle.wf_order.specs.Rows.{AreOfProcesses};
+ghost use Rattle.wf_order.specs.Search.{IsAnswer};
+ghost use Rattle.wf_order.specs.Verdict.{HasLegal, IsBetween, IsLastLegal, IsTooMuch, IsVerdict, enough};
+
+use crate::object::Object;
+use crate::rows::{processes_of, rows_of};
+use crate::search::{Answer, search};
+use crate::step::Task;
+use ob_interface::NoMemory;
+use std::alloc::Global;
+use std::hash::RandomState;
+use wf_history::{CallId, Event, History, SeenEvent};
+
+/// What is found of a history.
+#[derive(Drop)]
+pub enum Verdict {
+    /// These calls, in this order, are a legal order.
+    Legal(Vec<CallId>),
+    /// The history up to the end of this call, which is the event at this place, has no legal order, and up to the event
+    /// before it has one.
+    Illegal(CallId, usize),
+    /// More configurations were found than were to be looked at.
+    TooMany,
+}
+
+/// A history of so many processes on an object, and the most configurations to be looked at.
+#[derive_where(Clone, Copy)]
+struct Question<'a, O> {
+    alloc: Global,
+    events: &'a [Event],
+    object: &'a O,
+    processes: usize,
+    most: usize,
+    keys: RandomState,
+}
+
+/// What a search of the first events comes to.
+fn front_answer<O: Object>(question: &Question<O>, count: usize) -> Result<Answer, NoMemory>
+    requires history { IsHistory (map event_of question.now.events.now) }
+    requires few { AreOfProcesses question.now.processes (map event_of question.now.events.now) }
+    requires within { count ≤ length question.now.events.now }
+    ensures { IfOk result (IsAnswer (O.effect question.now.object.now) (O.opening question.now.object.now) (take count (map event_of question.now.events.now)) question.now.processes question.now.most) }
+{
+    let alloc = question.alloc;
+    let processes = question.processes;
+    let events = &question.events[..count];
+    let rows = rows_of(alloc, events, processes)?;
+    let task = Task {
+        alloc,
+        events,
+        object: question.object,
+        rows: &rows,
+    };
+    search(&task, processes, question.most, question.keys)
+}
+
+/// One half of what is between a beginning that has a legal order and one that has none.
+fn halved<O: Object>(
+    question: &Question<O>,
+    legal: usize,
+    illegal: usize,
+) -> Result<Option<(usize, usize)>, NoMemory>
+    requires history { IsHistory (map event_of question.now.events.now) }
+    requires few { AreOfProcesses question.now.processes (map event_of question.now.events.now) }
+    requires between { IsBetween (O.effect question.now.object.now) (O.opening question.now.object.now) (map event_of question.now.events.now) legal illegal }
+    requires wide { 1 < illegal - legal }
+    ensures { IfOk result (λ found. MatchOption found (IsTooMuch (O.effect question.now.object.now) (O.opening question.now.object.now) (map event_of question.now.events.now) question.now.processes question.now.most)
+        (λ half. IsBetween (O.effect question.now.object.now) (O.opening question.now.object.now) (map event_of question.now.events.now) half.0 half.1 × (half.1 - half.0 < illegal - legal))) }
+{
+    let middle = legal + (illegal - legal) / 2;
+    match front_answer(question, middle)? {
+        Answer::Order(_) => Ok(Some((middle, illegal))),
+        Answer::NoOrder => Ok(Some((legal, middle))),
+        Answer::TooMany => Ok(None),
+    }
+}
+
+/// The largest number of first events that have a legal order, by halving, where all have none.
+fn last_legal<O: Object>(question: &Question<O>) -> Result<Option<usize>, NoMemory>
+    requires history { IsHistory (map event_of question.now.events.now) }
+    requires few { AreOfProcesses question.now.processes (map event_of question.now.events.now) }
+    requires none { ¬ HasLegal (O.effect question.now.object.now) (O.opening question.now.object.now) (map event_of question.now.events.now) }
+    ensures { IfOk result (λ found. MatchOption found (IsTooMuch (O.effect question.now.object.now) (O.opening question.now.object.now) (map event_of question.now.events.now) question.now.processes question.now.most)
+        (λ place. IsLastLegal (O.effect question.now.object.now) (O.opening question.now.object.now) (map event_of question.now.events.now) place)) }
+{
+    let mut legal = 0;
+    let mut illegal = question.events.len();
+    while illegal - legal > 1 {
+        let Some((more, less)) = halved(question, legal, illegal)? else {
+            return Ok(None);
+        };
+        legal = more;
+        illegal = less;
+    }
+    Ok(Some(legal))
+}
+
+/// The call that ends at a place.
+fn end_at(events: &[Event], place: usize) -> CallId
+    requires { (id : CallId) × (reply : Reply) × (slice_get (map event_of events.now) place ≡ Some (End id reply)) }
+    ensures { (reply : Reply) × (slice_get (map event_of events.now) place ≡ Some (End result reply)) }
+{
+    match events[place].seen() {
+        SeenEvent::End(id, _) => id,
+        _ => unreachable!(),
+    }
+}
+
+/// What is found of the events.
+fn verdict_of<O: Object>(question: &Question<O>) -> Result<Verdict, NoMemory>
+    requires history { IsHistory (map event_of question.now.events.now) }
+    requires few { AreOfProcesses question.now.processes (map event_of question.now.events.now) }
+    ensures verdict { IfOk result (IsVerdict (O.effect question.now.object.now) (O.opening question.now.object.now) (map event_of question.now.events.now) question.now.most) }
+    ensures decided { enough question.now.processes (length question.now.events.now) ≤ question.now.most → IfOk result (λ verdict. ¬ (verdict ≡ Verdicts.TooMany)) }
+{
+    match front_answer(question, question.events.len())? {
+        Answer::Order(order) => Ok(Verdict::Legal(order)),
+        Answer::TooMany => Ok(Verdict::TooMany),
+        Answer::NoOrder => match last_legal(question)? {
+            Some(place) => Ok(Verdict::Illegal(end_at(question.events, place), place)),
+            None => Ok(Verdict::TooMany),
+        },
+    }
+}
+
+/// A legal order of a history on an object, or the end with which it ceases to have one, where no more than so many
+/// configurations are to be looked at. Applied events are not looked at. The keys are those of the table of what was found.
+pub fn find_order<O: Object>(
+    alloc: Global,
+    history: &History,
+    object: &O,
+    most: usize,
+    keys: RandomState,
+) -> Result<Verdict, NoMemory>
+    ensures verdict { IfOk result (IsVerdict (O.effect object.now) (O.opening object.now) history.now most) }
+    // With enough configurations no history is left undecided.
+    ensures decided { (processes : ℕ) → AreOfProcesses processes history.now → enough processes (length history.now) ≤ most
+        → IfOk result (λ verdict. ¬ (verdict ≡ Verdicts.TooMany)) }
+{
+    let events = history.events();
+    // A row for each process would not fit into memory.
+    let Some(processes) = processes_of(events) else {
+        return Err(NoMemory);
+    };
+    let question = Question {
+        alloc,
+        events,
+        object,
+        processes,
+        most,
+        keys,
+    };
+    verdict_of(&question)
+}

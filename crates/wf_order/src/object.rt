@@ -1,0 +1,60 @@
+//! What a search asks of an object.
+
+use ob_interface::NoMemory;
+use ob_interface::call::Reply;
+use std::alloc::Global;
+use wf_history::{SeenCall, SeenReply};
+
+/// An object that is used by one call at a time. What a call does is determined by the state and the call.
+pub trait Object {
+    ghost use Rattle.std.specs.Prelude.{◌≡◌, ℕ, List, IfOk, IsTrue};
+    ghost use Rattle.ob_interface.specs.Call.{ObjectCall, Reply};
+    ghost use Rattle.ob_interface.specs.View.{reply_of};
+    ghost use Rattle.wf_history.specs.View.{seen_call, seen_reply};
+
+    /// How a state is kept.
+    type State: Drop;
+
+    // What a state stands for.
+    ghost Meaning: { Type 0 };
+
+    ghost meaning: { Self.State → Meaning };
+
+    // What it begins with.
+    ghost opening: { Self → Meaning };
+
+    // The call, made on the first state, leads to the second, with this reply.
+    ghost effect: { Self → ObjectCall → Meaning → Meaning → Reply → Type 0 };
+
+    // A state in words.
+    ghost words_of: { Meaning → List ℕ };
+
+    /// The state that the object begins with.
+    fn open(&self, alloc: Global) -> Result<Self::State, NoMemory>
+        ensures { IfOk result (λ state. meaning state ≡ opening self.now) };
+
+    /// What a call makes of a state, and what it answers.
+    fn apply(
+        &self,
+        alloc: Global,
+        state: &Self::State,
+        call: SeenCall,
+    ) -> Result<(Self::State, Reply), NoMemory>
+        ensures { IfOk result (λ made. effect self.now (seen_call call.entry) (meaning state.now) (meaning made.0) (reply_of made.1)) };
+
+    /// The state in words. No two states have the same ones.
+    fn words(&self, alloc: Global, state: &Self::State) -> Result<Vec<u64>, NoMemory>
+        ensures { IfOk result (λ words. words.items ≡ words_of (meaning state.now)) };
+
+    /// Whether a call leaves the state as it is, whatever the state, wherever it has this reply. Where it says no of a call
+    /// that does, a search takes longer, and answers as well.
+    fn is_silent(&self, call: SeenCall, reply: SeenReply) -> bool
+        ensures { IsTrue result → (before after : Meaning) → effect self.now (seen_call call.entry) before after (seen_reply reply.entry) → before ≡ after };
+
+    /// A call has one outcome.
+    ghost determined: { (object : Self) (call : ObjectCall) (before after other : Meaning) (reply answer : Reply)
+        → effect object call before after reply → effect object call before other answer → (after ≡ other) × (reply ≡ answer) };
+
+    /// States with the same words are the same.
+    ghost told_apart: { (a b : Meaning) → words_of a ≡ words_of b → a ≡ b };
+}

@@ -1,0 +1,198 @@
+//! The search of one history.
+
+ghost use Rattle.std.specs.Prelude.{◌≡◌, ◌<◌, ◌≤◌, ◌+◌, ◌++◌, ◌∷◌, ℕ, List, [], map, length, replicate, IfOk, IfSome, MatchOption, IsTrue, option_map, vec_len};
+ghost use Rattle.indexmap.specs.IndexSet.{index_set_len};
+ghost use Rattle.ob_interface.specs.Call.{ObjectCall, Reply};
+ghost use Rattle.wf_history.specs.declared.event.CallId.{CallId};
+ghost use Rattle.wf_history.specs.History.{Event};
+ghost use Rattle.wf_history.specs.Legal.{IsLegal};
+ghost use Rattle.wf_history.specs.View.{event_of};
+ghost use Rattle.wf_order.specs.Rows.{AreRows};
+ghost use Rattle.wf_order.specs.Search.{found_in, all_found, ids_of, AreWorded, IsWorded, IsArrival, IsSearch, IsAnswer, work};
+ghost use Rattle.wf_order.specs.Steps.{Configuration, IsTaken, start_at};
+
+use crate::behind::is_behind;
+use crate::object::Object;
+use crate::rows::limit_of;
+use crate::seen::{Found, Seen};
+use crate::step::{Here, Task, any_silent_step, step};
+use ob_interface::NoMemory;
+use std::alloc::Global;
+use std::hash::RandomState;
+use wf_history::CallId;
+
+/// A configuration on the way from the start, by its place: the process to be tried next, the call that was tried last, and
+/// the first place at which a call ends that is not taken there.
+#[derive(Clone, Copy)]
+pub(crate) struct Frame {
+    pub place: usize,
+    pub next: usize,
+    pub id: CallId,
+    pub limit: usize,
+}
+
+/// What a search comes to.
+#[derive(Drop)]
+pub(crate) enum Answer {
+    /// A legal order.
+    Order(Vec<CallId>),
+    /// There is none.
+    NoOrder,
+    /// More configurations were found than were to be looked at.
+    TooMany,
+}
+
+/// The calls that the frames are at.
+fn path_of(alloc: Global, stack: &[Frame]) -> Result<Vec<CallId>, NoMemory>
+    ensures { IfOk result (λ path. path.items ≡ ids_of stack.now) }
+{
+    Ok(stack.iter().map(|frame| frame.id).collect(alloc)?)
+}
+
+/// The last step leads to a configuration: the calls of the steps, where all that have ended are taken. Else the
+/// configuration is the next one to go on from, unless it was found before.
+fn arrive<O: Object>(
+    task: &Task<O>,
+    seen: &mut Seen<O::State>,
+    stack: &mut Vec<Frame>,
+    there: Found<O::State>,
+) -> Result<Option<Vec<CallId>>, NoMemory>
+    requires worded { AreWorded O.meaning O.words_of seen.old }
+    requires words { IsWorded O.meaning O.words_of there }
+    ensures arrival { (history : List (Event ObjectCall Reply)) → AreRows history (length there.counts.items) task.now.rows.now
+        → IfOk result (λ to. IsArrival (O.effect task.now.object.now) history (found_in O.meaning there) (all_found O.meaning seen.old) (all_found O.meaning seen.new) stack.old.items stack.new.items (option_map (λ path. path.items) to)) }
+    ensures worded { IfOk result (λ to. AreWorded O.meaning O.words_of seen.new) }
+    ensures one_more { IfOk result (λ to. index_set_len seen.new ≤ index_set_len seen.old + 1) }
+{
+    let limit = limit_of(task.rows, &there.counts);
+    if limit >= task.rows.events {
+        return Ok(Some(path_of(task.alloc, stack)?));
+    }
+    let place = seen.len();
+    if !seen.insert(there)? {
+        return Ok(None);
+    }
+    let id = CallId::default();
+    stack.push(Frame {
+        place,
+        next: 0,
+        id,
+        limit,
+    })?;
+    Ok(None)
+}
+
+/// Tries a silent call or else the next process of the frame that was on top of the stack: a legal order, if one is found.
+fn advance<O: Object>(
+    task: &Task<O>,
+    processes: usize,
+    seen: &mut Seen<O::State>,
+    stack: &mut Vec<Frame>,
+    frame: Frame,
+) -> Result<Option<Vec<CallId>>, NoMemory>
+    requires place { frame.place < index_set_len seen.old }
+    requires worded { AreWorded O.meaning O.words_of seen.old }
+    ensures search { (history : List (Event ObjectCall Reply)) (start : Configuration O.Meaning) → AreRows history processes task.now.rows.now
+        → IsSearch (O.effect task.now.object.now) history processes start (all_found O.meaning seen.old) (stack.old.items ++ frame ∷ [])
+        → IfOk result (λ to. MatchOption to
+        (IsSearch (O.effect task.now.object.now) history processes start (all_found O.meaning seen.new) stack.new.items
+        × (work processes task.now.rows.now (all_found O.meaning seen.new) stack.new.items < work processes task.now.rows.now (all_found O.meaning seen.old) (stack.old.items ++ frame ∷ [])))
+        (λ order. ((id : CallId) → ¬ IsTaken start.counts id) → (last : O.Meaning) × IsLegal (O.effect task.now.object.now) start.state history order.items last)) }
+    ensures worded { IfOk result (λ to. AreWorded O.meaning O.words_of seen.new) }
+    ensures one_more { IfOk result (λ to. index_set_len seen.new ≤ index_set_len seen.old + 1) }
+{
+    if frame.next >= processes {
+        return Ok(None);
+    }
+    let place = frame.place;
+    let limit = frame.limit;
+    let here = Here {
+        found: &seen[place],
+        limit,
+    };
+    if frame.next == 0 {
+        // A silent call is taken at once, and nothing else is tried here.
+        if let Some((id, there)) = any_silent_step(task, &here)? {
+            let next = processes;
+            stack.push(Frame {
+                place,
+                next,
+                id,
+                limit,
+            })?;
+            return arrive(task, seen, stack, there);
+        }
+    }
+    let next = frame.next + 1;
+    let id = frame.id;
+    if is_behind(task, &here, frame.next)? {
+        stack.push(Frame {
+            place,
+            next,
+            id,
+            limit,
+        })?;
+        return Ok(None);
+    }
+    let Some((id, there)) = step(task, &here, frame.next)? else {
+        stack.push(Frame {
+            place,
+            next,
+            id,
+            limit,
+        })?;
+        return Ok(None);
+    };
+    stack.push(Frame {
+        place,
+        next,
+        id,
+        limit,
+    })?;
+    arrive(task, seen, stack, there)
+}
+
+/// The configuration in which no call of so many processes is taken.
+fn start_of<O: Object>(task: &Task<O>, processes: usize) -> Result<Found<O::State>, NoMemory>
+    ensures start { IfOk result (λ start. found_in O.meaning start ≡ start_at processes (O.opening task.now.object.now)) }
+    ensures words { IfOk result (λ start. IsWorded O.meaning O.words_of start) }
+{
+    let alloc = task.alloc;
+    let counts = vec![in alloc; 0; processes]?;
+    let state = task.object.open(alloc)?;
+    let words = task.object.words(alloc, &state)?;
+    Ok(Found {
+        counts,
+        words,
+        state,
+    })
+}
+
+/// A legal order of a history whose calls stand in these rows, if there is one, where no more than so many configurations
+/// are to be looked at.
+pub(crate) fn search<O: Object>(
+    task: &Task<O>,
+    processes: usize,
+    most: usize,
+    keys: RandomState,
+) -> Result<Answer, NoMemory>
+    requires { AreRows (map event_of task.now.events.now) processes task.now.rows.now }
+    ensures { IfOk result (IsAnswer (O.effect task.now.object.now) (O.opening task.now.object.now) (map event_of task.now.events.now) processes most) }
+{
+    let alloc = task.alloc;
+    let mut seen = Seen::with_hasher(alloc, keys);
+    let mut stack = Vec::new(alloc);
+    let start = start_of(task, processes)?;
+    if let Some(order) = arrive(task, &mut seen, &mut stack, start)? {
+        return Ok(Answer::Order(order));
+    }
+    while let Some(frame) = stack.pop() {
+        if seen.len() > most {
+            return Ok(Answer::TooMany);
+        }
+        if let Some(order) = advance(task, processes, &mut seen, &mut stack, frame)? {
+            return Ok(Answer::Order(order));
+        }
+    }
+    Ok(Answer::NoOrder)
+}

@@ -1,0 +1,23 @@
+//! The configurations that a search has found.
+
+ghost use Rattle.std.specs.Prelude.{◌≡◌, ◌<◌, ◌≤◌, ◌+◌, ◌++◌, ◌∷◌, [], map, length, Contains, IfOk, OnOk, IsTrue};
+ghost use Rattle.wf_order.specs.Search.{found_in, all_found, AreWorded, IsWorded};
+
+use crate::object::Object;
+use indexmap::IndexSet;
+use ob_interface::NoMemory;
+use std::alloc::Global;
+use std::hash::RandomState;
+
+/// How many calls of each process are taken, and the state that they lead to, also in words.
+#[derive(Drop)]
+#[derive_where(PartialEq, Eq, Hash)]
+pub(crate) struct Found<S> {
+    pub counts: Vec<usize>,
+    pub words: Vec<u64>,
+    #[derive_where(skip(EqHashOrd))]
+    pub state: S,
+}
+
+/// Configurations in the order in which they were found.
+pub(crate) type Seen<S> = IndexSet<Found<S>, RandomState>;
