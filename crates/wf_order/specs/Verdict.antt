@@ -1,5 +1,5 @@
 -- What is found of a history.
-use Rattle.std.specs.Prelude.{◌≡◌, ℕ, ◌+◌, ◌<◌, ◌≤◌, ◌^◌, List, [], ◌∷◌, length, take, slice_get, Some, Contains}
+use Rattle.std.specs.Prelude.{◌≡◌, ℕ, ◌+◌, ◌-◌, ◌<◌, ◌≤◌, ◌^◌, List, [], ◌∷◌, length, take, slice_get, Option, Some, MatchOption, Contains}
 use Rattle.ob_interface.specs.Call.{ObjectCall, Reply}
 use Rattle.wf_history.specs.declared.event.CallId.{CallId}
 use Rattle.wf_history.specs.History.{Event, End}
@@ -52,6 +52,17 @@ enough processes events = (processes + 2) ^ (events + 1)
 -- a beginning has more configurations than the most that were to be looked at, and they were not enough
 abbrev pub IsTooMuch : {M : Type 0} → (ObjectCall → M → M → Reply → Type 0) → M → List (Event ObjectCall Reply) → (processes most : ℕ) → Type 0
 IsTooMuch Effect opening history processes most = HasMoreFront Effect opening history processes most × (most < enough processes (length history))
+
+-- of a beginning that has a legal order and a later one that has none, this far apart: two that are nearer, or too much was to be looked at
+abbrev pub IsHalved : {M : Type 0} → (ObjectCall → M → M → Reply → Type 0) → M → List (Event ObjectCall Reply) → (processes most distance : ℕ) → Option (ℕ × ℕ) → Type 0
+IsHalved Effect opening history processes most distance half =
+    MatchOption half (IsTooMuch Effect opening history processes most)
+    (λ h. IsBetween Effect opening history h.0 h.1 × (h.1 - h.0 < distance))
+
+-- the place of the end with which there ceases to be a legal order, or too much was to be looked at
+abbrev pub IsLastFound : {M : Type 0} → (ObjectCall → M → M → Reply → Type 0) → M → List (Event ObjectCall Reply) → (processes most : ℕ) → Option ℕ → Type 0
+IsLastFound Effect opening history processes most place =
+    MatchOption place (IsTooMuch Effect opening history processes most) (λ k. IsLastLegal Effect opening history k)
 
 -- A legal order; or the end with which there ceases to be one; or that some beginning of the history has more configurations
 -- than the most that were to be looked at.

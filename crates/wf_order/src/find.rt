@@ -1,13 +1,13 @@
 //! A legal order of a history, or where it ceases to have one.
 
-ghost use Rattle.std.specs.Prelude.{◌≡◌, ◌<◌, ◌≤◌, ◌-◌, ℕ, List, map, length, take, Some, IfOk, MatchOption, slice_get};
+ghost use Rattle.std.specs.Prelude.{◌≡◌, ◌<◌, ◌≤◌, ◌-◌, ℕ, List, map, length, take, Some, IfOk, slice_get};
 ghost use Rattle.ob_interface.specs.Call.{ObjectCall, Reply};
 ghost use Rattle.wf_history.specs.History.{Event as AnyEvent, End, IsHistory};
 ghost use Rattle.wf_history.specs.View.{event_of};
 ghost use Rattle.wf_order.specs.declared.find.Verdict.TheVariants as Verdicts;
 ghost use Rattle.wf_order.specs.Rows.{AreOfProcesses};
 ghost use Rattle.wf_order.specs.Search.{IsAnswer};
-ghost use Rattle.wf_order.specs.Verdict.{HasLegal, IsBetween, IsLastLegal, IsTooMuch, IsVerdict, enough};
+ghost use Rattle.wf_order.specs.Verdict.{HasLegal, IsBetween, IsHalved, IsLastFound, IsVerdict, enough};
 
 use crate::object::Object;
 use crate::rows::{processes_of, rows_of};
@@ -46,7 +46,8 @@ fn front_answer<O: Object>(question: &Question<O>, count: usize) -> Result<Answe
     requires history { IsHistory (map event_of question.now.events.now) }
     requires few { AreOfProcesses question.now.processes (map event_of question.now.events.now) }
     requires within { count ≤ length question.now.events.now }
-    ensures { IfOk result (IsAnswer (O.effect question.now.object.now) (O.opening question.now.object.now) (take count (map event_of question.now.events.now)) question.now.processes question.now.most) }
+    ensures { IfOk result (IsAnswer (O.effect question.now.object.now) (O.opening question.now.object.now)
+        (take count (map event_of question.now.events.now)) question.now.processes question.now.most) }
 {
     let alloc = question.alloc;
     let processes = question.processes;
@@ -71,8 +72,8 @@ fn halved<O: Object>(
     requires few { AreOfProcesses question.now.processes (map event_of question.now.events.now) }
     requires between { IsBetween (O.effect question.now.object.now) (O.opening question.now.object.now) (map event_of question.now.events.now) legal illegal }
     requires wide { 1 < illegal - legal }
-    ensures { IfOk result (λ found. MatchOption found (IsTooMuch (O.effect question.now.object.now) (O.opening question.now.object.now) (map event_of question.now.events.now) question.now.processes question.now.most)
-        (λ half. IsBetween (O.effect question.now.object.now) (O.opening question.now.object.now) (map event_of question.now.events.now) half.0 half.1 × (half.1 - half.0 < illegal - legal))) }
+    ensures { IfOk result (IsHalved (O.effect question.now.object.now) (O.opening question.now.object.now)
+        (map event_of question.now.events.now) question.now.processes question.now.most (illegal - legal)) }
 {
     let middle = legal + (illegal - legal) / 2;
     match front_answer(question, middle)? {
@@ -87,8 +88,8 @@ fn last_legal<O: Object>(question: &Question<O>) -> Result<Option<usize>, NoMemo
     requires history { IsHistory (map event_of question.now.events.now) }
     requires few { AreOfProcesses question.now.processes (map event_of question.now.events.now) }
     requires none { ¬ HasLegal (O.effect question.now.object.now) (O.opening question.now.object.now) (map event_of question.now.events.now) }
-    ensures { IfOk result (λ found. MatchOption found (IsTooMuch (O.effect question.now.object.now) (O.opening question.now.object.now) (map event_of question.now.events.now) question.now.processes question.now.most)
-        (λ place. IsLastLegal (O.effect question.now.object.now) (O.opening question.now.object.now) (map event_of question.now.events.now) place)) }
+    ensures { IfOk result (IsLastFound (O.effect question.now.object.now) (O.opening question.now.object.now)
+        (map event_of question.now.events.now) question.now.processes question.now.most) }
 {
     let mut legal = 0;
     let mut illegal = question.events.len();

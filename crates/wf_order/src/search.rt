@@ -60,7 +60,8 @@ fn arrive<O: Object>(
     requires worded { AreWorded O.meaning O.words_of seen.old }
     requires words { IsWorded O.meaning O.words_of there }
     ensures arrival { (history : List (Event ObjectCall Reply)) → AreRows history (length there.counts.items) task.now.rows.now
-        → IfOk result (λ to. IsArrival (O.effect task.now.object.now) history (found_in O.meaning there) (all_found O.meaning seen.old) (all_found O.meaning seen.new) stack.old.items stack.new.items (option_map (λ path. path.items) to)) }
+        → IfOk result (λ to. IsArrival (O.effect task.now.object.now) history (found_in O.meaning there)
+        (all_found O.meaning seen.old) (all_found O.meaning seen.new) stack.old.items stack.new.items (option_map (λ path. path.items) to)) }
     ensures worded { IfOk result (λ to. AreWorded O.meaning O.words_of seen.new) }
     ensures one_more { IfOk result (λ to. index_set_len seen.new ≤ index_set_len seen.old + 1) }
 {
