@@ -121,6 +121,19 @@ module _ (types : List Given.Entry) where
       at_drop_more (λ ys. procedures_size (left_of ys)) ps i p here ∙ ap (λ y. procedures_size (left_of (y ∷ drop (i + 1) ps))) (sym is) in
       (λ small. omega (arith, size, counted, sum, so_far, step, small), λ large. omega (arith, size, counted, sum, so_far, step, large))
 
+  -- where there are no more of all, the next end is a place of code
+  pub end_fits : (frames : List Scope) (ps : List Procedure) (i : ℕ) (p : Procedure) (ss : List Statement) (end next inside : ℕ) →
+      frames ≡ map frame_scope (left_of ps) → i < length ps → p ≡ get_or ps i p → ss ≡ p.body.items →
+      inside ≡ min (Scheme.statements_size (scope_at frames i) (statements_in ss)) 18446744073709551615 → next ≡ min (inside + (end + 2)) 18446744073709551615 →
+      end + procedures_size (left_of (drop i ps)) ≡ procedures_size (left_of ps) → procedures_size (left_of ps) ≤ 65535 → next ≤ 65535
+  end_fits frames ps i p ss end next inside are here is items counted sum so_far few =
+      let q = procedure_of types p in
+      let size : Scheme.statements_size (scope_at frames i) (statements_in ss) ≡ Scheme.statements_size (frame_scope q) (statements_in p.body.items) =
+      ap (λ s. Scheme.statements_size s (statements_in ss)) (scope_found frames ps i p are here is) ∙ ap (λ xs. Scheme.statements_size (frame_scope q) (statements_in xs)) items in
+      let step : procedures_size (left_of (drop i ps)) ≡ Scheme.procedure_size q + procedures_size (left_of (drop (i + 1) ps)) =
+      at_drop_more (λ ys. procedures_size (left_of ys)) ps i p here ∙ ap (λ y. procedures_size (left_of (y ∷ drop (i + 1) ps))) (sym is) in
+      omega (arith, size, counted, sum, so_far, step, few)
+
   pub entries_end : (places all : List ℕ) (ps : List Procedure) (i end : ℕ) → length ps ≤ i → places ++ Scheme.entries_from end (left_of (drop i ps)) ≡ all → places ≡ all
   entries_end places all ps i end past so_far =
       sym (append-nil places) ∙ sym (at_drop_all (λ ys. places ++ Scheme.entries_from end (left_of ys)) ps i past) ∙ so_far
@@ -159,6 +172,9 @@ code_fits p h = let long = procedures_long (variables_scope p.variables) (Scheme
 
 pub code_is_long : (p : Program.Program) → 65535 < procedures_size p.procedures → 65535 < length (Scheme.code_of p).instructions
 code_is_long p h = let long = procedures_long (variables_scope p.variables) (Scheme.entry_of p.procedures) 0 p.procedures in omega (arith, long, h)
+
+pub procedures_fit : (p : Program.Program) → length (Scheme.code_of p).instructions ≤ 65535 → procedures_size p.procedures ≤ 65535
+procedures_fit p h = let long = procedures_long (variables_scope p.variables) (Scheme.entry_of p.procedures) 0 p.procedures in omega (arith, long, h)
 
 -- the code of a program, from that of its procedures by these entries
 pub code_made : (c : CodeParts) (e : Entries) (p q : Program.Program) (variables : List Program.Variable) →

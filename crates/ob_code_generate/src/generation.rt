@@ -1,6 +1,6 @@
 //! The code of a checked program.
 
-ghost use Rattle.std.specs.Prelude.{◌≡◌, ◌<◌, ◌≤◌, IfOk, OnOk, length, map};
+ghost use Rattle.std.specs.Prelude.{◌≡◌, ◌<◌, ◌≤◌, ◌↔◌, Err, IfOk, IsFalse, IsTrue, OnOk, length, map};
 ghost use Rattle.ob_code_scheme.specs.Scheme as Scheme;
 ghost use Rattle.ob_code_scheme.specs.Types as Sizes;
 ghost use Rattle.ob_checked.specs.CheckedModule.{program_in};
@@ -63,13 +63,33 @@ fn put_procedures(
     Ok(code)
 }
 
-/// Where the procedures begin: behind those before them. G1 where there are more instructions than code can have.
-fn entries_of(alloc: Global, program: &Program, layout: &Layout) -> Result<Entries, CodeFault>
+/// Whether there are more instructions than code can have. That takes no memory.
+fn is_too_long(program: &Program, layout: &Layout) -> bool
     requires { (parts_of layout.now).frames ≡ map Sizes.frame_scope (program_of program.now).procedures }
+    ensures yes { IsTrue result → 65535 < length (Scheme.code_of (program_of program.now)).instructions }
+    ensures no { IsFalse result → length (Scheme.code_of (program_of program.now)).instructions ≤ 65535 }
+{
+    let mut end: usize = 0;
+    for (number, procedure) in program.procedures.iter().enumerate() {
+        let scopes = Scopes {
+            layout,
+            procedure: number,
+        };
+        let inside = statements_size(&scopes, procedure.body.as_slice());
+        end = inside.saturating_add(end + 2);
+        if end > Code::LIMIT {
+            return true;
+        }
+    }
+    false
+}
+
+/// Where the procedures begin: behind those before them.
+fn entries_of(alloc: Global, program: &Program, layout: &Layout) -> Result<Entries, AllocError>
+    requires frames { (parts_of layout.now).frames ≡ map Sizes.frame_scope (program_of program.now).procedures }
+    requires fits { length (Scheme.code_of (program_of program.now)).instructions ≤ 65535 }
     ensures places { IfOk result (λ e. e.places.items ≡ Scheme.entries_from 0 (program_of program.now).procedures) }
     ensures end { IfOk result (λ e. e.end ≡ procedures_size (program_of program.now).procedures) }
-    ensures fits { OnOk result (length (Scheme.code_of (program_of program.now)).instructions ≤ 65535) }
-    ensures too_long { result ≡ Err CodeFault.TooLong → 65535 < length (Scheme.code_of (program_of program.now)).instructions }
 {
     let mut places = Vec::new(alloc);
     let mut end: usize = 0;
@@ -81,9 +101,6 @@ fn entries_of(alloc: Global, program: &Program, layout: &Layout) -> Result<Entri
         places.push(end)?;
         let inside = statements_size(&scopes, procedure.body.as_slice());
         end = inside.saturating_add(end + 2);
-        if end > Code::LIMIT {
-            return Err(CodeFault::TooLong);
-        }
     }
     Ok(Entries { places, end })
 }
@@ -93,12 +110,15 @@ fn entries_of(alloc: Global, program: &Program, layout: &Layout) -> Result<Entri
 pub fn generate(alloc: Global, checked: &Checked, layout: &Layout) -> Result<Code, CodeFault>
     requires { parts_of layout.now ≡ layout_of (program_in checked.now) }
     ensures code { IfOk result (λ c. c ≡ Scheme.code_of (program_in checked.now)) }
-    // Want of memory aside, G1 comes exactly where there are more instructions than code can have.
     ensures fits { OnOk result (length (Scheme.code_of (program_in checked.now)).instructions ≤ 65535) }
-    ensures too_long { result ≡ Err CodeFault.TooLong → 65535 < length (Scheme.code_of (program_in checked.now)).instructions }
+    // G1 comes exactly where there are more instructions than code can have; so memory wants only where there are not.
+    ensures too_long { (result ≡ Err CodeFault.TooLong) ↔ (65535 < length (Scheme.code_of (program_in checked.now)).instructions) }
 {
     checked_is_well_formed(checked);
     let program = checked.program();
+    if is_too_long(program, layout) {
+        return Err(CodeFault::TooLong);
+    }
     let entries = entries_of(alloc, program, layout)?;
     Ok(put_procedures(alloc, program, layout, &entries)?)
 }

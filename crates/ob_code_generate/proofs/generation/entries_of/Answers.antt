@@ -3,7 +3,7 @@ use Rattle.ob_code_scheme.specs.Types.{frame_scope}
 use Rattle.ob_checked.specs.View.{table_of, program_of}
 use Rattle.ob_code_layout.specs.Layout.{parts_of}
 use Rattle.ob_code_generate.specs.Entering.{procedures_size}
-use Rattle.ob_code_generate.proofs.Procedures.{left_of, entries_go, end_goes, end_ends, code_fits, code_is_long}
+use Rattle.ob_code_generate.proofs.Procedures.{left_of, entries_go, end_goes, end_fits, procedures_fit}
 use Rattle.ob_code_generate.proofs.generation.entries_of.Goals as goal
 
 pub loop-number-preserved : goal.loop-number-preserved
@@ -11,11 +11,13 @@ loop-number-preserved c =
     let types = table_of c.args.program.now.types in
     let frames = (parts_of c.args.layout.now).frames in
     let items = c.deref-procedure-items.result.now in
-    let are = c.requires ∙ ap (λ ps. map frame_scope (left_of types ps)) (sym c.deref-procedure-items.ensures.value) in
+    let are = c.requires.frames ∙ ap (λ ps. map frame_scope (left_of types ps)) (sym c.deref-procedure-items.ensures.value) in
     let i = c.loop-number.number in
     let p = c.procedure-item.result in
     let so_far = c.loop-number.invariant in
-    let small = c.if-end-gt-LIMIT.false in
+    let few = subst (λ ps. procedures_size (left_of types ps) ≤ 65535) (sym c.deref-procedure-items.ensures.value) (procedures_fit (program_of c.args.program.now) c.requires.fits) in
+    let small = end_fits types frames items i p c.as_slice.result.now c.loop-number.end c.saturating_add-end.result c.statements_size-inside.result
+    are c.loop-number-test.true c.procedure-item.is c.as_slice.ensures.value c.statements_size-inside.ensures c.saturating_add-end.ensures so_far.end_so_far few in
     record {
       places_so_far = entries_go types _ _ _ frames items i p c.as_slice.result.now c.loop-number.end c.saturating_add-end.result c.statements_size-inside.result
           are c.loop-number-test.true c.procedure-item.is c.as_slice.ensures.value c.statements_size-inside.ensures c.saturating_add-end.ensures
@@ -24,21 +26,3 @@ loop-number-preserved c =
           are c.loop-number-test.true c.procedure-item.is c.as_slice.ensures.value c.statements_size-inside.ensures c.saturating_add-end.ensures so_far.end_so_far).0 small;
       fits = small;
     }
-
-pub returns-then-end-gt-LIMIT-clause-too_long : goal.returns-then-end-gt-LIMIT-clause-too_long
-returns-then-end-gt-LIMIT-clause-too_long c e =
-    let types = table_of c.args.program.now.types in
-    let frames = (parts_of c.args.layout.now).frames in
-    let items = c.deref-procedure-items.result.now in
-    let are = c.requires ∙ ap (λ ps. map frame_scope (left_of types ps)) (sym c.deref-procedure-items.ensures.value) in
-    let long = (end_goes types frames items c.loop-number.number c.procedure-item.result c.as_slice.result.now c.loop-number.end c.saturating_add-end.result c.statements_size-inside.result
-    are c.loop-number-test.true c.procedure-item.is c.as_slice.ensures.value c.statements_size-inside.ensures c.saturating_add-end.ensures c.loop-number.invariant.end_so_far).1 c.if-end-gt-LIMIT.true in
-    code_is_long (program_of c.args.program.now) (subst (λ ps. 65535 < procedures_size (left_of types ps)) c.deref-procedure-items.ensures.value long)
-
-pub returns-clause-fits : goal.returns-clause-fits
-returns-clause-fits c =
-    let types = table_of c.args.program.now.types in
-    let items = c.deref-procedure-items.result.now in
-    let same = end_ends types items c.loop-number.number c.loop-number.end _ c.loop-number-test.false c.loop-number.invariant.end_so_far in
-    let small = subst (λ n. n ≤ 65535) same c.loop-number.invariant.fits in
-    code_fits (program_of c.args.program.now) (subst (λ ps. procedures_size (left_of types ps) ≤ 65535) c.deref-procedure-items.ensures.value small)

@@ -20,7 +20,7 @@ put_procedures-requires-clause-limits c =
     let variables = ap (λ (l : LayoutParts). l.variables) c.requires in
     let made = code_made (code_by (block_in c.args.layout.now) (entry_in entries) program.procedures) entries program checked layout.variables
     refl refl c.in_ok-entries.ensures.places c.in_ok-entries.ensures.end variables c.program-program.ensures.program in
-    let short = subst (λ p. length (code_of p).instructions ≤ 65535) c.program-program.ensures.program c.in_ok-entries.ensures.fits in
+    let short = subst (λ p. length (code_of p).instructions ≤ 65535) c.program-program.ensures.program (c.is_too_long.ensures.no c.if-is_too_long.false) in
     ∥∥₁_elim c.checked_is_well_formed.ensures (hlevel props) (λ fine. within _ (code_of checked) made (code_within checked fine short))
 
 pub returns-clause-code : goal.returns-clause-code
@@ -31,4 +31,4 @@ returns-clause-code c =
 
 pub returns-clause-fits : goal.returns-clause-fits
 returns-clause-fits c =
-    subst (λ p. length (code_of p).instructions ≤ 65535) c.program-program.ensures.program c.in_ok-entries.ensures.fits
+    subst (λ p. length (code_of p).instructions ≤ 65535) c.program-program.ensures.program (c.is_too_long.ensures.no c.if-is_too_long.false)
