@@ -2,6 +2,7 @@
 #![tactic(auto)]
 
 pub use ob_interface::scalar::Scalar;
+pub use ob_interpreter::call::{Call, Reply};
 pub use ob_interpreter::object::interpret;
 pub use ob_interpreter::opening::{OpenFault, opening};
 pub use ob_interpreter::sequence::{SeqFault, sequence};

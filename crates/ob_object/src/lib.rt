@@ -3,11 +3,14 @@
 
 pub use ob_carry::carrying::{CarryFault, carry};
 pub use ob_carry::named::{NamedField, NamedValue};
+pub use ob_code_engine::CodeEngine;
+pub use ob_interface::call::{Call, Reply};
 pub use ob_object_compile::{
     Asked, Beginning, CompileFault, Object, TreeObject, compile, compile_asked, compile_from,
     compile_tree, list_text,
 };
 pub use ob_object_draw::{DrawRecordFault, draw_record_text};
+pub use ob_object_order::{OrderFault, check_order};
 pub use ob_object_perform::{
     DrawFault, PerformFault, Texts, draw_text, perform, perform_from, run_text,
 };

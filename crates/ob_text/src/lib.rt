@@ -4,6 +4,6 @@
 pub use ob_object_record::Record;
 pub use ob_schedule::{Item, ScheduleFault, read_schedule};
 pub use ob_text_record::write_record;
-pub use ob_text_record_reading::{RecordFault, read_record};
+pub use ob_text_record_reading::{ReadRecord, RecordFault, read_record};
 pub use ob_text_scripts::{ScriptFault, Scripts, read_scripts};
 pub use ob_text_values_reading::{ValuesFault, read_values};

@@ -12,7 +12,7 @@ use Rattle.wf_history.specs.declared.event.CallId.{CallId}
 use Rattle.wf_history.specs.History.{Event, Begin, Applied, End}
 use Rattle.ob_text_record_reading.proofs.Ids.{id_below}
 
-all_first : (P : Line → Type 0) (xs : List Line) (x : Line) (ys : List Line) → All P (xs ++ x ∷ ys) → P x
+pub all_first : (P : Line → Type 0) (xs : List Line) (x : Line) (ys : List Line) → All P (xs ++ x ∷ ys) → P x
 all_first P [] x ys h = h 0 x (omega arith)
 all_first P (y ∷ xs) x ys h = all_first P xs x ys (λ i d within. let next : i + 1 ≡ suc i = omega arith in rw next at (h (i + 1) d (omega arith)))
 

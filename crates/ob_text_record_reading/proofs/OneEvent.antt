@@ -27,7 +27,7 @@ first_byte [] = 0
 first_byte ([] ∷ ws) = 0
 first_byte ((b ∷ word) ∷ ws) = b
 
-abbrev first_word : List Word → Word
+abbrev pub first_word : List Word → Word
 first_word [] = []
 first_word (w ∷ ws) = w
 
@@ -44,7 +44,7 @@ one_count h k =
     count_parts : {line : Line} {m : ℕ} → IsCount line m → (number : Word) × (line ≡ codes "n" ∷ number ∷ []) × IsNumeral number m
     count_parts (Lines.count {number = number} h low high) = (number, refl, h)
 
-budget_parts : {line : Line} {m : ℕ} → IsBudget line m → (number : Word) × (line ≡ codes "b" ∷ number ∷ []) × IsNumeral number m × (m ≤ most_turns)
+pub budget_parts : {line : Line} {m : ℕ} → IsBudget line m → (number : Word) × (line ≡ codes "b" ∷ number ∷ []) × IsNumeral number m × (m ≤ most_turns)
 budget_parts (Lines.budget {number = number} h high) = (number, refl, h, high)
 
 pub one_budget : {line : Line} {a b : ℕ} → IsBudget line a → IsBudget line b → a ≡ b
@@ -62,7 +62,7 @@ budget_read ws None h = λ b k. let p = budget_parts k in h p.0 b (ap other_word
 budget_read ws (Some n) h = subst (λ (vs : List Word). IsBudget (codes "b" ∷ vs) n) (sym h.1) (Lines.budget h.2 h.4)
 
 -- an export with its number
-abbrev Numbered : Type 0
+abbrev pub Numbered : Type 0
 Numbered = ℕ × Signature
 
 -- what a reply is
@@ -113,29 +113,29 @@ one_reply h k =
 
 -- what a line of an event is
 pub record Begun (processes : ℕ) (signatures : List Signature) (line : Line) (e : Event ObjectCall Reply) : Type 0 where
-  word : Word
-  name : Word
-  rest : List Word
-  id : CallId
-  of : Numbered
-  arguments : List Scalar
-  line_is : line ≡ codes "B" ∷ word ∷ name ∷ rest
-  event_is : e ≡ Begin id (record { export = of.0; arguments = arguments })
-  names : IsId processes word id
-  found : export_named signatures name ≡ Some of
-  fit : AreValues (value_types of.1.formals) rest arguments
+  pub word : Word
+  pub name : Word
+  pub rest : List Word
+  pub id : CallId
+  pub of : Numbered
+  pub arguments : List Scalar
+  pub line_is : line ≡ codes "B" ∷ word ∷ name ∷ rest
+  pub event_is : e ≡ Begin id (record { export = of.0; arguments = arguments })
+  pub names : IsId processes word id
+  pub found : export_named signatures name ≡ Some of
+  pub fit : AreValues (value_types of.1.formals) rest arguments
 
 pub record Ended (processes : ℕ) (signatures : List Signature) (before : List (Event ObjectCall Reply)) (line : Line) (e : Event ObjectCall Reply) : Type 0 where
-  word : Word
-  rest : List Word
-  id : CallId
-  call : ObjectCall
-  reply : Reply
-  line_is : line ≡ codes "E" ∷ word ∷ rest
-  event_is : e ≡ End id reply
-  names : IsId processes word id
-  begun : slice_get (own_calls id.process before) (id.number - 1) ≡ Some call
-  replies : IsReply signatures call.export rest reply
+  pub word : Word
+  pub rest : List Word
+  pub id : CallId
+  pub call : ObjectCall
+  pub reply : Reply
+  pub line_is : line ≡ codes "E" ∷ word ∷ rest
+  pub event_is : e ≡ End id reply
+  pub names : IsId processes word id
+  pub begun : slice_get (own_calls id.process before) (id.number - 1) ≡ Some call
+  pub replies : IsReply signatures call.export rest reply
 
 pub event_parts : {processes : ℕ} {signatures : List Signature} {before : List (Event ObjectCall Reply)} {line : Line} {e : Event ObjectCall Reply} →
     IsEvent processes signatures before line e → Begun processes signatures line e ⊎ Ended processes signatures before line e
@@ -153,7 +153,7 @@ arguments_of e f h = rw (← e, ← f) h
 reply_of : {signatures : List Signature} {c d : ObjectCall} {ws vs : List Word} {r : Reply} → c ≡ d → ws ≡ vs → IsReply signatures c.export ws r → IsReply signatures d.export vs r
 reply_of e f h = rw (← e, ← f) h
 
-abbrev begin_event : CallId → ℕ → List Scalar → Event ObjectCall Reply
+abbrev pub begin_event : CallId → ℕ → List Scalar → Event ObjectCall Reply
 begin_event i export arguments = Begin i (record { export = export; arguments = arguments })
 
 same_begin : (i j : CallId) (m n : ℕ) (xs ys : List Scalar) → i ≡ j → m ≡ n → xs ≡ ys → begin_event i m xs ≡ begin_event j n ys
@@ -193,10 +193,10 @@ module _ (processes : ℕ) (signatures : List Signature) (before : List (Event O
         ]
       ]
 
-  applied_byte : {line : Line} → IsApplied processes line → first_byte line ≡ 65
+  pub applied_byte : {line : Line} → IsApplied processes line → first_byte line ≡ 65
   applied_byte (Lines.applied h) = refl
 
-  order_byte : {line : Line} {ids : List CallId} → IsOrder processes line ids → first_byte line ≡ 79
+  pub order_byte : {line : Line} {ids : List CallId} → IsOrder processes line ids → first_byte line ≡ 79
   order_byte (Lines.order h) = refl
 
   pub event_not_applied : {line : Line} {e : Event ObjectCall Reply} → IsEvent processes signatures before line e → IsApplied processes line → ⊥

@@ -20,10 +20,10 @@ pub one_opening : {variable : Variable} {line : Line} {a b : Value} → IsOpenin
 one_opening {variable} {line} {a} {b} h k =
     one_place variable.type h.entry.value a b h.same (subst (λ (e : Entry). SameValue variable.type e.value b) (one_line k.says h.says) k.same)
 
-first_of : {X : Type 0} {x y : X} {xs ys : List X} → x ∷ xs ≡ y ∷ ys → x ≡ y
+pub first_of : {X : Type 0} {x y : X} {xs ys : List X} → x ∷ xs ≡ y ∷ ys → x ≡ y
 first_of e = cc
 
-rest_of : {X : Type 0} {x y : X} {xs ys : List X} → x ∷ xs ≡ y ∷ ys → xs ≡ ys
+pub rest_of : {X : Type 0} {x y : X} {xs ys : List X} → x ∷ xs ≡ y ∷ ys → xs ≡ ys
 rest_of e = cc
 
 -- openings of the same variables at the beginning of the same lines

@@ -10,7 +10,7 @@ use Rattle.wf_history.specs.History.{Event}
 use Rattle.ob_text_record_reading.proofs.LineRuns.{AreEvents, applied, event, joined, no_tails, nothing}
 use Rattle.ob_text_record_reading.proofs.Faults.{fails_behind_order, fails_here, fails_missing, told_here}
 
-all_push : {X : Type 0} (P : X → Type 0) (xs : List X) (x : X) → All P xs → P x → All P (xs ++ x ∷ [])
+pub all_push : {X : Type 0} (P : X → Type 0) (xs : List X) (x : X) → All P xs → P x → All P (xs ++ x ∷ [])
 all_push P [] x h own zero d within = own
 all_push P [] x h own (suc k) d within = absurd (omega arith)
 all_push P (y ∷ xs) x h own zero d within = h 0 d (omega arith)

@@ -22,7 +22,7 @@ pub(crate) struct Seat {
 
 /// The events so far, and where each process stands.
 #[derive(Drop)]
-pub(crate) struct Calls {
+pub struct Calls {
     seats: Vec<Seat>,
     history: History,
 }
@@ -40,7 +40,7 @@ impl Model for Calls {
 
 impl Calls {
     /// No events yet.
-    pub(crate) fn new(alloc: Global, processes: usize) -> Result<Calls, AllocError>
+    pub fn new(alloc: Global, processes: usize) -> Result<Calls, AllocError>
         ensures { IfOk result (λ c. (c.processes ≡ processes) × (c.events ≡ [])) }
     {
         let seat = Seat {
@@ -54,14 +54,14 @@ impl Calls {
     }
 
     /// How many processes there are.
-    pub(crate) fn processes(&self) -> usize
+    pub fn processes(&self) -> usize
         ensures { result ≡ self.now.processes }
     {
         self.seats.len()
     }
 
     /// Whether a call of this name may begin next.
-    pub(crate) fn may_begin(&self, id: CallId) -> bool
+    pub fn may_begin(&self, id: CallId) -> bool
         requires { id.process < self.now.processes }
         ensures { (call : Object.ObjectCall) → IsTrue result ↔ IsHistory (self.now.events ++ Begin id call ∷ []) }
     {
@@ -73,7 +73,7 @@ impl Calls {
     }
 
     /// The export of the call of this name, where it may end next.
-    pub(crate) fn export_to_end(&self, id: CallId) -> Option<usize>
+    pub fn export_to_end(&self, id: CallId) -> Option<usize>
         requires { id.process < self.now.processes }
         ensures { MatchOption result
             ((reply : Object.Reply) → IsHistory (self.now.events ++ End id reply ∷ []) → ⊥)
@@ -89,7 +89,7 @@ impl Calls {
 
     /// The call begins.
     #[inline(always)]
-    pub(crate) fn begin(&mut self, id: CallId, call: KeptCall) -> Result<(), NoMemory>
+    pub fn begin(&mut self, id: CallId, call: KeptCall) -> Result<(), NoMemory>
         requires below { id.process < self.old.processes }
         requires next { IsHistory (self.old.events ++ Begin id (kept_call call) ∷ []) }
         ensures { OnOk result ((self.new.events ≡ self.old.events ++ Begin id (kept_call call) ∷ []) × (self.new.processes ≡ self.old.processes)) }
@@ -105,7 +105,7 @@ impl Calls {
 
     /// The call ends.
     #[inline(always)]
-    pub(crate) fn end(&mut self, id: CallId, reply: KeptReply) -> Result<(), NoMemory>
+    pub fn end(&mut self, id: CallId, reply: KeptReply) -> Result<(), NoMemory>
         requires below { id.process < self.old.processes }
         requires next { IsHistory (self.old.events ++ End id (kept_reply reply) ∷ []) }
         ensures { OnOk result ((self.new.events ≡ self.old.events ++ End id (kept_reply reply) ∷ []) × (self.new.processes ≡ self.old.processes)) }
@@ -119,7 +119,7 @@ impl Calls {
     }
 
     /// The events.
-    pub(crate) fn into_history(self) -> History
+    pub fn into_history(self) -> History
         ensures { result ≡ self.events }
     {
         self.history

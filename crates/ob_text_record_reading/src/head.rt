@@ -46,7 +46,7 @@ pub(crate) fn read_count(words: &[&[u8]]) -> Option<usize>
 }
 
 /// The budget of each call, from the line `b BUDGET`.
-pub(crate) fn read_budget(words: &[&[u8]]) -> Option<u64>
+pub fn read_budget(words: &[&[u8]]) -> Option<u64>
     ensures { MatchOption result
         ((b : ℕ) → IsBudget (map (λ w. w.now) words.now) b → ⊥)
         (λ b. IsBudget (map (λ w. w.now) words.now) b) }

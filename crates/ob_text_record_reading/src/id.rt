@@ -51,7 +51,7 @@ pub(crate) fn read_ids(
 }
 
 /// Whether the words of a line name calls.
-pub(crate) fn are_ids(processes: usize, line: &[u8]) -> bool
+pub fn are_ids(processes: usize, line: &[u8]) -> bool
     ensures yes { IsTrue result → (ids : List CallId) × AreIds processes (words line.now) ids }
     ensures no { IsFalse result → (ids : List CallId) → AreIds processes (words line.now) ids → ⊥ }
 {

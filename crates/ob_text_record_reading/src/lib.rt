@@ -1,16 +1,16 @@
 //! Records read back: what a run's text tells.
 #![tactic(auto)]
 
-mod calls;
+pub mod calls;
 mod front;
-mod head;
-mod id;
-mod line;
+pub mod head;
+pub mod id;
+pub mod line;
 mod number;
-mod opening;
+pub mod opening;
 pub mod reading;
-mod splitting;
-mod taking;
+pub mod splitting;
+pub mod taking;
 mod written;
 
 pub use reading::{ReadRecord, RecordFault, read_record};

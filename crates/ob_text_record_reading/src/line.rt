@@ -140,7 +140,7 @@ fn read_end<'a>(
 }
 
 /// The reply of an export's call: `done` and the values of its VAR parameters, or `trap` and a number.
-fn read_reply<'a>(
+pub fn read_reply<'a>(
     alloc: Global,
     exports: &[Export],
     proc: usize,
@@ -183,7 +183,7 @@ fn read_done<'a>(
 
 /// The values that a line says for the parameters of one mode, VAR or not; `None` where they don't fit. Its words are put in
 /// place of those that the list has.
-pub(crate) fn values_in<'a>(
+pub fn values_in<'a>(
     alloc: Global,
     formals: &[Formal],
     is_var: bool,
@@ -197,7 +197,7 @@ pub(crate) fn values_in<'a>(
 }
 
 /// The export of a number.
-pub(crate) fn export_at(exports: &[Export], number: usize) -> Option<&Export>
+pub fn export_at(exports: &[Export], number: usize) -> Option<&Export>
     ensures { option_map (λ e. signature_of e.now) result ≡ slice_get (map signature_of exports.now) number }
 {
     exports.get(number)

@@ -61,7 +61,7 @@ fn push_value(values: &mut Vec<Value>, value: Value) -> Result<(), AllocError>
 }
 
 /// The value of a variable that a line says.
-fn read_opening(
+pub fn read_opening(
     alloc: Global,
     types: &Types,
     variable: &Variable,

@@ -32,7 +32,7 @@ pub(crate) fn first_other(alloc: Global, behind: Option<&[u8]>) -> Result<Option
 }
 
 /// Whether the first byte of a line is `S` or `V`.
-fn is_tail_line(alloc: Global, line: &[u8]) -> Result<bool, AllocError>
+pub fn is_tail_line(alloc: Global, line: &[u8]) -> Result<bool, AllocError>
     ensures { IfOk result (λ tail. IsTrue tail ↔ IsTail (words line.now)) }
 {
     let words = words_of(alloc, line)?;
@@ -40,7 +40,7 @@ fn is_tail_line(alloc: Global, line: &[u8]) -> Result<bool, AllocError>
 }
 
 /// Whether the first byte of the first word is `S` or `V`.
-fn is_tail(words: &[&[u8]]) -> bool
+pub fn is_tail(words: &[&[u8]]) -> bool
     ensures { IsTrue result ↔ IsTail (map (λ w. w.now) words.now) }
 {
     let Some((first, _rest)) = words.split_first() else {

@@ -10,7 +10,7 @@ use wf_history::CallId;
 
 /// The call that the first word of a line names, by a process below `processes`, and what stands behind the word.
 #[inline(always)]
-pub(crate) fn take_id(processes: usize, line: &[u8]) -> Option<(CallId, &[u8])>
+pub fn take_id(processes: usize, line: &[u8]) -> Option<(CallId, &[u8])>
     ensures taken { MatchOption result (TakesNoId processes line.now) (λ r. TakesId processes line.now r.0 r.1.now) }
     ensures shorter { IfSome result (λ r. length r.1.now < length line.now) }
 {

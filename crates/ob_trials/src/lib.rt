@@ -1,5 +1,6 @@
 //! Tests of what no row of the program shows: tokens, printed texts, faults as people read them, a call on its own,
-//! the words of variables and their parts, and the record of a run over compiled code. Nothing stands on this crate.
+//! which exports only read, the words of variables and their parts, and the record of a run over compiled code. Nothing
+//! stands on this crate.
 #![tactic(auto)]
 
 #[cfg(test)]
@@ -12,6 +13,8 @@ mod layouts;
 mod nesting;
 #[cfg(test)]
 mod printing;
+#[cfg(test)]
+mod read_only;
 #[cfg(test)]
 mod runs;
 #[cfg(test)]
