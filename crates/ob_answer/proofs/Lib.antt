@@ -4,3 +4,4 @@ pub mod Made
 pub mod Shown
 pub mod FilesRead
 pub mod Begun
+pub mod AnswersToWords

@@ -6,6 +6,7 @@ use Rattle.ob_answer.specs.declared.files.FileFault.{FileFault}
 use Rattle.ob_fault_lines.specs.CompileFaultLines.{compile_line}
 use Rattle.ob_fault_lines.specs.DrawFaultLines.{draw_fault_line, draw_record_fault_line}
 use Rattle.ob_fault_lines.specs.RunFaultLines.{run_fault_line}
+use Rattle.ob_fault_lines.specs.SearchFaultLines.{search_fault_line}
 use Rattle.ob_fault_lines.specs.SequentialFaultLines.{seq_fault_line}
 use Rattle.ob_fault_lines.specs.ServeFaultLines.{serve_fault_line}
 use Rattle.ob_fault_lines.specs.VerifyFaultLines.{verify_fault_line}
@@ -19,13 +20,14 @@ use Rattle.ob_object_perform.specs.Pictured.{IsPicturePrinted}
 use Rattle.ob_object_perform.specs.Printed.{IsPrintedOf, IsRecordPrinted}
 use Rattle.ob_object_perform.specs.Texts.{Texts}
 use Rattle.ob_text_picture_chart.specs.declared.charts.CallRange.{CallRange}
+use Rattle.ob_object_search.specs.Searched.{IsLegalOrder}
 use Rattle.ob_object_sequence.specs.SequentialRun.{HasObject, IsSequentialRun}
 use Rattle.ob_object_spent.specs.Spent.{IsPrintedWithSteps}
 use Rattle.ob_object_tree.specs.TreeRuns.{IsPrintedOfCode}
 use Rattle.ob_object_verify.specs.Verified.{IsVerified}
-use Rattle.ob_command.specs.CommandLine.{CallsRequest, Request, RunRequest, Text, Check, Listing, Seq, Run, RunTree, RunSteps, Serve, Draw, DrawRecord, Verify}
+use Rattle.ob_command.specs.CommandLine.{CallsRequest, Request, RunRequest, Text, Check, Listing, Seq, Run, RunTree, RunSteps, Serve, Draw, DrawRecord, Verify, Order, request}
 use Rattle.ob_command.specs.CommandLine.{Explain, ExplainCalls, ExplainTraps, ExplainRun, ExplainRecord, Bound, Help, Version, Unclear}
-use Rattle.ob_command.specs.Commands.{calls_request_of, run_request_of}
+use Rattle.ob_command.specs.Commands.{IsMistakeTextOf, calls_request_of, run_request_of}
 use Rattle.ob_command.specs.declared.command.CallNumbers.{CallNumbers}
 use Rattle.ob_command.specs.declared.command.CallsCommand.{CallsCommand}
 use Rattle.ob_command.specs.declared.command.RunCommand.{RunCommand}
@@ -38,9 +40,11 @@ use Rattle.ob_answer.specs.CommandTexts.{CallsTexts, RunTexts, calls_texts, firs
 use Rattle.ob_answer.specs.Explains.{AreTrapsExplained, IsCallsExplained, IsModuleExplained, IsRecordExplained, IsRunExplained, IsValuesFaultTold}
 use Rattle.ob_answer.specs.Printed.{IsPrinted, IsPrintedBeside, IsRefused}
 use Rattle.ob_answer.specs.Reads.{IsOutcome, files_of_calls, files_of_run, record_in_calls, record_in_run}
+use Rattle.ob_text_record.specs.RecordText.{order_text}
+use Rattle.wf_history.specs.declared.event.CallId.{CallId}
 use Rattle.ob_answer.specs.declared.reading.CallsBytes.{CallsBytes}
 use Rattle.ob_answer.specs.declared.reading.RunBytes.{RunBytes}
-use Rattle.ob_answer.specs.Refusals.{RefusesCalls, RefusesObject, RefusesPicture, RefusesRecord, RefusesRecordPicture, RefusesRun, RefusesTreeRun, RefusesWorkers}
+use Rattle.ob_answer.specs.Refusals.{RefusesCalls, RefusesHistory, RefusesObject, RefusesPicture, RefusesRecord, RefusesRecordPicture, RefusesRun, RefusesTreeRun, RefusesWorkers}
 
 -- the program's name and version, and the kit that it is built with
 abbrev pub version_text : Text
@@ -130,6 +134,17 @@ abbrev pub IsVerifyAnswer : (module_bytes record_bytes : List ℕ) → Answer �
 IsVerifyAnswer module_bytes record_bytes =
     IsTextAnswer (SaysVerified module_bytes record_bytes) (RefusesRecord module_bytes record_bytes) verify_fault_line
 
+-- ---- of the bytes of a module and of a history, with a budget where one is given, by a look at so many configurations at most
+
+-- the line of a legal order
+abbrev pub SaysOrder : (module_bytes history_bytes : List ℕ) (budget : Option ℕ) → Text → Type 0
+SaysOrder module_bytes history_bytes budget text =
+    (order : List CallId) × IsLegalOrder module_bytes history_bytes budget order × (text ≡ order_text order)
+
+abbrev pub IsOrderAnswer : (module_bytes history_bytes : List ℕ) (budget : Option ℕ) (most : ℕ) → Answer → Type 0
+IsOrderAnswer module_bytes history_bytes budget most =
+    IsTextAnswer (SaysOrder module_bytes history_bytes budget) (RefusesHistory module_bytes history_bytes budget most) search_fault_line
+
 -- ---- of the files of a request
 
 -- what is printed of calls: their replies, or the record of workers that make them; or what is wrong is shown, or the traps of the calls are
@@ -191,6 +206,7 @@ files_of (Serve calls) = files_of_calls calls
 files_of (Draw run range) = files_of_run run
 files_of (DrawRecord module_name record_name range) = module_name ∷ record_name ∷ []
 files_of (Verify module_name record_name) = module_name ∷ record_name ∷ []
+files_of (Order module_name history_name budget most) = module_name ∷ history_name ∷ []
 files_of (Explain module_name budget) = module_name ∷ []
 files_of (ExplainCalls calls) = files_of_calls calls
 files_of (ExplainTraps calls) = files_of_calls calls
@@ -212,6 +228,8 @@ IsMade (Draw run range) bytes answer = IsRunMade (Products.Picture (range_of ran
 IsMade (DrawRecord module_name record_name range) (module_bytes ∷ record_bytes ∷ []) answer =
     IsRecordPictureAnswer (range_of range) module_bytes record_bytes answer
 IsMade (Verify module_name record_name) (module_bytes ∷ record_bytes ∷ []) answer = IsVerifyAnswer module_bytes record_bytes answer
+IsMade (Order module_name history_name budget most) (module_bytes ∷ history_bytes ∷ []) answer =
+    IsOrderAnswer module_bytes history_bytes budget most answer
 IsMade (Explain module_name budget) (module_bytes ∷ []) answer = IsModuleExplained module_name module_bytes answer
 IsMade (ExplainCalls calls) bytes answer = IsCallsMade CallsProducts.Explanation calls bytes answer
 IsMade (ExplainTraps calls) bytes answer = IsCallsMade CallsProducts.Traps calls bytes answer
@@ -223,6 +241,10 @@ IsMade Help [] answer = (text : Text) × IsPrinted answer text
 IsMade Version [] answer = IsPrinted answer version_text
 IsMade Unclear [] answer = (text : Text) × IsRefused answer 2 text
 IsMade _ _ answer = ⊥
+
+-- what is wrong with words that are no command, as their definitions allow
+abbrev pub TellsMistake : (words : List Text) → Answer → Type 0
+TellsMistake words answer = (text : Text) × IsMistakeTextOf words text × IsRefused answer 2 text
 
 -- the name of standard input
 abbrev pub input_name : Text
@@ -245,6 +267,11 @@ module _ {F : Type 0} (Reads : F → Text → Result (List ℕ) FileFault → F 
   IsObeyed request = IsOutcome Reads (files_of request) (IsMade request)
 
   -- the answer to a request: where it names standard input for two files, its words are a mistake, and nothing is read
-  abbrev pub IsAnswer : Request → F → Answer → F → Type 0
-  IsAnswer request before answer after =
+  abbrev pub IsAnswerTo : Request → F → Answer → F → Type 0
+  IsAnswerTo request before answer after =
       MatchBool (reads_input_twice (files_of request)) (IsRefused answer 2 input_twice_text × (after ≡ before)) (IsObeyed request before answer after)
+
+  -- the answer to words: that to what they ask for; where they are no command, it says what is wrong with them
+  abbrev pub IsAnswer : (words : List Text) → F → Answer → F → Type 0
+  IsAnswer words before answer after =
+      IsAnswerTo (request words) before answer after × (request words ≡ Unclear → TellsMistake words answer)

@@ -17,6 +17,11 @@ use Rattle.ob_object_perform.specs.Texts.{Texts}
 use Rattle.ob_object_perform.specs.declared.drawing.DrawFault.{DrawFault}
 use Rattle.ob_object_perform.specs.declared.drawing.DrawFault.TheVariants as Draws
 use Rattle.ob_object_perform.specs.declared.performing.PerformFault.{PerformFault}
+use Rattle.ob_object_search.specs.Searched.{IsEnough, IsLegalOrder}
+use Rattle.ob_object_search.specs.SearchFaults as Searches
+use Rattle.ob_object_search.specs.SearchFaults.{IsSearchFault}
+use Rattle.ob_object_search.specs.declared.searching.SearchFault.{SearchFault}
+use Rattle.ob_object_search.specs.declared.searching.SearchFault.TheVariants as Searching
 use Rattle.ob_object_sequence.specs.SequentialRun as Sequences
 use Rattle.ob_object_sequence.specs.SequentialRun.{IsSeqRefusal}
 use Rattle.ob_object_sequence.specs.declared.sequential.SeqTextFault.{SeqTextFault}
@@ -26,6 +31,7 @@ use Rattle.ob_object_verify.specs.VerifyFaults.{IsVerifyFault}
 use Rattle.ob_object_verify.specs.declared.verifying.VerifyFault.{VerifyFault}
 use Rattle.ob_text_picture_chart.specs.declared.charts.CallRange.{CallRange}
 use Rattle.ob_text_picture_chart.specs.declared.fault.PictureFault.TheVariants as Pictures
+use Rattle.wf_history.specs.declared.event.CallId.{CallId}
 
 -- an object that is asked for
 abbrev pub RefusesObject : Asked → CompileFault → Type 0
@@ -65,3 +71,10 @@ pub record RefusesRecord (module_bytes record_bytes : List ℕ) (e : VerifyFault
   pub says : IsVerifyFault module_bytes record_bytes e
   pub none : IsVerified module_bytes record_bytes → ⊥
   pub numbered : Verifies.IsNumbered e
+
+-- the order of a history; a search that was given up rules no order out, and is given up only where more configurations were needed
+pub record RefusesHistory (module_bytes history_bytes : List ℕ) (budget : Option ℕ) (most : ℕ) (e : SearchFault) : Type 0 where
+  pub says : IsSearchFault module_bytes history_bytes budget most e
+  pub none : ¬ Searches.IsUndecided e → (order : List CallId) → ¬ IsLegalOrder module_bytes history_bytes budget order
+  pub decided : IsEnough module_bytes history_bytes most → e ≢ Searching.TooMany
+  pub numbered : Searches.IsNumbered e

@@ -2,23 +2,28 @@
 
 ghost use Rattle.std.specs.Prelude.{◌≡◌, IfOk, count_by, map, nat_lt};
 ghost use Rattle.std.specs.Str.{bytes_eq};
-ghost use Rattle.ob_answer.specs.Answers.{IsAnswer, IsObeyed, files_of, input_name, range_of, reads_input_twice};
+ghost use Rattle.ob_answer.specs.Answers.{IsAnswer, IsAnswerTo, IsObeyed, files_of, input_name, range_of, reads_input_twice};
 ghost use Rattle.ob_answer.specs.Reads.{files_of_calls, files_of_run};
-ghost use Rattle.ob_command.specs.CommandLine.{Bound, Check, DrawRecord, Listing, Verify, request};
+ghost use Rattle.ob_command.specs.CommandLine.{Bound, Check, DrawRecord, Listing, Order, Verify, request};
 ghost use Rattle.ob_command.specs.Commands.{calls_request_of, request_of, run_request_of};
 
 use crate::answered::Answer;
 use crate::explaining::obey_explain_module;
 use crate::explaining_runs::obey_explain_record;
 use crate::files::{FileFault, Files};
-use crate::making::{answer_bound, answer_check, answer_draw_record, answer_list, answer_verify};
+use crate::making::{
+    answer_bound, answer_check, answer_draw_record, answer_list, answer_order, answer_verify,
+};
 use crate::obeying::{obey_calls, obey_run};
 use crate::product::{CallsProduct, Product};
 use crate::reading::{MODULE_BYTES, TwoFiles, read_two, unreadable};
 use ob_command::command::{CallNumbers, CallsCommand, Command, RunCommand, Stop, read_command};
 use ob_interface::NoMemory;
+use ob_object_search::Search;
 use ob_text_picture_chart::CallRange;
 use std::alloc::Global;
+use std::hash::RandomState;
+use std::random::RandomSource;
 use std::sync::Wait;
 use std::thread::Threads;
 
@@ -33,14 +38,14 @@ const INPUT_TWICE: &str = "error: `-`, which is standard input, stands for one f
 
 /// The answer to the words behind the program's name. Files are read in the order in which the words
 /// name them, that of the record with whose values an object begins behind the others, before anything is made of them. Only `serve`
-/// starts threads and waits.
-pub fn answer<R: Threads + Wait + Sync + AllocGlobal, F: Files>(
+/// starts threads and waits, and only `order` asks for random bytes.
+pub fn answer<R: Threads + Wait + Sync + AllocGlobal + RandomSource, F: Files>(
     rt: &R,
     words: &[&str],
     files: &mut F,
 ) -> Result<Answer, NoMemory>
-    // To any words: what they ask for is answered.
-    ensures asked { IfOk result (λ a. IsAnswer F.reads (request (map (λ word. word.now) words.now)) files.old a files.new) }
+    // To any words: what they ask for is answered, and of words that are a mistake what is wrong is said.
+    ensures asked { IfOk result (λ a. IsAnswer F.reads (map (λ word. word.now) words.now) files.old a files.new) }
 {
     let alloc = rt.alloc();
     match read_command(alloc, words) {
@@ -53,13 +58,13 @@ pub fn answer<R: Threads + Wait + Sync + AllocGlobal, F: Files>(
 }
 
 /// The answer to a command, which may read standard input but once.
-fn obey_once<R: Threads + Wait + Sync, F: Files>(
+fn obey_once<R: Threads + Wait + Sync + RandomSource, F: Files>(
     rt: &R,
     alloc: Global,
     command: Command<'_>,
     files: &mut F,
 ) -> Result<Answer, NoMemory>
-    ensures { IfOk result (λ a. IsAnswer F.reads (request_of command.entry) files.old a files.new) }
+    ensures { IfOk result (λ a. IsAnswerTo F.reads (request_of command.entry) files.old a files.new) }
 {
     if reads_input_twice(command) {
         return Ok(Answer::refused(alloc, 2, String::from_str(alloc, INPUT_TWICE)?));
@@ -90,6 +95,11 @@ fn reads_input_twice(command: Command<'_>) -> bool
             module_name,
             record_name,
         } => are_two_inputs(&[module_name, record_name]),
+        Command::Order {
+            module_name,
+            history_name,
+            ..
+        } => are_two_inputs(&[module_name, history_name]),
         Command::Explain { .. } => false,
         Command::ExplainCalls(calls) => are_inputs_of_calls(calls),
         Command::ExplainTraps(calls) => are_inputs_of_calls(calls),
@@ -136,7 +146,7 @@ fn are_two_inputs(names: &[&str]) -> bool
 }
 
 /// The answer to a command.
-fn obey<R: Threads + Wait + Sync, F: Files>(
+fn obey<R: Threads + Wait + Sync + RandomSource, F: Files>(
     rt: &R,
     alloc: Global,
     command: Command<'_>,
@@ -164,6 +174,15 @@ fn obey<R: Threads + Wait + Sync, F: Files>(
             module_name,
             record_name,
         } => obey_verify(alloc, module_name, record_name, files),
+        Command::Order {
+            module_name,
+            history_name,
+            budget,
+            most,
+        } => {
+            let search = search_by(rt, budget, most)?;
+            obey_order(alloc, module_name, history_name, &search, files)
+        }
         Command::Explain { module_name, .. } => obey_explain_module(alloc, module_name, files),
         Command::ExplainCalls(calls) => {
             obey_calls(rt, alloc, CallsProduct::Explanation, calls, files)
@@ -247,6 +266,40 @@ fn obey_draw_record<F: Files>(
     match read_two(alloc, module_name, printed_name, files)? {
         TwoFiles::Read { module, second } => {
             answer_draw_record(alloc, module.as_slice(), second.as_slice(), range_of(calls))
+        }
+        TwoFiles::Unread(answer) => Ok(answer),
+    }
+}
+
+/// The search that words ask for. Want of random bytes is told as want of memory: as that it comes and goes with what the machine has,
+/// and says nothing of the history.
+fn search_by<R: RandomSource>(rt: &R, budget: Option<u32>, most: u32) -> Result<Search, NoMemory>
+    ensures budget { IfOk result (λ search. search.budget ≡ budget) }
+    ensures most { IfOk result (λ search. search.most ≡ most) }
+{
+    let Ok(keys) = RandomState::new(rt) else {
+        return Err(NoMemory);
+    };
+    Ok(Search {
+        budget: budget.map(u64::from),
+        most: most as usize,
+        keys,
+    })
+}
+
+/// The answer to `order`, of the names of its files and the search that it asks for.
+fn obey_order<F: Files>(
+    alloc: Global,
+    module_name: &str,
+    history_name: &str,
+    search: &Search,
+    files: &mut F,
+) -> Result<Answer, NoMemory>
+    ensures { IfOk result (λ a. IsObeyed F.reads (Order module_name.now history_name.now search.now.budget search.now.most) files.old a files.new) }
+{
+    match read_two(alloc, module_name, history_name, files)? {
+        TwoFiles::Read { module, second } => {
+            answer_order(alloc, module.as_slice(), second.as_slice(), search)
         }
         TwoFiles::Unread(answer) => Ok(answer),
     }

@@ -10,6 +10,7 @@ mod explaining_traps;
 pub mod files;
 mod making;
 mod obeying;
+mod orders;
 pub mod product;
 mod reading;
 mod showing;

@@ -29,7 +29,7 @@ use Rattle.ob_code_law.specs.Compiled.{entrances_from, parts_of, engine_of, Fits
 use Rattle.ob_code_law.specs.EngineLaw.{CodeIsLawful, FittingIsOfSignatures, DecodedIsLawful, LawfulIsDecoded, OpeningsAreLawful, EffectIsTotal, EffectIsCalled, CalledIsEffect, BodiesEnd, ScriptsEnd}
 use Rattle.ob_code_law.proofs.ExportLaw.{few, most_of, results_few, values_few, entered_at, signed_at}
 use Rattle.ob_code_law.proofs.WordLaw.{length-padded, values_short}
-use Rattle.ob_code_law.proofs.StepLaw.{was_stuck}
+use Rattle.ob_code_law.proofs.StepLaw.{was_stuck, code_touches}
 use Rattle.ob_code_law.proofs.CallLaw.{returned, trapped, never_stuck, returns, traps, next_typed, ends_within}
 
 -- a start has the reserve
@@ -113,6 +113,7 @@ module _ (program : Program) (budget : ℕ) (well : IsWellFormed program) where
     step_ready = λ run b ready long. (steps_keep_sizes (code_of program).instructions run b).reserve ∙ ready;
     stuck_run = λ run b ready long stuck. (stuck_step (code_of program).instructions run b (was_stuck _ stuck)).0;
     stuck_block = λ run b ready long stuck. (stuck_step (code_of program).instructions run b (was_stuck _ stuck)).1;
+    one_word = λ run b ready long. code_touches (parts_of program budget) run b;
     effect_lawful = λ b c b' a lawful fits e. record { state = e.next; encodes = e.after_is };
     returned = returned_at;
     trapped = trapped_at;

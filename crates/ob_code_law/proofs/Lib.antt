@@ -1,3 +1,4 @@
+pub mod OneWord
 mod StepLaw
 pub mod ExportLaw
 mod WordLaw

@@ -17,7 +17,7 @@ use Rattle.ob_code_law.specs.Compiled.{IsFitting, HasReserve, IsLawfulBlock, Cal
 use Rattle.ob_code_law.specs.Parts.{IsCompiledTo, HasProgram, IsLawfulFor, IsEffectOf, PartsAreLawful, EffectIsOfEach, PartsAreRead}
 use Rattle.ob_code_law.specs.Carried.{Simulates, IsOfState}
 use Rattle.ob_code_law.proofs.WordLaw.{length-padded}
-use Rattle.ob_code_law.proofs.StepLaw.{was_stuck}
+use Rattle.ob_code_law.proofs.StepLaw.{was_stuck, code_touches}
 use Rattle.ob_code_law.proofs.CodeLaw.{started_reserve, code_lawful, effect_total, effect_called}
 use Rattle.ob_code_law.proofs.Carried.{are_read}
 use Rattle.ob_code_law.proofs.OneEnd.{one_effect}
@@ -63,6 +63,7 @@ module _ (parts : EngineParts) (there : ∥ HasProgram parts ∥₁) where
     step_ready = λ run b ready long. (steps_keep_sizes parts.code.instructions run b).reserve ∙ ready;
     stuck_run = λ run b ready long stuck. (stuck_step parts.code.instructions run b (was_stuck _ stuck)).0;
     stuck_block = λ run b ready long stuck. (stuck_step parts.code.instructions run b (was_stuck _ stuck)).1;
+    one_word = λ run b ready long. code_touches parts run b;
     effect_lawful = λ b c b' a l fits e. record { program = e.program; compiled = e.compiled; is = record { state = e.is.next; encodes = e.is.after_is } };
     returned = λ b c n l fits h. returned_at l.program l.compiled b c (body m n b c) ((lawful_of l.program parts l.compiled).returned b c n l.is fits h);
     trapped = λ b c n k l fits h. trapped_at l.program l.compiled b c k ((lawful_of l.program parts l.compiled).trapped b c n k l.is fits h);

@@ -1,5 +1,6 @@
 -- Steps of the engine are steps of a body.
-use Rattle.std.proofs.Common.{◌≡◌, ◌≢◌, ℕ, zero, suc, ◌<◌, ◌≤◌, true, ℤ, List, refl, ap}
+use Rattle.std.proofs.Common.{◌≡◌, ◌≢◌, ℕ, zero, suc, ◌<◌, ◌≤◌, true, ℤ, List, length, refl, ap}
+use Rattle.std.specs.Prelude.{slice_get}
 use Rattle.ob_code_machine.specs.declared.instr.Instr.{Instr}
 use Rattle.ob_code_machine.specs.declared.turn.BodyTurn.{BodyTurn}
 use Rattle.ob_code_machine.specs.declared.turn.BodyTurn.TheVariants as Answer
@@ -7,7 +8,9 @@ use Rattle.ob_code_machine.specs.Body.{Run, Step, step_of, after, steps as body_
 use Rattle.ob_code_machine.proofs.Sizes.{steps_keep_sizes}
 use Rattle.wf_table.specs.declared.engine_turn.EngineTurn.TheVariants as Turn
 use Rattle.wf_table.specs.Meaning.{Turned, after_turn, is_over, steps}
+use Rattle.wf_table.specs.Law.{TouchesOneWord}
 use Rattle.ob_code_law.specs.CodeMeaning.{EngineParts, turn_of, turned, code_meaning}
+use Rattle.ob_code_law.proofs.OneWord.{place_in, step_follows}
 
 after_same : (t : BodyTurn) (s next : Step) (other : Turned Run) → other ≡ turned next → after_turn (turn_of t) (turned s) other ≡ turned (after t s next)
 after_same Answer.On s next other h = h
@@ -65,3 +68,10 @@ over_is Answer.On off = absurd (off refl)
 over_is Answer.Returned off = refl
 over_is (Answer.Trapped k) off = refl
 over_is Answer.Stuck off = refl
+
+-- a step touches one word of the block
+pub code_touches : (parts : EngineParts) (run : Run) (block : List ℤ) → TouchesOneWord (code_meaning parts) run block
+code_touches parts run block = record {
+  place = place_in (length block) (slice_get parts.code.instructions run.body.pc) run.body.stack;
+  same = λ other long is. ap turned (step_follows block other long parts.code.instructions run is);
+}

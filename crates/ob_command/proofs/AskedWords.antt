@@ -48,6 +48,12 @@ module _ (name : Text) (leaf : Shape)
   unfolding clap_on_literals
   no_fault_met words rows goes = ap (found_fault words) finds ∙ ap (λ ks. or_else ks (tail true)) goes.no_fault
 
+  pub clap_met : (words : List Text) (rows : List Row) → Goes leaf start words rows
+      → subcommand_of obl0_app (name ∷ words) ≡ Some (leaf.name, rows)
+  clap_met words rows goes =
+      ap (λ (w : Walk). entered built_app w.stopped) (stops words)
+      ∙ (ap (option_map (λ s. rows_at s words)) finds ∙ ap (λ (r : List Row). Some (leaf.name, r)) goes.leaves)
+
   pub clap_asked : (words : List Text) (rows : List Row) → Goes leaf start words rows
       → clap_request (name ∷ words) ≡ request_by [] (Some (leaf.name, rows))
   unfolding clap_request
@@ -57,10 +63,7 @@ module _ (name : Text) (leaf : Shape)
       (or_else (settle_fault top_rules false w.held) (or_else (defaults_fault (settled top_rules w.held).rows top_rules)
       (check_fault built_top (finished top_rules w.held) (is_some (entered built_app w.stopped))))))) (none words) (stops words)
       ∙ no_fault_met words rows goes in
-      let met : subcommand_of obl0_app (name ∷ words) ≡ Some (leaf.name, rows) =
-      ap (λ (w : Walk). entered built_app w.stopped) (stops words)
-      ∙ (ap (option_map (λ s. rows_at s words)) finds ∙ ap (λ (r : List Row). Some (leaf.name, r)) goes.leaves) in
-      ap₂ request_by kinds met
+      ap₂ request_by kinds (clap_met words rows goes)
 
 -- ---- the numbers of a request
 

@@ -32,6 +32,9 @@ built_budget = record (built_one (codes "BUDGET") None (Some 98) (parser.Signed 
   required = false;
 }
 
+abbrev pub built_most : Rule
+built_most = record (built_one (codes "K") None None (parser.Signed (pos 0) (pos 4294967295))) { long = Some (codes "most"); required = false }
+
 abbrev pub built_flag : Text → Rule
 built_flag name = record (flag_rule name) {
   defaults = codes "false" ∷ [];
@@ -88,6 +91,9 @@ draw_leaf = leaf (codes "draw") (run_rules true false false (built_calls ∷ bui
 abbrev pub verify_leaf : Shape
 verify_leaf = leaf (codes "verify") (built_name 1 (codes "MODULE") ∷ built_name 2 (codes "RECORD") ∷ built_help ∷ [])
 
+abbrev pub order_leaf : Shape
+order_leaf = leaf (codes "order") (built_name 1 (codes "MODULE") ∷ built_name 2 (codes "HISTORY") ∷ built_budget ∷ built_most ∷ built_help ∷ [])
+
 abbrev pub explain_leaf : Shape
 explain_leaf = leaf (codes "explain") (run_rules false false false (built_record ∷ built_flag (codes "traps") ∷ built_help ∷ []))
 
@@ -100,13 +106,13 @@ built_top = record top_shape { rules = built_help ∷ []; is_leaf = false; is_bu
 abbrev pub built_app : App
 built_app = record {
   top = built_top;
-  subs = module_leaf (codes "check") ∷ module_leaf (codes "list") ∷ seq_leaf ∷ run_leaf ∷ serve_leaf ∷ draw_leaf ∷ verify_leaf ∷ explain_leaf
-      ∷ bound_leaf ∷ [];
+  subs = module_leaf (codes "check") ∷ module_leaf (codes "list") ∷ seq_leaf ∷ run_leaf ∷ serve_leaf ∷ draw_leaf ∷ verify_leaf
+      ∷ order_leaf ∷ explain_leaf ∷ bound_leaf ∷ [];
 }
 
 abbrev pub names : Names
 names = (codes "check", []) ∷ (codes "list", []) ∷ (codes "seq", []) ∷ (codes "run", []) ∷ (codes "serve", []) ∷ (codes "draw", []) ∷ (codes "verify", [])
-    ∷ (codes "explain", []) ∷ (codes "bound", []) ∷ []
+    ∷ (codes "order", []) ∷ (codes "explain", []) ∷ (codes "bound", []) ∷ []
 
 -- ---- the rows that clap keeps of a command
 

@@ -16,7 +16,7 @@ use Rattle.clap.specs.declared.builder.value_parser.ValueParser.TheVariants as p
 use Rattle.clap.specs.declared.parser.matches.ValueSource.{ValueSource}
 use Rattle.clap.specs.declared.parser.matches.ValueSource.TheVariants.{CommandLine}
 use Rattle.ob_command.specs.CommandLine.{budget_number, calls_in, is_option, number}
-use Rattle.ob_command.specs.PlainForms.{ArePlain, ByTree, Chosen, Count, OfTraps, Range, Start, Told, Turns, WithSteps, budget_flag, id_of, is_plain, text_of, with_words, words_of}
+use Rattle.ob_command.specs.PlainForms.{ArePlain, ByTree, Chosen, Count, Most, OfTraps, Range, Start, Told, Turns, WithSteps, budget_flag, id_of, is_plain, text_of, with_words, words_of}
 use Rattle.ob_command.proofs.CallPlaces.{no_option_in}
 use Rattle.ob_command.proofs.Numbers.{plain_budget, plain_number}
 use Rattle.ob_command.proofs.WalkedWords.{Goes, here, optioned, state, stepped, waits}
@@ -63,6 +63,7 @@ some_of (Some x) h = (x, refl)
 abbrev pub parser_of : Chosen → ValueParser
 parser_of (Count n) = parser.Signed (pos 0) (pos 65535)
 parser_of (Turns short b) = parser.Signed (pos 0) (pos 4294967295)
+parser_of (Most k) = parser.Signed (pos 0) (pos 4294967295)
 parser_of ByTree = parser.Bool
 parser_of WithSteps = parser.Bool
 parser_of OfTraps = parser.Bool
@@ -153,6 +154,12 @@ module _ (s : Shape) where
       let k = some_of (budget_number b) plain in
       let p = plain_budget b k.0 k.1 in
       value_moves (budget_flag short) (codes "BUDGET") b (parser.Signed (pos 0) (pos 4294967295)) takes p.no_option p.passes
+
+  pub most_moves : Takes s (codes "--most") (codes "K") (parser.Signed (pos 0) (pos 4294967295)) → (k : Text) → is_some (budget_number k) ≡ true → Moves s (Most k)
+  most_moves takes k plain =
+      let n = some_of (budget_number k) plain in
+      let p = plain_budget k n.0 n.1 in
+      value_moves (codes "--most") (codes "K") k (parser.Signed (pos 0) (pos 4294967295)) takes p.no_option p.passes
 
   pub start_moves : Takes s (codes "--from") (codes "FROM") parser.String → (f : Text) → not (is_option f) ≡ true → Moves s (Start f)
   start_moves takes f plain = value_moves (codes "--from") (codes "FROM") f parser.String takes (turned (is_option f) plain) refl

@@ -1,5 +1,5 @@
 -- What words ask for that have no fault: files, and behind them options in any order.
-use Rattle.std.proofs.Common.{◌≡◌, ◌∙◌, ℕ, refl, ap, List, [], ◌∷◌, fold, codes, true, false, Bool, if◌then◌else◌, Option, Some, None, map, unwrap_or}
+use Rattle.std.proofs.Common.{◌≡◌, ◌∙◌, ℕ, refl, ap, List, [], ◌∷◌, fold, codes, option_and_then, true, false, Bool, if◌then◌else◌, Option, Some, None, map, unwrap_or}
 use Rattle.std.specs.List.{list_any}
 use Rattle.std.specs.Str.{bytes_eq}
 use Rattle.clap.specs.Walk.{Row, Rule, Text, first_of, settled_rows, with_default}
@@ -7,12 +7,12 @@ use Rattle.clap.specs.Kinds.{Kinds, check_kinds, or_else}
 use Rattle.clap.specs.Faults.{check_fault, defaults_fault, walk_fault}
 use Rattle.clap.specs.Simple.{Shape}
 use Rattle.clap.proofs.OnLiterals.{clap_on_literals}
-use Rattle.ob_command.specs.CommandLine.{Check, Given, Listing, Unclear, Verify, Version, asked, asks_version, clap_request, command_of, given_of, is_option, request}
-use Rattle.ob_command.specs.PlainForms.{AsksWithModule, AsksWithSchedule, AsksWithScript, ByTree, Chosen, Count, OfTraps, Range, Start, Told, Turns, WithSteps, bound_options, draw_options, explain_options, given_in, id_of, is_plain, run_options, seq_options, serve_options, words_of}
-use Rattle.ob_command.proofs.AskedWords.{clap_asked, start}
-use Rattle.ob_command.proofs.BuiltLine.{bound_leaf, built_budget, built_calls, built_from, built_help, built_name, built_number, built_record, draw_leaf, explain_leaf, leaf, module_leaf, name_row, needed, run_leaf, seq_leaf, serve_leaf, verify_leaf}
-use Rattle.ob_command.proofs.ChosenWords.{AllFresh, Moves, Standing, all_move, count_moves, range_moves, row_of, start_moves, steps_moves, told_moves, traps_moves, tree_moves, turns_moves}
-use Rattle.ob_command.proofs.OptionRows.{EachQuiet, EachThere, Quiet, counted_there, each_stays, given_alone, given_schedule, given_script, given_stays, module_stays, no_default_fault, none_lacks, quiet_plain, quiet_steps, quiet_traps, quiet_tree}
+use Rattle.ob_command.specs.CommandLine.{Check, Given, Listing, Unclear, Verify, Version, asked, asks_version, clap_request, command_of, form_mistake, form_mistake_by, form_mistake_of, given_of, is_option, order_mistake_of, request}
+use Rattle.ob_command.specs.PlainForms.{AsksWithHistory, AsksWithModule, AsksWithSchedule, AsksWithScript, ArePlain, ByTree, Chosen, Count, Most, OfTraps, Range, Start, Told, Turns, WithSteps, bound_options, draw_options, explain_options, given_in, given_with_history, id_of, is_plain, most_in, order_options, run_options, seq_options, serve_options, words_of}
+use Rattle.ob_command.proofs.AskedWords.{clap_asked, clap_met, start}
+use Rattle.ob_command.proofs.BuiltLine.{bound_leaf, built_budget, built_calls, built_from, built_help, built_most, built_name, built_number, built_record, draw_leaf, explain_leaf, leaf, module_leaf, name_row, needed, order_leaf, run_leaf, seq_leaf, serve_leaf, verify_leaf}
+use Rattle.ob_command.proofs.ChosenWords.{AllFresh, Moves, Standing, all_move, count_moves, most_moves, range_moves, row_of, start_moves, steps_moves, told_moves, traps_moves, tree_moves, turns_moves}
+use Rattle.ob_command.proofs.OptionRows.{EachQuiet, EachThere, Quiet, counted_there, each_stays, given_alone, given_history, given_schedule, given_script, given_stays, module_stays, no_default_fault, none_lacks, quiet_plain, quiet_steps, quiet_traps, quiet_tree}
 use Rattle.ob_command.proofs.PlainWords.{by_clap}
 use Rattle.ob_command.proofs.Readings.{on_module}
 use Rattle.ob_command.proofs.WalkedWords.{Goes, named, state}
@@ -94,6 +94,9 @@ quiet_draw = (
   ),
 )
 
+quiet_order : EachQuiet order_leaf.rules
+quiet_order = (quiet_file 1 (codes "MODULE") true, (quiet_file 2 (codes "HISTORY") true, (plain built_budget refl, (plain built_most refl, (plain built_help refl, tt)))))
+
 quiet_explain : EachQuiet explain_leaf.rules
 quiet_explain = (
   quiet_file 1 (codes "MODULE") true,
@@ -116,6 +119,7 @@ unfolding clap_on_literals
 serve_moves (Count n) known plain = count_moves serve_leaf (record { turn = λ h p k. refl; walk = λ h p k. refl; push = λ v h k. refl; fault = λ v h. refl; uses = λ v h. refl }) n plain
 serve_moves (Turns true b) known plain = turns_moves serve_leaf true (record { turn = λ h p k. refl; walk = λ h p k. refl; push = λ v h k. refl; fault = λ v h. refl; uses = λ v h. refl }) b plain
 serve_moves (Turns false b) known plain = turns_moves serve_leaf false (record { turn = λ h p k. refl; walk = λ h p k. refl; push = λ v h k. refl; fault = λ v h. refl; uses = λ v h. refl }) b plain
+serve_moves (Most k) known plain = cc
 serve_moves (Start f) known plain = start_moves serve_leaf (record { turn = λ h p k. refl; walk = λ h p k. refl; push = λ v h k. refl; fault = λ v h. refl; uses = λ v h. refl }) f plain
 serve_moves (Range c) known plain = cc
 serve_moves (Told r) known plain = cc
@@ -128,6 +132,7 @@ unfolding clap_on_literals
 seq_moves (Count n) known plain = cc
 seq_moves (Turns true b) known plain = turns_moves seq_leaf true (record { turn = λ h p k. refl; walk = λ h p k. refl; push = λ v h k. refl; fault = λ v h. refl; uses = λ v h. refl }) b plain
 seq_moves (Turns false b) known plain = turns_moves seq_leaf false (record { turn = λ h p k. refl; walk = λ h p k. refl; push = λ v h k. refl; fault = λ v h. refl; uses = λ v h. refl }) b plain
+seq_moves (Most k) known plain = cc
 seq_moves (Start f) known plain = start_moves seq_leaf (record { turn = λ h p k. refl; walk = λ h p k. refl; push = λ v h k. refl; fault = λ v h. refl; uses = λ v h. refl }) f plain
 seq_moves (Range c) known plain = cc
 seq_moves (Told r) known plain = cc
@@ -140,6 +145,7 @@ unfolding clap_on_literals
 run_moves (Count n) known plain = count_moves run_leaf (record { turn = λ h p k. refl; walk = λ h p k. refl; push = λ v h k. refl; fault = λ v h. refl; uses = λ v h. refl }) n plain
 run_moves (Turns true b) known plain = turns_moves run_leaf true (record { turn = λ h p k. refl; walk = λ h p k. refl; push = λ v h k. refl; fault = λ v h. refl; uses = λ v h. refl }) b plain
 run_moves (Turns false b) known plain = turns_moves run_leaf false (record { turn = λ h p k. refl; walk = λ h p k. refl; push = λ v h k. refl; fault = λ v h. refl; uses = λ v h. refl }) b plain
+run_moves (Most k) known plain = cc
 run_moves (Start f) known plain = start_moves run_leaf (record { turn = λ h p k. refl; walk = λ h p k. refl; push = λ v h k. refl; fault = λ v h. refl; uses = λ v h. refl }) f plain
 run_moves (Range c) known plain = cc
 run_moves (Told r) known plain = cc
@@ -152,6 +158,7 @@ unfolding clap_on_literals
 draw_moves (Count n) known plain = count_moves draw_leaf (record { turn = λ h p k. refl; walk = λ h p k. refl; push = λ v h k. refl; fault = λ v h. refl; uses = λ v h. refl }) n plain
 draw_moves (Turns true b) known plain = turns_moves draw_leaf true (record { turn = λ h p k. refl; walk = λ h p k. refl; push = λ v h k. refl; fault = λ v h. refl; uses = λ v h. refl }) b plain
 draw_moves (Turns false b) known plain = turns_moves draw_leaf false (record { turn = λ h p k. refl; walk = λ h p k. refl; push = λ v h k. refl; fault = λ v h. refl; uses = λ v h. refl }) b plain
+draw_moves (Most k) known plain = cc
 draw_moves (Start f) known plain = start_moves draw_leaf (record { turn = λ h p k. refl; walk = λ h p k. refl; push = λ v h k. refl; fault = λ v h. refl; uses = λ v h. refl }) f plain
 draw_moves (Range c) known plain = range_moves draw_leaf (record { turn = λ h p k. refl; walk = λ h p k. refl; push = λ v h k. refl; fault = λ v h. refl; uses = λ v h. refl }) c plain
 draw_moves (Told r) known plain = cc
@@ -164,6 +171,7 @@ unfolding clap_on_literals
 explain_moves (Count n) known plain = count_moves explain_leaf (record { turn = λ h p k. refl; walk = λ h p k. refl; push = λ v h k. refl; fault = λ v h. refl; uses = λ v h. refl }) n plain
 explain_moves (Turns true b) known plain = turns_moves explain_leaf true (record { turn = λ h p k. refl; walk = λ h p k. refl; push = λ v h k. refl; fault = λ v h. refl; uses = λ v h. refl }) b plain
 explain_moves (Turns false b) known plain = turns_moves explain_leaf false (record { turn = λ h p k. refl; walk = λ h p k. refl; push = λ v h k. refl; fault = λ v h. refl; uses = λ v h. refl }) b plain
+explain_moves (Most k) known plain = cc
 explain_moves (Start f) known plain = start_moves explain_leaf (record { turn = λ h p k. refl; walk = λ h p k. refl; push = λ v h k. refl; fault = λ v h. refl; uses = λ v h. refl }) f plain
 explain_moves (Range c) known plain = cc
 explain_moves (Told r) known plain = told_moves explain_leaf (record { turn = λ h p k. refl; walk = λ h p k. refl; push = λ v h k. refl; fault = λ v h. refl; uses = λ v h. refl }) r plain
@@ -171,11 +179,25 @@ explain_moves ByTree known plain = cc
 explain_moves WithSteps known plain = cc
 explain_moves OfTraps known plain = traps_moves explain_leaf (record { turn = λ h p k. refl; walk = λ h p k. refl })
 
+order_moves : (one : Chosen) → list_any (bytes_eq (id_of one)) order_options ≡ true → is_plain one ≡ true → Moves order_leaf one
+unfolding clap_on_literals
+order_moves (Count n) known plain = cc
+order_moves (Turns true b) known plain = turns_moves order_leaf true (record { turn = λ h p k. refl; walk = λ h p k. refl; push = λ v h k. refl; fault = λ v h. refl; uses = λ v h. refl }) b plain
+order_moves (Turns false b) known plain = turns_moves order_leaf false (record { turn = λ h p k. refl; walk = λ h p k. refl; push = λ v h k. refl; fault = λ v h. refl; uses = λ v h. refl }) b plain
+order_moves (Most k) known plain = most_moves order_leaf (record { turn = λ h p k. refl; walk = λ h p k. refl; push = λ v h k. refl; fault = λ v h. refl; uses = λ v h. refl }) k plain
+order_moves (Start f) known plain = cc
+order_moves (Range c) known plain = cc
+order_moves (Told r) known plain = cc
+order_moves ByTree known plain = cc
+order_moves WithSteps known plain = cc
+order_moves OfTraps known plain = cc
+
 bound_moves : (one : Chosen) → list_any (bytes_eq (id_of one)) bound_options ≡ true → is_plain one ≡ true → Moves bound_leaf one
 unfolding clap_on_literals
 bound_moves (Count n) known plain = count_moves bound_leaf (record { turn = λ h p k. refl; walk = λ h p k. refl; push = λ v h k. refl; fault = λ v h. refl; uses = λ v h. refl }) n plain
 bound_moves (Turns true b) known plain = turns_moves bound_leaf true (record { turn = λ h p k. refl; walk = λ h p k. refl; push = λ v h k. refl; fault = λ v h. refl; uses = λ v h. refl }) b plain
 bound_moves (Turns false b) known plain = turns_moves bound_leaf false (record { turn = λ h p k. refl; walk = λ h p k. refl; push = λ v h k. refl; fault = λ v h. refl; uses = λ v h. refl }) b plain
+bound_moves (Most k) known plain = cc
 bound_moves (Start f) known plain = cc
 bound_moves (Range c) known plain = cc
 bound_moves (Told r) known plain = cc
@@ -189,6 +211,7 @@ fresh_module : (m : Text) (chosen : List Chosen) → AllFresh (name_row (codes "
 fresh_module m [] = tt
 fresh_module m (Count n ∷ others) = (refl, fresh_module m others)
 fresh_module m (Turns short b ∷ others) = (refl, fresh_module m others)
+fresh_module m (Most k ∷ others) = (refl, fresh_module m others)
 fresh_module m (Start f ∷ others) = (refl, fresh_module m others)
 fresh_module m (Range c ∷ others) = (refl, fresh_module m others)
 fresh_module m (Told r ∷ others) = (refl, fresh_module m others)
@@ -200,6 +223,7 @@ fresh_script : (m s : Text) (chosen : List Chosen) → AllFresh (name_row (codes
 fresh_script m s [] = tt
 fresh_script m s (Count n ∷ others) = (refl, fresh_script m s others)
 fresh_script m s (Turns short b ∷ others) = (refl, fresh_script m s others)
+fresh_script m s (Most k ∷ others) = (refl, fresh_script m s others)
 fresh_script m s (Start f ∷ others) = (refl, fresh_script m s others)
 fresh_script m s (Range c ∷ others) = (refl, fresh_script m s others)
 fresh_script m s (Told r ∷ others) = (refl, fresh_script m s others)
@@ -207,10 +231,23 @@ fresh_script m s (ByTree ∷ others) = (refl, fresh_script m s others)
 fresh_script m s (WithSteps ∷ others) = (refl, fresh_script m s others)
 fresh_script m s (OfTraps ∷ others) = (refl, fresh_script m s others)
 
+fresh_history : (m h : Text) (chosen : List Chosen) → AllFresh (name_row (codes "MODULE") m ∷ name_row (codes "HISTORY") h ∷ []) chosen
+fresh_history m h [] = tt
+fresh_history m h (Count n ∷ others) = (refl, fresh_history m h others)
+fresh_history m h (Turns short b ∷ others) = (refl, fresh_history m h others)
+fresh_history m h (Most k ∷ others) = (refl, fresh_history m h others)
+fresh_history m h (Start f ∷ others) = (refl, fresh_history m h others)
+fresh_history m h (Range c ∷ others) = (refl, fresh_history m h others)
+fresh_history m h (Told r ∷ others) = (refl, fresh_history m h others)
+fresh_history m h (ByTree ∷ others) = (refl, fresh_history m h others)
+fresh_history m h (WithSteps ∷ others) = (refl, fresh_history m h others)
+fresh_history m h (OfTraps ∷ others) = (refl, fresh_history m h others)
+
 fresh_schedule : (m s d : Text) (chosen : List Chosen) → AllFresh (name_row (codes "MODULE") m ∷ name_row (codes "SCRIPT") s ∷ name_row (codes "SCHEDULE") d ∷ []) chosen
 fresh_schedule m s d [] = tt
 fresh_schedule m s d (Count n ∷ others) = (refl, fresh_schedule m s d others)
 fresh_schedule m s d (Turns short b ∷ others) = (refl, fresh_schedule m s d others)
+fresh_schedule m s d (Most k ∷ others) = (refl, fresh_schedule m s d others)
 fresh_schedule m s d (Start f ∷ others) = (refl, fresh_schedule m s d others)
 fresh_schedule m s d (Range c ∷ others) = (refl, fresh_schedule m s d others)
 fresh_schedule m s d (Told r ∷ others) = (refl, fresh_schedule m s d others)
@@ -226,6 +263,7 @@ by_options name m [] no_m = by_clap name m no_m
 by_options name m (Count n ∷ others) no_m = refl
 by_options name m (Turns true b ∷ others) no_m = refl
 by_options name m (Turns false b ∷ others) no_m = refl
+by_options name m (Most k ∷ others) no_m = refl
 by_options name m (Start f ∷ others) no_m = refl
 by_options name m (Range c ∷ others) no_m = refl
 by_options name m (Told r ∷ others) no_m = refl
@@ -285,6 +323,40 @@ with_record m r no_m no_r =
 pub verify_asked : (m r : Text) → is_option m ≡ false → is_option r ≡ false → request (codes "verify" ∷ m ∷ r ∷ []) ≡ Verify m r
 unfolding clap_on_literals
 verify_asked m r no_m no_r = clap_asked (codes "verify") verify_leaf refl refl refl (m ∷ r ∷ []) _ (with_record m r no_m no_r)
+
+-- ---- a module and a history
+
+module _ (m h : Text) (chosen : List Chosen) (no_m : is_option m ≡ false) (no_h : is_option h ≡ false) (plain : ArePlain order_options chosen) where
+  abbrev seen_rows : List Row
+  seen_rows = name_row (codes "MODULE") m ∷ name_row (codes "HISTORY") h ∷ map row_of chosen
+
+  abbrev order_rows : List Row
+  order_rows = fold with_default seen_rows order_leaf.rules
+
+  order_goes : Goes order_leaf start (m ∷ h ∷ words_of chosen) order_rows
+  unfolding clap_on_literals
+  order_goes =
+      named order_leaf [] None 1 m no_m refl _ refl (h ∷ words_of chosen) order_rows
+      (named order_leaf [] (Some (codes "MODULE", m ∷ [])) 2 h no_h refl _ refl (words_of chosen) order_rows
+      (all_move order_leaf order_options order_moves chosen plain (name_row (codes "MODULE") m ∷ []) (Some (codes "HISTORY", h ∷ [])) 3
+      (name_row (codes "MODULE") m ∷ name_row (codes "HISTORY") h ∷ []) (record { no_fault = refl; settles = refl }) (fresh_history m h chosen) order_rows
+      (ended (codes "order") order_leaf.rules quiet_order seen_rows (λ e. refl, (λ e. refl, (λ e. cc, (λ e. cc, (λ e. cc, tt))))) 3)))
+
+  order_given : given_of seen_rows ≡ given_with_history h chosen
+  order_given = given_history order_options chosen plain h
+
+  pub order_said : form_mistake_of (codes "order" ∷ m ∷ h ∷ words_of chosen) ≡ Some (order_mistake_of (most_in chosen))
+  unfolding clap_on_literals
+  order_said =
+      ap (option_and_then (λ m. form_mistake m.0 m.1)) (clap_met (codes "order") order_leaf refl refl refl (m ∷ h ∷ words_of chosen) order_rows order_goes)
+      ∙ ap (λ (g : Given). form_mistake_by (codes "order") g) (given_stays order_leaf.rules quiet_order seen_rows ∙ order_given)
+
+pub order_asks : AsksWithHistory (codes "order") order_options
+unfolding clap_on_literals
+order_asks m h chosen no_m no_h plain =
+    clap_asked (codes "order") order_leaf refl refl refl (m ∷ h ∷ words_of chosen) (order_rows m h chosen no_m no_h plain) (order_goes m h chosen no_m no_h plain)
+    ∙ answered (codes "order") order_leaf.rules quiet_order m (seen_rows m h chosen no_m no_h plain) (given_with_history h chosen) refl
+    (order_given m h chosen no_m no_h plain)
 
 -- ---- a module and a script, or a record of which a picture is made
 

@@ -1,11 +1,12 @@
 -- What each form of a command asks for.
-use Rattle.std.proofs.Common.{◌≡◌, ◌∙◌, ◌||◌, ℕ, refl, ap, List, [], ◌∷◌, find, codes, true, false, Bool, if◌then◌else◌, Option, Some, None, is_some, option_and_then, option_map, unwrap_or}
+use Rattle.std.proofs.Common.{◌≡◌, ◌∙◌, ◌||◌, ◌&&◌, ℕ, refl, ap, List, [], ◌∷◌, find, codes, true, false, Bool, if◌then◌else◌, Option, Some, None, is_some, option_and_then, option_map, unwrap_or}
+use Rattle.std.specs.Option.{option_map_or}
 use Rattle.std.specs.Str.{bytes_eq}
 use Rattle.clap.specs.Walk.{Text}
-use Rattle.ob_command.specs.CommandLine.{Bound, CallsRequest, Draw, DrawRecord, Explain, ExplainCalls, ExplainRecord, ExplainRun, ExplainTraps, Given, Request, Run, RunRequest, RunSteps, RunTree, Seq, Serve, Unclear, asked, budget_number, default_budget, number, range_by}
-use Rattle.ob_command.specs.PlainForms.{Chosen, Has, Lacks, ModuleAsksFor, RunAsksFor, ScriptAsksFor, bound_options, calls_with, count_in, draw_options, explain_options, id_of, is_chosen, run_options, seq_options, serve_options, text_of, turns_in, value_in}
+use Rattle.ob_command.specs.CommandLine.{Bound, CallsRequest, Draw, DrawRecord, Explain, ExplainCalls, ExplainRecord, ExplainRun, ExplainTraps, Given, Order, Request, Run, RunRequest, RunSteps, RunTree, Seq, Serve, Unclear, are_seen, asked, budget_number, default_budget, default_most, is_most, most_mistake, number, range_by, seen_budget_mistake}
+use Rattle.ob_command.specs.PlainForms.{Chosen, Has, IsMost, IsSeenBudget, Lacks, ModuleAsksFor, RunAsksFor, ScriptAsksFor, ScriptSays, bound_options, budget_in, calls_with, count_in, draw_options, explain_options, given_with_history, id_of, is_chosen, most_in, order_options, run_options, seq_options, serve_options, text_of, turns_in, value_in}
 use Rattle.ob_command.specs.declared.command.CallNumbers.{CallNumbers}
-use Rattle.ob_command.proofs.CommandForms.{bound_asks, draw_schedule_asks, draw_script_asks, explain_module_asks, explain_schedule_asks, explain_script_asks, run_asks, seq_asks, serve_asks}
+use Rattle.ob_command.proofs.CommandForms.{bound_asks, draw_schedule_asks, draw_script_asks, explain_module_asks, explain_schedule_asks, explain_script_asks, order_asks, order_said, run_asks, seq_asks, serve_asks}
 use Rattle.ob_command.proofs.OptionRows.{given_as}
 
 -- ---- options that are there, and that are not
@@ -57,15 +58,15 @@ calls_as m s k t f = record { module_name = m; script_name = s; processes = k; b
 abbrev run_as : (m s d : Text) (k : ℕ) (t : Option ℕ) (f : Option Text) → RunRequest
 run_as m s d k t f = record { calls = calls_as m s k t f; schedule_name = d }
 
-module _ (m s d : Text) (r f c : Option Text) (o t : Option ℕ) (x y z : Bool) where
+module _ (m s d : Text) (r f c : Option Text) (o t q : Option ℕ) (x y z : Bool) where
   abbrev alone : Given
-  alone = given_as None None r f c o t x y z
+  alone = given_as None None r None f c o t q x y z
 
   abbrev with_script : Given
-  with_script = given_as (Some s) None r f c o t x y z
+  with_script = given_as (Some s) None r None f c o t q x y z
 
   abbrev with_schedule : Given
-  with_schedule = given_as (Some s) (Some d) r f c o t x y z
+  with_schedule = given_as (Some s) (Some d) r None f c o t q x y z
 
   a_run : (k : ℕ) → o ≡ Some k → x ≡ false → y ≡ false → asks (codes "run") m with_schedule ≡ Run (run_as m s d k t f)
   a_run k is_o is_x is_y = rw (is_o, is_x, is_y) refl
@@ -108,11 +109,11 @@ module _ (m s d : Text) (r f c : Option Text) (o t : Option ℕ) (x y z : Bool) 
   run_explained : (k : ℕ) → o ≡ Some k → r ≡ None → z ≡ false → asks (codes "explain") m with_schedule ≡ ExplainRun (run_as m s d k t f)
   run_explained k is_o is_r is_z = rw (is_r, is_o, is_z) refl
 
-no_from : (m s d : Text) (r f c : Option Text) (o t : Option ℕ) (x y z : Bool) → x ≡ true → is_some f ≡ true
-    → asks (codes "run") m (given_as (Some s) (Some d) r f c o t x y z) ≡ Unclear
-no_from m s d r None c o t x y z is_x is_f = cc
-no_from m s d r (Some f) c o t x true z is_x is_f = rw is_x refl
-no_from m s d r (Some f) c o t x false z is_x is_f = rw is_x refl
+no_from : (m s d : Text) (r f c : Option Text) (o t q : Option ℕ) (x y z : Bool) → x ≡ true → is_some f ≡ true
+    → asks (codes "run") m (given_as (Some s) (Some d) r None f c o t q x y z) ≡ Unclear
+no_from m s d r None c o t q x y z is_x is_f = cc
+no_from m s d r (Some f) c o t q x true z is_x is_f = rw is_x refl
+no_from m s d r (Some f) c o t q x false z is_x is_f = rw is_x refl
 
 -- ---- what is given by options
 
@@ -127,6 +128,9 @@ shown = value_in (codes "FROM-TO")
 
 abbrev spent : List Chosen → Option ℕ
 spent chosen = option_and_then budget_number (value_in (codes "BUDGET") chosen)
+
+abbrev looked : List Chosen → Option ℕ
+looked = most_in
 
 abbrev treed : List Chosen → Bool
 treed = is_chosen (codes "tree")
@@ -144,67 +148,105 @@ seq_form m s chosen no_m no_s plain lacks = seq_asks m s chosen no_m no_s plain 
 
 pub run_form : RunAsksFor (codes "run") run_options (Lacks (codes "tree" ∷ codes "steps" ∷ [])) Run
 run_form m s d chosen k no_m no_s no_d plain count lacks =
-    run_asks m s d chosen no_m no_s no_d plain (λ e. counted chosen k count) ∙ a_run m s d (told chosen) (begun chosen) (shown chosen) (count_in chosen) (spent chosen) (treed chosen) (stepped chosen) (trapped chosen) k count lacks.0 lacks.1.0
+    run_asks m s d chosen no_m no_s no_d plain (λ e. counted chosen k count) ∙ a_run m s d (told chosen) (begun chosen) (shown chosen) (count_in chosen) (spent chosen) (looked chosen) (treed chosen) (stepped chosen) (trapped chosen) k count lacks.0 lacks.1.0
 
 pub tree_form : RunAsksFor (codes "run") run_options (λ chosen. Has (codes "tree") chosen × Lacks (codes "steps" ∷ codes "FROM" ∷ []) chosen) RunTree
 tree_form m s d chosen k no_m no_s no_d plain count holds =
     run_asks m s d chosen no_m no_s no_d plain (λ e. counted chosen k count)
-    ∙ by_tree m s d (told chosen) (begun chosen) (shown chosen) (count_in chosen) (spent chosen) (treed chosen) (stepped chosen) (trapped chosen) k count holds.0 holds.1.0 (no_value (codes "FROM") chosen holds.1.1.0)
+    ∙ by_tree m s d (told chosen) (begun chosen) (shown chosen) (count_in chosen) (spent chosen) (looked chosen) (treed chosen) (stepped chosen) (trapped chosen) k count holds.0 holds.1.0 (no_value (codes "FROM") chosen holds.1.1.0)
 
 pub steps_form : RunAsksFor (codes "run") run_options (λ chosen. Has (codes "steps") chosen × Lacks (codes "tree" ∷ []) chosen) RunSteps
 steps_form m s d chosen k no_m no_s no_d plain count holds =
-    run_asks m s d chosen no_m no_s no_d plain (λ e. counted chosen k count) ∙ with_steps m s d (told chosen) (begun chosen) (shown chosen) (count_in chosen) (spent chosen) (treed chosen) (stepped chosen) (trapped chosen) k count holds.0 holds.1.0
+    run_asks m s d chosen no_m no_s no_d plain (λ e. counted chosen k count) ∙ with_steps m s d (told chosen) (begun chosen) (shown chosen) (count_in chosen) (spent chosen) (looked chosen) (treed chosen) (stepped chosen) (trapped chosen) k count holds.0 holds.1.0
 
 pub tree_steps_form : RunAsksFor (codes "run") run_options (λ chosen. Has (codes "tree") chosen × Has (codes "steps") chosen) (λ run. Unclear)
 tree_steps_form m s d chosen k no_m no_s no_d plain count holds =
-    run_asks m s d chosen no_m no_s no_d plain (λ e. counted chosen k count) ∙ no_steps m s d (told chosen) (begun chosen) (shown chosen) (count_in chosen) (spent chosen) (treed chosen) (stepped chosen) (trapped chosen) holds.0 holds.1
+    run_asks m s d chosen no_m no_s no_d plain (λ e. counted chosen k count) ∙ no_steps m s d (told chosen) (begun chosen) (shown chosen) (count_in chosen) (spent chosen) (looked chosen) (treed chosen) (stepped chosen) (trapped chosen) holds.0 holds.1
 
 pub tree_from_form : RunAsksFor (codes "run") run_options (λ chosen. Has (codes "tree") chosen × Has (codes "FROM") chosen) (λ run. Unclear)
 tree_from_form m s d chosen k no_m no_s no_d plain count holds =
     run_asks m s d chosen no_m no_s no_d plain (λ e. counted chosen k count)
-    ∙ no_from m s d (told chosen) (begun chosen) (shown chosen) (count_in chosen) (spent chosen) (treed chosen) (stepped chosen) (trapped chosen) holds.0 (a_value (codes "FROM") chosen holds.1)
+    ∙ no_from m s d (told chosen) (begun chosen) (shown chosen) (count_in chosen) (spent chosen) (looked chosen) (treed chosen) (stepped chosen) (trapped chosen) holds.0 (a_value (codes "FROM") chosen holds.1)
 
 pub serve_form : (k : ℕ) → ScriptAsksFor (codes "serve") serve_options (λ chosen. count_in chosen ≡ Some k) (λ m s chosen. Serve (calls_with m s k chosen))
 serve_form k m s chosen no_m no_s plain count =
-    serve_asks m s chosen no_m no_s plain (λ e. counted chosen k count) ∙ served m s [] (told chosen) (begun chosen) (shown chosen) (count_in chosen) (spent chosen) (treed chosen) (stepped chosen) (trapped chosen) k count
+    serve_asks m s chosen no_m no_s plain (λ e. counted chosen k count) ∙ served m s [] (told chosen) (begun chosen) (shown chosen) (count_in chosen) (spent chosen) (looked chosen) (treed chosen) (stepped chosen) (trapped chosen) k count
 
 pub bound_form : (k : ℕ) → ModuleAsksFor (codes "bound") bound_options (λ chosen. count_in chosen ≡ Some k) (λ m chosen. Bound m k (turns_in chosen))
-bound_form k m chosen no_m plain count = bound_asks m chosen no_m plain (λ e. counted chosen k count) ∙ bounded m [] [] (told chosen) (begun chosen) (shown chosen) (count_in chosen) (spent chosen) (treed chosen) (stepped chosen) (trapped chosen) k count
+bound_form k m chosen no_m plain count = bound_asks m chosen no_m plain (λ e. counted chosen k count) ∙ bounded m [] [] (told chosen) (begun chosen) (shown chosen) (count_in chosen) (spent chosen) (looked chosen) (treed chosen) (stepped chosen) (trapped chosen) k count
 
 pub draw_form : (calls : Option CallNumbers) → RunAsksFor (codes "draw") draw_options (λ chosen. range_by (value_in (codes "FROM-TO") chosen) ≡ Some calls) (λ run. Draw run calls)
 draw_form calls m s d chosen k no_m no_s no_d plain count range =
-    draw_schedule_asks m s d chosen no_m no_s no_d plain (not_needed chosen) ∙ drawn m s d (told chosen) (begun chosen) (shown chosen) (count_in chosen) (spent chosen) (treed chosen) (stepped chosen) (trapped chosen) k calls count range
+    draw_schedule_asks m s d chosen no_m no_s no_d plain (not_needed chosen) ∙ drawn m s d (told chosen) (begun chosen) (shown chosen) (count_in chosen) (spent chosen) (looked chosen) (treed chosen) (stepped chosen) (trapped chosen) k calls count range
 
 pub draw_record_form : (calls : Option CallNumbers) → ScriptAsksFor (codes "draw") draw_options
     (λ chosen. (range_by (value_in (codes "FROM-TO") chosen) ≡ Some calls) × Lacks (codes "N" ∷ codes "BUDGET" ∷ codes "FROM" ∷ []) chosen) (λ m r chosen. DrawRecord m r calls)
 draw_record_form calls m r chosen no_m no_r plain holds =
     draw_script_asks m r chosen no_m no_r plain (not_needed chosen)
-    ∙ record_drawn m r [] (told chosen) (begun chosen) (shown chosen) (count_in chosen) (spent chosen) (treed chosen) (stepped chosen) (trapped chosen) calls holds.0 (no_count chosen holds.1.0) (no_turns chosen holds.1.1.0) (no_value (codes "FROM") chosen holds.1.1.1.0)
+    ∙ record_drawn m r [] (told chosen) (begun chosen) (shown chosen) (count_in chosen) (spent chosen) (looked chosen) (treed chosen) (stepped chosen) (trapped chosen) calls holds.0 (no_count chosen holds.1.0) (no_turns chosen holds.1.1.0) (no_value (codes "FROM") chosen holds.1.1.1.0)
+
+-- the budget and the number of configurations are in their ranges, or one is not
+both : (a b : Bool) → a ≡ true → b ≡ true → (a && b) ≡ true
+both a b is_a is_b = rw (is_a, is_b) refl
+
+is_false : (t : Bool) → (t ≡ true → ⊥) → t ≡ false
+is_false true h = absurd (h refl)
+is_false false h = refl
+
+either_out : (a b : Bool) → b ≡ false → (a && b) ≡ false
+either_out true b h = h
+either_out false b h = refl
+
+order_by : (m h : Text) (chosen : List Chosen) (t : Bool) → are_seen (given_with_history h chosen) ≡ t
+    → asks (codes "order") m (given_with_history h chosen) ≡ (if t then Order m h (budget_in chosen) (unwrap_or (most_in chosen) default_most) else Unclear)
+order_by m h chosen true is =
+    ap (λ (t : Bool). unwrap_or (if t then Some (Order m h (budget_in chosen) (unwrap_or (most_in chosen) default_most)) else None) Unclear) is
+order_by m h chosen false is =
+    ap (λ (t : Bool). unwrap_or (if t then Some (Order m h (budget_in chosen) (unwrap_or (most_in chosen) default_most)) else None) Unclear) is
+
+pub order_form : ScriptAsksFor (codes "order") order_options (λ chosen. IsSeenBudget chosen × IsMost chosen)
+    (λ m h chosen. Order m h (budget_in chosen) (unwrap_or (most_in chosen) default_most))
+order_form m h chosen no_m no_h plain holds =
+    order_asks m h chosen no_m no_h plain ∙ order_by m h chosen true (both _ _ holds.0 holds.1)
+
+pub order_budget_said : ScriptSays (codes "order") order_options (λ chosen. (IsSeenBudget chosen → ⊥) × IsMost chosen) seen_budget_mistake
+order_budget_said m h chosen no_m no_h plain holds = (
+  order_asks m h chosen no_m no_h plain
+      ∙ order_by m h chosen false (ap (λ (t : Bool). t && option_map_or is_most (most_in chosen) true) (is_false _ holds.0)),
+  order_said m h chosen no_m no_h plain ∙ ap (λ (t : Bool). Some (if t then seen_budget_mistake else most_mistake)) holds.1,
+)
+
+pub order_most_said : ScriptSays (codes "order") order_options (λ chosen. IsMost chosen → ⊥) most_mistake
+order_most_said m h chosen no_m no_h plain holds =
+    let out = is_false (option_map_or is_most (most_in chosen) true) holds in (
+      order_asks m h chosen no_m no_h plain ∙ order_by m h chosen false (either_out _ _ out),
+      order_said m h chosen no_m no_h plain ∙ ap (λ (t : Bool). Some (if t then seen_budget_mistake else most_mistake)) out,
+    )
 
 pub explain_form : ModuleAsksFor (codes "explain") explain_options (Lacks (codes "RECORD" ∷ codes "FROM" ∷ codes "N" ∷ codes "traps" ∷ [])) (λ m chosen. Explain m (turns_in chosen))
 explain_form m chosen no_m plain lacks =
     explain_module_asks m chosen no_m plain (not_needed chosen)
-    ∙ explained m [] [] (told chosen) (begun chosen) (shown chosen) (count_in chosen) (spent chosen) (treed chosen) (stepped chosen) (trapped chosen) (no_value (codes "RECORD") chosen lacks.0) (no_value (codes "FROM") chosen lacks.1.0) (no_count chosen lacks.1.1.0) lacks.1.1.1.0
+    ∙ explained m [] [] (told chosen) (begun chosen) (shown chosen) (count_in chosen) (spent chosen) (looked chosen) (treed chosen) (stepped chosen) (trapped chosen) (no_value (codes "RECORD") chosen lacks.0) (no_value (codes "FROM") chosen lacks.1.0) (no_count chosen lacks.1.1.0) lacks.1.1.1.0
 
 pub explain_record_form : (r : Text) → ModuleAsksFor (codes "explain") explain_options
     (λ chosen. (value_in (codes "RECORD") chosen ≡ Some r) × Lacks (codes "FROM" ∷ codes "N" ∷ codes "BUDGET" ∷ codes "traps" ∷ []) chosen) (λ m chosen. ExplainRecord m r)
 explain_record_form r m chosen no_m plain holds =
     explain_module_asks m chosen no_m plain (not_needed chosen)
-    ∙ record_explained m [] [] (told chosen) (begun chosen) (shown chosen) (count_in chosen) (spent chosen) (treed chosen) (stepped chosen) (trapped chosen) r holds.0 (no_value (codes "FROM") chosen holds.1.0) (no_count chosen holds.1.1.0) (no_turns chosen holds.1.1.1.0) holds.1.1.1.1.0
+    ∙ record_explained m [] [] (told chosen) (begun chosen) (shown chosen) (count_in chosen) (spent chosen) (looked chosen) (treed chosen) (stepped chosen) (trapped chosen) r holds.0 (no_value (codes "FROM") chosen holds.1.0) (no_count chosen holds.1.1.0) (no_turns chosen holds.1.1.1.0) holds.1.1.1.1.0
 
 pub explain_calls_form : ScriptAsksFor (codes "explain") explain_options (Lacks (codes "RECORD" ∷ codes "N" ∷ codes "traps" ∷ []))
     (λ m s chosen. ExplainCalls (calls_with m s 16 chosen))
 explain_calls_form m s chosen no_m no_s plain lacks =
     explain_script_asks m s chosen no_m no_s plain (not_needed chosen)
-    ∙ calls_explained m s [] (told chosen) (begun chosen) (shown chosen) (count_in chosen) (spent chosen) (treed chosen) (stepped chosen) (trapped chosen) (no_value (codes "RECORD") chosen lacks.0) (no_count chosen lacks.1.0) lacks.1.1.0
+    ∙ calls_explained m s [] (told chosen) (begun chosen) (shown chosen) (count_in chosen) (spent chosen) (looked chosen) (treed chosen) (stepped chosen) (trapped chosen) (no_value (codes "RECORD") chosen lacks.0) (no_count chosen lacks.1.0) lacks.1.1.0
 
 pub explain_traps_form : ScriptAsksFor (codes "explain") explain_options (λ chosen. Has (codes "traps") chosen × Lacks (codes "RECORD" ∷ codes "N" ∷ []) chosen)
     (λ m s chosen. ExplainTraps (calls_with m s 16 chosen))
 explain_traps_form m s chosen no_m no_s plain holds =
     explain_script_asks m s chosen no_m no_s plain (not_needed chosen)
-    ∙ traps_explained m s [] (told chosen) (begun chosen) (shown chosen) (count_in chosen) (spent chosen) (treed chosen) (stepped chosen) (trapped chosen) holds.0 (no_value (codes "RECORD") chosen holds.1.0) (no_count chosen holds.1.1.0)
+    ∙ traps_explained m s [] (told chosen) (begun chosen) (shown chosen) (count_in chosen) (spent chosen) (looked chosen) (treed chosen) (stepped chosen) (trapped chosen) holds.0 (no_value (codes "RECORD") chosen holds.1.0) (no_count chosen holds.1.1.0)
 
 pub explain_run_form : RunAsksFor (codes "explain") explain_options (Lacks (codes "RECORD" ∷ codes "traps" ∷ [])) ExplainRun
 explain_run_form m s d chosen k no_m no_s no_d plain count lacks =
     explain_schedule_asks m s d chosen no_m no_s no_d plain (not_needed chosen)
-    ∙ run_explained m s d (told chosen) (begun chosen) (shown chosen) (count_in chosen) (spent chosen) (treed chosen) (stepped chosen) (trapped chosen) k count (no_value (codes "RECORD") chosen lacks.0) lacks.1.0
+    ∙ run_explained m s d (told chosen) (begun chosen) (shown chosen) (count_in chosen) (spent chosen) (looked chosen) (treed chosen) (stepped chosen) (trapped chosen) k count (no_value (codes "RECORD") chosen lacks.0) lacks.1.0

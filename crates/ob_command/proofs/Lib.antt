@@ -13,3 +13,4 @@ pub mod HelpForms
 pub mod FilledRows
 pub mod Required
 pub mod Readings
+pub mod SplitTexts

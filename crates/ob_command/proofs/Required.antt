@@ -17,7 +17,7 @@ use Rattle.clap.specs.declared.error.kind.ErrorKind.{ErrorKind}
 use Rattle.clap.specs.declared.error.kind.ErrorKind.TheVariants as kind
 use Rattle.ob_command_line.specs.ClapCommand.{obl0_app}
 use Rattle.ob_command.specs.CommandLine.{Seq, Serve, Verify, asked, asks_command, calls_of, command_of, form_mistake, form_mistake_of, given_of, processes_of, sequence_of}
-use Rattle.ob_command.proofs.BuiltLine.{bound_leaf, built_app, built_budget, built_from, built_help, built_name, built_number, built_one, built_top, draw_leaf, explain_leaf, module_leaf, names, needed, run_leaf, seq_leaf, serve_leaf, verify_leaf}
+use Rattle.ob_command.proofs.BuiltLine.{bound_leaf, built_app, built_budget, built_from, built_help, built_name, built_number, built_one, built_top, draw_leaf, explain_leaf, module_leaf, names, needed, order_leaf, run_leaf, seq_leaf, serve_leaf, verify_leaf}
 use Rattle.ob_command.proofs.FilledRows.{EachFills, Filled, Fills, given_first, given_number, level_filled, neither, suits, with_filled, without_filled}
 use Rattle.ob_command.proofs.Numbers.{budget_accepted, number_accepted}
 
@@ -249,7 +249,7 @@ each_asks = (
         several_forms run_leaf (λ rows. refl),
         (
           one_form serve_leaf serve_asks,
-          (several_forms draw_leaf (λ rows. refl), (one_form verify_leaf verify_asks, (several_forms explain_leaf (λ rows. refl), (one_form bound_leaf bound_asks, tt)))),
+          (several_forms draw_leaf (λ rows. refl), (one_form verify_leaf verify_asks, (several_forms order_leaf (λ rows. refl), (several_forms explain_leaf (λ rows. refl), (one_form bound_leaf bound_asks, tt))))),
         ),
       ),
     ),

@@ -1,5 +1,5 @@
 -- What the words of the command line ask for, by what clap makes of them.
-use Rattle.std.specs.Prelude.{ℕ, ◌==◌, ◌+◌, ◌++◌, ◌&&◌, ◌||◌, Bool, false, not, List, [], ◌∷◌, Option, Some, None, find, is_some, nat_le, nat_lt, slice_get, option_and_then, option_map, unwrap_or, codes, if◌then◌else◌}
+use Rattle.std.specs.Prelude.{ℕ, ◌==◌, ◌+◌, ◌++◌, ◌&&◌, ◌||◌, Bool, true, false, not, List, [], ◌∷◌, Option, Some, None, find, is_some, nat_le, nat_lt, slice_get, option_and_then, option_map, unwrap_or, codes, if◌then◌else◌}
 use Rattle.std.specs.Char.{is_ascii_digit}
 use Rattle.std.specs.List.{after_first, before_first, list_all, list_any}
 use Rattle.std.specs.Option.{option_map_or}
@@ -32,7 +32,8 @@ pub record RunRequest : Type 0 where
 
 -- What they ask for: the rules of a module checked; its code listed; the calls of a script made on it; a run's record; the record of the
 -- same run by the tree of the module; the record with the own steps of its calls beside it; the record of workers' run; a run's picture;
--- a record's; the order of a record checked; what is wrong with a module, or with a module and a script, shown to people; where the calls
+-- a record's; the order of a record checked; a legal order of a history, with a budget where one is given, by a look at so many
+-- configurations at most; what is wrong with a module, or with a module and a script, shown to people; where the calls
 -- of a script trap, shown to people; what is wrong with a run; the same of a record; how many own steps a call takes at most; help; the
 -- version; or nothing that there is. A command has the names of its files, and a budget is how many turns each call has. A picture has
 -- some calls, or all.
@@ -47,6 +48,7 @@ pub data Request : Type 0 where
   Draw : (run : RunRequest) (calls : Option CallNumbers) → Request
   DrawRecord : (module_name record_name : Text) (calls : Option CallNumbers) → Request
   Verify : (module_name record_name : Text) → Request
+  Order : (module_name history_name : Text) (budget : Option ℕ) (most : ℕ) → Request
   Explain : (module_name : Text) (budget : ℕ) → Request
   ExplainCalls : (calls : CallsRequest) → Request
   ExplainTraps : (calls : CallsRequest) → Request
@@ -97,6 +99,17 @@ is_turned text = are_turned (place_number (before_first is_minus text)) (place_n
 abbrev pub default_budget : ℕ
 default_budget = 100000
 
+-- how many configurations a search for an order looks at where nothing is said of it
+abbrev pub default_most : ℕ
+default_most = 10000000
+
+-- a budget that calls of a history can have had, and a number of configurations
+abbrev pub is_seen_budget : ℕ → Bool
+is_seen_budget budget = nat_le budget 1000000
+
+abbrev pub is_most : ℕ → Bool
+is_most most = nat_le 1 most && nat_le most 1000000000
+
 -- of how many processes calls may be that are made one at a time
 abbrev pub sequence_processes : ℕ
 sequence_processes = 16
@@ -109,10 +122,12 @@ pub record Given : Type 0 where
   pub script_name : Option Text
   pub schedule_name : Option Text
   pub record_name : Option Text
+  pub history_name : Option Text
   pub from_name : Option Text
   pub range : Option Text
   pub processes : Option ℕ
   pub budget : Option ℕ
+  pub most : Option ℕ
   pub tree : Bool
   pub steps : Bool
   pub traps : Bool
@@ -124,6 +139,10 @@ processes_of rows = option_and_then number (one_of (codes "N") rows)
 -- the budget that stands behind `-b`, of the same rows
 abbrev pub budget_of : List Row → Option ℕ
 budget_of rows = option_and_then budget_number (one_of (codes "BUDGET") rows)
+
+-- the number of configurations that stands behind `--most`, of the same rows
+abbrev pub most_of : List Row → Option ℕ
+most_of rows = option_and_then budget_number (one_of (codes "K") rows)
 
 -- whether a word stands there that has no value, by what clap keeps of it
 abbrev pub is_true : Option Text → Bool
@@ -139,10 +158,12 @@ given_of rows = record {
   script_name = first_of (codes "SCRIPT") rows;
   schedule_name = first_of (codes "SCHEDULE") rows;
   record_name = first_of (codes "RECORD") rows;
+  history_name = first_of (codes "HISTORY") rows;
   from_name = first_of (codes "FROM") rows;
   range = first_of (codes "FROM-TO") rows;
   processes = processes_of rows;
   budget = budget_of rows;
+  most = most_of rows;
   tree = is_set (codes "tree") rows;
   steps = is_set (codes "steps") rows;
   traps = is_set (codes "traps") rows;
@@ -193,6 +214,17 @@ record_picture_of module_name given =
 -- the bound of as many processes as are given
 abbrev pub bound_of : (module_name : Text) → Given → Option Request
 bound_of module_name given = option_map (λ processes. Bound module_name processes (turns_of given)) given.processes
+
+-- the numbers behind `order` are in their ranges, where they are given
+abbrev pub are_seen : Given → Bool
+are_seen given = option_map_or is_seen_budget given.budget true && option_map_or is_most given.most true
+
+-- a legal order of a history, where the numbers are in their ranges
+abbrev pub order_of : (module_name : Text) → Given → Option Request
+order_of module_name given =
+    if are_seen given
+    then option_map (λ history_name. Order module_name history_name given.budget (unwrap_or given.most default_most)) given.history_name
+    else None
 
 -- whether a part of what may be given is given
 abbrev pub has : Given → Part → Bool
@@ -255,6 +287,7 @@ commands =
     ∷ (codes "serve", one_form (λ m given. option_map Serve (calls_of m given)))
     ∷ (codes "draw", draw_forms)
     ∷ (codes "verify", one_form (λ m given. option_map (Verify m) given.record_name))
+    ∷ (codes "order", one_form order_of)
     ∷ (codes "explain", explain_forms)
     ∷ (codes "bound", one_form bound_of)
     ∷ []
@@ -298,6 +331,15 @@ abbrev pub explain_mistake : Text
 explain_mistake =
     codes "error: these words are in no form of explain, which are\n  obl0 explain MODULE\n  obl0 explain MODULE SCRIPT [-b BUDGET] [--from RECORD] [--traps]\n  obl0 explain MODULE SCRIPT SCHEDULE -n N [-b BUDGET] [--from RECORD]\n  obl0 explain MODULE --record RECORD\n\nFor more information, try '--help'.\n"
 
+-- and of numbers behind `order` that are out of their ranges
+abbrev pub seen_budget_mistake : Text
+seen_budget_mistake =
+    codes "error: behind -b stands how many turns each call had, 0 to 1000000\n\nFor more information, try '--help'.\n"
+
+abbrev pub most_mistake : Text
+most_mistake =
+    codes "error: behind --most stands how many configurations are looked at, 1 to 1000000000\n\nFor more information, try '--help'.\n"
+
 -- and of words behind `run` that ask for own steps by the tree, or that begin a run by the tree with a record
 abbrev pub steps_mistake : Text
 steps_mistake = codes "error: --tree and --steps don't stand together\n\nFor more information, try '--help'.\n"
@@ -308,7 +350,7 @@ from_mistake = codes "error: --tree and --from don't stand together\n\nFor more 
 -- and behind which options which numbers stand
 abbrev pub number_sentence : Text
 number_sentence =
-    codes "behind -n stands the number of processes, 1 to 16, and behind -b how many turns each call has, 0 to 1000000\n\nFor more information, try '--help'.\n"
+    codes "behind -n stands the number of processes, 1 to 16, behind -b how many turns each call has, 0 to 1000000, and behind --most how many configurations are looked at, 1 to 1000000000\n\nFor more information, try '--help'.\n"
 
 -- a number below 0, or else no word that there is: a `-` and a digit
 abbrev pub is_negative : Text → Bool
@@ -330,12 +372,18 @@ draw_mistake_of range = if is_some (range_by range) then draw_mistake else range
 abbrev pub run_mistake_of : (steps : Bool) → Text
 run_mistake_of steps = if steps then steps_mistake else from_mistake
 
--- What is said where the words of a command that has several forms have none of these. Every other command has one form, which clap tests.
+-- and of numbers behind `order`: of the number of configurations where that is out of its range, and else of the budget
+abbrev pub order_mistake_of : (most : Option ℕ) → Text
+order_mistake_of most = if option_map_or is_most most true then seen_budget_mistake else most_mistake
+
+-- What is said where the words of a command that has several forms have none of these, or where numbers behind `order` are out of their
+-- ranges. Every other command has one form, which clap tests.
 abbrev pub form_mistake_by : Text → Given → Option Text
 form_mistake_by name given =
     if bytes_eq name (codes "draw") then Some (draw_mistake_of given.range)
     else if bytes_eq name (codes "explain") then Some explain_mistake
     else if bytes_eq name (codes "run") then Some (run_mistake_of given.steps)
+    else if bytes_eq name (codes "order") then Some (order_mistake_of given.most)
     else None
 
 -- the same of the rows
@@ -383,7 +431,9 @@ clap_request words = request_by (fault_of obl0_app words) (subcommand_of obl0_ap
 
 -- the names of the commands
 abbrev pub command_names : List Text
-command_names = codes "check" ∷ codes "list" ∷ codes "seq" ∷ codes "run" ∷ codes "serve" ∷ codes "draw" ∷ codes "verify" ∷ codes "explain" ∷ codes "bound" ∷ []
+command_names =
+    codes "check" ∷ codes "list" ∷ codes "seq" ∷ codes "run" ∷ codes "serve" ∷ codes "draw" ∷ codes "verify"
+    ∷ codes "order" ∷ codes "explain" ∷ codes "bound" ∷ []
 
 abbrev pub is_command : Text → Bool
 is_command name = list_any (bytes_eq name) command_names

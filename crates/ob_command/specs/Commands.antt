@@ -12,7 +12,7 @@ use Rattle.ob_command.specs.declared.given.GivenWords.{GivenWords}
 use Rattle.ob_command.specs.declared.command.Stop.{Stop}
 use Rattle.ob_command.specs.declared.command.Stop.TheVariants as stops
 use Rattle.ob_command_line.specs.ClapCommand.{obl0_app}
-use Rattle.ob_command.specs.CommandLine.{Text, clap_words, extra_of_help, form_mistake_of, has_negative, help_mistake, loose_number, number_sentence, number_tip, CallsRequest, Given, Request, RunRequest, Check, Listing, Seq, Run, RunTree, RunSteps, Serve, Draw, DrawRecord, Verify, Explain, ExplainCalls, ExplainTraps, ExplainRun, ExplainRecord, Bound, Help, Version, Unclear}
+use Rattle.ob_command.specs.CommandLine.{Text, clap_words, extra_of_help, form_mistake_of, has_negative, help_mistake, loose_number, number_sentence, number_tip, CallsRequest, Given, Request, RunRequest, Check, Listing, Seq, Run, RunTree, RunSteps, Serve, Draw, DrawRecord, Verify, Order, Explain, ExplainCalls, ExplainTraps, ExplainRun, ExplainRecord, Bound, Help, Version, Unclear}
 
 -- what is given by words
 abbrev pub given_by : GivenWords → Given
@@ -20,10 +20,12 @@ given_by given = record {
   script_name = option_map (λ name. name.now) given.script_name;
   schedule_name = option_map (λ name. name.now) given.schedule_name;
   record_name = option_map (λ name. name.now) given.record_name;
+  history_name = option_map (λ name. name.now) given.history_name;
   from_name = option_map (λ name. name.now) given.from_name;
   range = option_map (λ text. text.now) given.range;
   processes = given.processes;
   budget = given.budget;
+  most = given.most;
   tree = given.tree;
   steps = given.steps;
   traps = given.traps;
@@ -53,6 +55,7 @@ request_of (commands.Serve calls) = Serve (calls_request_of calls)
 request_of (commands.Draw run calls) = Draw (run_request_of run) calls
 request_of (commands.DrawRecord module_name record_name calls) = DrawRecord module_name.now record_name.now calls
 request_of (commands.Verify module_name record_name) = Verify module_name.now record_name.now
+request_of (commands.Order module_name history_name budget most) = Order module_name.now history_name.now budget most
 request_of (commands.Explain module_name budget) = Explain module_name.now budget
 request_of (commands.ExplainCalls calls) = ExplainCalls (calls_request_of calls)
 request_of (commands.ExplainTraps calls) = ExplainTraps (calls_request_of calls)
@@ -103,8 +106,11 @@ IsWordFault words text =
     × (list_all (is_loose (has_negative words)) (fault_of obl0_app words) ≡ true → SaysTip (loose_number words) text)
 
 -- Where these words are no command, clap finds a fault in them, or they have no form of a command that has several, and that is said.
+abbrev pub IsMistakeText : List Text → (text : Text) → Type 0
+IsMistakeText words text = IsWordFault words text ⊎ (form_mistake_of words ≡ Some text)
+
 abbrev pub IsMistake : List Text → Result command.Command Stop → Type 0
-IsMistake words (Err (stops.Unclear text)) = IsWordFault words (string_bytes text) ⊎ (form_mistake_of words ≡ Some (string_bytes text))
+IsMistake words (Err (stops.Unclear text)) = IsMistakeText words (string_bytes text)
 IsMistake words _ = Unit {0}
 
 -- what is said of a word that is too much behind `help` and a name
@@ -119,6 +125,14 @@ IsMistakeBeside (Some word) words result = IsHelpMistake word result
 
 abbrev pub IsMistakeOf : List Text → Result command.Command Stop → Type 0
 IsMistakeOf words = IsMistakeBeside (extra_of_help words) words
+
+-- what is said of such words
+abbrev pub IsTextBeside : (extra : Option Text) → List Text → (text : Text) → Type 0
+IsTextBeside None words text = IsMistakeText (clap_words words) text
+IsTextBeside (Some word) words text = text ≡ help_mistake word
+
+abbrev pub IsMistakeTextOf : List Text → (text : Text) → Type 0
+IsMistakeTextOf words = IsTextBeside (extra_of_help words) words
 
 -- what is said of a mistake of a kind
 abbrev pub IsSaidOf : (negative : Bool) (number : Option Text) → ErrorKind → (text : Text) → Type 0

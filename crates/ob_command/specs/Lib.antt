@@ -1,3 +1,4 @@
+pub mod ClapTexts
 pub mod CommandLine
 pub mod Commands
 pub mod PlainForms

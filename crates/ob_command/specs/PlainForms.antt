@@ -1,8 +1,9 @@
 -- The plain forms of the commands: names that are no options, and options in any order.
 use Rattle.std.specs.Prelude.{◌≡◌, ℕ, Bool, true, false, not, List, [], ◌∷◌, Option, Some, None, is_some, find, option_and_then, option_map, unwrap_or, codes}
 use Rattle.std.specs.List.{list_any}
+use Rattle.std.specs.Option.{option_map_or}
 use Rattle.std.specs.Str.{bytes_eq}
-use Rattle.ob_command.specs.CommandLine.{CallsRequest, Given, Help, Request, RunRequest, Text, Unclear, Version, asked, budget_number, calls_in, default_budget, is_option, number, request}
+use Rattle.ob_command.specs.CommandLine.{CallsRequest, Given, Help, Request, RunRequest, Text, Unclear, Version, asked, budget_number, calls_in, default_budget, form_mistake_of, is_most, is_option, is_seen_budget, number, request}
 
 -- `help` and the name, the name with `--help` or `-h`, and all three ask for help.
 pub record IsHelpAsked (name : Text) : Type 0 where
@@ -19,11 +20,12 @@ pub record IsVersionAsked (name : Text) : Type 0 where
 
 -- ---- options among words
 
--- an option as it stands among words, with the word behind it where it has one: `-n`, `-b` or `--budget`, `--from`, `--calls`, `--record`,
--- `--tree`, `--steps` and `--traps`
+-- an option as it stands among words, with the word behind it where it has one: `-n`, `-b` or `--budget`, `--most`, `--from`, `--calls`,
+-- `--record`, `--tree`, `--steps` and `--traps`
 pub data Chosen : Type 0 where
   Count : (n : Text) → Chosen
   Turns : (short : Bool) (b : Text) → Chosen
+  Most : (k : Text) → Chosen
   Start : (f : Text) → Chosen
   Range : (c : Text) → Chosen
   Told : (r : Text) → Chosen
@@ -35,6 +37,7 @@ pub data Chosen : Type 0 where
 abbrev pub id_of : Chosen → Text
 id_of (Count n) = codes "N"
 id_of (Turns short b) = codes "BUDGET"
+id_of (Most k) = codes "K"
 id_of (Start f) = codes "FROM"
 id_of (Range c) = codes "FROM-TO"
 id_of (Told r) = codes "RECORD"
@@ -46,6 +49,7 @@ id_of OfTraps = codes "traps"
 abbrev pub text_of : Chosen → Text
 text_of (Count n) = n
 text_of (Turns short b) = b
+text_of (Most k) = k
 text_of (Start f) = f
 text_of (Range c) = c
 text_of (Told r) = r
@@ -60,6 +64,7 @@ budget_flag false = codes "--budget"
 abbrev pub with_words : Chosen → List Text → List Text
 with_words (Count n) rest = codes "-n" ∷ n ∷ rest
 with_words (Turns short b) rest = budget_flag short ∷ b ∷ rest
+with_words (Most k) rest = codes "--most" ∷ k ∷ rest
 with_words (Start f) rest = codes "--from" ∷ f ∷ rest
 with_words (Range c) rest = codes "--calls" ∷ c ∷ rest
 with_words (Told r) rest = codes "--record" ∷ r ∷ rest
@@ -75,6 +80,7 @@ words_of (chosen ∷ others) = with_words chosen (words_of others)
 abbrev pub is_plain : Chosen → Bool
 is_plain (Count n) = is_some (number n)
 is_plain (Turns short b) = is_some (budget_number b)
+is_plain (Most k) = is_some (budget_number k)
 is_plain (Start f) = not (is_option f)
 is_plain (Range c) = is_some (calls_in c)
 is_plain (Told r) = not (is_option r)
@@ -99,6 +105,9 @@ serve_options = codes "N" ∷ codes "BUDGET" ∷ codes "FROM" ∷ []
 abbrev pub draw_options : List Text
 draw_options = codes "N" ∷ codes "BUDGET" ∷ codes "FROM" ∷ codes "FROM-TO" ∷ []
 
+abbrev pub order_options : List Text
+order_options = codes "BUDGET" ∷ codes "K" ∷ []
+
 abbrev pub explain_options : List Text
 explain_options = codes "N" ∷ codes "BUDGET" ∷ codes "FROM" ∷ codes "RECORD" ∷ codes "traps" ∷ []
 
@@ -118,14 +127,20 @@ given_in script_name schedule_name chosen = record {
   script_name = script_name;
   schedule_name = schedule_name;
   record_name = value_in (codes "RECORD") chosen;
+  history_name = None;
   from_name = value_in (codes "FROM") chosen;
   range = value_in (codes "FROM-TO") chosen;
   processes = option_and_then number (value_in (codes "N") chosen);
   budget = option_and_then budget_number (value_in (codes "BUDGET") chosen);
+  most = option_and_then budget_number (value_in (codes "K") chosen);
   tree = is_chosen (codes "tree") chosen;
   steps = is_chosen (codes "steps") chosen;
   traps = is_chosen (codes "traps") chosen;
 }
+
+-- the same with the name of a history and no other file's
+abbrev pub given_with_history : (history_name : Text) → List Chosen → Given
+given_with_history history_name chosen = record (given_in None None chosen) { history_name = Some history_name }
 
 -- What stands behind a command asks for what the table of commands says of it: names that are no options, of a module and of further files,
 -- and behind them options of these names in any order, with `-n` among them where the command has to have it.
@@ -146,6 +161,11 @@ AsksWithSchedule command needed names = (m s d : Text) (chosen : List Chosen) �
     → ArePlain names chosen → IsCounted needed chosen
     → request (command ∷ m ∷ s ∷ d ∷ words_of chosen) ≡ unwrap_or (asked command m (given_in (Some s) (Some d) chosen)) Unclear
 
+-- and with the name of a history behind that of a module
+abbrev pub AsksWithHistory : (command : Text) (names : List Text) → Type 0
+AsksWithHistory command names = (m h : Text) (chosen : List Chosen) → is_option m ≡ false → is_option h ≡ false → ArePlain names chosen
+    → request (command ∷ m ∷ h ∷ words_of chosen) ≡ unwrap_or (asked command m (given_with_history h chosen)) Unclear
+
 -- ---- what each form asks for
 
 -- how many processes they give, and how many turns
@@ -154,6 +174,13 @@ count_in chosen = option_and_then number (value_in (codes "N") chosen)
 
 abbrev pub turns_in : List Chosen → ℕ
 turns_in chosen = unwrap_or (option_and_then budget_number (value_in (codes "BUDGET") chosen)) default_budget
+
+-- the budget where one is given, and how many configurations are looked at
+abbrev pub budget_in : List Chosen → Option ℕ
+budget_in chosen = option_and_then budget_number (value_in (codes "BUDGET") chosen)
+
+abbrev pub most_in : List Chosen → Option ℕ
+most_in chosen = option_and_then budget_number (value_in (codes "K") chosen)
 
 -- the calls and the run of these files, of so many processes, with the other options
 abbrev pub calls_with : (m s : Text) (processes : ℕ) → List Chosen → CallsRequest
@@ -177,6 +204,12 @@ abbrev pub ScriptAsksFor : (command : Text) (names : List Text) (Holds : List Ch
 ScriptAsksFor command names Holds asks = (m s : Text) (chosen : List Chosen) → is_option m ≡ false → is_option s ≡ false → ArePlain names chosen
     → Holds chosen → request (command ∷ m ∷ s ∷ words_of chosen) ≡ asks m s chosen
 
+-- Such a command on a module and a further file is none, and this is said of its words.
+abbrev pub ScriptSays : (command : Text) (names : List Text) (Holds : List Chosen → Type 0) (mistake : Text) → Type 0
+ScriptSays command names Holds mistake = (m s : Text) (chosen : List Chosen) → is_option m ≡ false → is_option s ≡ false → ArePlain names chosen
+    → Holds chosen → (request (command ∷ m ∷ s ∷ words_of chosen) ≡ Unclear)
+    × (form_mistake_of (command ∷ m ∷ s ∷ words_of chosen) ≡ Some mistake)
+
 abbrev pub RunAsksFor : (command : Text) (names : List Text) (Holds : List Chosen → Type 0) (asks : RunRequest → Request) → Type 0
 RunAsksFor command names Holds asks = (m s d : Text) (chosen : List Chosen) (processes : ℕ) → is_option m ≡ false → is_option s ≡ false
     → is_option d ≡ false → ArePlain names chosen → count_in chosen ≡ Some processes → Holds chosen
@@ -189,3 +222,10 @@ Has name chosen = is_chosen name chosen ≡ true
 abbrev pub Lacks : (names : List Text) → List Chosen → Type 0
 Lacks [] chosen = Unit {0}
 Lacks (name ∷ names) chosen = (is_chosen name chosen ≡ false) × Lacks names chosen
+
+-- The numbers behind `order` are in their ranges: of the budget, of the number of configurations, where they stand there.
+abbrev pub IsSeenBudget : List Chosen → Type 0
+IsSeenBudget chosen = option_map_or is_seen_budget (budget_in chosen) true ≡ true
+
+abbrev pub IsMost : List Chosen → Type 0
+IsMost chosen = option_map_or is_most (most_in chosen) true ≡ true

@@ -1,8 +1,9 @@
 //! What a command asks for, of what is given behind it.
 
-ghost use Rattle.std.specs.Prelude.{◌≡◌, option_map};
-ghost use Rattle.ob_command.specs.CommandLine.{asked, asked_by, bound_of, calls_by, calls_of, draw_forms, explain_forms};
-ghost use Rattle.ob_command.specs.CommandLine.{picture_of, record_picture_of, run_forms, run_of, sequence_of, turns_of};
+ghost use Rattle.std.specs.Prelude.{◌≡◌, option_map, true};
+ghost use Rattle.std.specs.Option.{option_map_or};
+ghost use Rattle.ob_command.specs.CommandLine.{are_seen, asked, asked_by, bound_of, calls_by, calls_of, draw_forms, explain_forms, is_most};
+ghost use Rattle.ob_command.specs.CommandLine.{is_seen_budget, order_of, picture_of, record_picture_of, run_forms, run_of, sequence_of, turns_of};
 ghost use Rattle.ob_command.specs.Commands.{calls_request_of, given_by, request_of, run_request_of};
 
 use crate::call_range::range_by;
@@ -11,6 +12,15 @@ use crate::given::{GivenWords, Part, fits};
 
 /// How many turns each call has where nothing is said of them.
 const DEFAULT_BUDGET: u32 = 100_000;
+
+/// How many configurations a search for an order looks at where nothing is said of it.
+const DEFAULT_MOST: u32 = 10_000_000;
+
+/// The most turns that each call of a history can have had.
+const GREATEST_SEEN_BUDGET: u32 = 1_000_000;
+
+/// The most configurations that a search can be told to look at.
+const GREATEST_MOST: u32 = 1_000_000_000;
 
 /// Of how many processes calls may be that are made one at a time.
 const SEQUENCE_PROCESSES: usize = 16;
@@ -34,6 +44,7 @@ pub(crate) fn asked<'a>(
             module_name,
             record_name: given.record_name?,
         }),
+        "order" => order_of(module_name, given),
         "explain" => explain_asked(module_name, given),
         "bound" => bound_of(module_name, given),
         _ => None,
@@ -93,6 +104,48 @@ fn record_picture_of<'a>(module_name: &'a str, given: &GivenWords<'a>) -> Option
         record_name,
         calls,
     })
+}
+
+/// The legal order of a history, where the numbers behind `order` are in their ranges.
+fn order_of<'a>(module_name: &'a str, given: &GivenWords<'a>) -> Option<Command<'a>>
+    ensures { option_map request_of result ≡ order_of module_name.entry.now (given_by given.now) }
+{
+    if !are_seen(given) {
+        return None;
+    }
+    let history_name = given.history_name?;
+    Some(Command::Order {
+        module_name,
+        history_name,
+        budget: given.budget,
+        most: given.most.unwrap_or(DEFAULT_MOST),
+    })
+}
+
+/// Whether the numbers behind `order` are in their ranges, where they are given.
+fn are_seen(given: &GivenWords<'_>) -> bool
+    ensures { result ≡ are_seen (given_by given.now) }
+{
+    is_seen_budget(given.budget) && is_most(given.most)
+}
+
+fn is_seen_budget(budget: Option<u32>) -> bool
+    ensures { result ≡ option_map_or is_seen_budget budget true }
+{
+    match budget {
+        Some(budget) => budget <= GREATEST_SEEN_BUDGET,
+        None => true,
+    }
+}
+
+/// Whether a search can be told to look at so many configurations.
+pub(crate) fn is_most(most: Option<u32>) -> bool
+    ensures { result ≡ option_map_or is_most most true }
+{
+    match most {
+        Some(most) => 1 <= most && most <= GREATEST_MOST,
+        None => true,
+    }
 }
 
 /// What is to be shown, of what is given behind `explain`.

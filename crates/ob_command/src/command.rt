@@ -52,6 +52,13 @@ pub enum Command<'a> {
         module_name: &'a str,
         record_name: &'a str,
     },
+    /// `order MODULE HISTORY -b BUDGET --most K`: whether a history has a legal order, by a look at so many configurations at most.
+    Order {
+        module_name: &'a str,
+        history_name: &'a str,
+        budget: Option<u32>,
+        most: u32,
+    },
     /// `explain MODULE`: what is wrong with a module, shown to people.
     Explain {
         module_name: &'a str,

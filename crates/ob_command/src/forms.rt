@@ -3,8 +3,10 @@
 ghost use Rattle.std.specs.Prelude.{◌≡◌, option_map};
 ghost use Rattle.clap.specs.Words.{found_of, rows_of};
 ghost use Rattle.ob_command.specs.Commands.{given_by};
-ghost use Rattle.ob_command.specs.CommandLine.{draw_mistake_of, form_mistake, form_mistake_by, is_turned, range_mistake, run_mistake_of};
+ghost use Rattle.ob_command.specs.CommandLine.{draw_mistake_of, form_mistake, form_mistake_by, is_turned, order_mistake_of};
+ghost use Rattle.ob_command.specs.CommandLine.{range_mistake, run_mistake_of};
 
+use crate::asked::is_most;
 use crate::call_range::{is_turned, range_by};
 use crate::given::{GivenWords, given_of};
 use clap::ArgMatches;
@@ -43,6 +45,20 @@ error: --tree and --from don't stand together
 For more information, try '--help'.
 ";
 
+/// What is wrong with a budget behind `order` that calls can't have had.
+const UNCLEAR_SEEN_BUDGET: &str = "\
+error: behind -b stands how many turns each call had, 0 to 1000000
+
+For more information, try '--help'.
+";
+
+/// What is wrong with a number of configurations that a search can't be told to look at.
+const UNCLEAR_MOST: &str = "\
+error: behind --most stands how many configurations are looked at, 1 to 1000000000
+
+For more information, try '--help'.
+";
+
 /// What is wrong with a word behind `--calls` that names no calls.
 const UNCLEAR_CALLS: &str = "\
 error: behind --calls stands FROM-TO, as 3-5: the places of the first and the last call, from 1
@@ -57,7 +73,7 @@ error: behind --calls stands FROM-TO, and here FROM is behind TO; the lower plac
 For more information, try '--help'.
 ";
 
-/// What is said of words that have none of the forms of a command, where it has several.
+/// What is said of words that have none of the forms of a command, where it has several, or numbers that it doesn't take.
 pub(crate) fn form_mistake(name: &str, matches: &ArgMatches<'_>) -> Option<&'static str>
     ensures { option_map (λ text. text.now) result ≡ form_mistake name.now (rows_of (found_of matches.now)) }
 {
@@ -72,6 +88,7 @@ fn form_mistake_by(name: &str, given: &GivenWords<'_>) -> Option<&'static str>
         "draw" => Some(draw_mistake_of(given.range)),
         "explain" => Some(UNCLEAR_EXPLAIN),
         "run" => Some(run_mistake_of(given.steps)),
+        "order" => Some(order_mistake_of(given.most)),
         _ => None,
     }
 }
@@ -81,6 +98,17 @@ fn run_mistake_of(steps: bool) -> &'static str
     ensures { result.now ≡ run_mistake_of steps }
 {
     if steps { TREE_AND_STEPS } else { TREE_AND_FROM }
+}
+
+/// What is said of numbers behind `order` of which one is out of its range.
+fn order_mistake_of(most: Option<u32>) -> &'static str
+    ensures { result.now ≡ order_mistake_of most }
+{
+    if is_most(most) {
+        UNCLEAR_SEEN_BUDGET
+    } else {
+        UNCLEAR_MOST
+    }
 }
 
 /// What is said of words that have none of the forms of `draw`.

@@ -2,7 +2,7 @@
 
 ghost use Rattle.std.specs.Prelude.{◌≡◌, option_map};
 ghost use Rattle.clap.specs.Words.{first_of, found_of, rows_of};
-ghost use Rattle.ob_command.specs.CommandLine.{budget_of, fits, given_of, has, is_set, is_true, processes_of};
+ghost use Rattle.ob_command.specs.CommandLine.{budget_of, fits, given_of, has, is_set, is_true, most_of, processes_of};
 ghost use Rattle.ob_command.specs.Commands.{given_by};
 
 use clap::ArgMatches;
@@ -13,11 +13,14 @@ pub(crate) struct GivenWords<'a> {
     pub(crate) script_name: Option<&'a str>,
     pub(crate) schedule_name: Option<&'a str>,
     pub(crate) record_name: Option<&'a str>,
+    pub(crate) history_name: Option<&'a str>,
     pub(crate) from_name: Option<&'a str>,
     /// The calls of a picture, as they are written.
     pub(crate) range: Option<&'a str>,
     pub(crate) processes: Option<u16>,
     pub(crate) budget: Option<u32>,
+    /// How many configurations are looked at.
+    pub(crate) most: Option<u32>,
     pub(crate) tree: bool,
     pub(crate) steps: bool,
     pub(crate) traps: bool,
@@ -45,10 +48,12 @@ pub(crate) fn given_of<'a>(matches: &ArgMatches<'a>) -> GivenWords<'a>
         script_name: text_of(matches, "SCRIPT"),
         schedule_name: text_of(matches, "SCHEDULE"),
         record_name: text_of(matches, "RECORD"),
+        history_name: text_of(matches, "HISTORY"),
         from_name: text_of(matches, "FROM"),
         range: text_of(matches, "FROM-TO"),
         processes: processes_of(matches),
         budget: budget_of(matches),
+        most: most_of(matches),
         tree: is_set(matches, "tree"),
         steps: is_set(matches, "steps"),
         traps: is_set(matches, "traps"),
@@ -74,6 +79,13 @@ fn budget_of(matches: &ArgMatches<'_>) -> Option<u32>
     ensures { result ≡ budget_of (rows_of (found_of matches.now)) }
 {
     matches.get_one::<u32>("BUDGET")
+}
+
+/// How many configurations are looked at, of the same matches.
+fn most_of(matches: &ArgMatches<'_>) -> Option<u32>
+    ensures { result ≡ most_of (rows_of (found_of matches.now)) }
+{
+    matches.get_one::<u32>("K")
 }
 
 /// Whether a word stands there that has no value, of the same matches.

@@ -1,13 +1,15 @@
 //! What plain words ask for. What a function here ensures is proved; it does nothing.
 
-ghost use Rattle.std.specs.Prelude.{◌≡◌, ◌⊎◌, ℕ, List, Option, Some, [], ◌∷◌, false, true, All, codes, is_some};
+ghost use Rattle.std.specs.Prelude.{◌≡◌, ◌⊎◌, ℕ, List, Option, Some, [], ◌∷◌, false, true, All, codes, is_some, unwrap_or};
 ghost use Rattle.clap.specs.Words.{fault_of};
 ghost use Rattle.ob_command_line.specs.ClapCommand.{obl0_app};
 ghost use Rattle.ob_command.specs.CommandLine.{Bound, Check, Draw, DrawRecord, Explain, ExplainCalls, ExplainRecord, ExplainRun, ExplainTraps};
 ghost use Rattle.ob_command.specs.CommandLine.{Help, Listing, Run, RunSteps, RunTree, Seq, Serve, Text, Unclear, Verify, Version, asks_command};
-ghost use Rattle.ob_command.specs.CommandLine.{command_names, form_mistake_of, is_option, range_by, request};
+ghost use Rattle.ob_command.specs.CommandLine.{Order, command_names, default_most, form_mistake_of, is_option, most_mistake, range_by, request};
+ghost use Rattle.ob_command.specs.CommandLine.{seen_budget_mistake};
+ghost use Rattle.ob_command.specs.PlainForms.{AsksWithHistory, IsMost, IsSeenBudget, budget_in, most_in, order_options};
 ghost use Rattle.ob_command.specs.PlainForms.{AsksWithModule, AsksWithSchedule, AsksWithScript, Has, IsHelpAsked, IsVersionAsked, Lacks};
-ghost use Rattle.ob_command.specs.PlainForms.{ModuleAsksFor, RunAsksFor, ScriptAsksFor, bound_options, calls_with, count_in, draw_options};
+ghost use Rattle.ob_command.specs.PlainForms.{ModuleAsksFor, RunAsksFor, ScriptAsksFor, ScriptSays, bound_options, calls_with, count_in, draw_options};
 ghost use Rattle.ob_command.specs.PlainForms.{explain_options, run_options, seq_options, serve_options, turns_in, value_in};
 ghost use Rattle.ob_command.specs.declared.command.CallNumbers.{CallNumbers};
 
@@ -57,6 +59,15 @@ pub fn draw_is_asked()
 /// `verify` and two names that are no options.
 pub fn verify_is_asked()
     ensures { (m r : Text) → is_option m ≡ false → is_option r ≡ false → request (codes "verify" ∷ m ∷ r ∷ []) ≡ Verify m r }
+{}
+
+/// `order` and two names that are no options, and its options in any order; what is said of numbers that are out of their ranges.
+pub fn order_is_asked()
+    ensures table { AsksWithHistory (codes "order") order_options }
+    ensures order { ScriptAsksFor (codes "order") order_options (λ chosen. IsSeenBudget chosen × IsMost chosen)
+        (λ m h chosen. Order m h (budget_in chosen) (unwrap_or (most_in chosen) default_most)) }
+    ensures budget { ScriptSays (codes "order") order_options (λ chosen. (IsSeenBudget chosen → ⊥) × IsMost chosen) seen_budget_mistake }
+    ensures most { ScriptSays (codes "order") order_options (λ chosen. IsMost chosen → ⊥) most_mistake }
 {}
 
 /// `explain` and up to three names that are no options, and its options in any order.

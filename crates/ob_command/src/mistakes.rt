@@ -1,9 +1,10 @@
 //! What is said of words in which `clap` finds a mistake: which numbers there are, and how one is given.
 
-ghost use Rattle.std.specs.Prelude.{◌≡◌, ◌++◌, IfOk, OnOk, Some, is_some, map, option_map, string_bytes};
+ghost use Rattle.std.specs.Prelude.{◌≡◌, ◌++◌, ℕ, IfOk, List, OnOk, Some, is_some, map, option_map, string_bytes};
 ghost use Rattle.clap.specs.Words.{kind_of};
 ghost use Rattle.ob_command.specs.CommandLine.{has_negative, is_negative, is_option, loose_number, names_of, number_behind, number_sentence};
 ghost use Rattle.ob_command.specs.CommandLine.{number_tip, place_number};
+ghost use Rattle.ob_command.specs.ClapTexts.{IsBeforeRule, IsBehindTip, IsWithoutTip, empty_line};
 ghost use Rattle.ob_command.specs.Commands.{IsSaidOf, IsStopOf, SaysTip, is_unknown, is_value};
 ghost use Rattle.ob_command.specs.declared.command.Stop.TheVariants.{NoMemory};
 
@@ -14,7 +15,8 @@ use std::alloc::{AllocError, Global};
 
 /// Which numbers stand behind options.
 const NUMBERS: &str = "\
-behind -n stands the number of processes, 1 to 16, and behind -b how many turns each call has, 0 to 1000000
+behind -n stands the number of processes, 1 to 16, behind -b how many turns each call has, 0 to 1000000, \
+and behind --most how many configurations are looked at, 1 to 1000000000
 
 For more information, try '--help'.
 ";
@@ -121,7 +123,9 @@ fn number_mistake(alloc: Global, before: &str) -> Result<String, AllocError>
 }
 
 /// What `clap` says of a value, up to the words by which it tells its rule.
-fn before_value_rule(mistake: &str) -> &str {
+fn before_value_rule(mistake: &str) -> &str
+    ensures { IsBeforeRule mistake.now result.now }
+{
     match mistake.split_once(">': ") {
         Some((before, _rule)) => &mistake[..before.len() + ">': ".len()],
         None => "error: ",
@@ -188,16 +192,31 @@ fn is_option(word: &str) -> bool
 }
 
 /// What is wrong with words, without the tip to pass an option that there is not as the name of a file.
-fn without_tip(alloc: Global, mistake: &str) -> Result<String, AllocError> {
+fn without_tip(alloc: Global, mistake: &str) -> Result<String, AllocError>
+    ensures { IfOk result (λ text. IsWithoutTip mistake.now (string_bytes text)) }
+{
     match mistake.split_once("\n\n  tip: to pass ") {
         None => String::from_str(alloc, mistake),
-        Some((before, tip)) => {
-            let mut kept = String::from_str(alloc, before)?;
-            if let Some((_, behind)) = tip.split_once("\n\n") {
-                kept.push_str("\n\n")?;
-                kept.push_str(behind)?;
-            }
-            Ok(kept)
-        }
+        Some((before, tip)) => with_rest(alloc, before, tip),
     }
+}
+
+/// What stands before a tip, and behind it, if anything does.
+fn with_rest(alloc: Global, before: &str, tip: &str) -> Result<String, AllocError>
+    ensures { IfOk result (λ text. (rest : List ℕ) × IsBehindTip tip.now rest × (string_bytes text ≡ before.now ++ rest)) }
+{
+    match tip.split_once("\n\n") {
+        None => String::from_str(alloc, before),
+        Some((_told, behind)) => with_empty_line(alloc, before, behind),
+    }
+}
+
+/// Two texts with an empty line between them.
+fn with_empty_line(alloc: Global, before: &str, behind: &str) -> Result<String, AllocError>
+    ensures { IfOk result (λ text. string_bytes text ≡ before.now ++ empty_line ++ behind.now) }
+{
+    let mut text = String::from_str(alloc, before)?;
+    text.push_str("\n\n")?;
+    text.push_str(behind)?;
+    Ok(text)
 }

@@ -22,6 +22,10 @@ optional_number_rule = record number_rule { required = false }
 abbrev pub budget_rule : Rule
 budget_rule = record (new_rule (codes "BUDGET")) { short = Some 98; long = Some (codes "budget"); parser = Some (Signed (pos 0) (pos 4294967295)) }
 
+-- `--most K`, with a number of 32 bits, which may be missing
+abbrev pub most_rule : Rule
+most_rule = record (new_rule (codes "K")) { long = Some (codes "most"); parser = Some (Signed (pos 0) (pos 4294967295)) }
+
 -- `--from RECORD`, which may be missing
 abbrev pub from_rule : Rule
 from_rule = record (new_rule (codes "FROM")) { long = Some (codes "from"); value_names = 1 }
@@ -51,6 +55,10 @@ module_app command = command_app command (name_rule (codes "MODULE") ∷ [])
 -- `MODULE RECORD`
 abbrev pub record_app : Text → App
 record_app command = command_app command (name_rule (codes "MODULE") ∷ name_rule (codes "RECORD") ∷ [])
+
+-- `MODULE HISTORY -b BUDGET --most K`
+abbrev pub order_app : Text → App
+order_app command = command_app command (name_rule (codes "MODULE") ∷ name_rule (codes "HISTORY") ∷ budget_rule ∷ most_rule ∷ [])
 
 -- `MODULE -n N -b BUDGET`
 abbrev pub bound_app : Text → App
@@ -111,4 +119,4 @@ with_command app command = with_subcommand app command.top
 abbrev pub obl0_app : App
 obl0_app = fold with_command top_app (module_app (codes "check") ∷ module_app (codes "list") ∷ seq_app (codes "seq")
     ∷ run_app (codes "run") ∷ serve_app (codes "serve") ∷ draw_app (codes "draw") ∷ record_app (codes "verify")
-    ∷ explain_app (codes "explain") ∷ bound_app (codes "bound") ∷ [])
+    ∷ order_app (codes "order") ∷ explain_app (codes "explain") ∷ bound_app (codes "bound") ∷ [])

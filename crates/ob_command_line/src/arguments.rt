@@ -2,7 +2,8 @@
 
 ghost use Rattle.std.specs.Prelude.{◌≡◌, false};
 ghost use Rattle.clap.specs.Words.{new_rule, rule_of};
-ghost use Rattle.ob_command_line.specs.ClapCommand.{budget_rule, calls_rule, flag_rule, from_rule, name_rule, number_rule, optional_number_rule, record_rule};
+ghost use Rattle.ob_command_line.specs.ClapCommand.{budget_rule, calls_rule, flag_rule, from_rule, most_rule, name_rule, number_rule};
+ghost use Rattle.ob_command_line.specs.ClapCommand.{optional_number_rule, record_rule};
 
 use clap::{Arg, ArgAction};
 use std::alloc::Global;
@@ -11,6 +12,12 @@ const HELP_RECORD: &str = "The file of the record, as `run` prints it";
 
 const HELP_BUDGET: &str =
     "How many turns each call has, 0 to 1000000; 100000 where nothing is said";
+
+const HELP_SEEN_BUDGET: &str =
+    "How many turns each call had, 0 to 1000000; where nothing is said, as the history says, or else 100000";
+
+const HELP_MOST: &str =
+    "How many configurations are looked at, 1 to 1000000000; 10000000 where nothing is said";
 
 const HELP_FROM: &str =
     "The file of a record whose variables the object begins with, in the place of the module's body";
@@ -85,11 +92,38 @@ pub fn call_budget<'a>(alloc: Global) -> Arg<'a>
     ensures rule { rule_of result ≡ budget_rule }
     ensures local { result.global ≡ false }
 {
+    budget(alloc, HELP_BUDGET)
+}
+
+/// The option that says how many turns each call of a history had.
+pub fn seen_budget<'a>(alloc: Global) -> Arg<'a>
+    ensures rule { rule_of result ≡ budget_rule }
+    ensures local { result.global ≡ false }
+{
+    budget(alloc, HELP_SEEN_BUDGET)
+}
+
+/// The option that has a budget of turns.
+fn budget<'a>(alloc: Global, help: &'a str) -> Arg<'a>
+    ensures rule { rule_of result ≡ budget_rule }
+    ensures local { result.global ≡ false }
+{
     Arg::new(alloc, "BUDGET")
         .short('b')
         .long("budget")
         .value_parser(clap::value_parser!(u32))
-        .help(HELP_BUDGET)
+        .help(help)
+}
+
+/// The option that says how many configurations a search looks at.
+pub fn most_configurations<'a>(alloc: Global) -> Arg<'a>
+    ensures rule { rule_of result ≡ most_rule }
+    ensures local { result.global ≡ false }
+{
+    Arg::new(alloc, "K")
+        .long("most")
+        .value_parser(clap::value_parser!(u32))
+        .help(HELP_MOST)
 }
 
 /// The option that names a record whose variables an object begins with.

@@ -6,7 +6,8 @@ ghost use Rattle.clap.specs.declared.builder.command.Command.TheViews.{out-Comma
 ghost use Rattle.ob_command_line.specs.ClapCommand.{obl0_app, top_app, with_command};
 
 use crate::lines::{
-    bound_line, draw_line, explain_line, module_line, record_line, run_line, seq_line, serve_line,
+    bound_line, draw_line, explain_line, module_line, order_line, record_line, run_line, seq_line,
+    serve_line,
 };
 use std::alloc::{AllocError, Global};
 
@@ -22,6 +23,8 @@ const ABOUT_DRAW: &str =
     "Prints a picture in SVG, of the same run as that of `run`, or of a record alone";
 
 const ABOUT_VERIFY: &str = "Tells whether the order of a record is a legal order of its calls";
+
+const ABOUT_ORDER: &str = "Tells whether a history has a legal order, and prints one";
 
 const ABOUT_EXPLAIN: &str =
     "Shows what is wrong with a module, with a module and a script, with a run or with a record, \
@@ -47,6 +50,8 @@ obl0 draw MODULE SCRIPT SCHEDULE -n N [-b BUDGET] [--from RECORD] [--calls FROM-
        obl0 draw MODULE RECORD [--calls FROM-TO]";
 
 const USAGE_VERIFY: &str = "obl0 verify MODULE RECORD";
+
+const USAGE_ORDER: &str = "obl0 order MODULE HISTORY [-b BUDGET] [--most K]";
 
 const USAGE_EXPLAIN: &str = "\
 obl0 explain MODULE
@@ -86,6 +91,11 @@ pub fn command_line<'a>(alloc: Global) -> Result<clap::Command<'a>, AllocError>
         program,
         USAGE_VERIFY,
         record_line(alloc, "verify", ABOUT_VERIFY),
+    )?;
+    let program = with_command(
+        program,
+        USAGE_ORDER,
+        order_line(alloc, "order", ABOUT_ORDER),
     )?;
     let program = with_command(
         program,

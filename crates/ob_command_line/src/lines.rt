@@ -3,11 +3,11 @@
 ghost use Rattle.std.specs.Prelude.{◌≡◌, false, IfOk};
 ghost use Rattle.clap.specs.Words.{app_of};
 ghost use Rattle.clap.specs.declared.builder.command.Command.TheViews.{out-Command as fields_of};
-ghost use Rattle.ob_command_line.specs.ClapCommand.{bound_app, draw_app, drawn_app, explain_app, module_app, record_app, run_app, schedule_app, seq_app, serve_app, texts_app};
+ghost use Rattle.ob_command_line.specs.ClapCommand.{bound_app, draw_app, drawn_app, explain_app, module_app, order_app, record_app, run_app, schedule_app, seq_app, serve_app, texts_app};
 
 use crate::arguments::{
-    call_budget, drawn_calls, explained_record, file_name, first_record, flag, optional_count,
-    optional_name, process_count,
+    call_budget, drawn_calls, explained_record, file_name, first_record, flag, most_configurations,
+    optional_count, optional_name, process_count, seen_budget,
 };
 use std::alloc::{AllocError, Global};
 
@@ -29,6 +29,9 @@ The labels are NEXT, POST, FLIP, TRY, LINK, LOAD, STORE, CHECK1, MINE, SEEN, FET
 ENTER, BODY, UNDO, KEEP, COMMIT, READ, TAKE and GIVE.";
 
 const HELP_RECORD: &str = "The file of the record, as `run` prints it";
+
+const HELP_HISTORY: &str =
+    "The file of the history: which calls began, and how they ended, in the order in which that was seen";
 
 const HELP_TREE: &str =
     "Runs the module by its tree in place of its code, which may then be of any length";
@@ -189,6 +192,21 @@ pub fn record_line<'a>(
     ensures local { IfOk result (λ c. (fields_of c).has_globals ≡ false) }
 {
     module_line(alloc, command, about)?.arg(file_name(alloc, "RECORD", HELP_RECORD))
+}
+
+/// The words behind a command on a module and a history of calls, with a budget, that looks for an order.
+pub fn order_line<'a>(
+    alloc: Global,
+    command: &'a str,
+    about: &'a str,
+) -> Result<clap::Command<'a>, AllocError>
+    ensures app { IfOk result (λ c. app_of c ≡ order_app command.entry.now) }
+    ensures local { IfOk result (λ c. (fields_of c).has_globals ≡ false) }
+{
+    module_line(alloc, command, about)?
+        .arg(file_name(alloc, "HISTORY", HELP_HISTORY))?
+        .arg(seen_budget(alloc))?
+        .arg(most_configurations(alloc))
 }
 
 /// The words behind a command on a module: the module's name.

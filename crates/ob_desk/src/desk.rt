@@ -71,7 +71,8 @@ impl<E: CodedEngine> Desk<E> {
         Ok((Desk { floor, terms }, seats))
     }
 
-    /// Compares the seats with the floor, and the floor with what stands beside the lock; and gives the machine.
+    /// Compares the seats with the floor, and the floor with what stands beside the lock; and gives the machine. The lock hides which
+    /// floor that is, so `fault` speaks of some floor; `settle` says all of the one that it is given.
     pub fn close(self, seats: &[Seat]) -> Result<Machine<E>, CloseFault>
         ensures machine { IfOk result (IsClosed E.code E.meaning E.lawful E.fits E.ready (desk_in E.code self)) }
         ensures seats { OnOk result (AreSeats (desk_in E.code self) seats.now) }
@@ -87,6 +88,9 @@ impl<E: CodedEngine> Desk<E> {
 }
 
 impl<E: CodedEngine> TakeTurn for Desk<E> {
+    // The lock hides the floor, so nothing is known of where the process stood.
+    ghost halts = { λ _ _. Unit {0} };
+
     /// Takes the lock for one turn of the seat's process. Where the floor has no such process the answer is that of a process
     /// without calls. Nothing changes on the seat where memory runs out.
     fn turn<R: Wait>(&self, rt: &R, seat: &mut Seat) -> Result<StepOut, NoMemory> {
@@ -119,7 +123,8 @@ impl<E: CodedEngine> TakeTurn for Desk<E> {
 
 /// Takes a lock that was found taken. Between two tries the lock's word is not looked at: each look takes it from the processor of
 /// the thread that has the lock, which writes it at each of its turns. The more turns the seat took the longer are its waits, so
-/// that a thread in the midst of its work goes on for some turns, and those that have just begun soon come in.
+/// that a thread in the midst of its work goes on for some turns, and those that have just begun soon come in. There is no clause: of
+/// what a guard shows nothing is known but that it is a floor, which its type says.
 #[inline(never)]
 fn wait_for<'a, E: CodedEngine, R: Wait>(
     rt: &R,
@@ -136,7 +141,7 @@ fn wait_for<'a, E: CodedEngine, R: Wait>(
     floor.lock(rt)
 }
 
-/// Passes some time.
+/// Passes some time, and changes nothing.
 fn pause(times: u32) {
     for _ in 0..times {
         spin_loop();

@@ -1,5 +1,5 @@
 mod Ends
+mod Started
 mod Numbered
-mod ByProcess
 pub mod Closed
 mod Submitted

@@ -1,54 +1,79 @@
--- What is told where not all workers of a desk ended well, and whose answers came.
-use Rattle.std.specs.Prelude.{◌≡◌, ◌≢◌, ℕ, ◌-◌, ◌<◌, ◌⊎◌, All, Any, List, Some, filter, get_or, length, min, nat_eq, slice_get, take, true}
-use Rattle.ob_desk_floor.specs.Seat.{Seat}
+-- What is told where not all workers of a desk ended well, and what they handed back where they did.
+use Rattle.std.specs.Prelude.{◌≡◌, ◌≢◌, ℕ, ◌<◌, All, List, Option, None, Some, length, map, slice_get, take}
+use Rattle.std.specs.List.{AllZip, filter_map}
+use Rattle.ob_desk.specs.Desk.{seats_of}
 use Rattle.ob_desk_floor.specs.declared.seat.CallAnswer.{CallAnswer}
-use Rattle.ob_desk_workers.specs.declared.gathering.Gathered.{Gathered}
+use Rattle.ob_desk_workers.specs.Gathered.{HaveWorked}
+use Rattle.ob_desk_workers.specs.Rounds.{Halts, HasWorked, Hears, Says}
 use Rattle.ob_desk_workers.specs.declared.worker.Ended.{Ended}
+use Rattle.ob_desk_workers.specs.declared.worker.Ended.TheVariants as Ended
+use Rattle.ob_desk_workers.specs.declared.worker.Worked.{Worked}
+use Rattle.ob_desk_serve.specs.declared.ending.HandedBack.{HandedBack}
 use Rattle.ob_desk_serve.specs.declared.fault.ServeFault.{ServeFault}
 use Rattle.ob_desk_serve.specs.declared.fault.ServeFault.TheVariants as Faults
 
 -- ---- how the workers ended
 
--- memory wanted, in a worker or where the workers were started and heard
-abbrev pub IsShort : Gathered → Type 0
-IsShort g = (g.is_short ≡ true) ⊎ Any (λ it. it ≡ Ended.NoMemory) g.ended.items
+-- how a worker ended, if it was started
+abbrev pub how_ended : Option Worked → Option Ended
+how_ended None = None
+how_ended (Some w) = Some w.ended
+
+-- none of the workers ended so; of none, each was started
+abbrev pub NoneEnded : (which : Option Ended) → List (Option Worked) → Type 0
+NoneEnded which workers = All (λ w. how_ended w ≢ which) workers
 
 -- the lowest process whose worker ended so: the workers stand in the order of the processes
-pub record IsFirst (which : Ended) (ended : List Ended) (p : ℕ) : Type 0 where
-  pub within : p < length ended
-  pub there : slice_get ended p ≡ Some which
-  pub before : All (λ it. it ≢ which) (take p ended)
-
--- each worker was started
-abbrev pub AreStarted : Gathered → Type 0
-AreStarted g = All (λ it. it ≢ Ended.NotStarted) g.ended.items
+pub record IsFirst (which : Option Ended) (workers : List (Option Worked)) (p : ℕ) : Type 0 where
+  pub within : p < length workers
+  pub worker : Option Worked
+  pub there : slice_get workers p ≡ Some worker
+  pub ended : how_ended worker ≡ which
+  pub before : NoneEnded which (take p workers)
 
 -- V3 is told before want of memory, and that before V1; each of the lowest process
-abbrev pub IsGatherFault : Gathered → ServeFault → Type 0
-IsGatherFault g (Faults.NotStarted p) = IsFirst Ended.NotStarted g.ended.items p
-IsGatherFault g Faults.NoMemory = AreStarted g × IsShort g
-IsGatherFault g (Faults.Refused p) = AreStarted g × (¬ (IsShort g)) × IsFirst Ended.Refused g.ended.items p
-IsGatherFault g _ = ⊥
+abbrev pub IsGatherFault : List (Option Worked) → ServeFault → Type 0
+IsGatherFault workers (Faults.NotStarted p) = IsFirst None workers p
+IsGatherFault workers Faults.NoMemory = NoneEnded None workers
+IsGatherFault workers (Faults.Refused p) = NoneEnded None workers × NoneEnded (Some Ended.NoMemory) workers × IsFirst (Some Ended.Refused) workers p
+IsGatherFault workers _ = ⊥
+
+-- ---- what they handed back
+
+-- what those handed back that were started
+abbrev pub started : List (Option Worked) → List Worked
+started workers = filter_map (λ w. w) workers
+
+-- the answers that were handed back, a list of each
+abbrev pub lists_in : HandedBack → List (List CallAnswer)
+lists_in b = map (λ list. list.items) b.answers.items
+
+-- their seats and their answers, in order
+pub record AreOf (worked : List Worked) (b : HandedBack) : Type 0 where
+  pub seats : b.seats.items ≡ map (λ w. w.seat) worked
+  pub answers : lists_in b ≡ map (λ w. w.answers.items) worked
+
+abbrev pub AreSplit : List (Option Worked) → HandedBack → Type 0
+AreSplit workers b = AreOf (started workers) b
 
 -- each worker was started and ended well, and these are the seats and the answers
-pub record AreBack (g : Gathered) (seats : List Seat) (answers : List CallAnswer) : Type 0 where
-  pub started : AreStarted g
-  pub enough : ¬ (IsShort g)
-  pub passed : All (λ it. it ≢ Ended.Refused) g.ended.items
-  pub seats_are : seats ≡ g.seats.items
-  pub answers_are : answers ≡ g.answers.items
+pub record AreBack (workers : List (Option Worked)) (b : HandedBack) : Type 0 where
+  pub all : NoneEnded None workers
+  pub enough : NoneEnded (Some Ended.NoMemory) workers
+  pub passed : NoneEnded (Some Ended.Refused) workers
+  pub are : AreSplit workers b
 
--- ---- whose answers came
+-- ---- what the workers of an object's processes come to
 
--- The process that an answer counts for. One of no process counts for the last, whose answers are then not those of any record.
-abbrev pub owner_of : ℕ → CallAnswer → ℕ
-owner_of processes a = min a.id.process (processes - 1)
+-- a desk that answers that a process is halted hides under its lock where the process stands
+abbrev pub hidden : Halts
+hidden s = Unit {0}
 
--- what came of a process, in the order in which it came
-abbrev pub sent_by : (processes : ℕ) → List CallAnswer → ℕ → List CallAnswer
-sent_by processes answers p = filter (λ a. nat_eq (owner_of processes a) p) answers
+-- for each process, in order, what its worker handed back, if it was started
+abbrev pub HaveServed : (passes refuses : Says) → Hears → (limit processes : ℕ) → List (Option Worked) → Type 0
+HaveServed passes refuses hears limit processes workers = HaveWorked passes refuses hears hidden limit (seats_of processes 0) workers
 
--- the answers of each process
-pub record AreByProcess (processes : ℕ) (answers : List CallAnswer) (lists : List (List CallAnswer)) : Type 0 where
-  pub each : length lists ≡ processes
-  pub own : (p : ℕ) (d : List CallAnswer) → p < processes → get_or lists p d ≡ sent_by processes answers p
+-- each was started, and ended where its process was halted
+pub record HaveAllServed (passes refuses : Says) (hears : Hears) (limit processes : ℕ) (worked : List Worked) : Type 0 where
+  pub each : AllZip (HasWorked passes refuses hears hidden limit) (seats_of processes 0) worked
+  pub well : All (λ w. w.ended ≡ Ended.Done) worked

@@ -1,5 +1,5 @@
 -- What the record of workers on an object shows.
-use Rattle.std.specs.Prelude.{◌≡◌, ℕ, ◌<◌, List, count_by, map, nat_eq}
+use Rattle.std.specs.Prelude.{◌≡◌, ℕ, ◌<◌, All, List, count_by, map, nat_eq}
 use Rattle.ob_code_engine.specs.CodeEngine.{CompiledParts}
 use Rattle.ob_code_law.specs.CodeMeaning.{EngineParts, code_meaning}
 use Rattle.ob_code_law.specs.Compiled.{HasReserve, IsFitting}
@@ -8,7 +8,7 @@ use Rattle.ob_code_machine.specs.Body.{Run}
 use Rattle.ob_code_scheme.specs.Layout.{encoded}
 use Rattle.ob_desk.specs.Desk.{Desk, Terms, desk_in}
 use Rattle.ob_desk_floor.specs.Floor.{turns_in}
-use Rattle.ob_desk_workers.specs.Rounds.{IsLet, Says}
+use Rattle.ob_desk_workers.specs.Rounds.{Hears, IsLet, Says}
 use Rattle.ob_interface.specs.Call.{ObjectCall, Reply}
 use Rattle.ob_agreement.specs.Same.{SameState}
 use Rattle.ob_meaning.specs.Object as Named
@@ -70,3 +70,7 @@ HaveEnded processes scripts history = (p : ℕ) → p < processes → EndsFirst 
 -- each turn that the schedule has of a process is one that the gate let it take
 abbrev pub AreTurnsLet : Says → (limit processes : ℕ) → List Turns → Type 0
 AreTurnsLet passes limit processes schedule = (p turns : ℕ) → p < processes → turns < turns_in p schedule → IsLet passes limit p turns
+
+-- the gate was told of each answer that the history shows of a process
+abbrev pub AreAnswersTold : Hears → (processes : ℕ) → List (Event ObjectCall Reply) → Type 0
+AreAnswersTold hears processes history = (p : ℕ) → p < processes → All (λ a. hears a.0.process a.0.number) (own_answers p history)

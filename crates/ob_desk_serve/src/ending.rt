@@ -1,47 +1,72 @@
 //! What is made of a desk's workers when all have ended.
 
-ghost use Rattle.std.specs.Prelude.{◌≡◌, ◌≢◌, All, Any, IfErr, IfNone, IfOk, IfSome, IsFalse, IsTrue};
-ghost use Rattle.ob_desk_workers.specs.declared.worker.Ended.TheVariants as Ended;
-ghost use Rattle.ob_desk_serve.specs.Gathered.{AreBack, IsFirst, IsGatherFault};
+ghost use Rattle.std.specs.Prelude.{◌≡◌, IfErr, IfNone, IfOk, IfSome};
+ghost use Rattle.ob_desk_serve.specs.Gathered.{AreBack, AreSplit, IsFirst, IsGatherFault, NoneEnded, how_ended};
 
 use crate::fault::ServeFault;
 use ob_desk_floor::{CallAnswer, Seat};
-use ob_desk_workers::{Ended, Gathered};
+use ob_desk_workers::{Ended, Worked};
+use std::alloc::{AllocError, Global};
 
-/// The seats and the answers, where every worker was started and ended well.
-pub fn handed_back(gathered: Gathered) -> Result<(Vec<Seat>, Vec<CallAnswer>), ServeFault>
-    ensures back { IfOk result (λ r. AreBack gathered r.0.items r.1.items) }
-    ensures fault { IfErr result (IsGatherFault gathered) }
-{
-    let ended = gathered.ended.as_slice();
-    if let Some(process) = first(ended, Ended::NotStarted) {
-        return Err(ServeFault::NotStarted(process));
-    }
-    if gathered.is_short || ran_short(ended) {
-        return Err(ServeFault::NoMemory);
-    }
-    if let Some(process) = first(ended, Ended::Refused) {
-        return Err(ServeFault::Refused(process));
-    }
-    Ok((gathered.seats, gathered.answers))
+/// The seats that workers handed back, and the answers of each, in the order of their processes.
+#[derive(Drop)]
+pub struct HandedBack {
+    pub seats: Vec<Seat>,
+    pub answers: Vec<Vec<CallAnswer>>,
 }
 
-/// The lowest process whose worker ended so.
-fn first(ended: &[Ended], which: Ended) -> Option<usize>
-    ensures none { IfNone result (All (λ it. it ≢ which) ended.now) }
-    ensures some { IfSome result (IsFirst which ended.now) }
+/// The seats and the answers, where every worker was started and ended well.
+pub fn handed_back(alloc: Global, workers: Vec<Option<Worked>>) -> Result<HandedBack, ServeFault>
+    ensures back { IfOk result (AreBack workers.items) }
+    ensures fault { IfErr result (IsGatherFault workers.items) }
 {
-    for process in 0..ended.len() {
-        if ended[process] == which {
+    let all = workers.as_slice();
+    if let Some(process) = first(all, None) {
+        return Err(ServeFault::NotStarted(process));
+    }
+    if first(all, Some(Ended::NoMemory)).is_some() {
+        return Err(ServeFault::NoMemory);
+    }
+    if let Some(process) = first(all, Some(Ended::Refused)) {
+        return Err(ServeFault::Refused(process));
+    }
+    Ok(split(alloc, workers)?)
+}
+
+/// The lowest process whose worker ended so; or, for none, was not started.
+fn first(workers: &[Option<Worked>], which: Option<Ended>) -> Option<usize>
+    ensures none { IfNone result (NoneEnded which workers.now) }
+    ensures some { IfSome result (IsFirst which workers.now) }
+{
+    for process in 0..workers.len() {
+        if ended_of(&workers[process]) == which {
             return Some(process);
         }
     }
     None
 }
 
-fn ran_short(ended: &[Ended]) -> bool
-    ensures yes { IsTrue result → Any (λ it. it ≡ Ended.NoMemory) ended.now }
-    ensures no { IsFalse result → ¬ (Any (λ it. it ≡ Ended.NoMemory) ended.now) }
+/// How a worker ended, if it was started.
+fn ended_of(worker: &Option<Worked>) -> Option<Ended>
+    ensures { result ≡ how_ended worker.now }
 {
-    ended.iter().any(|it| *it == Ended::NoMemory)
+    match worker {
+        Some(worked) => Some(worked.ended),
+        None => None,
+    }
+}
+
+/// The seats and the answers of the workers that were started.
+fn split(alloc: Global, workers: Vec<Option<Worked>>) -> Result<HandedBack, AllocError>
+    ensures { IfOk result (AreSplit workers.items) }
+{
+    let mut seats = Vec::with_capacity(alloc, workers.len())?;
+    let mut answers = Vec::with_capacity(alloc, workers.len())?;
+    for worker in workers {
+        if let Some(worked) = worker {
+            seats.push(worked.seat)?;
+            answers.push(worked.answers)?;
+        }
+    }
+    Ok(HandedBack { seats, answers })
 }

@@ -1,6 +1,6 @@
 -- What is said with the faults of serving texts, from what is said with those of its parts.
 use Rattle.std.proofs.Common.{◌≡◌, ℕ, List, arith}
-use Rattle.ob_desk_workers.specs.Rounds.{Says}
+use Rattle.ob_desk_workers.specs.Rounds.{Hears, Says}
 use Rattle.ob_object_compile.specs.Asked.{Asked}
 use Rattle.ob_object_compile.specs.Compilation.{IsShort, ObjectParts}
 use Rattle.ob_object_perform.specs.Performance as Performs
@@ -13,10 +13,10 @@ use Rattle.ob_desk_texts.specs.ServedTexts.{AreReadCalls, IsOfTexts, IsServeRefu
 use Rattle.ob_desk_texts.specs.declared.texts.ServeTextFault.TheVariants as Faults
 use Rattle.ob_text_words.specs.ScriptCalls.{ScriptCall}
 
-module _ (refuses : Says) (limit : ℕ) (a : Asked) (scripts : List ℕ) where
+module _ (passes refuses : Says) (hears : Hears) (limit : ℕ) (a : Asked) (scripts : List ℕ) where
   -- ---- of the texts
 
-  texts_say : (e : PerformFault) → Performs.IsFaultOf IsShort (calls_texts a scripts) e → IsServeTextFault refuses limit a scripts (of_texts e)
+  texts_say : (e : PerformFault) → Performs.IsFaultOf IsShort (calls_texts a scripts) e → IsServeTextFault passes refuses hears limit a scripts (of_texts e)
   texts_say (Perform.Compile e) h = h
   texts_say (Perform.Script e) h = h
   texts_say (Perform.Schedule e) h = h
@@ -37,12 +37,12 @@ module _ (refuses : Says) (limit : ℕ) (a : Asked) (scripts : List ℕ) where
   texts_apart (Perform.TooLong number) h = (h, λ bad. cc)
   texts_apart Perform.NoMemory h = tt
 
-  pub texts_refused : (e : PerformFault) → Performs.IsRefusal IsShort (calls_texts a scripts) e → IsServeRefusal refuses limit a scripts (of_texts e)
+  pub texts_refused : (e : PerformFault) → Performs.IsRefusal IsShort (calls_texts a scripts) e → IsServeRefusal passes refuses hears limit a scripts (of_texts e)
   texts_refused e h = record { says = texts_say e h.says; unread = λ own. h.unread (texts_own e own); memory = texts_apart e h.memory }
 
   -- ---- of the workers
 
-  serve_says : (o : ObjectParts) (calls : List ScriptCall) → AreReadCalls a scripts o calls → (e : ServeFault) → IsServeFault refuses limit o calls e → IsServeTextFault refuses limit a scripts (of_serve e)
+  serve_says : (o : ObjectParts) (calls : List ScriptCall) → AreReadCalls a scripts o calls → (e : ServeFault) → IsServeFault passes refuses hears limit o calls e → IsServeTextFault passes refuses hears limit a scripts (of_serve e)
   serve_says o calls read (Serve.NotStarted p) h = record { object = o; calls = calls; read = read; fails = h }
   serve_says o calls read Serve.NoMemory h = tt
   serve_says o calls read (Serve.Refused p) h = record { object = o; calls = calls; read = read; fails = h }
@@ -63,12 +63,12 @@ module _ (refuses : Says) (limit : ℕ) (a : Asked) (scripts : List ℕ) where
   serve_apart (Serve.Lost p) = λ bad. cc
   serve_apart (Serve.Close e) = λ bad. cc
 
-  pub serve_refused : (o : ObjectParts) (calls : List ScriptCall) → AreReadCalls a scripts o calls → (e : ServeFault) → IsServeFault refuses limit o calls e → IsServeRefusal refuses limit a scripts (of_serve e)
+  pub serve_refused : (o : ObjectParts) (calls : List ScriptCall) → AreReadCalls a scripts o calls → (e : ServeFault) → IsServeFault passes refuses hears limit o calls e → IsServeRefusal passes refuses hears limit a scripts (of_serve e)
   serve_refused o calls read e h = record { says = serve_says o calls read e h; unread = λ own. absurd (not_of_texts e own); memory = serve_apart e }
 
   -- ---- no memory
 
-  pub memory_refused : IsServeRefusal refuses limit a scripts Faults.NoMemory
+  pub memory_refused : IsServeRefusal passes refuses hears limit a scripts Faults.NoMemory
   memory_refused = record { says = tt; unread = λ own. absurd own; memory = tt }
 
 -- a gate that never refuses has no V1

@@ -1,6 +1,6 @@
 -- Workers served from the texts of a module and of scripts: what is printed of them, and why there is nothing.
 use Rattle.std.specs.Prelude.{◌≡◌, ◌≢◌, ℕ, ◌<◌, ◌^◌, List, [], length}
-use Rattle.ob_desk_workers.specs.Rounds.{Says, never}
+use Rattle.ob_desk_workers.specs.Rounds.{Hears, Says, always, never, unknown}
 use Rattle.ob_object_compile.specs.Asked.{Asked}
 use Rattle.ob_object_compile.specs.Compilation.{ObjectParts, IsShort}
 use Rattle.ob_object_perform.specs.Performance as Performs
@@ -12,7 +12,7 @@ use Rattle.ob_object_record.specs.Record.{Record}
 use Rattle.ob_schedule.specs.declared.item.Item.{Item}
 use Rattle.ob_text_record.specs.RecordText.{record_text}
 use Rattle.ob_desk_serve.specs.ServeFaults.{IsServeFault}
-use Rattle.ob_desk_serve.specs.Served.{AreTurnsLet, HaveEnded, IsRecordOf}
+use Rattle.ob_desk_serve.specs.Served.{AreAnswersTold, AreTurnsLet, HaveEnded, IsRecordOf}
 use Rattle.ob_desk_serve.specs.declared.fault.ServeFault.{ServeFault}
 use Rattle.ob_desk_serve.specs.declared.fault.ServeFault.TheVariants as Serve
 use Rattle.ob_desk_texts.specs.declared.texts.ServeTextFault.{ServeTextFault}
@@ -38,23 +38,25 @@ pub record IsServedPrinted (a : Asked) (scripts output : List ℕ) : Type 0 wher
   pub ended : HaveEnded a.processes calls shown.history
   pub printed : output ≡ record_text object.program shown
 
--- so they are of workers whose gate let them take each turn of the record, by this limit
-pub record IsServedBy (passes : Says) (limit : ℕ) (a : Asked) (scripts output : List ℕ) : Type 0 where
+-- so they are of workers whose gate let them take each turn of the record, by this limit, and was told of each answer
+pub record IsServedBy (passes : Says) (hears : Hears) (limit : ℕ) (a : Asked) (scripts output : List ℕ) : Type 0 where
   pub served : IsServedPrinted a scripts output
   pub passed : AreTurnsLet passes limit a.processes served.shown.schedule
+  pub told : AreAnswersTold hears a.processes served.shown.history
 
--- The workers on the object fail so with their calls, by a gate that says so where it refuses, and by this limit.
-pub record IsServeFaultOf (refuses : Says) (limit : ℕ) (a : Asked) (scripts : List ℕ) (fault : ServeFault) : Type 0 where
+-- The workers on the object fail so with their calls, by a gate that says so where it passes, where it refuses and once it was told of
+-- an answer, and by this limit.
+pub record IsServeFaultOf (passes refuses : Says) (hears : Hears) (limit : ℕ) (a : Asked) (scripts : List ℕ) (fault : ServeFault) : Type 0 where
   pub object : ObjectParts
   pub calls : List ScriptCall
   pub read : AreReadCalls a scripts object calls
-  pub fails : IsServeFault refuses limit object calls fault
+  pub fails : IsServeFault passes refuses hears limit object calls fault
 
 -- what each fault says
-abbrev pub IsServeTextFault : (refuses : Says) (limit : ℕ) → Asked → (scripts : List ℕ) → ServeTextFault → Type 0
-IsServeTextFault refuses limit a scripts (Faults.Texts e) = IsFaultOf IsShort (calls_texts a scripts) e
-IsServeTextFault refuses limit a scripts (Faults.Serve e) = IsServeFaultOf refuses limit a scripts e
-IsServeTextFault refuses limit a scripts Faults.NoMemory = Unit {0}
+abbrev pub IsServeTextFault : (passes refuses : Says) → Hears → (limit : ℕ) → Asked → (scripts : List ℕ) → ServeTextFault → Type 0
+IsServeTextFault passes refuses hears limit a scripts (Faults.Texts e) = IsFaultOf IsShort (calls_texts a scripts) e
+IsServeTextFault passes refuses hears limit a scripts (Faults.Serve e) = IsServeFaultOf passes refuses hears limit a scripts e
+IsServeTextFault passes refuses hears limit a scripts Faults.NoMemory = Unit {0}
 
 -- want of memory is told in one place
 
@@ -81,13 +83,13 @@ abbrev pub IsOfTexts : ServeTextFault → Type 0
 IsOfTexts (Faults.Texts e) = Performs.IsOfTexts e
 IsOfTexts _ = ⊥
 
--- What is said with a fault, by a gate that says so where it refuses, and by a limit: what the fault says; that where it is one of the
+-- What is said with a fault, by a gate that says so and by a limit: what the fault says; that where it is one of the
 -- texts they can't be read, whatever else is wrong; and that want of memory is told by its own variant alone.
-pub record IsServeRefusal (refuses : Says) (limit : ℕ) (a : Asked) (scripts : List ℕ) (fault : ServeTextFault) : Type 0 where
-  pub says : IsServeTextFault refuses limit a scripts fault
+pub record IsServeRefusal (passes refuses : Says) (hears : Hears) (limit : ℕ) (a : Asked) (scripts : List ℕ) (fault : ServeTextFault) : Type 0 where
+  pub says : IsServeTextFault passes refuses hears limit a scripts fault
   pub unread : IsOfTexts fault → HasNoReading IsShort (calls_texts a scripts)
   pub memory : TellsMemoryApart fault
 
 -- of workers in whose way no gate stands: V1 is none of their faults
 abbrev pub IsUngatedRefusal : Asked → (scripts : List ℕ) → ServeTextFault → Type 0
-IsUngatedRefusal a scripts fault = IsServeRefusal never 1 a scripts fault
+IsUngatedRefusal a scripts fault = IsServeRefusal always never unknown 1 a scripts fault

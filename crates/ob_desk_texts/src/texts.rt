@@ -105,9 +105,10 @@ pub fn serve_text_with<R: Threads + Wait + Sync, G: Gate + Sync>(
 ) -> Result<String, ServeTextFault>
     requires { 1 ≤ limit }
 
-    // By this gate and this limit: it let the workers take each turn that is printed, and where V1 is told, it refused as often.
-    ensures served { IfOk result (λ lines. IsServedBy (G.passes gate.now) limit (asked_of asked.entry) scripts.now (string_bytes lines)) }
-    ensures refused { IfErr result (IsServeRefusal (G.refuses gate.now) limit (asked_of asked.entry) scripts.now) }
+    // By this gate and this limit: it let the workers take each turn that is printed and was told of each answer, and where V1 is
+    // told, it refused as often.
+    ensures served { IfOk result (λ lines. IsServedBy (G.passes gate.now) (G.hears gate.now) limit (asked_of asked.entry) scripts.now (string_bytes lines)) }
+    ensures refused { IfErr result (IsServeRefusal (G.passes gate.now) (G.refuses gate.now) (G.hears gate.now) limit (asked_of asked.entry) scripts.now) }
     ensures at_once { TellsAtOnce (asked_of asked.entry) (λ e. result ≡ Err (ServeTextFault.Texts (PerformFault.Compile e))) }
 {
     let (object, calls) = read_calls(alloc, asked, scripts)?;

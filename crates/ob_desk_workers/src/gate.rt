@@ -11,6 +11,9 @@ pub trait Gate {
     // The same where it refuses the step.
     ghost refuses: { Self → ℕ → ℕ → ℕ → Type 0 };
 
+    // What is so once it was told that the process's call of a number was answered.
+    ghost hears: { Self → ℕ → ℕ → Type 0 };
+
     /// Whether the process may take one more step now. `turns` is how many its seat has taken, and `refusals` how often in a row
     /// it was refused since then.
     fn pass(&self, process: usize, turns: u128, refusals: u64) -> bool
@@ -18,7 +21,8 @@ pub trait Gate {
         ensures refused { IsFalse result → refuses self.now process turns refusals };
 
     /// The process's call of this number was answered.
-    fn answered(&self, process: usize, number: u64);
+    fn answered(&self, process: usize, number: u64)
+        ensures { hears self.now process number };
 }
 
 /// The gate that always passes.
@@ -31,6 +35,8 @@ impl Gate for Open {
     ghost passes = { λ _ _ _ _. Unit {0} };
 
     ghost refuses = { λ _. never };
+
+    ghost hears = { λ _ _ _. Unit {0} };
 
     fn pass(&self, _process: usize, _turns: u128, _refusals: u64) -> bool {
         true

@@ -6,4 +6,5 @@ pub mod RunFaultLines
 pub mod DrawFaultLines
 pub mod ServeFaultLines
 pub mod VerifyFaultLines
+pub mod SearchFaultLines
 pub mod ValuesFaultLines

@@ -6,6 +6,7 @@ pub mod draw_faults;
 pub mod module_faults;
 pub mod run_faults;
 pub mod script_faults;
+pub mod search_faults;
 pub mod sequential_faults;
 pub mod serve_faults;
 pub mod values_faults;

@@ -69,7 +69,7 @@ module _ (program : Program) where
       (fitting_signed program call).fits (record { signature = signature; here = here; fit = values_fit fit }) (values_ranged fit)
 
   -- an event of a line that begins a call, begins one that fits
-  abbrev FitsIfBegun : Event ObjectCall Reply → Type 0
+  abbrev pub FitsIfBegun : Event ObjectCall Reply → Type 0
   FitsIfBegun e = (id : CallId) (call : ObjectCall) → e ≡ Begin id call → Fits program call
 
   abbrev begun_as : CallId → ObjectCall → Event ObjectCall Reply
@@ -78,12 +78,12 @@ module _ (program : Program) where
   call_of : (i j : CallId) (a b : ObjectCall) → begun_as i a ≡ begun_as j b → a ≡ b
   call_of i j a b e = cc
 
-  event_fits : (processes : ℕ) (before : List (Event ObjectCall Reply)) (line : Line) (e : Event ObjectCall Reply) → IsEvent processes (signatures program) before line e → FitsIfBegun e
+  pub event_fits : (processes : ℕ) (before : List (Event ObjectCall Reply)) (line : Line) (e : Event ObjectCall Reply) → IsEvent processes (signatures program) before line e → FitsIfBegun e
   event_fits processes before line e (Lines.begin {name = name} {rest = rest} {id = i} {n = n} {signature = signature} {arguments = arguments} names found fit) =
       λ id call is. subst (λ (c : ObjectCall). Fits program c) (call_of i id _ call is) (call_fits name rest n signature arguments found fit)
   event_fits processes before line e (Lines.end names begun replies) = λ id call is. absurd (cc)
 
-  one_more : (before : List (Event ObjectCall Reply)) (e : Event ObjectCall Reply) → BegunFit (Fits program) before → FitsIfBegun e → BegunFit (Fits program) (before ++ e ∷ [])
+  pub one_more : (before : List (Event ObjectCall Reply)) (e : Event ObjectCall Reply) → BegunFit (Fits program) before → FitsIfBegun e → BegunFit (Fits program) (before ++ e ∷ [])
   one_more before e fit here id call begun =
       elim (Contains-append_cases before (e ∷ []) (Begin id call) begun) [
         | inl early ↦ fit id call early
@@ -97,7 +97,7 @@ module _ (program : Program) where
   lines_fit processes (Lines.applied says rest) fit = lines_fit processes rest fit
   lines_fit processes (Lines.order says tails) fit = fit
 
-  none_begun : BegunFit {Reply = Reply} (Fits program) []
+  pub none_begun : BegunFit {Reply = Reply} (Fits program) []
   none_begun id call begun = let p = place_of [] (Begin id call) begun in absurd (cc (p.1))
 
   -- each call of a record fits

@@ -60,6 +60,8 @@ impl Gate for Closed {
 
     ghost refuses = { λ _ _ _ _. Unit {0} };
 
+    ghost hears = { λ _ _ _. Unit {0} };
+
     fn pass(&self, _process: usize, _turns: u128, _refusals: u64) -> bool {
         false
     }
@@ -88,6 +90,8 @@ impl Gate for Meeting {
 
     ghost refuses = { λ _ _ _ _. Unit {0} };
 
+    ghost hears = { λ _ _ _. Unit {0} };
+
     fn pass(&self, process: usize, turns: u128, _refusals: u64) -> bool {
         if process > 1 || turns >= 25 {
             return true;
@@ -111,6 +115,8 @@ impl Gate for Standstill {
     ghost passes = { λ _ _ _ _. Unit {0} };
 
     ghost refuses = { λ _ _ _ _. Unit {0} };
+
+    ghost hears = { λ _ _ _. Unit {0} };
 
     fn pass(&self, process: usize, turns: u128, _refusals: u64) -> bool {
         match (process, turns) {
@@ -142,6 +148,8 @@ impl Gate for Reluctant {
 
     ghost refuses = { λ gate _ _ refusals. refusals < gate.refusals };
 
+    ghost hears = { λ _ _ _. Unit {0} };
+
     fn pass(&self, _process: usize, _turns: u128, refusals: u64) -> bool {
         refusals >= self.refusals
     }
@@ -159,6 +167,8 @@ impl Gate for Counting {
     ghost passes = { λ _ _ _ _. Unit {0} };
 
     ghost refuses = { λ _ _ _ _. Unit {0} };
+
+    ghost hears = { λ _ _ _. Unit {0} };
 
     fn pass(&self, _process: usize, _turns: u128, _refusals: u64) -> bool {
         true

@@ -1,5 +1,7 @@
-//! Tests of records, read and written again. Nothing stands on this crate.
+//! Tests of records, read and written again, and of histories. Nothing stands on this crate.
 #![tactic(auto)]
 
+#[cfg(test)]
+mod histories;
 #[cfg(test)]
 mod records;

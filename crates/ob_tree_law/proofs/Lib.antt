@@ -1,4 +1,5 @@
 pub mod Block
+mod OneWord
 pub mod Simulated
 pub mod TreeLaw
 pub mod Whole

@@ -31,6 +31,7 @@ use Rattle.ob_tree_work.proofs.Within.{opened_by_low, start_low, step_keeps}
 use Rattle.ob_tree_law.specs.TreeLaw.{Shows}
 use Rattle.ob_tree_law.specs.TreeEngine.{TreeRun, over_run, going_run, tree_entered, tree_started, tree_shown, tree_step, tree_engine, IsOpened, StandsInCode, IsTreeReady}
 use Rattle.ob_tree_law.proofs.Block.{tree_step_long}
+use Rattle.ob_tree_law.proofs.OneWord.{tree_touches}
 use Rattle.ob_tree_law.proofs.Simulated.{body_shows}
 
 module _ (program : Program) (budget : ℕ) where
@@ -229,6 +230,7 @@ module _ (program : Program) (budget : ℕ) where
       step_ready = λ run b ready long. step_ready run b ready;
       stuck_run = λ run b ready long stuck. (stuck_step run b stuck).0;
       stuck_block = λ run b ready long stuck. (stuck_step run b stuck).1;
+      one_word = λ run b ready long. tree_touches program budget run b;
       effect_lawful = law.effect_lawful;
       returned = tree_returned;
       trapped = tree_trapped;

@@ -6,7 +6,7 @@ use Rattle.std.specs.List.{after_first, before_first, list_all, starts_with}
 use Rattle.std.specs.Str.{bytes_eq}
 use Rattle.std.specs.declared.io.ErrorKind.{ErrorKind}
 use Rattle.std.specs.declared.io.ErrorKind.TheVariants as Kind
-use Rattle.ob_command.specs.CommandLine.{Text, CallsRequest, Request, RunRequest, Check, Listing, Seq, Run, RunTree, RunSteps, Serve, Draw, DrawRecord, Verify}
+use Rattle.ob_command.specs.CommandLine.{Text, CallsRequest, Request, RunRequest, Check, Listing, Seq, Run, RunTree, RunSteps, Serve, Draw, DrawRecord, Verify, Order}
 use Rattle.ob_command.specs.CommandLine.{Explain, ExplainCalls, ExplainTraps, ExplainRun, ExplainRecord, Bound, default_budget}
 
 -- the exit status of a fault with a number
@@ -99,6 +99,10 @@ drawn_form module_name record_name line =
 abbrev pub is_of_text : (line : Text) → Bool
 is_of_text line = begins (codes "S") line || (begins (codes "P") line || begins (codes "C") line)
 
+-- of a search, and of a fault of the module's text: no form of `explain` takes a history
+abbrev pub text_form : (module_name line : Text) → Text
+text_form module_name line = if is_of_text line then module_form module_name else []
+
 -- Of a run by the tree that form tells more of faults of the text alone: `explain` makes the module's code, and where that is too long it
 -- tells that before any other.
 abbrev pub tree_form : RunRequest → (line : Text) → Text
@@ -117,6 +121,7 @@ form_about (Draw run range) line = run_form run
 form_about (Serve calls) line = run_form (served calls)
 form_about (DrawRecord module_name record_name calls) line = drawn_form module_name record_name line
 form_about (Verify module_name record_name) line = record_form module_name record_name
+form_about (Order module_name history_name budget most) line = text_form module_name line
 form_about request line = []
 
 -- ---- faults of no text
@@ -135,13 +140,15 @@ first_place count =
     if bytes_eq count (codes "0") then codes "no call begins, so there is none for --calls to name\n"
     else codes "behind --calls stands FROM-TO, and FROM is 1 to " ++ count ++ codes " here\n"
 
--- What is told of any other, whichever the command is: what a number of the command line may be, or how many calls a picture has;
--- nothing of a desk's faults.
+-- What is told of any other, whichever the command is: what a number of the command line may be, how many calls a picture has, or what a
+-- search found; nothing of a desk's faults.
 abbrev pub beside_texts : (line : Text) → Option Text
 beside_texts line =
     if begins (codes "N1") line then Some (codes "behind -n stands how many processes there are, 1 to 16\n")
     else if begins (codes "N3") line then Some (codes "behind -b stands how many turns each call has, 0 to 1000000\n")
     else if begins (codes "I2") line then Some (codes "a picture shows at most 400 calls; --calls FROM-TO says which ones\n")
+    else if begins (codes "X1") line then Some (codes "up to the end of this call no order of the calls gives these replies\n")
+    else if begins (codes "X2") line then Some (codes "--most says how many configurations are looked at\n")
     else if begins (codes "V") line || begins (codes "K") line then Some []
     else None
 

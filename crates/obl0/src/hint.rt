@@ -5,7 +5,7 @@ ghost use Rattle.std.specs.List.{after_first, before_first, list_all};
 ghost use Rattle.obl0.specs.Hints.{asks_of_fault, beside_texts, budget_words, from_words, calls_form, cause, count_words, drawn_form, first_place, form_about};
 ghost use Rattle.obl0.specs.Hints.{is_blank, is_explain, is_fault, is_fault_name, is_of_record, is_of_text, is_plain, is_plain_byte, module_form};
 ghost use Rattle.obl0.specs.Hints.{module_words, more_about, more_about_unread, more_of, name_word, named, option_words, record_form, run_form, run_words};
-ghost use Rattle.obl0.specs.Hints.{script_words, served, third_word, told_of, tree_form};
+ghost use Rattle.obl0.specs.Hints.{script_words, served, text_form, third_word, told_of, tree_form};
 ghost use Rattle.ob_command.specs.Commands.{calls_request_of, request_of, run_request_of};
 
 use ob_command::command::{CallsCommand, Command, RunCommand};
@@ -140,6 +140,10 @@ fn beside_texts(line: &[u8]) -> Option<&'static str>
         Some("behind -b stands how many turns each call has, 0 to 1000000\n")
     } else if line.starts_with(b"I2") {
         Some("a picture shows at most 400 calls; --calls FROM-TO says which ones\n")
+    } else if line.starts_with(b"X1") {
+        Some("up to the end of this call no order of the calls gives these replies\n")
+    } else if line.starts_with(b"X2") {
+        Some("--most says how many configurations are looked at\n")
     } else if line.starts_with(b"V") || line.starts_with(b"K") {
         Some("")
     } else {
@@ -170,6 +174,7 @@ fn form_about(alloc: Global, command: Command<'_>, line: &[u8]) -> Result<String
             module_name,
             record_name,
         } => record_form(alloc, module_name, record_name),
+        Command::Order { module_name, .. } => text_form(alloc, module_name, line),
         Command::Explain { .. }
         | Command::ExplainCalls(_)
         | Command::ExplainTraps(_)
@@ -194,6 +199,16 @@ fn module_form(alloc: Global, module_name: &str) -> Result<String, AllocError>
     let mut text = module_words(alloc, module_name)?;
     text.push_str(TELLING)?;
     Ok(text)
+}
+
+/// The same of a fault of the module's text alone.
+fn text_form(alloc: Global, module_name: &str, line: &[u8]) -> Result<String, AllocError>
+    ensures { IfOk result (λ text. string_bytes text ≡ text_form module_name.now line.now) }
+{
+    if !is_of_text(line) {
+        return Ok(String::new(alloc));
+    }
+    module_form(alloc, module_name)
 }
 
 fn calls_form(alloc: Global, calls: CallsCommand<'_>) -> Result<String, AllocError>

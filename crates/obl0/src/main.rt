@@ -19,6 +19,7 @@ use refusal::{Refusal, refusal_of_words};
 use std::alloc::Global;
 use std::io::IsTerminal;
 use std::process::ExitCode;
+use std::random::RandomSource;
 use std::rt::{Env, Files};
 use std::sync::Wait;
 use std::thread::{JoinHandle, Threads};
@@ -146,7 +147,7 @@ fn told<R: Eprint>(rt: &R, refusal: Refusal) -> u8
 }
 
 /// What comes of the words of the command line. Whoever waits for the work has no more to tell where the sender is gone.
-fn work<R: Env + Files + Input + AllocGlobal + Threads + Wait + Sync>(
+fn work<R: Env + Files + Input + AllocGlobal + Threads + Wait + Sync + RandomSource>(
     rt: &R,
     working: Sender<(), Global>,
 ) -> Result<Outcome, Refusal> {
@@ -156,7 +157,7 @@ fn work<R: Env + Files + Input + AllocGlobal + Threads + Wait + Sync>(
 }
 
 /// What comes of the words of the command line.
-fn answered<R: Env + Files + Input + AllocGlobal + Threads + Wait + Sync>(
+fn answered<R: Env + Files + Input + AllocGlobal + Threads + Wait + Sync + RandomSource>(
     rt: &R,
 ) -> Result<Outcome, Refusal> {
     let given = given_words(rt)?;
@@ -165,7 +166,7 @@ fn answered<R: Env + Files + Input + AllocGlobal + Threads + Wait + Sync>(
 }
 
 /// What comes of words.
-fn obeyed<R: Files + Input + AllocGlobal + Threads + Wait + Sync>(
+fn obeyed<R: Files + Input + AllocGlobal + Threads + Wait + Sync + RandomSource>(
     rt: &R,
     words: &[&str],
 ) -> Result<Outcome, Refusal>

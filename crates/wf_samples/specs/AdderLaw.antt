@@ -1,14 +1,19 @@
 -- The adder meets the law.
 use Rattle.std.proofs.Common.{◌≡◌, ℕ, zero, suc, ◌≤◌, Bool, true, false, cond, List, [], ◌∷◌, length, refl, sym, ap, ◌∙◌, arith, length-set, int_eq}
-use Rattle.std.specs.Prelude.{ℤ, pos}
+use Rattle.std.specs.Prelude.{ℤ, pos, slice_set}
+use Rattle.std.specs.Int.{int_wrapping_add, w64}
 use Rattle.ll_cell.specs.Cell.{word_at}
 use Rattle.ob_interface.specs.declared.scalar.Scalar.{Scalar}
 use Rattle.ob_interface.specs.Call.{ObjectCall, Reply, Answers, Trapped}
 use Rattle.wf_table.specs.declared.engine_turn.EngineTurn.TheVariants as Turn
-use Rattle.wf_table.specs.Meaning.{body, values_in}
-use Rattle.wf_table.specs.Law.{IsLawful, HasReturned, Reaches}
+use Rattle.wf_table.specs.Meaning.{Turned, body, values_in}
+use Rattle.wf_table.specs.Law.{IsLawful, TouchesOneWord, HasReturned, Reaches}
 use Rattle.wf_samples.specs.Words.{argument_of, scalar_in}
+use Rattle.wf_samples.specs.declared.adder.AdderRun.{AdderRun}
 use Rattle.wf_samples.specs.Adder.{adder, Adds, IsOneWord, sum_of}
+
+abbrev turned : (sum argument : ℤ) → List ℤ → Turned AdderRun
+turned sum argument block = record { turn = Turn.Returned; run = record { argument = argument; sum = sum }; block = slice_set block 0 sum }
 
 returned : (b : List ℤ) (c : ObjectCall) (n : ℕ) → (body adder n b c).turn ≡ Turn.Returned → HasReturned adder Adds b c (body adder n b c)
 returned b c zero h = absurd (cc)
@@ -27,6 +32,14 @@ no_trap b c b' k e = let apart : Answers (scalar_in (sum_of b (argument_of c.arg
 
 returns : (b : List ℤ) (c : ObjectCall) (b' : List ℤ) (values : List Scalar) → Adds c b b' (Answers values) → Reaches adder b c b' values
 returns b c b' values e = record { count = 1; turn = refl; block_is = ap (λ (x : List ℤ × Reply). x.0) e; reply = ap (λ (x : List ℤ × Reply). x.1) e }
+
+-- the one word is read and written
+touches : (run : AdderRun) (b : List ℤ) → length b ≡ 1 → TouchesOneWord adder run b
+touches run [] long = absurd (omega (arith, long))
+touches run (w ∷ rest) long = record {
+  place = 0;
+  same = λ other as_long is. ap (λ (v : ℤ). turned (int_wrapping_add w64 v run.argument) run.argument other) is;
+}
 
 -- what a reply reads as
 few : (b : Bool) (word : ℤ) → length (values_in (cond b (Answers (scalar_in word ∷ [])) (Trapped 1))) ≤ 8
@@ -47,6 +60,7 @@ adder_lawful = record {
   step_ready = λ run block ready long. tt;
   stuck_run = λ run block ready long stuck. absurd (cc);
   stuck_block = λ run block ready long stuck. absurd (cc);
+  one_word = λ run block ready long. touches run block long;
   effect_lawful = λ b c b' a lawful fits e. ap length (sym (ap (λ (x : List ℤ × Reply). x.0) e)) ∙ length-set b 0 _ ∙ lawful;
   returned = λ b c n lawful fits h. returned b c n h;
   trapped = λ b c n k lawful fits h. absurd (no_trap_turn b c n k h);

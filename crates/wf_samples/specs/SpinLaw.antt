@@ -1,5 +1,5 @@
 -- The spinning engine meets the law: its one turn is told by the first word.
-use Rattle.std.proofs.Common.{◌≡◌, ℕ, zero, suc, ◌<◌, ◌≤◌, ◌^◌, Bool, true, false, cond, List, [], length, replicate, refl, sym, ap, ◌∙◌, arith, int_eq, subst}
+use Rattle.std.proofs.Common.{◌≡◌, ℕ, zero, suc, ◌<◌, ◌≤◌, ◌^◌, Bool, true, false, cond, List, [], length, replicate, set, ◌∷◌, refl, sym, ap, ◌∙◌, arith, int_eq, subst}
 use Rattle.std.specs.Prelude.{ℤ, pos, Some, int_lt}
 use Rattle.std.proofs.lemmas.List.{get_or-replicate, length-replicate}
 use Rattle.std.proofs.lemmas.Option.{same_Some}
@@ -9,7 +9,7 @@ use Rattle.ob_interface.specs.Call.{ObjectCall, Reply, Answers, Trapped}
 use Rattle.wf_table.specs.declared.engine_turn.EngineTurn.{EngineTurn}
 use Rattle.wf_table.specs.declared.engine_turn.EngineTurn.TheVariants as Turn
 use Rattle.wf_table.specs.Meaning.{Turned, after_turn, steps, body, values_in}
-use Rattle.wf_table.specs.Law.{IsLawful, HasReturned, HasTrapped, Reaches, ReachesTrap}
+use Rattle.wf_table.specs.Law.{IsLawful, TouchesOneWord, HasReturned, HasTrapped, Reaches, ReachesTrap}
 use Rattle.wf_samples.specs.Words.{argument_of}
 use Rattle.wf_samples.specs.Spin.{turn_by, turn_at, outcome_by, Spins, spin, IsNoWord, HasRoom}
 
@@ -27,6 +27,14 @@ one_step Turn.Stuck run block after h = refl
 all_steps : (words n : ℕ) (run block : List ℤ) → steps (spin words) (suc n) run block ≡ turned (turn_at (word_at run 0)) run block
 all_steps words zero run block = one_step (turn_at (word_at run 0)) run block (turned Turn.On run block) (λ e. refl)
 all_steps words (suc n) run block = one_step (turn_at (word_at run 0)) run block (steps (spin words) (suc n) run block) (λ e. all_steps words n run block ∙ ap (λ (t : EngineTurn). turned t run block) e)
+
+-- no word is read or written
+untouched : (turn : EngineTurn) (run other : List ℤ) (w : ℤ) → length other ≡ 0 → turned turn run other ≡ turned turn run (set other 0 w)
+untouched turn run [] w none = refl
+untouched turn run (v ∷ rest) w none = absurd (omega (arith, none))
+
+touches : (words : ℕ) (run block : List ℤ) → length block ≡ 0 → TouchesOneWord (spin words) run block
+touches words run block none = record { place = 0; same = λ other long is. untouched (turn_at (word_at run 0)) run other (word_at block 0) (long ∙ none) }
 
 abbrev is_0 : ObjectCall → Bool
 is_0 c = int_eq (argument_of c.arguments) (pos 0)
@@ -123,6 +131,7 @@ module _ (words : ℕ) (some : 0 < words) where
     step_ready = λ run block ready long. ready;
     stuck_run = λ run block ready long stuck. refl;
     stuck_block = λ run block ready long stuck. refl;
+    one_word = λ run block ready long. touches words run block long;
     effect_lawful = λ b c b' a lawful fits e. ap length (sym (stays (is_0 c) (is_below c) b b' a e)) ∙ lawful;
     returned = λ b c n lawful fits h. returned b c n h;
     trapped = λ b c n k lawful fits h. trapped b c n k h;

@@ -1,5 +1,6 @@
 -- The law that an engine meets: its steps lead to the effect of each call.
-use Rattle.std.specs.Prelude.{◌≡◌, ◌≢◌, ℕ, ◌+◌, ◌<◌, ◌≤◌, ◌^◌, ℤ, pos, List, length}
+use Rattle.std.specs.Prelude.{◌≡◌, ◌≢◌, ℕ, ◌+◌, ◌<◌, ◌≤◌, ◌^◌, ℤ, pos, List, length, slice_set}
+use Rattle.ll_cell.specs.Cell.{word_at}
 use Rattle.ob_interface.specs.declared.scalar.Scalar.{Scalar}
 use Rattle.ob_interface.specs.Call.{ObjectCall, Reply, Answers, Trapped as TrapReply}
 use Rattle.wf_table.specs.declared.engine_turn.EngineTurn.TheVariants.{Returned, Trapped, Stuck}
@@ -37,6 +38,13 @@ pub record ReachesTrap {Run : Type 0} (m : Meaning Run) (block : List ℤ) (call
   pub block_is : block ≡ after
   pub reply : m.reply call (kept_trap m k) ≡ TrapReply k
 
+-- of the block a step of a body reads and writes at most the word at one place, none where the block ends before it: on each block of as
+-- many words that has the same word there it answers the same and leaves the same run, and all words of that block but this one
+pub record TouchesOneWord {Run : Type 0} (m : Meaning Run) (run : Run) (block : List ℤ) : Type 0 where
+  pub place : ℕ
+  pub same : (other : List ℤ) → length other ≡ length block → word_at other place ≡ word_at block place →
+      m.step run other ≡ record { turn = (m.step run block).turn; run = (m.step run block).run; block = slice_set other place (word_at (m.step run block).block place) }
+
 -- lawful blocks, calls that fit, runs that are ready for this engine, and the effect
 pub record IsLawful {Run : Type 0} (m : Meaning Run) (lawful : List ℤ → Type 0) (fits : ObjectCall → Type 0) (ready : Run → Type 0) (Effect : Effects) : Type 0 where
   -- numbers of words
@@ -55,6 +63,8 @@ pub record IsLawful {Run : Type 0} (m : Meaning Run) (lawful : List ℤ → Type
   -- Stuck changes nothing
   pub stuck_run : (r : Run) (b : List ℤ) → ready r → length b ≡ m.variables → (m.step r b).turn ≡ Stuck → (m.step r b).run ≡ r
   pub stuck_block : (r : Run) (b : List ℤ) → ready r → length b ≡ m.variables → (m.step r b).turn ≡ Stuck → (m.step r b).block ≡ b
+  -- a step touches one word of the block
+  pub one_word : (r : Run) (b : List ℤ) → ready r → length b ≡ m.variables → TouchesOneWord m r b
   -- calls keep blocks lawful
   pub effect_lawful : (b : List ℤ) (c : ObjectCall) (b' : List ℤ) (a : Reply) → lawful b → fits c → Effect c b b' a → lawful b'
   -- what a body reaches is the effect

@@ -5,3 +5,5 @@ pub mod Ends
 mod PresentBodies
 mod Submitted
 mod FirstOnes
+mod Touches
+mod TouchesBody

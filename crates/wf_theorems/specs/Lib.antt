@@ -5,3 +5,4 @@ pub mod Commits
 pub mod Helping
 pub mod Replies
 pub mod Limits
+pub mod Touches

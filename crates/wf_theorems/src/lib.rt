@@ -8,3 +8,4 @@ pub mod commits;
 pub mod help;
 pub mod runs;
 pub mod standing;
+pub mod words;

@@ -1,7 +1,8 @@
-use Rattle.std.proofs.Common.{IfOk, Option, subst}
+use Rattle.std.proofs.Common.{ℕ, IfOk, Option, subst}
 use Rattle.std.proofs.lemmas.Result.{IfOk-weaker}
-use Rattle.ob_answer.specs.Answers.{IsRunObeyed}
+use Rattle.ob_answer.specs.Answers.{IsObeyed, IsRunObeyed}
 use Rattle.ob_answer.specs.declared.product.Product.TheVariants as Products
+use Rattle.ob_command.specs.CommandLine.{Order}
 use Rattle.ob_command.specs.Commands.{run_request_of}
 use Rattle.ob_text_picture_chart.specs.declared.charts.CallRange.{CallRange}
 use Rattle.ob_answer.proofs.answer.obey.Goals as goal
@@ -38,6 +39,14 @@ returns-in-DrawRecord g c = rw c.in-DrawRecord.is c.obey_draw_record.ensures
 
 pub returns-in-Verify : goal.returns-in-Verify
 returns-in-Verify g c = rw c.in-Verify.is c.obey_verify.ensures
+
+pub returns-in-Order : goal.returns-in-Order
+returns-in-Order g c =
+    rw c.in-Order.is (subst (λ (b : Option ℕ). IfOk c.obey_order.result
+    (λ a. IsObeyed g.F.Files.reads (Order c.in-Order.module_name.now c.in-Order.history_name.now b c.in-Order.most) c.args.files.now a c.obey_order.new.files))
+    c.in_ok-search.ensures.budget (subst (λ (k : ℕ). IfOk c.obey_order.result
+    (λ a. IsObeyed g.F.Files.reads (Order c.in-Order.module_name.now c.in-Order.history_name.now c.in_ok-search.search.budget k) c.args.files.now a c.obey_order.new.files))
+    c.in_ok-search.ensures.most c.obey_order.ensures))
 
 pub returns-in-Explain : goal.returns-in-Explain
 returns-in-Explain g c = rw c.in-Explain.is (IfOk-weaker c.obey_explain_module.result _ _ (λ a h. h 0) c.obey_explain_module.ensures)

@@ -20,6 +20,7 @@ returns c =
     let serve = added _ _ _ _ _ c.in_ok-program-6.ensures c.serve_line.ensures.app run in
     let draw = added _ _ _ _ _ c.in_ok-program-7.ensures c.draw_line.ensures.app serve in
     let verify = added _ _ _ _ _ c.in_ok-program-8.ensures c.record_line.ensures.app draw in
-    let explain = added _ _ _ _ _ c.in_ok-program-9.ensures c.explain_line.ensures.app verify in
-    IfOk-weaker c.with_command-9.result _ _
-    (λ whole adds. added _ _ _ _ _ adds c.bound_line.ensures.app explain) c.with_command-9.ensures
+    let order = added _ _ _ _ _ c.in_ok-program-9.ensures c.order_line.ensures.app verify in
+    let explain = added _ _ _ _ _ c.in_ok-program-10.ensures c.explain_line.ensures.app order in
+    IfOk-weaker c.with_command-10.result _ _
+    (λ whole adds. added _ _ _ _ _ adds c.bound_line.ensures.app explain) c.with_command-10.ensures

@@ -24,24 +24,24 @@ module _ (history : List (Event ObjectCall Reply)) (calls : List ScriptCall) (se
 pub loop-process-preserved : goal.loop-process-preserved
 loop-process-preserved c =
     let p = c.loop-process.process in
-    let sent = c.args.sent.now in
+    let sent = c.args.answers.now in
     let history = map event_of c.args.events.now in
     let calls = map script_call_of c.args.scripts.now in
     let lt : p < length sent = omega (arith, c.requires, c.loop-process-test.true) in
-    let shown = read sent p c.index-sent-process.result c.as_slice-answers.result.now lt c.index-sent-process.is c.as_slice-answers.ensures.value in
+    let shown = read sent p c.index-answers-process.result c.as_slice-own.result.now lt c.index-answers-process.is c.as_slice-own.ensures.value in
     below_more (IsToldAll history calls (λ k. get_or (map (λ list. list.items) sent) k [])) p c.loop-process.invariant
-    (told history calls (λ k. get_or (map (λ list. list.items) sent) k []) p c.call_count.result c.as_slice-answers.result.now shown c.call_count.ensures (c.if-not-are_all.ensures.yes refl))
+    (told history calls (λ k. get_or (map (λ list. list.items) sent) k []) p c.call_count.result c.as_slice-own.result.now shown c.call_count.ensures (c.if-not-are_all.ensures.yes refl))
 
 pub returns-then-not-are_all-clause-some : goal.returns-then-not-are_all-clause-some
 returns-then-not-are_all-clause-some c =
     let p = c.loop-process.process in
-    let sent = c.args.sent.now in
+    let sent = c.args.answers.now in
     let history = map event_of c.args.events.now in
     let calls = map script_call_of c.args.scripts.now in
     let lt : p < length sent = omega (arith, c.requires, c.loop-process-test.true) in
-    let shown = read sent p c.index-sent-process.result c.as_slice-answers.result.now lt c.index-sent-process.is c.as_slice-answers.ensures.value in
+    let shown = read sent p c.index-answers-process.result c.as_slice-own.result.now lt c.index-answers-process.is c.as_slice-own.ensures.value in
     record {
       own = c.loop-process-test.true;
-      lost = untold history calls (λ k. get_or (map (λ list. list.items) sent) k []) p c.call_count.result c.as_slice-answers.result.now shown c.call_count.ensures (c.if-not-are_all.ensures.no refl);
+      lost = untold history calls (λ k. get_or (map (λ list. list.items) sent) k []) p c.call_count.result c.as_slice-own.result.now shown c.call_count.ensures (c.if-not-are_all.ensures.no refl);
       below = c.loop-process.invariant;
     }

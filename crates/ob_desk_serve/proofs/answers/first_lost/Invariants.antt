@@ -6,4 +6,4 @@ use Rattle.ob_desk_serve.proofs.answers.first_lost.Given as goal
 
 abbrev pub invariant-loop-process : goal.invariant-loop-process
 invariant-loop-process l =
-    (p : ℕ) → p < l.process → IsToldAll (map event_of l.events) (map script_call_of l.scripts) (λ k. get_or (map (λ list. list.items) l.sent) k []) p
+    (p : ℕ) → p < l.process → IsToldAll (map event_of l.events) (map script_call_of l.scripts) (λ k. get_or (map (λ list. list.items) l.answers) k []) p

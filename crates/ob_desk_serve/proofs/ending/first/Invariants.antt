@@ -1,5 +1,6 @@
-use Rattle.std.proofs.Common.{◌≢◌, All, take}
+use Rattle.std.proofs.Common.{take}
+use Rattle.ob_desk_serve.specs.Gathered.{NoneEnded}
 use Rattle.ob_desk_serve.proofs.ending.first.Given as goal
 
 abbrev pub invariant-loop-process : goal.invariant-loop-process
-invariant-loop-process l = All (λ it. it ≢ l.which) (take l.process l.ended)
+invariant-loop-process l = NoneEnded l.which (take l.process l.workers)

@@ -1,5 +1,4 @@
 use Rattle.std.proofs.Common.{◌≡◌, ◌<◌, ◌∙◌, [], All, Global, List, Vec, ap, get_or, length, map, subst, sym, ℕ}
-use Rattle.std.proofs.lemmas.List.{length-map}
 use Rattle.std.proofs.lemmas.Result.{err_from_is_err_and}
 use Rattle.ob_desk.specs.Close.{AreSeats}
 use Rattle.ob_desk.specs.Desk.{Desk}
@@ -13,10 +12,9 @@ use Rattle.ob_interface.specs.Call.{ObjectCall, Reply}
 use Rattle.ob_object_compile.specs.View.{object_in}
 use Rattle.ob_object_record.specs.Record.{record_of}
 use Rattle.ob_desk_serve.proofs.Closed.{IsClosed, TellsClosing, record_of_closed}
-use Rattle.ob_desk_serve.proofs.Ends.{lowest_sent}
-use Rattle.ob_desk_serve.specs.Gathered.{AreByProcess}
+use Rattle.ob_desk_serve.specs.Gathered.{lists_in}
 use Rattle.ob_desk_serve.specs.ServeFaults.{IsLowestLost}
-use Rattle.ob_desk_serve.specs.Served.{EndsFirst, calls_for}
+use Rattle.ob_desk_serve.specs.Served.{EndsFirst, calls_for, desk_of}
 use Rattle.ob_text_words.specs.ScriptCalls.{script_call_of}
 use Rattle.wf_history.specs.History.{Event}
 use Rattle.wf_history.specs.View.{event_of}
@@ -36,14 +34,15 @@ record_of_machine-requires-clause-processes c =
     ap (λ (z : Sizes). z.processes) (subst (λ (d : Desk EngineParts). IsClosed d c.in_ok-machine.machine) c.requires.desk c.in_ok-machine.ensures.machine).sizes
 
 pub first_lost-requires : goal.first_lost-requires
-first_lost-requires c =
-    let items : Vec CallAnswer Global → List CallAnswer = λ list. list.items in
-    ap length c.as_slice.ensures.value ∙ sym (length-map c.in_ok-sent.sent.items items) ∙ c.in_ok-sent.ensures.each ∙ c.processes.ensures ∙ sym c.processes-2.ensures
+first_lost-requires c = ap length c.as_slice-2.ensures.value ∙ c.requires.each ∙ sym c.processes.ensures
 
 pub returns-in_err-machine-clause-fault : goal.returns-in_err-machine-clause-fault
 returns-in_err-machine-clause-fault c =
     let p = err_from_is_err_and c.from_residual-in_err-machine.result c.from_residual-in_err-machine.ensures.1 in
-    rw (p.1, p.2) (subst (λ (d : Desk EngineParts). TellsClosing d c.args.seats.now c.in_err-machine.field-0.0) c.requires.desk c.in_err-machine.ensures.fault)
+    let e = c.in_err-machine.field-0.0 in
+    rw (p.1, p.2)
+    (subst (λ (seats : List Seat). TellsClosing (desk_of (object_in c.args.object.now) (map script_call_of c.args.scripts.now)) seats e) c.as_slice.ensures.value
+    (subst (λ (d : Desk EngineParts). TellsClosing d c.as_slice.result.now e) c.requires.desk c.in_err-machine.ensures.fault))
 
 -- seats that agree with a machine agree with a record of it
 agreed : (m : Object CompiledParts Run) (seats : List Seat) (history : List (Event ObjectCall Reply)) (schedule : List Turns) → history ≡ m.state.records.history → schedule ≡ m.state.records.schedule → All (Agrees m.state.records.history m.state.records.schedule) seats → All (Agrees history schedule) seats
@@ -53,35 +52,41 @@ agreed m seats history schedule seen stepped all =
 
 pub returns-clause-agree : goal.returns-clause-agree
 returns-clause-agree c =
-    agreed c.in_ok-machine.machine c.args.seats.now c.in_ok-record.record.history c.in_ok-record.record.schedule.items c.in_ok-record.ensures.history c.in_ok-record.ensures.schedule c.in_ok-machine.ensures.agree
+    let shown = c.in_ok-record.record in
+    subst (All (Agrees shown.history shown.schedule.items)) c.as_slice.ensures.value
+    (agreed c.in_ok-machine.machine c.as_slice.result.now shown.history shown.schedule.items c.in_ok-record.ensures.history c.in_ok-record.ensures.schedule c.in_ok-machine.ensures.agree)
+
+pub returns-clause-seats : goal.returns-clause-seats
+returns-clause-seats c =
+    subst (AreSeats (desk_of (object_in c.args.object.now) (map script_call_of c.args.scripts.now))) c.as_slice.ensures.value
+    (subst (λ (d : Desk EngineParts). AreSeats d c.as_slice.result.now) c.requires.desk c.in_ok-machine.ensures.seats)
 
 pub returns-clause-ended : goal.returns-clause-ended
 returns-clause-ended c = λ p lt.
     subst (λ (h : List (Event ObjectCall Reply)). EndsFirst h p (calls_for p (map script_call_of c.args.scripts.now))) c.events.ensures.value
-    (c.in-None.ensures.none p (subst (λ (n : ℕ). p < n) (sym c.processes-2.ensures) lt)).ended
+    (c.in-None.ensures.none p (subst (λ (n : ℕ). p < n) (sym c.processes.ensures) lt)).ended
 
 pub returns-in-Some-clause-fault : goal.returns-in-Some-clause-fault
 returns-in-Some-clause-fault c =
     let o = object_in c.args.object.now in
     let n = o.processes in
     let calls = map script_call_of c.args.scripts.now in
-    let answers = c.args.answers.items in
     let items : Vec CallAnswer Global → List CallAnswer = λ list. list.items in
-    let lists = map items c.as_slice.result.now in
+    let lists = lists_in c.args.back.now in
     let p = c.in-Some.process in
-    let first : AreByProcess c.processes.result answers lists = subst (λ (ls : List (Vec CallAnswer Global)). AreByProcess c.processes.result answers (map items ls)) (sym c.as_slice.ensures.value) c.in_ok-sent.ensures in
-    let by : AreByProcess n answers lists = subst (λ (k : ℕ). AreByProcess k answers lists) c.processes.ensures first in
     let shown = record_of c.in_ok-record.record in
     let known = c.in_ok-record.ensures in
     let m = c.in_ok-machine.machine in
+    let seats = c.as_slice.result.now in
     let closed = subst (λ (d : Desk EngineParts). IsClosed d m) c.requires.desk c.in_ok-machine.ensures.machine in
-    let lowest : IsLowestLost n (map event_of c.events.result.now) calls (λ k. get_or lists k []) p = subst (λ (k : ℕ). IsLowestLost k (map event_of c.events.result.now) calls (λ k. get_or lists k []) p) c.processes-2.ensures c.in-Some.ensures.some in
+    let told = c.as_slice-2.result.now in
+    let first : IsLowestLost n (map event_of c.events.result.now) calls (λ k. get_or (map items told) k []) p = subst (λ (k : ℕ). IsLowestLost k (map event_of c.events.result.now) calls (λ k. get_or (map items told) k []) p) c.processes.ensures c.in-Some.ensures.some in
+    let own : IsLowestLost n (map event_of c.events.result.now) calls (λ k. get_or lists k []) p = subst (λ (ls : List (Vec CallAnswer Global)). IsLowestLost n (map event_of c.events.result.now) calls (λ k. get_or (map items ls) k []) p) c.as_slice-2.ensures.value first in
     record {
       shown = shown;
       is_record = record_of_closed o calls m closed shown
           (record { processes = known.processes; budget = known.budget; carried = known.carried; history = known.history; order = known.order; schedule = known.schedule; legal = known.legal; meant = known.meant });
-      own = subst (λ (d : Desk EngineParts). AreSeats d c.args.seats.now) c.requires.desk c.in_ok-machine.ensures.seats;
-      agree = agreed m c.args.seats.now shown.history shown.schedule known.history known.schedule c.in_ok-machine.ensures.agree;
-      lowest = lowest_sent n shown.history calls answers lists by p
-          (subst (λ (h : List (Event ObjectCall Reply)). IsLowestLost n h calls (λ k. get_or lists k []) p) c.events.ensures.value lowest);
+      own = subst (AreSeats (desk_of o calls)) c.as_slice.ensures.value (subst (λ (d : Desk EngineParts). AreSeats d seats) c.requires.desk c.in_ok-machine.ensures.seats);
+      agree = subst (All (Agrees shown.history shown.schedule)) c.as_slice.ensures.value (agreed m seats shown.history shown.schedule known.history known.schedule c.in_ok-machine.ensures.agree);
+      lowest = subst (λ (h : List (Event ObjectCall Reply)). IsLowestLost n h calls (λ k. get_or lists k []) p) c.events.ensures.value own;
     }

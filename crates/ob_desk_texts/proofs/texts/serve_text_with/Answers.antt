@@ -6,7 +6,7 @@ use Rattle.ob_object_compile.specs.View.{asked_of, object_in}
 use Rattle.ob_object_record.specs.Record.{record_of}
 use Rattle.ob_text_record.specs.RecordText.{record_text}
 use Rattle.ob_desk_serve.specs.ServeFaults.{IsServeFault}
-use Rattle.ob_desk_serve.specs.Served.{AreTurnsLet, HaveEnded, IsRecordOf}
+use Rattle.ob_desk_serve.specs.Served.{AreAnswersTold, AreTurnsLet, HaveEnded, IsRecordOf}
 use Rattle.ob_desk_texts.proofs.ReadCalls as Read
 use Rattle.ob_desk_texts.proofs.TextFaults.{memory_refused, serve_refused, texts_refused}
 use Rattle.ob_text_words.specs.ScriptCalls.{object_call, script_call_of}
@@ -34,7 +34,7 @@ serve-requires-clause-fits g c κs within =
 pub returns-in_err-write_record-clause-refused : goal.returns-in_err-write_record-clause-refused
 returns-in_err-write_record-clause-refused g c =
     let p = err_from_is_err_and c.from_residual-in_err-write_record.result c.from_residual-in_err-write_record.ensures.1 in
-    rw (p.1, p.2) (memory_refused (g.G.Gate.refuses c.args.gate.now) c.args.limit (asked_of c.args.asked) c.args.scripts.now)
+    rw (p.1, p.2) (memory_refused (g.G.Gate.passes c.args.gate.now) (g.G.Gate.refuses c.args.gate.now) (g.G.Gate.hears c.args.gate.now) c.args.limit (asked_of c.args.asked) c.args.scripts.now)
 
 pub returns-clause-served : goal.returns-clause-served
 returns-clause-served g c =
@@ -56,19 +56,22 @@ returns-clause-served g c =
         printed = c.in_ok-write_record.ensures ∙ ap (λ (p : Program). record_text p shown) c.checked.ensures.program;
       };
       passed = subst (λ (k : ℕ). AreTurnsLet (g.G.Gate.passes c.args.gate.now) c.args.limit k shown.schedule) ready.1.compiled.processes c.in_ok-record.ensures.passed;
+      told = subst (λ (k : ℕ). AreAnswersTold (g.G.Gate.hears c.args.gate.now) k shown.history) ready.1.compiled.processes c.in_ok-record.ensures.told;
     }
 
 pub returns-in_err-object-clause-refused : goal.returns-in_err-object-clause-refused
 returns-in_err-object-clause-refused g c =
     let p = err_from_is_err_and c.from_residual.result c.from_residual.ensures.1 in
-    rw (p.1, p.2) (texts_refused (g.G.Gate.refuses c.args.gate.now) c.args.limit (asked_of c.args.asked) c.args.scripts.now c.in_err-object.field-0.0 c.in_err-object.ensures.refused)
+    rw (p.1, p.2) (texts_refused (g.G.Gate.passes c.args.gate.now) (g.G.Gate.refuses c.args.gate.now) (g.G.Gate.hears c.args.gate.now) c.args.limit (asked_of c.args.asked) c.args.scripts.now c.in_err-object.field-0.0 c.in_err-object.ensures.refused)
 
 pub returns-in_err-record-clause-refused : goal.returns-in_err-record-clause-refused
 returns-in_err-record-clause-refused g c =
     let p = err_from_is_err_and c.from_residual-in_err-record.result c.from_residual-in_err-record.ensures.1 in
     let o = object_in c.in_ok-object.object in
+    let passes = g.G.Gate.passes c.args.gate.now in
     let refuses = g.G.Gate.refuses c.args.gate.now in
+    let hears = g.G.Gate.hears c.args.gate.now in
     let e = c.in_err-record.field-0.0 in
     rw (p.1, p.2)
-    (serve_refused refuses c.args.limit (asked_of c.args.asked) c.args.scripts.now o (map script_call_of c.in_ok-object.calls.items) c.in_ok-object.ensures.ready e
-    (subst (λ (xs : List ScriptCall). IsServeFault refuses c.args.limit o (map script_call_of xs) e) c.as_slice.ensures.value c.in_err-record.ensures.fault))
+    (serve_refused passes refuses hears c.args.limit (asked_of c.args.asked) c.args.scripts.now o (map script_call_of c.in_ok-object.calls.items) c.in_ok-object.ensures.ready e
+    (subst (λ (xs : List ScriptCall). IsServeFault passes refuses hears c.args.limit o (map script_call_of xs) e) c.as_slice.ensures.value c.in_err-record.ensures.fault))

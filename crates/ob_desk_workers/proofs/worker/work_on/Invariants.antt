@@ -1,5 +1,5 @@
 use Rattle.std.proofs.Common.{◌+◌, ◌<◌, ◌≤◌}
-use Rattle.ob_desk_workers.specs.Rounds.{AreLet, AreRefused, IsAfterTurns}
+use Rattle.ob_desk_workers.specs.Rounds.{AreLet, AreRefused, AreTold, GoOnFrom, IsAfterTurns}
 use Rattle.ob_desk_workers.proofs.worker.work_on.Given as goal
 
 abbrev pub invariant-loop : goal.invariant-loop
@@ -10,4 +10,6 @@ invariant-loop g l =
       few : l.refusals < l.limit;
       are_let : AreLet (g.G.Gate.passes l.gate) l.limit l.initial.seat → AreLet (g.G.Gate.passes l.gate) l.limit l.seat;
       are_refused : AreRefused (g.G.Gate.refuses l.gate) l.seat l.refusals;
+      told : AreTold (g.G.Gate.hears l.gate) l.initial.answers.items → AreTold (g.G.Gate.hears l.gate) l.answers.items;
+      answers : GoOnFrom l.initial.seat l.initial.answers.items l.seat l.answers.items;
     }

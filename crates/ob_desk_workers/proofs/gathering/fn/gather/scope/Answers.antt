@@ -1,55 +1,51 @@
 use denote.Exit.{no}
 use denote.Param.Send.{arg_send, param_send}
 use mir.Syntax.{named}
-use Rattle.std.proofs.Common.{◌≡◌, ◌∙◌, [], ◌∷◌, Err, arith, length-append, map-id, sym}
+use Rattle.std.proofs.Common.{◌≡◌, ◌++◌, ◌∷◌, ◌∙◌, [], List, map-id, subst, sym}
+use Rattle.ob_desk_floor.specs.Seat.{Seat}
 use Rattle.std.proofs.lemmas.Iterator.Adapters.{YieldsList-from_vec}
 use Rattle.std.proofs.lemmas.Iterator.Consumers.{YieldsList-end}
+use Rattle.std.proofs.lemmas.Result.{IfOk-weaker}
+use Rattle.std.proofs.lemmas.Slice.Zip.{all_zipped_more}
+use Rattle.std.proofs.Crossing.{send}
 use Rattle.ob_desk_workers.proofs.Crossing.{work_row}
-use Rattle.ob_desk_workers.proofs.Joins.{heard, start_of_seat, started_next}
-use Rattle.ob_desk_workers.specs.declared.worker.Ended.TheVariants as Ended
+use Rattle.ob_desk_workers.proofs.Joins.{have_worked, start_of_seat}
+use Rattle.ob_desk_workers.specs.Joined.{AreJoined, AreStartsOf, IsStartOf}
+use Rattle.ob_desk_workers.specs.Gathered.{HaveWorked}
 use Rattle.ob_desk_workers.proofs.gathering.fn.gather.scope.Goals as goal
 
 pub spawn_with-started-requires-send-F : goal.spawn_with-started-requires-send-F
 spawn_with-started-requires-send-F g c κs within =
     let shared = c.requires.shared in
-    param_send 2 _ (arg_send _ no _ (work_row (named 6) (named 7) (named 8) (named 9) κs.1.1.1.1.1.1.0 κs.1.1.1.1.1.1.1.0 κs.1.1.1.1.1.1.1.1.0 κs.1.1.1.1.1.1.1.1.1.0 g.row.R g.row.D g.row.G _ shared.0 shared.1 shared.2))
-
-pub loop-seat-preserved-in_default : goal.loop-seat-preserved-in_default
-loop-seat-preserved-in_default g c =
-    let h = c.loop-seat.invariant in
-    record {
-      none = h.none;
-      empty = h.empty;
-      few = omega (arith, c.add_start.ensures.few, h.few, length-append c.loop-seat.yielded (c.in-Some.seat ∷ []));
-      all = started_next c.captures.gate.now c.captures.limit c.loop-seat.yielded c.in-Some.seat c.loop-seat.starts.items c.add_start.new.starts.items (Err Ended.NoMemory) c.loop-seat.gathered.is_short c.add_start.result
-          (λ bad. cc) c.add_start.ensures.added h.all;
-    }
+    param_send 2 _ (arg_send _ no _ (work_row (named 6) (named 7) (named 8) (named 9) κs.1.1.1.1.1.1.0 κs.1.1.1.1.1.1.1.0 κs.1.1.1.1.1.1.1.1.0 κs.1.1.1.1.1.1.1.1.1.0 g.row.R _ g.row.D g.row.G _ shared.0 send shared.1 shared.2))
 
 pub loop-seat-preserved : goal.loop-seat-preserved
 loop-seat-preserved g c =
-    let h = c.loop-seat.invariant in
+    let desk = c.captures.desk.now in
     let gate = c.captures.gate.now in
     let limit = c.captures.limit in
     let kept = c.promise-kept in
-    let is = start_of_seat gate limit c.in-Some.seat kept.result c.spawn_with-started.result c.start_of.result c.start_of.ensures c.spawn_with-started.ensures.ok kept.ensures.gate kept.ensures.limit kept.ensures.seat in
-    record {
-      none = h.none;
-      empty = h.empty;
-      few = omega (arith, c.add_start-in-loop-seat.ensures.few, h.few, length-append c.loop-seat.yielded (c.in-Some.seat ∷ []));
-      all = started_next gate limit c.loop-seat.yielded c.in-Some.seat c.loop-seat.starts.items c.add_start-in-loop-seat.new.starts.items c.start_of.result c.loop-seat.gathered.is_short c.add_start-in-loop-seat.result
-          is c.add_start-in-loop-seat.ensures.added h.all;
-    }
+    let is = start_of_seat desk gate limit c.in-Some.seat kept.result c.spawn_with-started.result c.ok.result c.ok.ensures.value c.spawn_with-started.ensures.ok kept.ensures.desk kept.ensures.gate kept.ensures.limit kept.ensures.seat in
+    subst (AreStartsOf desk gate limit (c.loop-seat.yielded ++ c.in-Some.seat ∷ [])) (sym c.in_ok-push.ensures.items)
+    (all_zipped_more (IsStartOf desk gate limit) c.loop-seat.yielded c.loop-seat.starts.items c.in-Some.seat c.ok.result c.loop-seat.invariant is)
 
 pub returns : goal.returns
 returns g c =
+    let desk = c.captures.desk.now in
     let gate = c.captures.gate.now in
     let limit = c.captures.limit in
+    let passes = g.G.Gate.passes in
+    let refuses = g.G.Gate.refuses in
+    let hears = g.G.Gate.hears in
+    let halts = g.D.TakeTurn.halts in
     let seats = c.captures.seats.items in
     let starts = c.loop-seat.starts.items in
-    let h = c.loop-seat.invariant in
     let given = c.into_iter-seat-iterator.ensures.into_iter_gives in
     let all = YieldsList-end (YieldsList-from_vec {s = c.into_iter-seat-iterator.result} seats given.0 (given.1 ∙ c.captures.seats.ok.0)) c.loop-seat.yielded c.loop-seat.seat-iterator c.loop-seat.yielded_by c.next.result c.next.new.self c.in-None.is c.next.ensures.steps in
     let whole : c.loop-seat.yielded ≡ seats = sym (map-id c.loop-seat.yielded) ∙ all.0 in
-    heard g.G.Gate.passes g.G.Gate.refuses gate limit c.loop-seat.yielded seats starts c.collect.new.gathered whole h.few (rw c.collect.ensures.ended c.join_all.ensures.few)
-    (λ enough. h.all (c.join_all.ensures.short (c.collect.ensures.short enough)))
-    (λ enough. rw (c.collect.ensures.ended, c.collect.ensures.seats) (c.join_all.ensures.joined (c.collect.ensures.short enough)))
+    let are = subst (λ (ss : List Seat). AreStartsOf desk gate limit ss starts) whole c.loop-seat.invariant in
+    IfOk-weaker c.join_all.result
+    (λ v. AreJoined passes refuses hears halts starts v.items)
+    (λ v. HaveWorked (passes gate) (refuses gate) (hears gate) (halts desk) limit seats v.items)
+    (λ v joined. have_worked passes refuses hears halts desk gate limit seats starts v.items are joined)
+    c.join_all.ensures

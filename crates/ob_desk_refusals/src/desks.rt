@@ -1,0 +1,116 @@
+//! Desks at which turns are taken by hand, and which are closed with their seats or with others.
+
+use ob_code_engine::CodeEngine;
+use ob_desk::{CloseFault, Desk};
+use ob_desk_floor::{Seat, TakeTurn};
+use ob_desk_serve::opened_desk;
+use ob_desk_texts::read_calls;
+use ob_interface::NoMemory;
+use ob_object_compile::{Asked, Beginning};
+use ob_object_perform::PerformFault;
+use std::alloc::Global;
+use std::sync::Wait;
+
+/// Process 1 gets 1 where process 0 was there before it, and else 0.
+const COUNTER: &[u8] = b"MODULE C; VAR x: INTEGER; PROCEDURE Inc*; BEGIN x := x + 1 END Inc; \
+    PROCEDURE Get*(VAR v: INTEGER); BEGIN v := x END Get; END C.";
+
+type CodeDesk = Desk<CodeEngine>;
+
+/// Whether a desk was closed with seats; none where memory wanted before that.
+type Closing = Option<Result<(), CloseFault>>;
+
+/// Memory wanted before a desk was closed.
+#[derive(Clone, Copy)]
+pub struct Short;
+
+impl From<NoMemory> for Short {
+    fn from(_: NoMemory) -> Short {
+        Short
+    }
+}
+
+impl From<PerformFault> for Short {
+    fn from(_: PerformFault) -> Short {
+        Short
+    }
+}
+
+/// A desk of two processes, and its seats.
+fn opened(alloc: Global) -> Result<(CodeDesk, Vec<Seat>), Short> {
+    let asked = Asked {
+        text: COUNTER,
+        processes: 2,
+        budget: 100,
+        beginning: Beginning::Body,
+    };
+    let (object, calls) = read_calls(alloc, asked, b"0 Inc\n1 Get\n")?;
+    Ok(opened_desk(alloc, &object, calls.as_slice())?)
+}
+
+/// A hundred turns of a process.
+fn take_turns<R: Wait>(
+    rt: &R,
+    desk: &CodeDesk,
+    seats: &mut Vec<Seat>,
+    process: usize,
+) -> Result<(), NoMemory> {
+    for _ in 0..100 {
+        if let Some(seat) = seats.get_mut(process)
+            && seat.turns() < u128::MAX
+        {
+            desk.turn(rt, seat)?;
+        }
+    }
+    Ok(())
+}
+
+/// A desk at which the first process took its turns before the other one.
+fn used<R: Wait + AllocGlobal>(
+    rt: &R,
+    first: usize,
+    other: usize,
+) -> Result<(CodeDesk, Vec<Seat>), Short> {
+    let (desk, mut seats) = opened(rt.alloc())?;
+    take_turns(rt, &desk, &mut seats, first)?;
+    take_turns(rt, &desk, &mut seats, other)?;
+    Ok((desk, seats))
+}
+
+/// What closing a desk with seats comes to.
+fn closed(desk: CodeDesk, seats: Vec<Seat>) -> Result<(), CloseFault> {
+    desk.close(seats.as_slice())?;
+    Ok(())
+}
+
+/// With the desk's own seats.
+pub fn own_seats<R: Wait + AllocGlobal>(rt: &R) -> Closing {
+    let (desk, seats) = used(rt, 0, 1).ok()?;
+    Some(closed(desk, seats))
+}
+
+/// Without that of process 1.
+pub fn missing_seat<R: Wait + AllocGlobal>(rt: &R) -> Closing {
+    let (desk, mut seats) = used(rt, 0, 1).ok()?;
+    seats.pop();
+    Some(closed(desk, seats))
+}
+
+/// With one of another tag in the place of that of process 0.
+pub fn seat_of_another_tag<R: Wait + AllocGlobal>(rt: &R) -> Closing {
+    let (desk, mut seats) = used(rt, 0, 1).ok()?;
+    let own = seats.pop();
+    seats.clear();
+    seats.push(Seat::new(rt.alloc(), 0, 8)).ok()?;
+    seats.extend(own).ok()?;
+    Some(closed(desk, seats))
+}
+
+/// With one of a desk at which process 1 took its turns first in the place of its own, so that it has another answer.
+pub fn seat_of_another_desk<R: Wait + AllocGlobal>(rt: &R) -> Closing {
+    let (_, mut others) = used(rt, 1, 0).ok()?;
+    let (desk, mut seats) = used(rt, 0, 1).ok()?;
+    seats.pop();
+    seats.extend(others.pop()).ok()?;
+    Some(closed(desk, seats))
+}

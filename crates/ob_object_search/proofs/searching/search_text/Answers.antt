@@ -1,0 +1,44 @@
+use Rattle.std.proofs.lemmas.Result.{err_from_is_err_and, IfErr-weaker, IfOk-weaker}
+use Rattle.ob_object_search.proofs.Texts.{enough_in, none_by, order_by, order_in, text_lawful, told_of}
+use Rattle.ob_object_search.proofs.searching.search_text.Goals as goal
+
+pub returns-in_err-checked-clause-none : goal.returns-in_err-checked-clause-none
+returns-in_err-checked-clause-none c =
+    let p = err_from_is_err_and c.from_residual.result c.from_residual.ensures.1 in
+    rw (p.1, p.2)
+    (λ decided order r. decided
+    (text_lawful c.args.module.now c.args.history.now c.args.search.now.budget c.args.search.now.most c.in_err-checked.field-0.0 c.in_err-checked.ensures.none c.in_err-checked.ensures.memory order r))
+
+pub returns-in_err-checked-clause-lawful : goal.returns-in_err-checked-clause-lawful
+returns-in_err-checked-clause-lawful c =
+    let p = err_from_is_err_and c.from_residual.result c.from_residual.ensures.1 in
+    rw (p.1, p.2)
+    (text_lawful c.args.module.now c.args.history.now c.args.search.now.budget c.args.search.now.most c.in_err-checked.field-0.0 c.in_err-checked.ensures.none c.in_err-checked.ensures.memory)
+
+pub returns-clause-order : goal.returns-clause-order
+returns-clause-order c =
+    IfOk-weaker c.search_checked.result _ _
+    (λ order. order_by c.args.module.now c.args.history.now c.args.search.now.budget c.args.search.now.most _ c.in_ok-checked.ensures.program c.in_ok-checked.ensures.alone order.items)
+    c.search_checked.ensures.order
+
+pub returns-clause-fault : goal.returns-clause-fault
+returns-clause-fault c =
+    IfErr-weaker c.search_checked.result _ _
+    (told_of c.args.module.now c.args.history.now c.args.search.now.budget c.args.search.now.most _ c.in_ok-checked.ensures.program c.in_ok-checked.ensures.alone)
+    c.search_checked.ensures.fault
+
+pub returns-clause-none : goal.returns-clause-none
+returns-clause-none c =
+    none_by c.search_checked.result
+    (λ order r. c.search_checked.ensures.lawful order
+    (order_in c.args.module.now c.args.history.now c.args.search.now.budget c.args.search.now.most _ c.in_ok-checked.ensures.program c.in_ok-checked.ensures.alone order r))
+
+pub returns-clause-lawful : goal.returns-clause-lawful
+returns-clause-lawful c =
+    λ order r. c.search_checked.ensures.lawful order
+    (order_in c.args.module.now c.args.history.now c.args.search.now.budget c.args.search.now.most _ c.in_ok-checked.ensures.program c.in_ok-checked.ensures.alone order r)
+
+pub returns-clause-decided : goal.returns-clause-decided
+returns-clause-decided c =
+    λ e. c.search_checked.ensures.decided
+    (enough_in c.args.module.now c.args.history.now c.args.search.now.budget c.args.search.now.most _ c.in_ok-checked.ensures.program c.in_ok-checked.ensures.alone e)

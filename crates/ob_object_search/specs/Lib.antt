@@ -1,0 +1,5 @@
+pub mod Found
+pub mod Laws
+pub mod SearchFaults
+pub mod Searched
+pub mod Words

@@ -1,0 +1,109 @@
+//! A module's object, as a search takes it.
+
+ghost use Rattle.std.specs.Prelude.{◌≡◌, ℕ, IfOk, IsTrue};
+ghost use Rattle.ob_checked.specs.CheckedModule.{program_in};
+ghost use Rattle.ob_interface.specs.Call.{Reply as AnyReply};
+ghost use Rattle.ob_interface.specs.View as Objects;
+ghost use Rattle.ob_interpreter.specs.View.{call_of, reply_of};
+ghost use Rattle.ob_object_order.specs.LegalOrder.{CallEnds};
+ghost use Rattle.ob_positions.specs.Store.{Activation};
+ghost use Rattle.wf_history.specs.View.{seen_call};
+
+use crate::words::words_in;
+use ob_checked::checked::Checked;
+use ob_interface::NoMemory;
+use ob_interface::call::Reply;
+use ob_interpreter::call as interpreter;
+use ob_interpreter::object::interpret;
+use ob_store::state::State;
+use smallvec::SmallVec;
+use std::alloc::{AllocError, Global};
+use wf_history::{SeenCall, SeenReply};
+use wf_order::Object;
+
+/// The object of a checked module that begins with this state, each call with so many turns.
+#[derive(Clone, Copy)]
+pub struct ModuleObject<'a> {
+    pub checked: &'a Checked,
+    pub opening: &'a State,
+    pub budget: u64,
+}
+
+/// The call, for the interpreter.
+fn call_in(alloc: Global, call: SeenCall) -> Result<interpreter::Call, AllocError>
+    ensures { IfOk result (λ c. call_of c ≡ seen_call call.entry) }
+{
+    Ok(interpreter::Call {
+        export: call.proc,
+        arguments: Vec::from_slice(alloc, call.args.lent().as_slice())?,
+    })
+}
+
+/// The interpreter's reply, as an object gives it.
+fn object_reply(alloc: Global, reply: &interpreter::Reply) -> Result<Reply, AllocError>
+    ensures { IfOk result (λ given. Objects.reply_of given ≡ reply_of reply.now) }
+{
+    match reply {
+        interpreter::Reply::Answers(values) => {
+            Ok(Reply::Done(SmallVec::from_slice(alloc, values.as_slice())?))
+        }
+        interpreter::Reply::Trapped(number) => Ok(Reply::Trap(*number)),
+    }
+}
+
+/// Whether a call leaves the state as it is, whatever it answers.
+fn is_silent_call(_checked: &Checked, _call: SeenCall) -> bool
+    ensures { IsTrue result → (budget : ℕ) (before after : Activation) (reply : AnyReply)
+        → CallEnds (program_in _checked.now) budget (seen_call _call.entry) before after reply → before ≡ after }
+{
+    false
+}
+
+impl<'a> Object for ModuleObject<'a> {
+    ghost use Rattle.ob_checked.specs.CheckedModule.{program_in};
+    ghost use Rattle.ob_object_order.specs.LegalOrder.{CallEnds};
+    ghost use Rattle.ob_object_search.specs.Laws.{one_outcome, words_told_apart};
+    ghost use Rattle.ob_object_search.specs.Words.{words_of};
+    ghost use Rattle.ob_positions.specs.Store.{Activation};
+    ghost use Rattle.ob_store.specs.View.{state_of};
+
+    type State = State;
+
+    ghost Meaning = { Activation };
+
+    ghost meaning = { state_of };
+
+    ghost opening = { λ o. state_of o.opening.now };
+
+    ghost effect = { λ o. CallEnds (program_in o.checked.now) o.budget };
+
+    ghost words_of = { words_of };
+
+    fn open(&self, alloc: Global) -> Result<State, NoMemory> {
+        Ok(self.opening.copy(alloc)?)
+    }
+
+    fn apply(
+        &self,
+        alloc: Global,
+        state: &State,
+        call: SeenCall,
+    ) -> Result<(State, Reply), NoMemory> {
+        let call = call_in(alloc, call)?;
+        let (next, reply) = interpret(alloc, self.checked, state, &call, self.budget)?;
+        let given = object_reply(alloc, &reply)?;
+        Ok((next, given))
+    }
+
+    fn words(&self, alloc: Global, state: &State) -> Result<Vec<u64>, NoMemory> {
+        words_in(alloc, state.values())
+    }
+
+    fn is_silent(&self, call: SeenCall, reply: SeenReply) -> bool {
+        matches!(reply, SeenReply::Trap(_)) || is_silent_call(self.checked, call)
+    }
+
+    ghost determined = { λ o. one_outcome (program_in o.checked.now) o.budget };
+
+    ghost told_apart = { words_told_apart };
+}

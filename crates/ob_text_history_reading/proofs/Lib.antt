@@ -1,0 +1,11 @@
+pub mod Steps
+pub mod Rest
+pub mod Whole
+pub mod Faulty
+pub mod Naming
+pub mod Growing
+pub mod Places
+pub mod Telling
+pub mod Counting
+pub mod Openers
+pub mod KindsLed

@@ -1,0 +1,4 @@
+pub mod HistoryLines
+pub mod Names
+pub mod Reading
+pub mod Told
