@@ -235,6 +235,35 @@ def found(names):
     return [row for path in files for row in rows_of(path)]
 
 
+def by_tree(row):
+    """A row of `run`, by the tree of its module."""
+    return replace(row, words=f"{row.words} --tree", place=f"{row.place}+tree")
+
+
+def verified(row):
+    """That the record which a row of `run` prints is verified."""
+    module = row.words.split()[1]
+    files = {module: row.files[module], "record": row.out.decode()}
+    return replace(row, words=f"verify {module} record", files=files, out=b"ok\n", place=f"{row.place}+verified")
+
+
+def found_in_ways(names):
+    """The rows of these names. Behind `+tree` they are those of `run` by the tree of their module, and behind `+verified` their records,
+    where they print one."""
+    for name in names:
+        name, _, way = name.partition("+")
+        for row in found([name]):
+            if way == "tree":
+                yield by_tree(row)
+            elif way == "verified":
+                if row.out and row.out.startswith(b"obl0 record"):
+                    yield verified(row)
+            elif way:
+                raise BadRow(f"there is no way +{way}")
+            else:
+                yield row
+
+
 def program_of_sources():
     """The program of these sources: the one that was proved and built here, or the shipped one, or else it is proved and built."""
     found = subprocess.run([TOP / "dist/program"], stdout=subprocess.PIPE, text=True)

@@ -17,7 +17,8 @@ use Rattle.ob_interface.specs.Processes.{most_processes}
 use Rattle.ob_meaning.specs.Object as Named
 use Rattle.ob_meaning.specs.Object.{most_turns}
 use Rattle.ob_object_compile.specs.Asked.{Asked}
-use Rattle.ob_object_compile.specs.Compilation.{IsCompilation, ObjectParts, Opens}
+use Rattle.ob_object_compile.specs.Compilation as Compilation
+use Rattle.ob_object_compile.specs.Compilation.{ObjectParts, Opens}
 use Rattle.ob_object_compile.specs.Sound.{IsSoundObject}
 use Rattle.ob_object_printed.proofs.Along.{all_begun, replied}
 use Rattle.ob_object_printed.proofs.Events.{AreSmall, applied_at, begun_call, counted_in, few_calls, member_of, named_in}
@@ -45,7 +46,7 @@ use Rattle.wf_table.specs.Object.{State}
 use Rattle.wf_table.specs.Sound.{IsSound}
 use Rattle.wf_table.specs.Start.{sizes_of}
 
-module _ (states : StatesAreObjects) (carry : PositionsCarryLegal) (a : Asked) (o : ObjectParts) (compiled : IsCompilation a o) (so : IsSoundObject o) (opens : Opens a.beginning o.program o.opening)
+module _ (Allowed : Program → Type 0) (states : StatesAreObjects) (carry : PositionsCarryLegal) (a : Asked) (o : ObjectParts) (compiled : Compilation.IsObjectOf Allowed a o) (so : IsSoundObject o) (opens : Opens a.beginning o.program o.opening)
     (s : State Run) (few : o.processes ≤ most_processes) (some : 0 < o.processes)
     (sound : IsSound (code_meaning o.engine) (IsLawfulFor o.engine) (IsFitting o.engine.exports) (HasReserve o.engine) (sizes_of (code_meaning o.engine) o.processes) (encoded o.opening) s)
     (r : Record) (processes : r.processes ≡ o.processes) (budget_is : r.budget ≡ o.engine.budget) (carried : r.carried ≡ carried_in o) (history : r.history ≡ s.records.history) (order : r.order ≡ s.records.order) (schedule : r.schedule ≡ s.records.schedule)

@@ -11,9 +11,10 @@ use Rattle.ob_code_law.specs.Parts.{IsEffectOf, IsLawfulFor}
 use Rattle.ob_code_machine.specs.Body.{Run}
 use Rattle.ob_code_scheme.specs.Layout.{encoded}
 use Rattle.ob_object_compile.specs.Asked.{Asked, Beginning, ByBody, ByValues, is_carried}
-use Rattle.ob_object_compile.specs.Compilation.{IsCompilation, ObjectParts, Opens}
-use Rattle.ob_object_compile.specs.Sound.{IsSoundObject}
+use Rattle.ob_object_compile.specs.Compilation.{IsObjectOf, ObjectParts, Opens}
+use Rattle.ob_object_compile.specs.Sound.{IsSoundObject, ObjectsAreSound}
 use Rattle.ob_object_printed.proofs.Records.{writable}
+use Rattle.ob_object_printed.specs.Printed.{PerformedIsWritable, PrintedIsVerified}
 use Rattle.ob_object_perform.specs.Performance.{carried_in}
 use Rattle.ob_object_record.specs.Record.{Record, carried_from}
 use Rattle.ob_object_run.specs.Laws.{StatesAreObjects}
@@ -26,7 +27,8 @@ use Rattle.ob_text_record.specs.RecordText.{record_text}
 use Rattle.ob_typing.specs.Program.{Program}
 use Rattle.wf_history.specs.Legal.{IsLegal}
 use Rattle.wf_table.specs.Object.{State}
-use Rattle.wf_table.specs.Runs.{Act, IsRun}
+use Rattle.wf_play.specs.Played.{scripts_of}
+use Rattle.wf_table.specs.Runs.{Act, IsRun, performed}
 use Rattle.wf_table.specs.Sound.{IsSound}
 use Rattle.wf_table.specs.Start.{sizes_of}
 
@@ -45,8 +47,8 @@ HasLegalOrder =
     (e : CompiledParts) (n : ℕ) (opening : List ℤ) (acts : List Act) (s : State Run) → Runs e.parts n opening acts s →
     ∥ IsLegal (IsEffectOf e.parts) opening s.records.history s.records.order (take (code_meaning e.parts).variables (block_of s.cell s.cell.root)) ∥₁
 
-module _ (every : KeepsSound) (ordered : HasLegalOrder) (states : StatesAreObjects) (carry : PositionsCarryLegal)
-    (a : Asked) (o : ObjectParts) (compiled : IsCompilation a o) (so : IsSoundObject o) (opens : Opens a.beginning o.program o.opening)
+module _ (Allowed : Program → Type 0) (every : KeepsSound) (ordered : HasLegalOrder) (states : StatesAreObjects) (carry : PositionsCarryLegal)
+    (a : Asked) (o : ObjectParts) (compiled : IsObjectOf Allowed a o) (so : IsSoundObject o) (opens : Opens a.beginning o.program o.opening)
     (acts : List Act) (s : State Run) (runs : Runs o.engine o.processes (encoded o.opening) acts s)
     (r : Record) (processes : r.processes ≡ o.processes) (budget_is : r.budget ≡ o.engine.budget) (carried : r.carried ≡ carried_in o) (history : r.history ≡ s.records.history) (order : r.order ≡ s.records.order) (schedule : r.schedule ≡ s.records.schedule)
     (events : length r.history < 2 ^ 64) where
@@ -57,7 +59,7 @@ module _ (every : KeepsSound) (ordered : HasLegalOrder) (states : StatesAreObjec
   writable_run meant =
       ∥∥₁_elim (ordered engine o.processes (encoded o.opening) acts s runs) squash₁ (λ l.
       ∥∥₁_map meant (λ m.
-      writable states carry a o compiled so opens s runs.few runs.some (every engine o.processes (encoded o.opening) acts s runs) r processes budget_is carried history order schedule events l m))
+      writable Allowed states carry a o compiled so opens s runs.few runs.some (every engine o.processes (encoded o.opening) acts s runs) r processes budget_is carried history order schedule events l m))
 
 -- with the state with which an object begins, the calls of its record begin
 begins_named : (beginning : Beginning) (program : Program) (opening : Activation) (opens : Opens beginning program opening) →
@@ -66,7 +68,7 @@ begins_named ByBody program opening opens = opens.opens
 begins_named (ByValues values) program opening opens = opens.same
 
 -- the text of a writable record whose order is legal is verified
-module _ (verified : LegalIsVerified) (a : Asked) (o : ObjectParts) (compiled : IsCompilation a o) (opens : Opens a.beginning o.program o.opening)
+module _ (Allowed : Program → Type 0) (verified : LegalIsVerified) (a : Asked) (o : ObjectParts) (compiled : IsObjectOf Allowed a o) (opens : Opens a.beginning o.program o.opening)
     (r : Record) (budget_is : r.budget ≡ o.engine.budget) (carried : r.carried ≡ carried_in o) where
   begins : BeginsNamed o.program r.carried opens.state
   begins =
@@ -78,3 +80,27 @@ module _ (verified : LegalIsVerified) (a : Asked) (o : ObjectParts) (compiled : 
   verified_record w m =
       verified a.text o.program opens.state m.last r compiled.is_module begins w
       (subst (λ (b : ℕ). IsLegal (CallMeans o.program b) opens.state r.history r.order m.last) (sym budget_is) m.legal)
+
+-- ---- runs from texts
+
+module _ (Allowed : Program → Type 0) where
+  pub writable_performance : KeepsSound → HasLegalOrder → StatesAreObjects → PositionsCarryLegal → ObjectsAreSound Allowed → PerformedIsWritable Allowed
+  writable_performance every ordered states carry sound = λ t r p events.
+      let o = p.object in
+      let shows = p.shows.recorded in
+      let same : o.engine.budget ≡ t.asked.budget = ap (λ (q : EngineParts). q.budget) p.compiled.engine_is in
+      let legal = subst (λ (b : ℕ). ∥ IsMeantOrder o.program b p.compiled.opens.state r ∥₁) (sym same) p.legal in
+      writable_run Allowed every ordered states carry t.asked o p.compiled (sound t.asked o p.compiled) p.compiled.opens
+      (performed (scripts_of p.calls) shows.state.records.schedule) shows.state shows.played.runs r shows.processes shows.budget p.shows.carried shows.history shows.order shows.schedule events legal
+
+  pub printed_record : LegalIsVerified → PerformedIsWritable Allowed → PrintedIsVerified Allowed
+  printed_record verified writable = λ t output printed.
+      let p = printed.performs in
+      let o = p.object in
+      let r = printed.shown in
+      let same : o.engine.budget ≡ t.asked.budget = ap (λ (q : EngineParts). q.budget) p.compiled.engine_is in
+      let legal = subst (λ (b : ℕ). ∥ IsMeantOrder o.program b p.compiled.opens.state r ∥₁) (sym same) p.legal in
+      ∥∥₁_elim (writable t r p printed.events) squash₁ (λ w.
+      ∥∥₁_map legal (λ m.
+      subst (λ (bytes : List ℕ). IsVerified t.asked.text bytes) (sym printed.printed)
+      (verified_record Allowed verified t.asked o p.compiled p.compiled.opens r p.shows.recorded.budget p.shows.carried w m)))

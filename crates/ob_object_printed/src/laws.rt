@@ -1,5 +1,6 @@
 //! Laws of the records of runs from texts. What a function here ensures is proved; it does nothing.
 
+ghost use Rattle.ob_object_compile.specs.Compilation.{IsAny, IsShort};
 ghost use Rattle.ob_object_printed.specs.Printed.{PerformedIsWritable, PrintedIsVerified, ServedIsVerified, ServedIsWritable};
 
 use ob_code_engine::CodeEngine;
@@ -10,9 +11,11 @@ use ob_text_read_back::laws::legal_is_verified;
 use wf_theorems::runs::every_run;
 use wf_theorems::standing::legal_order;
 
-/// The record of a run from texts is writable, and so is the record of workers, however the object begins: its text tells what it holds.
+/// The record of a run from texts is writable, over code and over the tree, and so is the record of workers, however the object begins:
+/// its text tells what it holds.
 pub fn performed_is_writable()
-    ensures performed { PerformedIsWritable }
+    ensures coded { PerformedIsWritable IsShort }
+    ensures trees { PerformedIsWritable IsAny }
     ensures served { ServedIsWritable }
 {
     every_run::<CodeEngine>();
@@ -22,10 +25,11 @@ pub fn performed_is_writable()
     compilations_are_sound();
 }
 
-/// So what is printed of a run, also of an object that began with values carried over, is verified by the text of the module:
-/// `verify_text` answers Ok or want of memory of it.
+/// So what is printed of a run, over code or over the tree, and also of an object that began with values carried over, is verified by
+/// the text of the module: `verify_text` answers Ok or want of memory of it.
 pub fn printed_is_verified()
-    ensures { PrintedIsVerified }
+    ensures coded { PrintedIsVerified IsShort }
+    ensures trees { PrintedIsVerified IsAny }
 {
     performed_is_writable();
     legal_is_verified();

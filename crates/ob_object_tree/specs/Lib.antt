@@ -1,1 +1,2 @@
 pub mod TreeRuns
+pub mod Laws

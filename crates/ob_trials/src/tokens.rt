@@ -1,6 +1,6 @@
 //! Tokens of texts without blanks.
 
-use ob_scan::{Kind, scan};
+use ob_scan::{Kind, ScanFault, scan};
 use std::test::Fail;
 
 /// Each token is the longest that can stand at its place: `<=` and `:=` are one each.
@@ -30,5 +30,15 @@ fn a_name_behind_a_number(rt: HostRuntime) -> Result<(), Fail> {
     };
     assert!(rt; number.kind == Kind::Number && number.start == 0 && number.end == 2);
     assert!(rt; name.kind == Kind::Ident && name.start == 2 && name.end == 4);
+    Ok(())
+}
+
+/// `(*)` begins a comment that has no end, and 2147483648 is one more than the largest INTEGER: both are at fault where they begin.
+#[test]
+fn texts_that_have_no_tokens(rt: HostRuntime) -> Result<(), Fail> {
+    let fault = scan(rt.alloc(), b"(*)").err();
+    assert!(rt; matches!(fault, Some(ScanFault::OpenComment(0))));
+    let fault = scan(rt.alloc(), b"2147483648").err();
+    assert!(rt; matches!(fault, Some(ScanFault::NumberTooLarge(0))));
     Ok(())
 }

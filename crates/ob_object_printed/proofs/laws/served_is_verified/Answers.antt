@@ -1,5 +1,6 @@
 use Rattle.std.proofs.Common.{ℕ, List, subst, sym}
 use Rattle.std.proofs.Math.Logic.{∥∥₁_elim, ∥∥₁_map}
+use Rattle.ob_object_compile.specs.Compilation.{IsShort}
 use Rattle.ob_object_printed.proofs.Runs.{verified_record}
 use Rattle.ob_object_verify.specs.Verified.{IsVerified}
 use Rattle.ob_object_printed.proofs.laws.served_is_verified.Goals as goal
@@ -11,4 +12,4 @@ returns c = λ a scripts output printed.
     ∥∥₁_elim (c.performed_is_writable.ensures.served a scripts printed.object printed.calls printed.shown printed.read shows printed.events) squash₁ (λ w.
     ∥∥₁_map (shows.meant compiled.opens.state compiled.opens.same) (λ m.
     subst (λ (bytes : List ℕ). IsVerified a.text bytes) (sym printed.printed)
-    (verified_record c.legal_is_verified.ensures a printed.object compiled compiled.opens printed.shown shows.budget shows.carried w m)))
+    (verified_record IsShort c.legal_is_verified.ensures a printed.object compiled compiled.opens printed.shown shows.budget shows.carried w m)))
