@@ -6,7 +6,7 @@ use crate::counter::counter;
 use crate::records::written;
 use crate::trouble::Trouble;
 use ob_code_engine::CodeEngine;
-use ob_desk::Desk;
+use ob_desk_lock::Desk;
 use ob_desk_floor::{Seat, TakeTurn};
 use ob_desk_serve::opened_desk;
 use ob_desk_texts::read_calls;

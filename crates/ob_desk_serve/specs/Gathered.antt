@@ -1,7 +1,7 @@
 -- What is told where not all workers of a desk ended well, and what they handed back where they did.
 use Rattle.std.specs.Prelude.{◌≡◌, ◌≢◌, ℕ, ◌<◌, All, List, Option, None, Some, length, map, slice_get, take}
 use Rattle.std.specs.List.{AllZip, filter_map}
-use Rattle.ob_desk.specs.Desk.{seats_of}
+use Rattle.ob_desk_lock.specs.Desk.{seats_of}
 use Rattle.ob_desk_floor.specs.declared.seat.CallAnswer.{CallAnswer}
 use Rattle.ob_desk_workers.specs.Gathered.{HaveWorked}
 use Rattle.ob_desk_workers.specs.Rounds.{Halts, HasWorked, Hears, Says}

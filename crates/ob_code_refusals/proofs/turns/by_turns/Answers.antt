@@ -2,7 +2,7 @@
 use Rattle.std.proofs.Common.{◌<◌, ◌∙◌, All, List, ap, map, subst, sym}
 use Rattle.ob_code_law.specs.CodeMeaning.{EngineParts}
 use Rattle.ob_code_law.specs.Compiled.{IsFitting}
-use Rattle.ob_desk.specs.Desk.{Desk}
+use Rattle.ob_desk_lock.specs.Desk.{Desk}
 use Rattle.ob_desk_serve.proofs.Closed.{IsClosed}
 use Rattle.ob_desk_texts.proofs.ReadCalls as Read
 use Rattle.ob_object_compile.specs.View.{asked_of, object_in}
