@@ -1,6 +1,8 @@
 //! The lock round a floor, and what is known beside it.
 
-ghost use Rattle.std.specs.Prelude.{◌≡◌, ◌-◌, ◌<◌, ◌≤◌, All, IfErr, IfOk, OnOk};
+ghost use Rattle.std.specs.Prelude.{◌≡◌, ◌-◌, ◌/◌, ◌<◌, ◌≤◌, All, IfErr, IfOk, OnOk, min};
+ghost use Rattle.std.specs.Sync.Mutex.{mutex_guard_value};
+ghost use Rattle.ob_desk_floor.specs.Floor.{IsFloorOver};
 ghost use Rattle.ob_desk_lock.specs.Desk.{desk_in, seats_of, terms_of};
 ghost use Rattle.ob_interface.specs.View.{call_of};
 
@@ -19,8 +21,8 @@ use wf_object::{Machine, Seen, StepOut};
 /// How often a seat finds the lock taken before it waits for it by `Mutex::lock`.
 const TRIES: u32 = 32;
 
-/// By how many bits the turns of a seat are shifted for the pauses that it makes between two tries, and how many these are at most.
-const FEWER: u32 = 5;
+/// For how many of its turns a seat makes one pause between two tries, and how many pauses it makes there at most.
+const TURNS_OF_A_PAUSE: u128 = 32;
 
 const MOST_PAUSES: u128 = 128;
 
@@ -122,30 +124,41 @@ impl<E: CodedEngine> TakeTurn for Desk<E> {
 }
 
 /// Takes a lock that was found taken. Between two tries the lock's word is not looked at: each look takes it from the processor of
-/// the thread that has the lock, which writes it at each of its turns. The more turns the seat took the longer are its waits, so
-/// that a thread in the midst of its work goes on for some turns, and those that have just begun soon come in. There is no clause: of
-/// what a guard shows nothing is known but that it is a floor, which its type says.
+/// the thread that has the lock, which writes it at each of its turns. Of what stands under the lock nothing is known but that it is
+/// a floor.
 #[inline(never)]
 fn wait_for<'a, E: CodedEngine, R: Wait>(
     rt: &R,
     floor: &'a Mutex<Floor<E>>,
     seat: &Seat,
-) -> MutexGuard<'a, Floor<E>> {
-    let pauses = (seat.turns() >> FEWER).min(MOST_PAUSES) as u32;
+) -> MutexGuard<'a, Floor<E>>
+    ensures { IsFloorOver E.meaning E.lawful E.fits E.ready (mutex_guard_value result) }
+{
+    let pauses = pauses_of(seat);
     for _ in 0..TRIES {
-        pause(pauses);
+        (0..pauses).for_each(|_| spin_loop());
         if let Some(guard) = floor.try_lock() {
-            return guard;
+            return shown(guard);
         }
     }
-    floor.lock(rt)
+    shown(floor.lock(rt))
 }
 
-/// Passes some time, and changes nothing.
-fn pause(times: u32) {
-    for _ in 0..times {
-        spin_loop();
-    }
+/// The same guard.
+fn shown<'a, E: CodedEngine>(guard: MutexGuard<'a, Floor<E>>) -> MutexGuard<'a, Floor<E>>
+    ensures same { result ≡ guard }
+    ensures floor { IsFloorOver E.meaning E.lawful E.fits E.ready (mutex_guard_value result) }
+{
+    guard.machine();
+    guard
+}
+
+/// How many pauses a seat makes between two tries. The more turns it took the longer are its waits, so that a thread in the midst of
+/// its work goes on for some turns, and those that have just begun soon come in.
+fn pauses_of(seat: &Seat) -> u32
+    ensures { result ≡ min (seat.now.turns / 32) 128 }
+{
+    (seat.turns() / TURNS_OF_A_PAUSE).min(MOST_PAUSES) as u32
 }
 
 /// A seat for each process, in order.

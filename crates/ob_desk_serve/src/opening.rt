@@ -12,8 +12,8 @@ ghost use Rattle.wf_play.specs.Played.{scripts_of};
 
 use ob_code_engine::CodeEngine;
 use ob_code_layout::encode;
-use ob_desk_lock::Desk;
 use ob_desk_floor::{Opening, Seat, Submission};
+use ob_desk_lock::Desk;
 use ob_interface::{MOST_PROCESSES, NoMemory};
 use ob_object_compile::Object;
 use ob_text_words::script_call::ScriptCall;

@@ -8,7 +8,7 @@ use Rattle.ob_desk_texts.proofs.ReadCalls as Read
 use Rattle.ob_object_compile.specs.View.{asked_of, object_in}
 use Rattle.ob_text_words.specs.ScriptCalls.{object_call, script_call_of}
 use Rattle.ob_text_words.specs.declared.script_call.ScriptCall.{ScriptCall}
-use Rattle.ob_code_refusals.proofs.turns.by_turns.Goals as goal
+use Rattle.ob_code_refusals.proofs.desks.by_desk.Goals as goal
 
 pub opened_desk-requires-clause-callers : goal.opened_desk-requires-clause-callers
 opened_desk-requires-clause-callers g c =
