@@ -43,11 +43,7 @@ fn take_turns<R: Wait + Eprint>(
 }
 
 /// A turn of a seat.
-fn turn<R: Wait + Eprint>(
-    rt: &R,
-    desk: &Desk<CodeEngine>,
-    seat: &mut Seat,
-) -> Result<(), Trouble>
+fn turn<R: Wait + Eprint>(rt: &R, desk: &Desk<CodeEngine>, seat: &mut Seat) -> Result<(), Trouble>
     requires { seat.old.turns < 2 ^ 128 - 1 }
 {
     if desk.turn(rt, seat).is_err() {

@@ -52,13 +52,7 @@ fn opened(
         carried: object.carried(),
     };
     let calls = submissions(alloc, calls)?;
-    Ok(Floor::new(
-        alloc,
-        engine,
-        object.processes(),
-        &opening,
-        calls,
-    )?)
+    Ok(Floor::new(alloc, engine, object.processes(), &opening, calls)?)
 }
 
 fn two_seats(alloc: Global) -> Result<Vec<Seat>, AllocError> {

@@ -30,7 +30,16 @@ pub const ROUNDS_LOST: Row = Row {
     text: COUNTER,
     scripts: b"0 Get\n1 Inc\n1 Inc\n1 Inc\n1 Inc\n",
     schedule: b"1:COMMIT 0:LOAD 1! 1:COMMIT 0:TRY 0:LOAD 1! 0:TRY 0:TAKE 1! 1! 0!",
-    turns: &[(1, 39), (0, 5), (1, 58), (0, 17), (1, 5), (0, 17), (1, 88), (0, 3)],
+    turns: &[
+        (1, 39),
+        (0, 5),
+        (1, 58),
+        (0, 17),
+        (1, 5),
+        (0, 17),
+        (1, 88),
+        (0, 3),
+    ],
 };
 
 /// Process 1 makes the call of process 0, and its own traps: what that wrote is put back.

@@ -42,10 +42,5 @@ fn opened(alloc: Global, object: &Object) -> Result<Machine<CodeEngine>, Trouble
 {
     let engine = object.engine().copy(alloc)?;
     let words = encode(alloc, object.opening())?;
-    Ok(Machine::new(
-        alloc,
-        engine,
-        object.processes(),
-        words.as_slice(),
-    )?)
+    Ok(Machine::new(alloc, engine, object.processes(), words.as_slice())?)
 }
