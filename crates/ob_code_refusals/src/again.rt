@@ -110,11 +110,7 @@ fn is_answer(item: Item, out: &StepOut) -> bool {
 }
 
 /// A step of a process.
-fn step<R: Eprint>(
-    rt: &R,
-    machine: &mut Machine<CodeEngine>,
-    p: usize,
-) -> Result<StepOut, Trouble>
+fn step<R: Eprint>(rt: &R, machine: &mut Machine<CodeEngine>, p: usize) -> Result<StepOut, Trouble>
     requires { p < machine.old.sizes.processes }
     ensures { IsSameObject machine.new machine.old }
 {

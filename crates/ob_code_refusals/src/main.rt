@@ -1,19 +1,22 @@
-//! Runs of the counter's object, over its compiled code, that go on after a want of memory: the same call is made again. What
-//! was refused is told on standard error, the records are printed in the end.
+//! Runs over compiled code that go on after a want of memory: the same call is made again. What was refused is told on standard
+//! error, the records are printed in the end.
 #![tactic(auto)]
 
 mod again;
-mod counter;
+mod desks;
+mod floors;
 mod records;
+mod rows;
 mod steps;
 mod trouble;
-mod turns;
 
+use desks::by_desk;
+use floors::by_floor;
+use rows::{ROUNDS_LOST, Row, STOPPED, TRAP_IN_A_ROUND};
 use std::process::ExitCode;
 use std::sync::Wait;
 use steps::by_steps;
 use trouble::Trouble;
-use turns::by_turns;
 
 /// Status 4: the run itself got no memory. Status 5: the machine or the desk is at fault.
 fn main(rt: HostRuntime) -> ExitCode {
@@ -26,12 +29,22 @@ fn main(rt: HostRuntime) -> ExitCode {
     }
 }
 
-/// One process by itself; a COMMIT that is lost to the other process; a call that the other process makes; and this at a desk.
 fn run<R: Wait + Print + Eprint + AllocGlobal>(rt: &R) -> Result<(), Trouble> {
-    let two = b"0 Inc\n1 Inc\n";
-    let mut text = by_steps(rt, 1, b"0 Inc\n0 Inc\n0 Get\n", b"0! 0! 0!")?;
-    text.push_str(by_steps(rt, 2, two, b"0:COMMIT 1! 0!")?.as_str())?;
-    text.push_str(by_steps(rt, 2, two, b"0:TRY 1! 0!")?.as_str())?;
-    text.push_str(by_turns(rt)?.as_str())?;
+    let mut text = String::new(rt.alloc());
+    add(rt, &STOPPED, &mut text)?;
+    add(rt, &ROUNDS_LOST, &mut text)?;
+    add(rt, &TRAP_IN_A_ROUND, &mut text)?;
     rt.print(text.as_str()).map_err(|_| Trouble::Own)
+}
+
+/// The row's record as its schedule makes it, as turns on a floor do, and as turns at a desk do.
+fn add<R: Wait + Eprint + AllocGlobal>(
+    rt: &R,
+    row: &Row,
+    text: &mut String,
+) -> Result<(), Trouble> {
+    text.push_str(by_steps(rt, row)?.as_str())?;
+    text.push_str(by_floor(rt, row)?.as_str())?;
+    text.push_str(by_desk(rt, row)?.as_str())?;
+    Ok(())
 }

@@ -1,4 +1,4 @@
-//! Runs of a machine by its steps.
+//! Runs by the steps of a machine.
 
 ghost use Rattle.std.specs.Prelude.{◌≡◌, IfOk};
 ghost use Rattle.ob_code_scheme.specs.Layout.{encoded};
@@ -6,8 +6,8 @@ ghost use Rattle.ob_object_compile.specs.Sound.{IsSoundObject};
 ghost use Rattle.ob_object_compile.specs.View.{object_in};
 
 use crate::again::{play, submit_all};
-use crate::counter::counter;
 use crate::records::written;
+use crate::rows::{Row, asked};
 use crate::trouble::Trouble;
 use ob_code_engine::CodeEngine;
 use ob_code_layout::encode;
@@ -17,18 +17,13 @@ use ob_object_perform::performing::read_texts;
 use std::alloc::Global;
 use wf_object::Machine;
 
-/// The text of the record of a run of the counter.
-pub fn by_steps<R: Eprint + AllocGlobal>(
-    rt: &R,
-    processes: usize,
-    scripts: &[u8],
-    schedule: &[u8],
-) -> Result<String, Trouble> {
+/// The text of the record of a row, whose calls are submitted and whose schedule is played.
+pub fn by_steps<R: Eprint + AllocGlobal>(rt: &R, row: &Row) -> Result<String, Trouble> {
     let alloc = rt.alloc();
     let texts = Texts {
-        asked: counter(processes),
-        scripts,
-        schedule,
+        asked: asked(row),
+        scripts: row.scripts,
+        schedule: row.schedule,
     };
     let (object, calls, items) = read_texts(alloc, texts)?;
     let calls = calls.into_calls();
@@ -47,10 +42,5 @@ fn opened(alloc: Global, object: &Object) -> Result<Machine<CodeEngine>, Trouble
 {
     let engine = object.engine().copy(alloc)?;
     let words = encode(alloc, object.opening())?;
-    Ok(Machine::new(
-        alloc,
-        engine,
-        object.processes(),
-        words.as_slice(),
-    )?)
+    Ok(Machine::new(alloc, engine, object.processes(), words.as_slice())?)
 }

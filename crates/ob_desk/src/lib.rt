@@ -1,15 +1,9 @@
-//! The desk at which processes take their turns on one object, over any engine that can be copied and compared: a lock round a
-//! floor, and the closing, which compares floor and seats and gives the machine.
+//! The door of the desk: floors and the seats of their processes, the desk at which threads take turns, the gates that let them, and
+//! what serves an object by workers and gives its record.
 #![tactic(auto)]
 
-pub mod closing;
-pub mod desk;
-pub mod fault;
-mod same;
-mod seating;
-pub mod terms;
-
-pub use closing::settle;
-pub use desk::Desk;
-pub use fault::CloseFault;
-pub use terms::Terms;
+pub use ob_desk_floor::{CallAnswer, Floor, GivenReply, Opening, Seat, Submission, TakeTurn};
+pub use ob_desk_lock::{CloseFault, Desk};
+pub use ob_desk_serve::{ServeFault, opened_desk, serve};
+pub use ob_desk_texts::{ServeTextFault, serve_text, serve_text_with};
+pub use ob_desk_workers::{Gate, Open};

@@ -50,6 +50,8 @@ impl Gate for Meeting {
 
     ghost refuses = { λ _ _ _ _. Unit {0} };
 
+    ghost hears = { λ _ _ _. Unit {0} };
+
     fn pass(&self, process: usize, turns: u128, _refusals: u64) -> bool {
         if process > 1 || turns >= 25 {
             return true;
@@ -73,6 +75,8 @@ impl Gate for Standstill {
     ghost passes = { λ _ _ _ _. Unit {0} };
 
     ghost refuses = { λ _ _ _ _. Unit {0} };
+
+    ghost hears = { λ _ _ _. Unit {0} };
 
     fn pass(&self, process: usize, turns: u128, _refusals: u64) -> bool {
         match (process, turns) {

@@ -5,7 +5,7 @@
 mod desks;
 mod gates;
 
-use ob_desk::CloseFault;
+use ob_desk_lock::CloseFault;
 use ob_desk_texts::ServeTextFault;
 use std::process::ExitCode;
 use std::sync::Wait;

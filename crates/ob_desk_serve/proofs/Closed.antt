@@ -10,9 +10,9 @@ use Rattle.ob_code_law.specs.Parts.{IsLawfulFor}
 use Rattle.ob_code_layout.specs.Layout.{LayoutParts}
 use Rattle.ob_code_machine.specs.Body.{Run}
 use Rattle.ob_code_scheme.specs.Layout.{encoded}
-use Rattle.ob_desk.specs.Close as Close
-use Rattle.ob_desk.specs.Desk.{Desk}
-use Rattle.ob_desk.specs.declared.fault.CloseFault.{CloseFault}
+use Rattle.ob_desk_lock.specs.Close as Close
+use Rattle.ob_desk_lock.specs.Desk.{Desk}
+use Rattle.ob_desk_lock.specs.declared.fault.CloseFault.{CloseFault}
 use Rattle.ob_desk_floor.specs.Seat.{Seat}
 use Rattle.ob_desk_serve.specs.Served.{IsLegalRecord, IsMeantRecord, IsRecordOf, desk_of}
 use Rattle.ob_agreement.specs.Same.{SameState}

@@ -9,8 +9,8 @@ use Rattle.std.proofs.lemmas.List.Sums.{sum_by-cons}
 use Rattle.std.proofs.lemmas.List.FromFn.{get_or-map-range_with_len, length-map-range_with_len}
 use Rattle.std.proofs.lemmas.Option.{none-some, same_Some, slice_get-get_or}
 use Rattle.std.proofs.lemmas.Slice.Zip.{AllZip-long}
-use Rattle.ob_desk.specs.Close.{AreSeats, seats_at}
-use Rattle.ob_desk.specs.Desk.{seats_of}
+use Rattle.ob_desk_lock.specs.Close.{AreSeats, seats_at}
+use Rattle.ob_desk_lock.specs.Desk.{seats_of}
 use Rattle.ob_desk_floor.specs.Agreeing.{Agrees}
 use Rattle.ob_desk_floor.specs.Floor.{turns_in}
 use Rattle.ob_desk_floor.specs.Seat.{Seat, answered_call, new_seat}

@@ -1,7 +1,7 @@
 -- What is told where not all workers of a desk ended well, and what they handed back where they did.
 use Rattle.std.specs.Prelude.{◌≡◌, ◌≢◌, ℕ, ◌<◌, All, List, Option, None, Some, length, map, slice_get, take}
 use Rattle.std.specs.List.{AllZip, filter_map}
-use Rattle.ob_desk.specs.Desk.{seats_of}
+use Rattle.ob_desk_lock.specs.Desk.{seats_of}
 use Rattle.ob_desk_floor.specs.declared.seat.CallAnswer.{CallAnswer}
 use Rattle.ob_desk_workers.specs.Gathered.{HaveWorked}
 use Rattle.ob_desk_workers.specs.Rounds.{Halts, HasWorked, Hears, Says}
@@ -65,7 +65,7 @@ pub record AreBack (workers : List (Option Worked)) (b : HandedBack) : Type 0 wh
 
 -- ---- what the workers of an object's processes come to
 
--- a desk that answers that a process is halted hides under its lock where the process stands
+-- a desk that answers that a process is halted hides under its lock where the process stands: nothing is known of it
 abbrev pub hidden : Halts
 hidden s = Unit {0}
 
@@ -73,7 +73,7 @@ hidden s = Unit {0}
 abbrev pub HaveServed : (passes refuses : Says) → Hears → (limit processes : ℕ) → List (Option Worked) → Type 0
 HaveServed passes refuses hears limit processes workers = HaveWorked passes refuses hears hidden limit (seats_of processes 0) workers
 
--- each was started, and ended where its process was halted
+-- each was started, and ended as done: the desk had told it that its process is halted, or its seat can count no more
 pub record HaveAllServed (passes refuses : Says) (hears : Hears) (limit processes : ℕ) (worked : List Worked) : Type 0 where
   pub each : AllZip (HasWorked passes refuses hears hidden limit) (seats_of processes 0) worked
   pub well : All (λ w. w.ended ≡ Ended.Done) worked

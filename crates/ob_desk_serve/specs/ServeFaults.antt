@@ -4,9 +4,9 @@ use Rattle.ob_code_engine.specs.CodeEngine.{CompiledParts}
 use Rattle.ob_code_law.specs.CodeMeaning.{code_meaning}
 use Rattle.ob_code_law.specs.Compiled.{HasReserve, IsFitting}
 use Rattle.ob_code_law.specs.Parts.{IsLawfulFor}
-use Rattle.ob_desk.specs.Close as Close
-use Rattle.ob_desk.specs.Close.{AreSeats}
-use Rattle.ob_desk.specs.declared.fault.CloseFault.{CloseFault}
+use Rattle.ob_desk_lock.specs.Close as Close
+use Rattle.ob_desk_lock.specs.Close.{AreSeats}
+use Rattle.ob_desk_lock.specs.declared.fault.CloseFault.{CloseFault}
 use Rattle.ob_desk_floor.specs.Agreeing.{Agrees}
 use Rattle.ob_desk_floor.specs.Seat.{Seat, answered_call}
 use Rattle.ob_desk_floor.specs.declared.seat.CallAnswer.{CallAnswer}

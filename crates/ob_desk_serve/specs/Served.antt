@@ -6,7 +6,7 @@ use Rattle.ob_code_law.specs.Compiled.{HasReserve, IsFitting}
 use Rattle.ob_code_law.specs.Parts.{IsLawfulFor}
 use Rattle.ob_code_machine.specs.Body.{Run}
 use Rattle.ob_code_scheme.specs.Layout.{encoded}
-use Rattle.ob_desk.specs.Desk.{Desk, Terms, desk_in}
+use Rattle.ob_desk_lock.specs.Desk.{Desk, Terms, desk_in}
 use Rattle.ob_desk_floor.specs.Floor.{turns_in}
 use Rattle.ob_desk_workers.specs.Rounds.{Hears, IsLet, Says}
 use Rattle.ob_interface.specs.Call.{ObjectCall, Reply}

@@ -2,7 +2,7 @@
 
 ghost use Rattle.std.specs.Prelude.{◌≡◌, ◌<◌, ◌≤◌, All, IfOk, map};
 ghost use Rattle.ob_code_law.specs.Compiled.{IsFitting};
-ghost use Rattle.ob_desk.specs.Desk.{seats_of};
+ghost use Rattle.ob_desk_lock.specs.Desk.{seats_of};
 ghost use Rattle.ob_desk_floor.specs.Submission.{submission_of};
 ghost use Rattle.ob_object_compile.specs.Sound.{IsSoundObject};
 ghost use Rattle.ob_object_compile.specs.View.{object_in};
@@ -12,8 +12,8 @@ ghost use Rattle.wf_play.specs.Played.{scripts_of};
 
 use ob_code_engine::CodeEngine;
 use ob_code_layout::encode;
-use ob_desk::Desk;
 use ob_desk_floor::{Opening, Seat, Submission};
+use ob_desk_lock::Desk;
 use ob_interface::{MOST_PROCESSES, NoMemory};
 use ob_object_compile::Object;
 use ob_text_words::script_call::ScriptCall;

@@ -2,7 +2,7 @@
 
 ghost use Rattle.std.specs.Prelude.{◌≡◌, ◌<◌, ◌≤◌, All, IfErr, IfOk, OnOk, length, map};
 ghost use Rattle.ob_code_law.specs.Compiled.{IsFitting};
-ghost use Rattle.ob_desk.specs.Close.{AreSeats};
+ghost use Rattle.ob_desk_lock.specs.Close.{AreSeats};
 ghost use Rattle.ob_desk_floor.specs.Agreeing.{Agrees};
 ghost use Rattle.ob_object_compile.specs.Sound.{IsSoundObject};
 ghost use Rattle.ob_object_compile.specs.View.{object_in};
@@ -19,7 +19,7 @@ use crate::fault::ServeFault;
 use crate::opening::opened_desk;
 use crate::recording::record_of_machine;
 use ob_code_engine::CodeEngine;
-use ob_desk::Desk;
+use ob_desk_lock::Desk;
 use ob_desk_workers::{Gate, gather};
 use ob_interface::MOST_PROCESSES;
 use ob_object_compile::Object;

@@ -1,7 +1,7 @@
 -- The line that tells each fault of workers served from texts.
 use Rattle.std.specs.Prelude.{ℕ, ◌++◌, codes, decimal}
-use Rattle.ob_desk.specs.declared.fault.CloseFault.{CloseFault}
-use Rattle.ob_desk.specs.declared.fault.CloseFault.TheVariants as Close
+use Rattle.ob_desk_lock.specs.declared.fault.CloseFault.{CloseFault}
+use Rattle.ob_desk_lock.specs.declared.fault.CloseFault.TheVariants as Close
 use Rattle.ob_desk_serve.specs.declared.fault.ServeFault.{ServeFault}
 use Rattle.ob_desk_serve.specs.declared.fault.ServeFault.TheVariants as Serve
 use Rattle.ob_desk_texts.specs.declared.texts.ServeTextFault.{ServeTextFault}

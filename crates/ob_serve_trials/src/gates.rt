@@ -7,6 +7,8 @@ use ob_desk_texts::{ServeTextFault, serve_text_with};
 use ob_desk_workers::Gate;
 use ob_object_compile::{Asked, Beginning};
 use std::alloc::Global;
+use std::fs;
+use std::rt::Files;
 use std::sync::Wait;
 use std::sync::atomic::{AtomicU64, Ordering};
 use std::test::Fail;
@@ -179,6 +181,39 @@ impl Gate for Counting {
     }
 }
 
+/// How many threads the program has; none where the system does not tell.
+fn thread_count<R: Files + AllocGlobal>(rt: &R) -> Option<u64> {
+    let status = fs::read_to_string(rt, "/proc/self/status").ok()?;
+    let (_, told) = status.split_once("Threads:")?;
+    let (number, _) = told.split_once("\n")?;
+    number.trim().parse().ok()
+}
+
+/// A gate that always passes, and keeps how many threads there are where it is asked first.
+struct Roll<'a, R> {
+    rt: &'a R,
+    asked: AtomicU64,
+    threads: AtomicU64,
+}
+
+impl<R: Files + AllocGlobal> Gate for Roll<'_, R> {
+    ghost passes = { λ _ _ _ _. Unit {0} };
+
+    ghost refuses = { λ _ _ _ _. Unit {0} };
+
+    ghost hears = { λ _ _ _. Unit {0} };
+
+    fn pass(&self, _process: usize, _turns: u128, _refusals: u64) -> bool {
+        if self.asked.fetch_add(1, Ordering::SeqCst) == 0 {
+            let threads = thread_count(self.rt).unwrap_or(0);
+            self.threads.store(threads, Ordering::SeqCst);
+        }
+        true
+    }
+
+    fn answered(&self, _process: usize, _number: u64) {}
+}
+
 #[test]
 fn a_gate_that_never_passes(rt: HostRuntime) {
     let fault = served(&rt, rt.alloc(), &Closed, 1000).err();
@@ -245,4 +280,20 @@ fn a_gate_that_refuses_by_turns(rt: HostRuntime) -> Result<(), Fail> {
 fn as_many_refusals_as_the_limit(rt: HostRuntime) {
     let fault = served(&rt, rt.alloc(), &Reluctant { refusals: 3 }, 3).err();
     assert!(rt; matches!(fault, Some(ServeTextFault::Serve(ServeFault::Refused(0)))));
+}
+
+/// No worker takes a step before the threads of both are there.
+#[test]
+fn workers_begin_together(rt: HostRuntime) -> Result<(), Fail> {
+    let before = thread_count(&rt).unwrap_or(0);
+    assert!(rt; before > 0, "the system tells of threads");
+    let gate = Roll {
+        rt: &rt,
+        asked: AtomicU64::new(0),
+        threads: AtomicU64::new(0),
+    };
+    let _ = served(&rt, rt.alloc(), &gate, 1)?;
+    let threads = gate.threads.load(Ordering::SeqCst);
+    assert!(rt; threads > before.saturating_add(1), "the threads of both");
+    Ok(())
 }

@@ -1,7 +1,7 @@
 use Rattle.std.proofs.Common.{◌≡◌, ◌<◌, ◌∙◌, [], All, Global, List, Vec, ap, get_or, length, map, subst, sym, ℕ}
 use Rattle.std.proofs.lemmas.Result.{err_from_is_err_and}
-use Rattle.ob_desk.specs.Close.{AreSeats}
-use Rattle.ob_desk.specs.Desk.{Desk}
+use Rattle.ob_desk_lock.specs.Close.{AreSeats}
+use Rattle.ob_desk_lock.specs.Desk.{Desk}
 use Rattle.ob_desk_floor.specs.Agreeing.{Agrees}
 use Rattle.ob_desk_floor.specs.Seat.{Seat}
 use Rattle.ob_desk_floor.specs.declared.seat.CallAnswer.{CallAnswer}
