@@ -146,7 +146,7 @@ fn wait_for<'a, E: CodedEngine, R: Wait>(
 
 /// The same guard.
 fn shown<'a, E: CodedEngine>(guard: MutexGuard<'a, Floor<E>>) -> MutexGuard<'a, Floor<E>>
-    ensures same { result ≡ guard }
+    ensures same { result ≡ guard.entry }
     ensures floor { IsFloorOver E.meaning E.lawful E.fits E.ready (mutex_guard_value result) }
 {
     guard.machine();

@@ -17,7 +17,6 @@ use Rattle.ob_desk_floor.specs.Seat.{Seat, answered_call, new_seat}
 use Rattle.ob_desk_floor.specs.declared.seat.CallAnswer.{CallAnswer}
 use Rattle.ob_desk_workers.specs.Rounds.{AreLet, HasWorked, Hears, IsLet, IsRefused, Says}
 use Rattle.ob_desk_workers.specs.declared.worker.Ended.{Ended}
-use Rattle.ob_desk_workers.specs.declared.worker.Ended.TheVariants as Ended
 use Rattle.ob_desk_workers.specs.declared.worker.Worked.{Worked}
 use Rattle.ob_interface.specs.Call.{ObjectCall, Reply}
 use Rattle.ob_object_compile.specs.Compilation.{ObjectParts}

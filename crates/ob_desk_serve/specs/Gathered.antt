@@ -6,7 +6,6 @@ use Rattle.ob_desk_floor.specs.declared.seat.CallAnswer.{CallAnswer}
 use Rattle.ob_desk_workers.specs.Gathered.{HaveWorked}
 use Rattle.ob_desk_workers.specs.Rounds.{Halts, HasWorked, Hears, Says}
 use Rattle.ob_desk_workers.specs.declared.worker.Ended.{Ended}
-use Rattle.ob_desk_workers.specs.declared.worker.Ended.TheVariants as Ended
 use Rattle.ob_desk_workers.specs.declared.worker.Worked.{Worked}
 use Rattle.ob_desk_serve.specs.declared.ending.HandedBack.{HandedBack}
 use Rattle.ob_desk_serve.specs.declared.fault.ServeFault.{ServeFault}

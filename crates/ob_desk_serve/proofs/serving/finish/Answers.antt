@@ -38,7 +38,7 @@ first_lost-requires c = ap length c.as_slice-2.ensures.value ∙ c.requires.each
 
 pub returns-in_err-machine-clause-fault : goal.returns-in_err-machine-clause-fault
 returns-in_err-machine-clause-fault c =
-    let p = err_from_is_err_and c.from_residual-in_err-machine.result c.from_residual-in_err-machine.ensures.1 in
+    let p = err_from_is_err_and c.from_residual.result c.from_residual.ensures.1 in
     let e = c.in_err-machine.field-0.0 in
     rw (p.1, p.2)
     (subst (λ (seats : List Seat). TellsClosing (desk_of (object_in c.args.object.now) (map script_call_of c.args.scripts.now)) seats e) c.as_slice.ensures.value
@@ -50,19 +50,14 @@ agreed m seats history schedule seen stepped all =
     subst (λ (events : List (Event ObjectCall Reply)). All (Agrees events schedule) seats) (sym seen)
     (subst (λ (turns : List Turns). All (Agrees m.state.records.history turns) seats) (sym stepped) all)
 
-pub returns-clause-agree : goal.returns-clause-agree
-returns-clause-agree c =
+pub returns-in-None-clause-agree : goal.returns-in-None-clause-agree
+returns-in-None-clause-agree c =
     let shown = c.in_ok-record.record in
     subst (All (Agrees shown.history shown.schedule.items)) c.as_slice.ensures.value
     (agreed c.in_ok-machine.machine c.as_slice.result.now shown.history shown.schedule.items c.in_ok-record.ensures.history c.in_ok-record.ensures.schedule c.in_ok-machine.ensures.agree)
 
-pub returns-clause-seats : goal.returns-clause-seats
-returns-clause-seats c =
-    subst (AreSeats (desk_of (object_in c.args.object.now) (map script_call_of c.args.scripts.now))) c.as_slice.ensures.value
-    (subst (λ (d : Desk EngineParts). AreSeats d c.as_slice.result.now) c.requires.desk c.in_ok-machine.ensures.seats)
-
-pub returns-clause-ended : goal.returns-clause-ended
-returns-clause-ended c = λ p lt.
+pub returns-in-None-clause-ended : goal.returns-in-None-clause-ended
+returns-in-None-clause-ended c = λ p lt.
     subst (λ (h : List (Event ObjectCall Reply)). EndsFirst h p (calls_for p (map script_call_of c.args.scripts.now))) c.events.ensures.value
     (c.in-None.ensures.none p (subst (λ (n : ℕ). p < n) (sym c.processes.ensures) lt)).ended
 

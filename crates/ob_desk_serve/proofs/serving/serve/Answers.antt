@@ -1,4 +1,4 @@
-use Rattle.std.proofs.Common.{All, Err, IfOk, List, Ok, OnOk, Result, map, subst}
+use Rattle.std.proofs.Common.{Err, IfOk, List, Ok, OnOk, Result, map, subst}
 use Rattle.std.proofs.lemmas.Result.{IfErr-weaker, err_from_is_err_and}
 use Rattle.ob_object_compile.specs.View.{object_in}
 use Rattle.ob_desk_floor.specs.Seat.{Seat}
