@@ -7,7 +7,6 @@ ghost use Rattle.ob_object_perform.specs.Performance.{IsReady};
 
 use ob_code_engine::CodeEngine;
 use ob_code_layout::encode;
-use ob_interface::call::Reply;
 use ob_object_compile::{Asked, Beginning, Object};
 use ob_object_perform::Texts;
 use ob_object_perform::performing::read_texts;
@@ -17,7 +16,7 @@ use ob_text_scripts::Scripts;
 use ob_tree::TreeEngine;
 use std::alloc::Global;
 use std::test::Fail;
-use wf_history::{Event, History, same_reply};
+use wf_history::{Event, History, SeenEvent, SeenReply};
 use wf_object::Machine;
 use wf_play::play;
 
@@ -50,9 +49,10 @@ const PARTS: &[u8] = b"MODULE T;
   BEGIN low := pairs[i].low; used := pairs[i].used END Get;
 END T.";
 
-/// Of process 1 the last call goes 64 procedures deep, and of process 0 the third one has an index that is too large.
+/// Of process 1 the second call has a product out of range, and the last one goes too deep; of process 0 the third one has an index that
+/// is too large.
 const PARTS_CALLS: &[u8] =
-    b"0 Fill 4\n1 Get 1\n0 Deep 3\n1 Fill -2\n0 Get 3\n1 Fill 2000000000\n1 Deep 70\n0 Get 2\n";
+    b"0 Fill 4\n1 Get 1\n0 Deep 3\n1 Fill 2000000000\n0 Get 3\n1 Fill -2\n1 Deep 70\n0 Get 2\n";
 
 /// Process 1 comes in between while process 0 runs the body of its first call.
 const PARTS_SCHEDULE: &[u8] = b"0*50 1*90 0*10000 1*30000";
@@ -162,15 +162,28 @@ fn words_of_a_stopped_run(rt: HostRuntime) -> Result<(), Fail> {
     Ok(())
 }
 
-/// Whether the two are one and the same, but for the arguments of calls.
-fn is_same_event(event: &Event, other: &Event) -> bool {
-    match (event, other) {
-        (Event::Begin(id, call), Event::Begin(other_id, other_call)) => {
-            id == other_id && call.proc == other_call.proc
+/// Whether the two are one and the same reply.
+fn is_same_reply(reply: SeenReply<'_>, other: SeenReply<'_>) -> bool {
+    match (reply, other) {
+        (SeenReply::Done(values), SeenReply::Done(others)) => {
+            values.lent().as_slice() == others.lent().as_slice()
         }
-        (Event::Applied(ids), Event::Applied(others)) => ids.as_slice() == others.as_slice(),
-        (Event::End(id, reply), Event::End(other_id, other_reply)) => {
-            id == other_id && same_reply(reply, other_reply)
+        (SeenReply::Trap(number), SeenReply::Trap(other_number)) => number == other_number,
+        _ => false,
+    }
+}
+
+/// Whether the two are one and the same event.
+fn is_same_event(event: &Event, other: &Event) -> bool {
+    match (event.seen(), other.seen()) {
+        (SeenEvent::Begin(id, call), SeenEvent::Begin(other_id, other_call)) => {
+            id == other_id
+                && call.proc == other_call.proc
+                && call.args.lent().as_slice() == other_call.args.lent().as_slice()
+        }
+        (SeenEvent::Applied(ids), SeenEvent::Applied(others)) => ids == others,
+        (SeenEvent::End(id, reply), SeenEvent::End(other_id, other_reply)) => {
+            id == other_id && is_same_reply(reply, other_reply)
         }
         _ => false,
     }
@@ -187,14 +200,16 @@ fn is_same_history(history: &History, other: &History) -> bool {
             .all(|(event, other)| is_same_event(event, other))
 }
 
-/// How many calls ended, and how many of them in a trap.
+/// How many calls ended with results, and how many in a trap.
 fn ended(history: &History) -> (usize, usize) {
     let events = history.events();
-    let ended = events.iter().filter(|event| matches!(event, Event::End(_, _)));
+    let done = events
+        .iter()
+        .filter(|event| matches!(event.seen(), SeenEvent::End(_, SeenReply::Done(_))));
     let trapped = events
         .iter()
-        .filter(|event| matches!(event, Event::End(_, Reply::Trap(_))));
-    (ended.count(), trapped.count())
+        .filter(|event| matches!(event.seen(), SeenEvent::End(_, SeenReply::Trap(_))));
+    (done.count(), trapped.count())
 }
 
 #[test]
@@ -208,7 +223,7 @@ fn a_tree_runs_as_its_code(rt: HostRuntime) -> Result<(), Fail> {
     assert!(rt; is_same_history(tree.history(), code.history()));
     assert!(rt; tree.order() == code.order());
     assert!(rt; tree.variables() == code.variables());
-    assert_eq!(rt; ended(tree.history()), (8, 3));
+    assert_eq!(rt; ended(tree.history()), (5, 3));
     assert_eq!(rt; tree.engine().budget(), 200);
     Ok(())
 }

@@ -1,0 +1,10 @@
+use Rattle.std.proofs.Common.{List, subst, sym}
+use Rattle.ob_object_compile.specs.View.{object_in}
+use Rattle.ob_object_perform.specs.Performance.{IsReady}
+use Rattle.ob_schedule.specs.declared.item.Item.{Item}
+use Rattle.ob_code_trials.proofs.runs.counter.Goals as goal
+
+pub over_code-requires : goal.over_code-requires
+over_code-requires c =
+    let r = c.in_ok-object in
+    subst (λ (its : List Item). IsReady (object_in r.object) r.calls its) (sym c.as_slice.ensures.value) r.ensures.ready
