@@ -16,7 +16,7 @@ use Rattle.clap.specs.declared.builder.value_parser.ValueParser.TheVariants as p
 use Rattle.clap.specs.declared.parser.matches.ValueSource.{ValueSource}
 use Rattle.clap.specs.declared.parser.matches.ValueSource.TheVariants.{CommandLine}
 use Rattle.ob_command.specs.CommandLine.{budget_number, calls_in, is_option, number}
-use Rattle.ob_command.specs.PlainForms.{ArePlain, ByTree, Chosen, Count, Most, OfTraps, Range, Start, Told, Turns, WithSteps, budget_flag, id_of, is_plain, text_of, with_words, words_of}
+use Rattle.ob_command.specs.PlainForms.{ArePlain, Argument, AsRecord, ByTree, Chosen, Count, Most, OfTraps, Range, Seen, Start, Told, Turns, WithSteps, budget_flag, id_of, is_plain, text_of, with_words, words_of}
 use Rattle.ob_command.proofs.CallPlaces.{no_option_in}
 use Rattle.ob_command.proofs.Numbers.{plain_budget, plain_number}
 use Rattle.ob_command.proofs.WalkedWords.{Goes, here, optioned, state, stepped, waits}
@@ -64,9 +64,11 @@ abbrev pub parser_of : Chosen → ValueParser
 parser_of (Count n) = parser.Signed (pos 0) (pos 65535)
 parser_of (Turns short b) = parser.Signed (pos 0) (pos 4294967295)
 parser_of (Most k) = parser.Signed (pos 0) (pos 4294967295)
+parser_of (Argument n) = parser.Signed (pos 0) (pos 65535)
 parser_of ByTree = parser.Bool
 parser_of WithSteps = parser.Bool
 parser_of OfTraps = parser.Bool
+parser_of AsRecord = parser.Bool
 parser_of _ = parser.String
 
 -- the row that clap keeps of it
@@ -161,6 +163,12 @@ module _ (s : Shape) where
       let p = plain_budget k n.0 n.1 in
       value_moves (codes "--most") (codes "K") k (parser.Signed (pos 0) (pos 4294967295)) takes p.no_option p.passes
 
+  pub argument_moves : Takes s (codes "--by") (codes "BY") (parser.Signed (pos 0) (pos 65535)) → (n : Text) → is_some (number n) ≡ true → Moves s (Argument n)
+  argument_moves takes n plain =
+      let k = some_of (number n) plain in
+      let p = plain_number n k.0 k.1 in
+      value_moves (codes "--by") (codes "BY") n (parser.Signed (pos 0) (pos 65535)) takes p.no_option p.passes
+
   pub start_moves : Takes s (codes "--from") (codes "FROM") parser.String → (f : Text) → not (is_option f) ≡ true → Moves s (Start f)
   start_moves takes f plain = value_moves (codes "--from") (codes "FROM") f parser.String takes (turned (is_option f) plain) refl
 
@@ -172,6 +180,9 @@ module _ (s : Shape) where
   pub told_moves : Takes s (codes "--record") (codes "RECORD") parser.String → (r : Text) → not (is_option r) ≡ true → Moves s (Told r)
   told_moves takes r plain = value_moves (codes "--record") (codes "RECORD") r parser.String takes (turned (is_option r) plain) refl
 
+  pub seen_moves : Takes s (codes "--history") (codes "HISTORY") parser.String → (h : Text) → not (is_option h) ≡ true → Moves s (Seen h)
+  seen_moves takes h plain = value_moves (codes "--history") (codes "HISTORY") h parser.String takes (turned (is_option h) plain) refl
+
   pub tree_moves : Knows s (codes "--tree") (codes "tree") → Moves s ByTree
   tree_moves knows = flag_moves (codes "--tree") (codes "tree") knows
 
@@ -180,6 +191,9 @@ module _ (s : Shape) where
 
   pub traps_moves : Knows s (codes "--traps") (codes "traps") → Moves s OfTraps
   traps_moves knows = flag_moves (codes "--traps") (codes "traps") knows
+
+  pub record_moves : Knows s (codes "--record") (codes "record") → Moves s AsRecord
+  record_moves knows = flag_moves (codes "--record") (codes "record") knows
 
 -- ---- options one behind the other
 

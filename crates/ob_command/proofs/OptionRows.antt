@@ -13,7 +13,7 @@ use Rattle.clap.specs.Faults.{default_fault, defaults_fault}
 use Rattle.clap.specs.declared.builder.value_parser.ValueParser.TheVariants as parser
 use Rattle.clap.specs.declared.parser.matches.ValueSource.TheVariants.{DefaultValue}
 use Rattle.ob_command.specs.CommandLine.{Given, budget_number, given_of, is_set, is_true, number}
-use Rattle.ob_command.specs.PlainForms.{ArePlain, ByTree, Chosen, Count, Most, OfTraps, Range, Start, Told, Turns, WithSteps, given_in, given_with_history, id_of, is_chosen, text_of, value_in}
+use Rattle.ob_command.specs.PlainForms.{ArePlain, Argument, AsRecord, ByTree, Chosen, Count, Most, OfTraps, Range, Seen, Start, Told, Turns, WithSteps, given_in, given_with_history, id_of, is_chosen, text_of, value_in}
 use Rattle.ob_command.proofs.AskedWords.{budget_is, number_is}
 use Rattle.ob_command.proofs.BuiltLine.{built_flag, name_row, no_flag_row}
 use Rattle.ob_command.proofs.ChosenWords.{row_of, some_of, with_new}
@@ -21,8 +21,8 @@ use Rattle.ob_command.proofs.ChosenWords.{row_of, some_of, with_new}
 abbrev found : Text → List Row → Option Row
 found id rows = find (λ r. bytes_eq r.id id) rows
 
-abbrev pub given_as : (s d r h f c : Option Text) (k t q : Option ℕ) (x y z : Bool) → Given
-given_as s d r h f c k t q x y z = record {
+abbrev pub given_as : (s d r h f c : Option Text) (k t q g : Option ℕ) (w x y z : Bool) → Given
+given_as s d r h f c k t q g w x y z = record {
   script_name = s;
   schedule_name = d;
   record_name = r;
@@ -32,16 +32,18 @@ given_as s d r h f c k t q x y z = record {
   processes = k;
   budget = t;
   most = q;
+  argument = g;
+  as_record = w;
   tree = x;
   steps = y;
   traps = z;
 }
 
-same_as : (s s' d d' r r' h h' f f' c c' : Option Text) (k k' t t' q q' : Option ℕ) (x x' y y' z z' : Bool) → s ≡ s' → d ≡ d' → r ≡ r' → h ≡ h'
-    → f ≡ f' → c ≡ c' → k ≡ k' → t ≡ t' → q ≡ q' → x ≡ x' → y ≡ y' → z ≡ z'
-    → given_as s d r h f c k t q x y z ≡ given_as s' d' r' h' f' c' k' t' q' x' y' z'
-same_as s s' d d' r r' h h' f f' c c' k k' t t' q q' x x' y y' z z' is_s is_d is_r is_h is_f is_c is_k is_t is_q is_x is_y is_z =
-    rw (is_s, is_d, is_r, is_h, is_f, is_c, is_k, is_t, is_q, is_x, is_y, is_z) refl
+same_as : (s s' d d' r r' h h' f f' c c' : Option Text) (k k' t t' q q' g g' : Option ℕ) (w w' x x' y y' z z' : Bool) → s ≡ s' → d ≡ d' → r ≡ r' → h ≡ h'
+    → f ≡ f' → c ≡ c' → k ≡ k' → t ≡ t' → q ≡ q' → g ≡ g' → w ≡ w' → x ≡ x' → y ≡ y' → z ≡ z'
+    → given_as s d r h f c k t q g w x y z ≡ given_as s' d' r' h' f' c' k' t' q' g' w' x' y' z'
+same_as s s' d d' r r' h h' f f' c c' k k' t t' q q' g g' w w' x x' y y' z z' is_s is_d is_r is_h is_f is_c is_k is_t is_q is_g is_w is_x is_y is_z =
+    rw (is_s, is_d, is_r, is_h, is_f, is_c, is_k, is_t, is_q, is_g, is_w, is_x, is_y, is_z) refl
 
 abbrev first_text : Option Row → Option Text
 first_text = option_and_then (λ r. slice_get r.values 0)
@@ -160,31 +162,36 @@ quiet_flag name same other = record {
 -- a row of a word without a value gives nothing but that word
 module _ (name : Text) (rows : List Row) (s : bytes_eq name (codes "SCRIPT") ≡ false) (d : bytes_eq name (codes "SCHEDULE") ≡ false)
     (r : bytes_eq name (codes "RECORD") ≡ false) (h : bytes_eq name (codes "HISTORY") ≡ false) (f : bytes_eq name (codes "FROM") ≡ false) (c : bytes_eq name (codes "FROM-TO") ≡ false)
-    (k : bytes_eq name (codes "N") ≡ false) (t : bytes_eq name (codes "BUDGET") ≡ false) (q : bytes_eq name (codes "K") ≡ false) where
+    (k : bytes_eq name (codes "N") ≡ false) (t : bytes_eq name (codes "BUDGET") ≡ false) (q : bytes_eq name (codes "K") ≡ false) (g : bytes_eq name (codes "BY") ≡ false) where
   abbrev behind : List Row
   behind = rows ++ no_flag_row name ∷ []
 
-  word_gives : is_set (codes "tree") behind ≡ is_set (codes "tree") rows → is_set (codes "steps") behind ≡ is_set (codes "steps") rows
-      → is_set (codes "traps") behind ≡ is_set (codes "traps") rows → given_of behind ≡ given_of rows
-  word_gives x y z =
+  word_gives : is_set (codes "record") behind ≡ is_set (codes "record") rows → is_set (codes "tree") behind ≡ is_set (codes "tree") rows
+      → is_set (codes "steps") behind ≡ is_set (codes "steps") rows → is_set (codes "traps") behind ≡ is_set (codes "traps") rows → given_of behind ≡ given_of rows
+  word_gives w x y z =
       let row = no_flag_row name in
-      same_as _ _ _ _ _ _ _ _ _ _ _ _ _ _ _ _ _ _ _ _ _ _ _ _
+      same_as _ _ _ _ _ _ _ _ _ _ _ _ _ _ _ _ _ _ _ _ _ _ _ _ _ _ _ _
       (ap first_text (found_before (codes "SCRIPT") rows row s)) (ap first_text (found_before (codes "SCHEDULE") rows row d))
       (ap first_text (found_before (codes "RECORD") rows row r)) (ap first_text (found_before (codes "HISTORY") rows row h)) (ap first_text (found_before (codes "FROM") rows row f))
       (ap first_text (found_before (codes "FROM-TO") rows row c)) (ap number_text (found_before (codes "N") rows row k))
-      (ap budget_text (found_before (codes "BUDGET") rows row t)) (ap budget_text (found_before (codes "K") rows row q)) x y z
+      (ap budget_text (found_before (codes "BUDGET") rows row t)) (ap budget_text (found_before (codes "K") rows row q))
+      (ap number_text (found_before (codes "BY") rows row g)) w x y z
 
 pub quiet_tree : Quiet (built_flag (codes "tree"))
-quiet_tree = quiet_flag (codes "tree") (λ rows none. word_gives (codes "tree") rows refl refl refl refl refl refl refl refl refl
-    (unset (codes "tree") rows none refl) (set_before (codes "tree") (codes "steps") rows refl) (set_before (codes "tree") (codes "traps") rows refl)) refl
+quiet_tree = quiet_flag (codes "tree") (λ rows none. word_gives (codes "tree") rows refl refl refl refl refl refl refl refl refl refl
+    (set_before (codes "tree") (codes "record") rows refl) (unset (codes "tree") rows none refl) (set_before (codes "tree") (codes "steps") rows refl) (set_before (codes "tree") (codes "traps") rows refl)) refl
 
 pub quiet_steps : Quiet (built_flag (codes "steps"))
-quiet_steps = quiet_flag (codes "steps") (λ rows none. word_gives (codes "steps") rows refl refl refl refl refl refl refl refl refl
-    (set_before (codes "steps") (codes "tree") rows refl) (unset (codes "steps") rows none refl) (set_before (codes "steps") (codes "traps") rows refl)) refl
+quiet_steps = quiet_flag (codes "steps") (λ rows none. word_gives (codes "steps") rows refl refl refl refl refl refl refl refl refl refl
+    (set_before (codes "steps") (codes "record") rows refl) (set_before (codes "steps") (codes "tree") rows refl) (unset (codes "steps") rows none refl) (set_before (codes "steps") (codes "traps") rows refl)) refl
 
 pub quiet_traps : Quiet (built_flag (codes "traps"))
-quiet_traps = quiet_flag (codes "traps") (λ rows none. word_gives (codes "traps") rows refl refl refl refl refl refl refl refl refl
-    (set_before (codes "traps") (codes "tree") rows refl) (set_before (codes "traps") (codes "steps") rows refl) (unset (codes "traps") rows none refl)) refl
+quiet_traps = quiet_flag (codes "traps") (λ rows none. word_gives (codes "traps") rows refl refl refl refl refl refl refl refl refl refl
+    (set_before (codes "traps") (codes "record") rows refl) (set_before (codes "traps") (codes "tree") rows refl) (set_before (codes "traps") (codes "steps") rows refl) (unset (codes "traps") rows none refl)) refl
+
+pub quiet_as_record : Quiet (built_flag (codes "record"))
+quiet_as_record = quiet_flag (codes "record") (λ rows none. word_gives (codes "record") rows refl refl refl refl refl refl refl refl refl refl
+    (unset (codes "record") rows none refl) (set_before (codes "record") (codes "tree") rows refl) (set_before (codes "record") (codes "steps") rows refl) (set_before (codes "record") (codes "traps") rows refl)) refl
 
 abbrev pub EachQuiet : List Rule → Type 0
 EachQuiet [] = Unit {0}
@@ -254,34 +261,29 @@ no_script : (one : Chosen) → bytes_eq (id_of one) (codes "SCRIPT") ≡ false
 no_script (Count n) = refl
 no_script (Turns short b) = refl
 no_script (Most k) = refl
+no_script (Argument n) = refl
 no_script (Start f) = refl
 no_script (Range c) = refl
 no_script (Told r) = refl
+no_script (Seen h) = refl
 no_script ByTree = refl
 no_script WithSteps = refl
 no_script OfTraps = refl
+no_script AsRecord = refl
 
 no_schedule : (one : Chosen) → bytes_eq (id_of one) (codes "SCHEDULE") ≡ false
 no_schedule (Count n) = refl
 no_schedule (Turns short b) = refl
 no_schedule (Most k) = refl
+no_schedule (Argument n) = refl
 no_schedule (Start f) = refl
 no_schedule (Range c) = refl
 no_schedule (Told r) = refl
+no_schedule (Seen h) = refl
 no_schedule ByTree = refl
 no_schedule WithSteps = refl
 no_schedule OfTraps = refl
-
-no_history : (one : Chosen) → bytes_eq (id_of one) (codes "HISTORY") ≡ false
-no_history (Count n) = refl
-no_history (Turns short b) = refl
-no_history (Most k) = refl
-no_history (Start f) = refl
-no_history (Range c) = refl
-no_history (Told r) = refl
-no_history ByTree = refl
-no_history WithSteps = refl
-no_history OfTraps = refl
+no_schedule AsRecord = refl
 
 number_in : (n : Text) → is_some (number n) ≡ true → number (without_minus n) ≡ number n
 number_in n plain = let k = some_of (number n) plain in number_is n k.0 k.1 ∙ sym k.1
@@ -295,12 +297,15 @@ count_found names [] plain = refl
 count_found names (Count n ∷ others) plain = number_in n plain.1
 count_found names (Turns short b ∷ others) plain = count_found names others plain.3
 count_found names (Most k ∷ others) plain = count_found names others plain.3
+count_found names (Argument n ∷ others) plain = count_found names others plain.3
 count_found names (Start f ∷ others) plain = count_found names others plain.3
 count_found names (Range c ∷ others) plain = count_found names others plain.3
 count_found names (Told r ∷ others) plain = count_found names others plain.3
+count_found names (Seen h ∷ others) plain = count_found names others plain.3
 count_found names (ByTree ∷ others) plain = count_found names others plain.3
 count_found names (WithSteps ∷ others) plain = count_found names others plain.3
 count_found names (OfTraps ∷ others) plain = count_found names others plain.3
+count_found names (AsRecord ∷ others) plain = count_found names others plain.3
 
 turns_found : (names : List Text) (chosen : List Chosen) → ArePlain names chosen
     → budget_text (found (codes "BUDGET") (map row_of chosen)) ≡ option_and_then budget_number (value_in (codes "BUDGET") chosen)
@@ -308,12 +313,15 @@ turns_found names [] plain = refl
 turns_found names (Count n ∷ others) plain = turns_found names others plain.3
 turns_found names (Turns short b ∷ others) plain = budget_in b plain.1
 turns_found names (Most k ∷ others) plain = turns_found names others plain.3
+turns_found names (Argument n ∷ others) plain = turns_found names others plain.3
 turns_found names (Start f ∷ others) plain = turns_found names others plain.3
 turns_found names (Range c ∷ others) plain = turns_found names others plain.3
 turns_found names (Told r ∷ others) plain = turns_found names others plain.3
+turns_found names (Seen h ∷ others) plain = turns_found names others plain.3
 turns_found names (ByTree ∷ others) plain = turns_found names others plain.3
 turns_found names (WithSteps ∷ others) plain = turns_found names others plain.3
 turns_found names (OfTraps ∷ others) plain = turns_found names others plain.3
+turns_found names (AsRecord ∷ others) plain = turns_found names others plain.3
 
 most_found : (names : List Text) (chosen : List Chosen) → ArePlain names chosen
     → budget_text (found (codes "K") (map row_of chosen)) ≡ option_and_then budget_number (value_in (codes "K") chosen)
@@ -321,72 +329,118 @@ most_found names [] plain = refl
 most_found names (Count n ∷ others) plain = most_found names others plain.3
 most_found names (Turns short b ∷ others) plain = most_found names others plain.3
 most_found names (Most k ∷ others) plain = budget_in k plain.1
+most_found names (Argument n ∷ others) plain = most_found names others plain.3
 most_found names (Start f ∷ others) plain = most_found names others plain.3
 most_found names (Range c ∷ others) plain = most_found names others plain.3
 most_found names (Told r ∷ others) plain = most_found names others plain.3
+most_found names (Seen h ∷ others) plain = most_found names others plain.3
 most_found names (ByTree ∷ others) plain = most_found names others plain.3
 most_found names (WithSteps ∷ others) plain = most_found names others plain.3
 most_found names (OfTraps ∷ others) plain = most_found names others plain.3
+most_found names (AsRecord ∷ others) plain = most_found names others plain.3
+
+argument_found : (names : List Text) (chosen : List Chosen) → ArePlain names chosen
+    → number_text (found (codes "BY") (map row_of chosen)) ≡ option_and_then number (value_in (codes "BY") chosen)
+argument_found names [] plain = refl
+argument_found names (Count n ∷ others) plain = argument_found names others plain.3
+argument_found names (Turns short b ∷ others) plain = argument_found names others plain.3
+argument_found names (Most k ∷ others) plain = argument_found names others plain.3
+argument_found names (Argument n ∷ others) plain = number_in n plain.1
+argument_found names (Start f ∷ others) plain = argument_found names others plain.3
+argument_found names (Range c ∷ others) plain = argument_found names others plain.3
+argument_found names (Told r ∷ others) plain = argument_found names others plain.3
+argument_found names (Seen h ∷ others) plain = argument_found names others plain.3
+argument_found names (ByTree ∷ others) plain = argument_found names others plain.3
+argument_found names (WithSteps ∷ others) plain = argument_found names others plain.3
+argument_found names (OfTraps ∷ others) plain = argument_found names others plain.3
+argument_found names (AsRecord ∷ others) plain = argument_found names others plain.3
+
+record_found : (chosen : List Chosen) → is_set (codes "record") (map row_of chosen) ≡ is_chosen (codes "record") chosen
+record_found [] = refl
+record_found (Count n ∷ others) = record_found others
+record_found (Turns short b ∷ others) = record_found others
+record_found (Most k ∷ others) = record_found others
+record_found (Argument n ∷ others) = record_found others
+record_found (Start f ∷ others) = record_found others
+record_found (Range c ∷ others) = record_found others
+record_found (Told r ∷ others) = record_found others
+record_found (Seen h ∷ others) = record_found others
+record_found (ByTree ∷ others) = record_found others
+record_found (WithSteps ∷ others) = record_found others
+record_found (OfTraps ∷ others) = record_found others
+record_found (AsRecord ∷ others) = refl
 
 tree_found : (chosen : List Chosen) → is_set (codes "tree") (map row_of chosen) ≡ is_chosen (codes "tree") chosen
 tree_found [] = refl
 tree_found (Count n ∷ others) = tree_found others
 tree_found (Turns short b ∷ others) = tree_found others
 tree_found (Most k ∷ others) = tree_found others
+tree_found (Argument n ∷ others) = tree_found others
 tree_found (Start f ∷ others) = tree_found others
 tree_found (Range c ∷ others) = tree_found others
 tree_found (Told r ∷ others) = tree_found others
+tree_found (Seen h ∷ others) = tree_found others
 tree_found (ByTree ∷ others) = refl
 tree_found (WithSteps ∷ others) = tree_found others
 tree_found (OfTraps ∷ others) = tree_found others
+tree_found (AsRecord ∷ others) = tree_found others
 
 steps_found : (chosen : List Chosen) → is_set (codes "steps") (map row_of chosen) ≡ is_chosen (codes "steps") chosen
 steps_found [] = refl
 steps_found (Count n ∷ others) = steps_found others
 steps_found (Turns short b ∷ others) = steps_found others
 steps_found (Most k ∷ others) = steps_found others
+steps_found (Argument n ∷ others) = steps_found others
 steps_found (Start f ∷ others) = steps_found others
 steps_found (Range c ∷ others) = steps_found others
 steps_found (Told r ∷ others) = steps_found others
+steps_found (Seen h ∷ others) = steps_found others
 steps_found (ByTree ∷ others) = steps_found others
 steps_found (WithSteps ∷ others) = refl
 steps_found (OfTraps ∷ others) = steps_found others
+steps_found (AsRecord ∷ others) = steps_found others
 
 traps_found : (chosen : List Chosen) → is_set (codes "traps") (map row_of chosen) ≡ is_chosen (codes "traps") chosen
 traps_found [] = refl
 traps_found (Count n ∷ others) = traps_found others
 traps_found (Turns short b ∷ others) = traps_found others
 traps_found (Most k ∷ others) = traps_found others
+traps_found (Argument n ∷ others) = traps_found others
 traps_found (Start f ∷ others) = traps_found others
 traps_found (Range c ∷ others) = traps_found others
 traps_found (Told r ∷ others) = traps_found others
+traps_found (Seen h ∷ others) = traps_found others
 traps_found (ByTree ∷ others) = traps_found others
 traps_found (WithSteps ∷ others) = traps_found others
 traps_found (OfTraps ∷ others) = refl
+traps_found (AsRecord ∷ others) = traps_found others
 
--- behind a module's name alone, that of a script too, and that of a schedule too
+-- behind a module's name alone, that of a script or of a history too, and that of a schedule too
 module _ (names : List Text) (chosen : List Chosen) (plain : ArePlain names chosen) where
   abbrev rows : List Row
   rows = map row_of chosen
 
   pub given_alone : given_of rows ≡ given_in None None chosen
-  given_alone = same_as _ _ _ _ _ _ _ _ _ _ _ _ _ _ _ _ _ _ _ _ _ _ _ _ (no_value (codes "SCRIPT") no_script chosen) (no_value (codes "SCHEDULE") no_schedule chosen)
-      (value_found (codes "RECORD") chosen) (no_value (codes "HISTORY") no_history chosen) (value_found (codes "FROM") chosen) (value_found (codes "FROM-TO") chosen) (count_found names chosen plain)
-      (turns_found names chosen plain) (most_found names chosen plain) (tree_found chosen) (steps_found chosen) (traps_found chosen)
+  given_alone = same_as _ _ _ _ _ _ _ _ _ _ _ _ _ _ _ _ _ _ _ _ _ _ _ _ _ _ _ _ (no_value (codes "SCRIPT") no_script chosen) (no_value (codes "SCHEDULE") no_schedule chosen)
+      (value_found (codes "RECORD") chosen) (value_found (codes "HISTORY") chosen) (value_found (codes "FROM") chosen) (value_found (codes "FROM-TO") chosen) (count_found names chosen plain)
+      (turns_found names chosen plain) (most_found names chosen plain) (argument_found names chosen plain)
+      (record_found chosen) (tree_found chosen) (steps_found chosen) (traps_found chosen)
 
   pub given_script : (s : Text) → given_of (name_row (codes "SCRIPT") s ∷ rows) ≡ given_in (Some s) None chosen
-  given_script s = same_as _ _ _ _ _ _ _ _ _ _ _ _ _ _ _ _ _ _ _ _ _ _ _ _ refl (no_value (codes "SCHEDULE") no_schedule chosen)
-      (value_found (codes "RECORD") chosen) (no_value (codes "HISTORY") no_history chosen) (value_found (codes "FROM") chosen) (value_found (codes "FROM-TO") chosen) (count_found names chosen plain)
-      (turns_found names chosen plain) (most_found names chosen plain) (tree_found chosen) (steps_found chosen) (traps_found chosen)
+  given_script s = same_as _ _ _ _ _ _ _ _ _ _ _ _ _ _ _ _ _ _ _ _ _ _ _ _ _ _ _ _ refl (no_value (codes "SCHEDULE") no_schedule chosen)
+      (value_found (codes "RECORD") chosen) (value_found (codes "HISTORY") chosen) (value_found (codes "FROM") chosen) (value_found (codes "FROM-TO") chosen) (count_found names chosen plain)
+      (turns_found names chosen plain) (most_found names chosen plain) (argument_found names chosen plain)
+      (record_found chosen) (tree_found chosen) (steps_found chosen) (traps_found chosen)
 
   pub given_history : (h : Text) → given_of (name_row (codes "HISTORY") h ∷ rows) ≡ given_with_history h chosen
-  given_history h = same_as _ _ _ _ _ _ _ _ _ _ _ _ _ _ _ _ _ _ _ _ _ _ _ _ (no_value (codes "SCRIPT") no_script chosen)
-      (no_value (codes "SCHEDULE") no_schedule chosen) (value_found (codes "RECORD") chosen) refl (value_found (codes "FROM") chosen)
-      (value_found (codes "FROM-TO") chosen) (count_found names chosen plain) (turns_found names chosen plain) (most_found names chosen plain)
-      (tree_found chosen) (steps_found chosen) (traps_found chosen)
+  given_history h = same_as _ _ _ _ _ _ _ _ _ _ _ _ _ _ _ _ _ _ _ _ _ _ _ _ _ _ _ _ (no_value (codes "SCRIPT") no_script chosen)
+      (no_value (codes "SCHEDULE") no_schedule chosen) (value_found (codes "RECORD") chosen) refl (value_found (codes "FROM") chosen) (value_found (codes "FROM-TO") chosen) (count_found names chosen plain)
+      (turns_found names chosen plain) (most_found names chosen plain) (argument_found names chosen plain)
+      (record_found chosen) (tree_found chosen) (steps_found chosen) (traps_found chosen)
 
   pub given_schedule : (s d : Text) → given_of (name_row (codes "SCRIPT") s ∷ name_row (codes "SCHEDULE") d ∷ rows)
       ≡ given_in (Some s) (Some d) chosen
-  given_schedule s d = same_as _ _ _ _ _ _ _ _ _ _ _ _ _ _ _ _ _ _ _ _ _ _ _ _ refl refl
-      (value_found (codes "RECORD") chosen) (no_value (codes "HISTORY") no_history chosen) (value_found (codes "FROM") chosen) (value_found (codes "FROM-TO") chosen) (count_found names chosen plain)
-      (turns_found names chosen plain) (most_found names chosen plain) (tree_found chosen) (steps_found chosen) (traps_found chosen)
+  given_schedule s d = same_as _ _ _ _ _ _ _ _ _ _ _ _ _ _ _ _ _ _ _ _ _ _ _ _ _ _ _ _ refl refl
+      (value_found (codes "RECORD") chosen) (value_found (codes "HISTORY") chosen) (value_found (codes "FROM") chosen) (value_found (codes "FROM-TO") chosen) (count_found names chosen plain)
+      (turns_found names chosen plain) (most_found names chosen plain) (argument_found names chosen plain)
+      (record_found chosen) (tree_found chosen) (steps_found chosen) (traps_found chosen)

@@ -3,7 +3,8 @@ use Rattle.std.specs.Prelude.{◌≡◌, ℕ, Bool, true, false, not, List, [], 
 use Rattle.std.specs.List.{list_any}
 use Rattle.std.specs.Option.{option_map_or}
 use Rattle.std.specs.Str.{bytes_eq}
-use Rattle.ob_command.specs.CommandLine.{CallsRequest, Given, Help, Request, RunRequest, Text, Unclear, Version, asked, budget_number, calls_in, default_budget, form_mistake_of, is_most, is_option, is_seen_budget, number, request}
+use Rattle.ob_command.specs.CommandLine.{CallsRequest, Given, Help, OrderRequest, Request, RunRequest, Text, Unclear, Version, asked, budget_number, calls_in, default_budget, default_most, form_mistake_of, is_most, is_option, is_place, is_seen_budget, number, request}
+use Rattle.ob_command.specs.declared.command.OrderProduct.{OrderProduct}
 
 -- `help` and the name, the name with `--help` or `-h`, and all three ask for help.
 pub record IsHelpAsked (name : Text) : Type 0 where
@@ -20,39 +21,47 @@ pub record IsVersionAsked (name : Text) : Type 0 where
 
 -- ---- options among words
 
--- an option as it stands among words, with the word behind it where it has one: `-n`, `-b` or `--budget`, `--most`, `--from`, `--calls`,
--- `--record`, `--tree`, `--steps` and `--traps`
+-- an option as it stands among words, with the word behind it where it has one: `-n`, `-b` or `--budget`, `--most`, `--by`, `--from`,
+-- `--calls`, `--record` with a name, `--history`, `--tree`, `--steps`, `--traps`, and `--record` alone
 pub data Chosen : Type 0 where
   Count : (n : Text) → Chosen
   Turns : (short : Bool) (b : Text) → Chosen
   Most : (k : Text) → Chosen
+  Argument : (n : Text) → Chosen
   Start : (f : Text) → Chosen
   Range : (c : Text) → Chosen
   Told : (r : Text) → Chosen
+  Seen : (h : Text) → Chosen
   ByTree : Chosen
   WithSteps : Chosen
   OfTraps : Chosen
+  AsRecord : Chosen
 
 -- the name by which it is known
 abbrev pub id_of : Chosen → Text
 id_of (Count n) = codes "N"
 id_of (Turns short b) = codes "BUDGET"
 id_of (Most k) = codes "K"
+id_of (Argument n) = codes "BY"
 id_of (Start f) = codes "FROM"
 id_of (Range c) = codes "FROM-TO"
 id_of (Told r) = codes "RECORD"
+id_of (Seen h) = codes "HISTORY"
 id_of ByTree = codes "tree"
 id_of WithSteps = codes "steps"
 id_of OfTraps = codes "traps"
+id_of AsRecord = codes "record"
 
 -- what stands behind it, and `true` where nothing does
 abbrev pub text_of : Chosen → Text
 text_of (Count n) = n
 text_of (Turns short b) = b
 text_of (Most k) = k
+text_of (Argument n) = n
 text_of (Start f) = f
 text_of (Range c) = c
 text_of (Told r) = r
+text_of (Seen h) = h
 text_of _ = codes "true"
 
 -- the word that stands before a budget
@@ -65,12 +74,15 @@ abbrev pub with_words : Chosen → List Text → List Text
 with_words (Count n) rest = codes "-n" ∷ n ∷ rest
 with_words (Turns short b) rest = budget_flag short ∷ b ∷ rest
 with_words (Most k) rest = codes "--most" ∷ k ∷ rest
+with_words (Argument n) rest = codes "--by" ∷ n ∷ rest
 with_words (Start f) rest = codes "--from" ∷ f ∷ rest
 with_words (Range c) rest = codes "--calls" ∷ c ∷ rest
 with_words (Told r) rest = codes "--record" ∷ r ∷ rest
+with_words (Seen h) rest = codes "--history" ∷ h ∷ rest
 with_words ByTree rest = codes "--tree" ∷ rest
 with_words WithSteps rest = codes "--steps" ∷ rest
 with_words OfTraps rest = codes "--traps" ∷ rest
+with_words AsRecord rest = codes "--record" ∷ rest
 
 abbrev pub words_of : List Chosen → List Text
 words_of [] = []
@@ -81,9 +93,11 @@ abbrev pub is_plain : Chosen → Bool
 is_plain (Count n) = is_some (number n)
 is_plain (Turns short b) = is_some (budget_number b)
 is_plain (Most k) = is_some (budget_number k)
+is_plain (Argument n) = is_some (number n)
 is_plain (Start f) = not (is_option f)
 is_plain (Range c) = is_some (calls_in c)
 is_plain (Told r) = not (is_option r)
+is_plain (Seen h) = not (is_option h)
 is_plain _ = true
 
 -- Options of these names in any order, each at most once, with what can stand behind them.
@@ -106,10 +120,10 @@ abbrev pub draw_options : List Text
 draw_options = codes "N" ∷ codes "BUDGET" ∷ codes "FROM" ∷ codes "FROM-TO" ∷ []
 
 abbrev pub order_options : List Text
-order_options = codes "BUDGET" ∷ codes "K" ∷ []
+order_options = codes "BUDGET" ∷ codes "K" ∷ codes "BY" ∷ codes "record" ∷ []
 
 abbrev pub explain_options : List Text
-explain_options = codes "N" ∷ codes "BUDGET" ∷ codes "FROM" ∷ codes "RECORD" ∷ codes "traps" ∷ []
+explain_options = codes "N" ∷ codes "BUDGET" ∷ codes "FROM" ∷ codes "RECORD" ∷ codes "HISTORY" ∷ codes "traps" ∷ []
 
 abbrev pub bound_options : List Text
 bound_options = codes "N" ∷ codes "BUDGET" ∷ []
@@ -127,12 +141,14 @@ given_in script_name schedule_name chosen = record {
   script_name = script_name;
   schedule_name = schedule_name;
   record_name = value_in (codes "RECORD") chosen;
-  history_name = None;
+  history_name = value_in (codes "HISTORY") chosen;
   from_name = value_in (codes "FROM") chosen;
   range = value_in (codes "FROM-TO") chosen;
   processes = option_and_then number (value_in (codes "N") chosen);
   budget = option_and_then budget_number (value_in (codes "BUDGET") chosen);
   most = option_and_then budget_number (value_in (codes "K") chosen);
+  argument = option_and_then number (value_in (codes "BY") chosen);
+  as_record = is_chosen (codes "record") chosen;
   tree = is_chosen (codes "tree") chosen;
   steps = is_chosen (codes "steps") chosen;
   traps = is_chosen (codes "traps") chosen;
@@ -175,12 +191,25 @@ count_in chosen = option_and_then number (value_in (codes "N") chosen)
 abbrev pub turns_in : List Chosen → ℕ
 turns_in chosen = unwrap_or (option_and_then budget_number (value_in (codes "BUDGET") chosen)) default_budget
 
--- the budget where one is given, and how many configurations are looked at
+-- the budget where one is given, how many configurations are looked at, and by which argument calls are parted
 abbrev pub budget_in : List Chosen → Option ℕ
 budget_in chosen = option_and_then budget_number (value_in (codes "BUDGET") chosen)
 
 abbrev pub most_in : List Chosen → Option ℕ
 most_in chosen = option_and_then budget_number (value_in (codes "K") chosen)
+
+abbrev pub argument_in : List Chosen → Option ℕ
+argument_in chosen = option_and_then number (value_in (codes "BY") chosen)
+
+-- the order of a history, and what is printed of it, with the other options
+abbrev pub order_with : (m h : Text) → List Chosen → OrderProduct → OrderRequest
+order_with m h chosen product = record {
+  module_name = m;
+  history_name = h;
+  budget = budget_in chosen;
+  most = unwrap_or (most_in chosen) default_most;
+  product = product;
+}
 
 -- the calls and the run of these files, of so many processes, with the other options
 abbrev pub calls_with : (m s : Text) (processes : ℕ) → List Chosen → CallsRequest
@@ -223,9 +252,16 @@ abbrev pub Lacks : (names : List Text) → List Chosen → Type 0
 Lacks [] chosen = Unit {0}
 Lacks (name ∷ names) chosen = (is_chosen name chosen ≡ false) × Lacks names chosen
 
--- The numbers behind `order` are in their ranges: of the budget, of the number of configurations, where they stand there.
+-- The numbers behind `order` are in their ranges: of the budget, of the number of configurations, of the place of an argument, where they
+-- stand there.
 abbrev pub IsSeenBudget : List Chosen → Type 0
 IsSeenBudget chosen = option_map_or is_seen_budget (budget_in chosen) true ≡ true
 
 abbrev pub IsMost : List Chosen → Type 0
 IsMost chosen = option_map_or is_most (most_in chosen) true ≡ true
+
+abbrev pub IsPlace : List Chosen → Type 0
+IsPlace chosen = option_map_or is_place (argument_in chosen) true ≡ true
+
+abbrev pub AreInRange : List Chosen → Type 0
+AreInRange chosen = IsSeenBudget chosen × IsMost chosen × IsPlace chosen

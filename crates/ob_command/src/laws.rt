@@ -3,15 +3,16 @@
 ghost use Rattle.std.specs.Prelude.{◌≡◌, ◌⊎◌, ℕ, List, Option, Some, [], ◌∷◌, false, true, All, codes, is_some, unwrap_or};
 ghost use Rattle.clap.specs.Words.{fault_of};
 ghost use Rattle.ob_command_line.specs.ClapCommand.{obl0_app};
-ghost use Rattle.ob_command.specs.CommandLine.{Bound, Check, Draw, DrawRecord, Explain, ExplainCalls, ExplainRecord, ExplainRun, ExplainTraps};
-ghost use Rattle.ob_command.specs.CommandLine.{Help, Listing, Run, RunSteps, RunTree, Seq, Serve, Text, Unclear, Verify, Version, asks_command};
-ghost use Rattle.ob_command.specs.CommandLine.{Order, command_names, default_most, form_mistake_of, is_option, most_mistake, range_by, request};
-ghost use Rattle.ob_command.specs.CommandLine.{seen_budget_mistake};
-ghost use Rattle.ob_command.specs.PlainForms.{AsksWithHistory, IsMost, IsSeenBudget, budget_in, most_in, order_options};
-ghost use Rattle.ob_command.specs.PlainForms.{AsksWithModule, AsksWithSchedule, AsksWithScript, Has, IsHelpAsked, IsVersionAsked, Lacks};
-ghost use Rattle.ob_command.specs.PlainForms.{ModuleAsksFor, RunAsksFor, ScriptAsksFor, ScriptSays, bound_options, calls_with, count_in, draw_options};
-ghost use Rattle.ob_command.specs.PlainForms.{explain_options, run_options, seq_options, serve_options, turns_in, value_in};
+ghost use Rattle.ob_command.specs.CommandLine.{Bound, Check, Draw, DrawRecord, Explain, ExplainCalls, ExplainHistory, ExplainRecord, ExplainRun};
+ghost use Rattle.ob_command.specs.CommandLine.{ExplainTraps, Help, Listing, Order, Run, RunSteps, RunTree, Seq, Serve, Text, Unclear, Verify};
+ghost use Rattle.ob_command.specs.CommandLine.{Version, asks_command, command_names, form_mistake_of, is_option, most_mistake, parts_mistake};
+ghost use Rattle.ob_command.specs.CommandLine.{place_mistake, range_by, request, seen_budget_mistake};
+ghost use Rattle.ob_command.specs.PlainForms.{AreInRange, AsksWithHistory, AsksWithModule, AsksWithSchedule, AsksWithScript, Has, IsHelpAsked};
+ghost use Rattle.ob_command.specs.PlainForms.{IsMost, IsPlace, IsSeenBudget, IsVersionAsked, Lacks, ModuleAsksFor, RunAsksFor, ScriptAsksFor};
+ghost use Rattle.ob_command.specs.PlainForms.{ScriptSays, argument_in, bound_options, calls_with, count_in, draw_options, explain_options};
+ghost use Rattle.ob_command.specs.PlainForms.{order_options, order_with, run_options, seq_options, serve_options, turns_in, value_in};
 ghost use Rattle.ob_command.specs.declared.command.CallNumbers.{CallNumbers};
+ghost use Rattle.ob_command.specs.declared.command.OrderProduct.TheVariants.{Apart, Line, WholeRecord};
 
 /// `check` and a name that is no option.
 pub fn check_is_asked()
@@ -61,13 +62,22 @@ pub fn verify_is_asked()
     ensures { (m r : Text) → is_option m ≡ false → is_option r ≡ false → request (codes "verify" ∷ m ∷ r ∷ []) ≡ Verify m r }
 {}
 
-/// `order` and two names that are no options, and its options in any order; what is said of numbers that are out of their ranges.
+/// `order` and two names that are no options, and its options in any order; what is said of numbers that are out of their ranges, and of a
+/// record of parts.
 pub fn order_is_asked()
     ensures table { AsksWithHistory (codes "order") order_options }
-    ensures order { ScriptAsksFor (codes "order") order_options (λ chosen. IsSeenBudget chosen × IsMost chosen)
-        (λ m h chosen. Order m h (budget_in chosen) (unwrap_or (most_in chosen) default_most)) }
-    ensures budget { ScriptSays (codes "order") order_options (λ chosen. (IsSeenBudget chosen → ⊥) × IsMost chosen) seen_budget_mistake }
+    ensures line { ScriptAsksFor (codes "order") order_options (λ chosen. AreInRange chosen × Lacks (codes "record" ∷ codes "BY" ∷ []) chosen)
+        (λ m h chosen. Order (order_with m h chosen Line)) }
+    ensures record { ScriptAsksFor (codes "order") order_options (λ chosen. AreInRange chosen × Has (codes "record") chosen × Lacks (codes "BY" ∷ []) chosen)
+        (λ m h chosen. Order (order_with m h chosen WholeRecord)) }
+    ensures parts { (place : ℕ) → ScriptAsksFor (codes "order") order_options
+        (λ chosen. AreInRange chosen × (argument_in chosen ≡ Some place) × Lacks (codes "record" ∷ []) chosen)
+        (λ m h chosen. Order (order_with m h chosen (Apart place))) }
     ensures most { ScriptSays (codes "order") order_options (λ chosen. IsMost chosen → ⊥) most_mistake }
+    ensures budget { ScriptSays (codes "order") order_options (λ chosen. IsMost chosen × (IsSeenBudget chosen → ⊥)) seen_budget_mistake }
+    ensures place { ScriptSays (codes "order") order_options (λ chosen. IsMost chosen × IsSeenBudget chosen × (IsPlace chosen → ⊥)) place_mistake }
+    ensures record_of_parts { ScriptSays (codes "order") order_options
+        (λ chosen. AreInRange chosen × Has (codes "record") chosen × Has (codes "BY") chosen) parts_mistake }
 {}
 
 /// `explain` and up to three names that are no options, and its options in any order.
@@ -76,15 +86,19 @@ pub fn explain_is_asked()
     ensures table_of_two { AsksWithScript (codes "explain") false explain_options }
     ensures table { AsksWithSchedule (codes "explain") false explain_options }
     ensures module { ModuleAsksFor (codes "explain") explain_options
-        (Lacks (codes "RECORD" ∷ codes "FROM" ∷ codes "N" ∷ codes "traps" ∷ [])) (λ m chosen. Explain m (turns_in chosen)) }
+        (Lacks (codes "RECORD" ∷ codes "HISTORY" ∷ codes "FROM" ∷ codes "N" ∷ codes "traps" ∷ [])) (λ m chosen. Explain m (turns_in chosen)) }
     ensures record { (r : Text) → ModuleAsksFor (codes "explain") explain_options
-        (λ chosen. (value_in (codes "RECORD") chosen ≡ Some r) × Lacks (codes "FROM" ∷ codes "N" ∷ codes "BUDGET" ∷ codes "traps" ∷ []) chosen)
+        (λ chosen. (value_in (codes "RECORD") chosen ≡ Some r) × Lacks (codes "HISTORY" ∷ codes "FROM" ∷ codes "N" ∷ codes "BUDGET" ∷ codes "traps" ∷ []) chosen)
         (λ m chosen. ExplainRecord m r) }
+    ensures history { (h : Text) → ModuleAsksFor (codes "explain") explain_options
+        (λ chosen. (value_in (codes "HISTORY") chosen ≡ Some h) × Lacks (codes "RECORD" ∷ codes "FROM" ∷ codes "N" ∷ codes "BUDGET" ∷ codes "traps" ∷ []) chosen)
+        (λ m chosen. ExplainHistory m h) }
     ensures calls { ScriptAsksFor (codes "explain") explain_options
-        (Lacks (codes "RECORD" ∷ codes "N" ∷ codes "traps" ∷ [])) (λ m s chosen. ExplainCalls (calls_with m s 16 chosen)) }
+        (Lacks (codes "RECORD" ∷ codes "HISTORY" ∷ codes "N" ∷ codes "traps" ∷ [])) (λ m s chosen. ExplainCalls (calls_with m s 16 chosen)) }
     ensures traps { ScriptAsksFor (codes "explain") explain_options
-        (λ chosen. Has (codes "traps") chosen × Lacks (codes "RECORD" ∷ codes "N" ∷ []) chosen) (λ m s chosen. ExplainTraps (calls_with m s 16 chosen)) }
-    ensures run { RunAsksFor (codes "explain") explain_options (Lacks (codes "RECORD" ∷ codes "traps" ∷ [])) ExplainRun }
+        (λ chosen. Has (codes "traps") chosen × Lacks (codes "RECORD" ∷ codes "HISTORY" ∷ codes "N" ∷ []) chosen)
+        (λ m s chosen. ExplainTraps (calls_with m s 16 chosen)) }
+    ensures run { RunAsksFor (codes "explain") explain_options (Lacks (codes "RECORD" ∷ codes "HISTORY" ∷ codes "traps" ∷ [])) ExplainRun }
 {}
 
 /// `bound` and a name that is no option, and its options in any order.

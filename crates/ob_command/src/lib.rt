@@ -10,4 +10,6 @@ mod help;
 pub mod laws;
 mod mistakes;
 
-pub use command::{CallNumbers, CallsCommand, Command, RunCommand, Stop, read_command};
+pub use command::{
+    CallNumbers, CallsCommand, Command, OrderCommand, OrderProduct, RunCommand, Stop, read_command,
+};

@@ -6,8 +6,9 @@ ghost use Rattle.clap.specs.declared.builder.command.Command.TheViews.{out-Comma
 ghost use Rattle.ob_command_line.specs.ClapCommand.{bound_app, draw_app, drawn_app, explain_app, module_app, order_app, record_app, run_app, schedule_app, seq_app, serve_app, texts_app};
 
 use crate::arguments::{
-    call_budget, drawn_calls, explained_record, file_name, first_record, flag, most_configurations,
-    optional_count, optional_name, process_count, seen_budget,
+    call_budget, drawn_calls, explained_history, explained_record, file_name, first_record, flag,
+    most_configurations, optional_count, optional_name, parting_argument, process_count,
+    seen_budget,
 };
 use std::alloc::{AllocError, Global};
 
@@ -32,6 +33,9 @@ const HELP_RECORD: &str = "The file of the record, as `run` prints it";
 
 const HELP_HISTORY: &str =
     "The file of the history: which calls began, and how they ended, in the order in which that was seen";
+
+const HELP_AS_RECORD: &str =
+    "Prints the history as a record with the order, for `verify`, `draw` and `--from`";
 
 const HELP_TREE: &str =
     "Runs the module by its tree in place of its code, which may then be of any length";
@@ -136,7 +140,7 @@ pub fn seq_line<'a>(
         .arg(first_record(alloc))
 }
 
-/// The words behind a command on a module, on a script where one is named, and on a schedule or a record.
+/// The words behind a command on a module, on a script where one is named, and on a schedule, a record or a history.
 pub fn explain_line<'a>(
     alloc: Global,
     command: &'a str,
@@ -149,6 +153,7 @@ pub fn explain_line<'a>(
         .after_help(ITEMS)
         .arg(first_record(alloc))?
         .arg(explained_record(alloc))?
+        .arg(explained_history(alloc))?
         .arg(flag(alloc, "traps", HELP_TRAPS))
 }
 
@@ -206,7 +211,9 @@ pub fn order_line<'a>(
     module_line(alloc, command, about)?
         .arg(file_name(alloc, "HISTORY", HELP_HISTORY))?
         .arg(seen_budget(alloc))?
-        .arg(most_configurations(alloc))
+        .arg(most_configurations(alloc))?
+        .arg(flag(alloc, "record", HELP_AS_RECORD))?
+        .arg(parting_argument(alloc))
 }
 
 /// The words behind a command on a module: the module's name.

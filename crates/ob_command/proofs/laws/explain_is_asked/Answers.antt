@@ -1,5 +1,5 @@
 use Rattle.ob_command.proofs.CommandForms.{explain_module_asks, explain_schedule_asks, explain_script_asks}
-use Rattle.ob_command.proofs.FormsAsked.{explain_calls_form, explain_form, explain_record_form, explain_run_form, explain_traps_form}
+use Rattle.ob_command.proofs.FormsAsked.{explain_calls_form, explain_form, explain_history_form, explain_record_form, explain_run_form, explain_traps_form}
 use Rattle.ob_command.proofs.laws.explain_is_asked.Goals as goal
 
 pub returns-clause-table_of_one : goal.returns-clause-table_of_one
@@ -16,6 +16,9 @@ returns-clause-module c = explain_form
 
 pub returns-clause-record : goal.returns-clause-record
 returns-clause-record c = explain_record_form
+
+pub returns-clause-history : goal.returns-clause-history
+returns-clause-history c = explain_history_form
 
 pub returns-clause-calls : goal.returns-clause-calls
 returns-clause-calls c = explain_calls_form
