@@ -2,9 +2,9 @@
 use Rattle.std.proofs.Common.{◌≡◌, ◌∙◌, ℕ, List, Option, None, Some, Result, Err, refl, string_bytes, subst, sym}
 use Rattle.std.specs.Prelude.{String}
 use Rattle.ob_answer.specs.Answers.{IsAnswer, IsAnswerTo, version_text}
-use Rattle.ob_answer.specs.Printed.{IsPrinted, IsRefused}
-use Rattle.ob_answer.specs.declared.answered.Answer.{Answer}
-use Rattle.ob_answer.specs.declared.files.FileFault.{FileFault}
+use Rattle.ob_answer_files.specs.Printed.{IsPrinted, IsRefused}
+use Rattle.ob_answer_files.specs.declared.answered.Answer.{Answer}
+use Rattle.ob_answer_files.specs.declared.files.FileFault.{FileFault}
 use Rattle.ob_command.specs.CommandLine.{Help, Request, Text, Unclear, Version, extra_of_help, request}
 use Rattle.ob_command.specs.Commands.{IsMistakeBeside, IsMistakeOf, IsMistakeTextOf, IsTextBeside, request_of}
 use Rattle.ob_command.specs.declared.command.Command.{Command}

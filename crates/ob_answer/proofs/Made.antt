@@ -1,12 +1,12 @@
 -- Answers made of the beginning of a module's text.
 use Rattle.std.proofs.Common.{◌≡◌, ◌≢◌, ◌<◌, ◌++◌, ℕ, List, Result, Ok, Err, Option, IfOk, inl, inr, length, codes, subst, sym, refl}
 use Rattle.ob_answer.specs.Answers.{IsOrderAnswer, IsRecordPictureAnswer, IsTextAnswer, IsVerifyAnswer, refused}
-use Rattle.ob_answer.specs.Refusals.{IsNumberedDraw, RefusesHistory, RefusesRecord}
-use Rattle.ob_answer.specs.Printed.{IsRefused}
-use Rattle.ob_answer.specs.CommandTexts.{of_text}
-use Rattle.ob_answer.specs.declared.answered.Answer.{Answer}
-use Rattle.ob_answer.proofs.AtOnce.{IsAtOnce, no_module, refused_of_whole, too_long_scan}
-use Rattle.ob_answer.proofs.Beginnings.{beginning, of_whole_or_long}
+use Rattle.ob_answer.specs.Refusals.{IsNumberedDraw, RefusesHistory}
+use Rattle.ob_answer_files.specs.Printed.{IsRefused}
+use Rattle.ob_answer_explained.specs.CommandTexts.{of_text}
+use Rattle.ob_answer_files.specs.declared.answered.Answer.{Answer}
+use Rattle.ob_answer_explained.proofs.AtOnce.{IsAtOnce, no_module, refused_of_whole, too_long_scan}
+use Rattle.ob_answer_explained.proofs.Beginnings.{beginning, of_whole_or_long}
 use Rattle.ob_check_text.specs.declared.checked_text.TextFault.TheVariants as Texts
 use Rattle.ob_command.specs.CommandLine.{Text}
 use Rattle.ob_fault_lines.specs.DrawFaultLines.{draw_record_fault_line}
@@ -35,6 +35,7 @@ use Rattle.ob_object_verify.specs.declared.verifying.VerifyFault.TheVariants as 
 use Rattle.ob_scan.specs.declared.fault.ScanFault.TheVariants as Scan
 use Rattle.ob_text_picture_chart.specs.declared.charts.CallRange.{CallRange}
 use Rattle.wf_history.specs.declared.event.CallId.{CallId}
+use Rattle.ob_answer_explained.proofs.RecordRefused.{record_refused}
 
 -- the line of a fault by which texts are refused; `compiling` tells those of an object
 pub text_refused : {T F E : Type 0} (compiling : CompileFault → F) (a : Asked) (Says : List ℕ → Text → Type 0) (Refusal : List ℕ → F → Type 0) (Numbered : F → Type 0)
@@ -74,22 +75,6 @@ draw_record_refused_made calls part text e (Ok a) told known stands apart none t
     (none (known, apart)) in
     refused e (record { says = says; none = no_picture; numbered = (known, apart) }) told
 draw_record_refused_made calls part text e (Err x) told known stands apart none too_long = tt
-
-pub numbered_verify : (e : VerifyFault) → e ≢ Verify.NoMemory → Verifies.TellsMemoryApart e → Verifies.IsNumbered e
-numbered_verify e known apart = elim apart [ inl is ↦ absurd (known is) | inr h ↦ h ]
-
--- a refusal of the beginning of a module's text is one of the whole
-pub record_refused : (part text : List ℕ) (e : VerifyFault) → e ≢ Verify.NoMemory
-    → IsVerifyFault part text e → Verifies.TellsMemoryApart e → (Verifies.IsNumbered e → IsVerified part text → ⊥)
-    → (65536 < length part → e ≡ Verifies.too_long)
-    → (whole : List ℕ) → part ≡ beginning whole → RefusesRecord whole text e
-record_refused part text e known stands apart none too_long whole is = record {
-  says = of_whole_or_long (λ t. IsVerifyFault t text e) part whole is
-      (λ long longer. subst (λ (x : VerifyFault). IsVerifyFault whole text x) (sym (too_long long)) (too_long_scan whole longer)) stands;
-  none = of_whole_or_long (λ t. IsVerified t text → ⊥) part whole is (λ long longer v. no_module whole longer v.program v.is_module)
-      (none (numbered_verify e known apart));
-  numbered = numbered_verify e known apart;
-}
 
 pub verify_refused_made : {E : Type 0} (part text : List ℕ) (e : VerifyFault) (result : Result Answer E)
     → IfOk result (λ a. IsRefused a 1 (verify_fault_line e ++ codes "\n")) → IfOk result (λ _. e ≢ Verify.NoMemory)

@@ -1,8 +1,8 @@
 -- What the program answers to a request, by what reads of files give.
 use Rattle.std.specs.Prelude.{◌≡◌, ◌⊎◌, ℕ, Bool, List, [], ◌∷◌, ◌++◌, true, false, Option, Result, codes, option_map, count_by, MatchBool, nat_lt}
 use Rattle.std.specs.Str.{bytes_eq}
-use Rattle.ob_answer.specs.declared.answered.Answer.{Answer}
-use Rattle.ob_answer.specs.declared.files.FileFault.{FileFault}
+use Rattle.ob_answer_files.specs.declared.answered.Answer.{Answer}
+use Rattle.ob_answer_files.specs.declared.files.FileFault.{FileFault}
 use Rattle.ob_fault_lines.specs.CompileFaultLines.{compile_line}
 use Rattle.ob_fault_lines.specs.DrawFaultLines.{draw_fault_line, draw_record_fault_line}
 use Rattle.ob_fault_lines.specs.RunFaultLines.{run_fault_line}
@@ -35,16 +35,17 @@ use Rattle.ob_answer.specs.declared.product.CallsProduct.{CallsProduct}
 use Rattle.ob_answer.specs.declared.product.CallsProduct.TheVariants as CallsProducts
 use Rattle.ob_answer.specs.declared.product.Product.{Product}
 use Rattle.ob_answer.specs.declared.product.Product.TheVariants as Products
-use Rattle.ob_answer.specs.Beginnings.{WithBeginning}
-use Rattle.ob_answer.specs.CommandTexts.{CallsTexts, RunTexts, calls_texts, first_or_none, record_file, run_texts_by}
-use Rattle.ob_answer.specs.Explains.{AreTrapsExplained, IsCallsExplained, IsModuleExplained, IsRecordExplained, IsRunExplained, IsValuesFaultTold}
-use Rattle.ob_answer.specs.Printed.{IsPrinted, IsPrintedBeside, IsRefused}
-use Rattle.ob_answer.specs.Reads.{IsOutcome, files_of_calls, files_of_run, record_in_calls, record_in_run}
+use Rattle.ob_answer_explained.specs.Beginnings.{WithBeginning}
+use Rattle.ob_answer_explained.specs.CommandTexts.{CallsTexts, RunTexts, calls_texts, first_or_none, record_file, run_texts_by}
+use Rattle.ob_answer_explained.specs.Explains.{AreTrapsExplained, IsCallsExplained, IsModuleExplained, IsRecordExplained, IsRunExplained, IsValuesFaultTold}
+use Rattle.ob_answer_files.specs.Printed.{IsPrinted, IsPrintedBeside, IsRefused}
+use Rattle.ob_answer_files.specs.Reads.{IsOutcome, files_of_calls, files_of_run, record_in_calls, record_in_run}
 use Rattle.ob_text_record.specs.RecordText.{order_text}
 use Rattle.wf_history.specs.declared.event.CallId.{CallId}
-use Rattle.ob_answer.specs.declared.reading.CallsBytes.{CallsBytes}
-use Rattle.ob_answer.specs.declared.reading.RunBytes.{RunBytes}
-use Rattle.ob_answer.specs.Refusals.{RefusesCalls, RefusesHistory, RefusesObject, RefusesPicture, RefusesRecord, RefusesRecordPicture, RefusesRun, RefusesTreeRun, RefusesWorkers}
+use Rattle.ob_answer_files.specs.declared.reading.CallsBytes.{CallsBytes}
+use Rattle.ob_answer_files.specs.declared.reading.RunBytes.{RunBytes}
+use Rattle.ob_answer.specs.Refusals.{RefusesHistory, RefusesPicture, RefusesRecordPicture, RefusesTreeRun, RefusesWorkers}
+use Rattle.ob_answer_explained.specs.Refusals.{RefusesCalls, RefusesObject, RefusesRecord, RefusesRun}
 
 -- the program's name and version, and the kit that it is built with
 abbrev pub version_text : Text

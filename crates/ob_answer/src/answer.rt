@@ -3,20 +3,19 @@
 ghost use Rattle.std.specs.Prelude.{◌≡◌, IfOk, count_by, map, nat_lt};
 ghost use Rattle.std.specs.Str.{bytes_eq};
 ghost use Rattle.ob_answer.specs.Answers.{IsAnswer, IsAnswerTo, IsObeyed, files_of, input_name, range_of, reads_input_twice};
-ghost use Rattle.ob_answer.specs.Reads.{files_of_calls, files_of_run};
+ghost use Rattle.ob_answer_files.specs.Reads.{files_of_calls, files_of_run};
 ghost use Rattle.ob_command.specs.CommandLine.{Bound, Check, DrawRecord, Listing, Order, Verify, request};
 ghost use Rattle.ob_command.specs.Commands.{calls_request_of, request_of, run_request_of};
 
-use crate::answered::Answer;
-use crate::explaining::obey_explain_module;
-use crate::explaining_runs::obey_explain_record;
-use crate::files::{FileFault, Files};
+use ob_answer_files::answered::Answer;
+use crate::explaining::{obey_explain_module, obey_explain_record};
+use ob_answer_files::files::{FileFault, Files};
 use crate::making::{
     answer_bound, answer_check, answer_draw_record, answer_list, answer_order, answer_verify,
 };
 use crate::obeying::{obey_calls, obey_run};
 use crate::product::{CallsProduct, Product};
-use crate::reading::{MODULE_BYTES, TwoFiles, read_two, unreadable};
+use ob_answer_files::reading::{MODULE_BYTES, TwoFiles, read_two, unreadable};
 use ob_command::command::{CallNumbers, CallsCommand, Command, RunCommand, Stop, read_command};
 use ob_interface::NoMemory;
 use ob_object_search::Search;
@@ -95,11 +94,7 @@ fn reads_input_twice(command: Command<'_>) -> bool
             module_name,
             record_name,
         } => are_two_inputs(&[module_name, record_name]),
-        Command::Order {
-            module_name,
-            history_name,
-            ..
-        } => are_two_inputs(&[module_name, history_name]),
+        Command::Order(order) => are_two_inputs(&[order.module_name, order.history_name]),
         Command::Explain { .. } => false,
         Command::ExplainCalls(calls) => are_inputs_of_calls(calls),
         Command::ExplainTraps(calls) => are_inputs_of_calls(calls),
@@ -108,6 +103,10 @@ fn reads_input_twice(command: Command<'_>) -> bool
             module_name,
             record_name,
         } => are_two_inputs(&[module_name, record_name]),
+        Command::ExplainHistory {
+            module_name,
+            history_name,
+        } => are_two_inputs(&[module_name, history_name]),
     }
 }
 
@@ -174,15 +173,7 @@ fn obey<R: Threads + Wait + Sync + RandomSource, F: Files>(
             module_name,
             record_name,
         } => obey_verify(alloc, module_name, record_name, files),
-        Command::Order {
-            module_name,
-            history_name,
-            budget,
-            most,
-        } => {
-            let search = search_by(rt, budget, most)?;
-            obey_order(alloc, module_name, history_name, &search, files)
-        }
+        Command::Order(order) => obey_order(rt, alloc, order, files),
         Command::Explain { module_name, .. } => obey_explain_module(alloc, module_name, files),
         Command::ExplainCalls(calls) => {
             obey_calls(rt, alloc, CallsProduct::Explanation, calls, files)

@@ -4,9 +4,9 @@ ghost use Rattle.std.specs.Prelude.{◌≡◌, ◌≢◌, ◌++◌, false, IfOk,
 ghost use Rattle.ob_answer.specs.Answers.{IsBoundAnswer, IsCheckAnswer, IsListAnswer, IsPictureAnswer, IsRecordAnswer, IsRecordPictureAnswer};
 ghost use Rattle.ob_answer.specs.Answers.{IsOrderAnswer, IsSeqAnswer, IsServeAnswer, IsStepsAnswer, IsTreeRecordAnswer};
 ghost use Rattle.ob_answer.specs.Answers.{IsVerifyAnswer};
-ghost use Rattle.ob_answer.specs.Reads.{OfWhole};
-ghost use Rattle.ob_answer.specs.CommandTexts.{of_text, texts_of_text};
-ghost use Rattle.ob_answer.specs.Printed.{IsRefused};
+ghost use Rattle.ob_answer_files.specs.Reads.{OfWhole};
+ghost use Rattle.ob_answer_explained.specs.CommandTexts.{of_text, texts_of_text};
+ghost use Rattle.ob_answer_files.specs.Printed.{IsRefused};
 ghost use Rattle.ob_fault_lines.specs.CompileFaultLines.{compile_line};
 ghost use Rattle.ob_fault_lines.specs.DrawFaultLines.{draw_fault_line, draw_record_fault_line};
 ghost use Rattle.ob_fault_lines.specs.RunFaultLines.{run_fault_line};
@@ -21,7 +21,7 @@ ghost use Rattle.ob_object_perform.specs.Performance as Performs;
 ghost use Rattle.ob_object_perform.specs.Texts.{texts_of};
 ghost use Rattle.ob_object_sequence.specs.SequentialRun.{is_want_of_memory};
 
-use crate::answered::Answer;
+use ob_answer_files::answered::{Answer, refused};
 use crate::orders::order_line;
 use ob_desk_texts::{ServeTextFault, serve_text};
 use ob_fault_lines::compile_faults::compile_fault_line;
@@ -91,14 +91,6 @@ fn compile_refused(alloc: Global, fault: CompileFault) -> Result<Answer, NoMemor
         CompileFault::NoMemory => Err(NoMemory),
         fault => Ok(refused(alloc, compile_fault_line(alloc, Beginning::Body, fault)?)?),
     }
-}
-
-/// The answer of a fault's line.
-pub(crate) fn refused(alloc: Global, mut line: String) -> Result<Answer, AllocError>
-    ensures { IfOk result (λ a. IsRefused a 1 (string_bytes line ++ codes "\n")) }
-{
-    line.push_str("\n")?;
-    Ok(Answer::refused(alloc, 1, line))
 }
 
 /// The answer of `seq`, of the object that is asked for and the text of a script.

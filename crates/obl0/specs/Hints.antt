@@ -7,7 +7,7 @@ use Rattle.std.specs.Str.{bytes_eq}
 use Rattle.std.specs.declared.io.ErrorKind.{ErrorKind}
 use Rattle.std.specs.declared.io.ErrorKind.TheVariants as Kind
 use Rattle.ob_command.specs.CommandLine.{Text, CallsRequest, Request, RunRequest, Check, Listing, Seq, Run, RunTree, RunSteps, Serve, Draw, DrawRecord, Verify, Order}
-use Rattle.ob_command.specs.CommandLine.{Explain, ExplainCalls, ExplainTraps, ExplainRun, ExplainRecord, Bound, default_budget}
+use Rattle.ob_command.specs.CommandLine.{Explain, ExplainCalls, ExplainTraps, ExplainRun, ExplainRecord, ExplainHistory, Bound, default_budget}
 
 -- the exit status of a fault with a number
 abbrev pub is_fault : (status : ℕ) → Bool
@@ -121,7 +121,7 @@ form_about (Draw run range) line = run_form run
 form_about (Serve calls) line = run_form (served calls)
 form_about (DrawRecord module_name record_name calls) line = drawn_form module_name record_name line
 form_about (Verify module_name record_name) line = record_form module_name record_name
-form_about (Order module_name history_name budget most) line = text_form module_name line
+form_about (Order order) line = text_form order.module_name line
 form_about request line = []
 
 -- ---- faults of no text
@@ -168,6 +168,7 @@ is_explain (ExplainCalls calls) = true
 is_explain (ExplainTraps calls) = true
 is_explain (ExplainRun run) = true
 is_explain (ExplainRecord module_name record_name) = true
+is_explain (ExplainHistory module_name history_name) = true
 is_explain request = false
 
 -- behind the line of a fault of a command that does not

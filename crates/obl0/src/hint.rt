@@ -84,6 +84,7 @@ fn is_explain(command: Command<'_>) -> bool
             | Command::ExplainTraps(_)
             | Command::ExplainRun(_)
             | Command::ExplainRecord { .. }
+            | Command::ExplainHistory { .. }
     )
 }
 
@@ -174,12 +175,13 @@ fn form_about(alloc: Global, command: Command<'_>, line: &[u8]) -> Result<String
             module_name,
             record_name,
         } => record_form(alloc, module_name, record_name),
-        Command::Order { module_name, .. } => text_form(alloc, module_name, line),
+        Command::Order(order) => text_form(alloc, order.module_name, line),
         Command::Explain { .. }
         | Command::ExplainCalls(_)
         | Command::ExplainTraps(_)
         | Command::ExplainRun(_)
-        | Command::ExplainRecord { .. } => Ok(String::new(alloc)),
+        | Command::ExplainRecord { .. }
+        | Command::ExplainHistory { .. } => Ok(String::new(alloc)),
     }
 }
 

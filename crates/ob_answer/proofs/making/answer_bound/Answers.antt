@@ -1,7 +1,7 @@
 use Rattle.std.proofs.Common.{ℕ, string_bytes, subst}
 use Rattle.std.proofs.lemmas.Result.{IfOk-weaker}
 use Rattle.ob_answer.specs.Answers.{IsBoundAnswer, said}
-use Rattle.ob_answer.proofs.AtOnce.{holds_of_whole, object_refused}
+use Rattle.ob_answer_explained.proofs.AtOnce.{holds_of_whole, object_refused}
 use Rattle.ob_answer.proofs.Made.{text_refused}
 use Rattle.ob_fault_lines.specs.CompileFaultLines.{compile_line}
 use Rattle.ob_object_bound.specs.Numbers.{IsBoundText}

@@ -1,6 +1,6 @@
 use Rattle.std.proofs.Common.{◌≡◌, ◌∙◌, ap, string_bytes}
 use Rattle.ob_answer.specs.Answers.{said}
-use Rattle.ob_answer.proofs.Beginnings.{of_whole}
+use Rattle.ob_answer_explained.proofs.Beginnings.{of_whole}
 use Rattle.ob_answer.proofs.Made.{search_refused_made}
 use Rattle.ob_object_search.specs.Searched.{IsLegalOrder}
 use Rattle.ob_text_record.specs.RecordText.{order_text}

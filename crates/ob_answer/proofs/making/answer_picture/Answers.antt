@@ -1,9 +1,10 @@
 use Rattle.std.proofs.Common.{string_bytes}
 use Rattle.std.proofs.lemmas.Result.{IfOk-weaker}
 use Rattle.ob_answer.specs.Answers.{said}
-use Rattle.ob_answer.specs.CommandTexts.{texts_of_text}
+use Rattle.ob_answer_explained.specs.CommandTexts.{texts_of_text}
 use Rattle.ob_answer.specs.Refusals.{IsNumberedDraw}
-use Rattle.ob_answer.proofs.AtOnce.{holds_of_whole, picture_refused}
+use Rattle.ob_answer_explained.proofs.AtOnce.{holds_of_whole}
+use Rattle.ob_answer.proofs.AtOnceMade.{picture_refused}
 use Rattle.ob_answer.proofs.Made.{numbered_draw, text_refused}
 use Rattle.ob_fault_lines.specs.DrawFaultLines.{draw_fault_line}
 use Rattle.ob_object_compile.specs.View.{beginning_of}

@@ -1,8 +1,8 @@
 use Rattle.std.proofs.Common.{string_bytes}
 use Rattle.std.proofs.lemmas.Result.{IfOk-weaker}
 use Rattle.ob_answer.specs.Answers.{said}
-use Rattle.ob_answer.specs.CommandTexts.{of_text}
-use Rattle.ob_answer.proofs.AtOnce.{calls_refused, holds_of_whole}
+use Rattle.ob_answer_explained.specs.CommandTexts.{of_text}
+use Rattle.ob_answer_explained.proofs.AtOnce.{calls_refused, holds_of_whole}
 use Rattle.ob_answer.proofs.Made.{text_refused}
 use Rattle.ob_fault_lines.specs.SequentialFaultLines.{seq_fault_line}
 use Rattle.ob_object_compile.specs.View.{asked_of, beginning_of}
