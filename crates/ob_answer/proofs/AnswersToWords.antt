@@ -23,12 +23,13 @@ no_mistake (commands.Serve calls) h = cc
 no_mistake (commands.Draw run calls) h = cc
 no_mistake (commands.DrawRecord m r calls) h = cc
 no_mistake (commands.Verify m r) h = cc
-no_mistake (commands.Order m s b k) h = cc
+no_mistake (commands.Order order) h = cc
 no_mistake (commands.Explain m b) h = cc
 no_mistake (commands.ExplainCalls calls) h = cc
 no_mistake (commands.ExplainTraps calls) h = cc
 no_mistake (commands.ExplainRun run) h = cc
 no_mistake (commands.ExplainRecord m r) h = cc
+no_mistake (commands.ExplainHistory m t) h = cc
 no_mistake (commands.Bound m n b) h = cc
 
 -- what is said of a mistake

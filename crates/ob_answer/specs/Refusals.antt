@@ -15,14 +15,8 @@ use Rattle.ob_object_perform.specs.Texts.{Texts}
 use Rattle.ob_object_perform.specs.declared.drawing.DrawFault.{DrawFault}
 use Rattle.ob_object_perform.specs.declared.drawing.DrawFault.TheVariants as Draws
 use Rattle.ob_object_perform.specs.declared.performing.PerformFault.{PerformFault}
-use Rattle.ob_object_search.specs.Searched.{IsEnough, IsLegalOrder}
-use Rattle.ob_object_search.specs.SearchFaults as Searches
-use Rattle.ob_object_search.specs.SearchFaults.{IsSearchFault}
-use Rattle.ob_object_search.specs.declared.searching.SearchFault.{SearchFault}
-use Rattle.ob_object_search.specs.declared.searching.SearchFault.TheVariants as Searching
 use Rattle.ob_text_picture_chart.specs.declared.charts.CallRange.{CallRange}
 use Rattle.ob_text_picture_chart.specs.declared.fault.PictureFault.TheVariants as Pictures
-use Rattle.wf_history.specs.declared.event.CallId.{CallId}
 
 -- the calls of a script on an object that is asked for, made by workers
 abbrev pub RefusesWorkers : Asked → (script_bytes : List ℕ) → ServeTextFault → Type 0
@@ -46,10 +40,3 @@ pub record RefusesRecordPicture (module_bytes record_bytes : List ℕ) (calls : 
   pub says : IsDrawRecordFault module_bytes record_bytes calls e
   pub none : HasNoPicture module_bytes record_bytes calls
   pub numbered : RecordPictures.IsNumbered e
-
--- the order of a history; a search that was given up rules no order out, and is given up only where more configurations were needed
-pub record RefusesHistory (module_bytes history_bytes : List ℕ) (budget : Option ℕ) (most : ℕ) (e : SearchFault) : Type 0 where
-  pub says : IsSearchFault module_bytes history_bytes budget most e
-  pub none : ¬ Searches.IsUndecided e → (order : List CallId) → ¬ IsLegalOrder module_bytes history_bytes budget order
-  pub decided : IsEnough module_bytes history_bytes most → e ≢ Searching.TooMany
-  pub numbered : Searches.IsNumbered e

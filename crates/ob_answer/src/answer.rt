@@ -5,23 +5,22 @@ ghost use Rattle.std.specs.Str.{bytes_eq};
 ghost use Rattle.ob_answer.specs.Answers.{IsAnswer, IsAnswerTo, IsObeyed, files_of, input_name, range_of, reads_input_twice};
 ghost use Rattle.ob_answer_files.specs.Reads.{files_of_calls, files_of_run};
 ghost use Rattle.ob_command.specs.CommandLine.{Bound, Check, DrawRecord, Listing, Order, Verify, request};
-ghost use Rattle.ob_command.specs.Commands.{calls_request_of, request_of, run_request_of};
+ghost use Rattle.ob_command.specs.Commands.{calls_request_of, order_request_of, request_of, run_request_of};
 
-use ob_answer_files::answered::Answer;
 use crate::explaining::{obey_explain_module, obey_explain_record};
-use ob_answer_files::files::{FileFault, Files};
-use crate::making::{
-    answer_bound, answer_check, answer_draw_record, answer_list, answer_order, answer_verify,
-};
+use crate::making::{answer_bound, answer_check, answer_draw_record, answer_list, answer_verify};
 use crate::obeying::{obey_calls, obey_run};
 use crate::product::{CallsProduct, Product};
+use ob_answer_files::answered::Answer;
+use ob_answer_files::files::{FileFault, Files};
 use ob_answer_files::reading::{MODULE_BYTES, TwoFiles, read_two, unreadable};
-use ob_command::command::{CallNumbers, CallsCommand, Command, RunCommand, Stop, read_command};
+use ob_answer_orders::ordering::answer_order;
+use ob_command::command::{
+    CallNumbers, CallsCommand, Command, OrderCommand, RunCommand, Stop, read_command,
+};
 use ob_interface::NoMemory;
-use ob_object_search::Search;
 use ob_text_picture_chart::CallRange;
 use std::alloc::Global;
-use std::hash::RandomState;
 use std::random::RandomSource;
 use std::sync::Wait;
 use std::thread::Threads;
@@ -262,35 +261,18 @@ fn obey_draw_record<F: Files>(
     }
 }
 
-/// The search that words ask for. Want of random bytes is told as want of memory: as that it comes and goes with what the machine has,
-/// and says nothing of the history.
-fn search_by<R: RandomSource>(rt: &R, budget: Option<u32>, most: u32) -> Result<Search, NoMemory>
-    ensures budget { IfOk result (λ search. search.budget ≡ budget) }
-    ensures most { IfOk result (λ search. search.most ≡ most) }
-{
-    let Ok(keys) = RandomState::new(rt) else {
-        return Err(NoMemory);
-    };
-    Ok(Search {
-        budget: budget.map(u64::from),
-        most: most as usize,
-        keys,
-    })
-}
-
-/// The answer to `order`, of the names of its files and the search that it asks for.
-fn obey_order<F: Files>(
+/// The answer to `order`.
+fn obey_order<R: RandomSource, F: Files>(
+    rt: &R,
     alloc: Global,
-    module_name: &str,
-    history_name: &str,
-    search: &Search,
+    order: OrderCommand<'_>,
     files: &mut F,
 ) -> Result<Answer, NoMemory>
-    ensures { IfOk result (λ a. IsObeyed F.reads (Order module_name.now history_name.now search.now.budget search.now.most) files.old a files.new) }
+    ensures { IfOk result (λ a. IsObeyed F.reads (Order (order_request_of order.entry)) files.old a files.new) }
 {
-    match read_two(alloc, module_name, history_name, files)? {
+    match read_two(alloc, order.module_name, order.history_name, files)? {
         TwoFiles::Read { module, second } => {
-            answer_order(alloc, module.as_slice(), second.as_slice(), search)
+            answer_order(rt, alloc, order, module.as_slice(), second.as_slice())
         }
         TwoFiles::Unread(answer) => Ok(answer),
     }

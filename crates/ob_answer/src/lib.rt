@@ -6,5 +6,4 @@ pub mod answer;
 mod explaining;
 mod making;
 mod obeying;
-mod orders;
 pub mod product;

@@ -7,19 +7,19 @@ ghost use Rattle.ob_answer_files.specs.Reads.{OfWhole};
 ghost use Rattle.ob_answer_explained.specs.CommandTexts.{calls_of_text, calls_texts_of, run_of_text, run_texts_of};
 ghost use Rattle.ob_command.specs.Commands.{calls_request_of, run_request_of};
 
-use ob_answer_files::answered::Answer;
-use ob_answer_explained::explaining::explain_calls;
-use ob_answer_explained::explaining_runs::explain_run;
-use ob_answer_explained::explaining_traps::explain_traps;
-use ob_answer_files::files::Files;
 use crate::making::{
     answer_picture, answer_record, answer_seq, answer_serve, answer_steps, answer_tree_record,
 };
 use crate::product::{CallsProduct, Product};
-use ob_answer_files::reading::{CallsBytes, CallsFiles, RunBytes, RunFiles, read_calls, read_run};
+use ob_answer_explained::explaining::explain_calls;
+use ob_answer_explained::explaining_runs::explain_run;
+use ob_answer_explained::explaining_traps::explain_traps;
 use ob_answer_explained::showing::values_wrong;
 use ob_answer_explained::texts::{Calls, Run, bytes_or_none, calls_with, run_with};
 use ob_answer_explained::values::values_in;
+use ob_answer_files::answered::Answer;
+use ob_answer_files::files::Files;
+use ob_answer_files::reading::{CallsBytes, CallsFiles, RunBytes, RunFiles, read_calls, read_run};
 use ob_command::command::{CallsCommand, RunCommand};
 use ob_interface::NoMemory;
 use std::alloc::Global;

@@ -25,3 +25,8 @@ pub record IsRefused (answer : Answer) (number : ℕ) (text : Text) : Type 0 whe
 -- a file can't be read
 abbrev pub IsUnreadable : Answer → Text → Type 0
 IsUnreadable answer name = IsRefused answer 3 (codes "cannot read " ++ shown name ++ codes "\n")
+
+-- To the bytes of files: what is said of them, or the line of a fault by which they are refused.
+pub data IsTextAnswer {Fault : Type 0} (Says : Text → Type 0) (Refuses : Fault → Type 0) (line : Fault → Text) (answer : Answer) : Type 0 where
+  said : (text : Text) → Says text → IsPrinted answer text → IsTextAnswer Says Refuses line answer
+  refused : (e : Fault) → Refuses e → IsRefused answer 1 (line e ++ codes "\n") → IsTextAnswer Says Refuses line answer

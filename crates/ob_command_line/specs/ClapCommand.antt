@@ -64,6 +64,10 @@ module_app command = command_app command (name_rule (codes "MODULE") ∷ [])
 abbrev pub record_app : Text → App
 record_app command = command_app command (name_rule (codes "MODULE") ∷ name_rule (codes "RECORD") ∷ [])
 
+-- `MODULE HISTORY -b BUDGET --most K`, with which the words of `order` begin
+abbrev pub search_app : Text → App
+search_app command = command_app command (name_rule (codes "MODULE") ∷ name_rule (codes "HISTORY") ∷ budget_rule ∷ most_rule ∷ [])
+
 -- `MODULE HISTORY -b BUDGET --most K --record --by N`
 abbrev pub order_app : Text → App
 order_app command = command_app command (name_rule (codes "MODULE") ∷ name_rule (codes "HISTORY") ∷ budget_rule ∷ most_rule
@@ -93,6 +97,11 @@ drawn_app command =
 abbrev pub texts_app : Text → App
 texts_app command =
     command_app command (name_rule (codes "MODULE") ∷ new_rule (codes "SCRIPT") ∷ new_rule (codes "SCHEDULE") ∷ optional_number_rule ∷ budget_rule ∷ [])
+
+-- the same and `--from RECORD --record RECORD --history HISTORY`
+abbrev pub files_app : Text → App
+files_app command = command_app command (name_rule (codes "MODULE") ∷ new_rule (codes "SCRIPT") ∷ new_rule (codes "SCHEDULE")
+    ∷ optional_number_rule ∷ budget_rule ∷ from_rule ∷ record_rule ∷ history_rule ∷ [])
 
 -- `MODULE SCRIPT SCHEDULE -n N -b BUDGET --from RECORD --tree --steps`
 abbrev pub run_app : Text → App

@@ -80,8 +80,7 @@ pub fn command_line<'a>(alloc: Global) -> Result<clap::Command<'a>, AllocError>
     with_telling_commands(alloc, program)
 }
 
-// Each command below is made before the line that it goes into is touched, and handed on as it came: so want of memory finds the line in
-// one place alone, where it is let go.
+// A command is handed on as it was made, or not made: so want of memory lets the line go in `with_command` alone.
 
 /// The command line with the commands that make no calls of a script, or one at a time.
 fn with_module_commands<'a>(

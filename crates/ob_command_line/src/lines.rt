@@ -3,7 +3,8 @@
 ghost use Rattle.std.specs.Prelude.{◌≡◌, false, IfOk};
 ghost use Rattle.clap.specs.Words.{app_of};
 ghost use Rattle.clap.specs.declared.builder.command.Command.TheViews.{out-Command as fields_of};
-ghost use Rattle.ob_command_line.specs.ClapCommand.{bound_app, draw_app, drawn_app, explain_app, module_app, order_app, record_app, run_app, schedule_app, seq_app, serve_app, texts_app};
+ghost use Rattle.ob_command_line.specs.ClapCommand.{bound_app, draw_app, drawn_app, explain_app, files_app, module_app, order_app, record_app};
+ghost use Rattle.ob_command_line.specs.ClapCommand.{run_app, schedule_app, search_app, seq_app, serve_app, texts_app};
 
 use crate::arguments::{
     call_budget, drawn_calls, explained_history, explained_record, file_name, first_record, flag,
@@ -149,12 +150,24 @@ pub fn explain_line<'a>(
     ensures app { IfOk result (λ c. app_of c ≡ explain_app command.entry.now) }
     ensures local { IfOk result (λ c. (fields_of c).has_globals ≡ false) }
 {
-    texts_line(alloc, command, about)?
+    files_line(alloc, command, about)?
         .after_help(ITEMS)
+        .arg(flag(alloc, "traps", HELP_TRAPS))
+}
+
+/// The names behind a command that explains, and the options that name files.
+pub fn files_line<'a>(
+    alloc: Global,
+    command: &'a str,
+    about: &'a str,
+) -> Result<clap::Command<'a>, AllocError>
+    ensures app { IfOk result (λ c. app_of c ≡ files_app command.entry.now) }
+    ensures local { IfOk result (λ c. (fields_of c).has_globals ≡ false) }
+{
+    texts_line(alloc, command, about)?
         .arg(first_record(alloc))?
         .arg(explained_record(alloc))?
-        .arg(explained_history(alloc))?
-        .arg(flag(alloc, "traps", HELP_TRAPS))
+        .arg(explained_history(alloc))
 }
 
 /// The names behind a command that explains: of a module, of a script and of a schedule, where they are named.
@@ -199,7 +212,7 @@ pub fn record_line<'a>(
     module_line(alloc, command, about)?.arg(file_name(alloc, "RECORD", HELP_RECORD))
 }
 
-/// The words behind a command on a module and a history of calls, with a budget, that looks for an order.
+/// The words behind a command that looks for an order of a history, and says what is printed of it.
 pub fn order_line<'a>(
     alloc: Global,
     command: &'a str,
@@ -208,12 +221,24 @@ pub fn order_line<'a>(
     ensures app { IfOk result (λ c. app_of c ≡ order_app command.entry.now) }
     ensures local { IfOk result (λ c. (fields_of c).has_globals ≡ false) }
 {
+    search_line(alloc, command, about)?
+        .arg(flag(alloc, "record", HELP_AS_RECORD))?
+        .arg(parting_argument(alloc))
+}
+
+/// The words behind a command on a module and a history of calls, with a budget, for a search.
+pub fn search_line<'a>(
+    alloc: Global,
+    command: &'a str,
+    about: &'a str,
+) -> Result<clap::Command<'a>, AllocError>
+    ensures app { IfOk result (λ c. app_of c ≡ search_app command.entry.now) }
+    ensures local { IfOk result (λ c. (fields_of c).has_globals ≡ false) }
+{
     module_line(alloc, command, about)?
         .arg(file_name(alloc, "HISTORY", HELP_HISTORY))?
         .arg(seen_budget(alloc))?
-        .arg(most_configurations(alloc))?
-        .arg(flag(alloc, "record", HELP_AS_RECORD))?
-        .arg(parting_argument(alloc))
+        .arg(most_configurations(alloc))
 }
 
 /// The words behind a command on a module: the module's name.

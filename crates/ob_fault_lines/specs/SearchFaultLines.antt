@@ -1,7 +1,9 @@
--- The line that tells why no legal order of a history is printed.
+-- The line that tells why no legal order of a history is printed, and no record with one.
 use Rattle.std.specs.Prelude.{codes}
 use Rattle.ob_object_search.specs.declared.searching.SearchFault.{SearchFault}
 use Rattle.ob_object_search.specs.declared.searching.SearchFault.TheVariants as Faults
+use Rattle.ob_object_search_record.specs.declared.recording.RecordingFault.{RecordingFault}
+use Rattle.ob_object_search_record.specs.declared.recording.RecordingFault.TheVariants as Recordings
 use Rattle.ob_fault_lines.specs.ModuleFaultLines.{Text, no_memory_line, open_line, text_line}
 use Rattle.ob_fault_lines.specs.ScriptFaultLines.{at_line}
 use Rattle.ob_fault_lines.specs.VerifyFaultLines.{of_call}
@@ -13,3 +15,7 @@ search_fault_line (Faults.Open e) = open_line e
 search_fault_line (Faults.Illegal id) = of_call (codes "X1") id
 search_fault_line Faults.TooMany = codes "X2"
 search_fault_line Faults.NoMemory = no_memory_line
+
+abbrev pub recording_fault_line : RecordingFault → Text
+recording_fault_line (Recordings.Search e) = search_fault_line e
+recording_fault_line Recordings.Processes = codes "N1"

@@ -1,12 +1,13 @@
-//! The line of a fault of a search for a legal order.
+//! The lines of faults of a search for a legal order.
 
 ghost use Rattle.std.specs.Prelude.{◌≡◌, IfOk, string_bytes};
-ghost use Rattle.ob_fault_lines.specs.SearchFaultLines.{search_fault_line};
+ghost use Rattle.ob_fault_lines.specs.SearchFaultLines.{recording_fault_line, search_fault_line};
 
 use crate::module_faults::{push_open_fault, push_text_fault};
 use crate::script_faults::push_line_number;
 use crate::verify_faults::push_call;
 use ob_object_search::SearchFault;
+use ob_object_search_record::RecordingFault;
 use std::alloc::{AllocError, Global};
 
 /// The line that tells why no legal order of a history is printed, without a line feed.
@@ -23,4 +24,14 @@ pub fn search_fault_line(alloc: Global, fault: SearchFault) -> Result<String, Al
         SearchFault::NoMemory => line.push_str("NoMemory")?,
     }
     Ok(line)
+}
+
+/// The line that tells why no record of a history with a legal order is printed, without a line feed.
+pub fn recording_fault_line(alloc: Global, fault: RecordingFault) -> Result<String, AllocError>
+    ensures { IfOk result (λ line. string_bytes line ≡ recording_fault_line fault) }
+{
+    match fault {
+        RecordingFault::Search(fault) => search_fault_line(alloc, fault),
+        RecordingFault::Processes => String::from_str(alloc, "N1"),
+    }
 }

@@ -1,6 +1,5 @@
 use Rattle.std.proofs.Common.{string_bytes}
 use Rattle.std.proofs.lemmas.Result.{IfOk-weaker}
-use Rattle.ob_answer.specs.Answers.{said}
 use Rattle.ob_answer_explained.specs.CommandTexts.{texts_of_text}
 use Rattle.ob_answer.specs.Refusals.{IsNumberedDraw}
 use Rattle.ob_answer_explained.proofs.AtOnce.{holds_of_whole}
@@ -12,6 +11,7 @@ use Rattle.ob_object_perform.specs.Pictured.{IsDrawRefusal, IsPicturePrinted}
 use Rattle.ob_object_perform.specs.Texts.{texts_of}
 use Rattle.ob_object_perform.specs.declared.drawing.DrawFault.TheVariants as Draw
 use Rattle.ob_object_perform.specs.declared.performing.PerformFault.TheVariants as Perform
+use Rattle.ob_answer_files.specs.Printed.{said}
 use Rattle.ob_answer.proofs.making.answer_picture.Goals as goal
 
 pub returns-in-Ok : goal.returns-in-Ok

@@ -1,10 +1,10 @@
 use Rattle.std.proofs.Common.{◌≡◌, ◌∙◌, ap, string_bytes}
-use Rattle.ob_answer.specs.Answers.{said}
+use Rattle.ob_answer_files.specs.Printed.{said}
 use Rattle.ob_answer_explained.proofs.Beginnings.{of_whole}
-use Rattle.ob_answer.proofs.Made.{search_refused_made}
+use Rattle.ob_answer_orders.proofs.Refused.{search_refused_made}
 use Rattle.ob_object_search.specs.Searched.{IsLegalOrder}
 use Rattle.ob_text_record.specs.RecordText.{order_text}
-use Rattle.ob_answer.proofs.making.answer_order.Goals as goal
+use Rattle.ob_answer_orders.proofs.ordering.answer_line.Goals as goal
 
 pub returns-in_ok-order_line-in-Ok : goal.returns-in_ok-order_line-in-Ok
 returns-in_ok-order_line-in-Ok c whole is =
