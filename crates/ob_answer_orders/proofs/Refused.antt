@@ -1,16 +1,21 @@
 -- A history that is refused with the beginning of a module.
 use Rattle.std.proofs.Common.{◌≡◌, ◌≢◌, ◌<◌, ◌++◌, ℕ, List, Result, Ok, Err, Option, IfOk, inl, inr, ap, length, codes, subst, sym}
-use Rattle.ob_answer_orders.specs.Orders.{IsNumberedRecording, IsOrderAnswer, IsOrderRecordAnswer, RefusesHistory, RefusesRecording}
+use Rattle.ob_answer_orders.specs.Orders.{ArePartsAnswer, IsNumberedRecording, IsOrderAnswer, IsOrderRecordAnswer, RefusesHistory, RefusesParts, RefusesRecording}
 use Rattle.ob_answer_files.specs.Printed.{IsRefused, refused}
 use Rattle.ob_answer_files.specs.declared.answered.Answer.{Answer}
 use Rattle.ob_answer_explained.proofs.AtOnce.{no_module, too_long_scan}
 use Rattle.ob_answer_explained.proofs.Beginnings.{beginning, of_whole_or_long}
-use Rattle.ob_fault_lines.specs.SearchFaultLines.{recording_fault_line, search_fault_line}
+use Rattle.ob_fault_lines.specs.SearchFaultLines.{parts_fault_line, recording_fault_line, search_fault_line}
 use Rattle.ob_object_search.specs.Searched.{IsEnough, IsLegalOrder}
 use Rattle.ob_object_search.specs.SearchFaults as Searches
 use Rattle.ob_object_search.specs.SearchFaults.{IsSearchFault}
 use Rattle.ob_object_search.specs.declared.searching.SearchFault.{SearchFault}
 use Rattle.ob_object_search.specs.declared.searching.SearchFault.TheVariants as Search
+use Rattle.ob_object_search_parts.specs.Parted.{AreLegalOrders, PartOrder}
+use Rattle.ob_object_search_parts.specs.PartedFaults as Parted
+use Rattle.ob_object_search_parts.specs.PartedFaults.{IsPartsFault}
+use Rattle.ob_object_search_parts.specs.declared.fault.PartsFault.{PartsFault}
+use Rattle.ob_object_search_parts.specs.declared.fault.PartsFault.TheVariants as Parts
 use Rattle.ob_object_search_record.specs.RecordingFaults as Recording
 use Rattle.ob_object_search_record.specs.RecordingFaults.{IsRecordingFault, SaysNoOrder}
 use Rattle.ob_object_search_record.specs.declared.recording.RecordingFault.{RecordingFault}
@@ -70,3 +75,25 @@ record_refused_made part text budget most e (Ok a) told known stands apart lawfu
       numbered = numbered_recording e known apart;
     }) told
 record_refused_made part text budget most e (Err x) told known stands apart lawful decided too_long = tt
+
+-- ---- of parts
+
+numbered_parts : (e : PartsFault) → e ≢ Parts.NoMemory → Parted.TellsMemoryApart e → Parted.IsNumbered e
+numbered_parts e known apart = elim apart [ inl is ↦ absurd (known is) | inr h ↦ h ]
+
+pub parts_refused_made : {E : Type 0} (part text : List ℕ) (budget : Option ℕ) (by most : ℕ) (e : PartsFault) (result : Result Answer E)
+    → IfOk result (λ a. IsRefused a 1 (parts_fault_line e ++ codes "\n")) → IfOk result (λ _. e ≢ Parts.NoMemory)
+    → IsPartsFault part text budget by most e → Parted.TellsMemoryApart e
+    → (¬ Parted.IsUndecided e → (parts : List PartOrder) → ¬ AreLegalOrders part text budget by parts)
+    → (65536 < length part → e ≡ Parted.too_long)
+    → IfOk result (λ a. (whole : List ℕ) → part ≡ beginning whole → ArePartsAnswer by whole text budget most a)
+parts_refused_made part text budget by most e (Ok a) told known stands apart none too_long =
+    λ whole is.
+    refused e (record {
+      says = of_whole_or_long (λ t. IsPartsFault t text budget by most e) part whole is
+          (λ long longer. subst (λ (x : PartsFault). IsPartsFault whole text budget by most x) (sym (too_long long)) (too_long_scan whole longer)) stands;
+      none = of_whole_or_long (λ t. ¬ Parted.IsUndecided e → (parts : List PartOrder) → ¬ AreLegalOrders t text budget by parts) part whole is
+          (λ long longer known parts legal. no_module whole longer legal.program legal.is_module) none;
+      numbered = numbered_parts e known apart;
+    }) told
+parts_refused_made part text budget by most e (Err x) told known stands apart none too_long = tt

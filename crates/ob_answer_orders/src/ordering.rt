@@ -3,16 +3,17 @@
 ghost use Rattle.std.specs.Prelude.{◌≡◌, ◌≢◌, ◌++◌, IfOk, codes};
 ghost use Rattle.ob_answer_files.specs.Printed.{IsRefused};
 ghost use Rattle.ob_answer_files.specs.Reads.{OfWhole};
-ghost use Rattle.ob_answer_orders.specs.Orders.{IsOrderAnswer, IsOrderRecordAnswer, IsProductAnswer};
-ghost use Rattle.ob_fault_lines.specs.SearchFaultLines.{recording_fault_line, search_fault_line};
+ghost use Rattle.ob_answer_orders.specs.Orders.{ArePartsAnswer, IsOrderAnswer, IsOrderRecordAnswer, IsProductAnswer};
+ghost use Rattle.ob_fault_lines.specs.SearchFaultLines.{parts_fault_line, recording_fault_line, search_fault_line};
 ghost use Rattle.ob_object_search_record.specs.RecordingFaults.{no_memory};
 
-use crate::orders::order_line;
+use crate::orders::{order_line, part_lines};
 use ob_answer_files::answered::{Answer, refused};
 use ob_command::{OrderCommand, OrderProduct};
-use ob_fault_lines::search_faults::{recording_fault_line, search_fault_line};
+use ob_fault_lines::search_faults::{parts_fault_line, recording_fault_line, search_fault_line};
 use ob_interface::NoMemory;
 use ob_object_search::{Search, SearchFault, search_text};
+use ob_object_search_parts::{PartsFault, search_parts_text};
 use ob_object_search_record::{RecordingFault, record_of_text};
 use std::alloc::Global;
 use std::hash::RandomState;
@@ -71,6 +72,7 @@ fn answer_product(
     match product {
         OrderProduct::Line => answer_line(alloc, module, history, search),
         OrderProduct::WholeRecord => answer_record(alloc, module, history, search),
+        OrderProduct::Apart(by) => answer_parts(alloc, module, history, usize::from(by), search),
     }
 }
 
@@ -112,6 +114,33 @@ fn recording_refused(alloc: Global, fault: RecordingFault) -> Result<Answer, NoM
     match fault {
         RecordingFault::Search(SearchFault::NoMemory) => Err(NoMemory),
         fault => Ok(refused(alloc, recording_fault_line(alloc, fault)?)?),
+    }
+}
+
+/// The answer that has a line of an order for each value of an argument.
+fn answer_parts(
+    alloc: Global,
+    module: &[u8],
+    history: &[u8],
+    by: usize,
+    search: &Search,
+) -> Result<Answer, NoMemory>
+    ensures { IfOk result (OfWhole «module».now (λ whole. ArePartsAnswer by whole history.now search.now.budget search.now.most)) }
+{
+    match search_parts_text(alloc, module, history, by, search) {
+        Ok(parts) => Ok(Answer::printed(alloc, part_lines(alloc, parts.as_slice())?)),
+        Err(fault) => parts_refused(alloc, fault),
+    }
+}
+
+/// The answer to a fault of parts.
+fn parts_refused(alloc: Global, fault: PartsFault) -> Result<Answer, NoMemory>
+    ensures fault { IfOk result (λ a. IsRefused a 1 (parts_fault_line fault ++ codes "\n")) }
+    ensures memory { IfOk result (λ _. fault ≢ PartsFault.NoMemory) }
+{
+    match fault {
+        PartsFault::NoMemory => Err(NoMemory),
+        fault => Ok(refused(alloc, parts_fault_line(alloc, fault)?)?),
     }
 }
 

@@ -1,8 +1,11 @@
 //! Orders of calls as they are printed.
 
 ghost use Rattle.std.specs.Prelude.{◌≡◌, ◌++◌, IfOk, OnOk, string_bytes};
+ghost use Rattle.ob_answer_orders.specs.Orders.{parts_text};
+ghost use Rattle.ob_object_search_parts.specs.View.{orders_in};
 ghost use Rattle.ob_text_record.specs.RecordText.{ids_text, order_text};
 
+use ob_object_search_parts::Part;
 use ob_text_record::push_id;
 use std::alloc::{AllocError, Global};
 use wf_history::CallId;
@@ -11,10 +14,29 @@ use wf_history::CallId;
 pub(crate) fn order_line(alloc: Global, order: &[CallId]) -> Result<String, AllocError>
     ensures { IfOk result (λ line. string_bytes line ≡ order_text order.now) }
 {
-    let mut line = String::from_str(alloc, "O")?;
-    push_ids(&mut line, order)?;
-    line.push_str("\n")?;
+    let mut line = String::new(alloc);
+    push_order(&mut line, order)?;
     Ok(line)
+}
+
+/// The lines of the orders of parts.
+pub(crate) fn part_lines(alloc: Global, parts: &[Part]) -> Result<String, AllocError>
+    ensures { IfOk result (λ lines. string_bytes lines ≡ parts_text (orders_in parts.now)) }
+{
+    let mut lines = String::new(alloc);
+    for part in parts {
+        push_order(&mut lines, part.order.as_slice())?;
+    }
+    Ok(lines)
+}
+
+/// Appends the line of an order.
+fn push_order(lines: &mut String, order: &[CallId]) -> Result<(), AllocError>
+    ensures { OnOk result (string_bytes lines.new ≡ string_bytes lines.old ++ order_text order.now) }
+{
+    lines.push_str("O")?;
+    push_ids(lines, order)?;
+    lines.push_str("\n")
 }
 
 /// Appends the ids of calls, each with a space before it.

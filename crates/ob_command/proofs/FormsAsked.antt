@@ -257,8 +257,22 @@ module _ (m h : Text) (chosen : List Chosen) where
   order_when t product seen is =
       ap₂ (λ (t : Bool) (product : Option OrderProduct). unwrap_or (if t then option_and_then (order_by m given) product else None) Unclear) seen is
 
+  -- the tests of the numbers
+  abbrev budget_is : Bool
+  budget_is = option_map_or is_seen_budget (budget_in chosen) true
+
+  abbrev most_is : Bool
+  most_is = option_map_or is_most (most_in chosen) true
+
+  abbrev place_is : Bool
+  place_is = option_map_or is_place (argument_in chosen) true
+
   in_range : AreInRange chosen → are_seen given ≡ true
-  in_range range = all_three _ _ _ range.0 range.1 range.2
+  in_range range = all_three budget_is most_is place_is range.0 range.1 range.2
+
+  -- nothing is asked for where one of them fails
+  out_of_range : are_seen given ≡ false → asks (codes "order") m given ≡ Unclear
+  out_of_range out = order_when false (product_by (recorded chosen) (parted chosen)) out refl
 
 pub order_line : ScriptAsksFor (codes "order") order_options (λ chosen. AreInRange chosen × Lacks (codes "record" ∷ codes "BY" ∷ []) chosen)
     (λ m h chosen. Order (order_with m h chosen Line))
@@ -280,32 +294,38 @@ order_parts place m h chosen no_m no_h plain holds =
 
 pub order_most_said : ScriptSays (codes "order") order_options (λ chosen. IsMost chosen → ⊥) most_mistake
 order_most_said m h chosen no_m no_h plain holds =
-    let out = is_false (option_map_or is_most (most_in chosen) true) holds in (
-      order_asks m h chosen no_m no_h plain ∙ order_when m h chosen false _ (second_out _ _ _ out) refl,
-      order_said m h chosen no_m no_h plain ∙ ap (λ (t : Bool). Some (mistake_by t _ _)) out,
+    let out = is_false (most_is m h chosen) holds in (
+      order_asks m h chosen no_m no_h plain
+          ∙ out_of_range m h chosen (second_out (budget_is m h chosen) (most_is m h chosen) (place_is m h chosen) out),
+      order_said m h chosen no_m no_h plain ∙ ap (λ (t : Bool). Some (mistake_by t (budget_is m h chosen) (place_is m h chosen))) out,
     )
 
 pub order_budget_said : ScriptSays (codes "order") order_options (λ chosen. IsMost chosen × (IsSeenBudget chosen → ⊥)) seen_budget_mistake
 order_budget_said m h chosen no_m no_h plain holds =
-    let out = is_false (option_map_or is_seen_budget (budget_in chosen) true) holds.1 in (
-      order_asks m h chosen no_m no_h plain ∙ order_when m h chosen false _ (first_out _ _ _ out) refl,
-      order_said m h chosen no_m no_h plain ∙ ap₂ (λ (t u : Bool). Some (mistake_by t u _)) holds.0 out,
+    let out = is_false (budget_is m h chosen) holds.1 in (
+      order_asks m h chosen no_m no_h plain
+          ∙ out_of_range m h chosen (first_out (budget_is m h chosen) (most_is m h chosen) (place_is m h chosen) out),
+      order_said m h chosen no_m no_h plain ∙ ap₂ (λ (t u : Bool). Some (mistake_by t u (place_is m h chosen))) holds.0 out,
     )
 
 pub order_place_said : ScriptSays (codes "order") order_options (λ chosen. IsMost chosen × IsSeenBudget chosen × (IsPlace chosen → ⊥)) place_mistake
 order_place_said m h chosen no_m no_h plain holds =
-    let out = is_false (option_map_or is_place (argument_in chosen) true) holds.2 in (
-      order_asks m h chosen no_m no_h plain ∙ order_when m h chosen false _ (third_out _ _ _ out) refl,
-      order_said m h chosen no_m no_h plain ∙ ap₂ (λ (t u : Bool). Some (mistake_by t u _)) holds.0 holds.1
-          ∙ ap (λ (t : Bool). Some (mistake_by true true t)) out,
+    let out = is_false (place_is m h chosen) holds.2 in (
+      order_asks m h chosen no_m no_h plain
+          ∙ out_of_range m h chosen (third_out (budget_is m h chosen) (most_is m h chosen) (place_is m h chosen) out),
+      order_said m h chosen no_m no_h plain
+          ∙ (ap₂ (λ (t u : Bool). Some (mistake_by t u (place_is m h chosen))) holds.0 holds.1
+          ∙ ap (λ (t : Bool). Some (mistake_by true true t)) out),
     )
 
 pub order_parts_said : ScriptSays (codes "order") order_options (λ chosen. AreInRange chosen × Has (codes "record") chosen × Has (codes "BY") chosen) parts_mistake
 order_parts_said m h chosen no_m no_h plain holds = (
   order_asks m h chosen no_m no_h plain
-      ∙ order_when m h chosen true None (in_range m h chosen holds.0) (no_parts _ _ holds.1 (plain_number order_options chosen plain holds.2)),
-  order_said m h chosen no_m no_h plain ∙ ap₂ (λ (t u : Bool). Some (mistake_by t u _)) holds.0.1 holds.0.0
-      ∙ ap (λ (t : Bool). Some (mistake_by true true t)) holds.0.2,
+      ∙ order_when m h chosen true None (in_range m h chosen holds.0)
+      (no_parts (recorded chosen) (parted chosen) holds.1 (plain_number order_options chosen plain holds.2)),
+  order_said m h chosen no_m no_h plain
+      ∙ (ap₂ (λ (t u : Bool). Some (mistake_by t u (place_is m h chosen))) holds.0.1 holds.0.0
+      ∙ ap (λ (t : Bool). Some (mistake_by true true t)) holds.0.2),
 )
 
 pub explain_form : ModuleAsksFor (codes "explain") explain_options (Lacks (codes "RECORD" ∷ codes "HISTORY" ∷ codes "FROM" ∷ codes "N" ∷ codes "traps" ∷ []))

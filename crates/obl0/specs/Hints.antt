@@ -140,17 +140,28 @@ first_place count =
     if bytes_eq count (codes "0") then codes "no call begins, so there is none for --calls to name\n"
     else codes "behind --calls stands FROM-TO, and FROM is 1 to " ++ count ++ codes " here\n"
 
--- What is told of any other, whichever the command is: what a number of the command line may be, how many calls a picture has, or what a
--- search found; nothing of a desk's faults.
+-- What is told of any other of `order`: what a search found, which argument parts are made by, or which processes a record has.
+abbrev pub of_order : (line : Text) → Option Text
+of_order line =
+    if begins (codes "N1") line then Some (codes "a record has processes 0 to 15; without --record there may be others\n")
+    else if begins (codes "X1") line then Some (codes "up to the end of this call no order of the calls gives these replies\n")
+    else if begins (codes "X2") line then Some (codes "--most says how many configurations are looked at\n")
+    else if begins (codes "X4") line then Some (codes "behind --by stands an argument that each call of the history has\n")
+    else None
+
+-- And of every other command: what a number of the command line may be, or how many calls a picture has; nothing of a desk's faults.
 abbrev pub beside_texts : (line : Text) → Option Text
 beside_texts line =
     if begins (codes "N1") line then Some (codes "behind -n stands how many processes there are, 1 to 16\n")
     else if begins (codes "N3") line then Some (codes "behind -b stands how many turns each call has, 0 to 1000000\n")
     else if begins (codes "I2") line then Some (codes "a picture shows at most 400 calls; --calls FROM-TO says which ones\n")
-    else if begins (codes "X1") line then Some (codes "up to the end of this call no order of the calls gives these replies\n")
-    else if begins (codes "X2") line then Some (codes "--most says how many configurations are looked at\n")
     else if begins (codes "V") line || begins (codes "K") line then Some []
     else None
+
+-- the same of a command
+abbrev pub beside : Request → (line : Text) → Option Text
+beside (Order order) line = of_order line
+beside request line = beside_texts line
 
 -- the same, or else the form of `explain`
 abbrev pub told_by : Option Text → Request → (line : Text) → Text
@@ -159,7 +170,7 @@ told_by None request line = form_about request line
 
 -- of every fault
 abbrev pub told_of : Request → (line : Text) → Text
-told_of request line = if begins (codes "I1") line then first_place (third_word line) else told_by (beside_texts line) request line
+told_of request line = if begins (codes "I1") line then first_place (third_word line) else told_by (beside request line) request line
 
 -- a command shows its faults to people itself
 abbrev pub is_explain : Request → Bool

@@ -2,8 +2,8 @@
 
 ghost use Rattle.std.specs.Prelude.{◌≡◌, ◌++◌, IfOk, OnOk, option_map, string_bytes};
 ghost use Rattle.std.specs.List.{after_first, before_first, list_all};
-ghost use Rattle.obl0.specs.Hints.{asks_of_fault, beside_texts, budget_words, from_words, calls_form, cause, count_words, drawn_form, first_place, form_about};
-ghost use Rattle.obl0.specs.Hints.{is_blank, is_explain, is_fault, is_fault_name, is_of_record, is_of_text, is_plain, is_plain_byte, module_form};
+ghost use Rattle.obl0.specs.Hints.{asks_of_fault, beside, beside_texts, budget_words, from_words, calls_form, cause, count_words, drawn_form, first_place, form_about};
+ghost use Rattle.obl0.specs.Hints.{of_order, is_blank, is_explain, is_fault, is_fault_name, is_of_record, is_of_text, is_plain, is_plain_byte, module_form};
 ghost use Rattle.obl0.specs.Hints.{module_words, more_about, more_about_unread, more_of, name_word, named, option_words, record_form, run_form, run_words};
 ghost use Rattle.obl0.specs.Hints.{script_words, served, text_form, third_word, told_of, tree_form};
 ghost use Rattle.ob_command.specs.Commands.{calls_request_of, request_of, run_request_of};
@@ -67,9 +67,36 @@ fn told_of(alloc: Global, command: Command<'_>, line: &str) -> Result<String, Al
     if bytes.starts_with(b"I1") {
         return first_place(alloc, third_word(line));
     }
-    match beside_texts(bytes) {
+    match beside(command, bytes) {
         Some(text) => String::from_str(alloc, text),
         None => form_about(alloc, command, bytes),
+    }
+}
+
+/// What is told of a fault of a command that is one of no text.
+fn beside(command: Command<'_>, line: &[u8]) -> Option<&'static str>
+    ensures { option_map (λ text. text.now) result ≡ beside (request_of command.entry) line.now }
+{
+    match command {
+        Command::Order(_) => of_order(line),
+        _ => beside_texts(line),
+    }
+}
+
+/// What is told so of a fault of `order`.
+fn of_order(line: &[u8]) -> Option<&'static str>
+    ensures { option_map (λ text. text.now) result ≡ of_order line.now }
+{
+    if line.starts_with(b"N1") {
+        Some("a record has processes 0 to 15; without --record there may be others\n")
+    } else if line.starts_with(b"X1") {
+        Some("up to the end of this call no order of the calls gives these replies\n")
+    } else if line.starts_with(b"X2") {
+        Some("--most says how many configurations are looked at\n")
+    } else if line.starts_with(b"X4") {
+        Some("behind --by stands an argument that each call of the history has\n")
+    } else {
+        None
     }
 }
 
@@ -131,7 +158,7 @@ fn first_place(alloc: Global, count: &str) -> Result<String, AllocError>
     Ok(text)
 }
 
-/// What is told of any other fault of no text, whichever the command is.
+/// What is told so of a fault of any other command.
 fn beside_texts(line: &[u8]) -> Option<&'static str>
     ensures { option_map (λ text. text.now) result ≡ beside_texts line.now }
 {
@@ -141,10 +168,6 @@ fn beside_texts(line: &[u8]) -> Option<&'static str>
         Some("behind -b stands how many turns each call has, 0 to 1000000\n")
     } else if line.starts_with(b"I2") {
         Some("a picture shows at most 400 calls; --calls FROM-TO says which ones\n")
-    } else if line.starts_with(b"X1") {
-        Some("up to the end of this call no order of the calls gives these replies\n")
-    } else if line.starts_with(b"X2") {
-        Some("--most says how many configurations are looked at\n")
     } else if line.starts_with(b"V") || line.starts_with(b"K") {
         Some("")
     } else {
