@@ -6,7 +6,7 @@ use Rattle.ob_answer_files.specs.Printed.{IsPrinted, IsRefused}
 use Rattle.ob_answer_files.specs.declared.answered.Answer.{Answer}
 use Rattle.ob_answer_files.specs.declared.files.FileFault.{FileFault}
 use Rattle.ob_command.specs.CommandLine.{Help, Request, Text, Unclear, Version, extra_of_help, request}
-use Rattle.ob_command.specs.Commands.{IsMistakeBeside, IsMistakeOf, IsMistakeTextOf, IsTextBeside, request_of}
+use Rattle.ob_command.specs.Commands.{IsMistakeBeside, IsMistakeOf, IsTextBeside, request_of}
 use Rattle.ob_command.specs.declared.command.Command.{Command}
 use Rattle.ob_command.specs.declared.command.Command.TheVariants as commands
 use Rattle.ob_command.specs.declared.command.Stop.TheVariants as stops

@@ -10,7 +10,7 @@ use Rattle.ob_object_perform.specs.Texts.{Texts}
 use Rattle.ob_object_perform.specs.declared.drawing.DrawFault.TheVariants as Draw
 use Rattle.ob_object_perform.specs.declared.performing.PerformFault.TheVariants as Perform
 use Rattle.ob_text_picture_chart.specs.declared.charts.CallRange.{CallRange}
-use Rattle.ob_answer_explained.proofs.AtOnce.{IsAtOnce, no_module, run_refused}
+use Rattle.ob_answer_explained.proofs.AtOnce.{IsAtOnce, run_refused}
 
 pub picture_refused : (t : Texts) (calls : Option CallRange) (c : CompileFault) → 65536 < length t.asked.text → IsAtOnce t.asked c
     → IsDrawRefusal t calls (Draw.Run (Perform.Compile c))

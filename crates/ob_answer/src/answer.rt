@@ -4,7 +4,7 @@ ghost use Rattle.std.specs.Prelude.{◌≡◌, IfOk, count_by, map, nat_lt};
 ghost use Rattle.std.specs.Str.{bytes_eq};
 ghost use Rattle.ob_answer.specs.Answers.{IsAnswer, IsAnswerTo, IsObeyed, files_of, input_name, range_of, reads_input_twice};
 ghost use Rattle.ob_answer_files.specs.Reads.{files_of_calls, files_of_run};
-ghost use Rattle.ob_command.specs.CommandLine.{Bound, Check, DrawRecord, Listing, Order, Verify, request};
+ghost use Rattle.ob_command.specs.CommandLine.{Bound, Check, DrawRecord, Listing, Order, Verify};
 ghost use Rattle.ob_command.specs.Commands.{calls_request_of, order_request_of, request_of, run_request_of};
 
 use crate::explaining::{obey_explain_module, obey_explain_record};

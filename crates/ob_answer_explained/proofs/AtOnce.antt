@@ -94,7 +94,7 @@ refused_of_whole compiling a R e whole is tells longer_is h =
 
 -- ---- what is said with such a fault
 
-pub at_once_says : (Allowed : Program → Type 0) (a : Asked) (c : CompileFault) → IsAtOnce a c → IsObjectFault Allowed a c
+at_once_says : (Allowed : Program → Type 0) (a : Asked) (c : CompileFault) → IsAtOnce a c → IsObjectFault Allowed a c
 at_once_says Allowed a c (of_processes h) = h
 at_once_says Allowed a c (of_budget h) = h
 at_once_says Allowed a c (of_text_itself h) = too_long_scan a.text h
@@ -104,7 +104,7 @@ at_once_numbered a c (of_processes h) = (refl, tt)
 at_once_numbered a c (of_budget h) = (refl, tt)
 at_once_numbered a c (of_text_itself h) = (refl, (refl, λ is. let bad = is in cc))
 
-pub run_numbered : (a : Asked) (c : CompileFault) → IsAtOnce a c → Performs.TellsMemoryApart (Perform.Compile c)
+run_numbered : (a : Asked) (c : CompileFault) → IsAtOnce a c → Performs.TellsMemoryApart (Perform.Compile c)
 run_numbered a c (of_processes h) = (tt, λ is. let bad = is in cc)
 run_numbered a c (of_budget h) = (tt, λ is. let bad = is in cc)
 run_numbered a c (of_text_itself h) = ((refl, λ is. let bad = is in cc), λ is. let bad = is in cc)

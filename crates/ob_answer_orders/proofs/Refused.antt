@@ -1,11 +1,13 @@
 -- A history that is refused with the beginning of a module.
 use Rattle.std.proofs.Common.{◌≡◌, ◌≢◌, ◌<◌, ◌++◌, ℕ, List, Result, Ok, Err, Option, IfOk, inl, inr, ap, length, codes, subst, sym}
-use Rattle.ob_answer_orders.specs.Orders.{ArePartsAnswer, IsNumberedRecording, IsOrderAnswer, IsOrderRecordAnswer, RefusesHistory, RefusesParts, RefusesRecording}
+use Rattle.ob_answer_orders.specs.Orders.{ArePartsAnswer, IsNumberedRecording, IsOrderAnswer, IsOrderRecordAnswer, RefusesHistory}
 use Rattle.ob_answer_files.specs.Printed.{IsRefused, refused}
 use Rattle.ob_answer_files.specs.declared.answered.Answer.{Answer}
 use Rattle.ob_answer_explained.proofs.AtOnce.{no_module, too_long_scan}
 use Rattle.ob_answer_explained.proofs.Beginnings.{beginning, of_whole_or_long}
-use Rattle.ob_fault_lines.specs.SearchFaultLines.{parts_fault_line, recording_fault_line, search_fault_line}
+use Rattle.ob_fault_lines.specs.SearchFaultLines.{search_fault_line}
+use Rattle.ob_order_lines.specs.PartsFaultLines.{parts_fault_line}
+use Rattle.ob_order_lines.specs.RecordingFaultLines.{recording_fault_line}
 use Rattle.ob_object_search.specs.Searched.{IsEnough, IsLegalOrder}
 use Rattle.ob_object_search.specs.SearchFaults as Searches
 use Rattle.ob_object_search.specs.SearchFaults.{IsSearchFault}

@@ -16,7 +16,9 @@ use Rattle.ob_object_search_record.specs.declared.recording.RecordingFault.{Reco
 use Rattle.ob_object_search_record.specs.declared.recording.RecordingFault.TheVariants as Recordings
 use Rattle.wf_history.specs.declared.event.CallId.{CallId}
 use Rattle.ob_answer_files.specs.declared.answered.Answer.{Answer}
-use Rattle.ob_fault_lines.specs.SearchFaultLines.{parts_fault_line, recording_fault_line, search_fault_line}
+use Rattle.ob_fault_lines.specs.SearchFaultLines.{search_fault_line}
+use Rattle.ob_order_lines.specs.PartsFaultLines.{parts_fault_line}
+use Rattle.ob_order_lines.specs.RecordingFaultLines.{recording_fault_line}
 use Rattle.ob_command.specs.CommandLine.{Text}
 use Rattle.ob_text_record.specs.RecordText.{order_text}
 use Rattle.ob_answer_files.specs.Printed.{IsTextAnswer}

@@ -4,17 +4,21 @@ ghost use Rattle.std.specs.Prelude.{◌≡◌, ◌≢◌, ◌++◌, IfOk, codes}
 ghost use Rattle.ob_answer_files.specs.Printed.{IsRefused};
 ghost use Rattle.ob_answer_files.specs.Reads.{OfWhole};
 ghost use Rattle.ob_answer_orders.specs.Orders.{ArePartsAnswer, IsOrderAnswer, IsOrderRecordAnswer, IsProductAnswer};
-ghost use Rattle.ob_fault_lines.specs.SearchFaultLines.{parts_fault_line, recording_fault_line, search_fault_line};
+ghost use Rattle.ob_fault_lines.specs.SearchFaultLines.{search_fault_line};
 ghost use Rattle.ob_object_search_record.specs.RecordingFaults.{no_memory};
+ghost use Rattle.ob_order_lines.specs.PartsFaultLines.{parts_fault_line};
+ghost use Rattle.ob_order_lines.specs.RecordingFaultLines.{recording_fault_line};
 
 use crate::orders::{order_line, part_lines};
 use ob_answer_files::answered::{Answer, refused};
 use ob_command::{OrderCommand, OrderProduct};
-use ob_fault_lines::search_faults::{parts_fault_line, recording_fault_line, search_fault_line};
+use ob_fault_lines::search_faults::search_fault_line;
 use ob_interface::NoMemory;
 use ob_object_search::{Search, SearchFault, search_text};
 use ob_object_search_parts::{PartsFault, search_parts_text};
 use ob_object_search_record::{RecordingFault, record_of_text};
+use ob_order_lines::parts_faults::parts_fault_line;
+use ob_order_lines::recording_faults::recording_fault_line;
 use std::alloc::Global;
 use std::hash::RandomState;
 use std::random::RandomSource;
