@@ -1,8 +1,7 @@
 //! Orders of calls as they are printed.
 
 ghost use Rattle.std.specs.Prelude.{◌≡◌, ◌++◌, IfOk, OnOk, string_bytes};
-ghost use Rattle.ob_answer_orders.specs.Orders.{parts_text};
-ghost use Rattle.ob_object_search_parts.specs.View.{orders_in};
+ghost use Rattle.std.specs.List.{flat_map};
 ghost use Rattle.ob_text_record.specs.RecordText.{ids_text, order_text};
 
 use ob_object_search_parts::Part;
@@ -21,7 +20,7 @@ pub(crate) fn order_line(alloc: Global, order: &[CallId]) -> Result<String, Allo
 
 /// The lines of the orders of parts.
 pub(crate) fn part_lines(alloc: Global, parts: &[Part]) -> Result<String, AllocError>
-    ensures { IfOk result (λ lines. string_bytes lines ≡ parts_text (orders_in parts.now)) }
+    ensures { IfOk result (λ lines. string_bytes lines ≡ flat_map (λ part. order_text part.order.items) parts.now) }
 {
     let mut lines = String::new(alloc);
     for part in parts {
