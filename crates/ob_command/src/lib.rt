@@ -7,7 +7,6 @@ pub mod command;
 mod forms;
 mod given;
 mod help;
-pub mod laws;
 mod mistakes;
 
 pub use command::{
