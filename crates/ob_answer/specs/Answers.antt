@@ -36,6 +36,7 @@ use Rattle.ob_answer.specs.declared.product.Product.TheVariants as Products
 use Rattle.ob_answer_explained.specs.Beginnings.{WithBeginning}
 use Rattle.ob_answer_explained.specs.CommandTexts.{CallsTexts, RunTexts, calls_texts, first_or_none, record_file, run_texts_by}
 use Rattle.ob_answer_explained.specs.Explains.{AreTrapsExplained, IsCallsExplained, IsModuleExplained, IsRecordExplained, IsRunExplained, IsValuesFaultTold}
+use Rattle.ob_answer_orders.specs.ExplainedOrders.{IsHistoryExplained}
 use Rattle.ob_answer_orders.specs.Orders.{IsProductAnswer}
 use Rattle.ob_answer_files.specs.Printed.{IsPrinted, IsPrintedBeside, IsRefused, IsTextAnswer}
 use Rattle.ob_answer_files.specs.Reads.{IsOutcome, files_of_calls, files_of_run, record_in_calls, record_in_run}
@@ -219,6 +220,8 @@ IsMade (ExplainTraps calls) bytes answer = IsCallsMade CallsProducts.Traps calls
 IsMade (ExplainRun run) bytes answer = IsRunMade Products.Explanation run bytes answer
 IsMade (ExplainRecord module_name record_name) (module_bytes ∷ record_bytes ∷ []) answer =
     IsRecordExplained module_name module_bytes record_name record_bytes answer
+IsMade (ExplainHistory module_name history_name) (module_bytes ∷ history_bytes ∷ []) answer =
+    IsHistoryExplained module_name module_bytes history_name history_bytes answer
 IsMade (Bound module_name processes budget) (module_bytes ∷ []) answer = IsBoundAnswer module_bytes processes budget answer
 IsMade Help [] answer = (text : Text) × IsPrinted answer text
 IsMade Version [] answer = IsPrinted answer version_text

@@ -7,7 +7,7 @@ ghost use Rattle.ob_answer_files.specs.Reads.{files_of_calls, files_of_run};
 ghost use Rattle.ob_command.specs.CommandLine.{Bound, Check, DrawRecord, Listing, Order, Verify};
 ghost use Rattle.ob_command.specs.Commands.{calls_request_of, order_request_of, request_of, run_request_of};
 
-use crate::explaining::{obey_explain_module, obey_explain_record};
+use crate::explaining::{obey_explain_history, obey_explain_module, obey_explain_record};
 use crate::making::{answer_bound, answer_check, answer_draw_record, answer_list, answer_verify};
 use crate::obeying::{obey_calls, obey_run};
 use crate::product::{CallsProduct, Product};
@@ -183,6 +183,10 @@ fn obey<R: Threads + Wait + Sync + RandomSource, F: Files>(
             module_name,
             record_name,
         } => obey_explain_record(alloc, module_name, record_name, files),
+        Command::ExplainHistory {
+            module_name,
+            history_name,
+        } => obey_explain_history(rt, alloc, module_name, history_name, files),
         Command::Bound {
             module_name,
             processes,

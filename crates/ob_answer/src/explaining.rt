@@ -1,16 +1,18 @@
-//! The answers to `explain`, of the names of a module and of a record.
+//! The answers to `explain`, of the names of a module, and of a record or of a history.
 
 ghost use Rattle.std.specs.Prelude.{ℕ, IfOk};
 ghost use Rattle.ob_answer.specs.Answers.{IsObeyed};
-ghost use Rattle.ob_command.specs.CommandLine.{Explain, ExplainRecord};
+ghost use Rattle.ob_command.specs.CommandLine.{Explain, ExplainHistory, ExplainRecord};
 
 use ob_answer_explained::explaining::explain_module;
 use ob_answer_explained::explaining_runs::explain_record;
 use ob_answer_files::answered::Answer;
 use ob_answer_files::files::{FileFault, Files};
 use ob_answer_files::reading::{MODULE_BYTES, TwoFiles, read_two, unreadable};
+use ob_answer_orders::explaining::{HistoryFiles, explain_history};
 use ob_interface::NoMemory;
 use std::alloc::Global;
+use std::random::RandomSource;
 
 /// The answer to `explain`, of the name of a module, of which no call is made.
 pub(crate) fn obey_explain_module<F: Files>(
@@ -44,6 +46,30 @@ pub(crate) fn obey_explain_record<F: Files>(
             record_name,
             second.as_slice(),
         ),
+        TwoFiles::Unread(answer) => Ok(answer),
+    }
+}
+
+/// The answer to `explain` on a history, of the names of its files.
+pub(crate) fn obey_explain_history<R: RandomSource, F: Files>(
+    rt: &R,
+    alloc: Global,
+    module_name: &str,
+    history_name: &str,
+    files: &mut F,
+) -> Result<Answer, NoMemory>
+    ensures { IfOk result (λ a. IsObeyed F.reads (ExplainHistory module_name.now history_name.now) files.old a files.new) }
+{
+    match read_two(alloc, module_name, history_name, files)? {
+        TwoFiles::Read { module, second } => {
+            let read = HistoryFiles {
+                module_name,
+                text: module.as_slice(),
+                history_name,
+                history: second.as_slice(),
+            };
+            explain_history(rt, alloc, read)
+        }
         TwoFiles::Unread(answer) => Ok(answer),
     }
 }

@@ -19,7 +19,7 @@ use ob_text_values_reading::ValuesFault;
 use std::alloc::{AllocError, Global};
 
 /// A file's name as it is shown.
-pub(crate) fn shown_name(alloc: Global, name: &str) -> Result<String, AllocError>
+pub fn shown_name(alloc: Global, name: &str) -> Result<String, AllocError>
     ensures { IfOk result (λ text. string_bytes text ≡ shown name.now) }
 {
     let mut text = String::new(alloc);
@@ -28,7 +28,7 @@ pub(crate) fn shown_name(alloc: Global, name: &str) -> Result<String, AllocError
 }
 
 /// The answer of what is shown of a fault, or else of its line.
-pub(crate) fn shown_or(
+pub fn shown_or(
     alloc: Global,
     told: Option<String>,
     line: String,

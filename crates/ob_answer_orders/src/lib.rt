@@ -1,5 +1,6 @@
-//! The answers of `order`: the legal order of a history, or why there is none.
+//! The answers of `order` and of `explain --history`: the legal order of a history, or why there is none.
 #![tactic(auto)]
 
+pub mod explaining;
 mod orders;
 pub mod ordering;

@@ -3,7 +3,7 @@
 ghost use Rattle.std.specs.Prelude.{◌≡◌, option_map};
 ghost use Rattle.clap.specs.Words.{found_of, rows_of};
 ghost use Rattle.ob_command.specs.Commands.{given_by};
-ghost use Rattle.ob_command.specs.CommandLine.{draw_mistake_of, form_mistake, form_mistake_by, is_turned, order_mistake_of};
+ghost use Rattle.ob_command.specs.CommandLine.{draw_mistake_of, explain_mistake, form_mistake, form_mistake_by, is_turned, order_mistake_of};
 ghost use Rattle.ob_command.specs.CommandLine.{range_mistake, run_mistake_of};
 
 use crate::asked::{is_most, is_place, is_seen_budget};
@@ -101,11 +101,18 @@ fn form_mistake_by(name: &str, given: &GivenWords<'_>) -> Option<&'static str>
 {
     match name {
         "draw" => Some(draw_mistake_of(given.range)),
-        "explain" => Some(UNCLEAR_EXPLAIN),
+        "explain" => Some(explain_mistake()),
         "run" => Some(run_mistake_of(given.steps)),
         "order" => Some(order_mistake_of(given)),
         _ => None,
     }
+}
+
+/// What is said of words that have none of the forms of `explain`.
+fn explain_mistake() -> &'static str
+    ensures { result.now ≡ explain_mistake }
+{
+    UNCLEAR_EXPLAIN
 }
 
 /// What is said of words that have none of the forms of `run`.
