@@ -110,7 +110,7 @@ module _ (m s d : Text) (r h f c : Option Text) (o t q g : Option ℕ) (w x y z 
   calls_explained is_r is_h is_o is_z = rw (is_r, is_h, is_o, is_z) refl
 
   traps_explained : z ≡ true → r ≡ None → h ≡ None → o ≡ None → asks (codes "explain") m with_script ≡ ExplainTraps (calls_as m s 16 t f)
-  traps_explained is_z is_r is_o = rw (is_r, is_o, is_z) refl
+  traps_explained is_z is_r is_h is_o = rw (is_r, is_h, is_o, is_z) refl
 
   run_explained : (k : ℕ) → o ≡ Some k → r ≡ None → h ≡ None → z ≡ false → asks (codes "explain") m with_schedule ≡ ExplainRun (run_as m s d k t f)
   run_explained k is_o is_r is_h is_z = rw (is_r, is_h, is_o, is_z) refl
