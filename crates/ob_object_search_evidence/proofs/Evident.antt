@@ -14,7 +14,7 @@ use Rattle.ob_object_order.specs.LegalOrder.{CallEnds}
 use Rattle.ob_object_search.proofs.Fitting.{calls_fit, front_fits, history_opened}
 use Rattle.ob_object_search.specs.Searched.{budget_of}
 use Rattle.ob_object_search_evidence.specs.Evidence.{HasEvidence, IsEvidence, IsNoEnd, NeverEnds, Shows}
-use Rattle.ob_object_search_evidence.specs.declared.evidence.Evidence.{Evidence}
+use Rattle.ob_object_search_evidence.specs.declared.showing.Evidence.{Evidence}
 use Rattle.ob_object_verify.proofs.Beginnings.{beginning_named}
 use Rattle.ob_object_verify.proofs.Openings.{module_resolved}
 use Rattle.ob_object_verify.proofs.Simulated.{legal_there}

@@ -12,7 +12,7 @@ use Rattle.ob_object_search.proofs.Renamed.{has_named}
 use Rattle.ob_object_search.specs.Found.{HasOrderHere}
 use Rattle.ob_object_search_evidence.proofs.Fronts.{below_front, named_front}
 use Rattle.ob_object_search_evidence.specs.Evidence.{CouldEnd, EndsNowhere, HasEvidence, IsNoEnd, Shows}
-use Rattle.ob_object_search_evidence.specs.declared.evidence.Evidence.{Evidence}
+use Rattle.ob_object_search_evidence.specs.declared.showing.Evidence.{Evidence}
 use Rattle.ob_object_search_record.specs.Heard.{IsHeard}
 use Rattle.ob_object_search_record.specs.declared.recording.Heard as Heards
 use Rattle.ob_object_verify.specs.Beginnings.{BeginsPlaced}

@@ -4,7 +4,7 @@ use Rattle.ob_code_law.specs.Named.{CallMeans}
 use Rattle.ob_interface.specs.Call.{ObjectCall, Reply}
 use Rattle.ob_interface.specs.View.{reply_of}
 use Rattle.ob_object_search.specs.Searched.{HasBeginning, budget_of}
-use Rattle.ob_object_search_evidence.specs.declared.evidence.Evidence.{Evidence}
+use Rattle.ob_object_search_evidence.specs.declared.showing.Evidence.{Evidence}
 use Rattle.ob_object_verify.specs.Beginnings.{BeginsNamed}
 use Rattle.ob_positions.specs.Store.{Activation}
 use Rattle.ob_text_history_reading.specs.HistoryLines.{HistoryTold, IsHistoryText}

@@ -6,7 +6,7 @@
 
 mod candidates;
 mod ending;
-pub mod evidence;
 mod possible;
+pub mod showing;
 
-pub use evidence::{Evidence, evidence_of_text};
+pub use showing::{Evidence, evidence_of_text};

@@ -1,10 +1,10 @@
 -- How many processes events need, one event after the other.
-use Rattle.std.proofs.Common.{◌≡◌, ◌∙◌, ℕ, zero, suc, ◌+◌, ◌≤◌, ◌<◌, List, [], ◌∷◌, ◌++◌, Some, map, take, max, sym, ap, subst, arith}
+use Rattle.std.proofs.Common.{◌≡◌, ◌∙◌, ℕ, zero, suc, ◌+◌, ◌≤◌, List, [], ◌∷◌, ◌++◌, Some, take, max, ap, subst, arith}
 use Rattle.std.proofs.lemmas.Option.{same_Some}
 use Rattle.std.specs.List.{slice_get}
 use Rattle.ob_interface.specs.Call.{ObjectCall, Reply}
 use Rattle.wf_beginnings.specs.Beginnings.{needed, process_count}
-use Rattle.wf_history.proofs.Positions.{take_next}
+use Rattle.wf_beginnings.proofs.Nexts.{taken_next}
 use Rattle.wf_history.specs.History.{Event, Begin, Applied, End}
 
 some_needed : (e : Event ObjectCall Reply) → 1 ≤ needed e
@@ -18,9 +18,7 @@ counted_push (x ∷ es) e = let rest = counted_push es e in omega (arith, rest)
 
 pub counted_next : (es : List (Event ObjectCall Reply)) (k : ℕ) (e : Event ObjectCall Reply) → slice_get es k ≡ Some e →
     process_count (take (k + 1) es) ≡ max (process_count (take k es)) (needed e)
-counted_next es k e here =
-    let one_more : k + 1 ≡ suc k = omega arith in
-    ap process_count (ap (λ (n : ℕ). take n es) one_more ∙ take_next es k e here) ∙ counted_push (take k es) e
+counted_next es k e here = ap process_count (taken_next es k e here) ∙ counted_push (take k es) e
 
 pub needed_within : (es : List (Event ObjectCall Reply)) (k : ℕ) (e : Event ObjectCall Reply) → slice_get es k ≡ Some e → needed e ≤ process_count es
 needed_within [] k e here = absurd (cc)

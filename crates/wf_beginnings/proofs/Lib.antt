@@ -1,2 +1,3 @@
+pub mod Nexts
 pub mod Counted
-pub mod Opened
+pub mod OpenCalls

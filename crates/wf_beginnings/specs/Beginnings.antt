@@ -19,7 +19,7 @@ abbrev pub has_ended : List (Event ObjectCall Reply) → CallId → Bool
 has_ended [] id = false
 has_ended (Begin other call ∷ events) id = has_ended events id
 has_ended (Applied ids ∷ events) id = has_ended events id
-has_ended (End other reply ∷ events) id = is_same id other || has_ended events id
+has_ended (End other reply ∷ events) id = is_same other id || has_ended events id
 
 -- the calls that have begun and not ended
 abbrev pub open_calls : List (Event ObjectCall Reply) → List CallId

@@ -36,7 +36,7 @@ fn kept_reply(alloc: Global, reply: SeenReply) -> Result<KeptReply, NoMemory>
 
 /// Adds a copy of an event.
 pub fn push_seen(alloc: Global, history: &mut History, event: SeenEvent) -> Result<(), NoMemory>
-    requires { IsHistory (history.old ++ seen_event event.entry ∷ []) }
+    requires { IsHistory (history.old ++ seen_event event ∷ []) }
     ensures { OnOk result (history.new ≡ history.old ++ seen_event event.entry ∷ []) }
 {
     match event {

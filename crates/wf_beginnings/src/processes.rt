@@ -1,6 +1,6 @@
 //! How many processes a record of a history has.
 
-ghost use Rattle.std.specs.Prelude.{◌≡◌, ◌<◌, ◌≤◌, MatchOption, map, max};
+ghost use Rattle.std.specs.Prelude.{◌≡◌, ◌+◌, ◌<◌, ◌≤◌, MatchOption, map, max};
 ghost use Rattle.ob_interface.specs.Processes.{most_processes};
 ghost use Rattle.wf_beginnings.specs.Beginnings.{needed, process_count};
 ghost use Rattle.wf_history.specs.View.{event_of};
@@ -15,7 +15,10 @@ pub fn process_count(events: &[Event]) -> Option<usize>
 {
     let mut count = 1;
     for event in events {
-        count = count.max(needed(event)?);
+        let Some(needed) = needed(event) else {
+            return None;
+        };
+        count = larger(count, needed);
     }
     Some(count)
 }
@@ -40,4 +43,11 @@ fn needed_by(id: CallId) -> Option<usize>
         return None;
     }
     Some(id.process + 1)
+}
+
+/// The larger one of two numbers.
+fn larger(first: usize, second: usize) -> usize
+    ensures { result ≡ max first second }
+{
+    if first < second { second } else { first }
 }

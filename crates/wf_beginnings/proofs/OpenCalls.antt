@@ -1,25 +1,23 @@
 -- The calls that are open, one event after the other.
-use Rattle.std.proofs.Common.{◌≡◌, ◌∙◌, ℕ, zero, suc, ◌+◌, ◌≤◌, Bool, true, false, cond, List, [], ◌∷◌, ◌++◌, Some, take, refl, sym, ap, ap₂, subst, arith, eq-eqb, append-nil}
+use Rattle.std.proofs.Common.{◌≡◌, ◌∙◌, ℕ, zero, suc, ◌+◌, ◌≤◌, Bool, true, false, cond, List, [], ◌∷◌, ◌++◌, Some, take, refl, sym, ap, ap₂, arith, eq-eqb, append-nil}
 use Rattle.std.proofs.lemmas.Bool.{ne_eqb}
 use Rattle.std.proofs.lemmas.List.Elements.{filter-append, filter_agree}
 use Rattle.std.specs.List.{slice_get, filter}
 use Rattle.std.specs.Prelude.{not, ◌&&◌, ◌||◌, nat_eq}
 use Rattle.ob_interface.specs.Call.{ObjectCall, Reply}
 use Rattle.wf_beginnings.specs.Beginnings.{begun_calls, has_ended, is_same, open_behind, open_calls}
-use Rattle.wf_history.proofs.Positions.{take_next}
 use Rattle.wf_history.proofs.Turns.{own_events-push}
 use Rattle.wf_history.specs.History.{Event, Begin, Applied, End, IsHistory, OwnEvent, Begins, Ends, in_turn, own_event, own_events}
 use Rattle.wf_history.specs.declared.event.CallId.{CallId}
-use Rattle.wf_order.proofs.Turns.{take_whole}
+use Rattle.wf_beginnings.proofs.Nexts.{next_whole, taken_next}
 
 -- whether a process's call of a number has ended
-ends : ℕ → List OwnEvent → Bool
+abbrev ends : ℕ → List OwnEvent → Bool
 ends number [] = false
 ends number (Begins n ∷ es) = ends number es
 ends number (Ends n ∷ es) = nat_eq n number || ends number es
 
 -- a call that begins next has a number that no call before it has
-unfolding ends
 
 next_begins : (from count number : ℕ) (es : List OwnEvent) → es ++ Begins number ∷ [] ≡ in_turn from count → (ends number es ≡ false) × (from ≤ number)
 next_begins from zero number [] e = absurd (cc)
@@ -37,20 +35,14 @@ next_begins from (suc (suc count)) number (x ∷ y ∷ es) e =
     let other : (from ≡ number) → ⊥ = λ same. omega (arith, same, more.1) in
     (ap₂ (λ (o p : OwnEvent). ends number (o ∷ p ∷ es)) first second ∙ ap₂ (λ (a b : Bool). a || b) (ne_eqb from number other) more.0, omega (arith, more.1))
 
-unfolding ends
-
 past_begin : (b : Bool) (n number : ℕ) (es : List OwnEvent) → ends number (cond b (Begins n ∷ []) [] ++ es) ≡ ends number es
 past_begin true n number es = refl
 past_begin false n number es = refl
-
-unfolding ends
 
 past_end : (b : Bool) (n number : ℕ) (es : List OwnEvent) (t : Bool) → t ≡ ends number es →
     ((b && nat_eq n number) || t) ≡ ends number (cond b (Ends n ∷ []) [] ++ es)
 past_end true n number es t h = ap (λ (x : Bool). nat_eq n number || x) h
 past_end false n number es t h = h
-
-unfolding ends
 
 ended_own : (xs : List (Event ObjectCall Reply)) (id : CallId) → has_ended xs id ≡ ends id.number (own_events id.process xs)
 ended_own [] id = refl
@@ -72,9 +64,9 @@ begun_push (Begin id call ∷ xs) e = ap (λ (ids : List CallId). id ∷ ids) (b
 begun_push (Applied ids ∷ xs) e = begun_push xs e
 begun_push (End id reply ∷ xs) e = begun_push xs e
 
-or_rest : (a b c : Bool) → (a || (b || c)) ≡ ((a || b) || c)
-or_rest true b c = refl
-or_rest false b c = refl
+or_rest : (a b c t : Bool) → t ≡ (b || c) → (a || t) ≡ ((a || b) || c)
+or_rest true b c t h = refl
+or_rest false b c t h = h
 
 or_none : (a : Bool) → (a || false) ≡ a
 or_none true = refl
@@ -85,7 +77,7 @@ ended_push [] e id = refl
 ended_push (Begin other call ∷ xs) e id = ended_push xs e id
 ended_push (Applied ids ∷ xs) e id = ended_push xs e id
 ended_push (End other reply ∷ xs) e id =
-    ap (λ (t : Bool). is_same other id || t) (ended_push xs e id) ∙ or_rest (is_same other id) (has_ended xs id) (has_ended (e ∷ []) id)
+    or_rest (is_same other id) (has_ended xs id) (has_ended (e ∷ []) id) (has_ended (xs ++ e ∷ []) id) (ended_push xs e id)
 
 -- what is kept twice
 module _ (a b : CallId → Bool) where
@@ -119,7 +111,4 @@ module _ (xs : List (Event ObjectCall Reply)) where
 -- the calls that are open behind one more event
 pub opened_next : (es : List (Event ObjectCall Reply)) (k : ℕ) (e : Event ObjectCall Reply) → IsHistory es → slice_get es k ≡ Some e →
     open_calls (take (k + 1) es) ≡ open_behind (open_calls (take k es)) e
-opened_next es k e whole here =
-    let one_more : k + 1 ≡ suc k = omega arith in
-    let next : take (k + 1) es ≡ take k es ++ e ∷ [] = ap (λ (n : ℕ). take n es) one_more ∙ take_next es k e here in
-    ap open_calls next ∙ opened_push (take k es) e (subst (λ (l : List (Event ObjectCall Reply)). IsHistory l) next (take_whole (k + 1) es whole))
+opened_next es k e whole here = ap open_calls (taken_next es k e here) ∙ opened_push (take k es) e (next_whole es k e whole here)
