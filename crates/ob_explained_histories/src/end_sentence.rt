@@ -50,7 +50,7 @@ fn push_order(text: &mut String, order: &[CallId]) -> Result<(), AllocError> {
     if left > 0 {
         text.push_str(", with ")?;
         push_number(text, left)?;
-        text.push_str(" calls before these")?;
+        text.push_str(" more before these")?;
     }
     Ok(())
 }

@@ -18,7 +18,7 @@ ghost use Rattle.wf_history.specs.Legal.{IsLegal};
 ghost use Rattle.wf_history.specs.declared.event.CallId.{CallId};
 
 use crate::copying::named_history;
-use crate::finding::order_found;
+use crate::finding::{object_of, order_found};
 use ob_check_text::checked_text::{TextFault, checked_text};
 use ob_checked::checked::Checked;
 use ob_interface::NoMemory;
@@ -199,11 +199,7 @@ fn record_of_heard(
     let Some(processes) = process_count(history.events()) else {
         return Err(RecordingFault::Processes);
     };
-    let object = ModuleObject {
-        checked,
-        opening: &heard.opening,
-        budget: heard.budget,
-    };
+    let object = object_of(alloc, checked, &heard.opening, heard.budget)?;
     let order = order_found(alloc, &object, &heard.read.history, names, search)?;
     let state = last_state(alloc, &object, &history, &order)?;
     Ok(Record {
