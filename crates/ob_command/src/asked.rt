@@ -236,12 +236,7 @@ fn explain_calls_asked<'a>(module_name: &'a str, given: &GivenWords<'a>) -> Opti
     if fits(
         given,
         &[Part::Traps],
-        &[
-            Part::Record,
-            Part::History,
-            Part::Schedule,
-            Part::Processes,
-        ],
+        &[Part::Record, Part::History, Part::Schedule, Part::Processes],
     ) {
         return Some(Command::ExplainTraps(sequence_of(module_name, given)?));
     }
