@@ -105,7 +105,7 @@ fn answer_record(
     ensures { IfOk result (OfWhole «module».now (λ whole. IsOrderRecordAnswer whole history.now search.now.budget search.now.most)) }
 {
     match record_of_text(alloc, module, history, search) {
-        Ok(record) => Ok(Answer::printed(alloc, record)),
+        Ok(text) => Ok(Answer::printed(alloc, text)),
         Err(fault) => recording_refused(alloc, fault),
     }
 }

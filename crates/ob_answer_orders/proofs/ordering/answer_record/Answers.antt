@@ -7,7 +7,7 @@ use Rattle.ob_answer_orders.proofs.ordering.answer_record.Goals as goal
 
 pub returns-in-Ok : goal.returns-in-Ok
 returns-in-Ok c whole is =
-    let of = of_whole (λ t. IsRecordFound t c.args.history.now c.args.search.now.budget (string_bytes c.in-Ok.record')) c.args.module.now whole is
+    let of = of_whole (λ t. IsRecordFound t c.args.history.now c.args.search.now.budget (string_bytes c.in-Ok.text)) c.args.module.now whole is
     (λ long. let bad = c.in-Ok.ensures.too_long long in cc) c.in-Ok.ensures.written in
     said _ of c.printed.ensures
 
