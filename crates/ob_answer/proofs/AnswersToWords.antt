@@ -2,11 +2,11 @@
 use Rattle.std.proofs.Common.{◌≡◌, ◌∙◌, ℕ, List, Option, None, Some, Result, Err, refl, string_bytes, subst, sym}
 use Rattle.std.specs.Prelude.{String}
 use Rattle.ob_answer.specs.Answers.{IsAnswer, IsAnswerTo, version_text}
-use Rattle.ob_answer.specs.Printed.{IsPrinted, IsRefused}
-use Rattle.ob_answer.specs.declared.answered.Answer.{Answer}
-use Rattle.ob_answer.specs.declared.files.FileFault.{FileFault}
+use Rattle.ob_answer_files.specs.Printed.{IsPrinted, IsRefused}
+use Rattle.ob_answer_files.specs.declared.answered.Answer.{Answer}
+use Rattle.ob_answer_files.specs.declared.files.FileFault.{FileFault}
 use Rattle.ob_command.specs.CommandLine.{Help, Request, Text, Unclear, Version, extra_of_help, request}
-use Rattle.ob_command.specs.Commands.{IsMistakeBeside, IsMistakeOf, IsMistakeTextOf, IsTextBeside, request_of}
+use Rattle.ob_command.specs.Commands.{IsMistakeBeside, IsMistakeOf, IsTextBeside, request_of}
 use Rattle.ob_command.specs.declared.command.Command.{Command}
 use Rattle.ob_command.specs.declared.command.Command.TheVariants as commands
 use Rattle.ob_command.specs.declared.command.Stop.TheVariants as stops
@@ -23,12 +23,13 @@ no_mistake (commands.Serve calls) h = cc
 no_mistake (commands.Draw run calls) h = cc
 no_mistake (commands.DrawRecord m r calls) h = cc
 no_mistake (commands.Verify m r) h = cc
-no_mistake (commands.Order m s b k) h = cc
+no_mistake (commands.Order order) h = cc
 no_mistake (commands.Explain m b) h = cc
 no_mistake (commands.ExplainCalls calls) h = cc
 no_mistake (commands.ExplainTraps calls) h = cc
 no_mistake (commands.ExplainRun run) h = cc
 no_mistake (commands.ExplainRecord m r) h = cc
+no_mistake (commands.ExplainHistory m t) h = cc
 no_mistake (commands.Bound m n b) h = cc
 
 -- what is said of a mistake

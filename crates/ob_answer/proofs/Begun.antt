@@ -1,31 +1,19 @@
 -- From how an object begins to the answer that is made of it.
-use Rattle.std.proofs.Common.{◌≡◌, ℕ, Bool, List, ◌∷◌, Result, Ok, Err, IfOk, refl, subst}
+use Rattle.std.proofs.Common.{◌≡◌, ℕ, Bool, List, ◌∷◌, Result, Ok, Err, IfOk, subst}
 use Rattle.ob_answer.specs.Answers.{IsCallsAnswer, IsCallsMade, IsRunAnswer, IsRunMade, shows_calls, shows_run}
-use Rattle.ob_answer.specs.Beginnings.{Begins, TellsNoneOf, begun, untold}
-use Rattle.ob_answer.specs.CommandTexts.{CallsTexts, RunTexts, calls_of_text, calls_texts, first_or_none, record_file, run_of_text, run_texts_by}
-use Rattle.ob_answer.specs.Explains.{IsValuesFaultTold}
-use Rattle.ob_answer.specs.Reads.{OfWhole}
-use Rattle.ob_answer.specs.declared.answered.Answer.{Answer}
+use Rattle.ob_answer_explained.specs.Beginnings.{Begins, TellsNoneOf, begun, untold}
+use Rattle.ob_answer_explained.specs.CommandTexts.{CallsTexts, RunTexts, calls_of_text, calls_texts, first_or_none, record_file, run_of_text, run_texts_by}
+use Rattle.ob_answer_explained.specs.Explains.{IsValuesFaultTold}
+use Rattle.ob_answer_files.specs.Reads.{OfWhole}
+use Rattle.ob_answer_files.specs.declared.answered.Answer.{Answer}
 use Rattle.ob_answer.specs.declared.product.CallsProduct.{CallsProduct}
 use Rattle.ob_answer.specs.declared.product.Product.{Product}
 use Rattle.ob_command.specs.CommandLine.{CallsRequest, RunRequest}
-use Rattle.ob_object_compile.specs.Asked.{Asked, Beginning}
-use Rattle.ob_object_perform.specs.Texts.{run_texts}
+use Rattle.ob_object_compile.specs.Asked.{Beginning}
 use Rattle.ob_text_values_reading.specs.ToldValues.{SaysNone}
 use Rattle.ob_text_values_reading.specs.declared.reading.ValuesFault.{ValuesFault}
 
--- what is asked for of texts that were read, part by part
-abbrev pub asked_with : CallsRequest → (text : List ℕ) (budget : ℕ) → Beginning → Asked
-asked_with calls text budget beginning = record { text = text; processes = calls.processes; budget = budget; beginning = beginning }
-
 -- ---- calls
-
-pub calls_same : (calls : CallsRequest) (text part script script_now record_text : List ℕ) (record_bytes : List (List ℕ)) (budget : ℕ) (b b_now : Beginning)
-    → text ≡ part → budget ≡ calls.budget → b_now ≡ b → script_now ≡ script → record_text ≡ first_or_none record_bytes
-    → ◌≡◌ {A = CallsTexts} (record { calls = calls; asked = asked_with calls text budget b_now; script = script_now; record_text = record_text })
-    (calls_texts calls part script record_bytes b)
-calls_same calls text part script script_now record_text record_bytes budget b b_now text_is budget_is begins_is script_is record_is =
-    rw (text_is, budget_is, begins_is, script_is, record_is) refl
 
 pub calls_begun : (product : CallsProduct) (calls : CallsRequest) (part whole script : List ℕ) (record_bytes : List (List ℕ)) (beginning : Beginning)
     (t : CallsTexts) (a : Answer) → t ≡ calls_texts calls part script record_bytes beginning → Begins record_bytes beginning
@@ -45,13 +33,6 @@ calls_untold product calls part script record_bytes fault is_shown record_text (
 calls_untold product calls part script record_bytes fault is_shown record_text (Err e) shown is told says none = tt
 
 -- ---- a run
-
-pub run_same : (run : RunRequest) (text part script script_now schedule schedule_now record_text : List ℕ) (record_bytes : List (List ℕ)) (budget : ℕ) (b b_now : Beginning)
-    → text ≡ part → budget ≡ run.calls.budget → b_now ≡ b → script_now ≡ script → schedule_now ≡ schedule → record_text ≡ first_or_none record_bytes
-    → ◌≡◌ {A = RunTexts} (record { run = run; texts = run_texts (asked_with run.calls text budget b_now) script_now schedule_now; record_text = record_text })
-    (run_texts_by run part script schedule record_bytes b)
-run_same run text part script script_now schedule schedule_now record_text record_bytes budget b b_now text_is budget_is begins_is script_is schedule_is record_is =
-    rw (text_is, budget_is, begins_is, script_is, schedule_is, record_is) refl
 
 pub run_begun : (product : Product) (run : RunRequest) (part whole script schedule : List ℕ) (record_bytes : List (List ℕ)) (beginning : Beginning)
     (t : RunTexts) (a : Answer) → t ≡ run_texts_by run part script schedule record_bytes beginning → Begins record_bytes beginning

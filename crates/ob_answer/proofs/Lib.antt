@@ -1,7 +1,4 @@
-pub mod Beginnings
-pub mod AtOnce
+pub mod AtOnceMade
 pub mod Made
-pub mod Shown
-pub mod FilesRead
 pub mod Begun
 pub mod AnswersToWords

@@ -1,16 +1,15 @@
 -- Answers made of the beginning of a module's text.
-use Rattle.std.proofs.Common.{◌≡◌, ◌≢◌, ◌<◌, ◌++◌, ℕ, List, Result, Ok, Err, Option, IfOk, inl, inr, length, codes, subst, sym, refl}
-use Rattle.ob_answer.specs.Answers.{IsOrderAnswer, IsRecordPictureAnswer, IsTextAnswer, IsVerifyAnswer, refused}
-use Rattle.ob_answer.specs.Refusals.{IsNumberedDraw, RefusesHistory, RefusesRecord}
-use Rattle.ob_answer.specs.Printed.{IsRefused}
-use Rattle.ob_answer.specs.CommandTexts.{of_text}
-use Rattle.ob_answer.specs.declared.answered.Answer.{Answer}
-use Rattle.ob_answer.proofs.AtOnce.{IsAtOnce, no_module, refused_of_whole, too_long_scan}
-use Rattle.ob_answer.proofs.Beginnings.{beginning, of_whole_or_long}
+use Rattle.std.proofs.Common.{◌≡◌, ◌≢◌, ◌<◌, ◌++◌, ℕ, List, Result, Ok, Err, Option, IfOk, length, codes, subst, sym, refl}
+use Rattle.ob_answer.specs.Answers.{IsRecordPictureAnswer, IsVerifyAnswer}
+use Rattle.ob_answer.specs.Refusals.{IsNumberedDraw}
+use Rattle.ob_answer_files.specs.Printed.{IsRefused, IsTextAnswer, refused}
+use Rattle.ob_answer_explained.specs.CommandTexts.{of_text}
+use Rattle.ob_answer_files.specs.declared.answered.Answer.{Answer}
+use Rattle.ob_answer_explained.proofs.AtOnce.{IsAtOnce, no_module, refused_of_whole, too_long_scan}
+use Rattle.ob_answer_explained.proofs.Beginnings.{beginning, of_whole_or_long}
 use Rattle.ob_check_text.specs.declared.checked_text.TextFault.TheVariants as Texts
 use Rattle.ob_command.specs.CommandLine.{Text}
 use Rattle.ob_fault_lines.specs.DrawFaultLines.{draw_record_fault_line}
-use Rattle.ob_fault_lines.specs.SearchFaultLines.{search_fault_line}
 use Rattle.ob_fault_lines.specs.VerifyFaultLines.{verify_fault_line}
 use Rattle.ob_object_compile.specs.Asked.{Asked, TellsAtOnce}
 use Rattle.ob_object_compile.specs.declared.compiling.CompileFault.{CompileFault}
@@ -22,11 +21,6 @@ use Rattle.ob_object_perform.specs.Pictured as Pictured
 use Rattle.ob_object_perform.specs.declared.drawing.DrawFault.{DrawFault}
 use Rattle.ob_object_perform.specs.declared.drawing.DrawFault.TheVariants as Draw
 use Rattle.ob_object_perform.specs.declared.performing.PerformFault.TheVariants as Perform
-use Rattle.ob_object_search.specs.Searched.{IsEnough, IsLegalOrder}
-use Rattle.ob_object_search.specs.SearchFaults as Searches
-use Rattle.ob_object_search.specs.SearchFaults.{IsSearchFault}
-use Rattle.ob_object_search.specs.declared.searching.SearchFault.{SearchFault}
-use Rattle.ob_object_search.specs.declared.searching.SearchFault.TheVariants as Search
 use Rattle.ob_object_verify.specs.Verified.{IsVerified}
 use Rattle.ob_object_verify.specs.VerifyFaults as Verifies
 use Rattle.ob_object_verify.specs.VerifyFaults.{IsVerifyFault}
@@ -34,7 +28,7 @@ use Rattle.ob_object_verify.specs.declared.verifying.VerifyFault.{VerifyFault}
 use Rattle.ob_object_verify.specs.declared.verifying.VerifyFault.TheVariants as Verify
 use Rattle.ob_scan.specs.declared.fault.ScanFault.TheVariants as Scan
 use Rattle.ob_text_picture_chart.specs.declared.charts.CallRange.{CallRange}
-use Rattle.wf_history.specs.declared.event.CallId.{CallId}
+use Rattle.ob_answer_explained.proofs.RecordRefused.{record_refused}
 
 -- the line of a fault by which texts are refused; `compiling` tells those of an object
 pub text_refused : {T F E : Type 0} (compiling : CompileFault → F) (a : Asked) (Says : List ℕ → Text → Type 0) (Refusal : List ℕ → F → Type 0) (Numbered : F → Type 0)
@@ -75,22 +69,6 @@ draw_record_refused_made calls part text e (Ok a) told known stands apart none t
     refused e (record { says = says; none = no_picture; numbered = (known, apart) }) told
 draw_record_refused_made calls part text e (Err x) told known stands apart none too_long = tt
 
-pub numbered_verify : (e : VerifyFault) → e ≢ Verify.NoMemory → Verifies.TellsMemoryApart e → Verifies.IsNumbered e
-numbered_verify e known apart = elim apart [ inl is ↦ absurd (known is) | inr h ↦ h ]
-
--- a refusal of the beginning of a module's text is one of the whole
-pub record_refused : (part text : List ℕ) (e : VerifyFault) → e ≢ Verify.NoMemory
-    → IsVerifyFault part text e → Verifies.TellsMemoryApart e → (Verifies.IsNumbered e → IsVerified part text → ⊥)
-    → (65536 < length part → e ≡ Verifies.too_long)
-    → (whole : List ℕ) → part ≡ beginning whole → RefusesRecord whole text e
-record_refused part text e known stands apart none too_long whole is = record {
-  says = of_whole_or_long (λ t. IsVerifyFault t text e) part whole is
-      (λ long longer. subst (λ (x : VerifyFault). IsVerifyFault whole text x) (sym (too_long long)) (too_long_scan whole longer)) stands;
-  none = of_whole_or_long (λ t. IsVerified t text → ⊥) part whole is (λ long longer v. no_module whole longer v.program v.is_module)
-      (none (numbered_verify e known apart));
-  numbered = numbered_verify e known apart;
-}
-
 pub verify_refused_made : {E : Type 0} (part text : List ℕ) (e : VerifyFault) (result : Result Answer E)
     → IfOk result (λ a. IsRefused a 1 (verify_fault_line e ++ codes "\n")) → IfOk result (λ _. e ≢ Verify.NoMemory)
     → IsVerifyFault part text e → Verifies.TellsMemoryApart e → (Verifies.IsNumbered e → IsVerified part text → ⊥)
@@ -99,32 +77,3 @@ pub verify_refused_made : {E : Type 0} (part text : List ℕ) (e : VerifyFault) 
 verify_refused_made part text e (Ok a) told known stands apart none too_long =
     λ whole is. refused e (record_refused part text e known stands apart none too_long whole is) told
 verify_refused_made part text e (Err x) told known stands apart none too_long = tt
-
--- the same of a search
-pub numbered_search : (e : SearchFault) → e ≢ Search.NoMemory → Searches.TellsMemoryApart e → Searches.IsNumbered e
-numbered_search e known apart = elim apart [ inl is ↦ absurd (known is) | inr h ↦ h ]
-
-pub history_refused : (part text : List ℕ) (budget : Option ℕ) (most : ℕ) (e : SearchFault) → e ≢ Search.NoMemory
-    → IsSearchFault part text budget most e → Searches.TellsMemoryApart e
-    → (¬ Searches.IsUndecided e → (order : List CallId) → ¬ IsLegalOrder part text budget order)
-    → (IsEnough part text most → e ≢ Search.TooMany) → (65536 < length part → e ≡ Searches.too_long)
-    → (whole : List ℕ) → part ≡ beginning whole → RefusesHistory whole text budget most e
-history_refused part text budget most e known stands apart none decided too_long whole is = record {
-  says = of_whole_or_long (λ t. IsSearchFault t text budget most e) part whole is
-      (λ long longer. subst (λ (x : SearchFault). IsSearchFault whole text budget most x) (sym (too_long long)) (too_long_scan whole longer)) stands;
-  none = of_whole_or_long (λ t. ¬ Searches.IsUndecided e → (order : List CallId) → ¬ IsLegalOrder t text budget order) part whole is
-      (λ long longer known order legal. no_module whole longer legal.program legal.is_module) none;
-  decided = of_whole_or_long (λ t. IsEnough t text most → e ≢ Search.TooMany) part whole is
-      (λ long longer enough. absurd (no_module whole longer enough.program enough.is_module)) decided;
-  numbered = numbered_search e known apart;
-}
-
-pub search_refused_made : {E : Type 0} (part text : List ℕ) (budget : Option ℕ) (most : ℕ) (e : SearchFault) (result : Result Answer E)
-    → IfOk result (λ a. IsRefused a 1 (search_fault_line e ++ codes "\n")) → IfOk result (λ _. e ≢ Search.NoMemory)
-    → IsSearchFault part text budget most e → Searches.TellsMemoryApart e
-    → (¬ Searches.IsUndecided e → (order : List CallId) → ¬ IsLegalOrder part text budget order)
-    → (IsEnough part text most → e ≢ Search.TooMany) → (65536 < length part → e ≡ Searches.too_long)
-    → IfOk result (λ a. (whole : List ℕ) → part ≡ beginning whole → IsOrderAnswer whole text budget most a)
-search_refused_made part text budget most e (Ok a) told known stands apart none decided too_long =
-    λ whole is. refused e (history_refused part text budget most e known stands apart none decided too_long whole is) told
-search_refused_made part text budget most e (Err x) told known stands apart none decided too_long = tt

@@ -1,12 +1,11 @@
 -- What the program answers to a request, by what reads of files give.
 use Rattle.std.specs.Prelude.{◌≡◌, ◌⊎◌, ℕ, Bool, List, [], ◌∷◌, ◌++◌, true, false, Option, Result, codes, option_map, count_by, MatchBool, nat_lt}
 use Rattle.std.specs.Str.{bytes_eq}
-use Rattle.ob_answer.specs.declared.answered.Answer.{Answer}
-use Rattle.ob_answer.specs.declared.files.FileFault.{FileFault}
+use Rattle.ob_answer_files.specs.declared.answered.Answer.{Answer}
+use Rattle.ob_answer_files.specs.declared.files.FileFault.{FileFault}
 use Rattle.ob_fault_lines.specs.CompileFaultLines.{compile_line}
 use Rattle.ob_fault_lines.specs.DrawFaultLines.{draw_fault_line, draw_record_fault_line}
 use Rattle.ob_fault_lines.specs.RunFaultLines.{run_fault_line}
-use Rattle.ob_fault_lines.specs.SearchFaultLines.{search_fault_line}
 use Rattle.ob_fault_lines.specs.SequentialFaultLines.{seq_fault_line}
 use Rattle.ob_fault_lines.specs.ServeFaultLines.{serve_fault_line}
 use Rattle.ob_fault_lines.specs.VerifyFaultLines.{verify_fault_line}
@@ -20,13 +19,12 @@ use Rattle.ob_object_perform.specs.Pictured.{IsPicturePrinted}
 use Rattle.ob_object_perform.specs.Printed.{IsPrintedOf, IsRecordPrinted}
 use Rattle.ob_object_perform.specs.Texts.{Texts}
 use Rattle.ob_text_picture_chart.specs.declared.charts.CallRange.{CallRange}
-use Rattle.ob_object_search.specs.Searched.{IsLegalOrder}
 use Rattle.ob_object_sequence.specs.SequentialRun.{HasObject, IsSequentialRun}
 use Rattle.ob_object_spent.specs.Spent.{IsPrintedWithSteps}
 use Rattle.ob_object_tree.specs.TreeRuns.{IsPrintedOfCode}
 use Rattle.ob_object_verify.specs.Verified.{IsVerified}
 use Rattle.ob_command.specs.CommandLine.{CallsRequest, Request, RunRequest, Text, Check, Listing, Seq, Run, RunTree, RunSteps, Serve, Draw, DrawRecord, Verify, Order, request}
-use Rattle.ob_command.specs.CommandLine.{Explain, ExplainCalls, ExplainTraps, ExplainRun, ExplainRecord, Bound, Help, Version, Unclear}
+use Rattle.ob_command.specs.CommandLine.{Explain, ExplainCalls, ExplainTraps, ExplainRun, ExplainRecord, ExplainHistory, Bound, Help, Version, Unclear}
 use Rattle.ob_command.specs.Commands.{IsMistakeTextOf, calls_request_of, run_request_of}
 use Rattle.ob_command.specs.declared.command.CallNumbers.{CallNumbers}
 use Rattle.ob_command.specs.declared.command.CallsCommand.{CallsCommand}
@@ -35,16 +33,17 @@ use Rattle.ob_answer.specs.declared.product.CallsProduct.{CallsProduct}
 use Rattle.ob_answer.specs.declared.product.CallsProduct.TheVariants as CallsProducts
 use Rattle.ob_answer.specs.declared.product.Product.{Product}
 use Rattle.ob_answer.specs.declared.product.Product.TheVariants as Products
-use Rattle.ob_answer.specs.Beginnings.{WithBeginning}
-use Rattle.ob_answer.specs.CommandTexts.{CallsTexts, RunTexts, calls_texts, first_or_none, record_file, run_texts_by}
-use Rattle.ob_answer.specs.Explains.{AreTrapsExplained, IsCallsExplained, IsModuleExplained, IsRecordExplained, IsRunExplained, IsValuesFaultTold}
-use Rattle.ob_answer.specs.Printed.{IsPrinted, IsPrintedBeside, IsRefused}
-use Rattle.ob_answer.specs.Reads.{IsOutcome, files_of_calls, files_of_run, record_in_calls, record_in_run}
-use Rattle.ob_text_record.specs.RecordText.{order_text}
-use Rattle.wf_history.specs.declared.event.CallId.{CallId}
-use Rattle.ob_answer.specs.declared.reading.CallsBytes.{CallsBytes}
-use Rattle.ob_answer.specs.declared.reading.RunBytes.{RunBytes}
-use Rattle.ob_answer.specs.Refusals.{RefusesCalls, RefusesHistory, RefusesObject, RefusesPicture, RefusesRecord, RefusesRecordPicture, RefusesRun, RefusesTreeRun, RefusesWorkers}
+use Rattle.ob_answer_explained.specs.Beginnings.{WithBeginning}
+use Rattle.ob_answer_explained.specs.CommandTexts.{CallsTexts, RunTexts, calls_texts, first_or_none, record_file, run_texts_by}
+use Rattle.ob_answer_explained.specs.Explains.{AreTrapsExplained, IsCallsExplained, IsModuleExplained, IsRecordExplained, IsRunExplained, IsValuesFaultTold}
+use Rattle.ob_answer_orders.specs.ExplainedOrders.{IsHistoryExplained}
+use Rattle.ob_answer_orders.specs.Orders.{IsProductAnswer}
+use Rattle.ob_answer_files.specs.Printed.{IsPrinted, IsPrintedBeside, IsRefused, IsTextAnswer}
+use Rattle.ob_answer_files.specs.Reads.{IsOutcome, files_of_calls, files_of_run, record_in_calls, record_in_run}
+use Rattle.ob_answer_files.specs.declared.reading.CallsBytes.{CallsBytes}
+use Rattle.ob_answer_files.specs.declared.reading.RunBytes.{RunBytes}
+use Rattle.ob_answer.specs.Refusals.{RefusesPicture, RefusesRecordPicture, RefusesTreeRun, RefusesWorkers}
+use Rattle.ob_answer_explained.specs.Refusals.{RefusesCalls, RefusesObject, RefusesRecord, RefusesRun}
 
 -- the program's name and version, and the kit that it is built with
 abbrev pub version_text : Text
@@ -56,11 +55,6 @@ input_twice_text = codes "error: `-`, which is standard input, stands for one fi
 
 abbrev pub ok_text : Text
 ok_text = codes "ok\n"
-
--- To the bytes of files: what is said of them, or the line of a fault by which they are refused.
-pub data IsTextAnswer {Fault : Type 0} (Says : Text → Type 0) (Refuses : Fault → Type 0) (line : Fault → Text) (answer : Answer) : Type 0 where
-  said : (text : Text) → Says text → IsPrinted answer text → IsTextAnswer Says Refuses line answer
-  refused : (e : Fault) → Refuses e → IsRefused answer 1 (line e ++ codes "\n") → IsTextAnswer Says Refuses line answer
 
 -- of a module that has an object, if of one process alone, `ok` is said
 abbrev pub SaysOk : List ℕ → Text → Type 0
@@ -134,17 +128,6 @@ abbrev pub IsVerifyAnswer : (module_bytes record_bytes : List ℕ) → Answer �
 IsVerifyAnswer module_bytes record_bytes =
     IsTextAnswer (SaysVerified module_bytes record_bytes) (RefusesRecord module_bytes record_bytes) verify_fault_line
 
--- ---- of the bytes of a module and of a history, with a budget where one is given, by a look at so many configurations at most
-
--- the line of a legal order
-abbrev pub SaysOrder : (module_bytes history_bytes : List ℕ) (budget : Option ℕ) → Text → Type 0
-SaysOrder module_bytes history_bytes budget text =
-    (order : List CallId) × IsLegalOrder module_bytes history_bytes budget order × (text ≡ order_text order)
-
-abbrev pub IsOrderAnswer : (module_bytes history_bytes : List ℕ) (budget : Option ℕ) (most : ℕ) → Answer → Type 0
-IsOrderAnswer module_bytes history_bytes budget most =
-    IsTextAnswer (SaysOrder module_bytes history_bytes budget) (RefusesHistory module_bytes history_bytes budget most) search_fault_line
-
 -- ---- of the files of a request
 
 -- what is printed of calls: their replies, or the record of workers that make them; or what is wrong is shown, or the traps of the calls are
@@ -206,12 +189,13 @@ files_of (Serve calls) = files_of_calls calls
 files_of (Draw run range) = files_of_run run
 files_of (DrawRecord module_name record_name range) = module_name ∷ record_name ∷ []
 files_of (Verify module_name record_name) = module_name ∷ record_name ∷ []
-files_of (Order module_name history_name budget most) = module_name ∷ history_name ∷ []
+files_of (Order order) = order.module_name ∷ order.history_name ∷ []
 files_of (Explain module_name budget) = module_name ∷ []
 files_of (ExplainCalls calls) = files_of_calls calls
 files_of (ExplainTraps calls) = files_of_calls calls
 files_of (ExplainRun run) = files_of_run run
 files_of (ExplainRecord module_name record_name) = module_name ∷ record_name ∷ []
+files_of (ExplainHistory module_name history_name) = module_name ∷ history_name ∷ []
 files_of (Bound module_name processes budget) = module_name ∷ []
 files_of _ = []
 
@@ -228,14 +212,16 @@ IsMade (Draw run range) bytes answer = IsRunMade (Products.Picture (range_of ran
 IsMade (DrawRecord module_name record_name range) (module_bytes ∷ record_bytes ∷ []) answer =
     IsRecordPictureAnswer (range_of range) module_bytes record_bytes answer
 IsMade (Verify module_name record_name) (module_bytes ∷ record_bytes ∷ []) answer = IsVerifyAnswer module_bytes record_bytes answer
-IsMade (Order module_name history_name budget most) (module_bytes ∷ history_bytes ∷ []) answer =
-    IsOrderAnswer module_bytes history_bytes budget most answer
+IsMade (Order order) (module_bytes ∷ history_bytes ∷ []) answer =
+    IsProductAnswer order.product module_bytes history_bytes order.budget order.most answer
 IsMade (Explain module_name budget) (module_bytes ∷ []) answer = IsModuleExplained module_name module_bytes answer
 IsMade (ExplainCalls calls) bytes answer = IsCallsMade CallsProducts.Explanation calls bytes answer
 IsMade (ExplainTraps calls) bytes answer = IsCallsMade CallsProducts.Traps calls bytes answer
 IsMade (ExplainRun run) bytes answer = IsRunMade Products.Explanation run bytes answer
 IsMade (ExplainRecord module_name record_name) (module_bytes ∷ record_bytes ∷ []) answer =
     IsRecordExplained module_name module_bytes record_name record_bytes answer
+IsMade (ExplainHistory module_name history_name) (module_bytes ∷ history_bytes ∷ []) answer =
+    IsHistoryExplained module_name module_bytes history_name history_bytes answer
 IsMade (Bound module_name processes budget) (module_bytes ∷ []) answer = IsBoundAnswer module_bytes processes budget answer
 IsMade Help [] answer = (text : Text) × IsPrinted answer text
 IsMade Version [] answer = IsPrinted answer version_text

@@ -3,26 +3,24 @@
 ghost use Rattle.std.specs.Prelude.{◌≡◌, IfOk, count_by, map, nat_lt};
 ghost use Rattle.std.specs.Str.{bytes_eq};
 ghost use Rattle.ob_answer.specs.Answers.{IsAnswer, IsAnswerTo, IsObeyed, files_of, input_name, range_of, reads_input_twice};
-ghost use Rattle.ob_answer.specs.Reads.{files_of_calls, files_of_run};
-ghost use Rattle.ob_command.specs.CommandLine.{Bound, Check, DrawRecord, Listing, Order, Verify, request};
-ghost use Rattle.ob_command.specs.Commands.{calls_request_of, request_of, run_request_of};
+ghost use Rattle.ob_answer_files.specs.Reads.{files_of_calls, files_of_run};
+ghost use Rattle.ob_command.specs.CommandLine.{Bound, Check, DrawRecord, Listing, Order, Verify};
+ghost use Rattle.ob_command.specs.Commands.{calls_request_of, order_request_of, request_of, run_request_of};
 
-use crate::answered::Answer;
-use crate::explaining::obey_explain_module;
-use crate::explaining_runs::obey_explain_record;
-use crate::files::{FileFault, Files};
-use crate::making::{
-    answer_bound, answer_check, answer_draw_record, answer_list, answer_order, answer_verify,
-};
+use crate::explaining::{obey_explain_history, obey_explain_module, obey_explain_record};
+use crate::making::{answer_bound, answer_check, answer_draw_record, answer_list, answer_verify};
 use crate::obeying::{obey_calls, obey_run};
 use crate::product::{CallsProduct, Product};
-use crate::reading::{MODULE_BYTES, TwoFiles, read_two, unreadable};
-use ob_command::command::{CallNumbers, CallsCommand, Command, RunCommand, Stop, read_command};
+use ob_answer_files::answered::Answer;
+use ob_answer_files::files::{FileFault, Files};
+use ob_answer_files::reading::{MODULE_BYTES, TwoFiles, read_two, unreadable};
+use ob_answer_orders::ordering::answer_order;
+use ob_command::command::{
+    CallNumbers, CallsCommand, Command, OrderCommand, RunCommand, Stop, read_command,
+};
 use ob_interface::NoMemory;
-use ob_object_search::Search;
 use ob_text_picture_chart::CallRange;
 use std::alloc::Global;
-use std::hash::RandomState;
 use std::random::RandomSource;
 use std::sync::Wait;
 use std::thread::Threads;
@@ -95,11 +93,7 @@ fn reads_input_twice(command: Command<'_>) -> bool
             module_name,
             record_name,
         } => are_two_inputs(&[module_name, record_name]),
-        Command::Order {
-            module_name,
-            history_name,
-            ..
-        } => are_two_inputs(&[module_name, history_name]),
+        Command::Order(order) => are_two_inputs(&[order.module_name, order.history_name]),
         Command::Explain { .. } => false,
         Command::ExplainCalls(calls) => are_inputs_of_calls(calls),
         Command::ExplainTraps(calls) => are_inputs_of_calls(calls),
@@ -108,6 +102,10 @@ fn reads_input_twice(command: Command<'_>) -> bool
             module_name,
             record_name,
         } => are_two_inputs(&[module_name, record_name]),
+        Command::ExplainHistory {
+            module_name,
+            history_name,
+        } => are_two_inputs(&[module_name, history_name]),
     }
 }
 
@@ -174,15 +172,7 @@ fn obey<R: Threads + Wait + Sync + RandomSource, F: Files>(
             module_name,
             record_name,
         } => obey_verify(alloc, module_name, record_name, files),
-        Command::Order {
-            module_name,
-            history_name,
-            budget,
-            most,
-        } => {
-            let search = search_by(rt, budget, most)?;
-            obey_order(alloc, module_name, history_name, &search, files)
-        }
+        Command::Order(order) => obey_order(rt, alloc, order, files),
         Command::Explain { module_name, .. } => obey_explain_module(alloc, module_name, files),
         Command::ExplainCalls(calls) => {
             obey_calls(rt, alloc, CallsProduct::Explanation, calls, files)
@@ -193,6 +183,10 @@ fn obey<R: Threads + Wait + Sync + RandomSource, F: Files>(
             module_name,
             record_name,
         } => obey_explain_record(alloc, module_name, record_name, files),
+        Command::ExplainHistory {
+            module_name,
+            history_name,
+        } => obey_explain_history(rt, alloc, module_name, history_name, files),
         Command::Bound {
             module_name,
             processes,
@@ -271,35 +265,18 @@ fn obey_draw_record<F: Files>(
     }
 }
 
-/// The search that words ask for. Want of random bytes is told as want of memory: as that it comes and goes with what the machine has,
-/// and says nothing of the history.
-fn search_by<R: RandomSource>(rt: &R, budget: Option<u32>, most: u32) -> Result<Search, NoMemory>
-    ensures budget { IfOk result (λ search. search.budget ≡ budget) }
-    ensures most { IfOk result (λ search. search.most ≡ most) }
-{
-    let Ok(keys) = RandomState::new(rt) else {
-        return Err(NoMemory);
-    };
-    Ok(Search {
-        budget: budget.map(u64::from),
-        most: most as usize,
-        keys,
-    })
-}
-
-/// The answer to `order`, of the names of its files and the search that it asks for.
-fn obey_order<F: Files>(
+/// The answer to `order`.
+fn obey_order<R: RandomSource, F: Files>(
+    rt: &R,
     alloc: Global,
-    module_name: &str,
-    history_name: &str,
-    search: &Search,
+    order: OrderCommand<'_>,
     files: &mut F,
 ) -> Result<Answer, NoMemory>
-    ensures { IfOk result (λ a. IsObeyed F.reads (Order module_name.now history_name.now search.now.budget search.now.most) files.old a files.new) }
+    ensures { IfOk result (λ a. IsObeyed F.reads (Order (order_request_of order.entry)) files.old a files.new) }
 {
-    match read_two(alloc, module_name, history_name, files)? {
+    match read_two(alloc, order.module_name, order.history_name, files)? {
         TwoFiles::Read { module, second } => {
-            answer_order(alloc, module.as_slice(), second.as_slice(), search)
+            answer_order(rt, alloc, order, module.as_slice(), second.as_slice())
         }
         TwoFiles::Unread(answer) => Ok(answer),
     }

@@ -1,16 +1,15 @@
 //! Answers made of the bytes of files. Of a module's text they have the beginning: a module of more bytes is too long.
 
-ghost use Rattle.std.specs.Prelude.{◌≡◌, ◌≢◌, ◌++◌, false, IfOk, codes, string_bytes};
+ghost use Rattle.std.specs.Prelude.{◌≡◌, ◌≢◌, ◌++◌, false, IfOk, codes};
 ghost use Rattle.ob_answer.specs.Answers.{IsBoundAnswer, IsCheckAnswer, IsListAnswer, IsPictureAnswer, IsRecordAnswer, IsRecordPictureAnswer};
-ghost use Rattle.ob_answer.specs.Answers.{IsOrderAnswer, IsSeqAnswer, IsServeAnswer, IsStepsAnswer, IsTreeRecordAnswer};
+ghost use Rattle.ob_answer.specs.Answers.{IsSeqAnswer, IsServeAnswer, IsStepsAnswer, IsTreeRecordAnswer};
 ghost use Rattle.ob_answer.specs.Answers.{IsVerifyAnswer};
-ghost use Rattle.ob_answer.specs.Reads.{OfWhole};
-ghost use Rattle.ob_answer.specs.CommandTexts.{of_text, texts_of_text};
-ghost use Rattle.ob_answer.specs.Printed.{IsRefused};
+ghost use Rattle.ob_answer_files.specs.Reads.{OfWhole};
+ghost use Rattle.ob_answer_explained.specs.CommandTexts.{of_text, texts_of_text};
+ghost use Rattle.ob_answer_files.specs.Printed.{IsRefused};
 ghost use Rattle.ob_fault_lines.specs.CompileFaultLines.{compile_line};
 ghost use Rattle.ob_fault_lines.specs.DrawFaultLines.{draw_fault_line, draw_record_fault_line};
 ghost use Rattle.ob_fault_lines.specs.RunFaultLines.{run_fault_line};
-ghost use Rattle.ob_fault_lines.specs.SearchFaultLines.{search_fault_line};
 ghost use Rattle.ob_fault_lines.specs.SequentialFaultLines.{seq_fault_line};
 ghost use Rattle.ob_fault_lines.specs.ServeFaultLines.{serve_fault_line};
 ghost use Rattle.ob_fault_lines.specs.VerifyFaultLines.{verify_fault_line};
@@ -21,13 +20,11 @@ ghost use Rattle.ob_object_perform.specs.Performance as Performs;
 ghost use Rattle.ob_object_perform.specs.Texts.{texts_of};
 ghost use Rattle.ob_object_sequence.specs.SequentialRun.{is_want_of_memory};
 
-use crate::answered::Answer;
-use crate::orders::order_line;
+use ob_answer_files::answered::{Answer, refused};
 use ob_desk_texts::{ServeTextFault, serve_text};
 use ob_fault_lines::compile_faults::compile_fault_line;
 use ob_fault_lines::draw_faults::{draw_fault_line, draw_record_fault_line};
 use ob_fault_lines::run_faults::run_fault_line;
-use ob_fault_lines::search_faults::search_fault_line;
 use ob_fault_lines::sequential_faults::seq_fault_line;
 use ob_fault_lines::serve_faults::serve_fault_line;
 use ob_fault_lines::verify_faults::verify_fault_line;
@@ -36,13 +33,12 @@ use ob_object_bound::bound_text;
 use ob_object_compile::{Asked, Beginning, CompileFault, list_text};
 use ob_object_draw::{DrawRecordFault, draw_record_text};
 use ob_object_perform::{DrawFault, PerformFault, Texts, draw_text, run_text};
-use ob_object_search::{Search, SearchFault, search_text};
 use ob_object_sequence::{SeqTextFault, check_text, seq_asked};
 use ob_object_spent::run_text_with_steps;
 use ob_object_tree::run_tree_text;
 use ob_object_verify::{VerifyFault, verify_text};
 use ob_text_picture_chart::CallRange;
-use std::alloc::{AllocError, Global};
+use std::alloc::Global;
 use std::sync::Wait;
 use std::thread::Threads;
 
@@ -91,14 +87,6 @@ fn compile_refused(alloc: Global, fault: CompileFault) -> Result<Answer, NoMemor
         CompileFault::NoMemory => Err(NoMemory),
         fault => Ok(refused(alloc, compile_fault_line(alloc, Beginning::Body, fault)?)?),
     }
-}
-
-/// The answer of a fault's line.
-pub(crate) fn refused(alloc: Global, mut line: String) -> Result<Answer, AllocError>
-    ensures { IfOk result (λ a. IsRefused a 1 (string_bytes line ++ codes "\n")) }
-{
-    line.push_str("\n")?;
-    Ok(Answer::refused(alloc, 1, line))
 }
 
 /// The answer of `seq`, of the object that is asked for and the text of a script.
@@ -274,31 +262,5 @@ fn verify_refused(alloc: Global, fault: VerifyFault) -> Result<Answer, NoMemory>
     match fault {
         VerifyFault::NoMemory => Err(NoMemory),
         fault => Ok(refused(alloc, verify_fault_line(alloc, fault)?)?),
-    }
-}
-
-/// The answer to the beginning of a module's text and to the text of a history, by a search.
-pub(crate) fn answer_order(
-    alloc: Global,
-    module: &[u8],
-    history: &[u8],
-    search: &Search,
-) -> Result<Answer, NoMemory>
-    ensures { IfOk result (OfWhole «module».now (λ whole. IsOrderAnswer whole history.now search.now.budget search.now.most)) }
-{
-    match search_text(alloc, module, history, search) {
-        Ok(order) => Ok(Answer::printed(alloc, order_line(alloc, order.as_slice())?)),
-        Err(fault) => search_refused(alloc, fault),
-    }
-}
-
-/// The answer to a fault of a search.
-fn search_refused(alloc: Global, fault: SearchFault) -> Result<Answer, NoMemory>
-    ensures fault { IfOk result (λ a. IsRefused a 1 (search_fault_line fault ++ codes "\n")) }
-    ensures memory { IfOk result (λ _. fault ≢ SearchFault.NoMemory) }
-{
-    match fault {
-        SearchFault::NoMemory => Err(NoMemory),
-        fault => Ok(refused(alloc, search_fault_line(alloc, fault)?)?),
     }
 }

@@ -3,23 +3,23 @@
 
 ghost use Rattle.std.specs.Prelude.{◌≡◌, IfOk};
 ghost use Rattle.ob_answer.specs.Answers.{IsCallsAnswer, IsCallsObeyed, IsMadeOfCalls, IsMadeOfRun, IsRunAnswer, IsRunObeyed, shows_calls, shows_run};
-ghost use Rattle.ob_answer.specs.Reads.{OfWhole};
-ghost use Rattle.ob_answer.specs.CommandTexts.{calls_of_text, calls_texts_of, run_of_text, run_texts_of};
+ghost use Rattle.ob_answer_files.specs.Reads.{OfWhole};
+ghost use Rattle.ob_answer_explained.specs.CommandTexts.{calls_of_text, calls_texts_of, run_of_text, run_texts_of};
 ghost use Rattle.ob_command.specs.Commands.{calls_request_of, run_request_of};
 
-use crate::answered::Answer;
-use crate::explaining::explain_calls;
-use crate::explaining_runs::explain_run;
-use crate::explaining_traps::explain_traps;
-use crate::files::Files;
 use crate::making::{
     answer_picture, answer_record, answer_seq, answer_serve, answer_steps, answer_tree_record,
 };
 use crate::product::{CallsProduct, Product};
-use crate::reading::{CallsBytes, CallsFiles, RunBytes, RunFiles, read_calls, read_run};
-use crate::showing::values_wrong;
-use crate::texts::{Calls, Run, bytes_or_none, calls_with, run_with};
-use crate::values::values_in;
+use ob_answer_explained::explaining::explain_calls;
+use ob_answer_explained::explaining_runs::explain_run;
+use ob_answer_explained::explaining_traps::explain_traps;
+use ob_answer_explained::showing::values_wrong;
+use ob_answer_explained::texts::{Calls, Run, bytes_or_none, calls_with, run_with};
+use ob_answer_explained::values::values_in;
+use ob_answer_files::answered::Answer;
+use ob_answer_files::files::Files;
+use ob_answer_files::reading::{CallsBytes, CallsFiles, RunBytes, RunFiles, read_calls, read_run};
 use ob_command::command::{CallsCommand, RunCommand};
 use ob_interface::NoMemory;
 use std::alloc::Global;

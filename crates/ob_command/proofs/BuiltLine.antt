@@ -35,6 +35,9 @@ built_budget = record (built_one (codes "BUDGET") None (Some 98) (parser.Signed 
 abbrev pub built_most : Rule
 built_most = record (built_one (codes "K") None None (parser.Signed (pos 0) (pos 4294967295))) { long = Some (codes "most"); required = false }
 
+abbrev pub built_by : Rule
+built_by = record (built_one (codes "BY") None None (parser.Signed (pos 0) (pos 65535))) { long = Some (codes "by"); value_names = 1; required = false }
+
 abbrev pub built_flag : Text → Rule
 built_flag name = record (flag_rule name) {
   defaults = codes "false" ∷ [];
@@ -48,6 +51,9 @@ built_from = record (built_one (codes "FROM") None None parser.String) { long = 
 
 abbrev pub built_record : Rule
 built_record = record (built_one (codes "RECORD") None None parser.String) { long = Some (codes "record"); required = false }
+
+abbrev pub built_history : Rule
+built_history = record (built_one (codes "HISTORY") None None parser.String) { long = Some (codes "history"); required = false }
 
 abbrev pub built_calls : Rule
 built_calls = record (built_one (codes "FROM-TO") None None parser.String) { long = Some (codes "calls"); required = false }
@@ -92,10 +98,11 @@ abbrev pub verify_leaf : Shape
 verify_leaf = leaf (codes "verify") (built_name 1 (codes "MODULE") ∷ built_name 2 (codes "RECORD") ∷ built_help ∷ [])
 
 abbrev pub order_leaf : Shape
-order_leaf = leaf (codes "order") (built_name 1 (codes "MODULE") ∷ built_name 2 (codes "HISTORY") ∷ built_budget ∷ built_most ∷ built_help ∷ [])
+order_leaf = leaf (codes "order") (built_name 1 (codes "MODULE") ∷ built_name 2 (codes "HISTORY") ∷ built_budget ∷ built_most
+    ∷ built_flag (codes "record") ∷ built_by ∷ built_help ∷ [])
 
 abbrev pub explain_leaf : Shape
-explain_leaf = leaf (codes "explain") (run_rules false false false (built_record ∷ built_flag (codes "traps") ∷ built_help ∷ []))
+explain_leaf = leaf (codes "explain") (run_rules false false false (built_record ∷ built_history ∷ built_flag (codes "traps") ∷ built_help ∷ []))
 
 abbrev pub bound_leaf : Shape
 bound_leaf = leaf (codes "bound") (built_name 1 (codes "MODULE") ∷ built_number ∷ built_budget ∷ built_help ∷ [])

@@ -1,15 +1,7 @@
 pub mod OneSort
 pub mod Numbers
 pub mod CallPlaces
-pub mod PlainWords
-pub mod WalkedWords
 pub mod BuiltLine
-pub mod AskedWords
-pub mod ChosenWords
-pub mod OptionRows
-pub mod CommandForms
-pub mod FormsAsked
-pub mod HelpForms
 pub mod FilledRows
 pub mod Required
 pub mod Readings

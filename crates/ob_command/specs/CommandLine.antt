@@ -10,8 +10,10 @@ use Rattle.clap.specs.Words.{Kinds, Row, fault_of, first_of, one_of, subcommand_
 use Rattle.clap.specs.declared.error.kind.ErrorKind.TheVariants as kind
 use Rattle.ob_command_line.specs.ClapCommand.{obl0_app}
 use Rattle.ob_command.specs.declared.command.CallNumbers.{CallNumbers}
+use Rattle.ob_command.specs.declared.command.OrderProduct.{OrderProduct}
+use Rattle.ob_command.specs.declared.command.OrderProduct.TheVariants.{Apart, Line, WholeRecord}
 use Rattle.ob_command.specs.declared.given.Part.{Part}
-use Rattle.ob_command.specs.declared.given.Part.TheVariants.{Script, Schedule, Record, From, Processes, Budget, Tree, Steps, Traps}
+use Rattle.ob_command.specs.declared.given.Part.TheVariants.{Script, Schedule, Record, History, From, Processes, Budget, Tree, Steps, Traps}
 
 abbrev pub Text : Type 0
 Text = List ℕ
@@ -30,13 +32,21 @@ pub record RunRequest : Type 0 where
   pub calls : CallsRequest
   pub schedule_name : Text
 
+-- What an order is looked for in, and how: the names of the files of a module and a history, the budget of its calls where one is given, how
+-- many configurations are looked at at most, and what is printed of the order.
+pub record OrderRequest : Type 0 where
+  pub module_name : Text
+  pub history_name : Text
+  pub budget : Option ℕ
+  pub most : ℕ
+  pub product : OrderProduct
+
 -- What they ask for: the rules of a module checked; its code listed; the calls of a script made on it; a run's record; the record of the
 -- same run by the tree of the module; the record with the own steps of its calls beside it; the record of workers' run; a run's picture;
--- a record's; the order of a record checked; a legal order of a history, with a budget where one is given, by a look at so many
--- configurations at most; what is wrong with a module, or with a module and a script, shown to people; where the calls
--- of a script trap, shown to people; what is wrong with a run; the same of a record; how many own steps a call takes at most; help; the
--- version; or nothing that there is. A command has the names of its files, and a budget is how many turns each call has. A picture has
--- some calls, or all.
+-- a record's; the order of a record checked; a legal order of a history; what is wrong with a module, or with a module and a script, shown
+-- to people; where the calls of a script trap, shown to people; what is wrong with a run; the same of a record, and of a history; how many
+-- own steps a call takes at most; help; the version; or nothing that there is. A command has the names of its files, and a budget is how
+-- many turns each call has. A picture has some calls, or all.
 pub data Request : Type 0 where
   Check : (module_name : Text) → Request
   Listing : (module_name : Text) → Request
@@ -48,12 +58,13 @@ pub data Request : Type 0 where
   Draw : (run : RunRequest) (calls : Option CallNumbers) → Request
   DrawRecord : (module_name record_name : Text) (calls : Option CallNumbers) → Request
   Verify : (module_name record_name : Text) → Request
-  Order : (module_name history_name : Text) (budget : Option ℕ) (most : ℕ) → Request
+  Order : (order : OrderRequest) → Request
   Explain : (module_name : Text) (budget : ℕ) → Request
   ExplainCalls : (calls : CallsRequest) → Request
   ExplainTraps : (calls : CallsRequest) → Request
   ExplainRun : (run : RunRequest) → Request
   ExplainRecord : (module_name record_name : Text) → Request
+  ExplainHistory : (module_name history_name : Text) → Request
   Bound : (module_name : Text) (processes budget : ℕ) → Request
   Help : Request
   Version : Request
@@ -63,7 +74,7 @@ pub data Request : Type 0 where
 abbrev pub number_up_to : (most : ℕ) → Text → Option ℕ
 number_up_to most text = if is_unsigned_in 0 most text then Some (digits_value 10 (without_leading_plus text)) else None
 
--- a number of processes, below 65,536
+-- a number of processes, or the place of an argument, below 65,536
 abbrev pub number : Text → Option ℕ
 number = number_up_to 65535
 
@@ -103,12 +114,15 @@ default_budget = 100000
 abbrev pub default_most : ℕ
 default_most = 10000000
 
--- a budget that calls of a history can have had, and a number of configurations
+-- a budget that calls of a history can have had, a number of configurations, and the place of an argument
 abbrev pub is_seen_budget : ℕ → Bool
 is_seen_budget budget = nat_le budget 1000000
 
 abbrev pub is_most : ℕ → Bool
 is_most most = nat_le 1 most && nat_le most 1000000000
+
+abbrev pub is_place : ℕ → Bool
+is_place place = nat_le 1 place && nat_le place 8
 
 -- of how many processes calls may be that are made one at a time
 abbrev pub sequence_processes : ℕ
@@ -128,6 +142,8 @@ pub record Given : Type 0 where
   pub processes : Option ℕ
   pub budget : Option ℕ
   pub most : Option ℕ
+  pub argument : Option ℕ
+  pub as_record : Bool
   pub tree : Bool
   pub steps : Bool
   pub traps : Bool
@@ -143,6 +159,10 @@ budget_of rows = option_and_then budget_number (one_of (codes "BUDGET") rows)
 -- the number of configurations that stands behind `--most`, of the same rows
 abbrev pub most_of : List Row → Option ℕ
 most_of rows = option_and_then budget_number (one_of (codes "K") rows)
+
+-- the place of an argument that stands behind `--by`, of the same rows
+abbrev pub argument_of : List Row → Option ℕ
+argument_of rows = option_and_then number (one_of (codes "BY") rows)
 
 -- whether a word stands there that has no value, by what clap keeps of it
 abbrev pub is_true : Option Text → Bool
@@ -164,6 +184,8 @@ given_of rows = record {
   processes = processes_of rows;
   budget = budget_of rows;
   most = most_of rows;
+  argument = argument_of rows;
+  as_record = is_set (codes "record") rows;
   tree = is_set (codes "tree") rows;
   steps = is_set (codes "steps") rows;
   traps = is_set (codes "traps") rows;
@@ -217,20 +239,37 @@ bound_of module_name given = option_map (λ processes. Bound module_name process
 
 -- the numbers behind `order` are in their ranges, where they are given
 abbrev pub are_seen : Given → Bool
-are_seen given = option_map_or is_seen_budget given.budget true && option_map_or is_most given.most true
+are_seen given =
+    option_map_or is_seen_budget given.budget true && option_map_or is_most given.most true && option_map_or is_place given.argument true
+
+-- what is printed of an order: its line, the record with it, or a line for each value of an argument; a record of those parts there is not
+abbrev pub product_by : (as_record : Bool) (argument : Option ℕ) → Option OrderProduct
+product_by false None = Some Line
+product_by false (Some place) = Some (Apart place)
+product_by true None = Some WholeRecord
+product_by true (Some place) = None
+
+-- the order of a history by that
+abbrev pub order_by : (module_name : Text) → Given → OrderProduct → Option Request
+order_by module_name given product = option_map (λ history_name. Order (record {
+  module_name = module_name;
+  history_name = history_name;
+  budget = given.budget;
+  most = unwrap_or given.most default_most;
+  product = product;
+})) given.history_name
 
 -- a legal order of a history, where the numbers are in their ranges
 abbrev pub order_of : (module_name : Text) → Given → Option Request
 order_of module_name given =
-    if are_seen given
-    then option_map (λ history_name. Order module_name history_name given.budget (unwrap_or given.most default_most)) given.history_name
-    else None
+    if are_seen given then option_and_then (order_by module_name given) (product_by given.as_record given.argument) else None
 
 -- whether a part of what may be given is given
 abbrev pub has : Given → Part → Bool
 has given Script = is_some given.script_name
 has given Schedule = is_some given.schedule_name
 has given Record = is_some given.record_name
+has given History = is_some given.history_name
 has given From = is_some given.from_name
 has given Processes = is_some given.processes
 has given Budget = is_some given.budget
@@ -268,14 +307,20 @@ draw_forms =
     ∷ form [] (Schedule ∷ Processes ∷ Budget ∷ From ∷ []) record_picture_of
     ∷ []
 
+-- what is explained of a module alone, or with calls
+abbrev pub explain_calls_forms : List Form
+explain_calls_forms =
+    form (Traps ∷ []) (Record ∷ History ∷ Schedule ∷ Processes ∷ []) (λ m given. option_map ExplainTraps (sequence_of m given))
+    ∷ form (Schedule ∷ []) (Record ∷ History ∷ Traps ∷ []) (λ m given. option_map ExplainRun (run_of m given))
+    ∷ form (Script ∷ []) (Record ∷ History ∷ Traps ∷ Schedule ∷ Processes ∷ []) (λ m given. option_map ExplainCalls (sequence_of m given))
+    ∷ form [] (Record ∷ History ∷ Traps ∷ Schedule ∷ Script ∷ Processes ∷ From ∷ []) (λ m given. Some (Explain m (turns_of given)))
+    ∷ []
+
 abbrev pub explain_forms : List Form
 explain_forms =
-    form (Record ∷ []) (Script ∷ Processes ∷ Budget ∷ From ∷ Traps ∷ []) (λ m given. option_map (ExplainRecord m) given.record_name)
-    ∷ form (Traps ∷ []) (Record ∷ Schedule ∷ Processes ∷ []) (λ m given. option_map ExplainTraps (sequence_of m given))
-    ∷ form (Schedule ∷ []) (Record ∷ Traps ∷ []) (λ m given. option_map ExplainRun (run_of m given))
-    ∷ form (Script ∷ []) (Record ∷ Traps ∷ Schedule ∷ Processes ∷ []) (λ m given. option_map ExplainCalls (sequence_of m given))
-    ∷ form [] (Record ∷ Traps ∷ Schedule ∷ Script ∷ Processes ∷ From ∷ []) (λ m given. Some (Explain m (turns_of given)))
-    ∷ []
+    form (Record ∷ []) (History ∷ Script ∷ Processes ∷ Budget ∷ From ∷ Traps ∷ []) (λ m given. option_map (ExplainRecord m) given.record_name)
+    ∷ form (History ∷ []) (Record ∷ Script ∷ Processes ∷ Budget ∷ From ∷ Traps ∷ []) (λ m given. option_map (ExplainHistory m) given.history_name)
+    ∷ explain_calls_forms
 
 -- each command with its forms
 abbrev pub commands : List (Text × List Form)
@@ -329,7 +374,7 @@ turned_mistake =
 -- and of words behind `explain` that are in none of its forms
 abbrev pub explain_mistake : Text
 explain_mistake =
-    codes "error: these words are in no form of explain, which are\n  obl0 explain MODULE\n  obl0 explain MODULE SCRIPT [-b BUDGET] [--from RECORD] [--traps]\n  obl0 explain MODULE SCRIPT SCHEDULE -n N [-b BUDGET] [--from RECORD]\n  obl0 explain MODULE --record RECORD\n\nFor more information, try '--help'.\n"
+    codes "error: these words are in no form of explain, which are\n  obl0 explain MODULE\n  obl0 explain MODULE SCRIPT [-b BUDGET] [--from RECORD] [--traps]\n  obl0 explain MODULE SCRIPT SCHEDULE -n N [-b BUDGET] [--from RECORD]\n  obl0 explain MODULE --record RECORD\n  obl0 explain MODULE --history HISTORY\n\nFor more information, try '--help'.\n"
 
 -- and of numbers behind `order` that are out of their ranges
 abbrev pub seen_budget_mistake : Text
@@ -339,6 +384,14 @@ seen_budget_mistake =
 abbrev pub most_mistake : Text
 most_mistake =
     codes "error: behind --most stands how many configurations are looked at, 1 to 1000000000\n\nFor more information, try '--help'.\n"
+
+abbrev pub place_mistake : Text
+place_mistake =
+    codes "error: behind --by stands the place of an argument, 1 to 8\n\nFor more information, try '--help'.\n"
+
+-- and of words there that ask for a record of parts
+abbrev pub parts_mistake : Text
+parts_mistake = codes "error: --record and --by don't stand together\n\nFor more information, try '--help'.\n"
 
 -- and of words behind `run` that ask for own steps by the tree, or that begin a run by the tree with a record
 abbrev pub steps_mistake : Text
@@ -350,7 +403,7 @@ from_mistake = codes "error: --tree and --from don't stand together\n\nFor more 
 -- and behind which options which numbers stand
 abbrev pub number_sentence : Text
 number_sentence =
-    codes "behind -n stands the number of processes, 1 to 16, behind -b how many turns each call has, 0 to 1000000, and behind --most how many configurations are looked at, 1 to 1000000000\n\nFor more information, try '--help'.\n"
+    codes "behind -n stands the number of processes, 1 to 16, behind -b how many turns each call has, 0 to 1000000, behind --most how many configurations are looked at, 1 to 1000000000, and behind --by the place of an argument, 1 to 8\n\nFor more information, try '--help'.\n"
 
 -- a number below 0, or else no word that there is: a `-` and a digit
 abbrev pub is_negative : Text → Bool
@@ -372,18 +425,23 @@ draw_mistake_of range = if is_some (range_by range) then draw_mistake else range
 abbrev pub run_mistake_of : (steps : Bool) → Text
 run_mistake_of steps = if steps then steps_mistake else from_mistake
 
--- and of numbers behind `order`: of the number of configurations where that is out of its range, and else of the budget
-abbrev pub order_mistake_of : (most : Option ℕ) → Text
-order_mistake_of most = if option_map_or is_most most true then seen_budget_mistake else most_mistake
+-- and of numbers behind `order`: of the number of configurations where that is out of its range, else of the budget where that is, else of
+-- the place of an argument where that is; and else that a record has no parts
+abbrev pub order_mistake_of : Given → Text
+order_mistake_of given =
+    if not (option_map_or is_most given.most true) then most_mistake
+    else if not (option_map_or is_seen_budget given.budget true) then seen_budget_mistake
+    else if not (option_map_or is_place given.argument true) then place_mistake
+    else parts_mistake
 
--- What is said where the words of a command that has several forms have none of these, or where numbers behind `order` are out of their
--- ranges. Every other command has one form, which clap tests.
+-- What is said where the words of a command that has several forms have none of these, or where what stands behind `order` does not fit.
+-- Every other command has one form, which clap tests.
 abbrev pub form_mistake_by : Text → Given → Option Text
 form_mistake_by name given =
     if bytes_eq name (codes "draw") then Some (draw_mistake_of given.range)
     else if bytes_eq name (codes "explain") then Some explain_mistake
     else if bytes_eq name (codes "run") then Some (run_mistake_of given.steps)
-    else if bytes_eq name (codes "order") then Some (order_mistake_of given.most)
+    else if bytes_eq name (codes "order") then Some (order_mistake_of given)
     else None
 
 -- the same of the rows

@@ -7,12 +7,13 @@ use Rattle.clap.specs.declared.error.kind.ErrorKind.TheVariants as kind
 use Rattle.ob_command.specs.declared.command.Command as command
 use Rattle.ob_command.specs.declared.command.Command.TheVariants as commands
 use Rattle.ob_command.specs.declared.command.CallsCommand.{CallsCommand}
+use Rattle.ob_command.specs.declared.command.OrderCommand.{OrderCommand}
 use Rattle.ob_command.specs.declared.command.RunCommand.{RunCommand}
 use Rattle.ob_command.specs.declared.given.GivenWords.{GivenWords}
 use Rattle.ob_command.specs.declared.command.Stop.{Stop}
 use Rattle.ob_command.specs.declared.command.Stop.TheVariants as stops
 use Rattle.ob_command_line.specs.ClapCommand.{obl0_app}
-use Rattle.ob_command.specs.CommandLine.{Text, clap_words, extra_of_help, form_mistake_of, has_negative, help_mistake, loose_number, number_sentence, number_tip, CallsRequest, Given, Request, RunRequest, Check, Listing, Seq, Run, RunTree, RunSteps, Serve, Draw, DrawRecord, Verify, Order, Explain, ExplainCalls, ExplainTraps, ExplainRun, ExplainRecord, Bound, Help, Version, Unclear}
+use Rattle.ob_command.specs.CommandLine.{Text, clap_words, extra_of_help, form_mistake_of, has_negative, help_mistake, loose_number, number_sentence, number_tip, CallsRequest, Given, OrderRequest, Request, RunRequest, Check, Listing, Seq, Run, RunTree, RunSteps, Serve, Draw, DrawRecord, Verify, Order, Explain, ExplainCalls, ExplainTraps, ExplainRun, ExplainRecord, ExplainHistory, Bound, Help, Version, Unclear}
 
 -- what is given by words
 abbrev pub given_by : GivenWords → Given
@@ -26,6 +27,8 @@ given_by given = record {
   processes = given.processes;
   budget = given.budget;
   most = given.most;
+  argument = given.argument;
+  as_record = given.as_record;
   tree = given.tree;
   steps = given.steps;
   traps = given.traps;
@@ -44,6 +47,15 @@ calls_request_of calls = record {
 abbrev pub run_request_of : RunCommand → RunRequest
 run_request_of run = record { calls = calls_request_of run.calls; schedule_name = run.schedule_name.now }
 
+abbrev pub order_request_of : OrderCommand → OrderRequest
+order_request_of order = record {
+  module_name = order.module_name.now;
+  history_name = order.history_name.now;
+  budget = order.budget;
+  most = order.most;
+  product = order.product;
+}
+
 abbrev pub request_of : command.Command → Request
 request_of (commands.Check module_name) = Check module_name.now
 request_of (commands.List module_name) = Listing module_name.now
@@ -55,12 +67,13 @@ request_of (commands.Serve calls) = Serve (calls_request_of calls)
 request_of (commands.Draw run calls) = Draw (run_request_of run) calls
 request_of (commands.DrawRecord module_name record_name calls) = DrawRecord module_name.now record_name.now calls
 request_of (commands.Verify module_name record_name) = Verify module_name.now record_name.now
-request_of (commands.Order module_name history_name budget most) = Order module_name.now history_name.now budget most
+request_of (commands.Order order) = Order (order_request_of order)
 request_of (commands.Explain module_name budget) = Explain module_name.now budget
 request_of (commands.ExplainCalls calls) = ExplainCalls (calls_request_of calls)
 request_of (commands.ExplainTraps calls) = ExplainTraps (calls_request_of calls)
 request_of (commands.ExplainRun run) = ExplainRun (run_request_of run)
 request_of (commands.ExplainRecord module_name record_name) = ExplainRecord module_name.now record_name.now
+request_of (commands.ExplainHistory module_name history_name) = ExplainHistory module_name.now history_name.now
 request_of (commands.Bound module_name processes budget) = Bound module_name.now processes budget
 
 -- the command that is asked for, or why there is none

@@ -1,4 +1,3 @@
 pub mod ClapTexts
 pub mod CommandLine
 pub mod Commands
-pub mod PlainForms

@@ -2,12 +2,13 @@
 
 ghost use Rattle.std.specs.Prelude.{◌≡◌, option_map, true};
 ghost use Rattle.std.specs.Option.{option_map_or};
-ghost use Rattle.ob_command.specs.CommandLine.{are_seen, asked, asked_by, bound_of, calls_by, calls_of, draw_forms, explain_forms, is_most};
-ghost use Rattle.ob_command.specs.CommandLine.{is_seen_budget, order_of, picture_of, record_picture_of, run_forms, run_of, sequence_of, turns_of};
+ghost use Rattle.ob_command.specs.CommandLine.{are_seen, asked, asked_by, bound_of, calls_by, calls_of, draw_forms, explain_calls_forms, explain_forms, is_most};
+ghost use Rattle.ob_command.specs.CommandLine.{is_place, is_seen_budget, order_by, order_of, picture_of, product_by, record_picture_of, run_forms};
+ghost use Rattle.ob_command.specs.CommandLine.{run_of, sequence_of, turns_of};
 ghost use Rattle.ob_command.specs.Commands.{calls_request_of, given_by, request_of, run_request_of};
 
 use crate::call_range::range_by;
-use crate::command::{CallsCommand, Command, RunCommand};
+use crate::command::{CallsCommand, Command, OrderCommand, OrderProduct, RunCommand};
 use crate::given::{GivenWords, Part, fits};
 
 /// How many turns each call has where nothing is said of them.
@@ -21,6 +22,9 @@ const GREATEST_SEEN_BUDGET: u32 = 1_000_000;
 
 /// The most configurations that a search can be told to look at.
 const GREATEST_MOST: u32 = 1_000_000_000;
+
+/// The last argument that a procedure can have.
+const GREATEST_PLACE: u16 = 8;
 
 /// Of how many processes calls may be that are made one at a time.
 const SEQUENCE_PROCESSES: usize = 16;
@@ -113,23 +117,49 @@ fn order_of<'a>(module_name: &'a str, given: &GivenWords<'a>) -> Option<Command<
     if !are_seen(given) {
         return None;
     }
+    let product = product_by(given.as_record, given.argument)?;
+    order_by(module_name, given, product)
+}
+
+/// What is printed of an order: a record of parts there is not.
+fn product_by(as_record: bool, argument: Option<u16>) -> Option<OrderProduct>
+    ensures { result ≡ product_by as_record argument }
+{
+    match (as_record, argument) {
+        (false, None) => Some(OrderProduct::Line),
+        (false, Some(place)) => Some(OrderProduct::Apart(place)),
+        (true, None) => Some(OrderProduct::WholeRecord),
+        (true, Some(_)) => None,
+    }
+}
+
+/// The order of a history, of which that is printed.
+fn order_by<'a>(
+    module_name: &'a str,
+    given: &GivenWords<'a>,
+    product: OrderProduct,
+) -> Option<Command<'a>>
+    ensures { option_map request_of result ≡ order_by module_name.entry.now (given_by given.now) product }
+{
     let history_name = given.history_name?;
-    Some(Command::Order {
+    Some(Command::Order(OrderCommand {
         module_name,
         history_name,
         budget: given.budget,
         most: given.most.unwrap_or(DEFAULT_MOST),
-    })
+        product,
+    }))
 }
 
 /// Whether the numbers behind `order` are in their ranges, where they are given.
 fn are_seen(given: &GivenWords<'_>) -> bool
     ensures { result ≡ are_seen (given_by given.now) }
 {
-    is_seen_budget(given.budget) && is_most(given.most)
+    is_seen_budget(given.budget) && is_most(given.most) && is_place(given.argument)
 }
 
-fn is_seen_budget(budget: Option<u32>) -> bool
+/// Whether calls can have had so many turns.
+pub(crate) fn is_seen_budget(budget: Option<u32>) -> bool
     ensures { result ≡ option_map_or is_seen_budget budget true }
 {
     match budget {
@@ -148,6 +178,16 @@ pub(crate) fn is_most(most: Option<u32>) -> bool
     }
 }
 
+/// Whether an argument can stand there.
+pub(crate) fn is_place(place: Option<u16>) -> bool
+    ensures { result ≡ option_map_or is_place place true }
+{
+    match place {
+        Some(place) => 1 <= place && place <= GREATEST_PLACE,
+        None => true,
+    }
+}
+
 /// What is to be shown, of what is given behind `explain`.
 fn explain_asked<'a>(module_name: &'a str, given: &GivenWords<'a>) -> Option<Command<'a>>
     ensures { option_map request_of result ≡ asked_by explain_forms module_name.entry.now (given_by given.now) }
@@ -156,6 +196,7 @@ fn explain_asked<'a>(module_name: &'a str, given: &GivenWords<'a>) -> Option<Com
         given,
         &[Part::Record],
         &[
+            Part::History,
             Part::Script,
             Part::Processes,
             Part::Budget,
@@ -170,18 +211,52 @@ fn explain_asked<'a>(module_name: &'a str, given: &GivenWords<'a>) -> Option<Com
     }
     if fits(
         given,
+        &[Part::History],
+        &[
+            Part::Record,
+            Part::Script,
+            Part::Processes,
+            Part::Budget,
+            Part::From,
+            Part::Traps,
+        ],
+    ) {
+        return Some(Command::ExplainHistory {
+            module_name,
+            history_name: given.history_name?,
+        });
+    }
+    explain_calls_asked(module_name, given)
+}
+
+/// What is to be shown of a module alone, or with calls.
+fn explain_calls_asked<'a>(module_name: &'a str, given: &GivenWords<'a>) -> Option<Command<'a>>
+    ensures { option_map request_of result ≡ asked_by explain_calls_forms module_name.entry.now (given_by given.now) }
+{
+    if fits(
+        given,
         &[Part::Traps],
-        &[Part::Record, Part::Schedule, Part::Processes],
+        &[Part::Record, Part::History, Part::Schedule, Part::Processes],
     ) {
         return Some(Command::ExplainTraps(sequence_of(module_name, given)?));
     }
-    if fits(given, &[Part::Schedule], &[Part::Record, Part::Traps]) {
+    if fits(
+        given,
+        &[Part::Schedule],
+        &[Part::Record, Part::History, Part::Traps],
+    ) {
         return Some(Command::ExplainRun(run_of(module_name, given)?));
     }
     if fits(
         given,
         &[Part::Script],
-        &[Part::Record, Part::Traps, Part::Schedule, Part::Processes],
+        &[
+            Part::Record,
+            Part::History,
+            Part::Traps,
+            Part::Schedule,
+            Part::Processes,
+        ],
     ) {
         return Some(Command::ExplainCalls(sequence_of(module_name, given)?));
     }
@@ -190,6 +265,7 @@ fn explain_asked<'a>(module_name: &'a str, given: &GivenWords<'a>) -> Option<Com
         &[],
         &[
             Part::Record,
+            Part::History,
             Part::Traps,
             Part::Schedule,
             Part::Script,

@@ -52,13 +52,8 @@ pub enum Command<'a> {
         module_name: &'a str,
         record_name: &'a str,
     },
-    /// `order MODULE HISTORY -b BUDGET --most K`: whether a history has a legal order, by a look at so many configurations at most.
-    Order {
-        module_name: &'a str,
-        history_name: &'a str,
-        budget: Option<u32>,
-        most: u32,
-    },
+    /// `order MODULE HISTORY -b BUDGET --most K`, with `--record` or `--by N`: whether a history has a legal order, which is printed.
+    Order(OrderCommand<'a>),
     /// `explain MODULE`: what is wrong with a module, shown to people.
     Explain {
         module_name: &'a str,
@@ -74,6 +69,11 @@ pub enum Command<'a> {
     ExplainRecord {
         module_name: &'a str,
         record_name: &'a str,
+    },
+    /// `explain MODULE --history HISTORY`: what is wrong with a history, shown to people.
+    ExplainHistory {
+        module_name: &'a str,
+        history_name: &'a str,
     },
     /// `bound MODULE -n N -b BUDGET`: how many own steps a call takes at most.
     Bound {
@@ -99,6 +99,28 @@ pub struct CallsCommand<'a> {
 pub struct RunCommand<'a> {
     pub calls: CallsCommand<'a>,
     pub schedule_name: &'a str,
+}
+
+/// What an order is looked for in, and how: the names of the files of a module and a history, the budget of its calls where one is given, how
+/// many configurations are looked at at most, and what is printed of the order.
+#[derive(Clone, Copy)]
+pub struct OrderCommand<'a> {
+    pub module_name: &'a str,
+    pub history_name: &'a str,
+    pub budget: Option<u32>,
+    pub most: u32,
+    pub product: OrderProduct,
+}
+
+/// What is printed of a legal order.
+#[derive(Clone, Copy)]
+pub enum OrderProduct {
+    /// Its line.
+    Line,
+    /// The history as a record with that order.
+    WholeRecord,
+    /// A line for each value of an argument, whose calls are ordered apart. The place of the argument counts from 1.
+    Apart(u16),
 }
 
 /// Some calls of a run, by the places of the first and of the last in the order in which the calls begin, from 1.

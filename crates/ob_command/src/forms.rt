@@ -3,10 +3,10 @@
 ghost use Rattle.std.specs.Prelude.{◌≡◌, option_map};
 ghost use Rattle.clap.specs.Words.{found_of, rows_of};
 ghost use Rattle.ob_command.specs.Commands.{given_by};
-ghost use Rattle.ob_command.specs.CommandLine.{draw_mistake_of, form_mistake, form_mistake_by, is_turned, order_mistake_of};
+ghost use Rattle.ob_command.specs.CommandLine.{draw_mistake_of, explain_mistake, form_mistake, form_mistake_by, is_turned, order_mistake_of};
 ghost use Rattle.ob_command.specs.CommandLine.{range_mistake, run_mistake_of};
 
-use crate::asked::is_most;
+use crate::asked::{is_most, is_place, is_seen_budget};
 use crate::call_range::{is_turned, range_by};
 use crate::given::{GivenWords, given_of};
 use clap::ArgMatches;
@@ -27,6 +27,7 @@ error: these words are in no form of explain, which are
   obl0 explain MODULE SCRIPT [-b BUDGET] [--from RECORD] [--traps]
   obl0 explain MODULE SCRIPT SCHEDULE -n N [-b BUDGET] [--from RECORD]
   obl0 explain MODULE --record RECORD
+  obl0 explain MODULE --history HISTORY
 
 For more information, try '--help'.
 ";
@@ -59,6 +60,20 @@ error: behind --most stands how many configurations are looked at, 1 to 10000000
 For more information, try '--help'.
 ";
 
+/// What is wrong with a number of an argument that no call can have.
+const UNCLEAR_PLACE: &str = "\
+error: behind --by stands the place of an argument, 1 to 8
+
+For more information, try '--help'.
+";
+
+/// What is wrong with words behind `order` that ask for a record of parts.
+const RECORD_AND_BY: &str = "\
+error: --record and --by don't stand together
+
+For more information, try '--help'.
+";
+
 /// What is wrong with a word behind `--calls` that names no calls.
 const UNCLEAR_CALLS: &str = "\
 error: behind --calls stands FROM-TO, as 3-5: the places of the first and the last call, from 1
@@ -86,11 +101,18 @@ fn form_mistake_by(name: &str, given: &GivenWords<'_>) -> Option<&'static str>
 {
     match name {
         "draw" => Some(draw_mistake_of(given.range)),
-        "explain" => Some(UNCLEAR_EXPLAIN),
+        "explain" => Some(explain_mistake()),
         "run" => Some(run_mistake_of(given.steps)),
-        "order" => Some(order_mistake_of(given.most)),
+        "order" => Some(order_mistake_of(given)),
         _ => None,
     }
+}
+
+/// What is said of words that have none of the forms of `explain`.
+fn explain_mistake() -> &'static str
+    ensures { result.now ≡ explain_mistake }
+{
+    UNCLEAR_EXPLAIN
 }
 
 /// What is said of words that have none of the forms of `run`.
@@ -100,14 +122,18 @@ fn run_mistake_of(steps: bool) -> &'static str
     if steps { TREE_AND_STEPS } else { TREE_AND_FROM }
 }
 
-/// What is said of numbers behind `order` of which one is out of its range.
-fn order_mistake_of(most: Option<u32>) -> &'static str
-    ensures { result.now ≡ order_mistake_of most }
+/// What is said of words behind `order` of which one number is out of its range, or that ask for a record of parts.
+fn order_mistake_of(given: &GivenWords<'_>) -> &'static str
+    ensures { result.now ≡ order_mistake_of (given_by given.now) }
 {
-    if is_most(most) {
-        UNCLEAR_SEEN_BUDGET
-    } else {
+    if !is_most(given.most) {
         UNCLEAR_MOST
+    } else if !is_seen_budget(given.budget) {
+        UNCLEAR_SEEN_BUDGET
+    } else if !is_place(given.argument) {
+        UNCLEAR_PLACE
+    } else {
+        RECORD_AND_BY
     }
 }
 

@@ -2,7 +2,7 @@
 
 ghost use Rattle.std.specs.Prelude.{◌≡◌, option_map};
 ghost use Rattle.clap.specs.Words.{first_of, found_of, rows_of};
-ghost use Rattle.ob_command.specs.CommandLine.{budget_of, fits, given_of, has, is_set, is_true, most_of, processes_of};
+ghost use Rattle.ob_command.specs.CommandLine.{argument_of, budget_of, fits, given_of, has, is_set, is_true, most_of, processes_of};
 ghost use Rattle.ob_command.specs.Commands.{given_by};
 
 use clap::ArgMatches;
@@ -21,6 +21,10 @@ pub(crate) struct GivenWords<'a> {
     pub(crate) budget: Option<u32>,
     /// How many configurations are looked at.
     pub(crate) most: Option<u32>,
+    /// The place of the argument by which calls are parted.
+    pub(crate) argument: Option<u16>,
+    /// Whether a record is to be printed.
+    pub(crate) as_record: bool,
     pub(crate) tree: bool,
     pub(crate) steps: bool,
     pub(crate) traps: bool,
@@ -32,6 +36,7 @@ pub(crate) enum Part {
     Script,
     Schedule,
     Record,
+    History,
     From,
     Processes,
     Budget,
@@ -54,6 +59,8 @@ pub(crate) fn given_of<'a>(matches: &ArgMatches<'a>) -> GivenWords<'a>
         processes: processes_of(matches),
         budget: budget_of(matches),
         most: most_of(matches),
+        argument: argument_of(matches),
+        as_record: is_set(matches, "record"),
         tree: is_set(matches, "tree"),
         steps: is_set(matches, "steps"),
         traps: is_set(matches, "traps"),
@@ -88,6 +95,13 @@ fn most_of(matches: &ArgMatches<'_>) -> Option<u32>
     matches.get_one::<u32>("K")
 }
 
+/// The place of the argument by which calls are parted, of the same matches.
+fn argument_of(matches: &ArgMatches<'_>) -> Option<u16>
+    ensures { result ≡ argument_of (rows_of (found_of matches.now)) }
+{
+    matches.get_one::<u16>("BY")
+}
+
 /// Whether a word stands there that has no value, of the same matches.
 fn is_set(matches: &ArgMatches<'_>, name: &str) -> bool
     ensures { result ≡ is_set name.now (rows_of (found_of matches.now)) }
@@ -120,6 +134,7 @@ fn has(given: &GivenWords<'_>, part: Part) -> bool
         Part::Script => given.script_name.is_some(),
         Part::Schedule => given.schedule_name.is_some(),
         Part::Record => given.record_name.is_some(),
+        Part::History => given.history_name.is_some(),
         Part::From => given.from_name.is_some(),
         Part::Processes => given.processes.is_some(),
         Part::Budget => given.budget.is_some(),

@@ -7,7 +7,8 @@ pub mod command;
 mod forms;
 mod given;
 mod help;
-pub mod laws;
 mod mistakes;
 
-pub use command::{CallNumbers, CallsCommand, Command, RunCommand, Stop, read_command};
+pub use command::{
+    CallNumbers, CallsCommand, Command, OrderCommand, OrderProduct, RunCommand, Stop, read_command,
+};

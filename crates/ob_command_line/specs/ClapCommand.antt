@@ -26,6 +26,10 @@ budget_rule = record (new_rule (codes "BUDGET")) { short = Some 98; long = Some 
 abbrev pub most_rule : Rule
 most_rule = record (new_rule (codes "K")) { long = Some (codes "most"); parser = Some (Signed (pos 0) (pos 4294967295)) }
 
+-- `--by N`, with a number of 16 bits, which may be missing
+abbrev pub by_rule : Rule
+by_rule = record (new_rule (codes "BY")) { long = Some (codes "by"); value_names = 1; parser = Some (Signed (pos 0) (pos 65535)) }
+
 -- `--from RECORD`, which may be missing
 abbrev pub from_rule : Rule
 from_rule = record (new_rule (codes "FROM")) { long = Some (codes "from"); value_names = 1 }
@@ -42,6 +46,10 @@ calls_rule = record (new_rule (codes "FROM-TO")) { long = Some (codes "calls") }
 abbrev pub record_rule : Rule
 record_rule = record (new_rule (codes "RECORD")) { long = Some (codes "record") }
 
+-- `--history HISTORY`, which may be missing
+abbrev pub history_rule : Rule
+history_rule = record (new_rule (codes "HISTORY")) { long = Some (codes "history") }
+
 -- ---- the table of the commands
 
 -- A command of this name: what may stand behind it, in the order in which help lists it.
@@ -56,9 +64,14 @@ module_app command = command_app command (name_rule (codes "MODULE") ∷ [])
 abbrev pub record_app : Text → App
 record_app command = command_app command (name_rule (codes "MODULE") ∷ name_rule (codes "RECORD") ∷ [])
 
--- `MODULE HISTORY -b BUDGET --most K`
+-- `MODULE HISTORY -b BUDGET --most K`, with which the words of `order` begin
+abbrev pub search_app : Text → App
+search_app command = command_app command (name_rule (codes "MODULE") ∷ name_rule (codes "HISTORY") ∷ budget_rule ∷ most_rule ∷ [])
+
+-- `MODULE HISTORY -b BUDGET --most K --record --by N`
 abbrev pub order_app : Text → App
-order_app command = command_app command (name_rule (codes "MODULE") ∷ name_rule (codes "HISTORY") ∷ budget_rule ∷ most_rule ∷ [])
+order_app command = command_app command (name_rule (codes "MODULE") ∷ name_rule (codes "HISTORY") ∷ budget_rule ∷ most_rule
+    ∷ flag_rule (codes "record") ∷ by_rule ∷ [])
 
 -- `MODULE -n N -b BUDGET`
 abbrev pub bound_app : Text → App
@@ -85,6 +98,11 @@ abbrev pub texts_app : Text → App
 texts_app command =
     command_app command (name_rule (codes "MODULE") ∷ new_rule (codes "SCRIPT") ∷ new_rule (codes "SCHEDULE") ∷ optional_number_rule ∷ budget_rule ∷ [])
 
+-- the same and `--from RECORD --record RECORD --history HISTORY`
+abbrev pub files_app : Text → App
+files_app command = command_app command (name_rule (codes "MODULE") ∷ new_rule (codes "SCRIPT") ∷ new_rule (codes "SCHEDULE")
+    ∷ optional_number_rule ∷ budget_rule ∷ from_rule ∷ record_rule ∷ history_rule ∷ [])
+
 -- `MODULE SCRIPT SCHEDULE -n N -b BUDGET --from RECORD --tree --steps`
 abbrev pub run_app : Text → App
 run_app command = command_app command (name_rule (codes "MODULE") ∷ name_rule (codes "SCRIPT") ∷ name_rule (codes "SCHEDULE")
@@ -95,10 +113,11 @@ abbrev pub draw_app : Text → App
 draw_app command = command_app command (name_rule (codes "MODULE") ∷ name_rule (codes "SCRIPT") ∷ new_rule (codes "SCHEDULE")
     ∷ optional_number_rule ∷ budget_rule ∷ from_rule ∷ calls_rule ∷ [])
 
--- `MODULE`, `MODULE SCRIPT -b BUDGET --from RECORD --traps`, `MODULE SCRIPT SCHEDULE -n N -b BUDGET --from RECORD`, `MODULE --record RECORD`
+-- `MODULE`, `MODULE SCRIPT -b BUDGET --from RECORD --traps`, `MODULE SCRIPT SCHEDULE -n N -b BUDGET --from RECORD`, `MODULE --record RECORD`,
+-- `MODULE --history HISTORY`
 abbrev pub explain_app : Text → App
 explain_app command = command_app command (name_rule (codes "MODULE") ∷ new_rule (codes "SCRIPT") ∷ new_rule (codes "SCHEDULE")
-    ∷ optional_number_rule ∷ budget_rule ∷ from_rule ∷ record_rule ∷ flag_rule (codes "traps") ∷ [])
+    ∷ optional_number_rule ∷ budget_rule ∷ from_rule ∷ record_rule ∷ history_rule ∷ flag_rule (codes "traps") ∷ [])
 
 abbrev pub top_shape : Shape
 top_shape = record (new_app (codes "obl0")).top {
@@ -116,7 +135,22 @@ top_app = record { top = top_shape; subs = [] }
 abbrev pub with_command : App → App → App
 with_command app command = with_subcommand app command.top
 
+-- those that make no calls of a script, or one at a time; that make a run; that look at a record or a history; and that tell of a module
+abbrev pub module_apps : List App
+module_apps = module_app (codes "check") ∷ module_app (codes "list") ∷ seq_app (codes "seq") ∷ []
+
+abbrev pub run_apps : List App
+run_apps = run_app (codes "run") ∷ serve_app (codes "serve") ∷ draw_app (codes "draw") ∷ []
+
+abbrev pub record_apps : List App
+record_apps = record_app (codes "verify") ∷ order_app (codes "order") ∷ []
+
+abbrev pub telling_apps : List App
+telling_apps = explain_app (codes "explain") ∷ bound_app (codes "bound") ∷ []
+
+-- these commands beside those that are there
+abbrev pub with_commands : App → List App → App
+with_commands app commands = fold with_command app commands
+
 abbrev pub obl0_app : App
-obl0_app = fold with_command top_app (module_app (codes "check") ∷ module_app (codes "list") ∷ seq_app (codes "seq")
-    ∷ run_app (codes "run") ∷ serve_app (codes "serve") ∷ draw_app (codes "draw") ∷ record_app (codes "verify")
-    ∷ order_app (codes "order") ∷ explain_app (codes "explain") ∷ bound_app (codes "bound") ∷ [])
+obl0_app = fold with_commands top_app (module_apps ∷ run_apps ∷ record_apps ∷ telling_apps ∷ [])

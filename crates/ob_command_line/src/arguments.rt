@@ -2,8 +2,8 @@
 
 ghost use Rattle.std.specs.Prelude.{◌≡◌, false};
 ghost use Rattle.clap.specs.Words.{new_rule, rule_of};
-ghost use Rattle.ob_command_line.specs.ClapCommand.{budget_rule, calls_rule, flag_rule, from_rule, most_rule, name_rule, number_rule};
-ghost use Rattle.ob_command_line.specs.ClapCommand.{optional_number_rule, record_rule};
+ghost use Rattle.ob_command_line.specs.ClapCommand.{budget_rule, by_rule, calls_rule, flag_rule, from_rule, history_rule, most_rule};
+ghost use Rattle.ob_command_line.specs.ClapCommand.{name_rule, number_rule, optional_number_rule, record_rule};
 
 use clap::{Arg, ArgAction};
 use std::alloc::Global;
@@ -18,6 +18,11 @@ const HELP_SEEN_BUDGET: &str =
 
 const HELP_MOST: &str =
     "How many configurations are looked at, 1 to 1000000000; 10000000 where nothing is said";
+
+const HELP_BY: &str =
+    "Orders the calls of each value of their N-th argument apart, N from 1 to 8, and prints a line for each";
+
+const HELP_HISTORY: &str = "The file of the history, as `order` reads it";
 
 const HELP_FROM: &str =
     "The file of a record whose variables the object begins with, in the place of the module's body";
@@ -58,6 +63,16 @@ pub fn explained_record<'a>(alloc: Global) -> Arg<'a>
     ensures local { result.global ≡ false }
 {
     Arg::new(alloc, "RECORD").long("record").help(HELP_RECORD)
+}
+
+/// The option that names a history in place of a script.
+pub fn explained_history<'a>(alloc: Global) -> Arg<'a>
+    ensures rule { rule_of result ≡ history_rule }
+    ensures local { result.global ≡ false }
+{
+    Arg::new(alloc, "HISTORY")
+        .long("history")
+        .help(HELP_HISTORY)
 }
 
 /// The option that says which calls a picture has.
@@ -124,6 +139,18 @@ pub fn most_configurations<'a>(alloc: Global) -> Arg<'a>
         .long("most")
         .value_parser(clap::value_parser!(u32))
         .help(HELP_MOST)
+}
+
+/// The option that names the argument by whose values calls are ordered apart.
+pub fn parting_argument<'a>(alloc: Global) -> Arg<'a>
+    ensures rule { rule_of result ≡ by_rule }
+    ensures local { result.global ≡ false }
+{
+    Arg::new(alloc, "BY")
+        .long("by")
+        .value_name("N")
+        .value_parser(clap::value_parser!(u16))
+        .help(HELP_BY)
 }
 
 /// The option that names a record whose variables an object begins with.

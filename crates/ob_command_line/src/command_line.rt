@@ -3,7 +3,7 @@
 ghost use Rattle.std.specs.Prelude.{◌≡◌, false, IfOk, IsOkAnd};
 ghost use Rattle.clap.specs.Words.{app_of};
 ghost use Rattle.clap.specs.declared.builder.command.Command.TheViews.{out-Command as fields_of};
-ghost use Rattle.ob_command_line.specs.ClapCommand.{obl0_app, top_app, with_command};
+ghost use Rattle.ob_command_line.specs.ClapCommand.{module_apps, obl0_app, record_apps, run_apps, telling_apps, top_app, with_command, with_commands};
 
 use crate::lines::{
     bound_line, draw_line, explain_line, module_line, order_line, record_line, run_line, seq_line,
@@ -24,11 +24,11 @@ const ABOUT_DRAW: &str =
 
 const ABOUT_VERIFY: &str = "Tells whether the order of a record is a legal order of its calls";
 
-const ABOUT_ORDER: &str = "Tells whether a history has a legal order, and prints one";
+const ABOUT_ORDER: &str = "Tells whether a history of calls has a legal order, and prints one";
 
 const ABOUT_EXPLAIN: &str =
-    "Shows what is wrong with a module, with a module and a script, with a run or with a record, \
-    or where calls trap";
+    "Shows what is wrong with a module, with a module and a script, with a run, with a record or with a \
+    history, or where calls trap";
 
 const ABOUT_BOUND: &str =
     "Prints how many own steps a call takes at most, and the numbers behind it";
@@ -51,13 +51,14 @@ obl0 draw MODULE SCRIPT SCHEDULE -n N [-b BUDGET] [--from RECORD] [--calls FROM-
 
 const USAGE_VERIFY: &str = "obl0 verify MODULE RECORD";
 
-const USAGE_ORDER: &str = "obl0 order MODULE HISTORY [-b BUDGET] [--most K]";
+const USAGE_ORDER: &str = "obl0 order MODULE HISTORY [-b BUDGET] [--most K] [--record | --by N]";
 
 const USAGE_EXPLAIN: &str = "\
 obl0 explain MODULE
        obl0 explain MODULE SCRIPT [-b BUDGET] [--from RECORD] [--traps]
        obl0 explain MODULE SCRIPT SCHEDULE -n N [-b BUDGET] [--from RECORD]
-       obl0 explain MODULE --record RECORD";
+       obl0 explain MODULE --record RECORD
+       obl0 explain MODULE --history HISTORY";
 
 const USAGE_BOUND: &str = "obl0 bound MODULE -n N [-b BUDGET]";
 
@@ -73,35 +74,66 @@ docs/FAULTS.md lists the faults, such as S3 or O2.";
 pub fn command_line<'a>(alloc: Global) -> Result<clap::Command<'a>, AllocError>
     ensures { IfOk result (λ c. app_of c ≡ obl0_app) }
 {
-    // Nothing is held while a command is made, so that want of memory finds nothing to let go.
-    let program = program_line(alloc)?;
+    let program = with_module_commands(alloc, program_line(alloc)?)?;
+    let program = with_run_commands(alloc, program)?;
+    let program = with_record_commands(alloc, program)?;
+    with_telling_commands(alloc, program)
+}
+
+// A command is handed on as it was made, or not made: so want of memory lets the line go in `with_command` alone.
+
+/// The command line with the commands that make no calls of a script, or one at a time.
+fn with_module_commands<'a>(
+    alloc: Global,
+    program: clap::Command<'a>,
+) -> Result<clap::Command<'a>, AllocError>
+    ensures { IfOk result (λ c. app_of c ≡ with_commands (app_of program.entry) module_apps) }
+{
     let check = module_line(alloc, "check", "Tells whether a module keeps the rules");
     let program = with_command(program, USAGE_CHECK, check)?;
     let list = module_line(alloc, "list", "Prints the code of a module");
     let program = with_command(program, USAGE_LIST, list)?;
-    let program = with_command(program, USAGE_SEQ, seq_line(alloc, "seq", ABOUT_SEQ))?;
+    with_command(program, USAGE_SEQ, seq_line(alloc, "seq", ABOUT_SEQ))
+}
+
+/// The command line with the commands that make a run.
+fn with_run_commands<'a>(
+    alloc: Global,
+    program: clap::Command<'a>,
+) -> Result<clap::Command<'a>, AllocError>
+    ensures { IfOk result (λ c. app_of c ≡ with_commands (app_of program.entry) run_apps) }
+{
     let program = with_command(program, USAGE_RUN, run_line(alloc, "run", ABOUT_RUN))?;
-    let program = with_command(
-        program,
-        USAGE_SERVE,
-        serve_line(alloc, "serve", ABOUT_SERVE),
-    )?;
-    let program = with_command(program, USAGE_DRAW, draw_line(alloc, "draw", ABOUT_DRAW))?;
-    let program = with_command(
-        program,
-        USAGE_VERIFY,
-        record_line(alloc, "verify", ABOUT_VERIFY),
-    )?;
-    let program = with_command(
+    let serve = serve_line(alloc, "serve", ABOUT_SERVE);
+    let program = with_command(program, USAGE_SERVE, serve)?;
+    with_command(program, USAGE_DRAW, draw_line(alloc, "draw", ABOUT_DRAW))
+}
+
+/// The command line with the commands that look at a record or a history.
+fn with_record_commands<'a>(
+    alloc: Global,
+    program: clap::Command<'a>,
+) -> Result<clap::Command<'a>, AllocError>
+    ensures { IfOk result (λ c. app_of c ≡ with_commands (app_of program.entry) record_apps) }
+{
+    let verify = record_line(alloc, "verify", ABOUT_VERIFY);
+    let program = with_command(program, USAGE_VERIFY, verify)?;
+    with_command(
         program,
         USAGE_ORDER,
         order_line(alloc, "order", ABOUT_ORDER),
-    )?;
-    let program = with_command(
-        program,
-        USAGE_EXPLAIN,
-        explain_line(alloc, "explain", ABOUT_EXPLAIN),
-    )?;
+    )
+}
+
+/// The command line with the commands that tell of a module.
+fn with_telling_commands<'a>(
+    alloc: Global,
+    program: clap::Command<'a>,
+) -> Result<clap::Command<'a>, AllocError>
+    ensures { IfOk result (λ c. app_of c ≡ with_commands (app_of program.entry) telling_apps) }
+{
+    let explain = explain_line(alloc, "explain", ABOUT_EXPLAIN);
+    let program = with_command(program, USAGE_EXPLAIN, explain)?;
     with_command(
         program,
         USAGE_BOUND,

@@ -3,11 +3,13 @@
 ghost use Rattle.std.specs.Prelude.{◌≡◌, false, IfOk};
 ghost use Rattle.clap.specs.Words.{app_of};
 ghost use Rattle.clap.specs.declared.builder.command.Command.TheViews.{out-Command as fields_of};
-ghost use Rattle.ob_command_line.specs.ClapCommand.{bound_app, draw_app, drawn_app, explain_app, module_app, order_app, record_app, run_app, schedule_app, seq_app, serve_app, texts_app};
+ghost use Rattle.ob_command_line.specs.ClapCommand.{bound_app, draw_app, drawn_app, explain_app, files_app, module_app, order_app, record_app};
+ghost use Rattle.ob_command_line.specs.ClapCommand.{run_app, schedule_app, search_app, seq_app, serve_app, texts_app};
 
 use crate::arguments::{
-    call_budget, drawn_calls, explained_record, file_name, first_record, flag, most_configurations,
-    optional_count, optional_name, process_count, seen_budget,
+    call_budget, drawn_calls, explained_history, explained_record, file_name, first_record, flag,
+    most_configurations, optional_count, optional_name, parting_argument, process_count,
+    seen_budget,
 };
 use std::alloc::{AllocError, Global};
 
@@ -32,6 +34,9 @@ const HELP_RECORD: &str = "The file of the record, as `run` prints it";
 
 const HELP_HISTORY: &str =
     "The file of the history: which calls began, and how they ended, in the order in which that was seen";
+
+const HELP_AS_RECORD: &str =
+    "Prints the history as a record with the order, for `verify`, `draw` and `--from`";
 
 const HELP_TREE: &str =
     "Runs the module by its tree in place of its code, which may then be of any length";
@@ -136,7 +141,7 @@ pub fn seq_line<'a>(
         .arg(first_record(alloc))
 }
 
-/// The words behind a command on a module, on a script where one is named, and on a schedule or a record.
+/// The words behind a command on a module, on a script where one is named, and on a schedule, a record or a history.
 pub fn explain_line<'a>(
     alloc: Global,
     command: &'a str,
@@ -145,11 +150,24 @@ pub fn explain_line<'a>(
     ensures app { IfOk result (λ c. app_of c ≡ explain_app command.entry.now) }
     ensures local { IfOk result (λ c. (fields_of c).has_globals ≡ false) }
 {
-    texts_line(alloc, command, about)?
+    files_line(alloc, command, about)?
         .after_help(ITEMS)
+        .arg(flag(alloc, "traps", HELP_TRAPS))
+}
+
+/// The names behind a command that explains, and the options that name files.
+pub fn files_line<'a>(
+    alloc: Global,
+    command: &'a str,
+    about: &'a str,
+) -> Result<clap::Command<'a>, AllocError>
+    ensures app { IfOk result (λ c. app_of c ≡ files_app command.entry.now) }
+    ensures local { IfOk result (λ c. (fields_of c).has_globals ≡ false) }
+{
+    texts_line(alloc, command, about)?
         .arg(first_record(alloc))?
         .arg(explained_record(alloc))?
-        .arg(flag(alloc, "traps", HELP_TRAPS))
+        .arg(explained_history(alloc))
 }
 
 /// The names behind a command that explains: of a module, of a script and of a schedule, where they are named.
@@ -194,13 +212,27 @@ pub fn record_line<'a>(
     module_line(alloc, command, about)?.arg(file_name(alloc, "RECORD", HELP_RECORD))
 }
 
-/// The words behind a command on a module and a history of calls, with a budget, that looks for an order.
+/// The words behind a command that looks for an order of a history, and says what is printed of it.
 pub fn order_line<'a>(
     alloc: Global,
     command: &'a str,
     about: &'a str,
 ) -> Result<clap::Command<'a>, AllocError>
     ensures app { IfOk result (λ c. app_of c ≡ order_app command.entry.now) }
+    ensures local { IfOk result (λ c. (fields_of c).has_globals ≡ false) }
+{
+    search_line(alloc, command, about)?
+        .arg(flag(alloc, "record", HELP_AS_RECORD))?
+        .arg(parting_argument(alloc))
+}
+
+/// The words behind a command on a module and a history of calls, with a budget, for a search.
+pub fn search_line<'a>(
+    alloc: Global,
+    command: &'a str,
+    about: &'a str,
+) -> Result<clap::Command<'a>, AllocError>
+    ensures app { IfOk result (λ c. app_of c ≡ search_app command.entry.now) }
     ensures local { IfOk result (λ c. (fields_of c).has_globals ≡ false) }
 {
     module_line(alloc, command, about)?

@@ -23,7 +23,7 @@ pub fn push_script_fault(line: &mut String, fault: ScriptFault) -> Result<(), Al
 }
 
 /// Appends a fault at a line of the script.
-pub(crate) fn push_line_number(
+pub fn push_line_number(
     line: &mut String,
     fault: &str,
     number: usize,

@@ -39,7 +39,7 @@ fn push_order_fault(line: &mut String, fault: OrderFault) -> Result<(), AllocErr
 }
 
 /// Appends a fault of a call.
-pub(crate) fn push_call(line: &mut String, fault: &str, id: CallId) -> Result<(), AllocError>
+pub fn push_call(line: &mut String, fault: &str, id: CallId) -> Result<(), AllocError>
     ensures { OnOk result (string_bytes line.new ≡ string_bytes line.old ++ of_call fault.now id) }
 {
     line.push_str(fault)?;

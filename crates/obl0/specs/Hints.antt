@@ -1,13 +1,15 @@
 -- What a terminal is told behind a fault.
-use Rattle.std.specs.Prelude.{ℕ, ◌==◌, ◌&&◌, ◌||◌, ◌++◌, nat_eq, Bool, true, false, not, [], ◌∷◌, Option, Some, None, codes, if◌then◌else◌}
+use Rattle.std.specs.Prelude.{ℕ, ◌==◌, ◌&&◌, ◌||◌, ◌++◌, nat_eq, nat_le, Bool, true, false, not, [], ◌∷◌, Option, Some, None, is_some, codes, if◌then◌else◌}
 use Rattle.std.specs.Char.{is_ascii_alphanumeric, is_ascii_digit, is_ascii_uppercase}
 use Rattle.std.specs.Fmt.{decimal}
 use Rattle.std.specs.List.{after_first, before_first, list_all, starts_with}
 use Rattle.std.specs.Str.{bytes_eq}
 use Rattle.std.specs.declared.io.ErrorKind.{ErrorKind}
 use Rattle.std.specs.declared.io.ErrorKind.TheVariants as Kind
-use Rattle.ob_command.specs.CommandLine.{Text, CallsRequest, Request, RunRequest, Check, Listing, Seq, Run, RunTree, RunSteps, Serve, Draw, DrawRecord, Verify, Order}
-use Rattle.ob_command.specs.CommandLine.{Explain, ExplainCalls, ExplainTraps, ExplainRun, ExplainRecord, Bound, default_budget}
+use Rattle.ob_command.specs.CommandLine.{Text, CallsRequest, OrderRequest, Request, RunRequest, Check, Listing, Seq, Run, RunTree, RunSteps, Serve, Draw, DrawRecord, Verify, Order}
+use Rattle.ob_command.specs.CommandLine.{Explain, ExplainCalls, ExplainTraps, ExplainRun, ExplainRecord, ExplainHistory, Bound, default_budget, default_most}
+use Rattle.ob_command.specs.declared.command.OrderProduct.{OrderProduct}
+use Rattle.ob_command.specs.declared.command.OrderProduct.TheVariants.{Apart}
 
 -- the exit status of a fault with a number
 abbrev pub is_fault : (status : ℕ) → Bool
@@ -99,9 +101,29 @@ drawn_form module_name record_name line =
 abbrev pub is_of_text : (line : Text) → Bool
 is_of_text line = begins (codes "S") line || (begins (codes "P") line || begins (codes "C") line)
 
--- of a search, and of a fault of the module's text: no form of `explain` takes a history
-abbrev pub text_form : (module_name line : Text) → Text
-text_form module_name line = if is_of_text line then module_form module_name else []
+abbrev pub history_form : (module_name history_name : Text) → Text
+history_form module_name history_name =
+    ((module_words module_name ++ codes " --history") ++ name_word (codes "HISTORY") history_name) ++ telling
+
+-- of some calls of a history apart from the others
+abbrev pub is_apart : OrderProduct → Bool
+is_apart (Apart place) = true
+is_apart product = false
+
+-- `explain` looks for the same order: with the budget of the history, with no fewer configurations, and not of parts
+abbrev pub is_explained : OrderRequest → Bool
+is_explained order = not (is_some order.budget) && (nat_le order.most default_most && not (is_apart order.product))
+
+-- what is told of the end of a call where it does not
+abbrev pub illegal_end : (line : Text) → Text
+illegal_end line = if begins (codes "X1") line then codes "up to the end of this call no order of the calls gives these replies\n" else []
+
+-- of a search for an order, and of a fault of the module's text
+abbrev pub search_form : OrderRequest → (line : Text) → Text
+search_form order line = if is_explained order then history_form order.module_name order.history_name else illegal_end line
+
+abbrev pub order_form : OrderRequest → (line : Text) → Text
+order_form order line = if is_of_text line then module_form order.module_name else search_form order line
 
 -- Of a run by the tree that form tells more of faults of the text alone: `explain` makes the module's code, and where that is too long it
 -- tells that before any other.
@@ -121,7 +143,7 @@ form_about (Draw run range) line = run_form run
 form_about (Serve calls) line = run_form (served calls)
 form_about (DrawRecord module_name record_name calls) line = drawn_form module_name record_name line
 form_about (Verify module_name record_name) line = record_form module_name record_name
-form_about (Order module_name history_name budget most) line = text_form module_name line
+form_about (Order order) line = order_form order line
 form_about request line = []
 
 -- ---- faults of no text
@@ -140,17 +162,27 @@ first_place count =
     if bytes_eq count (codes "0") then codes "no call begins, so there is none for --calls to name\n"
     else codes "behind --calls stands FROM-TO, and FROM is 1 to " ++ count ++ codes " here\n"
 
--- What is told of any other, whichever the command is: what a number of the command line may be, how many calls a picture has, or what a
--- search found; nothing of a desk's faults.
+-- What is told of any other of `order`: that a search can go on, which argument parts are made by, or which processes a record has.
+abbrev pub of_order : (line : Text) → Option Text
+of_order line =
+    if begins (codes "N1") line then Some (codes "a record has processes 0 to 15; without --record there may be others\n")
+    else if begins (codes "X2") line then Some (codes "--most says how many configurations are looked at\n")
+    else if begins (codes "X4") line then Some (codes "behind --by stands an argument that each call of the history has\n")
+    else None
+
+-- And of every other command: what a number of the command line may be, or how many calls a picture has; nothing of a desk's faults.
 abbrev pub beside_texts : (line : Text) → Option Text
 beside_texts line =
     if begins (codes "N1") line then Some (codes "behind -n stands how many processes there are, 1 to 16\n")
     else if begins (codes "N3") line then Some (codes "behind -b stands how many turns each call has, 0 to 1000000\n")
     else if begins (codes "I2") line then Some (codes "a picture shows at most 400 calls; --calls FROM-TO says which ones\n")
-    else if begins (codes "X1") line then Some (codes "up to the end of this call no order of the calls gives these replies\n")
-    else if begins (codes "X2") line then Some (codes "--most says how many configurations are looked at\n")
     else if begins (codes "V") line || begins (codes "K") line then Some []
     else None
+
+-- the same of a command
+abbrev pub beside : Request → (line : Text) → Option Text
+beside (Order order) line = of_order line
+beside request line = beside_texts line
 
 -- the same, or else the form of `explain`
 abbrev pub told_by : Option Text → Request → (line : Text) → Text
@@ -159,7 +191,7 @@ told_by None request line = form_about request line
 
 -- of every fault
 abbrev pub told_of : Request → (line : Text) → Text
-told_of request line = if begins (codes "I1") line then first_place (third_word line) else told_by (beside_texts line) request line
+told_of request line = if begins (codes "I1") line then first_place (third_word line) else told_by (beside request line) request line
 
 -- a command shows its faults to people itself
 abbrev pub is_explain : Request → Bool
@@ -168,6 +200,7 @@ is_explain (ExplainCalls calls) = true
 is_explain (ExplainTraps calls) = true
 is_explain (ExplainRun run) = true
 is_explain (ExplainRecord module_name record_name) = true
+is_explain (ExplainHistory module_name history_name) = true
 is_explain request = false
 
 -- behind the line of a fault of a command that does not

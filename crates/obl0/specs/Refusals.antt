@@ -2,8 +2,8 @@
 use Rattle.std.specs.Prelude.{ℕ, List, codes}
 use Rattle.std.specs.declared.io.ErrorKind.{ErrorKind}
 use Rattle.std.specs.declared.io.ErrorKind.TheVariants as Kind
-use Rattle.ob_answer.specs.declared.files.FileFault.{FileFault}
-use Rattle.ob_answer.specs.declared.files.FileFault.TheVariants as FileFaults
+use Rattle.ob_answer_files.specs.declared.files.FileFault.{FileFault}
+use Rattle.ob_answer_files.specs.declared.files.FileFault.TheVariants as FileFaults
 use Rattle.obl0.specs.declared.refusal.Refusal.{Refusal}
 use Rattle.obl0.specs.declared.refusal.Refusal.TheVariants as Refusals
 

@@ -5,7 +5,7 @@ ghost use Rattle.obl0.specs.Refusals.{file_fault};
 ghost use Rattle.ob_device.specs.Devices.{IsAll};
 
 use ob_answer::answer::INPUT_NAME;
-use ob_answer::files::{FileFault, Files};
+use ob_answer_files::files::{FileFault, Files};
 use ob_device::{Counted, IoFault, slurp};
 use std::alloc::Global;
 use std::io::Read;

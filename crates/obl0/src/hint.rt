@@ -2,13 +2,14 @@
 
 ghost use Rattle.std.specs.Prelude.{◌≡◌, ◌++◌, IfOk, OnOk, option_map, string_bytes};
 ghost use Rattle.std.specs.List.{after_first, before_first, list_all};
-ghost use Rattle.obl0.specs.Hints.{asks_of_fault, beside_texts, budget_words, from_words, calls_form, cause, count_words, drawn_form, first_place, form_about};
-ghost use Rattle.obl0.specs.Hints.{is_blank, is_explain, is_fault, is_fault_name, is_of_record, is_of_text, is_plain, is_plain_byte, module_form};
-ghost use Rattle.obl0.specs.Hints.{module_words, more_about, more_about_unread, more_of, name_word, named, option_words, record_form, run_form, run_words};
-ghost use Rattle.obl0.specs.Hints.{script_words, served, text_form, third_word, told_of, tree_form};
-ghost use Rattle.ob_command.specs.Commands.{calls_request_of, request_of, run_request_of};
+ghost use Rattle.obl0.specs.Hints.{asks_of_fault, beside, beside_texts, budget_words, calls_form, cause, count_words, drawn_form, first_place};
+ghost use Rattle.obl0.specs.Hints.{form_about, from_words, history_form, illegal_end, is_apart, is_blank, is_explain, is_explained, is_fault};
+ghost use Rattle.obl0.specs.Hints.{is_fault_name, is_of_record, is_of_text, is_plain, is_plain_byte, module_form, module_words, more_about};
+ghost use Rattle.obl0.specs.Hints.{more_about_unread, more_of, name_word, named, of_order, option_words, order_form, record_form, run_form};
+ghost use Rattle.obl0.specs.Hints.{run_words, script_words, search_form, served, third_word, told_of, tree_form};
+ghost use Rattle.ob_command.specs.Commands.{calls_request_of, order_request_of, request_of, run_request_of};
 
-use ob_command::command::{CallsCommand, Command, RunCommand};
+use ob_command::command::{CallsCommand, Command, OrderCommand, OrderProduct, RunCommand};
 use ob_text_words::numbers::push_number;
 use std::alloc::{AllocError, Global};
 use std::io;
@@ -18,6 +19,9 @@ const FAULT: u8 = 1;
 
 /// How many turns each call has where nothing is said of them.
 const DEFAULT_BUDGET: u32 = 100_000;
+
+/// How many configurations a search looks at where nothing is said of them.
+const DEFAULT_MOST: u32 = 10_000_000;
 
 /// A schedule with no items.
 const NO_ITEMS: &str = "/dev/null";
@@ -67,9 +71,34 @@ fn told_of(alloc: Global, command: Command<'_>, line: &str) -> Result<String, Al
     if bytes.starts_with(b"I1") {
         return first_place(alloc, third_word(line));
     }
-    match beside_texts(bytes) {
+    match beside(command, bytes) {
         Some(text) => String::from_str(alloc, text),
         None => form_about(alloc, command, bytes),
+    }
+}
+
+/// What is told of a fault of a command that is one of no text.
+fn beside(command: Command<'_>, line: &[u8]) -> Option<&'static str>
+    ensures { option_map (λ text. text.now) result ≡ beside (request_of command.entry) line.now }
+{
+    match command {
+        Command::Order(_) => of_order(line),
+        _ => beside_texts(line),
+    }
+}
+
+/// What is told so of a fault of `order`.
+fn of_order(line: &[u8]) -> Option<&'static str>
+    ensures { option_map (λ text. text.now) result ≡ of_order line.now }
+{
+    if line.starts_with(b"N1") {
+        Some("a record has processes 0 to 15; without --record there may be others\n")
+    } else if line.starts_with(b"X2") {
+        Some("--most says how many configurations are looked at\n")
+    } else if line.starts_with(b"X4") {
+        Some("behind --by stands an argument that each call of the history has\n")
+    } else {
+        None
     }
 }
 
@@ -84,6 +113,7 @@ fn is_explain(command: Command<'_>) -> bool
             | Command::ExplainTraps(_)
             | Command::ExplainRun(_)
             | Command::ExplainRecord { .. }
+            | Command::ExplainHistory { .. }
     )
 }
 
@@ -130,7 +160,7 @@ fn first_place(alloc: Global, count: &str) -> Result<String, AllocError>
     Ok(text)
 }
 
-/// What is told of any other fault of no text, whichever the command is.
+/// What is told so of a fault of any other command.
 fn beside_texts(line: &[u8]) -> Option<&'static str>
     ensures { option_map (λ text. text.now) result ≡ beside_texts line.now }
 {
@@ -140,10 +170,6 @@ fn beside_texts(line: &[u8]) -> Option<&'static str>
         Some("behind -b stands how many turns each call has, 0 to 1000000\n")
     } else if line.starts_with(b"I2") {
         Some("a picture shows at most 400 calls; --calls FROM-TO says which ones\n")
-    } else if line.starts_with(b"X1") {
-        Some("up to the end of this call no order of the calls gives these replies\n")
-    } else if line.starts_with(b"X2") {
-        Some("--most says how many configurations are looked at\n")
     } else if line.starts_with(b"V") || line.starts_with(b"K") {
         Some("")
     } else {
@@ -174,12 +200,13 @@ fn form_about(alloc: Global, command: Command<'_>, line: &[u8]) -> Result<String
             module_name,
             record_name,
         } => record_form(alloc, module_name, record_name),
-        Command::Order { module_name, .. } => text_form(alloc, module_name, line),
+        Command::Order(order) => order_form(alloc, order, line),
         Command::Explain { .. }
         | Command::ExplainCalls(_)
         | Command::ExplainTraps(_)
         | Command::ExplainRun(_)
-        | Command::ExplainRecord { .. } => Ok(String::new(alloc)),
+        | Command::ExplainRecord { .. }
+        | Command::ExplainHistory { .. } => Ok(String::new(alloc)),
     }
 }
 
@@ -201,14 +228,62 @@ fn module_form(alloc: Global, module_name: &str) -> Result<String, AllocError>
     Ok(text)
 }
 
-/// The same of a fault of the module's text alone.
-fn text_form(alloc: Global, module_name: &str, line: &[u8]) -> Result<String, AllocError>
-    ensures { IfOk result (λ text. string_bytes text ≡ text_form module_name.now line.now) }
+/// The form that tells more of a search for an order, or else what is told of the end of a call.
+fn order_form(alloc: Global, order: OrderCommand<'_>, line: &[u8]) -> Result<String, AllocError>
+    ensures { IfOk result (λ text. string_bytes text ≡ order_form (order_request_of order.entry) line.now) }
 {
     if !is_of_text(line) {
-        return Ok(String::new(alloc));
+        return search_form(alloc, order, line);
     }
-    module_form(alloc, module_name)
+    module_form(alloc, order.module_name)
+}
+
+/// The same of any other fault of it.
+fn search_form(alloc: Global, order: OrderCommand<'_>, line: &[u8]) -> Result<String, AllocError>
+    ensures { IfOk result (λ text. string_bytes text ≡ search_form (order_request_of order.entry) line.now) }
+{
+    if is_explained(order) {
+        history_form(alloc, order.module_name, order.history_name)
+    } else {
+        String::from_str(alloc, illegal_end(line))
+    }
+}
+
+/// Whether `explain` looks for the same order.
+fn is_explained(order: OrderCommand<'_>) -> bool
+    ensures { result ≡ is_explained (order_request_of order.entry) }
+{
+    order.budget.is_none() && order.most <= DEFAULT_MOST && !is_apart(order.product)
+}
+
+fn is_apart(product: OrderProduct) -> bool
+    ensures { result ≡ is_apart product }
+{
+    match product {
+        OrderProduct::Apart(_) => true,
+        OrderProduct::Line | OrderProduct::WholeRecord => false,
+    }
+}
+
+fn history_form(alloc: Global, module_name: &str, history_name: &str) -> Result<String, AllocError>
+    ensures { IfOk result (λ text. string_bytes text ≡ history_form module_name.now history_name.now) }
+{
+    let mut text = module_words(alloc, module_name)?;
+    text.push_str(" --history")?;
+    push_name(&mut text, "HISTORY", history_name)?;
+    text.push_str(TELLING)?;
+    Ok(text)
+}
+
+/// What is told of the end of a call that makes a history illegal, where no form of `explain` tells more.
+fn illegal_end(line: &[u8]) -> &'static str
+    ensures { result.now ≡ illegal_end line.now }
+{
+    if line.starts_with(b"X1") {
+        "up to the end of this call no order of the calls gives these replies\n"
+    } else {
+        ""
+    }
 }
 
 fn calls_form(alloc: Global, calls: CallsCommand<'_>) -> Result<String, AllocError>

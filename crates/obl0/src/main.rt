@@ -12,7 +12,7 @@ use crossbeam_channel::{Receiver, RecvTimeoutError, Sender, unbounded};
 use files::HostFiles;
 use hint::more_of;
 use ob_answer::answer::{INPUT_NAME, answer};
-use ob_answer::answered::Answer;
+use ob_answer_files::answered::Answer;
 use ob_command::command::read_command;
 use ob_device::{Counted, emit};
 use refusal::{Refusal, refusal_of_words};

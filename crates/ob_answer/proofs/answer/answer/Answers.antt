@@ -1,7 +1,7 @@
 use Rattle.std.proofs.Common.{◌≡◌, ℕ, List, refl, rules, string_bytes, subst}
 use Rattle.std.proofs.lemmas.Result.{IfOk-weaker}
 use Rattle.ob_answer.specs.Answers.{version_text}
-use Rattle.ob_answer.specs.Printed.{IsPrinted}
+use Rattle.ob_answer_files.specs.Printed.{IsPrinted}
 use Rattle.ob_answer.proofs.AnswersToWords.{command_told, help_told, mistake_told, version_told}
 use Rattle.ob_answer.proofs.answer.answer.Goals as goal
 

@@ -1,8 +1,7 @@
-use Rattle.std.proofs.Common.{ℕ, IfOk, Option, subst}
+use Rattle.std.proofs.Common.{IfOk, Option, subst}
 use Rattle.std.proofs.lemmas.Result.{IfOk-weaker}
-use Rattle.ob_answer.specs.Answers.{IsObeyed, IsRunObeyed}
+use Rattle.ob_answer.specs.Answers.{IsRunObeyed}
 use Rattle.ob_answer.specs.declared.product.Product.TheVariants as Products
-use Rattle.ob_command.specs.CommandLine.{Order}
 use Rattle.ob_command.specs.Commands.{run_request_of}
 use Rattle.ob_text_picture_chart.specs.declared.charts.CallRange.{CallRange}
 use Rattle.ob_answer.proofs.answer.obey.Goals as goal
@@ -41,12 +40,7 @@ pub returns-in-Verify : goal.returns-in-Verify
 returns-in-Verify g c = rw c.in-Verify.is c.obey_verify.ensures
 
 pub returns-in-Order : goal.returns-in-Order
-returns-in-Order g c =
-    rw c.in-Order.is (subst (λ (b : Option ℕ). IfOk c.obey_order.result
-    (λ a. IsObeyed g.F.Files.reads (Order c.in-Order.module_name.now c.in-Order.history_name.now b c.in-Order.most) c.args.files.now a c.obey_order.new.files))
-    c.in_ok-search.ensures.budget (subst (λ (k : ℕ). IfOk c.obey_order.result
-    (λ a. IsObeyed g.F.Files.reads (Order c.in-Order.module_name.now c.in-Order.history_name.now c.in_ok-search.search.budget k) c.args.files.now a c.obey_order.new.files))
-    c.in_ok-search.ensures.most c.obey_order.ensures))
+returns-in-Order g c = rw c.in-Order.is c.obey_order.ensures
 
 pub returns-in-Explain : goal.returns-in-Explain
 returns-in-Explain g c = rw c.in-Explain.is (IfOk-weaker c.obey_explain_module.result _ _ (λ a h. h 0) c.obey_explain_module.ensures)
@@ -62,6 +56,9 @@ returns-in-ExplainRun g c = rw c.in-ExplainRun.is c.obey_run-in-ExplainRun.ensur
 
 pub returns-in-ExplainRecord : goal.returns-in-ExplainRecord
 returns-in-ExplainRecord g c = rw c.in-ExplainRecord.is c.obey_explain_record.ensures
+
+pub returns-in-ExplainHistory : goal.returns-in-ExplainHistory
+returns-in-ExplainHistory g c = rw c.in-ExplainHistory.is c.obey_explain_history.ensures
 
 pub returns-in-Bound : goal.returns-in-Bound
 returns-in-Bound g c = rw c.in-Bound.is c.obey_bound.ensures

@@ -1,11 +1,11 @@
 use Rattle.std.proofs.Common.{[], ◌∷◌, Option, subst}
 use Rattle.std.proofs.lemmas.Result.{IfOk-weaker}
 use Rattle.ob_answer.specs.Answers.{IsMade, IsRecordPictureAnswer}
-use Rattle.ob_answer.specs.Reads.{AreTwoRead}
-use Rattle.ob_answer.specs.declared.reading.TwoFiles.{TwoFiles}
+use Rattle.ob_answer_files.specs.Reads.{AreTwoRead}
+use Rattle.ob_answer_files.specs.declared.reading.TwoFiles.{TwoFiles}
 use Rattle.ob_text_picture_chart.specs.declared.charts.CallRange.{CallRange}
 use Rattle.ob_command.specs.CommandLine.{DrawRecord}
-use Rattle.ob_answer.proofs.FilesRead.{two_made, unread_outcome}
+use Rattle.ob_answer_files.proofs.FilesRead.{two_made, unread_outcome}
 use Rattle.ob_answer.proofs.answer.obey_draw_record.Goals as goal
 
 pub returns-in-Read : goal.returns-in-Read

@@ -1,21 +1,22 @@
 use Rattle.std.proofs.Common.{[], ◌∷◌, subst}
 use Rattle.std.proofs.lemmas.Result.{IfOk-weaker}
 use Rattle.ob_answer.specs.Answers.{IsMade}
-use Rattle.ob_answer.specs.Reads.{AreTwoRead}
-use Rattle.ob_answer.specs.declared.reading.TwoFiles.{TwoFiles}
+use Rattle.ob_answer_files.specs.Reads.{AreTwoRead}
+use Rattle.ob_answer_files.specs.declared.reading.TwoFiles.{TwoFiles}
 use Rattle.ob_command.specs.CommandLine.{Order}
-use Rattle.ob_answer.proofs.FilesRead.{two_made, unread_outcome}
+use Rattle.ob_command.specs.Commands.{order_request_of}
+use Rattle.ob_answer_files.proofs.FilesRead.{two_made, unread_outcome}
 use Rattle.ob_answer.proofs.answer.obey_order.Goals as goal
 
 pub returns-in-Read : goal.returns-in-Read
 returns-in-Read g c =
-    let read = subst (λ (x : TwoFiles). AreTwoRead g.F.Files.reads c.args.module_name.now c.args.history_name.now c.args.files.now x c.read_two.new.files) c.in-Read.is
+    let read = subst (λ (x : TwoFiles). AreTwoRead g.F.Files.reads c.args.order.module_name.now c.args.order.history_name.now c.args.files.now x c.read_two.new.files) c.in-Read.is
     c.in_ok-module.ensures in
-    IfOk-weaker c.answer_order.result _ _ (λ a h. two_made g.F.Files.reads _ _ _ _ _ _ _ _ (IsMade (Order c.args.module_name.now c.args.history_name.now c.args.search.now.budget c.args.search.now.most)) a read c.as_slice.ensures.value c.as_slice-in-Read.ensures.value h)
+    IfOk-weaker c.answer_order.result _ _ (λ a h. two_made g.F.Files.reads _ _ _ _ _ _ _ _ (IsMade (Order (order_request_of c.args.order))) a read c.as_slice.ensures.value c.as_slice-in-Read.ensures.value h)
     c.answer_order.ensures
 
 pub returns-in-Unread : goal.returns-in-Unread
 returns-in-Unread g c =
-    unread_outcome g.F.Files.reads (c.args.module_name.now ∷ c.args.history_name.now ∷ []) (IsMade (Order c.args.module_name.now c.args.history_name.now c.args.search.now.budget c.args.search.now.most))
+    unread_outcome g.F.Files.reads (c.args.order.module_name.now ∷ c.args.order.history_name.now ∷ []) (IsMade (Order (order_request_of c.args.order)))
     c.args.files.now c.in-Unread.answer c.read_two.new.files
-    (subst (λ (x : TwoFiles). AreTwoRead g.F.Files.reads c.args.module_name.now c.args.history_name.now c.args.files.now x c.read_two.new.files) c.in-Unread.is c.in_ok-module.ensures)
+    (subst (λ (x : TwoFiles). AreTwoRead g.F.Files.reads c.args.order.module_name.now c.args.order.history_name.now c.args.files.now x c.read_two.new.files) c.in-Unread.is c.in_ok-module.ensures)

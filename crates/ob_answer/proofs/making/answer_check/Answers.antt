@@ -1,12 +1,13 @@
 use Rattle.std.proofs.Common.{◌≡◌, codes, rules, string_bytes}
 use Rattle.std.proofs.lemmas.Result.{IfOk-weaker}
-use Rattle.ob_answer.specs.Answers.{SaysOk, said}
-use Rattle.ob_answer.proofs.AtOnce.{holds_of_whole, object_refused}
+use Rattle.ob_answer.specs.Answers.{SaysOk}
+use Rattle.ob_answer_explained.proofs.AtOnce.{holds_of_whole, object_refused}
 use Rattle.ob_answer.proofs.Made.{text_refused}
 use Rattle.ob_fault_lines.specs.CompileFaultLines.{compile_line}
 use Rattle.ob_object_compile.specs.Asked.{ByBody, by_body}
 use Rattle.ob_object_compile.specs.Compilation.{IsNumbered, IsRefusal, IsShort, default_budget}
 use Rattle.ob_object_sequence.specs.SequentialRun.{HasObject}
+use Rattle.ob_answer_files.specs.Printed.{said}
 use Rattle.ob_answer.proofs.making.answer_check.Goals as goal
 
 pub returns-in_ok-from_str-in-Ok : goal.returns-in_ok-from_str-in-Ok

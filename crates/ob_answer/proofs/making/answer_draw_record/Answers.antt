@@ -1,8 +1,8 @@
 use Rattle.std.proofs.Common.{string_bytes}
-use Rattle.ob_answer.specs.Answers.{said}
-use Rattle.ob_answer.proofs.Beginnings.{of_whole}
+use Rattle.ob_answer_explained.proofs.Beginnings.{of_whole}
 use Rattle.ob_answer.proofs.Made.{draw_record_refused_made}
 use Rattle.ob_object_draw.specs.RecordPictures.{IsRecordPicture}
+use Rattle.ob_answer_files.specs.Printed.{said}
 use Rattle.ob_answer.proofs.making.answer_draw_record.Goals as goal
 
 pub returns-in-Ok : goal.returns-in-Ok

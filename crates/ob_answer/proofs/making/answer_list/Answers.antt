@@ -1,12 +1,12 @@
 use Rattle.std.proofs.Common.{string_bytes}
 use Rattle.std.proofs.lemmas.Result.{IfOk-weaker}
-use Rattle.ob_answer.specs.Answers.{said}
-use Rattle.ob_answer.proofs.AtOnce.{holds_of_whole, object_refused}
+use Rattle.ob_answer_explained.proofs.AtOnce.{holds_of_whole, object_refused}
 use Rattle.ob_answer.proofs.Made.{text_refused}
 use Rattle.ob_fault_lines.specs.CompileFaultLines.{compile_line}
 use Rattle.ob_object_compile.specs.Asked.{ByBody, by_body}
 use Rattle.ob_object_compile.specs.Compilation.{IsNumbered, IsRefusal, IsShort, default_budget}
 use Rattle.ob_object_compile.specs.Listed.{IsListing}
+use Rattle.ob_answer_files.specs.Printed.{said}
 use Rattle.ob_answer.proofs.making.answer_list.Goals as goal
 
 pub returns-in-Ok : goal.returns-in-Ok

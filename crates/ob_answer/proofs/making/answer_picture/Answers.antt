@@ -1,9 +1,9 @@
 use Rattle.std.proofs.Common.{string_bytes}
 use Rattle.std.proofs.lemmas.Result.{IfOk-weaker}
-use Rattle.ob_answer.specs.Answers.{said}
-use Rattle.ob_answer.specs.CommandTexts.{texts_of_text}
+use Rattle.ob_answer_explained.specs.CommandTexts.{texts_of_text}
 use Rattle.ob_answer.specs.Refusals.{IsNumberedDraw}
-use Rattle.ob_answer.proofs.AtOnce.{holds_of_whole, picture_refused}
+use Rattle.ob_answer_explained.proofs.AtOnce.{holds_of_whole}
+use Rattle.ob_answer.proofs.AtOnceMade.{picture_refused}
 use Rattle.ob_answer.proofs.Made.{numbered_draw, text_refused}
 use Rattle.ob_fault_lines.specs.DrawFaultLines.{draw_fault_line}
 use Rattle.ob_object_compile.specs.View.{beginning_of}
@@ -11,6 +11,7 @@ use Rattle.ob_object_perform.specs.Pictured.{IsDrawRefusal, IsPicturePrinted}
 use Rattle.ob_object_perform.specs.Texts.{texts_of}
 use Rattle.ob_object_perform.specs.declared.drawing.DrawFault.TheVariants as Draw
 use Rattle.ob_object_perform.specs.declared.performing.PerformFault.TheVariants as Perform
+use Rattle.ob_answer_files.specs.Printed.{said}
 use Rattle.ob_answer.proofs.making.answer_picture.Goals as goal
 
 pub returns-in-Ok : goal.returns-in-Ok

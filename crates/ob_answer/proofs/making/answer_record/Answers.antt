@@ -1,8 +1,7 @@
 use Rattle.std.proofs.Common.{string_bytes}
 use Rattle.std.proofs.lemmas.Result.{IfOk-weaker}
-use Rattle.ob_answer.specs.Answers.{said}
-use Rattle.ob_answer.specs.CommandTexts.{texts_of_text}
-use Rattle.ob_answer.proofs.AtOnce.{holds_of_whole, run_refused}
+use Rattle.ob_answer_explained.specs.CommandTexts.{texts_of_text}
+use Rattle.ob_answer_explained.proofs.AtOnce.{holds_of_whole, run_refused}
 use Rattle.ob_answer.proofs.Made.{text_refused}
 use Rattle.ob_fault_lines.specs.RunFaultLines.{run_fault_line}
 use Rattle.ob_object_compile.specs.Compilation.{IsShort}
@@ -11,6 +10,7 @@ use Rattle.ob_object_perform.specs.Performance.{IsNumbered, IsRefusal}
 use Rattle.ob_object_perform.specs.Printed.{IsRecordPrinted}
 use Rattle.ob_object_perform.specs.Texts.{texts_of}
 use Rattle.ob_object_perform.specs.declared.performing.PerformFault.TheVariants as Perform
+use Rattle.ob_answer_files.specs.Printed.{said}
 use Rattle.ob_answer.proofs.making.answer_record.Goals as goal
 
 pub returns-in-Ok : goal.returns-in-Ok

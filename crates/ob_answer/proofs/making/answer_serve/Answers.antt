@@ -1,14 +1,15 @@
 use Rattle.std.proofs.Common.{string_bytes}
 use Rattle.std.proofs.lemmas.Result.{IfOk-weaker}
-use Rattle.ob_answer.specs.Answers.{said}
-use Rattle.ob_answer.specs.CommandTexts.{of_text}
-use Rattle.ob_answer.proofs.AtOnce.{holds_of_whole, workers_refused}
+use Rattle.ob_answer_explained.specs.CommandTexts.{of_text}
+use Rattle.ob_answer_explained.proofs.AtOnce.{holds_of_whole}
+use Rattle.ob_answer.proofs.AtOnceMade.{workers_refused}
 use Rattle.ob_answer.proofs.Made.{text_refused}
 use Rattle.ob_desk_texts.specs.ServedTexts.{IsNumbered, IsServedPrinted, IsUngatedRefusal}
 use Rattle.ob_desk_texts.specs.declared.texts.ServeTextFault.TheVariants as Serve
 use Rattle.ob_fault_lines.specs.ServeFaultLines.{serve_fault_line}
 use Rattle.ob_object_compile.specs.View.{asked_of, beginning_of}
 use Rattle.ob_object_perform.specs.declared.performing.PerformFault.TheVariants as Perform
+use Rattle.ob_answer_files.specs.Printed.{said}
 use Rattle.ob_answer.proofs.making.answer_serve.Goals as goal
 
 pub returns-in-Ok : goal.returns-in-Ok

@@ -1,7 +1,7 @@
 use Rattle.std.proofs.Common.{inl, inr, string_bytes}
 use Rattle.std.proofs.lemmas.Result.{IfOk-weaker}
-use Rattle.ob_answer.specs.CommandTexts.{texts_of_text}
-use Rattle.ob_answer.proofs.AtOnce.{holds_of_whole, run_refused}
+use Rattle.ob_answer_explained.specs.CommandTexts.{texts_of_text}
+use Rattle.ob_answer_explained.proofs.AtOnce.{holds_of_whole, run_refused}
 use Rattle.ob_answer.proofs.Made.{text_refused}
 use Rattle.ob_fault_lines.specs.RunFaultLines.{run_fault_line}
 use Rattle.ob_object_compile.specs.Compilation.{IsShort}

@@ -1,8 +1,8 @@
 use Rattle.std.proofs.Common.{◌≡◌, codes, rules, string_bytes}
-use Rattle.ob_answer.specs.Answers.{said}
-use Rattle.ob_answer.proofs.Beginnings.{of_whole}
+use Rattle.ob_answer_explained.proofs.Beginnings.{of_whole}
 use Rattle.ob_answer.proofs.Made.{verify_refused_made}
 use Rattle.ob_object_verify.specs.Verified.{IsVerified}
+use Rattle.ob_answer_files.specs.Printed.{said}
 use Rattle.ob_answer.proofs.making.answer_verify.Goals as goal
 
 pub returns-in_ok-from_str-in-Ok : goal.returns-in_ok-from_str-in-Ok

@@ -1,8 +1,8 @@
 use Rattle.std.proofs.Common.{◌∙◌, ap, option_map}
 use Rattle.std.proofs.lemmas.Result.{IfOk-weaker}
-use Rattle.ob_answer.specs.Beginnings.{begun_with}
-use Rattle.ob_answer.specs.CommandTexts.{CallsTexts}
-use Rattle.ob_answer.specs.Reads.{record_in_calls}
+use Rattle.ob_answer_explained.specs.Beginnings.{begun_with}
+use Rattle.ob_answer_explained.specs.CommandTexts.{CallsTexts}
+use Rattle.ob_answer_files.specs.Reads.{record_in_calls}
 use Rattle.ob_command.specs.Commands.{calls_request_of}
 use Rattle.ob_answer.proofs.Begun.{calls_begun, calls_untold}
 use Rattle.ob_answer.proofs.obeying.answer_calls.Goals as goal

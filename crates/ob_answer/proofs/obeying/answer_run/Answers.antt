@@ -1,8 +1,8 @@
 use Rattle.std.proofs.Common.{◌∙◌, ap, option_map}
 use Rattle.std.proofs.lemmas.Result.{IfOk-weaker}
-use Rattle.ob_answer.specs.Beginnings.{begun_with}
-use Rattle.ob_answer.specs.CommandTexts.{RunTexts}
-use Rattle.ob_answer.specs.Reads.{record_in_run}
+use Rattle.ob_answer_explained.specs.Beginnings.{begun_with}
+use Rattle.ob_answer_explained.specs.CommandTexts.{RunTexts}
+use Rattle.ob_answer_files.specs.Reads.{record_in_run}
 use Rattle.ob_command.specs.Commands.{run_request_of}
 use Rattle.ob_answer.proofs.Begun.{run_begun, run_untold}
 use Rattle.ob_answer.proofs.obeying.answer_run.Goals as goal

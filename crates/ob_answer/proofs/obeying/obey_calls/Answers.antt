@@ -1,10 +1,10 @@
 use Rattle.std.proofs.Common.{◌∷◌, subst}
 use Rattle.std.proofs.lemmas.Result.{IfOk-weaker}
 use Rattle.ob_answer.specs.Answers.{IsCallsMade}
-use Rattle.ob_answer.specs.Reads.{AreCallsRead, files_of_calls, record_in_calls}
-use Rattle.ob_answer.specs.declared.reading.CallsFiles.{CallsFiles}
+use Rattle.ob_answer_files.specs.Reads.{AreCallsRead, files_of_calls, record_in_calls}
+use Rattle.ob_answer_files.specs.declared.reading.CallsFiles.{CallsFiles}
 use Rattle.ob_command.specs.Commands.{calls_request_of}
-use Rattle.ob_answer.proofs.FilesRead.{made_of_part, unread_outcome}
+use Rattle.ob_answer_files.proofs.FilesRead.{made_of_part, unread_outcome}
 use Rattle.ob_answer.proofs.obeying.obey_calls.Goals as goal
 
 pub returns-in-Read : goal.returns-in-Read

@@ -1,10 +1,10 @@
 use Rattle.std.proofs.Common.{◌∷◌, subst}
 use Rattle.std.proofs.lemmas.Result.{IfOk-weaker}
 use Rattle.ob_answer.specs.Answers.{IsRunMade}
-use Rattle.ob_answer.specs.Reads.{IsRunRead, files_of_run, record_in_run}
-use Rattle.ob_answer.specs.declared.reading.RunFiles.{RunFiles}
+use Rattle.ob_answer_files.specs.Reads.{IsRunRead, files_of_run, record_in_run}
+use Rattle.ob_answer_files.specs.declared.reading.RunFiles.{RunFiles}
 use Rattle.ob_command.specs.Commands.{run_request_of}
-use Rattle.ob_answer.proofs.FilesRead.{made_of_part, unread_outcome}
+use Rattle.ob_answer_files.proofs.FilesRead.{made_of_part, unread_outcome}
 use Rattle.ob_answer.proofs.obeying.obey_run.Goals as goal
 
 pub returns-in-Read : goal.returns-in-Read

@@ -1,4 +1,4 @@
-use Rattle.std.proofs.Common.{◌∙◌, [], inl, inr, refl, sym}
+use Rattle.std.proofs.Common.{◌∙◌, [], append_assoc, inl, inr, refl, sym}
 use Rattle.std.proofs.lemmas.List.{append-nil}
 use Rattle.std.proofs.lemmas.Result.{IfOk-weaker}
 use Rattle.ob_command.specs.ClapTexts.{empty_line}
@@ -13,4 +13,4 @@ returns-in-None c =
 pub returns-in-Some : goal.returns-in-Some
 returns-in-Some c =
     let first = split_first empty_line c.args.tip.now c.split_once.result c.split_once.ensures.cases (c.in-Some._told, c.in-Some.behind) c.in-Some.is in
-    IfOk-weaker c.with_empty_line.result _ _ (λ text is. (_, inr (_, _, first, refl), is)) c.with_empty_line.ensures
+    IfOk-weaker c.with_empty_line.result _ _ (λ text is. (_, inr (_, _, first, refl), is ∙ append_assoc c.args.before.now empty_line c.in-Some.behind.now)) c.with_empty_line.ensures

@@ -1,0 +1,8 @@
+use Rattle.ob_answer_files.specs.Reads.{record_in_calls}
+use Rattle.ob_command.specs.Commands.{calls_request_of}
+use Rattle.ob_answer_explained.proofs.TextsSame.{calls_same}
+use Rattle.ob_answer_explained.proofs.texts.calls_with.Goals as goal
+
+pub returns : goal.returns
+returns c = calls_same (calls_request_of c.args.command) _ _ _ _ _ (record_in_calls c.args.bytes.now) _ _ _
+    c.as_slice.ensures.value c.from.ensures c.begun_with-beginning.ensures c.as_slice-2.ensures.value c.bytes_or_none.ensures

@@ -1,0 +1,4 @@
+pub mod Beginnings
+pub mod CommandTexts
+pub mod Refusals
+pub mod Explains

@@ -1,5 +1,0 @@
-use Rattle.ob_command.proofs.Required.{accepted_asks}
-use Rattle.ob_command.proofs.laws.accepted_words_ask.Goals as goal
-
-pub returns : goal.returns
-returns c = accepted_asks

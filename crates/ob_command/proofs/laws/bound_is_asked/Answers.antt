@@ -1,9 +1,0 @@
-use Rattle.ob_command.proofs.CommandForms.{bound_asks}
-use Rattle.ob_command.proofs.FormsAsked.{bound_form}
-use Rattle.ob_command.proofs.laws.bound_is_asked.Goals as goal
-
-pub returns-clause-table : goal.returns-clause-table
-returns-clause-table c = bound_asks
-
-pub returns-clause-bound : goal.returns-clause-bound
-returns-clause-bound c = bound_form

@@ -1,5 +1,0 @@
-use Rattle.ob_command.proofs.CommandForms.{check_asked}
-use Rattle.ob_command.proofs.laws.check_is_asked.Goals as goal
-
-pub returns : goal.returns
-returns c = check_asked

@@ -1,5 +1,0 @@
-use Rattle.ob_command.proofs.CommandForms.{list_asked}
-use Rattle.ob_command.proofs.laws.list_is_asked.Goals as goal
-
-pub returns : goal.returns
-returns c = list_asked

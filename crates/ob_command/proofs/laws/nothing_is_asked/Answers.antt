@@ -1,5 +1,0 @@
-use Rattle.ob_command.proofs.HelpForms.{nothing_asked}
-use Rattle.ob_command.proofs.laws.nothing_is_asked.Goals as goal
-
-pub returns : goal.returns
-returns c = nothing_asked

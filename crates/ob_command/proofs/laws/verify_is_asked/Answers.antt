@@ -1,5 +1,0 @@
-use Rattle.ob_command.proofs.CommandForms.{verify_asked}
-use Rattle.ob_command.proofs.laws.verify_is_asked.Goals as goal
-
-pub returns : goal.returns
-returns c = verify_asked

@@ -1,0 +1,372 @@
+-- What each form of a command asks for.
+use Rattle.std.proofs.Common.{◌≡◌, ◌∙◌, ◌||◌, ◌&&◌, ℕ, refl, ap, ap₂, not, List, [], ◌∷◌, find, codes, true, false, Bool, if◌then◌else◌, Option, Some, None, is_some, option_and_then, option_map, unwrap_or}
+use Rattle.std.specs.Option.{option_map_or}
+use Rattle.std.specs.Str.{bytes_eq}
+use Rattle.clap.specs.Walk.{Text}
+use Rattle.ob_command.specs.CommandLine.{Bound, CallsRequest, Draw, DrawRecord, Explain, ExplainCalls, ExplainHistory, ExplainRecord, ExplainRun, ExplainTraps, Given, Order, Request, Run, RunRequest, RunSteps, RunTree, Seq, Serve, Unclear, are_seen, asked, budget_number, default_budget, is_most, is_place, is_seen_budget, most_mistake, number, order_by, parts_mistake, place_mistake, product_by, range_by, seen_budget_mistake}
+use Rattle.ob_command_laws.specs.PlainForms.{AreInRange, ArePlain, Argument, AsRecord, ByTree, Chosen, Count, Has, IsMost, IsPlace, IsSeenBudget, Lacks, ModuleAsksFor, Most, OfTraps, Range, RunAsksFor, ScriptAsksFor, ScriptSays, Seen, Start, Told, Turns, WithSteps, argument_in, bound_options, budget_in, calls_with, count_in, draw_options, explain_options, given_with_history, id_of, is_chosen, most_in, order_options, order_with, run_options, seq_options, serve_options, text_of, turns_in, value_in}
+use Rattle.ob_command.specs.declared.command.CallNumbers.{CallNumbers}
+use Rattle.ob_command.specs.declared.command.OrderProduct.{OrderProduct}
+use Rattle.ob_command.specs.declared.command.OrderProduct.TheVariants.{Apart, Line, WholeRecord}
+use Rattle.ob_command_laws.proofs.CommandForms.{bound_asks, draw_schedule_asks, draw_script_asks, explain_module_asks, explain_schedule_asks, explain_script_asks, order_asks, order_said, run_asks, seq_asks, serve_asks}
+use Rattle.ob_command_laws.proofs.OptionRows.{given_as}
+
+-- ---- options that are there, and that are not
+
+no_value : (name : Text) (chosen : List Chosen) → is_chosen name chosen ≡ false → value_in name chosen ≡ None
+no_value name [] none = refl
+no_value name (one ∷ others) none = go (bytes_eq (id_of one) name) none (no_value name others)
+  where
+    go : (t : Bool) → (t || is_chosen name others) ≡ false → (is_chosen name others ≡ false → value_in name others ≡ None)
+        → option_map text_of (if t then Some one else find (λ x. bytes_eq (id_of x) name) others) ≡ None
+    go true h later = cc
+    go false h later = later h
+
+a_value : (name : Text) (chosen : List Chosen) → is_chosen name chosen ≡ true → is_some (value_in name chosen) ≡ true
+a_value name [] is = cc
+a_value name (one ∷ others) is = go (bytes_eq (id_of one) name) is (a_value name others)
+  where
+    go : (t : Bool) → (t || is_chosen name others) ≡ true → (is_chosen name others ≡ true → is_some (value_in name others) ≡ true)
+        → is_some (option_map text_of (if t then Some one else find (λ x. bytes_eq (id_of x) name) others)) ≡ true
+    go true h later = refl
+    go false h later = later h
+
+is_there : (t : Bool) (name : Text) (chosen : List Chosen) (k : ℕ) → count_in chosen ≡ Some k → is_chosen (codes "N") chosen ≡ t → t ≡ true
+is_there true name chosen k is h = refl
+is_there false name chosen k is h =
+    let none : count_in chosen ≡ None = ap (option_and_then number) (no_value (codes "N") chosen h) in
+    cc
+
+counted : (chosen : List Chosen) (k : ℕ) → count_in chosen ≡ Some k → is_chosen (codes "N") chosen ≡ true
+counted chosen k is = is_there (is_chosen (codes "N") chosen) (codes "N") chosen k is refl
+
+no_count : (chosen : List Chosen) → is_chosen (codes "N") chosen ≡ false → count_in chosen ≡ None
+no_count chosen none = ap (option_and_then number) (no_value (codes "N") chosen none)
+
+no_turns : (chosen : List Chosen) → is_chosen (codes "BUDGET") chosen ≡ false → option_and_then budget_number (value_in (codes "BUDGET") chosen) ≡ None
+no_turns chosen none = ap (option_and_then budget_number) (no_value (codes "BUDGET") chosen none)
+
+not_needed : (chosen : List Chosen) → false ≡ true → is_chosen (codes "N") chosen ≡ true
+not_needed chosen h = cc
+
+-- ---- the table, where these are given
+
+abbrev asks : (command m : Text) → Given → Request
+asks command m given = unwrap_or (asked command m given) Unclear
+
+abbrev calls_as : (m s : Text) (k : ℕ) (t : Option ℕ) (f : Option Text) → CallsRequest
+calls_as m s k t f = record { module_name = m; script_name = s; processes = k; budget = unwrap_or t default_budget; from_name = f }
+
+abbrev run_as : (m s d : Text) (k : ℕ) (t : Option ℕ) (f : Option Text) → RunRequest
+run_as m s d k t f = record { calls = calls_as m s k t f; schedule_name = d }
+
+module _ (m s d : Text) (r h f c : Option Text) (o t q g : Option ℕ) (w x y z : Bool) where
+  abbrev alone : Given
+  alone = given_as None None r h f c o t q g w x y z
+
+  abbrev with_script : Given
+  with_script = given_as (Some s) None r h f c o t q g w x y z
+
+  abbrev with_schedule : Given
+  with_schedule = given_as (Some s) (Some d) r h f c o t q g w x y z
+
+  a_run : (k : ℕ) → o ≡ Some k → x ≡ false → y ≡ false → asks (codes "run") m with_schedule ≡ Run (run_as m s d k t f)
+  a_run k is_o is_x is_y = rw (is_o, is_x, is_y) refl
+
+  by_tree : (k : ℕ) → o ≡ Some k → x ≡ true → y ≡ false → f ≡ None → asks (codes "run") m with_schedule ≡ RunTree (run_as m s d k t f)
+  by_tree k is_o is_x is_y is_f = rw (is_o, is_x, is_y, is_f) refl
+
+  with_steps : (k : ℕ) → o ≡ Some k → y ≡ true → x ≡ false → asks (codes "run") m with_schedule ≡ RunSteps (run_as m s d k t f)
+  with_steps k is_o is_y is_x = rw (is_o, is_x, is_y) refl
+
+  no_steps : x ≡ true → y ≡ true → asks (codes "run") m with_schedule ≡ Unclear
+  no_steps is_x is_y = rw (is_x, is_y) refl
+
+  served : (k : ℕ) → o ≡ Some k → asks (codes "serve") m with_script ≡ Serve (calls_as m s k t f)
+  served k is_o = rw is_o refl
+
+  bounded : (k : ℕ) → o ≡ Some k → asks (codes "bound") m alone ≡ Bound m k (unwrap_or t default_budget)
+  bounded k is_o = rw is_o refl
+
+  drawn : (k : ℕ) (calls : Option CallNumbers) → o ≡ Some k → range_by c ≡ Some calls → asks (codes "draw") m with_schedule ≡ Draw (run_as m s d k t f) calls
+  drawn k calls is_o is_c = rw is_o (ap (λ u. unwrap_or (option_and_then (λ calls. Some (Draw (run_as m s d k t f) calls)) u) Unclear) is_c)
+
+  record_drawn : (calls : Option CallNumbers) → range_by c ≡ Some calls → o ≡ None → t ≡ None → f ≡ None
+      → asks (codes "draw") m with_script ≡ DrawRecord m s calls
+  record_drawn calls is_c is_o is_t is_f =
+      rw (is_o, is_t, is_f) (ap (λ u. unwrap_or (option_and_then (λ calls. Some (DrawRecord m s calls)) u) Unclear) is_c)
+
+  explained : r ≡ None → h ≡ None → f ≡ None → o ≡ None → z ≡ false → asks (codes "explain") m alone ≡ Explain m (unwrap_or t default_budget)
+  explained is_r is_h is_f is_o is_z = rw (is_r, is_h, is_f, is_o, is_z) refl
+
+  record_explained : (q : Text) → r ≡ Some q → h ≡ None → f ≡ None → o ≡ None → t ≡ None → z ≡ false → asks (codes "explain") m alone ≡ ExplainRecord m q
+  record_explained q is_r is_h is_f is_o is_t is_z = rw (is_r, is_h, is_f, is_o, is_t, is_z) refl
+
+  history_explained : (q : Text) → h ≡ Some q → r ≡ None → f ≡ None → o ≡ None → t ≡ None → z ≡ false
+      → asks (codes "explain") m alone ≡ ExplainHistory m q
+  history_explained q is_h is_r is_f is_o is_t is_z = rw (is_h, is_r, is_f, is_o, is_t, is_z) refl
+
+  calls_explained : r ≡ None → h ≡ None → o ≡ None → z ≡ false → asks (codes "explain") m with_script ≡ ExplainCalls (calls_as m s 16 t f)
+  calls_explained is_r is_h is_o is_z = rw (is_r, is_h, is_o, is_z) refl
+
+  traps_explained : z ≡ true → r ≡ None → h ≡ None → o ≡ None → asks (codes "explain") m with_script ≡ ExplainTraps (calls_as m s 16 t f)
+  traps_explained is_z is_r is_h is_o = rw (is_r, is_h, is_o, is_z) refl
+
+  run_explained : (k : ℕ) → o ≡ Some k → r ≡ None → h ≡ None → z ≡ false → asks (codes "explain") m with_schedule ≡ ExplainRun (run_as m s d k t f)
+  run_explained k is_o is_r is_h is_z = rw (is_r, is_h, is_o, is_z) refl
+
+no_from : (m s d : Text) (r h f c : Option Text) (o t q g : Option ℕ) (w x y z : Bool) → x ≡ true → is_some f ≡ true
+    → asks (codes "run") m (given_as (Some s) (Some d) r h f c o t q g w x y z) ≡ Unclear
+no_from m s d r h None c o t q g w x y z is_x is_f = cc
+no_from m s d r h (Some f) c o t q g w x true z is_x is_f = rw is_x refl
+no_from m s d r h (Some f) c o t q g w x false z is_x is_f = rw is_x refl
+
+-- ---- what is given by options
+
+abbrev told : List Chosen → Option Text
+told = value_in (codes "RECORD")
+
+abbrev seen : List Chosen → Option Text
+seen = value_in (codes "HISTORY")
+
+abbrev begun : List Chosen → Option Text
+begun = value_in (codes "FROM")
+
+abbrev shown : List Chosen → Option Text
+shown = value_in (codes "FROM-TO")
+
+abbrev spent : List Chosen → Option ℕ
+spent chosen = option_and_then budget_number (value_in (codes "BUDGET") chosen)
+
+abbrev looked : List Chosen → Option ℕ
+looked = most_in
+
+abbrev parted : List Chosen → Option ℕ
+parted = argument_in
+
+abbrev recorded : List Chosen → Bool
+recorded = is_chosen (codes "record")
+
+abbrev treed : List Chosen → Bool
+treed = is_chosen (codes "tree")
+
+abbrev stepped : List Chosen → Bool
+stepped = is_chosen (codes "steps")
+
+abbrev trapped : List Chosen → Bool
+trapped = is_chosen (codes "traps")
+
+-- ---- so much for the words
+
+pub seq_form : ScriptAsksFor (codes "seq") seq_options (Lacks []) (λ m s chosen. Seq (calls_with m s 16 chosen))
+seq_form m s chosen no_m no_s plain lacks = seq_asks m s chosen no_m no_s plain (not_needed chosen)
+
+pub run_form : RunAsksFor (codes "run") run_options (Lacks (codes "tree" ∷ codes "steps" ∷ [])) Run
+run_form m s d chosen k no_m no_s no_d plain count lacks =
+    run_asks m s d chosen no_m no_s no_d plain (λ e. counted chosen k count) ∙ a_run m s d (told chosen) (seen chosen) (begun chosen) (shown chosen) (count_in chosen) (spent chosen) (looked chosen) (parted chosen) (recorded chosen) (treed chosen) (stepped chosen) (trapped chosen) k count lacks.0 lacks.1.0
+
+pub tree_form : RunAsksFor (codes "run") run_options (λ chosen. Has (codes "tree") chosen × Lacks (codes "steps" ∷ codes "FROM" ∷ []) chosen) RunTree
+tree_form m s d chosen k no_m no_s no_d plain count holds =
+    run_asks m s d chosen no_m no_s no_d plain (λ e. counted chosen k count)
+    ∙ by_tree m s d (told chosen) (seen chosen) (begun chosen) (shown chosen) (count_in chosen) (spent chosen) (looked chosen) (parted chosen) (recorded chosen) (treed chosen) (stepped chosen) (trapped chosen) k count holds.0 holds.1.0 (no_value (codes "FROM") chosen holds.1.1.0)
+
+pub steps_form : RunAsksFor (codes "run") run_options (λ chosen. Has (codes "steps") chosen × Lacks (codes "tree" ∷ []) chosen) RunSteps
+steps_form m s d chosen k no_m no_s no_d plain count holds =
+    run_asks m s d chosen no_m no_s no_d plain (λ e. counted chosen k count) ∙ with_steps m s d (told chosen) (seen chosen) (begun chosen) (shown chosen) (count_in chosen) (spent chosen) (looked chosen) (parted chosen) (recorded chosen) (treed chosen) (stepped chosen) (trapped chosen) k count holds.0 holds.1.0
+
+pub tree_steps_form : RunAsksFor (codes "run") run_options (λ chosen. Has (codes "tree") chosen × Has (codes "steps") chosen) (λ run. Unclear)
+tree_steps_form m s d chosen k no_m no_s no_d plain count holds =
+    run_asks m s d chosen no_m no_s no_d plain (λ e. counted chosen k count) ∙ no_steps m s d (told chosen) (seen chosen) (begun chosen) (shown chosen) (count_in chosen) (spent chosen) (looked chosen) (parted chosen) (recorded chosen) (treed chosen) (stepped chosen) (trapped chosen) holds.0 holds.1
+
+pub tree_from_form : RunAsksFor (codes "run") run_options (λ chosen. Has (codes "tree") chosen × Has (codes "FROM") chosen) (λ run. Unclear)
+tree_from_form m s d chosen k no_m no_s no_d plain count holds =
+    run_asks m s d chosen no_m no_s no_d plain (λ e. counted chosen k count)
+    ∙ no_from m s d (told chosen) (seen chosen) (begun chosen) (shown chosen) (count_in chosen) (spent chosen) (looked chosen) (parted chosen) (recorded chosen) (treed chosen) (stepped chosen) (trapped chosen) holds.0 (a_value (codes "FROM") chosen holds.1)
+
+pub serve_form : (k : ℕ) → ScriptAsksFor (codes "serve") serve_options (λ chosen. count_in chosen ≡ Some k) (λ m s chosen. Serve (calls_with m s k chosen))
+serve_form k m s chosen no_m no_s plain count =
+    serve_asks m s chosen no_m no_s plain (λ e. counted chosen k count) ∙ served m s [] (told chosen) (seen chosen) (begun chosen) (shown chosen) (count_in chosen) (spent chosen) (looked chosen) (parted chosen) (recorded chosen) (treed chosen) (stepped chosen) (trapped chosen) k count
+
+pub bound_form : (k : ℕ) → ModuleAsksFor (codes "bound") bound_options (λ chosen. count_in chosen ≡ Some k) (λ m chosen. Bound m k (turns_in chosen))
+bound_form k m chosen no_m plain count = bound_asks m chosen no_m plain (λ e. counted chosen k count) ∙ bounded m [] [] (told chosen) (seen chosen) (begun chosen) (shown chosen) (count_in chosen) (spent chosen) (looked chosen) (parted chosen) (recorded chosen) (treed chosen) (stepped chosen) (trapped chosen) k count
+
+pub draw_form : (calls : Option CallNumbers) → RunAsksFor (codes "draw") draw_options (λ chosen. range_by (value_in (codes "FROM-TO") chosen) ≡ Some calls) (λ run. Draw run calls)
+draw_form calls m s d chosen k no_m no_s no_d plain count range =
+    draw_schedule_asks m s d chosen no_m no_s no_d plain (not_needed chosen) ∙ drawn m s d (told chosen) (seen chosen) (begun chosen) (shown chosen) (count_in chosen) (spent chosen) (looked chosen) (parted chosen) (recorded chosen) (treed chosen) (stepped chosen) (trapped chosen) k calls count range
+
+pub draw_record_form : (calls : Option CallNumbers) → ScriptAsksFor (codes "draw") draw_options
+    (λ chosen. (range_by (value_in (codes "FROM-TO") chosen) ≡ Some calls) × Lacks (codes "N" ∷ codes "BUDGET" ∷ codes "FROM" ∷ []) chosen) (λ m r chosen. DrawRecord m r calls)
+draw_record_form calls m r chosen no_m no_r plain holds =
+    draw_script_asks m r chosen no_m no_r plain (not_needed chosen)
+    ∙ record_drawn m r [] (told chosen) (seen chosen) (begun chosen) (shown chosen) (count_in chosen) (spent chosen) (looked chosen) (parted chosen) (recorded chosen) (treed chosen) (stepped chosen) (trapped chosen) calls holds.0 (no_count chosen holds.1.0) (no_turns chosen holds.1.1.0) (no_value (codes "FROM") chosen holds.1.1.1.0)
+
+-- three tests hold, or one does not
+all_three : (a b c : Bool) → a ≡ true → b ≡ true → c ≡ true → (a && b && c) ≡ true
+all_three a b c is_a is_b is_c = rw (is_a, is_b, is_c) refl
+
+is_false : (t : Bool) → (t ≡ true → ⊥) → t ≡ false
+is_false true h = absurd (h refl)
+is_false false h = refl
+
+first_out : (a b c : Bool) → a ≡ false → (a && b && c) ≡ false
+first_out a b c h = ap (λ (t : Bool). t && b && c) h
+
+second_out : (a b c : Bool) → b ≡ false → (a && b && c) ≡ false
+second_out true b c h = ap (λ (t : Bool). t && c) h
+second_out false b c h = refl
+
+third_out : (a b c : Bool) → c ≡ false → (a && b && c) ≡ false
+third_out true true c h = h
+third_out true false c h = refl
+third_out false b c h = refl
+
+-- what is said by the tests of the number of configurations, of the budget and of the place of an argument
+abbrev mistake_by : (most budget place : Bool) → Text
+mistake_by most budget place =
+    if not most then most_mistake else if not budget then seen_budget_mistake else if not place then place_mistake else parts_mistake
+
+no_argument : (chosen : List Chosen) → is_chosen (codes "BY") chosen ≡ false → argument_in chosen ≡ None
+no_argument chosen none = ap (option_and_then number) (no_value (codes "BY") chosen none)
+
+plain_number : (names : List Text) (chosen : List Chosen) → ArePlain names chosen → is_chosen (codes "BY") chosen ≡ true → is_some (argument_in chosen) ≡ true
+plain_number names [] plain is = cc
+plain_number names (Count n ∷ others) plain is = plain_number names others plain.3 is
+plain_number names (Turns short b ∷ others) plain is = plain_number names others plain.3 is
+plain_number names (Most k ∷ others) plain is = plain_number names others plain.3 is
+plain_number names (Argument n ∷ others) plain is = plain.1
+plain_number names (Start f ∷ others) plain is = plain_number names others plain.3 is
+plain_number names (Range c ∷ others) plain is = plain_number names others plain.3 is
+plain_number names (Told r ∷ others) plain is = plain_number names others plain.3 is
+plain_number names (Seen h ∷ others) plain is = plain_number names others plain.3 is
+plain_number names (ByTree ∷ others) plain is = plain_number names others plain.3 is
+plain_number names (WithSteps ∷ others) plain is = plain_number names others plain.3 is
+plain_number names (OfTraps ∷ others) plain is = plain_number names others plain.3 is
+plain_number names (AsRecord ∷ others) plain is = plain_number names others plain.3 is
+
+no_parts : (t : Bool) (argument : Option ℕ) → t ≡ true → is_some argument ≡ true → product_by t argument ≡ None
+no_parts t None is some = cc
+no_parts true (Some place) is some = refl
+no_parts false (Some place) is some = cc
+
+module _ (m h : Text) (chosen : List Chosen) where
+  abbrev given : Given
+  given = given_with_history h chosen
+
+  order_when : (t : Bool) (product : Option OrderProduct) → are_seen given ≡ t → product_by (recorded chosen) (parted chosen) ≡ product
+      → asks (codes "order") m given ≡ unwrap_or (if t then option_and_then (order_by m given) product else None) Unclear
+  order_when t product seen is =
+      ap₂ (λ (t : Bool) (product : Option OrderProduct). unwrap_or (if t then option_and_then (order_by m given) product else None) Unclear) seen is
+
+  -- the tests of the numbers
+  abbrev budget_is : Bool
+  budget_is = option_map_or is_seen_budget (budget_in chosen) true
+
+  abbrev most_is : Bool
+  most_is = option_map_or is_most (most_in chosen) true
+
+  abbrev place_is : Bool
+  place_is = option_map_or is_place (argument_in chosen) true
+
+  in_range : AreInRange chosen → are_seen given ≡ true
+  in_range range = all_three budget_is most_is place_is range.0 range.1 range.2
+
+  -- nothing is asked for where one of them fails
+  out_of_range : are_seen given ≡ false → asks (codes "order") m given ≡ Unclear
+  out_of_range out = order_when false (product_by (recorded chosen) (parted chosen)) out refl
+
+pub order_line : ScriptAsksFor (codes "order") order_options (λ chosen. AreInRange chosen × Lacks (codes "record" ∷ codes "BY" ∷ []) chosen)
+    (λ m h chosen. Order (order_with m h chosen Line))
+order_line m h chosen no_m no_h plain holds =
+    order_asks m h chosen no_m no_h plain
+    ∙ order_when m h chosen true (Some Line) (in_range m h chosen holds.0) (ap₂ product_by holds.1.0 (no_argument chosen holds.1.1.0))
+
+pub order_record : ScriptAsksFor (codes "order") order_options (λ chosen. AreInRange chosen × Has (codes "record") chosen × Lacks (codes "BY" ∷ []) chosen)
+    (λ m h chosen. Order (order_with m h chosen WholeRecord))
+order_record m h chosen no_m no_h plain holds =
+    order_asks m h chosen no_m no_h plain
+    ∙ order_when m h chosen true (Some WholeRecord) (in_range m h chosen holds.0) (ap₂ product_by holds.1 (no_argument chosen holds.2.0))
+
+pub order_parts : (place : ℕ) → ScriptAsksFor (codes "order") order_options
+    (λ chosen. AreInRange chosen × (argument_in chosen ≡ Some place) × Lacks (codes "record" ∷ []) chosen) (λ m h chosen. Order (order_with m h chosen (Apart place)))
+order_parts place m h chosen no_m no_h plain holds =
+    order_asks m h chosen no_m no_h plain
+    ∙ order_when m h chosen true (Some (Apart place)) (in_range m h chosen holds.0) (ap₂ product_by holds.2.0 holds.1)
+
+pub order_most_said : ScriptSays (codes "order") order_options (λ chosen. IsMost chosen → ⊥) most_mistake
+order_most_said m h chosen no_m no_h plain holds =
+    let out = is_false (most_is m h chosen) holds in (
+      order_asks m h chosen no_m no_h plain
+          ∙ out_of_range m h chosen (second_out (budget_is m h chosen) (most_is m h chosen) (place_is m h chosen) out),
+      order_said m h chosen no_m no_h plain ∙ ap (λ (t : Bool). Some (mistake_by t (budget_is m h chosen) (place_is m h chosen))) out,
+    )
+
+pub order_budget_said : ScriptSays (codes "order") order_options (λ chosen. IsMost chosen × (IsSeenBudget chosen → ⊥)) seen_budget_mistake
+order_budget_said m h chosen no_m no_h plain holds =
+    let out = is_false (budget_is m h chosen) holds.1 in (
+      order_asks m h chosen no_m no_h plain
+          ∙ out_of_range m h chosen (first_out (budget_is m h chosen) (most_is m h chosen) (place_is m h chosen) out),
+      order_said m h chosen no_m no_h plain ∙ ap₂ (λ (t u : Bool). Some (mistake_by t u (place_is m h chosen))) holds.0 out,
+    )
+
+pub order_place_said : ScriptSays (codes "order") order_options (λ chosen. IsMost chosen × IsSeenBudget chosen × (IsPlace chosen → ⊥)) place_mistake
+order_place_said m h chosen no_m no_h plain holds =
+    let out = is_false (place_is m h chosen) holds.2 in (
+      order_asks m h chosen no_m no_h plain
+          ∙ out_of_range m h chosen (third_out (budget_is m h chosen) (most_is m h chosen) (place_is m h chosen) out),
+      order_said m h chosen no_m no_h plain
+          ∙ (ap₂ (λ (t u : Bool). Some (mistake_by t u (place_is m h chosen))) holds.0 holds.1
+          ∙ ap (λ (t : Bool). Some (mistake_by true true t)) out),
+    )
+
+pub order_parts_said : ScriptSays (codes "order") order_options (λ chosen. AreInRange chosen × Has (codes "record") chosen × Has (codes "BY") chosen) parts_mistake
+order_parts_said m h chosen no_m no_h plain holds = (
+  order_asks m h chosen no_m no_h plain
+      ∙ order_when m h chosen true None (in_range m h chosen holds.0)
+      (no_parts (recorded chosen) (parted chosen) holds.1 (plain_number order_options chosen plain holds.2)),
+  order_said m h chosen no_m no_h plain
+      ∙ (ap₂ (λ (t u : Bool). Some (mistake_by t u (place_is m h chosen))) holds.0.1 holds.0.0
+      ∙ ap (λ (t : Bool). Some (mistake_by true true t)) holds.0.2),
+)
+
+pub explain_form : ModuleAsksFor (codes "explain") explain_options (Lacks (codes "RECORD" ∷ codes "HISTORY" ∷ codes "FROM" ∷ codes "N" ∷ codes "traps" ∷ []))
+    (λ m chosen. Explain m (turns_in chosen))
+explain_form m chosen no_m plain lacks =
+    explain_module_asks m chosen no_m plain (not_needed chosen)
+    ∙ explained m [] [] (told chosen) (seen chosen) (begun chosen) (shown chosen) (count_in chosen) (spent chosen) (looked chosen) (parted chosen) (recorded chosen) (treed chosen) (stepped chosen) (trapped chosen) (no_value (codes "RECORD") chosen lacks.0) (no_value (codes "HISTORY") chosen lacks.1.0)
+    (no_value (codes "FROM") chosen lacks.1.1.0) (no_count chosen lacks.1.1.1.0) lacks.1.1.1.1.0
+
+pub explain_record_form : (r : Text) → ModuleAsksFor (codes "explain") explain_options
+    (λ chosen. (value_in (codes "RECORD") chosen ≡ Some r) × Lacks (codes "HISTORY" ∷ codes "FROM" ∷ codes "N" ∷ codes "BUDGET" ∷ codes "traps" ∷ []) chosen)
+    (λ m chosen. ExplainRecord m r)
+explain_record_form r m chosen no_m plain holds =
+    explain_module_asks m chosen no_m plain (not_needed chosen)
+    ∙ record_explained m [] [] (told chosen) (seen chosen) (begun chosen) (shown chosen) (count_in chosen) (spent chosen) (looked chosen) (parted chosen) (recorded chosen) (treed chosen) (stepped chosen) (trapped chosen) r holds.0 (no_value (codes "HISTORY") chosen holds.1.0) (no_value (codes "FROM") chosen holds.1.1.0)
+    (no_count chosen holds.1.1.1.0) (no_turns chosen holds.1.1.1.1.0) holds.1.1.1.1.1.0
+
+pub explain_history_form : (h : Text) → ModuleAsksFor (codes "explain") explain_options
+    (λ chosen. (value_in (codes "HISTORY") chosen ≡ Some h) × Lacks (codes "RECORD" ∷ codes "FROM" ∷ codes "N" ∷ codes "BUDGET" ∷ codes "traps" ∷ []) chosen)
+    (λ m chosen. ExplainHistory m h)
+explain_history_form h m chosen no_m plain holds =
+    explain_module_asks m chosen no_m plain (not_needed chosen)
+    ∙ history_explained m [] [] (told chosen) (seen chosen) (begun chosen) (shown chosen) (count_in chosen) (spent chosen) (looked chosen) (parted chosen) (recorded chosen) (treed chosen) (stepped chosen) (trapped chosen) h holds.0 (no_value (codes "RECORD") chosen holds.1.0) (no_value (codes "FROM") chosen holds.1.1.0)
+    (no_count chosen holds.1.1.1.0) (no_turns chosen holds.1.1.1.1.0) holds.1.1.1.1.1.0
+
+pub explain_calls_form : ScriptAsksFor (codes "explain") explain_options (Lacks (codes "RECORD" ∷ codes "HISTORY" ∷ codes "N" ∷ codes "traps" ∷ []))
+    (λ m s chosen. ExplainCalls (calls_with m s 16 chosen))
+explain_calls_form m s chosen no_m no_s plain lacks =
+    explain_script_asks m s chosen no_m no_s plain (not_needed chosen)
+    ∙ calls_explained m s [] (told chosen) (seen chosen) (begun chosen) (shown chosen) (count_in chosen) (spent chosen) (looked chosen) (parted chosen) (recorded chosen) (treed chosen) (stepped chosen) (trapped chosen) (no_value (codes "RECORD") chosen lacks.0) (no_value (codes "HISTORY") chosen lacks.1.0)
+    (no_count chosen lacks.1.1.0) lacks.1.1.1.0
+
+pub explain_traps_form : ScriptAsksFor (codes "explain") explain_options
+    (λ chosen. Has (codes "traps") chosen × Lacks (codes "RECORD" ∷ codes "HISTORY" ∷ codes "N" ∷ []) chosen)
+    (λ m s chosen. ExplainTraps (calls_with m s 16 chosen))
+explain_traps_form m s chosen no_m no_s plain holds =
+    explain_script_asks m s chosen no_m no_s plain (not_needed chosen)
+    ∙ traps_explained m s [] (told chosen) (seen chosen) (begun chosen) (shown chosen) (count_in chosen) (spent chosen) (looked chosen) (parted chosen) (recorded chosen) (treed chosen) (stepped chosen) (trapped chosen) holds.0 (no_value (codes "RECORD") chosen holds.1.0) (no_value (codes "HISTORY") chosen holds.1.1.0)
+    (no_count chosen holds.1.1.1.0)
+
+pub explain_run_form : RunAsksFor (codes "explain") explain_options (Lacks (codes "RECORD" ∷ codes "HISTORY" ∷ codes "traps" ∷ [])) ExplainRun
+explain_run_form m s d chosen k no_m no_s no_d plain count lacks =
+    explain_schedule_asks m s d chosen no_m no_s no_d plain (not_needed chosen)
+    ∙ run_explained m s d (told chosen) (seen chosen) (begun chosen) (shown chosen) (count_in chosen) (spent chosen) (looked chosen) (parted chosen) (recorded chosen) (treed chosen) (stepped chosen) (trapped chosen) k count (no_value (codes "RECORD") chosen lacks.0) (no_value (codes "HISTORY") chosen lacks.1.0) lacks.1.1.0

@@ -1,0 +1,141 @@
+//! What plain words ask for. What a function here ensures is proved; it does nothing.
+
+ghost use Rattle.std.specs.Prelude.{◌≡◌, ◌⊎◌, ℕ, List, Option, Some, [], ◌∷◌, false, true, All, codes, is_some, unwrap_or};
+ghost use Rattle.clap.specs.Words.{fault_of};
+ghost use Rattle.ob_command_line.specs.ClapCommand.{obl0_app};
+ghost use Rattle.ob_command.specs.CommandLine.{Bound, Check, Draw, DrawRecord, Explain, ExplainCalls, ExplainHistory, ExplainRecord, ExplainRun};
+ghost use Rattle.ob_command.specs.CommandLine.{ExplainTraps, Help, Listing, Order, Run, RunSteps, RunTree, Seq, Serve, Text, Unclear, Verify};
+ghost use Rattle.ob_command.specs.CommandLine.{Version, asks_command, command_names, form_mistake_of, is_option, most_mistake, parts_mistake};
+ghost use Rattle.ob_command.specs.CommandLine.{place_mistake, range_by, request, seen_budget_mistake};
+ghost use Rattle.ob_command_laws.specs.PlainForms.{AreInRange, AsksWithHistory, AsksWithModule, AsksWithSchedule, AsksWithScript, Has, IsHelpAsked};
+ghost use Rattle.ob_command_laws.specs.PlainForms.{IsMost, IsPlace, IsSeenBudget, IsVersionAsked, Lacks, ModuleAsksFor, RunAsksFor, ScriptAsksFor};
+ghost use Rattle.ob_command_laws.specs.PlainForms.{ScriptSays, argument_in, bound_options, calls_with, count_in, draw_options, explain_options};
+ghost use Rattle.ob_command_laws.specs.PlainForms.{order_options, order_with, run_options, seq_options, serve_options, turns_in, value_in};
+ghost use Rattle.ob_command.specs.declared.command.CallNumbers.{CallNumbers};
+ghost use Rattle.ob_command.specs.declared.command.OrderProduct.TheVariants.{Apart, Line, WholeRecord};
+
+/// `check` and a name that is no option.
+pub fn check_is_asked()
+    ensures { (m : Text) → is_option m ≡ false → request (codes "check" ∷ m ∷ []) ≡ Check m }
+{}
+
+/// `list` and a name that is no option.
+pub fn list_is_asked()
+    ensures { (m : Text) → is_option m ≡ false → request (codes "list" ∷ m ∷ []) ≡ Listing m }
+{}
+
+/// `seq` and two names that are no options, and its options in any order.
+pub fn seq_is_asked()
+    ensures table { AsksWithScript (codes "seq") false seq_options }
+    ensures calls { ScriptAsksFor (codes "seq") seq_options (Lacks []) (λ m s chosen. Seq (calls_with m s 16 chosen)) }
+{}
+
+/// `run` and three names that are no options, and its options in any order.
+pub fn run_is_asked()
+    ensures table { AsksWithSchedule (codes "run") true run_options }
+    ensures code { RunAsksFor (codes "run") run_options (Lacks (codes "tree" ∷ codes "steps" ∷ [])) Run }
+    ensures tree { RunAsksFor (codes "run") run_options (λ chosen. Has (codes "tree") chosen × Lacks (codes "steps" ∷ codes "FROM" ∷ []) chosen) RunTree }
+    ensures steps { RunAsksFor (codes "run") run_options (λ chosen. Has (codes "steps") chosen × Lacks (codes "tree" ∷ []) chosen) RunSteps }
+    ensures tree_steps { RunAsksFor (codes "run") run_options (λ chosen. Has (codes "tree") chosen × Has (codes "steps") chosen) (λ run. Unclear) }
+    ensures tree_from { RunAsksFor (codes "run") run_options (λ chosen. Has (codes "tree") chosen × Has (codes "FROM") chosen) (λ run. Unclear) }
+{}
+
+/// `serve` and two names that are no options, and its options in any order.
+pub fn serve_is_asked()
+    ensures table { AsksWithScript (codes "serve") true serve_options }
+    ensures calls { (k : ℕ) → ScriptAsksFor (codes "serve") serve_options (λ chosen. count_in chosen ≡ Some k) (λ m s chosen. Serve (calls_with m s k chosen)) }
+{}
+
+/// `draw` and three names that are no options, or two, and its options in any order.
+pub fn draw_is_asked()
+    ensures table { AsksWithSchedule (codes "draw") false draw_options }
+    ensures table_of_two { AsksWithScript (codes "draw") false draw_options }
+    ensures run { (calls : Option CallNumbers) → RunAsksFor (codes "draw") draw_options
+        (λ chosen. range_by (value_in (codes "FROM-TO") chosen) ≡ Some calls) (λ run. Draw run calls) }
+    ensures record { (calls : Option CallNumbers) → ScriptAsksFor (codes "draw") draw_options
+        (λ chosen. (range_by (value_in (codes "FROM-TO") chosen) ≡ Some calls) × Lacks (codes "N" ∷ codes "BUDGET" ∷ codes "FROM" ∷ []) chosen)
+        (λ m r chosen. DrawRecord m r calls) }
+{}
+
+/// `verify` and two names that are no options.
+pub fn verify_is_asked()
+    ensures { (m r : Text) → is_option m ≡ false → is_option r ≡ false → request (codes "verify" ∷ m ∷ r ∷ []) ≡ Verify m r }
+{}
+
+/// `order` and two names that are no options, and its options in any order; what is said of numbers that are out of their ranges, and of a
+/// record of parts.
+pub fn order_is_asked()
+    ensures table { AsksWithHistory (codes "order") order_options }
+    ensures line { ScriptAsksFor (codes "order") order_options (λ chosen. AreInRange chosen × Lacks (codes "record" ∷ codes "BY" ∷ []) chosen)
+        (λ m h chosen. Order (order_with m h chosen Line)) }
+    ensures record { ScriptAsksFor (codes "order") order_options (λ chosen. AreInRange chosen × Has (codes "record") chosen × Lacks (codes "BY" ∷ []) chosen)
+        (λ m h chosen. Order (order_with m h chosen WholeRecord)) }
+    ensures parts { (place : ℕ) → ScriptAsksFor (codes "order") order_options
+        (λ chosen. AreInRange chosen × (argument_in chosen ≡ Some place) × Lacks (codes "record" ∷ []) chosen)
+        (λ m h chosen. Order (order_with m h chosen (Apart place))) }
+    ensures most { ScriptSays (codes "order") order_options (λ chosen. IsMost chosen → ⊥) most_mistake }
+    ensures budget { ScriptSays (codes "order") order_options (λ chosen. IsMost chosen × (IsSeenBudget chosen → ⊥)) seen_budget_mistake }
+    ensures place { ScriptSays (codes "order") order_options (λ chosen. IsMost chosen × IsSeenBudget chosen × (IsPlace chosen → ⊥)) place_mistake }
+    ensures record_of_parts { ScriptSays (codes "order") order_options
+        (λ chosen. AreInRange chosen × Has (codes "record") chosen × Has (codes "BY") chosen) parts_mistake }
+{}
+
+/// `explain` and up to three names that are no options, and its options in any order.
+pub fn explain_is_asked()
+    ensures table_of_one { AsksWithModule (codes "explain") false explain_options }
+    ensures table_of_two { AsksWithScript (codes "explain") false explain_options }
+    ensures table { AsksWithSchedule (codes "explain") false explain_options }
+    ensures module { ModuleAsksFor (codes "explain") explain_options
+        (Lacks (codes "RECORD" ∷ codes "HISTORY" ∷ codes "FROM" ∷ codes "N" ∷ codes "traps" ∷ [])) (λ m chosen. Explain m (turns_in chosen)) }
+    ensures record { (r : Text) → ModuleAsksFor (codes "explain") explain_options
+        (λ chosen. (value_in (codes "RECORD") chosen ≡ Some r) × Lacks (codes "HISTORY" ∷ codes "FROM" ∷ codes "N" ∷ codes "BUDGET" ∷ codes "traps" ∷ []) chosen)
+        (λ m chosen. ExplainRecord m r) }
+    ensures history { (h : Text) → ModuleAsksFor (codes "explain") explain_options
+        (λ chosen. (value_in (codes "HISTORY") chosen ≡ Some h) × Lacks (codes "RECORD" ∷ codes "FROM" ∷ codes "N" ∷ codes "BUDGET" ∷ codes "traps" ∷ []) chosen)
+        (λ m chosen. ExplainHistory m h) }
+    ensures calls { ScriptAsksFor (codes "explain") explain_options
+        (Lacks (codes "RECORD" ∷ codes "HISTORY" ∷ codes "N" ∷ codes "traps" ∷ [])) (λ m s chosen. ExplainCalls (calls_with m s 16 chosen)) }
+    ensures traps { ScriptAsksFor (codes "explain") explain_options
+        (λ chosen. Has (codes "traps") chosen × Lacks (codes "RECORD" ∷ codes "HISTORY" ∷ codes "N" ∷ []) chosen)
+        (λ m s chosen. ExplainTraps (calls_with m s 16 chosen)) }
+    ensures run { RunAsksFor (codes "explain") explain_options (Lacks (codes "RECORD" ∷ codes "HISTORY" ∷ codes "traps" ∷ [])) ExplainRun }
+{}
+
+/// `bound` and a name that is no option, and its options in any order.
+pub fn bound_is_asked()
+    ensures table { AsksWithModule (codes "bound") true bound_options }
+    ensures bound { (k : ℕ) → ModuleAsksFor (codes "bound") bound_options (λ chosen. count_in chosen ≡ Some k) (λ m chosen. Bound m k (turns_in chosen)) }
+{}
+
+/// The words that ask for the help of a command.
+pub fn help_of_each_is_asked()
+    ensures { All IsHelpAsked command_names }
+{}
+
+/// The words that ask for the version, alone and behind the name of a command.
+pub fn version_is_asked()
+    ensures word { request (codes "version" ∷ []) ≡ Version }
+    ensures long { request (codes "--version" ∷ []) ≡ Version }
+    ensures short { request (codes "-V" ∷ []) ≡ Version }
+    ensures behind { All IsVersionAsked command_names }
+{}
+
+/// The words that ask for help.
+pub fn help_is_asked()
+    ensures alone { request (codes "help" ∷ []) ≡ Help }
+    ensures long { request (codes "--help" ∷ []) ≡ Help }
+    ensures short { request (codes "-h" ∷ []) ≡ Help }
+    ensures of_help { request (codes "help" ∷ codes "help" ∷ []) ≡ Help }
+    ensures of_version { request (codes "help" ∷ codes "version" ∷ []) ≡ Help }
+{}
+
+/// Words in which `clap` finds no fault ask for a command, or what is said of them is that they have no form of a command that has
+/// several.
+pub fn accepted_words_ask()
+    ensures { (words : List Text) → fault_of obl0_app words ≡ [] → (asks_command words ≡ true) ⊎ (is_some (form_mistake_of words) ≡ true) }
+{}
+
+/// No words ask for nothing that there is.
+pub fn nothing_is_asked()
+    ensures { request [] ≡ Unclear }
+{}

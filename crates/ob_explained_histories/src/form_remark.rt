@@ -1,0 +1,61 @@
+//! What is wrong in a line of a history, in a sentence.
+
+ghost use Rattle.std.specs.Prelude.{IfOk, option_map};
+ghost use Rattle.ob_explain.specs.Remarks.{remark_of};
+ghost use Rattle.ob_explained_histories.specs.ExplainedHistories.{Marks};
+
+use ob_explain::remark::Remark;
+use ob_explained::script_place::{first_place, script_line};
+use std::alloc::{AllocError, Global};
+
+/// The remark on the line of a number, from 1, which is missing or can't stand there: at its first word.
+pub(crate) fn form_remark(
+    alloc: Global,
+    text: &[u8],
+    number: usize,
+) -> Result<Option<Remark>, AllocError>
+    ensures { IfOk result (λ remark. Marks text.now number 0 (option_map remark_of remark)) }
+{
+    let (begin, line) = script_line(text, number);
+    let first = first_place(line);
+    let sentence = String::from_str(alloc, sentence_of(line[first..].first().copied()))?;
+    Ok(Some(Remark {
+        place: begin + first,
+        sentence,
+        hint: None,
+    }))
+}
+
+/// What stands in a line that begins with this byte.
+fn sentence_of(first: Option<u8>) -> &'static str {
+    match first {
+        None => {
+            "here a line is missing: of the module's variables each has an I line before the events, or none has"
+        }
+        Some(b'B') => {
+            "behind B stand a process's next call, as 0.1, a procedure that the module exports, and its arguments, as B 0.1 Add 3"
+        }
+        Some(b'E') => {
+            "behind E stand a call that has begun and not ended, as 0.1, and done and its values, or trap and 1 to 5, as E 0.1 done 3"
+        }
+        Some(b'A' | b'O') => {
+            "behind A and O stand names of calls, as 0.1; an order stands behind all events, and once"
+        }
+        Some(b'I') => {
+            "behind I stand the next variable of the module and a value of its type, before all events; each variable has a line, or none has"
+        }
+        Some(b'b') => {
+            "behind b stands how many turns each call has, 0 to 1000000, once and before the values that the object began with"
+        }
+        Some(b'n') => {
+            "behind n stands how many processes there are, a number of at most nine digits, once and before the budget"
+        }
+        Some(b'o') => {
+            "a title, as obl0 record 2, stands before all other lines, or there is none"
+        }
+        Some(b'S' | b'V') => "S and V lines stand behind the order alone",
+        Some(_) => {
+            "here stands an event (B, E), or a line that a record has (obl0, n, b, I, A, O, S, V), or a comment behind #"
+        }
+    }
+}

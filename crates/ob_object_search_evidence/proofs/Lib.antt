@@ -1,0 +1,4 @@
+pub mod Fronts
+pub mod Ended
+pub mod Shown
+pub mod Evident

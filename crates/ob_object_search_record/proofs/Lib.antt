@@ -1,0 +1,3 @@
+pub mod Copied
+pub mod Recorded
+pub mod Recordings

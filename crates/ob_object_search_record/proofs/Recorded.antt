@@ -1,0 +1,61 @@
+-- What is recorded of a history that is heard, by positions.
+use Rattle.std.proofs.Common.{◌≡◌, ◌≤◌, ℕ, List, [], Option, Vec, Global, refl, subst, sym}
+use Rattle.ob_interface.specs.Call.{ObjectCall, Reply}
+use Rattle.ob_interface.specs.Processes.{most_processes}
+use Rattle.ob_object_order.specs.LegalOrder.{CallEnds}
+use Rattle.ob_object_record.specs.Record.{Record}
+use Rattle.ob_object_search.proofs.Histories.{enough_here, found_fault, found_lawful}
+use Rattle.ob_object_search.specs.Found.{IsEnoughHere, IsFaultHere}
+use Rattle.ob_object_search.specs.Searched.{HasBeginning, HasEnough, HasOrder}
+use Rattle.ob_object_search.specs.SearchFaults.{HasSearchFault, IsUndecided}
+use Rattle.ob_object_search.specs.declared.searching.SearchFault.{SearchFault}
+use Rattle.ob_object_search_record.specs.Heard.{IsHeard}
+use Rattle.ob_object_search_record.specs.SearchRecords.{IsHistoryRecord, IsSame}
+use Rattle.wf_beginnings.specs.Beginnings.{process_count}
+use Rattle.ob_object_search_record.specs.declared.recording.Heard as Rust
+use Rattle.ob_object_verify.specs.Beginnings.{BeginsPlaced, TrapsPlaced}
+use Rattle.ob_positions.specs.Store.{Activation}
+use Rattle.ob_store.specs.View.{state_of}
+use Rattle.ob_text_history_reading.specs.Names.{named_all}
+use Rattle.ob_text_history_reading.specs.Told.{told_of}
+use Rattle.ob_typing.specs.Program.{Program}
+use Rattle.wf_history.specs.History.{Event}
+use Rattle.wf_history.specs.Legal.{IsLegal}
+use Rattle.wf_history.specs.declared.event.CallId.{CallId}
+
+module _ (program : Program) (text : List ℕ) (asked : Option ℕ) (h : Rust.Heard) (heard : IsHeard program text asked h) where
+  pub start : HasBeginning BeginsPlaced program text
+  start = record { tells = told_of h.read; is_history = heard.history; opening = state_of h.opening; begins = heard.begins }
+
+  -- the record that has all this
+  pub recorded : (r : Record) → r.processes ≡ process_count (told_of h.read).events → r.processes ≤ most_processes → r.budget ≡ h.budget →
+      r.carried ≡ (told_of h.read).carried → r.history ≡ (told_of h.read).events → r.schedule ≡ [] →
+      IsLegal (CallEnds program h.budget) (state_of h.opening) r.history r.order r.state →
+      IsHistoryRecord BeginsPlaced CallEnds IsSame program text asked r
+  recorded r processes few budget carried history schedule legal =
+      record {
+        start = record { tells = told_of h.read; is_history = heard.history; opening = state_of h.opening; begins = heard.begins };
+        processes = processes;
+        few = few;
+        budget = subst (λ (b : ℕ). b ≡ _) (sym budget) heard.budget;
+        carried = carried;
+        history = history;
+        last = r.state;
+        legal = subst (λ (b : ℕ). IsLegal (CallEnds program b) (state_of h.opening) r.history r.order r.state) (sym budget) legal;
+        schedule = schedule;
+        leads = refl;
+      }
+
+  pub fault_heard : (most : ℕ) (e : SearchFault) → IsFaultHere program h.budget (state_of h.opening) h.read.history h.read.processes.items most e →
+      HasSearchFault BeginsPlaced TrapsPlaced CallEnds program text asked most e
+  fault_heard most e f =
+      found_fault program text asked most (told_of h.read) heard.history heard.alone (state_of h.opening) heard.begins h.budget heard.budget h.read.processes.items h.read.history refl heard.apart heard.below e f
+
+  pub lawful_heard : (most : ℕ) (e : SearchFault) → IsFaultHere program h.budget (state_of h.opening) h.read.history h.read.processes.items most e →
+      (order : List CallId) → HasOrder BeginsPlaced CallEnds program text asked order → IsUndecided e
+  lawful_heard most e f =
+      found_lawful program text asked most (told_of h.read) heard.history heard.alone (state_of h.opening) heard.begins h.budget heard.budget h.read.processes.items h.read.history refl e f
+
+  pub enough_heard : (most : ℕ) → HasEnough program text most → IsEnoughHere h.read.history h.read.processes.items most
+  enough_heard most enough =
+      enough_here program text asked most (told_of h.read) heard.history heard.alone h.read.processes.items h.read.history refl heard.apart heard.begun enough

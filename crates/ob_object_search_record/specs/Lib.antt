@@ -1,0 +1,3 @@
+pub mod SearchRecords
+pub mod RecordingFaults
+pub mod Heard

@@ -1,0 +1,2 @@
+pub mod RecordingFaultLines
+pub mod PartsFaultLines

@@ -1,0 +1,3 @@
+pub mod Nexts
+pub mod Counted
+pub mod OpenCalls
