@@ -1,22 +1,22 @@
 -- What is recorded of a history that is heard, by positions.
-use Rattle.std.proofs.Common.{◌≡◌, ◌≤◌, ℕ, List, [], Option, Vec, Global, refl, subst, sym}
+use Rattle.std.proofs.Common.{◌≡◌, ◌∙◌, ◌<◌, ◌≤◌, ℕ, List, [], Option, refl, subst, sym}
 use Rattle.ob_interface.specs.Call.{ObjectCall, Reply}
 use Rattle.ob_interface.specs.Processes.{most_processes}
 use Rattle.ob_object_order.specs.LegalOrder.{CallEnds}
 use Rattle.ob_object_record.specs.Record.{Record}
 use Rattle.ob_object_search.proofs.Histories.{enough_here, found_fault, found_lawful}
 use Rattle.ob_object_search.specs.Found.{IsEnoughHere, IsFaultHere}
-use Rattle.ob_object_search.specs.Searched.{HasBeginning, HasEnough, HasOrder}
+use Rattle.ob_object_search.specs.Searched.{HasEnough, HasOrder}
 use Rattle.ob_object_search.specs.SearchFaults.{HasSearchFault, IsUndecided}
 use Rattle.ob_object_search.specs.declared.searching.SearchFault.{SearchFault}
 use Rattle.ob_object_search_record.specs.Heard.{IsHeard}
+use Rattle.ob_object_search_record.specs.RecordingFaults.{HasManyProcesses}
 use Rattle.ob_object_search_record.specs.SearchRecords.{IsHistoryRecord, IsSame}
 use Rattle.wf_beginnings.specs.Beginnings.{process_count}
 use Rattle.ob_object_search_record.specs.declared.recording.Heard as Rust
 use Rattle.ob_object_verify.specs.Beginnings.{BeginsPlaced, TrapsPlaced}
 use Rattle.ob_positions.specs.Store.{Activation}
 use Rattle.ob_store.specs.View.{state_of}
-use Rattle.ob_text_history_reading.specs.Names.{named_all}
 use Rattle.ob_text_history_reading.specs.Told.{told_of}
 use Rattle.ob_typing.specs.Program.{Program}
 use Rattle.wf_history.specs.History.{Event}
@@ -24,8 +24,10 @@ use Rattle.wf_history.specs.Legal.{IsLegal}
 use Rattle.wf_history.specs.declared.event.CallId.{CallId}
 
 module _ (program : Program) (text : List ℕ) (asked : Option ℕ) (h : Rust.Heard) (heard : IsHeard program text asked h) where
-  pub start : HasBeginning BeginsPlaced program text
-  start = record { tells = told_of h.read; is_history = heard.history; opening = state_of h.opening; begins = heard.begins }
+  -- a process is over 15
+  pub many_heard : most_processes < process_count (told_of h.read).events → HasManyProcesses BeginsPlaced program text
+  many_heard many =
+      record { start = record { tells = told_of h.read; is_history = heard.history; opening = state_of h.opening; begins = heard.begins }; many = many }
 
   -- the record that has all this
   pub recorded : (r : Record) → r.processes ≡ process_count (told_of h.read).events → r.processes ≤ most_processes → r.budget ≡ h.budget →
@@ -37,7 +39,7 @@ module _ (program : Program) (text : List ℕ) (asked : Option ℕ) (h : Rust.He
         start = record { tells = told_of h.read; is_history = heard.history; opening = state_of h.opening; begins = heard.begins };
         processes = processes;
         few = few;
-        budget = subst (λ (b : ℕ). b ≡ _) (sym budget) heard.budget;
+        budget = budget ∙ heard.budget;
         carried = carried;
         history = history;
         last = r.state;
@@ -46,12 +48,12 @@ module _ (program : Program) (text : List ℕ) (asked : Option ℕ) (h : Rust.He
         leads = refl;
       }
 
-  pub fault_heard : (most : ℕ) (e : SearchFault) → IsFaultHere program h.budget (state_of h.opening) h.read.history h.read.processes.items most e →
+  fault_heard : (most : ℕ) (e : SearchFault) → IsFaultHere program h.budget (state_of h.opening) h.read.history h.read.processes.items most e →
       HasSearchFault BeginsPlaced TrapsPlaced CallEnds program text asked most e
   fault_heard most e f =
       found_fault program text asked most (told_of h.read) heard.history heard.alone (state_of h.opening) heard.begins h.budget heard.budget h.read.processes.items h.read.history refl heard.apart heard.below e f
 
-  pub lawful_heard : (most : ℕ) (e : SearchFault) → IsFaultHere program h.budget (state_of h.opening) h.read.history h.read.processes.items most e →
+  lawful_heard : (most : ℕ) (e : SearchFault) → IsFaultHere program h.budget (state_of h.opening) h.read.history h.read.processes.items most e →
       (order : List CallId) → HasOrder BeginsPlaced CallEnds program text asked order → IsUndecided e
   lawful_heard most e f =
       found_lawful program text asked most (told_of h.read) heard.history heard.alone (state_of h.opening) heard.begins h.budget heard.budget h.read.processes.items h.read.history refl e f
@@ -59,3 +61,29 @@ module _ (program : Program) (text : List ℕ) (asked : Option ℕ) (h : Rust.He
   pub enough_heard : (most : ℕ) → HasEnough program text most → IsEnoughHere h.read.history h.read.processes.items most
   enough_heard most enough =
       enough_here program text asked most (told_of h.read) heard.history heard.alone h.read.processes.items h.read.history refl heard.apart heard.begun enough
+
+  -- what is found of the object that begins so
+  module _ (p : Program) (b : ℕ) (o : Activation) (ns : List ℕ) (same_program : p ≡ program) (same_budget : b ≡ h.budget) (same_opening : o ≡ state_of h.opening) (same_names : ns ≡ h.read.processes.items) where
+    fault_there : (history : List (Event ObjectCall Reply)) (most : ℕ) (e : SearchFault) → IsFaultHere p b o history ns most e → IsFaultHere program h.budget (state_of h.opening) history h.read.processes.items most e
+    fault_there history most e f =
+        subst (λ (x : Program). IsFaultHere x h.budget (state_of h.opening) history h.read.processes.items most e) same_program
+        (subst (λ (x : ℕ). IsFaultHere p x (state_of h.opening) history h.read.processes.items most e) same_budget
+        (subst (λ (x : Activation). IsFaultHere p b x history h.read.processes.items most e) same_opening
+        (subst (λ (x : List ℕ). IsFaultHere p b o history x most e) same_names f)))
+
+    pub fault_found : (most : ℕ) (e : SearchFault) → IsFaultHere p b o h.read.history ns most e → HasSearchFault BeginsPlaced TrapsPlaced CallEnds program text asked most e
+    fault_found most e f = fault_heard most e (fault_there h.read.history most e f)
+
+    pub lawful_found : (most : ℕ) (e : SearchFault) → IsFaultHere p b o h.read.history ns most e → (order : List CallId) → HasOrder BeginsPlaced CallEnds program text asked order → IsUndecided e
+    lawful_found most e f = lawful_heard most e (fault_there h.read.history most e f)
+
+    pub enough_found : (most : ℕ) → HasEnough program text most → IsEnoughHere h.read.history ns most
+    enough_found most enough = subst (λ (x : List ℕ). IsEnoughHere h.read.history x most) (sym same_names) (enough_heard most enough)
+
+    pub legal_found : (history : List (Event ObjectCall Reply)) (order ids : List CallId) (last : Activation) → ids ≡ order → IsLegal (CallEnds p b) o history ids last →
+        IsLegal (CallEnds program h.budget) (state_of h.opening) history order last
+    legal_found history order ids last same_order l =
+        subst (λ (x : Program). IsLegal (CallEnds x h.budget) (state_of h.opening) history order last) same_program
+        (subst (λ (x : ℕ). IsLegal (CallEnds p x) (state_of h.opening) history order last) same_budget
+        (subst (λ (x : Activation). IsLegal (CallEnds p b) x history order last) same_opening
+        (subst (λ (x : List CallId). IsLegal (CallEnds p b) o history x last) same_order l)))

@@ -194,18 +194,23 @@ fn record_of_heard(
     ensures decided { HasEnough (program_in checked.now) _text.now search.now.most → IfErr result (λ e. e ≢ too_many) }
     ensures memory { IfErr result TellsMemoryApart }
 {
-    let names = heard.read.processes.as_slice();
-    let history = named_history(alloc, names, &heard.read.history)?;
+    let Heard {
+        read,
+        opening,
+        budget,
+    } = heard;
+    let names = read.processes.as_slice();
+    let history = named_history(alloc, names, &read.history)?;
     let Some(processes) = process_count(history.events()) else {
         return Err(RecordingFault::Processes);
     };
-    let object = object_of(alloc, checked, &heard.opening, heard.budget)?;
-    let order = order_found(alloc, &object, &heard.read.history, names, search)?;
+    let object = object_of(alloc, checked, &opening, budget)?;
+    let order = order_found(alloc, &object, &read.history, names, search)?;
     let state = last_state(alloc, &object, &history, &order)?;
     Ok(Record {
         processes,
-        budget: heard.budget,
-        carried: heard.read.carried,
+        budget,
+        carried: read.carried,
         history,
         order,
         schedule: Vec::new(alloc),
@@ -232,7 +237,9 @@ fn last_state(
         object.budget,
     ) {
         Ok(last) => Ok(last),
-        Err(OrderFault::NoMemory) => Err(NoMemory),
-        Err(_) => unreachable!(),
+        Err(fault) => match fault {
+            OrderFault::NoMemory => Err(NoMemory),
+            _ => unreachable!(),
+        },
     }
 }
