@@ -18,7 +18,7 @@ use wf_order::{Verdict, find_order};
 
 /// The object of a module that begins with a state, each call with so many turns.
 pub fn object_of<'a>(
-    _alloc: Global,
+    alloc: Global,
     checked: &'a Checked,
     opening: &'a State,
     budget: u64,
@@ -27,11 +27,7 @@ pub fn object_of<'a>(
     ensures opening { IfOk result (λ o. o.opening.now ≡ opening.now) }
     ensures budget { IfOk result (λ o. o.budget ≡ budget) }
 {
-    Ok(ModuleObject {
-        checked,
-        opening,
-        budget,
-    })
+    ModuleObject::new(alloc, checked, opening, budget)
 }
 
 /// A legal order of a history, whose processes have these names, by the names.
