@@ -8,7 +8,6 @@ use Rattle.ob_schedule.specs.Schedule.{process_of}
 use Rattle.ob_schedule.specs.declared.item.Item.{Item}
 use Rattle.ob_text_words.specs.ScriptCalls.{object_call, script_call_of}
 use Rattle.ob_text_words.specs.declared.script_call.ScriptCall.{ScriptCall}
-use Rattle.wf_table.specs.declared.process.Sizes.{Sizes}
 use Rattle.ob_code_refusals.proofs.steps.by_steps.Goals as goal
 
 pub submit_all-requires-clause-callers : goal.submit_all-requires-clause-callers
