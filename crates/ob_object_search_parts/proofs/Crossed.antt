@@ -1,6 +1,6 @@
 -- Parts of histories by position and by name: they have the same legal orders, and cease at the same call to have one; and what is found of
 -- a module's text and of a history, as what is answered of both texts.
-use Rattle.std.proofs.Common.{◌≡◌, ◌<◌, ℕ, List, Option, Result, Ok, Err, IfErr, Some, slice_get, ◌⊎◌, inl, inr, refl, subst}
+use Rattle.std.proofs.Common.{◌≡◌, ℕ, List, Option, Result, Ok, Err, IfErr, ◌⊎◌, inl, inr, refl, subst}
 use Rattle.ob_agreement.specs.Resolved.{IsResolved}
 use Rattle.ob_agreement.specs.Same.{SameState}
 use Rattle.ob_check_text.specs.CheckedText.{IsNumberedText, IsTextFault, TellsTextMemoryApart}
@@ -10,7 +10,6 @@ use Rattle.ob_code_law.proofs.Named.{names_simulate, positions_simulate}
 use Rattle.ob_code_law.specs.Carried.{BegunFit}
 use Rattle.ob_code_law.specs.Compiled.{Fits}
 use Rattle.ob_code_law.specs.Named.{CallMeans}
-use Rattle.ob_interface.specs.Call.{ObjectCall, Reply}
 use Rattle.ob_interface.specs.declared.scalar.Scalar.{Scalar}
 use Rattle.ob_interpreter.specs.declared.opening.OpenFault.TheVariants as Open
 use Rattle.ob_meaning.specs.Object.{State}
@@ -20,7 +19,7 @@ use Rattle.ob_object_search.proofs.Fitting.{calls_fit, history_opened}
 use Rattle.ob_object_search.specs.Searched.{budget_of}
 use Rattle.ob_object_search_parts.proofs.Picked.{picked_at}
 use Rattle.ob_object_search_parts.specs.Parted.{AreLegalOrders, AreOrders, HasPartOrder, HasPartOrders, PartOrder}
-use Rattle.ob_object_search_parts.specs.PartedFaults.{HasPartsFault, IsFaultOfParts, IsNumbered, IsPartsFault, IsUndecided, PartCeases, TellsMemoryApart, of_text}
+use Rattle.ob_object_search_parts.specs.PartedFaults.{HasPartsFault, IsFaultOfParts, IsPartsFault, IsUndecided, PartCeases, TellsMemoryApart, of_text}
 use Rattle.ob_object_search_parts.specs.declared.fault.PartsFault.{PartsFault}
 use Rattle.ob_object_search_parts.specs.declared.fault.PartsFault.TheVariants as Faults
 use Rattle.ob_object_verify.proofs.Beginnings.{beginning_named, beginning_placed, trap_named}
@@ -32,7 +31,7 @@ use Rattle.ob_typing.specs.ModuleText.{IsModule}
 use Rattle.ob_typing.specs.Program.{Program}
 use Rattle.wf_history.proofs.Positions.{contains_at, place_of}
 use Rattle.wf_history.specs.declared.event.CallId.{CallId}
-use Rattle.wf_history.specs.History.{Event, Begin}
+use Rattle.wf_history.specs.History.{Begin}
 use Rattle.wf_parts.specs.Parts.{Events, IsPart}
 
 -- the calls of a part fit, where all calls do

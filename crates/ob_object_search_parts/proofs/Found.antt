@@ -1,11 +1,11 @@
 -- What a search of a part comes to by small numbers, as what is answered by names.
-use Rattle.std.proofs.Common.{◌≡◌, ◌∙◌, ℕ, ◌+◌, ◌<◌, List, [], ◌∷◌, ◌++◌, Vec, Global, length, map, take, slice_get, Some, sym, ap, subst, ◌⊎◌, inl, inr, refl, arith}
+use Rattle.std.proofs.Common.{◌≡◌, ◌∙◌, ℕ, List, [], ◌∷◌, ◌++◌, Vec, Global, length, map, take, slice_get, Some, sym, ap, subst, inl, inr, refl, arith}
 use Rattle.std.proofs.lemmas.List.{length-map, map-append}
 use Rattle.std.proofs.lemmas.Option.{slice_get_within}
 use Rattle.ob_interface.specs.declared.scalar.Scalar.{Scalar}
 use Rattle.ob_object_order.specs.LegalOrder.{CallEnds}
 use Rattle.ob_object_search_parts.proofs.Renumbered.{has_back, last_here, legal_here}
-use Rattle.ob_object_search_parts.specs.Here.{AreOrdersHere, HasOrderHere, IsFaultHere, IsFirstFault, IsPartFault, IsPartHere, named_call, named_part}
+use Rattle.ob_object_search_parts.specs.Here.{AreOrdersHere, HasOrderHere, IsFaultHere, IsPartFault, IsPartHere, named_call, named_part}
 use Rattle.ob_object_search_parts.specs.Parted.{PartOrder}
 use Rattle.ob_object_search_parts.specs.Parted as Parted
 use Rattle.ob_object_search_parts.specs.declared.fault.PartsFault.{PartsFault}
@@ -13,7 +13,7 @@ use Rattle.ob_object_search_parts.specs.declared.fault.PartsFault.TheVariants as
 use Rattle.ob_positions.specs.Store.{Activation}
 use Rattle.ob_text_history_reading.specs.Names.{AreApart}
 use Rattle.ob_typing.specs.Program.{Program}
-use Rattle.wf_history.proofs.Positions.{one_item, place_in_take, place_push, place_take}
+use Rattle.wf_history.proofs.Positions.{place_in_take, place_push}
 use Rattle.wf_history.specs.Legal.{IsLegal}
 use Rattle.wf_history.specs.declared.event.CallId.{CallId}
 use Rattle.wf_order.proofs.Turns.{slice_get_some}
@@ -34,8 +34,7 @@ module _ (program : Program) (budget : ℕ) (opening : Activation) (names : List
         (named : CallId) → named ≡ named_call names p.rows id → IsPartFault program budget opening names most p (Faults.Illegal named p.value)
     none_here verdict h id place is named same =
         let v = subst (λ (x : Verdict). IsVerdict (CallEnds program budget) opening p.events most x) is h in
-        let m = last_here names apart p here (CallEnds program budget) opening place v.0 in
-        (
+        let m = last_here names apart p here (CallEnds program budget) opening place v.0 in (
           refl,
           record {
             place = place;

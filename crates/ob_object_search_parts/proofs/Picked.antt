@@ -1,11 +1,11 @@
 -- A history has one part of each value, and one list of values; and by other names for processes they are the same.
-use Rattle.std.proofs.Common.{◌≡◌, ◌∙◌, ℕ, zero, suc, ◌<◌, List, [], ◌∷◌, ◌++◌, length, map, Option, Some, None, sym, ap, subst, refl, slice_get}
+use Rattle.std.proofs.Common.{◌≡◌, ◌∙◌, ℕ, zero, suc, ◌<◌, List, [], ◌∷◌, ◌++◌, length, Some, None, sym, ap, subst, refl, slice_get}
 use Rattle.std.proofs.lemmas.List.{map-append}
 use Rattle.std.proofs.lemmas.Option.{same_Some}
 use Rattle.std.specs.List.{Contains}
 use Rattle.ob_interface.specs.Call.{ObjectCall, Reply}
 use Rattle.ob_interface.specs.declared.scalar.Scalar.{Scalar}
-use Rattle.ob_object_search.proofs.Renamed.{at_mapped, comes_back, contains_map, contains_mapped, named_begin, placed_id}
+use Rattle.ob_object_search.proofs.Renamed.{comes_back, contains_map, contains_mapped, named_begin, placed_id}
 use Rattle.ob_text_history_reading.specs.Names.{AreApart, AreBelow, IsBelow, named, named_all, named_id}
 use Rattle.wf_history.proofs.Positions.{contains_at, place_of}
 use Rattle.wf_history.specs.declared.event.CallId.{CallId}

@@ -1,13 +1,12 @@
 -- A part, where the calls of each process count from 1, and the same by the numbers that they have in the whole history: its legal orders
 -- are the same orders by those numbers.
-use Rattle.std.proofs.Common.{◌≡◌, ◌∙◌, ℕ, ◌+◌, ◌-◌, ◌<◌, ◌≤◌, List, [], ◌∷◌, length, map, Some, sym, ap, subst, refl, arith, get_or, slice_get, take}
+use Rattle.std.proofs.Common.{◌≡◌, ◌∙◌, ℕ, ◌+◌, ◌-◌, ◌<◌, List, length, map, Some, sym, ap, subst, refl, arith, get_or, take}
 use Rattle.std.proofs.lemmas.List.{take-map}
 use Rattle.std.proofs.lemmas.Option.{slice_get-get_or}
-use Rattle.std.specs.List.{Contains}
 use Rattle.ob_interface.specs.Call.{ObjectCall, Reply}
-use Rattle.ob_object_search.proofs.Renamed.{ComesBack, Renames, at_map, at_mapped, has_named, has_unnamed, last_named, legal_named, legal_there, place_found, place_in, turned, turned_back}
+use Rattle.ob_object_search.proofs.Renamed.{ComesBack, Renames, at_map, at_mapped, has_unnamed, last_named, legal_named, legal_there, place_found, place_in, turned, turned_back}
 use Rattle.ob_object_search_parts.specs.Here.{IsPartHere, named_call, named_part}
-use Rattle.ob_text_history_reading.specs.Names.{AreApart, AreBelow, IsBelow, named_all, named_id}
+use Rattle.ob_text_history_reading.specs.Names.{AreApart, AreBelow, IsBelow, named_id}
 use Rattle.wf_history.proofs.Positions.{contains_at, place_of, place_take, same_call}
 use Rattle.wf_history.specs.declared.event.CallId.{CallId}
 use Rattle.wf_history.specs.History.{Event, Begin, Applied, End}

@@ -1,5 +1,5 @@
 -- What is found of the parts of a history's text, as what is answered.
-use Rattle.std.proofs.Common.{◌≡◌, ◌∙◌, ◌<◌, List, [], ◌∷◌, ℕ, Option, Some, length, map, slice_get, refl, ap, sym, subst, ◌⊎◌, inl, inr, arith, option_map}
+use Rattle.std.proofs.Common.{◌≡◌, ◌∙◌, List, ℕ, Option, Some, length, map, slice_get, refl, ap, sym, subst, inl, inr, arith, option_map}
 use Rattle.std.proofs.lemmas.List.{length-map}
 use Rattle.std.proofs.lemmas.Option.{same_Some, slice_get-map, slice_get_within}
 use Rattle.ob_interface.specs.Call.{ObjectCall, Reply}
@@ -8,7 +8,6 @@ use Rattle.ob_interpreter.specs.declared.opening.OpenFault.{OpenFault}
 use Rattle.ob_interpreter.specs.declared.opening.OpenFault.TheVariants as Open
 use Rattle.ob_object_order.specs.LegalOrder.{CallEnds}
 use Rattle.ob_object_search.specs.Searched.{HasBeginning, budget_of}
-use Rattle.ob_object_search.specs.SearchFaults.{CeasesAt}
 use Rattle.ob_object_search_parts.proofs.Picked.{below_part, none_short, part_named, picked_once, short_named, values_named, values_once}
 use Rattle.ob_object_search_parts.specs.Here.{AreOrdersHere, HasOrderHere, IsFaultHere, IsFirstFault, IsPartFault, IsPartHere, IsShortHere, named_part}
 use Rattle.ob_object_search_parts.specs.Parted.{AreOrders, HasPartOrder, HasPartOrders, PartOrder}
@@ -27,7 +26,6 @@ use Rattle.ob_typing.specs.Program.{Program}
 use Rattle.wf_history.specs.declared.event.CallId.{CallId}
 use Rattle.wf_history.specs.Legal.{IsLegal}
 use Rattle.wf_order.proofs.Turns.{slice_get_some}
-use Rattle.wf_order.specs.Verdict.{HasLegal}
 use Rattle.wf_parts.specs.Numbering.{ArePartsOf, PartView, value_of}
 use Rattle.wf_parts.specs.Parts.{AreValues, Events, IsPart, IsShort}
 
@@ -178,11 +176,11 @@ module _ (program : Program) (text : List ℕ) (asked : Option ℕ) (by most : �
               record {
                 start = start_here;
                 orders = subst (λ (b : ℕ). AreOrders (CallEnds program b) opening tells.events by found) is_budget (record {
-                    values = subst (λ (vs : List Scalar). AreValues by tells.events vs) (sym h.values) values_here;
-                    each = λ k o at.
-                        let p = part_of (map Parted.value_of found) h.values k o.value (at_value Parted.value_of found k o at) in
-                        has_order p.0 k p.1 o.value p.2 o.order (h.each k p.0 o p.1 at);
-                  });
+                  values = subst (λ (vs : List Scalar). AreValues by tells.events vs) (sym h.values) values_here;
+                  each = λ k o at.
+                      let p = part_of (map Parted.value_of found) h.values k o.value (at_value Parted.value_of found k o at) in
+                      has_order p.0 k p.1 o.value p.2 o.order (h.each k p.0 o p.1 at);
+                });
               }
 
           ceases_here : (id : CallId) (value : Scalar) → IsFirstFault program budget opening names most parts (Faults.Illegal id value) → PartCeases Ends opening tells.events by id value

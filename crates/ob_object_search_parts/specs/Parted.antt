@@ -10,7 +10,6 @@ use Rattle.ob_typing.specs.ModuleText.{IsModule}
 use Rattle.ob_typing.specs.Program.{Program}
 use Rattle.wf_history.specs.declared.event.CallId.{CallId}
 use Rattle.wf_history.specs.Legal.{IsLegal}
-use Rattle.wf_order.specs.Verdict.{HasLegal}
 use Rattle.wf_parts.specs.Parts.{AreValues, Events, IsPart}
 
 -- an order of the calls that have this value

@@ -1,5 +1,5 @@
 -- What each fault says of the bytes of a module and of a history.
-use Rattle.std.specs.Prelude.{◌≡◌, ◌≢◌, ◌⊎◌, ◌<◌, ℕ, List, Option, Some, length, slice_get}
+use Rattle.std.specs.Prelude.{◌≡◌, ◌≢◌, ◌⊎◌, ◌<◌, ℕ, List, Option, Some, slice_get}
 use Rattle.ob_check_text.specs.CheckedText.{IsNumberedText, IsTextFault}
 use Rattle.ob_check_text.specs.declared.checked_text.TextFault.{TextFault}
 use Rattle.ob_check_text.specs.declared.checked_text.TextFault.TheVariants as Text
@@ -18,7 +18,7 @@ use Rattle.ob_object_verify.specs.Beginnings.{BeginsNamed, BeginsPlaced, TrapsNa
 use Rattle.ob_positions.specs.Store.{Activation}
 use Rattle.ob_scan.specs.declared.fault.ScanFault.TheVariants as Scan
 use Rattle.ob_text_history_reading.specs.HistoryLines.{IsHistoryFault}
-use Rattle.ob_text_history_reading.specs.Names.{AreApart, AreBelow, named_all}
+use Rattle.ob_text_history_reading.specs.Names.{AreApart, named_all}
 use Rattle.ob_text_record_reading.specs.declared.reading.RecordFault.{RecordFault}
 use Rattle.ob_text_record_reading.specs.declared.reading.RecordFault.TheVariants as Reading
 use Rattle.ob_typing.specs.ModuleText.{IsModule}

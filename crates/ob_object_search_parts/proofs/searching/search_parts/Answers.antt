@@ -1,7 +1,7 @@
-use Rattle.std.proofs.Common.{◌≡◌, ◌∙◌, ap, refl, sym, inr, ℕ, List, map}
+use Rattle.std.proofs.Common.{refl, inr}
 use Rattle.std.proofs.lemmas.Result.{err_from_is_err_and, IfErr-weaker, IfOk-weaker}
 use Rattle.ob_checked.specs.CheckedModule.{program_in}
-use Rattle.ob_object_search_parts.proofs.Told.{found_apart, found_fault, found_lawful, found_orders, open_lawful, parts_here, reading_lawful, short_fails, short_lawful}
+use Rattle.ob_object_search_parts.proofs.Told.{found_fault, found_lawful, found_orders, open_lawful, parts_here, reading_lawful, short_fails, short_lawful}
 use Rattle.ob_object_search_parts.specs.View.{orders_in}
 use Rattle.ob_object_search_parts.proofs.searching.search_parts.Goals as goal
 
