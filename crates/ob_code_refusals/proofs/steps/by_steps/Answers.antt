@@ -15,11 +15,11 @@ submit_all-requires-clause-callers g c =
     let r = c.in_ok-object in
     let m = c.in_ok-machine.machine in
     subst (λ (xs : List ScriptCall). All (λ x. x.process < m.sizes.processes) xs) (sym c.as_slice.ensures.value)
-    (callers_below (object_in r.object) r.calls c.into_calls.result.items c.into_calls.ensures m.sizes.processes c.in_ok-machine.ensures.processes r.ensures.ready.callers)
+    (callers_below (object_in r.object) r.calls c.into_calls-calls.result.items c.into_calls-calls.ensures m.sizes.processes c.in_ok-machine.ensures.processes r.ensures.ready.callers)
 
 pub submit_all-requires-clause-fits : goal.submit_all-requires-clause-fits
 submit_all-requires-clause-fits g c =
     let r = c.in_ok-object in
     let m = c.in_ok-machine.machine in
     subst (λ (xs : List ScriptCall). All (λ x. IsFitting m.engine.parts.exports (object_call (script_call_of x))) xs) (sym c.as_slice.ensures.value)
-    (fit_engine (object_in r.object) r.calls c.into_calls.result.items c.into_calls.ensures r.ensures.ready.sound m.engine.parts c.in_ok-machine.ensures.code r.ensures.ready.fit)
+    (fit_engine (object_in r.object) r.calls c.into_calls-calls.result.items c.into_calls-calls.ensures r.ensures.ready.sound m.engine.parts c.in_ok-machine.ensures.code r.ensures.ready.fit)
