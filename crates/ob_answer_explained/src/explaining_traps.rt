@@ -5,10 +5,10 @@ ghost use Rattle.ob_answer_explained.specs.Explains.{AreTrapsExplained};
 ghost use Rattle.ob_answer_files.specs.Reads.{OfWhole};
 ghost use Rattle.ob_answer_explained.specs.CommandTexts.{calls_of_text, calls_texts_of};
 
-use ob_answer_files::answered::Answer;
 use crate::explaining::calls_wrong;
 use crate::showing::shown_name;
 use crate::texts::Calls;
+use ob_answer_files::answered::Answer;
 use ob_explained_runs::Source;
 use ob_explained_traps::traps_text;
 use ob_interface::NoMemory;

@@ -7,9 +7,9 @@ ghost use Rattle.ob_explained_values.specs.ExplainedValues.{IsCarryExplanation};
 ghost use Rattle.ob_answer_files.specs.ShownNames.{shown};
 ghost use Rattle.ob_text_values_reading.specs.ToldValues.{SaysNone};
 
+use crate::texts::name_or_none;
 use ob_answer_files::answered::{Answer, refused};
 use ob_answer_files::shown_name::push_name;
-use crate::texts::name_or_none;
 use ob_carry::carrying::CarryFault;
 use ob_explained_runs::Source;
 use ob_explained_values::{carry_explanation, values_explanation};
@@ -28,11 +28,7 @@ pub fn shown_name(alloc: Global, name: &str) -> Result<String, AllocError>
 }
 
 /// The answer of what is shown of a fault, or else of its line.
-pub fn shown_or(
-    alloc: Global,
-    told: Option<String>,
-    line: String,
-) -> Result<Answer, AllocError>
+pub fn shown_or(alloc: Global, told: Option<String>, line: String) -> Result<Answer, AllocError>
     ensures { IfOk result (λ a. IsShownOr (string_bytes line) (option_map string_bytes told) a) }
 {
     match told {

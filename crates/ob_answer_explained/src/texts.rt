@@ -4,8 +4,8 @@ ghost use Rattle.std.specs.Prelude.{◌≡◌, [], option_map, option_to_list, u
 ghost use Rattle.ob_answer_explained.specs.Beginnings.{begun_with};
 ghost use Rattle.ob_answer_explained.specs.CommandTexts.{calls_begun_with, calls_texts_of, first_or_none, run_begun_with, run_texts_of};
 
-use ob_answer_files::reading::{CallsBytes, RunBytes};
 use crate::values::begun_with;
+use ob_answer_files::reading::{CallsBytes, RunBytes};
 use ob_carry::named::NamedField;
 use ob_command::command::{CallsCommand, RunCommand};
 use ob_object_compile::Asked;

@@ -2,5 +2,5 @@
 #![tactic(auto)]
 
 pub mod explaining;
-mod orders;
 pub mod ordering;
+mod orders;

@@ -40,7 +40,11 @@ pub fn answer_order<R: RandomSource>(
 
 /// The search that words ask for. Want of random bytes is told as want of memory: as that it comes and goes with what the machine has,
 /// and says nothing of the history.
-pub(crate) fn search_by<R: RandomSource>(rt: &R, budget: Option<u32>, most: u32) -> Result<Search, NoMemory>
+pub(crate) fn search_by<R: RandomSource>(
+    rt: &R,
+    budget: Option<u32>,
+    most: u32,
+) -> Result<Search, NoMemory>
     ensures budget { IfOk result (λ search. search.budget ≡ budget) }
     ensures most { IfOk result (λ search. search.most ≡ most) }
 {

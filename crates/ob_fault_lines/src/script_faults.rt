@@ -23,11 +23,7 @@ pub fn push_script_fault(line: &mut String, fault: ScriptFault) -> Result<(), Al
 }
 
 /// Appends a fault at a line of the script.
-pub fn push_line_number(
-    line: &mut String,
-    fault: &str,
-    number: usize,
-) -> Result<(), AllocError>
+pub fn push_line_number(line: &mut String, fault: &str, number: usize) -> Result<(), AllocError>
     ensures ok { OnOk result (string_bytes line.new ≡ string_bytes line.old ++ at_line fault.now number) }
     ensures left { OnErr result (GoesOn (string_bytes line.old) (string_bytes line.new)) }
 {
