@@ -15,13 +15,13 @@ play-requires-clause-opening c =
 
 pub play-requires-clause-callers : goal.play-requires-clause-callers
 play-requires-clause-callers c =
-    callers_below (object_in c.args.object.now) c.args.calls c.into_calls.result.items c.into_calls.ensures c.processes.result c.processes.ensures c.requires.callers
+    callers_below (object_in c.args.object.now) c.args.calls c.into_calls-calls.result.items c.into_calls-calls.ensures c.processes.result c.processes.ensures c.requires.callers
 
 pub play-requires-clause-fits : goal.play-requires-clause-fits
 play-requires-clause-fits c =
     let o = object_in c.args.object.now in
     let code : c.in_ok-engine.engine.parts ≡ o.engine = ap (λ (x : CompiledParts). x.parts) c.in_ok-engine.ensures ∙ c.engine.ensures in
-    fit_engine o c.args.calls c.into_calls.result.items c.into_calls.ensures c.requires.sound c.in_ok-engine.engine.parts code c.requires.fit
+    fit_engine o c.args.calls c.into_calls-calls.result.items c.into_calls-calls.ensures c.requires.sound c.in_ok-engine.engine.parts code c.requires.fit
 
 pub play-requires-clause-items : goal.play-requires-clause-items
 play-requires-clause-items c = subst (λ (k : ℕ). All (λ item. process_of item < k) c.args.items.now) (sym c.processes.ensures) c.requires.turns

@@ -26,20 +26,20 @@ play-requires-clause-opening c =
     let o = object_in c.args.object.now in
     let sound = c.requires.sound in
     let parts = tree_parts_in c.in_ok-engine.engine in
-    let is = engine_is o sound parts _ _ c.in_ok-engine.ensures c.checked.ensures.program (c.budget.ensures.turns ∙ ap (λ (e : EngineParts). e.budget) c.engine.ensures) in
+    let is = engine_is o sound parts _ _ c.in_ok-engine.ensures c.checked.ensures.program (c.budget-budget.ensures.turns ∙ ap (λ (e : EngineParts). e.budget) c.engine.ensures) in
     lawful o sound c.states_are_objects.ensures parts c.as_slice.result.now is (c.as_slice.ensures.value ∙ c.in_ok-words.ensures ∙ ap encoded c.opening.ensures)
 
 pub play-requires-clause-callers : goal.play-requires-clause-callers
 play-requires-clause-callers c =
-    callers_below (object_in c.args.object.now) c.args.calls c.into_calls.result.items c.into_calls.ensures c.processes.result c.processes.ensures c.requires.callers
+    callers_below (object_in c.args.object.now) c.args.calls c.into_calls-calls.result.items c.into_calls-calls.ensures c.processes.result c.processes.ensures c.requires.callers
 
 pub play-requires-clause-fits : goal.play-requires-clause-fits
 play-requires-clause-fits c =
     let o = object_in c.args.object.now in
     let sound = c.requires.sound in
     let parts = tree_parts_in c.in_ok-engine.engine in
-    let is = engine_is o sound parts _ _ c.in_ok-engine.ensures c.checked.ensures.program (c.budget.ensures.turns ∙ ap (λ (e : EngineParts). e.budget) c.engine.ensures) in
-    fit_engine o c.args.calls c.into_calls.result.items c.into_calls.ensures sound parts is c.requires.fit
+    let is = engine_is o sound parts _ _ c.in_ok-engine.ensures c.checked.ensures.program (c.budget-budget.ensures.turns ∙ ap (λ (e : EngineParts). e.budget) c.engine.ensures) in
+    fit_engine o c.args.calls c.into_calls-calls.result.items c.into_calls-calls.ensures sound parts is c.requires.fit
 
 pub play-requires-clause-items : goal.play-requires-clause-items
 play-requires-clause-items c = subst (λ (k : ℕ). All (λ item. process_of item < k) c.args.items.now) (sym c.processes.ensures) c.requires.turns
