@@ -26,24 +26,24 @@ use Rattle.wf_order.specs.Verdict.{HasLegal}
 
 module _ (program : Program) (good : IsResolved program) where
   -- a state by position is one by name, and the other way round
-  abbrev IsNamed : Activation → State → Type 0
+  abbrev pub IsNamed : Activation → State → Type 0
   IsNamed activation state = SameState program state activation
 
-  abbrev IsPlaced : State → Activation → Type 0
+  abbrev pub IsPlaced : State → Activation → Type 0
   IsPlaced state activation = SameState program state activation
 
   module _ (budget : ℕ) (activation : Activation) (state : State) (is : SameState program state activation) where
-    has_named : (events : List (Event ObjectCall Reply)) → BegunFit (Fits program) events → HasLegal (CallEnds program budget) activation events → HasLegal (CallMeans program budget) state events
+    pub has_named : (events : List (Event ObjectCall Reply)) → BegunFit (Fits program) events → HasLegal (CallEnds program budget) activation events → HasLegal (CallMeans program budget) state events
     has_named events fit h =
         let l = legal_there (Fits program) IsNamed (CallEnds program budget) (CallMeans program budget) (names_simulate program budget good) events h.0 fit activation state is h.1 h.2 in
         (h.0, l.end, l.legal)
 
-    has_placed : (events : List (Event ObjectCall Reply)) → BegunFit (Fits program) events → HasLegal (CallMeans program budget) state events → HasLegal (CallEnds program budget) activation events
+    pub has_placed : (events : List (Event ObjectCall Reply)) → BegunFit (Fits program) events → HasLegal (CallMeans program budget) state events → HasLegal (CallEnds program budget) activation events
     has_placed events fit h =
         let l = legal_there (Fits program) IsPlaced (CallMeans program budget) (CallEnds program budget) (positions_simulate program budget good) events h.0 fit state activation is h.1 h.2 in
         (h.0, l.end, l.legal)
 
-    ceases_named : (events : List (Event ObjectCall Reply)) → BegunFit (Fits program) events → (id : CallId) → CeasesAt (CallEnds program budget) activation events id → CeasesAt (CallMeans program budget) state events id
+    pub ceases_named : (events : List (Event ObjectCall Reply)) → BegunFit (Fits program) events → (id : CallId) → CeasesAt (CallEnds program budget) activation events id → CeasesAt (CallMeans program budget) state events id
     ceases_named events fit id c =
         record {
           place = c.place;

@@ -25,16 +25,16 @@ module _ {A B : Type 0} (g : A → B) where
   mapped_is None y h = absurd (cc)
   mapped_is (Some x) y h = (x, refl, same_Some (g x) y h)
 
-  at_map : (xs : List A) (k : ℕ) (x : A) → slice_get xs k ≡ Some x → slice_get (map g xs) k ≡ Some (g x)
+  pub at_map : (xs : List A) (k : ℕ) (x : A) → slice_get xs k ≡ Some x → slice_get (map g xs) k ≡ Some (g x)
   at_map xs k x h = slice_get-map g xs k ∙ ap (option_map g) h
 
-  at_mapped : (xs : List A) (k : ℕ) (y : B) → slice_get (map g xs) k ≡ Some y → (x : A) × (slice_get xs k ≡ Some x) × (g x ≡ y)
+  pub at_mapped : (xs : List A) (k : ℕ) (y : B) → slice_get (map g xs) k ≡ Some y → (x : A) × (slice_get xs k ≡ Some x) × (g x ≡ y)
   at_mapped xs k y h = mapped_is (slice_get xs k) y (sym (slice_get-map g xs k) ∙ h)
 
   pub contains_map : (xs : List A) (x : A) → Contains xs x → Contains (map g xs) (g x)
   contains_map xs x h = let p = place_of xs x h in contains_at (map g xs) p.0 (g x) (at_map xs p.0 x p.1)
 
-  contains_mapped : (xs : List A) (y : B) → Contains (map g xs) y → (x : A) × Contains xs x × (g x ≡ y)
+  pub contains_mapped : (xs : List A) (y : B) → Contains (map g xs) y → (x : A) × Contains xs x × (g x ≡ y)
   contains_mapped xs y h =
       let p = place_of (map g xs) y h in
       let q = at_mapped xs p.0 y p.1 in
@@ -58,19 +58,19 @@ behind x xs y h = let p = place_of xs y h in contains_at (x ∷ xs) (suc p.0) y 
 
 module _ {Call Reply : Type 0} where
   -- the same events at the same places, with other ids
-  record Renames (g : CallId → CallId) (from to : List (Event Call Reply)) : Type 0 where
-    begins : (place : ℕ) (id : CallId) (call : Call) → slice_get from place ≡ Some (Begin id call) → slice_get to place ≡ Some (Begin (g id) call)
-    ends : (place : ℕ) (id : CallId) (reply : Reply) → slice_get from place ≡ Some (End id reply) → slice_get to place ≡ Some (End (g id) reply)
-    begun : (place : ℕ) (id : CallId) (call : Call) → slice_get to place ≡ Some (Begin id call) → (old : CallId) × (slice_get from place ≡ Some (Begin old call)) × (g old ≡ id)
-    ended : (place : ℕ) (id : CallId) (reply : Reply) → slice_get to place ≡ Some (End id reply) → (old : CallId) × (slice_get from place ≡ Some (End old reply)) × (g old ≡ id)
+  pub record Renames (g : CallId → CallId) (from to : List (Event Call Reply)) : Type 0 where
+    pub begins : (place : ℕ) (id : CallId) (call : Call) → slice_get from place ≡ Some (Begin id call) → slice_get to place ≡ Some (Begin (g id) call)
+    pub ends : (place : ℕ) (id : CallId) (reply : Reply) → slice_get from place ≡ Some (End id reply) → slice_get to place ≡ Some (End (g id) reply)
+    pub begun : (place : ℕ) (id : CallId) (call : Call) → slice_get to place ≡ Some (Begin id call) → (old : CallId) × (slice_get from place ≡ Some (Begin old call)) × (g old ≡ id)
+    pub ended : (place : ℕ) (id : CallId) (reply : Reply) → slice_get to place ≡ Some (End id reply) → (old : CallId) × (slice_get from place ≡ Some (End old reply)) × (g old ≡ id)
 
   -- the ids of its events come back
-  record ComesBack (g h : CallId → CallId) (history : List (Event Call Reply)) : Type 0 where
-    begin : (place : ℕ) (id : CallId) (call : Call) → slice_get history place ≡ Some (Begin id call) → h (g id) ≡ id
-    end : (place : ℕ) (id : CallId) (reply : Reply) → slice_get history place ≡ Some (End id reply) → h (g id) ≡ id
+  pub record ComesBack (g h : CallId → CallId) (history : List (Event Call Reply)) : Type 0 where
+    pub begin : (place : ℕ) (id : CallId) (call : Call) → slice_get history place ≡ Some (Begin id call) → h (g id) ≡ id
+    pub end : (place : ℕ) (id : CallId) (reply : Reply) → slice_get history place ≡ Some (End id reply) → h (g id) ≡ id
 
   module _ (g h : CallId → CallId) (from to : List (Event Call Reply)) (renames : Renames g from to) (back : ComesBack g h from) where
-    turned : Renames h to from
+    pub turned : Renames h to from
     turned = record {
       begins = λ place id call at.
           let b = renames.begun place id call at in
@@ -82,7 +82,7 @@ module _ {Call Reply : Type 0} where
       ended = λ place id reply at. (g id, renames.ends place id reply at, back.end place id reply at);
     }
 
-    turned_back : ComesBack h g to
+    pub turned_back : ComesBack h g to
     turned_back = record {
       begin = λ place id call at.
           let b = renames.begun place id call at in
@@ -149,7 +149,7 @@ module _ {Call Reply : Type 0} where
         let s = renames.begun p.3 b p.1 p.6 in
         (e.0, s.0, before_at from e.0 s.0 p.0 p.1 p.2 p.3 p.4 e.1 s.1, ap h (sym e.2) ∙ back.end p.2 e.0 p.0 e.1, ap h (sym s.2) ∙ back.begin p.3 s.0 p.1 s.1)
 
-    legal_there : (opening last : State) (order : List CallId) → IsLegal Effect opening from order last → IsLegal Effect opening to (map g order) last
+    pub legal_there : (opening last : State) (order : List CallId) → IsLegal Effect opening from order last → IsLegal Effect opening to (map g order) last
     legal_there opening last order l =
         let known = made_back l.made in
         record {
@@ -177,7 +177,7 @@ module _ {Call Reply : Type 0} where
 
 -- a history with names is one with other ids
 
-named_begin : (names : List ℕ) (e : Event ObjectCall Reply) (id : CallId) (call : ObjectCall) → named names e ≡ Begin id call → (old : CallId) × (e ≡ Begin old call) × (named_id names old ≡ id)
+pub named_begin : (names : List ℕ) (e : Event ObjectCall Reply) (id : CallId) (call : ObjectCall) → named names e ≡ Begin id call → (old : CallId) × (e ≡ Begin old call) × (named_id names old ≡ id)
 named_begin names (Begin old own) id call h =
     let same : own ≡ call = cc in
     let is : named_id names old ≡ id = cc in
@@ -185,7 +185,7 @@ named_begin names (Begin old own) id call h =
 named_begin names (Applied ids) id call h = absurd (cc)
 named_begin names (End old own) id call h = absurd (cc)
 
-named_end : (names : List ℕ) (e : Event ObjectCall Reply) (id : CallId) (reply : Reply) → named names e ≡ End id reply → (old : CallId) × (e ≡ End old reply) × (named_id names old ≡ id)
+pub named_end : (names : List ℕ) (e : Event ObjectCall Reply) (id : CallId) (reply : Reply) → named names e ≡ End id reply → (old : CallId) × (e ≡ End old reply) × (named_id names old ≡ id)
 named_end names (Begin old own) id reply h = absurd (cc)
 named_end names (Applied ids) id reply h = absurd (cc)
 named_end names (End old own) id reply h =
@@ -239,7 +239,7 @@ abbrev pub placed_id : List ℕ → CallId → CallId
 placed_id names id = record { process = place_in names id.process; number = id.number }
 
 module _ (names : List ℕ) (apart : AreApart names) where
-  comes_back : (id : CallId) → id.process < length names → placed_id names (named_id names id) ≡ id
+  pub comes_back : (id : CallId) → id.process < length names → placed_id names (named_id names id) ≡ id
   comes_back id lt =
       let name = get_or names id.process 0 in
       let p = place_found names id.process name lt refl in

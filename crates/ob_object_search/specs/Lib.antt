@@ -1,3 +1,4 @@
+pub mod Agreeing
 pub mod Found
 pub mod Laws
 pub mod SearchFaults

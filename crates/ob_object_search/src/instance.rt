@@ -1,12 +1,10 @@
 //! A module's object, as a search takes it.
 
-ghost use Rattle.std.specs.Prelude.{◌≡◌, ℕ, IfOk, IsTrue};
+ghost use Rattle.std.specs.Prelude.{◌≡◌, IfOk};
 ghost use Rattle.ob_checked.specs.CheckedModule.{program_in};
-ghost use Rattle.ob_interface.specs.Call.{Reply as AnyReply};
 ghost use Rattle.ob_interface.specs.View as Objects;
 ghost use Rattle.ob_interpreter.specs.View.{call_of, reply_of};
-ghost use Rattle.ob_object_order.specs.LegalOrder.{CallEnds};
-ghost use Rattle.ob_positions.specs.Store.{Activation};
+ghost use Rattle.ob_read_only.specs.ReadOnly.{TellsReadOnly};
 ghost use Rattle.wf_history.specs.View.{seen_call};
 
 use crate::words::words_in;
@@ -15,6 +13,7 @@ use ob_interface::NoMemory;
 use ob_interface::call::Reply;
 use ob_interpreter::call as interpreter;
 use ob_interpreter::object::interpret;
+use ob_read_only::exports::read_only_exports;
 use ob_store::state::State;
 use smallvec::SmallVec;
 use std::alloc::{AllocError, Global};
@@ -22,11 +21,48 @@ use wf_history::{SeenCall, SeenReply};
 use wf_order::Object;
 
 /// The object of a checked module that begins with this state, each call with so many turns.
-#[derive(Clone, Copy)]
+#[derive(Drop)]
 pub struct ModuleObject<'a> {
     pub checked: &'a Checked,
     pub opening: &'a State,
     pub budget: u64,
+    /// Of each export, whether it is known to change no variable of the module.
+    read_only: Vec<bool>,
+    ghost tells: { ∥ TellsReadOnly (program_in checked.now) read_only.items ∥₁ },
+}
+
+impl<'a> ModuleObject<'a> {
+    ghost use Rattle.std.specs.Prelude.{◌≡◌, IfOk, false, get_or};
+
+    /// The object of a module that begins with a state, each call with so many turns.
+    pub fn new(
+        alloc: Global,
+        checked: &'a Checked,
+        opening: &'a State,
+        budget: u64,
+    ) -> Result<ModuleObject<'a>, NoMemory>
+        ensures checked { IfOk result (λ o. o.checked.now ≡ checked.now) }
+        ensures opening { IfOk result (λ o. o.opening.now ≡ opening.now) }
+        ensures budget { IfOk result (λ o. o.budget ≡ budget) }
+    {
+        let read_only = read_only_exports(alloc, checked)?;
+        Ok(ModuleObject {
+            checked,
+            opening,
+            budget,
+            read_only,
+        })
+    }
+
+    /// Whether an export is known to change no variable of the module.
+    fn is_read_only(&self, export: usize) -> bool
+        ensures { result ≡ get_or self.now.read_only.items export false }
+    {
+        match self.read_only.get(export) {
+            Some(known) => *known,
+            None => false,
+        }
+    }
 }
 
 /// The call, for the interpreter.
@@ -49,14 +85,6 @@ fn object_reply(alloc: Global, reply: &interpreter::Reply) -> Result<Reply, Allo
         }
         interpreter::Reply::Trapped(number) => Ok(Reply::Trap(*number)),
     }
-}
-
-/// Whether a call leaves the state as it is, whatever it answers.
-fn is_silent_call(_checked: &Checked, _call: SeenCall) -> bool
-    ensures { IsTrue result → (budget : ℕ) (before after : Activation) (reply : AnyReply)
-        → CallEnds (program_in _checked.now) budget (seen_call _call.entry) before after reply → before ≡ after }
-{
-    false
 }
 
 impl<'a> Object for ModuleObject<'a> {
@@ -100,7 +128,7 @@ impl<'a> Object for ModuleObject<'a> {
     }
 
     fn is_silent(&self, call: SeenCall, reply: SeenReply) -> bool {
-        matches!(reply, SeenReply::Trap(_)) || is_silent_call(self.checked, call)
+        matches!(reply, SeenReply::Trap(_)) || self.is_read_only(call.proc)
     }
 
     ghost determined = { λ o. one_outcome (program_in o.checked.now) o.budget };

@@ -5,6 +5,7 @@
 #![tactic(auto)]
 
 pub mod instance;
+pub mod laws;
 pub mod searching;
 mod words;
 

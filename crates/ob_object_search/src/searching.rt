@@ -174,11 +174,7 @@ fn search_checked(
     let read = read_history(alloc, checked, text)?;
     let budget = budget_of(search.budget, read.budget);
     let opening = beginning(alloc, checked, read.carried)?;
-    let object = ModuleObject {
-        checked,
-        opening: &opening,
-        budget,
-    };
+    let object = ModuleObject::new(alloc, checked, &opening, budget)?;
     order_found(
         alloc,
         &object,
@@ -189,7 +185,7 @@ fn search_checked(
 }
 
 /// The turns of each call.
-fn budget_of(asked: Option<u64>, told: Option<u64>) -> u64
+pub fn budget_of(asked: Option<u64>, told: Option<u64>) -> u64
     ensures { result ≡ budget_of asked told }
 {
     asked.or(told).unwrap_or(DEFAULT_BUDGET)
@@ -224,7 +220,7 @@ fn named_all(alloc: Global, names: &[usize], ids: &[CallId]) -> Result<Vec<CallI
 }
 
 /// The call, by the name of its process.
-fn named(names: &[usize], id: CallId) -> CallId
+pub fn named(names: &[usize], id: CallId) -> CallId
     ensures { result ≡ named_id names.now id }
 {
     let process = names.get(id.process).copied().unwrap_or(0);

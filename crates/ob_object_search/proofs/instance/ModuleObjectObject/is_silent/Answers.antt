@@ -1,5 +1,10 @@
-use Rattle.wf_history.specs.View.{seen_reply}
+use Rattle.std.proofs.Common.{◌∙◌, sym}
+use Rattle.ob_checked.specs.CheckedModule.{program_in}
+use Rattle.ob_object_search.proofs.Silent.{leaves_state}
+use Rattle.wf_history.specs.View.{seen_call, seen_reply}
 use Rattle.ob_object_search.proofs.instance.ModuleObjectObject.is_silent.Goals as goal
 
 pub returns-else-matches : goal.returns-else-matches
-returns-else-matches c = λ t before after. c.is_silent_call.ensures t c.args.self.now.budget before after (seen_reply c.args.reply)
+returns-else-matches c =
+    let o = c.args.self.now in
+    λ t before after. leaves_state (program_in o.checked.now) o.read_only.items o.tells o.budget (seen_call c.args.call) before after (seen_reply c.args.reply) (sym c.is_read_only.ensures ∙ t)

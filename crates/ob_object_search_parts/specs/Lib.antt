@@ -1,0 +1,4 @@
+pub mod Here
+pub mod Parted
+pub mod PartedFaults
+pub mod View

@@ -1,0 +1,14 @@
+//! The parts of a history: the calls that have one value as an argument, apart from the others, for an object that is many objects,
+//! one for each value.
+//!
+//! One may rely on the clauses of `parts_of`, which are in the words of `specs/Parts.antt` and `specs/Numbering.antt`. How a part is
+//! looked up may change without asking.
+#![tactic(auto)]
+
+mod label;
+pub mod part;
+pub mod parts;
+mod split;
+
+pub use part::Part;
+pub use parts::{PartsFault, parts_of};
