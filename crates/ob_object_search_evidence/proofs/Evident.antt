@@ -1,5 +1,5 @@
 -- What is shown by positions, as what is shown of both texts by what the module means.
-use Rattle.std.proofs.Common.{◌≡◌, ◌∙◌, ℕ, List, [], ◌∷◌, ◌++◌, All, Option, take, subst, inl, inr}
+use Rattle.std.proofs.Common.{ℕ, List, [], ◌∷◌, ◌++◌, Option, Some, None, MatchOption, take, inl, inr}
 use Rattle.std.proofs.lemmas.List.Elements.{All-weaker, Contains-push_cases}
 use Rattle.ob_agreement.specs.Resolved.{IsResolved}
 use Rattle.ob_agreement.specs.Same.{SameState}
@@ -67,9 +67,14 @@ module _ (program : Program) (good : IsResolved program) where
       }
 
 module _ (module_text history_text : List ℕ) (program : Program) (is_module : IsModule module_text program) (id : CallId) where
-  pub none_by : IsNoEnd program history_text id → NeverEnds module_text history_text id
+  none_by : IsNoEnd program history_text id → NeverEnds module_text history_text id
   none_by h = record { program = program; is_module = is_module; no_end = h }
 
-  pub evidence_by : (asked : Option ℕ) (e : Evidence) → HasEvidence BeginsPlaced CallEnds program history_text asked id e → IsEvidence module_text history_text asked id e
+  evidence_by : (asked : Option ℕ) (e : Evidence) → HasEvidence BeginsPlaced CallEnds program history_text asked id e → IsEvidence module_text history_text asked id e
   evidence_by asked e h =
       record { program = program; is_module = is_module; has_evidence = evidence_named program (module_resolved module_text program is_module) history_text asked id e h }
+
+  pub found_by : (asked : Option ℕ) (found : Option Evidence) → MatchOption found (IsNoEnd program history_text id) (HasEvidence BeginsPlaced CallEnds program history_text asked id) →
+      MatchOption found (NeverEnds module_text history_text id) (IsEvidence module_text history_text asked id)
+  found_by asked None h = none_by h
+  found_by asked (Some e) h = evidence_by asked e h

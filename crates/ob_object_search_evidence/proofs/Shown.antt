@@ -1,5 +1,5 @@
 -- What is found of the first events by small numbers, as what is shown by names.
-use Rattle.std.proofs.Common.{◌≡◌, ◌∙◌, ℕ, List, [], ◌∷◌, ◌++◌, Some, All, length, map, take, refl, sym, ap, subst, option_map, inl, inr}
+use Rattle.std.proofs.Common.{◌≡◌, ◌∙◌, ℕ, List, [], ◌∷◌, ◌++◌, Option, Some, All, length, map, take, refl, sym, ap, subst, option_map, inl, inr}
 use Rattle.std.proofs.lemmas.List.{map-append}
 use Rattle.std.proofs.lemmas.List.Elements.{All-weaker, Contains-push_cases}
 use Rattle.std.proofs.lemmas.Option.{slice_get-map}
@@ -83,3 +83,13 @@ module _ (program : Program) (text : List ℕ) (asked : Option ℕ) (h : Heards.
                   (could_named names heard.apart history heard.below Ends (state_of h.opening) place end reply here (reply_of r) could)) e.replies.items possible;
             });
       }
+
+  -- replies that are possible for the object that begins so
+  pub possible_found : (p : Program) (b : ℕ) (o : Activation) (before events : List (Event ObjectCall Reply)) (end : CallId) (replies : List Rust.Reply) →
+      p ≡ program → b ≡ h.budget → o ≡ state_of h.opening → events ≡ before →
+      All (λ r. HasLegal (CallEnds p b) o (events ++ End end (reply_of r) ∷ [])) replies → All (λ r. HasLegal Ends (state_of h.opening) (before ++ End end (reply_of r) ∷ [])) replies
+  possible_found p b o before events end replies same_program same_budget same_opening same_events all =
+      subst (λ (x : Program). All (λ r. HasLegal (CallEnds x h.budget) (state_of h.opening) (before ++ End end (reply_of r) ∷ [])) replies) same_program
+      (subst (λ (x : ℕ). All (λ r. HasLegal (CallEnds p x) (state_of h.opening) (before ++ End end (reply_of r) ∷ [])) replies) same_budget
+      (subst (λ (x : Activation). All (λ r. HasLegal (CallEnds p b) x (before ++ End end (reply_of r) ∷ [])) replies) same_opening
+      (subst (λ (x : List (Event ObjectCall Reply)). All (λ r. HasLegal (CallEnds p b) o (x ++ End end (reply_of r) ∷ [])) replies) same_events all)))

@@ -7,7 +7,7 @@ ghost use Rattle.ob_text_history_reading.specs.Names.{named, named_all, named_id
 ghost use Rattle.wf_history.specs.History.{End};
 ghost use Rattle.wf_history.specs.View.{event_of};
 
-use ob_object_search_record::copying::named;
+use ob_object_search::searching::named;
 use wf_history::{CallId, Event, SeenEvent};
 
 /// The place of the end of a call, and its id there by a small number, where the call goes by the name of its process.

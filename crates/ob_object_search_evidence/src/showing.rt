@@ -14,9 +14,9 @@ use crate::possible::possible_replies;
 use ob_check_text::checked_text::checked_text;
 use ob_checked::checked::Checked;
 use ob_interface::call::Reply;
-use ob_object_search::{Search, SearchFault};
+use ob_object_search::{ModuleObject, Search, SearchFault};
 use ob_object_search_record::copying::named_history;
-use ob_object_search_record::finding::{object_of, order_found};
+use ob_object_search_record::finding::order_found;
 use ob_object_search_record::recording::{Heard, hear};
 use std::alloc::Global;
 use wf_beginnings::{copied, open_calls};
@@ -84,7 +84,7 @@ fn evidence_of_heard(
     let Some((place, end)) = end_of(names, events, id) else {
         return Ok(None);
     };
-    let object = object_of(alloc, checked, &heard.opening, heard.budget)?;
+    let object = ModuleObject::new(alloc, checked, &heard.opening, heard.budget)?;
     let before = copied(alloc, &events[..place])?;
     let order = order_found(alloc, &object, &before, names, search)?;
     let told = named_history(alloc, names, &before)?;

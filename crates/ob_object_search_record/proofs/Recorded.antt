@@ -48,7 +48,7 @@ module _ (program : Program) (text : List ℕ) (asked : Option ℕ) (h : Rust.He
         leads = refl;
       }
 
-  fault_heard : (most : ℕ) (e : SearchFault) → IsFaultHere program h.budget (state_of h.opening) h.read.history h.read.processes.items most e →
+  pub fault_heard : (most : ℕ) (e : SearchFault) → IsFaultHere program h.budget (state_of h.opening) h.read.history h.read.processes.items most e →
       HasSearchFault BeginsPlaced TrapsPlaced CallEnds program text asked most e
   fault_heard most e f =
       found_fault program text asked most (told_of h.read) heard.history heard.alone (state_of h.opening) heard.begins h.budget heard.budget h.read.processes.items h.read.history refl heard.apart heard.below e f
@@ -64,7 +64,7 @@ module _ (program : Program) (text : List ℕ) (asked : Option ℕ) (h : Rust.He
 
   -- what is found of the object that begins so
   module _ (p : Program) (b : ℕ) (o : Activation) (ns : List ℕ) (same_program : p ≡ program) (same_budget : b ≡ h.budget) (same_opening : o ≡ state_of h.opening) (same_names : ns ≡ h.read.processes.items) where
-    fault_there : (history : List (Event ObjectCall Reply)) (most : ℕ) (e : SearchFault) → IsFaultHere p b o history ns most e → IsFaultHere program h.budget (state_of h.opening) history h.read.processes.items most e
+    pub fault_there : (history : List (Event ObjectCall Reply)) (most : ℕ) (e : SearchFault) → IsFaultHere p b o history ns most e → IsFaultHere program h.budget (state_of h.opening) history h.read.processes.items most e
     fault_there history most e f =
         subst (λ (x : Program). IsFaultHere x h.budget (state_of h.opening) history h.read.processes.items most e) same_program
         (subst (λ (x : ℕ). IsFaultHere p x (state_of h.opening) history h.read.processes.items most e) same_budget

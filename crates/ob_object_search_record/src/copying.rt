@@ -1,24 +1,14 @@
 //! Events of a history, copied.
 
 ghost use Rattle.std.specs.Prelude.{◌≡◌, IfOk, length};
-ghost use Rattle.ob_text_history_reading.specs.Names.{AreApart, AreBelow, named, named_all, named_id};
+ghost use Rattle.ob_text_history_reading.specs.Names.{AreApart, AreBelow, named, named_all};
 ghost use Rattle.wf_history.specs.View.{seen_event};
 
 use ob_interface::NoMemory;
+use ob_object_search::searching::named;
 use std::alloc::Global;
 use wf_beginnings::push_seen;
-use wf_history::{CallId, History, SeenEvent};
-
-/// The call, by the name of its process.
-pub fn named(names: &[usize], id: CallId) -> CallId
-    ensures { result ≡ named_id names.now id }
-{
-    let process = names.get(id.process).copied().unwrap_or(0);
-    CallId {
-        process,
-        number: id.number,
-    }
-}
+use wf_history::{History, SeenEvent};
 
 /// The event, by the name of its process.
 fn named_event<'a>(names: &[usize], event: SeenEvent<'a>) -> SeenEvent<'a>

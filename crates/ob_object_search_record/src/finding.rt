@@ -7,28 +7,11 @@ ghost use Rattle.ob_object_search.specs.declared.searching.SearchFault.TheVarian
 ghost use Rattle.ob_store.specs.View.{state_of};
 ghost use Rattle.ob_text_history_reading.specs.Names.{AreApart, AreBelow, named_id};
 
-use crate::copying::named;
-use ob_checked::checked::Checked;
-use ob_interface::NoMemory;
+use ob_object_search::searching::named;
 use ob_object_search::{ModuleObject, Search, SearchFault};
-use ob_store::state::State;
 use std::alloc::{AllocError, Global};
 use wf_history::{CallId, History};
 use wf_order::{Verdict, find_order};
-
-/// The object of a module that begins with a state, each call with so many turns.
-pub fn object_of<'a>(
-    alloc: Global,
-    checked: &'a Checked,
-    opening: &'a State,
-    budget: u64,
-) -> Result<ModuleObject<'a>, NoMemory>
-    ensures checked { IfOk result (λ o. o.checked.now ≡ checked.now) }
-    ensures opening { IfOk result (λ o. o.opening.now ≡ opening.now) }
-    ensures budget { IfOk result (λ o. o.budget ≡ budget) }
-{
-    ModuleObject::new(alloc, checked, opening, budget)
-}
 
 /// A legal order of a history, whose processes have these names, by the names.
 pub fn order_found(

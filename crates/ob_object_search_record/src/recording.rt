@@ -4,7 +4,7 @@ ghost use Rattle.std.specs.Prelude.{◌≡◌, ◌≢◌, ◌<◌, ℕ, List, Er
 ghost use Rattle.ob_checked.specs.CheckedModule.{program_in};
 ghost use Rattle.ob_object_order.specs.LegalOrder.{CallEnds};
 ghost use Rattle.ob_object_record.specs.Record.{record_of};
-ghost use Rattle.ob_object_search.specs.Searched.{HasEnough, HasOrder, IsEnough, IsLegalOrder, budget_of};
+ghost use Rattle.ob_object_search.specs.Searched.{HasEnough, HasOrder, IsEnough, IsLegalOrder};
 ghost use Rattle.ob_object_search.specs.SearchFaults.{HasSearchFault, IsUndecided, TellsMemoryApart as TellsSearchMemoryApart};
 ghost use Rattle.ob_object_search.specs.declared.searching.SearchFault.TheVariants as SearchFaults;
 ghost use Rattle.ob_object_search_record.specs.Heard.{IsHeard};
@@ -18,13 +18,13 @@ ghost use Rattle.wf_history.specs.Legal.{IsLegal};
 ghost use Rattle.wf_history.specs.declared.event.CallId.{CallId};
 
 use crate::copying::named_history;
-use crate::finding::{object_of, order_found};
+use crate::finding::order_found;
 use ob_check_text::checked_text::{TextFault, checked_text};
 use ob_checked::checked::Checked;
 use ob_interface::NoMemory;
 use ob_object_order::{OrderFault, check_order};
 use ob_object_record::Record;
-use ob_object_search::searching::DEFAULT_BUDGET;
+use ob_object_search::searching::budget_of;
 use ob_object_search::{ModuleObject, Search, SearchFault};
 use ob_object_verify::beginning::beginning;
 use ob_scan::scanner::LONGEST_TEXT;
@@ -161,7 +161,7 @@ pub fn hear(
     let read = read_history(alloc, checked, text)?;
     let carried = copied(alloc, &read.carried)?;
     let opening = beginning(alloc, checked, carried)?;
-    let budget = asked.or(read.budget).unwrap_or(DEFAULT_BUDGET);
+    let budget = budget_of(asked, read.budget);
     Ok(Heard {
         read,
         opening,
@@ -204,7 +204,7 @@ fn record_of_heard(
     let Some(processes) = process_count(history.events()) else {
         return Err(RecordingFault::Processes);
     };
-    let object = object_of(alloc, checked, &opening, budget)?;
+    let object = ModuleObject::new(alloc, checked, &opening, budget)?;
     let order = order_found(alloc, &object, &read.history, names, search)?;
     let state = last_state(alloc, &object, &history, &order)?;
     Ok(Record {
