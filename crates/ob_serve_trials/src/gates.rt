@@ -190,6 +190,7 @@ fn thread_count<R: Files + AllocGlobal>(rt: &R) -> Option<u64> {
 }
 
 /// A gate that always passes, and keeps how many threads there are where it is asked first.
+#[derive(Drop)]
 struct Roll<'a, R> {
     rt: &'a R,
     asked: AtomicU64,
