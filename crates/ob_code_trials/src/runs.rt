@@ -203,12 +203,14 @@ fn is_same_history(history: &History, other: &History) -> bool {
 /// How many calls ended with results, and how many in a trap.
 fn ended(history: &History) -> (usize, usize) {
     let events = history.events();
-    let done = events
-        .iter()
-        .filter(|event| matches!(event.seen(), SeenEvent::End(_, SeenReply::Done(_))));
-    let trapped = events
-        .iter()
-        .filter(|event| matches!(event.seen(), SeenEvent::End(_, SeenReply::Trap(_))));
+    let done = events.iter().filter(|event| matches!(
+        event.seen(),
+        SeenEvent::End(_, SeenReply::Done(_))
+    ));
+    let trapped = events.iter().filter(|event| matches!(
+        event.seen(),
+        SeenEvent::End(_, SeenReply::Trap(_))
+    ));
     (done.count(), trapped.count())
 }
 
