@@ -1,5 +1,5 @@
 -- The events of a history with the names of their processes, one after the other.
-use Rattle.std.proofs.Common.{◌≡◌, ◌∙◌, ℕ, suc, ◌+◌, List, [], ◌∷◌, ◌++◌, Some, length, map, take, sym, ap, subst, arith}
+use Rattle.std.proofs.Common.{◌≡◌, ◌∙◌, ℕ, suc, ◌+◌, List, [], ◌∷◌, ◌++◌, Some, length, take, ap, subst, arith}
 use Rattle.std.proofs.lemmas.List.{map-append, take-map}
 use Rattle.std.specs.List.{slice_get}
 use Rattle.ob_interface.specs.Call.{ObjectCall, Reply}

@@ -1,5 +1,5 @@
 -- What is recorded of a history by positions, as what is answered of both texts.
-use Rattle.std.proofs.Common.{◌≡◌, ◌≢◌, ℕ, List, Option, refl, subst, sym}
+use Rattle.std.proofs.Common.{◌≡◌, ◌≢◌, ℕ, List, Option, subst, sym}
 use Rattle.ob_agreement.specs.Resolved.{IsResolved}
 use Rattle.ob_agreement.specs.Same.{SameState}
 use Rattle.ob_code_law.proofs.Named.{names_simulate}

@@ -207,13 +207,14 @@ fn record_of_heard(
     let object = ModuleObject::new(alloc, checked, &opening, budget)?;
     let order = order_found(alloc, &object, &read.history, names, search)?;
     let state = last_state(alloc, &object, &history, &order)?;
+    let schedule = Vec::new(alloc);
     Ok(Record {
         processes,
         budget,
         carried: read.carried,
         history,
         order,
-        schedule: Vec::new(alloc),
+        schedule,
         state,
     })
 }

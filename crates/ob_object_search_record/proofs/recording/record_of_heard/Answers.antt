@@ -1,4 +1,4 @@
-use Rattle.std.proofs.Common.{◌≡◌, ◌∙◌, ◌<◌, ℕ, List, ap, refl, subst, sym}
+use Rattle.std.proofs.Common.{◌∙◌, ◌<◌, ℕ, List, ap, refl, subst, sym}
 use Rattle.std.proofs.lemmas.Result.{err_from_is_err_and}
 use Rattle.ob_checked.specs.CheckedModule.{program_in}
 use Rattle.ob_interface.specs.Call.{ObjectCall, Reply}
@@ -67,10 +67,10 @@ returns-clause-made c =
       carried = c.args.heard.read.carried;
       history = c.in_ok-history.history;
       order = c.in_ok-order.order;
-      schedule = c.new.result;
+      schedule = c.new-schedule.result;
       state = c.in_ok-state.state;
     }))
-    (c.in-Some.ensures.0 ∙ ap process_count (c.events.ensures.value ∙ history)) c.in-Some.ensures.1 refl refl history c.new.ensures.items
+    (c.in-Some.ensures.0 ∙ ap process_count (c.events.ensures.value ∙ history)) c.in-Some.ensures.1 refl refl history c.new-schedule.ensures.items
     (legal_found (program_in c.args.checked.now) c.args._text.now c.args.search.now.budget c.args.heard c.requires _ _ _ _
     (ap program_in c.in_ok-object.ensures.checked) c.in_ok-object.ensures.budget (ap state_of c.in_ok-object.ensures.opening) c.as_slice-names.ensures.value
     c.in_ok-history.history c.in_ok-order.order.items _ _ c.deref.ensures.value c.in_ok-state.ensures)
