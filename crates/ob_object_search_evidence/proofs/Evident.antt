@@ -22,7 +22,7 @@ use Rattle.ob_object_verify.specs.Beginnings.{BeginsNamed, BeginsPlaced}
 use Rattle.ob_positions.specs.Store.{Activation}
 use Rattle.ob_typing.specs.ModuleText.{IsModule}
 use Rattle.ob_typing.specs.Program.{Program}
-use Rattle.wf_history.specs.History.{Event, Begin, Applied, End}
+use Rattle.wf_history.specs.History.{Event, Begin, End}
 use Rattle.wf_history.specs.declared.event.CallId.{CallId}
 use Rattle.wf_order.specs.Verdict.{HasLegal}
 

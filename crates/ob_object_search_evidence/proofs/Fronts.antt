@@ -1,5 +1,5 @@
 -- The first events of a history, by the names of its processes, and what a fault of them says of the whole history.
-use Rattle.std.proofs.Common.{◌≡◌, ◌∙◌, ◌⊎◌, inl, inr, ℕ, ◌+◌, ◌≤◌, ◌<◌, List, [], ◌∷◌, ◌++◌, length, map, take, sym, ap, subst, arith}
+use Rattle.std.proofs.Common.{◌≡◌, inl, inr, ℕ, ◌+◌, ◌≤◌, List, length, take, sym, subst, arith}
 use Rattle.std.proofs.lemmas.Bool.{cases_lt}
 use Rattle.std.proofs.lemmas.List.{length-take, take-map, take-take, take_all}
 use Rattle.ob_interface.specs.Call.{ObjectCall, Reply}
@@ -16,7 +16,7 @@ use Rattle.wf_history.proofs.Positions.{contains_at, place_of, place_take}
 use Rattle.wf_history.specs.History.{Event, Begin, Applied, End, IsHistory}
 use Rattle.wf_history.specs.declared.event.CallId.{CallId}
 use Rattle.wf_order.proofs.Beginnings.{legal_taken}
-use Rattle.wf_order.specs.Rows.{AreOfProcesses, IsOfProcesses}
+use Rattle.wf_order.specs.Rows.{IsOfProcesses}
 use Rattle.wf_order.specs.Verdict.{HasLegal, HasMore, HasMoreFront}
 
 -- the first events of first ones

@@ -1,9 +1,9 @@
 -- What is found of the first events by small numbers, as what is shown by names.
-use Rattle.std.proofs.Common.{◌≡◌, ◌∙◌, ℕ, List, [], ◌∷◌, ◌++◌, Option, Some, All, length, map, take, refl, sym, ap, subst, option_map, inl, inr}
+use Rattle.std.proofs.Common.{◌≡◌, ◌∙◌, ℕ, List, [], ◌∷◌, ◌++◌, Option, Some, All, length, take, sym, ap, subst, option_map, inl, inr}
 use Rattle.std.proofs.lemmas.List.{map-append}
 use Rattle.std.proofs.lemmas.List.Elements.{All-weaker, Contains-push_cases}
 use Rattle.std.proofs.lemmas.Option.{slice_get-map}
-use Rattle.std.specs.List.{slice_get, Contains}
+use Rattle.std.specs.List.{slice_get}
 use Rattle.ob_interface.specs.Call.{ObjectCall, Reply}
 use Rattle.ob_interface.specs.View.{reply_of}
 use Rattle.ob_interface.specs.declared.call.Reply as Rust
@@ -22,8 +22,8 @@ use Rattle.ob_text_history_reading.specs.Names.{AreApart, AreBelow, IsBelow, nam
 use Rattle.ob_text_history_reading.specs.Told.{told_of}
 use Rattle.ob_typing.specs.Program.{Program}
 use Rattle.wf_beginnings.specs.Beginnings.{open_calls}
-use Rattle.wf_history.proofs.Positions.{contains_at, place_of}
-use Rattle.wf_history.specs.History.{Event, Begin, Applied, End}
+use Rattle.wf_history.proofs.Positions.{contains_at}
+use Rattle.wf_history.specs.History.{Event, End}
 use Rattle.wf_history.specs.Legal.{IsLegal}
 use Rattle.wf_history.specs.declared.event.CallId.{CallId}
 use Rattle.wf_order.specs.Verdict.{HasLegal}

@@ -1,4 +1,4 @@
-use Rattle.std.proofs.Common.{◌∙◌, Some, ap, arith, length, map}
+use Rattle.std.proofs.Common.{◌∙◌, Some, ap, arith, map}
 use Rattle.std.proofs.lemmas.List.{length-map}
 use Rattle.ob_interface.specs.Call.{ObjectCall, Reply}
 use Rattle.ob_object_search_evidence.proofs.Ended.{no_end_at_all, no_end_more}
