@@ -1,4 +1,4 @@
-use Rattle.std.proofs.Common.{◌≡◌, ◌∷◌, codes, rules}
+use Rattle.std.proofs.Common.{◌≡◌, codes, rules}
 use Rattle.ob_explained_histories.proofs.Ends.{end_is}
 use Rattle.ob_explained_histories.proofs.end_line.says_end.Goals as goal
 
