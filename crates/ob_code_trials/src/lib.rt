@@ -1,8 +1,6 @@
-//! Tests of calls by the code of a module, on one block of words, beside the same calls by the meaning of its tree; and of machines
-//! over the code and over the tree. Nothing stands on this crate.
+//! Tests of calls by the code of a module, on one block of words, beside the same calls by the meaning of its tree. Nothing stands on
+//! this crate.
 #![tactic(auto)]
 
 #[cfg(test)]
 mod bodies;
-#[cfg(test)]
-mod runs;
