@@ -1,5 +1,5 @@
 -- What the program answers to a request, by what reads of files give.
-use Rattle.std.specs.Prelude.{◌≡◌, ◌⊎◌, ℕ, Bool, List, [], ◌∷◌, ◌++◌, true, false, Option, Result, codes, option_map, count_by, MatchBool, nat_lt}
+use Rattle.std.specs.Prelude.{◌≡◌, ◌⊎◌, ℕ, Bool, List, [], ◌∷◌, ◌++◌, true, false, None, Option, Result, codes, option_map, count_by, MatchBool, nat_lt}
 use Rattle.std.specs.Str.{bytes_eq}
 use Rattle.ob_answer_files.specs.declared.answered.Answer.{Answer}
 use Rattle.ob_answer_files.specs.declared.files.FileFault.{FileFault}
@@ -20,15 +20,22 @@ use Rattle.ob_object_perform.specs.Printed.{IsPrintedOf, IsRecordPrinted}
 use Rattle.ob_object_perform.specs.Texts.{Texts}
 use Rattle.ob_text_picture_chart.specs.declared.charts.CallRange.{CallRange}
 use Rattle.ob_object_sequence.specs.SequentialRun.{HasObject, IsSequentialRun}
+use Rattle.ob_object_search_draw.specs.Forms.{is_record_form}
 use Rattle.ob_object_spent.specs.Spent.{IsPrintedWithSteps}
 use Rattle.ob_object_tree.specs.TreeRuns.{IsPrintedOfCode}
 use Rattle.ob_object_verify.specs.Verified.{IsVerified}
-use Rattle.ob_command.specs.CommandLine.{CallsRequest, Request, RunRequest, Text, Check, Listing, Seq, Run, RunTree, RunSteps, Serve, Draw, DrawRecord, Verify, Order, request}
+use Rattle.ob_answer_orders.specs.HistoryPictureAnswers.{IsHistoryPictureAnswer}
+use Rattle.ob_schedule_made.specs.Chance.{IsOfSteps}
+use Rattle.ob_schedule_made.specs.Finish.{IsFinished}
+use Rattle.ob_command.specs.CommandLine.{CallsRequest, ChanceRequest, Request, RunRequest, Text, default_most, Check, Listing, Seq, Run, RunTree, RunSteps, RunFinished, RunByChance, Serve, Draw, DrawRecord, Verify, Order, request}
 use Rattle.ob_command.specs.CommandLine.{Explain, ExplainCalls, ExplainTraps, ExplainRun, ExplainRecord, ExplainHistory, Bound, Help, Version, Unclear}
-use Rattle.ob_command.specs.Commands.{IsMistakeTextOf, calls_request_of, run_request_of}
+use Rattle.ob_command.specs.Commands.{IsMistakeTextOf, calls_request_of, chance_request_of, run_request_of}
 use Rattle.ob_command.specs.declared.command.CallNumbers.{CallNumbers}
 use Rattle.ob_command.specs.declared.command.CallsCommand.{CallsCommand}
+use Rattle.ob_command.specs.declared.command.ChanceCommand.{ChanceCommand}
 use Rattle.ob_command.specs.declared.command.RunCommand.{RunCommand}
+use Rattle.ob_command.specs.declared.command.RunProduct.{RunProduct}
+use Rattle.ob_command.specs.declared.command.RunProduct.TheVariants as RunProducts
 use Rattle.ob_answer.specs.declared.product.CallsProduct.{CallsProduct}
 use Rattle.ob_answer.specs.declared.product.CallsProduct.TheVariants as CallsProducts
 use Rattle.ob_answer.specs.declared.product.Product.{Product}
@@ -120,6 +127,12 @@ abbrev pub IsRecordPictureAnswer : Option CallRange → (module_bytes record_byt
 IsRecordPictureAnswer calls module_bytes record_bytes =
     IsTextAnswer (IsRecordPicture module_bytes record_bytes calls) (RefusesRecordPicture module_bytes record_bytes calls) draw_record_fault_line
 
+-- what was seen of an object, a record or a history: a text that has the form of a record is drawn as one, and any other as a history
+abbrev pub IsSeenPictureAnswer : Option CallRange → (module_bytes seen_bytes : List ℕ) → Answer → Type 0
+IsSeenPictureAnswer calls module_bytes seen_bytes answer =
+    MatchBool (is_record_form seen_bytes) (IsRecordPictureAnswer calls module_bytes seen_bytes answer)
+    (IsHistoryPictureAnswer calls module_bytes seen_bytes None default_most answer)
+
 -- `ok` where the record's order is a legal one
 abbrev pub SaysVerified : (module_bytes record_bytes : List ℕ) → Text → Type 0
 SaysVerified module_bytes record_bytes text = IsVerified module_bytes record_bytes × (text ≡ ok_text)
@@ -170,12 +183,51 @@ IsRunMade product run (module_bytes ∷ script_bytes ∷ schedule_bytes ∷ reco
     (λ beginning. IsRunAnswer product (run_texts_by run module_bytes script_bytes schedule_bytes record_bytes beginning)) answer
 IsRunMade product run _ answer = ⊥
 
+-- what is printed of a run whose schedule is made
+abbrev pub product_of : RunProduct → Product
+product_of RunProducts.Record = Products.Record
+product_of RunProducts.TreeRecord = Products.TreeRecord
+product_of RunProducts.RecordWithSteps = Products.RecordWithSteps
+
+-- the same of a schedule that goes on from that of the file until each call has ended
+abbrev pub IsFinishedMade : RunProduct → RunRequest → List (List ℕ) → Answer → Type 0
+IsFinishedMade product run (module_bytes ∷ script_bytes ∷ schedule_bytes ∷ record_bytes) answer =
+    (finished : List ℕ) × IsFinished schedule_bytes script_bytes finished
+    × IsRunMade (product_of product) run (module_bytes ∷ script_bytes ∷ finished ∷ record_bytes) answer
+IsFinishedMade product run _ answer = ⊥
+
+-- a schedule by chance, of as many steps as are asked for; and one that goes on from such a schedule until each call has ended
+abbrev pub IsOfChance : ChanceRequest → (schedule : List ℕ) → Type 0
+IsOfChance run schedule = IsOfSteps run.calls.processes run.steps schedule
+
+abbrev pub IsChanceSchedule : ChanceRequest → (script_bytes schedule : List ℕ) → Type 0
+IsChanceSchedule run script_bytes schedule =
+    MatchBool run.finish ((first : List ℕ) × IsOfChance run first × IsFinished first script_bytes schedule) (IsOfChance run schedule)
+
+-- the run by it, whose schedule is that of no file
+abbrev pub run_by_chance : ChanceRequest → RunRequest
+run_by_chance run = record { calls = run.calls; schedule_name = [] }
+
+-- the same of the bytes of the files of its calls
+abbrev pub IsChanceMade : RunProduct → ChanceRequest → List (List ℕ) → Answer → Type 0
+IsChanceMade product run (module_bytes ∷ script_bytes ∷ record_bytes) answer =
+    (schedule : List ℕ) × IsChanceSchedule run script_bytes schedule
+    × IsRunMade (product_of product) (run_by_chance run) (module_bytes ∷ script_bytes ∷ schedule ∷ record_bytes) answer
+IsChanceMade product run _ answer = ⊥
+
 -- the same of the bytes that were read, with the whole text of the module
 abbrev pub IsMadeOfCalls : CallsProduct → CallsCommand → CallsBytes → (whole : List ℕ) → Answer → Type 0
 IsMadeOfCalls product calls bytes whole = IsCallsMade product (calls_request_of calls) (whole ∷ bytes.script.items ∷ record_in_calls bytes)
 
 abbrev pub IsMadeOfRun : Product → RunCommand → RunBytes → (whole : List ℕ) → Answer → Type 0
 IsMadeOfRun product run bytes whole = IsRunMade product (run_request_of run) (whole ∷ bytes.script.items ∷ bytes.schedule.items ∷ record_in_run bytes)
+
+abbrev pub IsFinishedOfRun : RunProduct → RunCommand → RunBytes → (whole : List ℕ) → Answer → Type 0
+IsFinishedOfRun product run bytes whole =
+    IsFinishedMade product (run_request_of run) (whole ∷ bytes.script.items ∷ bytes.schedule.items ∷ record_in_run bytes)
+
+abbrev pub IsChanceOfCalls : RunProduct → ChanceCommand → CallsBytes → (whole : List ℕ) → Answer → Type 0
+IsChanceOfCalls product run bytes whole = IsChanceMade product (chance_request_of run) (whole ∷ bytes.script.items ∷ record_in_calls bytes)
 
 -- the files that a request names, in the order of its words
 abbrev pub files_of : Request → List Text
@@ -185,6 +237,8 @@ files_of (Seq calls) = files_of_calls calls
 files_of (Run run) = files_of_run run
 files_of (RunTree run) = files_of_run run
 files_of (RunSteps run) = files_of_run run
+files_of (RunFinished product run) = files_of_run run
+files_of (RunByChance product run) = files_of_calls run.calls
 files_of (Serve calls) = files_of_calls calls
 files_of (Draw run range) = files_of_run run
 files_of (DrawRecord module_name record_name range) = module_name ∷ record_name ∷ []
@@ -207,10 +261,12 @@ IsMade (Seq calls) bytes answer = IsCallsMade CallsProducts.Replies calls bytes 
 IsMade (Run run) bytes answer = IsRunMade Products.Record run bytes answer
 IsMade (RunTree run) bytes answer = IsRunMade Products.TreeRecord run bytes answer
 IsMade (RunSteps run) bytes answer = IsRunMade Products.RecordWithSteps run bytes answer
+IsMade (RunFinished product run) bytes answer = IsFinishedMade product run bytes answer
+IsMade (RunByChance product run) bytes answer = IsChanceMade product run bytes answer
 IsMade (Serve calls) bytes answer = IsCallsMade CallsProducts.Workers calls bytes answer
 IsMade (Draw run range) bytes answer = IsRunMade (Products.Picture (range_of range)) run bytes answer
 IsMade (DrawRecord module_name record_name range) (module_bytes ∷ record_bytes ∷ []) answer =
-    IsRecordPictureAnswer (range_of range) module_bytes record_bytes answer
+    IsSeenPictureAnswer (range_of range) module_bytes record_bytes answer
 IsMade (Verify module_name record_name) (module_bytes ∷ record_bytes ∷ []) answer = IsVerifyAnswer module_bytes record_bytes answer
 IsMade (Order order) (module_bytes ∷ history_bytes ∷ []) answer =
     IsProductAnswer order.product module_bytes history_bytes order.budget order.most answer
@@ -247,6 +303,12 @@ module _ {F : Type 0} (Reads : F → Text → Result (List ℕ) FileFault → F 
 
   abbrev pub IsRunObeyed : Product → RunRequest → F → Answer → F → Type 0
   IsRunObeyed product run = IsOutcome Reads (files_of_run run) (IsRunMade product run)
+
+  abbrev pub IsFinishedObeyed : RunProduct → RunRequest → F → Answer → F → Type 0
+  IsFinishedObeyed product run = IsOutcome Reads (files_of_run run) (IsFinishedMade product run)
+
+  abbrev pub IsChanceObeyed : RunProduct → ChanceRequest → F → Answer → F → Type 0
+  IsChanceObeyed product run = IsOutcome Reads (files_of_calls run.calls) (IsChanceMade product run)
 
   -- the outcome of the files that a request names
   abbrev pub IsObeyed : Request → F → Answer → F → Type 0

@@ -8,7 +8,8 @@ ghost use Rattle.ob_command.specs.CommandLine.{Bound, Check, DrawRecord, Listing
 ghost use Rattle.ob_command.specs.Commands.{calls_request_of, order_request_of, request_of, run_request_of};
 
 use crate::explaining::{obey_explain_history, obey_explain_module, obey_explain_record};
-use crate::making::{answer_bound, answer_check, answer_draw_record, answer_list, answer_verify};
+use crate::making::{answer_bound, answer_check, answer_draw_seen, answer_list, answer_verify};
+use crate::making_schedules::{obey_chance, obey_finished};
 use crate::obeying::{obey_calls, obey_run};
 use crate::product::{CallsProduct, Product};
 use ob_answer_files::answered::Answer;
@@ -36,7 +37,7 @@ const INPUT_TWICE: &str = "error: `-`, which is standard input, stands for one f
 
 /// The answer to the words behind the program's name. Files are read in the order in which the words
 /// name them, that of the record with whose values an object begins behind the others, before anything is made of them. Only `serve`
-/// starts threads and waits, and only `order` asks for random bytes.
+/// starts threads and waits, and only a search for an order asks for random bytes.
 pub fn answer<R: Threads + Wait + Sync + AllocGlobal + RandomSource, F: Files>(
     rt: &R,
     words: &[&str],
@@ -83,6 +84,8 @@ fn reads_input_twice(command: Command<'_>) -> bool
         Command::Run(run) => are_inputs_of_run(run),
         Command::RunTree(run) => are_inputs_of_run(run),
         Command::RunSteps(run) => are_inputs_of_run(run),
+        Command::RunFinished { run, .. } => are_inputs_of_run(run),
+        Command::RunByChance { run, .. } => are_inputs_of_calls(run.calls),
         Command::Draw { run, .. } => are_inputs_of_run(run),
         Command::DrawRecord {
             module_name,
@@ -159,6 +162,8 @@ fn obey<R: Threads + Wait + Sync + RandomSource, F: Files>(
         Command::Run(run) => obey_run(alloc, Product::Record, run, files),
         Command::RunTree(run) => obey_run(alloc, Product::TreeRecord, run, files),
         Command::RunSteps(run) => obey_run(alloc, Product::RecordWithSteps, run, files),
+        Command::RunFinished { product, run } => obey_finished(alloc, product, run, files),
+        Command::RunByChance { product, run } => obey_chance(alloc, product, run, files),
         Command::Serve(calls) => obey_calls(rt, alloc, CallsProduct::Workers, calls, files),
         Command::Draw { run, calls } => {
             obey_run(alloc, Product::Picture(range_of(calls)), run, files)
@@ -167,7 +172,14 @@ fn obey<R: Threads + Wait + Sync + RandomSource, F: Files>(
             module_name,
             record_name,
             calls,
-        } => obey_draw_record(alloc, module_name, record_name, calls, files),
+        } => {
+            let seen = SeenFiles {
+                module_name,
+                seen_name: record_name,
+                calls,
+            };
+            obey_draw_seen(rt, alloc, seen, files)
+        }
         Command::Verify {
             module_name,
             record_name,
@@ -247,19 +259,32 @@ fn range_of(calls: Option<CallNumbers>) -> Option<CallRange>
     }
 }
 
-/// The answer to `draw` on a record, of the names of its files and the calls that are drawn.
-fn obey_draw_record<F: Files>(
-    alloc: Global,
-    module_name: &str,
-    printed_name: &str,
+/// The names of the files of a module and of what was seen of its object, a record or a history, and the calls that are drawn.
+#[derive(Clone, Copy)]
+struct SeenFiles<'a> {
+    module_name: &'a str,
+    seen_name: &'a str,
     calls: Option<CallNumbers>,
+}
+
+/// The answer to `draw` on a record or on a history.
+fn obey_draw_seen<R: RandomSource, F: Files>(
+    rt: &R,
+    alloc: Global,
+    seen: SeenFiles<'_>,
     files: &mut F,
 ) -> Result<Answer, NoMemory>
-    ensures { IfOk result (λ a. IsObeyed F.reads (DrawRecord module_name.now printed_name.now calls) files.old a files.new) }
+    ensures { IfOk result (λ a. IsObeyed F.reads (DrawRecord seen.entry.module_name.now seen.entry.seen_name.now seen.entry.calls) files.old a files.new) }
 {
-    match read_two(alloc, module_name, printed_name, files)? {
+    match read_two(alloc, seen.module_name, seen.seen_name, files)? {
         TwoFiles::Read { module, second } => {
-            answer_draw_record(alloc, module.as_slice(), second.as_slice(), range_of(calls))
+            answer_draw_seen(
+                rt,
+                alloc,
+                module.as_slice(),
+                second.as_slice(),
+                range_of(seen.calls),
+            )
         }
         TwoFiles::Unread(answer) => Ok(answer),
     }

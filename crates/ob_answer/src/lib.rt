@@ -5,5 +5,6 @@
 pub mod answer;
 mod explaining;
 mod making;
+mod making_schedules;
 mod obeying;
 pub mod product;

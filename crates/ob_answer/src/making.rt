@@ -1,7 +1,7 @@
 //! Answers made of the bytes of files. Of a module's text they have the beginning: a module of more bytes is too long.
 
 ghost use Rattle.std.specs.Prelude.{◌≡◌, ◌≢◌, ◌++◌, false, IfOk, codes};
-ghost use Rattle.ob_answer.specs.Answers.{IsBoundAnswer, IsCheckAnswer, IsListAnswer, IsPictureAnswer, IsRecordAnswer, IsRecordPictureAnswer};
+ghost use Rattle.ob_answer.specs.Answers.{IsBoundAnswer, IsCheckAnswer, IsListAnswer, IsPictureAnswer, IsRecordAnswer, IsRecordPictureAnswer, IsSeenPictureAnswer};
 ghost use Rattle.ob_answer.specs.Answers.{IsSeqAnswer, IsServeAnswer, IsStepsAnswer, IsTreeRecordAnswer};
 ghost use Rattle.ob_answer.specs.Answers.{IsVerifyAnswer};
 ghost use Rattle.ob_answer_files.specs.Reads.{OfWhole};
@@ -21,6 +21,7 @@ ghost use Rattle.ob_object_perform.specs.Texts.{texts_of};
 ghost use Rattle.ob_object_sequence.specs.SequentialRun.{is_want_of_memory};
 
 use ob_answer_files::answered::{Answer, refused};
+use ob_answer_orders::drawing::answer_draw_history;
 use ob_desk_texts::{ServeTextFault, serve_text};
 use ob_fault_lines::compile_faults::compile_fault_line;
 use ob_fault_lines::draw_faults::{draw_fault_line, draw_record_fault_line};
@@ -33,12 +34,14 @@ use ob_object_bound::bound_text;
 use ob_object_compile::{Asked, Beginning, CompileFault, list_text};
 use ob_object_draw::{DrawRecordFault, draw_record_text};
 use ob_object_perform::{DrawFault, PerformFault, Texts, draw_text, run_text};
+use ob_object_search_draw::is_record_form;
 use ob_object_sequence::{SeqTextFault, check_text, seq_asked};
 use ob_object_spent::run_text_with_steps;
 use ob_object_tree::run_tree_text;
 use ob_object_verify::{VerifyFault, verify_text};
 use ob_text_picture_chart::CallRange;
 use std::alloc::Global;
+use std::random::RandomSource;
 use std::sync::Wait;
 use std::thread::Threads;
 
@@ -218,8 +221,25 @@ fn draw_refused(
     }
 }
 
-/// The answer of `draw` to the beginning of a module's text and to the text of a record, of some calls or of all.
-pub(crate) fn answer_draw_record(
+/// The answer of `draw` to the beginning of a module's text and to what was seen of its object, of some calls or of all: a text that has
+/// the form of a record is drawn as one, and any other as a history.
+pub(crate) fn answer_draw_seen<R: RandomSource>(
+    rt: &R,
+    alloc: Global,
+    module: &[u8],
+    seen: &[u8],
+    calls: Option<CallRange>,
+) -> Result<Answer, NoMemory>
+    ensures { IfOk result (OfWhole «module».now (λ whole. IsSeenPictureAnswer calls whole «seen».now)) }
+{
+    if is_record_form(seen) {
+        return answer_draw_record(alloc, module, seen, calls);
+    }
+    answer_draw_history(rt, alloc, module, seen, calls)
+}
+
+/// The same of a record.
+fn answer_draw_record(
     alloc: Global,
     module: &[u8],
     record: &[u8],

@@ -105,7 +105,7 @@ pub(crate) fn obey_run<F: Files>(
 }
 
 /// The answer to a command on a run, of the bytes of its files.
-fn answer_run(
+pub(crate) fn answer_run(
     alloc: Global,
     product: Product,
     run: RunCommand<'_>,

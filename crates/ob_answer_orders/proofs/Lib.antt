@@ -1,3 +1,4 @@
 pub mod Refused
 pub mod PartLines
 pub mod Shown
+pub mod Drawings

@@ -1,6 +1,7 @@
-//! The answers of `order` and of `explain --history`: the legal order of a history, or why there is none.
+//! The answers of `order`, of `explain --history` and of `draw` on a history: its legal order, its picture, or why there is none.
 #![tactic(auto)]
 
+pub mod drawing;
 pub mod explaining;
 pub mod ordering;
 mod orders;

@@ -1,27 +1,42 @@
 //! Runs by turns at a desk.
 
-ghost use Rattle.std.specs.Prelude.{◌-◌, ◌<◌, ◌^◌};
+ghost use Rattle.std.specs.Prelude.{◌-◌, ◌<◌, ◌≤◌, ◌^◌, All};
+ghost use Rattle.ob_code_law.specs.Compiled.{IsFitting};
+ghost use Rattle.ob_object_compile.specs.Sound.{IsSoundObject};
+ghost use Rattle.ob_object_compile.specs.View.{object_in};
+ghost use Rattle.ob_text_words.specs.ScriptCalls.{object_call, script_call_of};
 
-use crate::records::written;
-use crate::rows::{Row, asked};
+use crate::records::add_record;
 use crate::trouble::Trouble;
 use ob_code_engine::CodeEngine;
 use ob_desk_floor::{Seat, TakeTurn};
 use ob_desk_lock::Desk;
 use ob_desk_serve::opened_desk;
-use ob_desk_texts::read_calls;
+use ob_object_compile::Object;
+use ob_text_words::script_call::ScriptCall;
 use std::sync::Wait;
 
-/// The text of the record of a row, whose turns are taken at a desk.
-pub fn by_desk<R: Wait + Eprint + AllocGlobal>(rt: &R, row: &Row) -> Result<String, Trouble> {
+/// Adds the numbers and the record of a desk of the object with these calls, at which these turns are taken.
+pub fn by_desk<R: Wait + Eprint + AllocGlobal>(
+    rt: &R,
+    object: &Object,
+    calls: &[ScriptCall],
+    turns: &[(usize, usize)],
+    text: &mut String,
+) -> Result<(), Trouble>
+    requires sound { IsSoundObject (object_in object.now) }
+    requires some { 0 < (object_in object.now).processes }
+    requires few { (object_in object.now).processes ≤ 16 }
+    requires callers { All (λ c. c.process < (object_in object.now).processes) calls.now }
+    requires fits { All (λ c. IsFitting (object_in object.now).engine.exports (object_call (script_call_of c))) calls.now }
+{
     let alloc = rt.alloc();
-    let (object, calls) = read_calls(alloc, asked(row), row.scripts)?;
-    let (desk, mut seats) = opened_desk(alloc, &object, calls.as_slice())?;
-    for (process, count) in row.turns {
+    let (desk, mut seats) = opened_desk(alloc, object, calls)?;
+    for (process, count) in turns {
         take_turns(rt, &desk, &mut seats, *process, *count)?;
     }
     let machine = desk.close(seats.as_slice())?;
-    written(alloc, &object, machine)
+    add_record(alloc, object, machine, text)
 }
 
 /// So many turns of a process.

@@ -8,28 +8,37 @@ ghost use Rattle.ob_object_compile.specs.View.{object_in};
 ghost use Rattle.ob_text_words.specs.ScriptCalls.{object_call, script_call_of};
 ghost use Rattle.wf_play.specs.Played.{IsSameObject};
 
-use crate::records::written;
-use crate::rows::{Row, asked};
+use crate::records::add_record;
 use crate::trouble::Trouble;
 use ob_code_engine::CodeEngine;
 use ob_code_layout::encode;
 use ob_desk_floor::{Floor, Opening, Seat};
 use ob_desk_serve::opening::submissions;
-use ob_desk_texts::read_calls;
 use ob_object_compile::Object;
 use ob_text_words::script_call::ScriptCall;
 use std::alloc::{AllocError, Global};
 
-/// The text of the record of a row, whose turns are taken on a floor.
-pub fn by_floor<R: Eprint + AllocGlobal>(rt: &R, row: &Row) -> Result<String, Trouble> {
+/// Adds the numbers and the record of a floor of the object with these calls, on which these turns are taken.
+pub fn by_floor<R: Eprint + AllocGlobal>(
+    rt: &R,
+    object: &Object,
+    calls: &[ScriptCall],
+    turns: &[(usize, usize)],
+    text: &mut String,
+) -> Result<(), Trouble>
+    requires sound { IsSoundObject (object_in object.now) }
+    requires some { 0 < (object_in object.now).processes }
+    requires few { (object_in object.now).processes ≤ 16 }
+    requires callers { All (λ c. c.process < (object_in object.now).processes) calls.now }
+    requires fits { All (λ c. IsFitting (object_in object.now).engine.exports (object_call (script_call_of c))) calls.now }
+{
     let alloc = rt.alloc();
-    let (object, calls) = read_calls(alloc, asked(row), row.scripts)?;
-    let mut floor = opened(alloc, &object, calls.as_slice())?;
+    let mut floor = opened(alloc, object, calls)?;
     let mut seats = two_seats(alloc)?;
-    for (process, count) in row.turns {
+    for (process, count) in turns {
         take_turns(rt, &mut floor, &mut seats, *process, *count)?;
     }
-    written(alloc, &object, floor.into_machine())
+    add_record(alloc, object, floor.into_machine(), text)
 }
 
 /// A floor of the object, before any turn.
@@ -45,6 +54,7 @@ fn opened(
     requires fits { All (λ c. IsFitting (object_in object.now).engine.exports (object_call (script_call_of c))) calls.now }
     ensures code { IfOk result (λ f. f.machine.engine.parts ≡ (object_in object.now).engine) }
     ensures opening { IfOk result (λ f. f.machine.opening ≡ encoded (object_in object.now).opening) }
+    ensures processes { IfOk result (λ f. f.machine.sizes.processes ≡ (object_in object.now).processes) }
 {
     let engine = object.engine().copy(alloc)?;
     let opening = Opening {

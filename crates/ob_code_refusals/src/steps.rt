@@ -1,36 +1,43 @@
 //! Runs by the steps of a machine.
 
-ghost use Rattle.std.specs.Prelude.{◌≡◌, IfOk};
+ghost use Rattle.std.specs.Prelude.{◌≡◌, ◌<◌, All, IfOk};
+ghost use Rattle.ob_code_law.specs.Compiled.{IsFitting};
 ghost use Rattle.ob_code_scheme.specs.Layout.{encoded};
 ghost use Rattle.ob_object_compile.specs.Sound.{IsSoundObject};
 ghost use Rattle.ob_object_compile.specs.View.{object_in};
+ghost use Rattle.ob_schedule.specs.Schedule.{process_of};
+ghost use Rattle.ob_text_words.specs.ScriptCalls.{object_call, script_call_of};
 
 use crate::again::{play, submit_all};
-use crate::records::written;
-use crate::rows::{Row, asked};
+use crate::records::add_record;
 use crate::trouble::Trouble;
 use ob_code_engine::CodeEngine;
 use ob_code_layout::encode;
 use ob_object_compile::Object;
-use ob_object_perform::Texts;
-use ob_object_perform::performing::read_texts;
+use ob_schedule::Item;
+use ob_text_words::script_call::ScriptCall;
 use std::alloc::Global;
 use wf_object::Machine;
 
-/// The text of the record of a row, whose calls are submitted and whose schedule is played.
-pub fn by_steps<R: Eprint + AllocGlobal>(rt: &R, row: &Row) -> Result<String, Trouble> {
+/// Adds the numbers and the record of a machine to which these calls are submitted and on which these items are played.
+pub fn by_steps<R: Eprint + AllocGlobal>(
+    rt: &R,
+    object: &Object,
+    calls: &[ScriptCall],
+    items: &[Item],
+    text: &mut String,
+) -> Result<(), Trouble>
+    requires sound { IsSoundObject (object_in object.now) }
+    requires some { 0 < (object_in object.now).processes }
+    requires callers { All (λ c. c.process < (object_in object.now).processes) calls.now }
+    requires fits { All (λ c. IsFitting (object_in object.now).engine.exports (object_call (script_call_of c))) calls.now }
+    requires turns { All (λ item. process_of item < (object_in object.now).processes) items.now }
+{
     let alloc = rt.alloc();
-    let texts = Texts {
-        asked: asked(row),
-        scripts: row.scripts,
-        schedule: row.schedule,
-    };
-    let (object, calls, items) = read_texts(alloc, texts)?;
-    let calls = calls.into_calls();
-    let mut machine = opened(alloc, &object)?;
-    submit_all(rt, alloc, &mut machine, calls.as_slice())?;
-    play(rt, &mut machine, items.as_slice())?;
-    written(alloc, &object, machine)
+    let mut machine = opened(alloc, object)?;
+    submit_all(rt, alloc, &mut machine, calls)?;
+    play(rt, &mut machine, items)?;
+    add_record(alloc, object, machine, text)
 }
 
 /// A machine of the object, before any call.

@@ -4,22 +4,37 @@ use ob_desk_lock::CloseFault;
 use ob_interface::NoMemory;
 use ob_object_perform::PerformFault;
 use std::alloc::AllocError;
-use thiserror::Error;
 use wf_object::NewFault;
 
 /// Why there is nothing to print.
-#[derive(Clone, Copy, Debug, PartialEq, Eq, Error)]
+#[derive(Clone, Copy)]
 pub enum Trouble {
-    #[error("the run's own want of memory")]
     Own,
-    #[error("a call was refused memory twice")]
     Again,
-    #[error("not all calls were answered")]
     Endless,
-    #[error("the texts are refused")]
     Texts,
-    #[error("the desk gives no machine")]
     Desk,
+}
+
+impl Trouble {
+    /// What is told of it.
+    pub fn words(self) -> &'static str {
+        match self {
+            Trouble::Own => "the run's own want of memory",
+            Trouble::Again => "a call was refused memory twice",
+            Trouble::Endless => "not all calls were answered",
+            Trouble::Texts => "the texts are refused",
+            Trouble::Desk => "the desk gives no machine",
+        }
+    }
+
+    /// The status that the program ends with: 4 where the run itself got no memory, 5 where the machine or the desk is at fault.
+    pub fn status(self) -> u8 {
+        match self {
+            Trouble::Own => 4,
+            _ => 5,
+        }
+    }
 }
 
 impl From<AllocError> for Trouble {

@@ -38,6 +38,12 @@ built_most = record (built_one (codes "K") None None (parser.Signed (pos 0) (pos
 abbrev pub built_by : Rule
 built_by = record (built_one (codes "BY") None None (parser.Signed (pos 0) (pos 65535))) { long = Some (codes "by"); value_names = 1; required = false }
 
+abbrev pub built_seed : Rule
+built_seed = record (built_one (codes "S") None None (parser.Unsigned 0 18446744073709551615)) { long = Some (codes "seed"); required = false }
+
+abbrev pub built_length : Rule
+built_length = record (built_one (codes "LENGTH") None None (parser.Signed (pos 0) (pos 4294967295))) { long = Some (codes "length"); value_names = 1; required = false }
+
 abbrev pub built_flag : Text → Rule
 built_flag name = record (flag_rule name) {
   defaults = codes "false" ∷ [];
@@ -86,7 +92,8 @@ abbrev pub seq_leaf : Shape
 seq_leaf = leaf (codes "seq") (built_name 1 (codes "MODULE") ∷ built_name 2 (codes "SCRIPT") ∷ built_budget ∷ built_from ∷ built_help ∷ [])
 
 abbrev pub run_leaf : Shape
-run_leaf = leaf (codes "run") (run_rules true true true (built_flag (codes "tree") ∷ built_flag (codes "steps") ∷ built_help ∷ []))
+run_leaf = leaf (codes "run") (run_rules true false true (built_flag (codes "tree") ∷ built_flag (codes "steps")
+    ∷ built_seed ∷ built_length ∷ built_flag (codes "finish") ∷ built_help ∷ []))
 
 abbrev pub serve_leaf : Shape
 serve_leaf = leaf (codes "serve") (built_name 1 (codes "MODULE") ∷ built_name 2 (codes "SCRIPT") ∷ built_number ∷ built_budget ∷ built_from ∷ built_help ∷ [])

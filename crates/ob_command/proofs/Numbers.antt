@@ -14,7 +14,7 @@ use Rattle.clap.specs.declared.parser.matches.Found.{Found}
 use Rattle.clap.proofs.CallerReads.{signed_reads}
 use Rattle.clap.proofs.ValueTestLemmas.{Accepts-accepts, accepts-Accepts}
 use Rattle.clap.proofs.WalkLemmas.{one_text-rows}
-use Rattle.ob_command.specs.CommandLine.{budget_number, is_option, number, number_up_to, place_number}
+use Rattle.ob_command.specs.CommandLine.{budget_number, is_option, number, number_up_to, place_number, seed_number}
 
 not_both : false ≡ true → ⊥
 not_both e = cc
@@ -23,11 +23,7 @@ abbrev value_of : Text → ℕ
 value_of text = digits_value 10 (without_leading_plus text)
 
 -- of numbers of so many bits, of which this is the greatest
-module _ (bits most : ℕ) (greatest : most + 1 ≡ 2 ^ bits) (small : most < 2 ^ 63) where
-  -- what clap lets through
-  abbrev parser : ValueParser
-  parser = Signed (pos 0) (pos most)
-
+module _ (bits most : ℕ) (greatest : most + 1 ≡ 2 ^ bits) (small : most < 2 ^ 64) where
   -- the text writes such a number
   abbrev Writes : Text → Type 0
   Writes text = IsUnsignedIn 0 most text
@@ -74,8 +70,6 @@ module _ (bits most : ℕ) (greatest : most + 1 ≡ 2 ^ bits) (small : most < 2 
           go None e = none e ∙ ap (option_and_then (number_up_to most)) (sym e)
           go (Some t) e = as_read t r (value t e) ∙ ap (option_and_then (number_up_to most)) (sym e)
 
-  -- ---- what clap lets through
-
   reads : (text : Text) → ReadsOne (λ u x. ParsesUnsigned {E = Unit {0}} bits 10 u x) text (number_up_to most text)
   reads text = go (is_unsigned_in 0 most text) refl
     where
@@ -92,10 +86,16 @@ module _ (bits most : ℕ) (greatest : most + 1 ≡ 2 ^ bits) (small : most < 2 
             not_both (sym t ∙ tested text (h.0, omega (arith, below), omega arith, omega (arith, below))),
       )
 
+-- ---- what clap lets through
+
+module _ (bits most : ℕ) (greatest : most + 1 ≡ 2 ^ bits) (small : most < 2 ^ 63) where
+  abbrev parser : ValueParser
+  parser = Signed (pos 0) (pos most)
+
   accepted : (text : Text) → accepts false parser text ≡ true → is_some (number_up_to most (without_minus text)) ≡ true
   accepted text e =
       let got = signed_reads (Unit {0}) (λ u x. ParsesUnsigned {E = Unit {0}} bits 10 u x) bits 0 most text (number_up_to most (without_minus text))
-      (reads (without_minus text)) (λ u x h. h) (omega arith) (accepts-Accepts false parser text e) in
+      (reads bits most greatest (omega (arith, small)) (without_minus text)) (λ u x h. h) (omega arith) (accepts-Accepts false parser text e) in
       ap (λ (o : Option ℕ). is_some o) got.1
 
 -- ---- a number in its plain form, without a `-`
@@ -114,7 +114,7 @@ as_is_by : (text : Text) → starts_with_minus text ≡ false → without_minus 
 as_is_by [] h = refl
 as_is_by (b ∷ rest) h = ap (λ (t : Bool). unwrap_or (if t then Some rest else None) (b ∷ rest)) h
 
-module _ (bits most : ℕ) (greatest : most + 1 ≡ 2 ^ bits) (small : most < 2 ^ 63) where
+module _ (bits most : ℕ) (greatest : most + 1 ≡ 2 ^ bits) (small : most < 2 ^ 64) where
   no_minus : (text : Text) → IsUnsignedIn 0 most text → starts_with_minus text ≡ false
   no_minus [] h = refl
   no_minus (b ∷ rest) h = go (b == 45) refl
@@ -126,6 +126,7 @@ module _ (bits most : ℕ) (greatest : most + 1 ≡ 2 ^ bits) (small : most < 2 
           let first = w.0.1.0 in
           absurd (omega (arith, first))
 
+module _ (bits most : ℕ) (greatest : most + 1 ≡ 2 ^ bits) (small : most < 2 ^ 63) where
   passes_by : (text : Text) → starts_with_minus text ≡ false → IsUnsignedIn 0 most text → accepts false (Signed (pos 0) (pos most)) text ≡ true
   passes_by text h w =
       let in_range = w.3 in
@@ -134,7 +135,7 @@ module _ (bits most : ℕ) (greatest : most + 1 ≡ 2 ^ bits) (small : most < 2 
 
   plain_by : (text : Text) → IsUnsignedIn 0 most text → PlainNumber most text
   plain_by text w =
-      let none = no_minus text w in
+      let none = no_minus bits most greatest (omega (arith, small)) text w in
       record { no_option = no_option_by text none; as_is = as_is_by text none; passes = passes_by text none w }
 
   plain : (text : Text) (k : ℕ) → number_up_to most text ≡ Some k → PlainNumber most text
@@ -144,10 +145,10 @@ module _ (bits most : ℕ) (greatest : most + 1 ≡ 2 ^ bits) (small : most < 2 
       none_is j e = cc
 
       go : (t : Bool) → is_unsigned_in 0 most text ≡ t → PlainNumber most text
-      go true t = plain_by text (writes bits most greatest small text t)
-      go false t = absurd (none_is k (sym (number_by bits most greatest small text false t) ∙ is))
+      go true t = plain_by text (writes bits most greatest (omega (arith, small)) text t)
+      go false t = absurd (none_is k (sym (number_by bits most greatest (omega (arith, small)) text false t) ∙ is))
 
--- ---- of 16 bits and of 32
+-- ---- of 16 bits, of 32 and of 64
 
 module _ {E : Type 0} (G : Text → Result ℕ E → Type 0) where
   pub number_read : ((u : Text) (x : Result ℕ E) → G u x → ParsesUnsigned 16 10 u x) → (f : Found) (id : Text) (r : Option ℕ)
@@ -159,6 +160,11 @@ module _ {E : Type 0} (G : Text → Result ℕ E → Type 0) where
       → (one_text f id ≡ None → r ≡ None) → ((t : Text) → one_text f id ≡ Some t → ReadsOne G t r)
       → r ≡ option_and_then budget_number (one_of id (rows_of f))
   budget_read only = read_of 32 4294967295 refl (omega arith) G only
+
+  pub seed_read : ((u : Text) (x : Result ℕ E) → G u x → ParsesUnsigned 64 10 u x) → (f : Found) (id : Text) (r : Option ℕ)
+      → (one_text f id ≡ None → r ≡ None) → ((t : Text) → one_text f id ≡ Some t → ReadsOne G t r)
+      → r ≡ option_and_then seed_number (one_of id (rows_of f))
+  seed_read only = read_of 64 18446744073709551615 refl (omega arith) G only
 
 pub number_accepted : (text : Text) → accepts false (Signed (pos 0) (pos 65535)) text ≡ true → is_some (number (without_minus text)) ≡ true
 number_accepted = accepted 16 65535 refl (omega arith)
@@ -181,3 +187,21 @@ place_value (Err e) = None
 pub place_read : {E : Type 0} (text : Text) (r : Result ℕ E) → ParsesUnsigned 32 10 text r → place_number text ≡ place_value r
 place_read {E} text (Ok v) h = parsed 32 4294967295 refl (omega arith) {E = E} text (Ok v) h
 place_read {E} text (Err e) h = parsed 32 4294967295 refl (omega arith) {E = E} text (Err e) h
+
+-- a seed in its plain form, without a `-`
+pub record PlainSeed (text : Text) : Type 0 where
+  pub no_option : is_option text ≡ false
+  pub as_is : without_minus text ≡ text
+  pub passes : accepts false (Unsigned 0 18446744073709551615) text ≡ true
+
+pub plain_seed : (text : Text) (k : ℕ) → seed_number text ≡ Some k → PlainSeed text
+plain_seed text k is = go (is_unsigned_in 0 18446744073709551615 text) refl
+  where
+    none_is : (j : ℕ) → None ≡ Some j → ⊥
+    none_is j e = cc
+
+    go : (t : Bool) → is_unsigned_in 0 18446744073709551615 text ≡ t → PlainSeed text
+    go true t =
+        let none = no_minus 64 18446744073709551615 refl (omega arith) text (writes 64 18446744073709551615 refl (omega arith) text t) in
+        record { no_option = no_option_by text none; as_is = as_is_by text none; passes = t }
+    go false t = absurd (none_is k (sym (number_by 64 18446744073709551615 refl (omega arith) text false t) ∙ is))

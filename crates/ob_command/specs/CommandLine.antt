@@ -12,8 +12,10 @@ use Rattle.ob_command_line.specs.ClapCommand.{obl0_app}
 use Rattle.ob_command.specs.declared.command.CallNumbers.{CallNumbers}
 use Rattle.ob_command.specs.declared.command.OrderProduct.{OrderProduct}
 use Rattle.ob_command.specs.declared.command.OrderProduct.TheVariants.{Apart, Line, WholeRecord}
+use Rattle.ob_command.specs.declared.command.RunProduct.{RunProduct}
+use Rattle.ob_command.specs.declared.command.RunProduct.TheVariants as products
 use Rattle.ob_command.specs.declared.given.Part.{Part}
-use Rattle.ob_command.specs.declared.given.Part.TheVariants.{Script, Schedule, Record, History, From, Processes, Budget, Tree, Steps, Traps}
+use Rattle.ob_command.specs.declared.given.Part.TheVariants.{Script, Schedule, Record, History, From, Processes, Budget, Tree, Steps, Traps, Seed, Length, Finish}
 
 abbrev pub Text : Type 0
 Text = List ℕ
@@ -32,6 +34,14 @@ pub record RunRequest : Type 0 where
   pub calls : CallsRequest
   pub schedule_name : Text
 
+-- The same of a run by a schedule of chance: its calls, the seed, how many steps the schedule has, and whether it goes on until each call has
+-- ended.
+pub record ChanceRequest : Type 0 where
+  pub calls : CallsRequest
+  pub seed : ℕ
+  pub steps : ℕ
+  pub finish : Bool
+
 -- What an order is looked for in, and how: the names of the files of a module and a history, the budget of its calls where one is given, how
 -- many configurations are looked at at most, and what is printed of the order.
 pub record OrderRequest : Type 0 where
@@ -42,7 +52,8 @@ pub record OrderRequest : Type 0 where
   pub product : OrderProduct
 
 -- What they ask for: the rules of a module checked; its code listed; the calls of a script made on it; a run's record; the record of the
--- same run by the tree of the module; the record with the own steps of its calls beside it; the record of workers' run; a run's picture;
+-- same run by the tree of the module; the record with the own steps of its calls beside it; the same of a run that goes on until each call has
+-- ended, and of a run by a schedule of chance; the record of workers' run; a run's picture;
 -- a record's; the order of a record checked; a legal order of a history; what is wrong with a module, or with a module and a script, shown
 -- to people; where the calls of a script trap, shown to people; what is wrong with a run; the same of a record, and of a history; how many
 -- own steps a call takes at most; help; the version; or nothing that there is. A command has the names of its files, and a budget is how
@@ -54,6 +65,8 @@ pub data Request : Type 0 where
   Run : (run : RunRequest) → Request
   RunTree : (run : RunRequest) → Request
   RunSteps : (run : RunRequest) → Request
+  RunFinished : (product : RunProduct) (run : RunRequest) → Request
+  RunByChance : (product : RunProduct) (run : ChanceRequest) → Request
   Serve : (calls : CallsRequest) → Request
   Draw : (run : RunRequest) (calls : Option CallNumbers) → Request
   DrawRecord : (module_name record_name : Text) (calls : Option CallNumbers) → Request
@@ -81,6 +94,10 @@ number = number_up_to 65535
 -- a budget, below 2 ^ 32
 abbrev pub budget_number : Text → Option ℕ
 budget_number = number_up_to 4294967295
+
+-- a seed, below 2 ^ 64
+abbrev pub seed_number : Text → Option ℕ
+seed_number = number_up_to 18446744073709551615
 
 -- the place of a call, below 2 ^ 32
 abbrev pub place_number : Text → Option ℕ
@@ -124,6 +141,13 @@ is_most most = nat_le 1 most && nat_le most 1000000000
 abbrev pub is_place : ℕ → Bool
 is_place place = nat_le 1 place && nat_le place 8
 
+-- how many steps a schedule by chance has where nothing is said of it, and how many it can have
+abbrev pub default_length : ℕ
+default_length = 1000
+
+abbrev pub is_length : ℕ → Bool
+is_length steps = nat_le steps 1000000
+
 -- of how many processes calls may be that are made one at a time
 abbrev pub sequence_processes : ℕ
 sequence_processes = 16
@@ -143,10 +167,13 @@ pub record Given : Type 0 where
   pub budget : Option ℕ
   pub most : Option ℕ
   pub argument : Option ℕ
+  pub seed : Option ℕ
+  pub schedule_length : Option ℕ
   pub as_record : Bool
   pub tree : Bool
   pub steps : Bool
   pub traps : Bool
+  pub finish : Bool
 
 -- the number that stands behind `-n`, of the rows in which clap keeps what stood behind the command
 abbrev pub processes_of : List Row → Option ℕ
@@ -163,6 +190,13 @@ most_of rows = option_and_then budget_number (one_of (codes "K") rows)
 -- the place of an argument that stands behind `--by`, of the same rows
 abbrev pub argument_of : List Row → Option ℕ
 argument_of rows = option_and_then number (one_of (codes "BY") rows)
+
+-- the seed that stands behind `--seed`, and the number of steps behind `--length`, of the same rows
+abbrev pub seed_of : List Row → Option ℕ
+seed_of rows = option_and_then seed_number (one_of (codes "S") rows)
+
+abbrev pub length_of : List Row → Option ℕ
+length_of rows = option_and_then budget_number (one_of (codes "LENGTH") rows)
 
 -- whether a word stands there that has no value, by what clap keeps of it
 abbrev pub is_true : Option Text → Bool
@@ -185,10 +219,13 @@ given_of rows = record {
   budget = budget_of rows;
   most = most_of rows;
   argument = argument_of rows;
+  seed = seed_of rows;
+  schedule_length = length_of rows;
   as_record = is_set (codes "record") rows;
   tree = is_set (codes "tree") rows;
   steps = is_set (codes "steps") rows;
   traps = is_set (codes "traps") rows;
+  finish = is_set (codes "finish") rows;
 }
 
 -- ---- the table of the commands
@@ -219,6 +256,37 @@ abbrev pub run_of : (module_name : Text) → Given → Option RunRequest
 run_of module_name given =
     option_and_then (λ calls. option_map (λ schedule_name. record { calls = calls; schedule_name = schedule_name }) given.schedule_name)
     (calls_of module_name given)
+
+-- what is printed of a run that is made so: its record, by the tree or by the code, or with own steps; by the tree it has no own steps, and
+-- begins with the module's body
+abbrev pub run_product : (tree steps from : Bool) → Option RunProduct
+run_product true false false = Some products.TreeRecord
+run_product true false true = None
+run_product true true from = None
+run_product false true from = Some products.RecordWithSteps
+run_product false false from = Some products.Record
+
+abbrev pub product_of : Given → Option RunProduct
+product_of given = run_product given.tree given.steps (is_some given.from_name)
+
+-- a run that goes on until each call has ended
+abbrev pub finished_of : (module_name : Text) → Given → Option Request
+finished_of module_name given = option_and_then (λ product. option_map (RunFinished product) (run_of module_name given)) (product_of given)
+
+-- a run by a schedule of chance
+abbrev pub chance_by : (module_name : Text) → Given → Option ChanceRequest
+chance_by module_name given = option_and_then (λ calls. option_map (λ seed. record {
+  calls = calls;
+  seed = seed;
+  steps = unwrap_or given.schedule_length default_length;
+  finish = given.finish;
+}) given.seed) (calls_of module_name given)
+
+-- the same where the number of steps is one that it can have
+abbrev pub chance_of : (module_name : Text) → Given → Option Request
+chance_of module_name given =
+    if option_map_or is_length given.schedule_length true then option_and_then (λ product. option_map (RunByChance product) (chance_by module_name given)) (product_of given)
+    else None
 
 -- the calls that a picture has by the word behind `--calls`: all where there is none, and none where that is no range
 abbrev pub range_by : Option Text → Option (Option CallNumbers)
@@ -276,6 +344,9 @@ has given Budget = is_some given.budget
 has given Tree = given.tree
 has given Steps = given.steps
 has given Traps = given.traps
+has given Seed = is_some given.seed
+has given Length = is_some given.schedule_length
+has given Finish = given.finish
 
 -- what is given has all of these parts, and none of those
 abbrev pub fits : Given → (wants lacks : List Part) → Bool
@@ -294,12 +365,19 @@ form wants lacks asks = record { wants = wants; lacks = lacks; asks = asks }
 abbrev pub one_form : ((module_name : Text) → Given → Option Request) → List Form
 one_form asks = form [] [] asks ∷ []
 
+-- a run by the schedule of a file alone
+abbrev pub run_file_forms : List Form
+run_file_forms =
+    form (Tree ∷ []) (Seed ∷ Length ∷ Finish ∷ Steps ∷ From ∷ []) (λ m given. option_map RunTree (run_of m given))
+    ∷ form (Steps ∷ []) (Seed ∷ Length ∷ Finish ∷ Tree ∷ []) (λ m given. option_map RunSteps (run_of m given))
+    ∷ form [] (Seed ∷ Length ∷ Finish ∷ Tree ∷ Steps ∷ []) (λ m given. option_map Run (run_of m given))
+    ∷ []
+
 abbrev pub run_forms : List Form
 run_forms =
-    form (Tree ∷ []) (Steps ∷ From ∷ []) (λ m given. option_map RunTree (run_of m given))
-    ∷ form (Steps ∷ []) (Tree ∷ []) (λ m given. option_map RunSteps (run_of m given))
-    ∷ form [] (Tree ∷ Steps ∷ []) (λ m given. option_map Run (run_of m given))
-    ∷ []
+    form (Seed ∷ []) (Schedule ∷ []) chance_of
+    ∷ form (Finish ∷ []) (Seed ∷ Length ∷ []) finished_of
+    ∷ run_file_forms
 
 abbrev pub draw_forms : List Form
 draw_forms =
@@ -400,10 +478,19 @@ steps_mistake = codes "error: --tree and --steps don't stand together\n\nFor mor
 abbrev pub from_mistake : Text
 from_mistake = codes "error: --tree and --from don't stand together\n\nFor more information, try '--help'.\n"
 
+-- and of a number of steps there that a schedule by chance can't have, and of all other words that are in none of its forms
+abbrev pub length_mistake : Text
+length_mistake =
+    codes "error: behind --length stands how many steps the schedule has, 0 to 1000000\n\nFor more information, try '--help'.\n"
+
+abbrev pub run_mistake : Text
+run_mistake =
+    codes "error: these words are in no form of run, which are\n  obl0 run MODULE SCRIPT SCHEDULE -n N [--finish] [-b BUDGET] [--from RECORD] [--steps]\n  obl0 run MODULE SCRIPT SCHEDULE -n N [--finish] [-b BUDGET] --tree\n  obl0 run MODULE SCRIPT --seed S -n N [--length K] [--finish] [-b BUDGET] [--from RECORD] [--steps]\n  obl0 run MODULE SCRIPT --seed S -n N [--length K] [--finish] [-b BUDGET] --tree\n\nFor more information, try '--help'.\n"
+
 -- and behind which options which numbers stand
 abbrev pub number_sentence : Text
 number_sentence =
-    codes "behind -n stands the number of processes, 1 to 16, behind -b how many turns each call has, 0 to 1000000, behind --most how many configurations are looked at, 1 to 1000000000, and behind --by the place of an argument, 1 to 8\n\nFor more information, try '--help'.\n"
+    codes "behind -n stands the number of processes, 1 to 16, behind -b how many turns each call has, 0 to 1000000, behind --seed any number up to 18446744073709551615, behind --length how many steps the schedule has, 0 to 1000000, behind --most how many configurations are looked at, 1 to 1000000000, and behind --by the place of an argument, 1 to 8\n\nFor more information, try '--help'.\n"
 
 -- a number below 0, or else no word that there is: a `-` and a digit
 abbrev pub is_negative : Text → Bool
@@ -421,9 +508,13 @@ range_mistake text = if option_map_or is_turned text false then turned_mistake e
 abbrev pub draw_mistake_of : (range : Option Text) → Text
 draw_mistake_of range = if is_some (range_by range) then draw_mistake else range_mistake range
 
--- and of such words behind `run`
-abbrev pub run_mistake_of : (steps : Bool) → Text
-run_mistake_of steps = if steps then steps_mistake else from_mistake
+-- and of such words behind `run`: of the number of steps where that is out of its range, else of words that don't stand together by the tree
+abbrev pub run_mistake_of : Given → Text
+run_mistake_of given =
+    if not (option_map_or is_length given.schedule_length true) then length_mistake
+    else if given.tree && given.steps then steps_mistake
+    else if given.tree && is_some given.from_name then from_mistake
+    else run_mistake
 
 -- and of numbers behind `order`: of the number of configurations where that is out of its range, else of the budget where that is, else of
 -- the place of an argument where that is; and else that a record has no parts
@@ -440,7 +531,7 @@ abbrev pub form_mistake_by : Text → Given → Option Text
 form_mistake_by name given =
     if bytes_eq name (codes "draw") then Some (draw_mistake_of given.range)
     else if bytes_eq name (codes "explain") then Some explain_mistake
-    else if bytes_eq name (codes "run") then Some (run_mistake_of given.steps)
+    else if bytes_eq name (codes "run") then Some (run_mistake_of given)
     else if bytes_eq name (codes "order") then Some (order_mistake_of given)
     else None
 

@@ -7,13 +7,14 @@ use Rattle.clap.specs.declared.error.kind.ErrorKind.TheVariants as kind
 use Rattle.ob_command.specs.declared.command.Command as command
 use Rattle.ob_command.specs.declared.command.Command.TheVariants as commands
 use Rattle.ob_command.specs.declared.command.CallsCommand.{CallsCommand}
+use Rattle.ob_command.specs.declared.command.ChanceCommand.{ChanceCommand}
 use Rattle.ob_command.specs.declared.command.OrderCommand.{OrderCommand}
 use Rattle.ob_command.specs.declared.command.RunCommand.{RunCommand}
 use Rattle.ob_command.specs.declared.given.GivenWords.{GivenWords}
 use Rattle.ob_command.specs.declared.command.Stop.{Stop}
 use Rattle.ob_command.specs.declared.command.Stop.TheVariants as stops
 use Rattle.ob_command_line.specs.ClapCommand.{obl0_app}
-use Rattle.ob_command.specs.CommandLine.{Text, clap_words, extra_of_help, form_mistake_of, has_negative, help_mistake, loose_number, number_sentence, number_tip, CallsRequest, Given, OrderRequest, Request, RunRequest, Check, Listing, Seq, Run, RunTree, RunSteps, Serve, Draw, DrawRecord, Verify, Order, Explain, ExplainCalls, ExplainTraps, ExplainRun, ExplainRecord, ExplainHistory, Bound, Help, Version, Unclear}
+use Rattle.ob_command.specs.CommandLine.{Text, clap_words, extra_of_help, form_mistake_of, has_negative, help_mistake, loose_number, number_sentence, number_tip, CallsRequest, ChanceRequest, Given, OrderRequest, Request, RunRequest, Check, Listing, Seq, Run, RunTree, RunSteps, RunFinished, RunByChance, Serve, Draw, DrawRecord, Verify, Order, Explain, ExplainCalls, ExplainTraps, ExplainRun, ExplainRecord, ExplainHistory, Bound, Help, Version, Unclear}
 
 -- what is given by words
 abbrev pub given_by : GivenWords → Given
@@ -28,10 +29,13 @@ given_by given = record {
   budget = given.budget;
   most = given.most;
   argument = given.argument;
+  seed = given.seed;
+  schedule_length = given.length;
   as_record = given.as_record;
   tree = given.tree;
   steps = given.steps;
   traps = given.traps;
+  finish = given.finish;
 }
 
 -- what a command asks for
@@ -46,6 +50,9 @@ calls_request_of calls = record {
 
 abbrev pub run_request_of : RunCommand → RunRequest
 run_request_of run = record { calls = calls_request_of run.calls; schedule_name = run.schedule_name.now }
+
+abbrev pub chance_request_of : ChanceCommand → ChanceRequest
+chance_request_of run = record { calls = calls_request_of run.calls; seed = run.seed; steps = run.steps; finish = run.finish }
 
 abbrev pub order_request_of : OrderCommand → OrderRequest
 order_request_of order = record {
@@ -63,6 +70,8 @@ request_of (commands.Seq calls) = Seq (calls_request_of calls)
 request_of (commands.Run run) = Run (run_request_of run)
 request_of (commands.RunTree run) = RunTree (run_request_of run)
 request_of (commands.RunSteps run) = RunSteps (run_request_of run)
+request_of (commands.RunFinished product run) = RunFinished product (run_request_of run)
+request_of (commands.RunByChance product run) = RunByChance product (chance_request_of run)
 request_of (commands.Serve calls) = Serve (calls_request_of calls)
 request_of (commands.Draw run calls) = Draw (run_request_of run) calls
 request_of (commands.DrawRecord module_name record_name calls) = DrawRecord module_name.now record_name.now calls

@@ -2,13 +2,16 @@
 
 ghost use Rattle.std.specs.Prelude.{◌≡◌, option_map, true};
 ghost use Rattle.std.specs.Option.{option_map_or};
-ghost use Rattle.ob_command.specs.CommandLine.{are_seen, asked, asked_by, bound_of, calls_by, calls_of, draw_forms, explain_calls_forms, explain_forms, is_most};
-ghost use Rattle.ob_command.specs.CommandLine.{is_place, is_seen_budget, order_by, order_of, picture_of, product_by, record_picture_of, run_forms};
-ghost use Rattle.ob_command.specs.CommandLine.{run_of, sequence_of, turns_of};
-ghost use Rattle.ob_command.specs.Commands.{calls_request_of, given_by, request_of, run_request_of};
+ghost use Rattle.ob_command.specs.CommandLine.{are_seen, asked, asked_by, bound_of, calls_by, calls_of, chance_by, chance_of, draw_forms};
+ghost use Rattle.ob_command.specs.CommandLine.{explain_calls_forms, explain_forms, finished_of, is_length, is_most};
+ghost use Rattle.ob_command.specs.CommandLine.{is_place, is_seen_budget, order_by, order_of, picture_of, product_by, product_of, record_picture_of};
+ghost use Rattle.ob_command.specs.CommandLine.{run_file_forms, run_forms, run_of, run_product, sequence_of, turns_of};
+ghost use Rattle.ob_command.specs.Commands.{calls_request_of, chance_request_of, given_by, request_of, run_request_of};
 
 use crate::call_range::range_by;
-use crate::command::{CallsCommand, Command, OrderCommand, OrderProduct, RunCommand};
+use crate::command::{
+    CallsCommand, ChanceCommand, Command, OrderCommand, OrderProduct, RunCommand, RunProduct,
+};
 use crate::given::{GivenWords, Part, fits};
 
 /// How many turns each call has where nothing is said of them.
@@ -16,6 +19,12 @@ const DEFAULT_BUDGET: u32 = 100_000;
 
 /// How many configurations a search for an order looks at where nothing is said of it.
 const DEFAULT_MOST: u32 = 10_000_000;
+
+/// How many steps a schedule by chance has where nothing is said of them.
+const DEFAULT_LENGTH: u32 = 1000;
+
+/// The most steps that such a schedule can have.
+const GREATEST_LENGTH: u32 = 1_000_000;
 
 /// The most turns that each call of a history can have had.
 const GREATEST_SEEN_BUDGET: u32 = 1_000_000;
@@ -55,20 +64,122 @@ pub(crate) fn asked<'a>(
     }
 }
 
-/// How a run is made and what is told of it, of what is given behind `run`.
+/// By which schedule a run is made and what is told of it, of what is given behind `run`.
 fn run_asked<'a>(module_name: &'a str, given: &GivenWords<'a>) -> Option<Command<'a>>
     ensures { option_map request_of result ≡ asked_by run_forms module_name.entry.now (given_by given.now) }
 {
-    if fits(given, &[Part::Tree], &[Part::Steps, Part::From]) {
+    if fits(given, &[Part::Seed], &[Part::Schedule]) {
+        return chance_of(module_name, given);
+    }
+    if fits(given, &[Part::Finish], &[Part::Seed, Part::Length]) {
+        return finished_of(module_name, given);
+    }
+    run_of_file_asked(module_name, given)
+}
+
+/// What is told of a run by the schedule of a file alone.
+fn run_of_file_asked<'a>(module_name: &'a str, given: &GivenWords<'a>) -> Option<Command<'a>>
+    ensures { option_map request_of result ≡ asked_by run_file_forms module_name.entry.now (given_by given.now) }
+{
+    if fits(
+        given,
+        &[Part::Tree],
+        &[
+            Part::Seed,
+            Part::Length,
+            Part::Finish,
+            Part::Steps,
+            Part::From,
+        ],
+    ) {
         return Some(Command::RunTree(run_of(module_name, given)?));
     }
-    if fits(given, &[Part::Steps], &[Part::Tree]) {
+    if fits(
+        given,
+        &[Part::Steps],
+        &[Part::Seed, Part::Length, Part::Finish, Part::Tree],
+    ) {
         return Some(Command::RunSteps(run_of(module_name, given)?));
     }
-    if fits(given, &[], &[Part::Tree, Part::Steps]) {
+    if fits(
+        given,
+        &[],
+        &[
+            Part::Seed,
+            Part::Length,
+            Part::Finish,
+            Part::Tree,
+            Part::Steps,
+        ],
+    ) {
         return Some(Command::Run(run_of(module_name, given)?));
     }
     None
+}
+
+/// The run by a schedule of chance, where the number of its steps is one that there can be.
+fn chance_of<'a>(module_name: &'a str, given: &GivenWords<'a>) -> Option<Command<'a>>
+    ensures { option_map request_of result ≡ chance_of module_name.entry.now (given_by given.now) }
+{
+    if !is_length(given.length) {
+        return None;
+    }
+    let product = product_of(given)?;
+    let run = chance_by(module_name, given)?;
+    Some(Command::RunByChance { product, run })
+}
+
+/// The same of any number of steps.
+fn chance_by<'a>(module_name: &'a str, given: &GivenWords<'a>) -> Option<ChanceCommand<'a>>
+    ensures { option_map chance_request_of result ≡ chance_by module_name.entry.now (given_by given.now) }
+{
+    let calls = calls_of(module_name, given)?;
+    let seed = given.seed?;
+    Some(ChanceCommand {
+        calls,
+        seed,
+        steps: given.length.unwrap_or(DEFAULT_LENGTH),
+        finish: given.finish,
+    })
+}
+
+/// The run that goes on behind the schedule of a file until each call has ended.
+fn finished_of<'a>(module_name: &'a str, given: &GivenWords<'a>) -> Option<Command<'a>>
+    ensures { option_map request_of result ≡ finished_of module_name.entry.now (given_by given.now) }
+{
+    let product = product_of(given)?;
+    let run = run_of(module_name, given)?;
+    Some(Command::RunFinished { product, run })
+}
+
+/// What is printed of such a run.
+fn product_of(given: &GivenWords<'_>) -> Option<RunProduct>
+    ensures { result ≡ product_of (given_by given.now) }
+{
+    run_product(given.tree, given.steps, given.from_name.is_some())
+}
+
+/// The same of the words that say it: by the tree there are no own steps, and the run begins with the module's body.
+fn run_product(tree: bool, steps: bool, from: bool) -> Option<RunProduct>
+    ensures { result ≡ run_product tree steps from }
+{
+    match (tree, steps, from) {
+        (true, false, false) => Some(RunProduct::TreeRecord),
+        (true, false, true) => None,
+        (true, true, _) => None,
+        (false, true, _) => Some(RunProduct::RecordWithSteps),
+        (false, false, _) => Some(RunProduct::Record),
+    }
+}
+
+/// Whether a schedule by chance can have so many steps.
+pub(crate) fn is_length(length: Option<u32>) -> bool
+    ensures { result ≡ option_map_or is_length length true }
+{
+    match length {
+        Some(length) => length <= GREATEST_LENGTH,
+        None => true,
+    }
 }
 
 /// What is to be drawn, of what is given behind `draw`.

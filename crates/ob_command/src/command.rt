@@ -34,6 +34,16 @@ pub enum Command<'a> {
     RunTree(RunCommand<'a>),
     /// `run .. --steps`: the record, and the own steps of each call that ended.
     RunSteps(RunCommand<'a>),
+    /// `run .. --finish`: the same of a run that goes on behind its schedule until each call has ended.
+    RunFinished {
+        product: RunProduct,
+        run: RunCommand<'a>,
+    },
+    /// `run MODULE SCRIPT --seed S -n N --length K ..`: the same of a run by a schedule of chance.
+    RunByChance {
+        product: RunProduct,
+        run: ChanceCommand<'a>,
+    },
     /// `serve MODULE SCRIPT -n N -b BUDGET --from RECORD`: the record of a run by workers, one for each process.
     Serve(CallsCommand<'a>),
     /// `draw MODULE SCRIPT SCHEDULE -n N -b BUDGET --from RECORD --calls FROM-TO`: the same run as a picture, of some calls or of all.
@@ -99,6 +109,27 @@ pub struct CallsCommand<'a> {
 pub struct RunCommand<'a> {
     pub calls: CallsCommand<'a>,
     pub schedule_name: &'a str,
+}
+
+/// What a run by a schedule of chance is made of: its calls, the seed, how many steps the schedule has, and whether it goes on until each
+/// call has ended.
+#[derive(Clone, Copy)]
+pub struct ChanceCommand<'a> {
+    pub calls: CallsCommand<'a>,
+    pub seed: u64,
+    pub steps: u32,
+    pub finish: bool,
+}
+
+/// What is printed of a run.
+#[derive(Clone, Copy)]
+pub enum RunProduct {
+    /// Its record.
+    Record,
+    /// The record of the same run by the tree of the module.
+    TreeRecord,
+    /// The record, and the own steps of each call that ended.
+    RecordWithSteps,
 }
 
 /// What an order is looked for in, and how: the names of the files of a module and a history, the budget of its calls where one is given, how

@@ -6,7 +6,7 @@ ghost use Rattle.ob_command.specs.Commands.{given_by};
 ghost use Rattle.ob_command.specs.CommandLine.{draw_mistake_of, explain_mistake, form_mistake, form_mistake_by, is_turned, order_mistake_of};
 ghost use Rattle.ob_command.specs.CommandLine.{range_mistake, run_mistake_of};
 
-use crate::asked::{is_most, is_place, is_seen_budget};
+use crate::asked::{is_length, is_most, is_place, is_seen_budget};
 use crate::call_range::{is_turned, range_by};
 use crate::given::{GivenWords, given_of};
 use clap::ArgMatches;
@@ -28,6 +28,24 @@ error: these words are in no form of explain, which are
   obl0 explain MODULE SCRIPT SCHEDULE -n N [-b BUDGET] [--from RECORD]
   obl0 explain MODULE --record RECORD
   obl0 explain MODULE --history HISTORY
+
+For more information, try '--help'.
+";
+
+/// What is wrong with words behind `run` that are in none of its forms.
+const UNCLEAR_RUN: &str = "\
+error: these words are in no form of run, which are
+  obl0 run MODULE SCRIPT SCHEDULE -n N [--finish] [-b BUDGET] [--from RECORD] [--steps]
+  obl0 run MODULE SCRIPT SCHEDULE -n N [--finish] [-b BUDGET] --tree
+  obl0 run MODULE SCRIPT --seed S -n N [--length K] [--finish] [-b BUDGET] [--from RECORD] [--steps]
+  obl0 run MODULE SCRIPT --seed S -n N [--length K] [--finish] [-b BUDGET] --tree
+
+For more information, try '--help'.
+";
+
+/// What is wrong with a number of steps that a schedule by chance can't have.
+const UNCLEAR_LENGTH: &str = "\
+error: behind --length stands how many steps the schedule has, 0 to 1000000
 
 For more information, try '--help'.
 ";
@@ -102,7 +120,7 @@ fn form_mistake_by(name: &str, given: &GivenWords<'_>) -> Option<&'static str>
     match name {
         "draw" => Some(draw_mistake_of(given.range)),
         "explain" => Some(explain_mistake()),
-        "run" => Some(run_mistake_of(given.steps)),
+        "run" => Some(run_mistake_of(given)),
         "order" => Some(order_mistake_of(given)),
         _ => None,
     }
@@ -115,11 +133,19 @@ fn explain_mistake() -> &'static str
     UNCLEAR_EXPLAIN
 }
 
-/// What is said of words that have none of the forms of `run`.
-fn run_mistake_of(steps: bool) -> &'static str
-    ensures { result.now ≡ run_mistake_of steps }
+/// What is said of words that have none of the forms of `run`, or a number of steps that is out of its range.
+fn run_mistake_of(given: &GivenWords<'_>) -> &'static str
+    ensures { result.now ≡ run_mistake_of (given_by given.now) }
 {
-    if steps { TREE_AND_STEPS } else { TREE_AND_FROM }
+    if !is_length(given.length) {
+        UNCLEAR_LENGTH
+    } else if given.tree && given.steps {
+        TREE_AND_STEPS
+    } else if given.tree && given.from_name.is_some() {
+        TREE_AND_FROM
+    } else {
+        UNCLEAR_RUN
+    }
 }
 
 /// What is said of words behind `order` of which one number is out of its range, or that ask for a record of parts.

@@ -2,7 +2,7 @@
 
 ghost use Rattle.std.specs.Prelude.{◌≡◌, option_map};
 ghost use Rattle.clap.specs.Words.{first_of, found_of, rows_of};
-ghost use Rattle.ob_command.specs.CommandLine.{argument_of, budget_of, fits, given_of, has, is_set, is_true, most_of, processes_of};
+ghost use Rattle.ob_command.specs.CommandLine.{argument_of, budget_of, fits, given_of, has, is_set, is_true, length_of, most_of, processes_of, seed_of};
 ghost use Rattle.ob_command.specs.Commands.{given_by};
 
 use clap::ArgMatches;
@@ -23,11 +23,16 @@ pub(crate) struct GivenWords<'a> {
     pub(crate) most: Option<u32>,
     /// The place of the argument by which calls are parted.
     pub(crate) argument: Option<u16>,
+    pub(crate) seed: Option<u64>,
+    /// How many steps a schedule by chance has.
+    pub(crate) length: Option<u32>,
     /// Whether a record is to be printed.
     pub(crate) as_record: bool,
     pub(crate) tree: bool,
     pub(crate) steps: bool,
     pub(crate) traps: bool,
+    /// Whether a run goes on until each call has ended.
+    pub(crate) finish: bool,
 }
 
 /// A part of what may be given.
@@ -43,6 +48,9 @@ pub(crate) enum Part {
     Tree,
     Steps,
     Traps,
+    Seed,
+    Length,
+    Finish,
 }
 
 /// What is given, of the matches of the words behind a command.
@@ -60,10 +68,13 @@ pub(crate) fn given_of<'a>(matches: &ArgMatches<'a>) -> GivenWords<'a>
         budget: budget_of(matches),
         most: most_of(matches),
         argument: argument_of(matches),
+        seed: seed_of(matches),
+        length: length_of(matches),
         as_record: is_set(matches, "record"),
         tree: is_set(matches, "tree"),
         steps: is_set(matches, "steps"),
         traps: is_set(matches, "traps"),
+        finish: is_set(matches, "finish"),
     }
 }
 
@@ -100,6 +111,20 @@ fn argument_of(matches: &ArgMatches<'_>) -> Option<u16>
     ensures { result ≡ argument_of (rows_of (found_of matches.now)) }
 {
     matches.get_one::<u16>("BY")
+}
+
+/// The seed of a schedule by chance, of the same matches.
+fn seed_of(matches: &ArgMatches<'_>) -> Option<u64>
+    ensures { result ≡ seed_of (rows_of (found_of matches.now)) }
+{
+    matches.get_one::<u64>("S")
+}
+
+/// How many steps such a schedule has, of the same matches.
+fn length_of(matches: &ArgMatches<'_>) -> Option<u32>
+    ensures { result ≡ length_of (rows_of (found_of matches.now)) }
+{
+    matches.get_one::<u32>("LENGTH")
 }
 
 /// Whether a word stands there that has no value, of the same matches.
@@ -141,5 +166,8 @@ fn has(given: &GivenWords<'_>, part: Part) -> bool
         Part::Tree => given.tree,
         Part::Steps => given.steps,
         Part::Traps => given.traps,
+        Part::Seed => given.seed.is_some(),
+        Part::Length => given.length.is_some(),
+        Part::Finish => given.finish,
     }
 }

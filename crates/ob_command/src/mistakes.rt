@@ -16,6 +16,7 @@ use std::alloc::{AllocError, Global};
 /// Which numbers stand behind options.
 const NUMBERS: &str = "\
 behind -n stands the number of processes, 1 to 16, behind -b how many turns each call has, 0 to 1000000, \
+behind --seed any number up to 18446744073709551615, behind --length how many steps the schedule has, 0 to 1000000, \
 behind --most how many configurations are looked at, 1 to 1000000000, and behind --by the place of an argument, 1 to 8
 
 For more information, try '--help'.

@@ -15,10 +15,10 @@ use Rattle.clap.specs.declared.builder.value_parser.ValueParser.{ValueParser}
 use Rattle.clap.specs.declared.builder.value_parser.ValueParser.TheVariants as parser
 use Rattle.clap.specs.declared.parser.matches.ValueSource.{ValueSource}
 use Rattle.clap.specs.declared.parser.matches.ValueSource.TheVariants.{CommandLine}
-use Rattle.ob_command.specs.CommandLine.{budget_number, calls_in, is_option, number}
-use Rattle.ob_command_laws.specs.PlainForms.{ArePlain, Argument, AsRecord, ByTree, Chosen, Count, Most, OfTraps, Range, Seen, Start, Told, Turns, WithSteps, budget_flag, id_of, is_plain, text_of, with_words, words_of}
+use Rattle.ob_command.specs.CommandLine.{budget_number, calls_in, is_option, number, seed_number}
+use Rattle.ob_command_laws.specs.PlainForms.{ArePlain, Argument, AsRecord, BySeed, ByTree, Chosen, Count, Finishing, Most, OfLength, OfTraps, Range, Seen, Start, Told, Turns, WithSteps, budget_flag, id_of, is_plain, text_of, with_words, words_of}
 use Rattle.ob_command.proofs.CallPlaces.{no_option_in}
-use Rattle.ob_command.proofs.Numbers.{plain_budget, plain_number}
+use Rattle.ob_command.proofs.Numbers.{plain_budget, plain_number, plain_seed}
 use Rattle.ob_command_laws.proofs.WalkedWords.{Goes, here, optioned, state, stepped, waits}
 
 -- ---- rows
@@ -69,6 +69,9 @@ parser_of ByTree = parser.Bool
 parser_of WithSteps = parser.Bool
 parser_of OfTraps = parser.Bool
 parser_of AsRecord = parser.Bool
+parser_of (BySeed s) = parser.Unsigned 0 18446744073709551615
+parser_of (OfLength j) = parser.Signed (pos 0) (pos 4294967295)
+parser_of Finishing = parser.Bool
 parser_of _ = parser.String
 
 -- the row that clap keeps of it
@@ -194,6 +197,21 @@ module _ (s : Shape) where
 
   pub record_moves : Knows s (codes "--record") (codes "record") → Moves s AsRecord
   record_moves knows = flag_moves (codes "--record") (codes "record") knows
+
+  pub seed_moves : Takes s (codes "--seed") (codes "S") (parser.Unsigned 0 18446744073709551615) → (v : Text) → is_some (seed_number v) ≡ true → Moves s (BySeed v)
+  seed_moves takes v plain =
+      let k = some_of (seed_number v) plain in
+      let p = plain_seed v k.0 k.1 in
+      value_moves (codes "--seed") (codes "S") v (parser.Unsigned 0 18446744073709551615) takes p.no_option p.passes
+
+  pub length_moves : Takes s (codes "--length") (codes "LENGTH") (parser.Signed (pos 0) (pos 4294967295)) → (j : Text) → is_some (budget_number j) ≡ true → Moves s (OfLength j)
+  length_moves takes j plain =
+      let k = some_of (budget_number j) plain in
+      let p = plain_budget j k.0 k.1 in
+      value_moves (codes "--length") (codes "LENGTH") j (parser.Signed (pos 0) (pos 4294967295)) takes p.no_option p.passes
+
+  pub finish_moves : Knows s (codes "--finish") (codes "finish") → Moves s Finishing
+  finish_moves knows = flag_moves (codes "--finish") (codes "finish") knows
 
 -- ---- options one behind the other
 

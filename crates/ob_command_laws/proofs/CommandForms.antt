@@ -8,11 +8,11 @@ use Rattle.clap.specs.Faults.{check_fault, defaults_fault, walk_fault}
 use Rattle.clap.specs.Simple.{Shape}
 use Rattle.clap.proofs.OnLiterals.{clap_on_literals}
 use Rattle.ob_command.specs.CommandLine.{Check, Given, Listing, Unclear, Verify, Version, asked, asks_version, clap_request, command_of, form_mistake, form_mistake_by, form_mistake_of, given_of, is_option, order_mistake_of, request}
-use Rattle.ob_command_laws.specs.PlainForms.{Argument, AsksWithHistory, AsksWithModule, AsksWithSchedule, AsksWithScript, ArePlain, AsRecord, ByTree, Chosen, Count, Most, OfTraps, Range, Seen, Start, Told, Turns, WithSteps, bound_options, draw_options, explain_options, given_in, given_with_history, id_of, is_plain, order_options, run_options, seq_options, serve_options, words_of}
+use Rattle.ob_command_laws.specs.PlainForms.{Argument, BySeed, Finishing, OfLength, AsksWithHistory, AsksWithModule, AsksWithSchedule, AsksWithScript, ArePlain, AsRecord, ByTree, Chosen, Count, Most, OfTraps, Range, Seen, Start, Told, Turns, WithSteps, bound_options, draw_options, explain_options, given_in, given_with_history, id_of, is_plain, order_options, run_options, seq_options, serve_options, words_of}
 use Rattle.ob_command_laws.proofs.AskedWords.{clap_asked, clap_met, start}
-use Rattle.ob_command.proofs.BuiltLine.{bound_leaf, built_budget, built_by, built_calls, built_from, built_help, built_history, built_most, built_name, built_number, built_record, draw_leaf, explain_leaf, leaf, module_leaf, name_row, needed, order_leaf, run_leaf, seq_leaf, serve_leaf, verify_leaf}
-use Rattle.ob_command_laws.proofs.ChosenWords.{AllFresh, Moves, Standing, all_move, argument_moves, count_moves, most_moves, range_moves, record_moves, row_of, seen_moves, start_moves, steps_moves, told_moves, traps_moves, tree_moves, turns_moves}
-use Rattle.ob_command_laws.proofs.OptionRows.{EachQuiet, EachThere, Quiet, counted_there, each_stays, given_alone, given_history, given_schedule, given_script, given_stays, module_stays, no_default_fault, none_lacks, quiet_as_record, quiet_plain, quiet_steps, quiet_traps, quiet_tree}
+use Rattle.ob_command.proofs.BuiltLine.{bound_leaf, built_budget, built_by, built_calls, built_from, built_help, built_history, built_length, built_most, built_name, built_number, built_record, built_seed, draw_leaf, explain_leaf, leaf, module_leaf, name_row, needed, order_leaf, run_leaf, seq_leaf, serve_leaf, verify_leaf}
+use Rattle.ob_command_laws.proofs.ChosenWords.{AllFresh, Moves, Standing, all_move, argument_moves, count_moves, finish_moves, length_moves, most_moves, range_moves, record_moves, row_of, seed_moves, seen_moves, start_moves, steps_moves, told_moves, traps_moves, tree_moves, turns_moves}
+use Rattle.ob_command_laws.proofs.OptionRows.{EachQuiet, EachThere, Quiet, counted_there, each_stays, given_alone, given_history, given_schedule, given_script, given_stays, module_stays, no_default_fault, none_lacks, quiet_as_record, quiet_finish, quiet_plain, quiet_steps, quiet_traps, quiet_tree}
 use Rattle.ob_command_laws.proofs.PlainWords.{by_clap}
 use Rattle.ob_command.proofs.Readings.{on_module}
 use Rattle.ob_command_laws.proofs.WalkedWords.{Goes, named, state}
@@ -70,10 +70,10 @@ quiet_run = (
   (
     quiet_file 2 (codes "SCRIPT") true,
     (
-      quiet_file 3 (codes "SCHEDULE") true,
+      quiet_file 3 (codes "SCHEDULE") false,
       (
         quiet_number true,
-        (plain built_budget refl, (plain built_from refl, (quiet_tree, (quiet_steps, (plain built_help refl, tt))))),
+        (plain built_budget refl, (plain built_from refl, (quiet_tree, (quiet_steps, (plain built_seed refl, (plain built_length refl, (quiet_finish, (plain built_help refl, tt)))))))),
       ),
     ),
   ),
@@ -129,6 +129,9 @@ serve_moves ByTree known plain = cc
 serve_moves WithSteps known plain = cc
 serve_moves OfTraps known plain = cc
 serve_moves AsRecord known plain = cc
+serve_moves (BySeed v) known plain = cc
+serve_moves (OfLength j) known plain = cc
+serve_moves Finishing known plain = cc
 
 seq_moves : (one : Chosen) → list_any (bytes_eq (id_of one)) seq_options ≡ true → is_plain one ≡ true → Moves seq_leaf one
 unfolding clap_on_literals
@@ -145,6 +148,9 @@ seq_moves ByTree known plain = cc
 seq_moves WithSteps known plain = cc
 seq_moves OfTraps known plain = cc
 seq_moves AsRecord known plain = cc
+seq_moves (BySeed v) known plain = cc
+seq_moves (OfLength j) known plain = cc
+seq_moves Finishing known plain = cc
 
 run_moves : (one : Chosen) → list_any (bytes_eq (id_of one)) run_options ≡ true → is_plain one ≡ true → Moves run_leaf one
 unfolding clap_on_literals
@@ -161,6 +167,9 @@ run_moves ByTree known plain = tree_moves run_leaf (record { turn = λ h p k. re
 run_moves WithSteps known plain = steps_moves run_leaf (record { turn = λ h p k. refl; walk = λ h p k. refl })
 run_moves OfTraps known plain = cc
 run_moves AsRecord known plain = cc
+run_moves (BySeed v) known plain = seed_moves run_leaf (record { turn = λ h p k. refl; walk = λ h p k. refl; push = λ v h k. refl; fault = λ v h. refl; uses = λ v h. refl }) v plain
+run_moves (OfLength j) known plain = length_moves run_leaf (record { turn = λ h p k. refl; walk = λ h p k. refl; push = λ v h k. refl; fault = λ v h. refl; uses = λ v h. refl }) j plain
+run_moves Finishing known plain = finish_moves run_leaf (record { turn = λ h p k. refl; walk = λ h p k. refl })
 
 draw_moves : (one : Chosen) → list_any (bytes_eq (id_of one)) draw_options ≡ true → is_plain one ≡ true → Moves draw_leaf one
 unfolding clap_on_literals
@@ -177,6 +186,9 @@ draw_moves ByTree known plain = cc
 draw_moves WithSteps known plain = cc
 draw_moves OfTraps known plain = cc
 draw_moves AsRecord known plain = cc
+draw_moves (BySeed v) known plain = cc
+draw_moves (OfLength j) known plain = cc
+draw_moves Finishing known plain = cc
 
 explain_moves : (one : Chosen) → list_any (bytes_eq (id_of one)) explain_options ≡ true → is_plain one ≡ true → Moves explain_leaf one
 unfolding clap_on_literals
@@ -193,6 +205,9 @@ explain_moves ByTree known plain = cc
 explain_moves WithSteps known plain = cc
 explain_moves OfTraps known plain = traps_moves explain_leaf (record { turn = λ h p k. refl; walk = λ h p k. refl })
 explain_moves AsRecord known plain = cc
+explain_moves (BySeed v) known plain = cc
+explain_moves (OfLength j) known plain = cc
+explain_moves Finishing known plain = cc
 
 order_moves : (one : Chosen) → list_any (bytes_eq (id_of one)) order_options ≡ true → is_plain one ≡ true → Moves order_leaf one
 unfolding clap_on_literals
@@ -209,6 +224,9 @@ order_moves ByTree known plain = cc
 order_moves WithSteps known plain = cc
 order_moves OfTraps known plain = cc
 order_moves AsRecord known plain = record_moves order_leaf (record { turn = λ h p k. refl; walk = λ h p k. refl })
+order_moves (BySeed v) known plain = cc
+order_moves (OfLength j) known plain = cc
+order_moves Finishing known plain = cc
 
 bound_moves : (one : Chosen) → list_any (bytes_eq (id_of one)) bound_options ≡ true → is_plain one ≡ true → Moves bound_leaf one
 unfolding clap_on_literals
@@ -225,6 +243,9 @@ bound_moves ByTree known plain = cc
 bound_moves WithSteps known plain = cc
 bound_moves OfTraps known plain = cc
 bound_moves AsRecord known plain = cc
+bound_moves (BySeed v) known plain = cc
+bound_moves (OfLength j) known plain = cc
+bound_moves Finishing known plain = cc
 
 -- ---- no option is kept under the name of a file
 
@@ -245,6 +266,9 @@ fresh_module m (ByTree ∷ others) = (refl, fresh_module m others)
 fresh_module m (WithSteps ∷ others) = (refl, fresh_module m others)
 fresh_module m (OfTraps ∷ others) = (refl, fresh_module m others)
 fresh_module m (AsRecord ∷ others) = (refl, fresh_module m others)
+fresh_module m (BySeed v ∷ others) = (refl, fresh_module m others)
+fresh_module m (OfLength j ∷ others) = (refl, fresh_module m others)
+fresh_module m (Finishing ∷ others) = (refl, fresh_module m others)
 
 fresh_script : (m s : Text) (chosen : List Chosen) → AllFresh (name_row (codes "MODULE") m ∷ name_row (codes "SCRIPT") s ∷ []) chosen
 fresh_script m s [] = tt
@@ -260,6 +284,9 @@ fresh_script m s (ByTree ∷ others) = (refl, fresh_script m s others)
 fresh_script m s (WithSteps ∷ others) = (refl, fresh_script m s others)
 fresh_script m s (OfTraps ∷ others) = (refl, fresh_script m s others)
 fresh_script m s (AsRecord ∷ others) = (refl, fresh_script m s others)
+fresh_script m s (BySeed v ∷ others) = (refl, fresh_script m s others)
+fresh_script m s (OfLength j ∷ others) = (refl, fresh_script m s others)
+fresh_script m s (Finishing ∷ others) = (refl, fresh_script m s others)
 
 -- the one that names a history does not stand behind `order`
 fresh_history : (m h : Text) (chosen : List Chosen) → ArePlain order_options chosen
@@ -277,6 +304,9 @@ fresh_history m h (ByTree ∷ others) plain = (refl, fresh_history m h others pl
 fresh_history m h (WithSteps ∷ others) plain = (refl, fresh_history m h others plain.3)
 fresh_history m h (OfTraps ∷ others) plain = (refl, fresh_history m h others plain.3)
 fresh_history m h (AsRecord ∷ others) plain = (refl, fresh_history m h others plain.3)
+fresh_history m h (BySeed v ∷ others) plain = (refl, fresh_history m h others plain.3)
+fresh_history m h (OfLength j ∷ others) plain = (refl, fresh_history m h others plain.3)
+fresh_history m h (Finishing ∷ others) plain = (refl, fresh_history m h others plain.3)
 
 fresh_schedule : (m s d : Text) (chosen : List Chosen) → AllFresh (name_row (codes "MODULE") m ∷ name_row (codes "SCRIPT") s ∷ name_row (codes "SCHEDULE") d ∷ []) chosen
 fresh_schedule m s d [] = tt
@@ -292,6 +322,9 @@ fresh_schedule m s d (ByTree ∷ others) = (refl, fresh_schedule m s d others)
 fresh_schedule m s d (WithSteps ∷ others) = (refl, fresh_schedule m s d others)
 fresh_schedule m s d (OfTraps ∷ others) = (refl, fresh_schedule m s d others)
 fresh_schedule m s d (AsRecord ∷ others) = (refl, fresh_schedule m s d others)
+fresh_schedule m s d (BySeed v ∷ others) = (refl, fresh_schedule m s d others)
+fresh_schedule m s d (OfLength j ∷ others) = (refl, fresh_schedule m s d others)
+fresh_schedule m s d (Finishing ∷ others) = (refl, fresh_schedule m s d others)
 
 -- ---- a module
 
@@ -311,6 +344,9 @@ by_options name m (ByTree ∷ others) no_m = refl
 by_options name m (WithSteps ∷ others) no_m = refl
 by_options name m (OfTraps ∷ others) no_m = refl
 by_options name m (AsRecord ∷ others) no_m = refl
+by_options name m (BySeed v ∷ others) no_m = refl
+by_options name m (OfLength j ∷ others) no_m = refl
+by_options name m (Finishing ∷ others) no_m = refl
 
 check_alone : (command m : Text) → is_option m ≡ false → Goes (module_leaf command) start (m ∷ []) (name_row (codes "MODULE") m ∷ [])
 unfolding clap_on_literals
@@ -427,6 +463,19 @@ serve_asks m s chosen no_m no_s plain counted =
     (ended (codes "serve") serve_leaf.rules quiet_serve kept (λ e. refl, (λ e. refl, (λ e. counted_there chosen (counted refl), (λ e. cc, (λ e. cc, (λ e. cc, tt)))))) 3))))
     ∙ answered (codes "serve") serve_leaf.rules quiet_serve m kept (given_in (Some s) None chosen) refl (given_script serve_options chosen plain s)
 
+pub run_script_asks : AsksWithScript (codes "run") true run_options
+unfolding clap_on_literals
+run_script_asks m s chosen no_m no_s plain counted =
+    let kept = name_row (codes "MODULE") m ∷ name_row (codes "SCRIPT") s ∷ map row_of chosen in
+    let rows = fold with_default kept run_leaf.rules in
+    clap_asked (codes "run") run_leaf refl refl refl (m ∷ s ∷ words_of chosen) rows
+    (named run_leaf [] None 1 m no_m refl _ refl (s ∷ words_of chosen) rows
+    (named run_leaf [] (Some (codes "MODULE", m ∷ [])) 2 s no_s refl _ refl (words_of chosen) rows
+    (all_move run_leaf run_options run_moves chosen plain (name_row (codes "MODULE") m ∷ []) (Some (codes "SCRIPT", s ∷ [])) 3
+    (name_row (codes "MODULE") m ∷ name_row (codes "SCRIPT") s ∷ []) (record { no_fault = refl; settles = refl }) (fresh_script m s chosen) rows
+    (ended (codes "run") run_leaf.rules quiet_run kept (λ e. refl, (λ e. refl, (λ e. cc, (λ e. counted_there chosen (counted refl), (λ e. cc, (λ e. cc, (λ e. cc, (λ e. cc, (λ e. cc, (λ e. cc, (λ e. cc, (λ e. cc, tt)))))))))))) 3))))
+    ∙ answered (codes "run") run_leaf.rules quiet_run m kept (given_in (Some s) None chosen) refl (given_script run_options chosen plain s)
+
 pub draw_script_asks : AsksWithScript (codes "draw") false draw_options
 unfolding clap_on_literals
 draw_script_asks m s chosen no_m no_s plain counted =
@@ -466,7 +515,7 @@ run_asks m s d chosen no_m no_s no_d plain counted =
     (named run_leaf (name_row (codes "MODULE") m ∷ []) (Some (codes "SCRIPT", s ∷ [])) 3 d no_d refl _ refl (words_of chosen) rows
     (all_move run_leaf run_options run_moves chosen plain (name_row (codes "MODULE") m ∷ name_row (codes "SCRIPT") s ∷ []) (Some (codes "SCHEDULE", d ∷ [])) 4
     (name_row (codes "MODULE") m ∷ name_row (codes "SCRIPT") s ∷ name_row (codes "SCHEDULE") d ∷ []) (record { no_fault = refl; settles = refl }) (fresh_schedule m s d chosen) rows
-    (ended (codes "run") run_leaf.rules quiet_run kept (λ e. refl, (λ e. refl, (λ e. refl, (λ e. counted_there chosen (counted refl), (λ e. cc, (λ e. cc, (λ e. cc, (λ e. cc, (λ e. cc, tt))))))))) 4)))))
+    (ended (codes "run") run_leaf.rules quiet_run kept (λ e. refl, (λ e. refl, (λ e. cc, (λ e. counted_there chosen (counted refl), (λ e. cc, (λ e. cc, (λ e. cc, (λ e. cc, (λ e. cc, (λ e. cc, (λ e. cc, (λ e. cc, tt)))))))))))) 4)))))
     ∙ answered (codes "run") run_leaf.rules quiet_run m kept (given_in (Some s) (Some d) chosen) refl (given_schedule run_options chosen plain s d)
 
 pub draw_schedule_asks : AsksWithSchedule (codes "draw") false draw_options

@@ -3,12 +3,13 @@ use Rattle.std.proofs.Common.{◌≡◌, ◌∙◌, ◌||◌, ◌&&◌, ℕ, ref
 use Rattle.std.specs.Option.{option_map_or}
 use Rattle.std.specs.Str.{bytes_eq}
 use Rattle.clap.specs.Walk.{Text}
-use Rattle.ob_command.specs.CommandLine.{Bound, CallsRequest, Draw, DrawRecord, Explain, ExplainCalls, ExplainHistory, ExplainRecord, ExplainRun, ExplainTraps, Given, Order, Request, Run, RunRequest, RunSteps, RunTree, Seq, Serve, Unclear, are_seen, asked, budget_number, default_budget, is_most, is_place, is_seen_budget, most_mistake, number, order_by, parts_mistake, place_mistake, product_by, range_by, seen_budget_mistake}
-use Rattle.ob_command_laws.specs.PlainForms.{AreInRange, ArePlain, Argument, AsRecord, ByTree, Chosen, Count, Has, IsMost, IsPlace, IsSeenBudget, Lacks, ModuleAsksFor, Most, OfTraps, Range, RunAsksFor, ScriptAsksFor, ScriptSays, Seen, Start, Told, Turns, WithSteps, argument_in, bound_options, budget_in, calls_with, count_in, draw_options, explain_options, given_with_history, id_of, is_chosen, most_in, order_options, order_with, run_options, seq_options, serve_options, text_of, turns_in, value_in}
+use Rattle.ob_command.specs.CommandLine.{Bound, CallsRequest, ChanceRequest, Draw, DrawRecord, Explain, ExplainCalls, ExplainHistory, ExplainRecord, ExplainRun, ExplainTraps, Given, Order, Request, Run, RunByChance, RunFinished, RunRequest, RunSteps, RunTree, Seq, Serve, Unclear, are_seen, asked, budget_number, default_budget, default_length, is_length, is_most, is_place, is_seen_budget, most_mistake, number, order_by, parts_mistake, place_mistake, product_by, range_by, run_product, seed_number, seen_budget_mistake}
+use Rattle.ob_command_laws.specs.PlainForms.{AreInRange, ArePlain, Argument, AsRecord, BySeed, ByTree, Chosen, Count, Finishing, Has, IsLength, IsMost, IsPlace, IsSeenBudget, Lacks, ModuleAsksFor, Most, OfLength, OfTraps, Range, RunAsksFor, ScriptAsksFor, ScriptSays, Seen, Start, Told, Turns, WithSteps, argument_in, bound_options, budget_in, calls_with, chance_with, count_in, draw_options, explain_options, given_with_history, id_of, is_chosen, length_in, most_in, order_options, order_with, product_in, run_options, seed_in, seq_options, serve_options, text_of, turns_in, value_in}
 use Rattle.ob_command.specs.declared.command.CallNumbers.{CallNumbers}
 use Rattle.ob_command.specs.declared.command.OrderProduct.{OrderProduct}
+use Rattle.ob_command.specs.declared.command.RunProduct.{RunProduct}
 use Rattle.ob_command.specs.declared.command.OrderProduct.TheVariants.{Apart, Line, WholeRecord}
-use Rattle.ob_command_laws.proofs.CommandForms.{bound_asks, draw_schedule_asks, draw_script_asks, explain_module_asks, explain_schedule_asks, explain_script_asks, order_asks, order_said, run_asks, seq_asks, serve_asks}
+use Rattle.ob_command_laws.proofs.CommandForms.{bound_asks, draw_schedule_asks, draw_script_asks, explain_module_asks, explain_schedule_asks, explain_script_asks, order_asks, order_said, run_asks, run_script_asks, seq_asks, serve_asks}
 use Rattle.ob_command_laws.proofs.OptionRows.{given_as}
 
 -- ---- options that are there, and that are not
@@ -60,27 +61,42 @@ calls_as m s k t f = record { module_name = m; script_name = s; processes = k; b
 abbrev run_as : (m s d : Text) (k : ℕ) (t : Option ℕ) (f : Option Text) → RunRequest
 run_as m s d k t f = record { calls = calls_as m s k t f; schedule_name = d }
 
-module _ (m s d : Text) (r h f c : Option Text) (o t q g : Option ℕ) (w x y z : Bool) where
+abbrev chance_as : (m s : Text) (k : ℕ) (t : Option ℕ) (f : Option Text) (seed : ℕ) (v : Option ℕ) (e : Bool) → ChanceRequest
+chance_as m s k t f seed v e = record { calls = calls_as m s k t f; seed = seed; steps = unwrap_or v default_length; finish = e }
+
+module _ (m s d : Text) (r h f c : Option Text) (o t q g : Option ℕ) (w x y z : Bool) (u v : Option ℕ) (e : Bool) where
   abbrev alone : Given
-  alone = given_as None None r h f c o t q g w x y z
+  alone = given_as None None r h f c o t q g w x y z u v e
 
   abbrev with_script : Given
-  with_script = given_as (Some s) None r h f c o t q g w x y z
+  with_script = given_as (Some s) None r h f c o t q g w x y z u v e
 
   abbrev with_schedule : Given
-  with_schedule = given_as (Some s) (Some d) r h f c o t q g w x y z
+  with_schedule = given_as (Some s) (Some d) r h f c o t q g w x y z u v e
 
-  a_run : (k : ℕ) → o ≡ Some k → x ≡ false → y ≡ false → asks (codes "run") m with_schedule ≡ Run (run_as m s d k t f)
-  a_run k is_o is_x is_y = rw (is_o, is_x, is_y) refl
+  a_run : (k : ℕ) → o ≡ Some k → x ≡ false → y ≡ false → u ≡ None → v ≡ None → e ≡ false → asks (codes "run") m with_schedule ≡ Run (run_as m s d k t f)
+  a_run k is_o is_x is_y is_u is_v is_e = rw (is_o, is_x, is_y, is_u, is_v, is_e) refl
 
-  by_tree : (k : ℕ) → o ≡ Some k → x ≡ true → y ≡ false → f ≡ None → asks (codes "run") m with_schedule ≡ RunTree (run_as m s d k t f)
-  by_tree k is_o is_x is_y is_f = rw (is_o, is_x, is_y, is_f) refl
+  by_tree : (k : ℕ) → o ≡ Some k → x ≡ true → y ≡ false → f ≡ None → u ≡ None → v ≡ None → e ≡ false
+      → asks (codes "run") m with_schedule ≡ RunTree (run_as m s d k t f)
+  by_tree k is_o is_x is_y is_f is_u is_v is_e = rw (is_o, is_x, is_y, is_f, is_u, is_v, is_e) refl
 
-  with_steps : (k : ℕ) → o ≡ Some k → y ≡ true → x ≡ false → asks (codes "run") m with_schedule ≡ RunSteps (run_as m s d k t f)
-  with_steps k is_o is_y is_x = rw (is_o, is_x, is_y) refl
+  with_steps : (k : ℕ) → o ≡ Some k → y ≡ true → x ≡ false → u ≡ None → v ≡ None → e ≡ false
+      → asks (codes "run") m with_schedule ≡ RunSteps (run_as m s d k t f)
+  with_steps k is_o is_y is_x is_u is_v is_e = rw (is_o, is_x, is_y, is_u, is_v, is_e) refl
 
-  no_steps : x ≡ true → y ≡ true → asks (codes "run") m with_schedule ≡ Unclear
-  no_steps is_x is_y = rw (is_x, is_y) refl
+  finished : (k : ℕ) (product : RunProduct) → o ≡ Some k → u ≡ None → v ≡ None → e ≡ true → run_product x y (is_some f) ≡ Some product
+      → asks (codes "run") m with_schedule ≡ RunFinished product (run_as m s d k t f)
+  finished k product is_o is_u is_v is_e is =
+      rw (is_o, is_u, is_v, is_e)
+      (ap (λ (p : Option RunProduct). unwrap_or (option_and_then (λ one. Some (RunFinished one (run_as m s d k t f))) p) Unclear) is)
+
+  by_chance : (k seed : ℕ) (product : RunProduct) → o ≡ Some k → u ≡ Some seed → option_map_or is_length v true ≡ true
+      → run_product x y (is_some f) ≡ Some product
+      → asks (codes "run") m with_script ≡ RunByChance product (chance_as m s k t f seed v e)
+  by_chance k seed product is_o is_u is_v is =
+      rw (is_o, is_u)
+      (ap₂ (λ (b : Bool) (p : Option RunProduct). unwrap_or (if b then option_and_then (λ one. Some (RunByChance one (chance_as m s k t f seed v e))) p else None) Unclear) is_v is)
 
   served : (k : ℕ) → o ≡ Some k → asks (codes "serve") m with_script ≡ Serve (calls_as m s k t f)
   served k is_o = rw is_o refl
@@ -115,11 +131,43 @@ module _ (m s d : Text) (r h f c : Option Text) (o t q g : Option ℕ) (w x y z 
   run_explained : (k : ℕ) → o ≡ Some k → r ≡ None → h ≡ None → z ≡ false → asks (codes "explain") m with_schedule ≡ ExplainRun (run_as m s d k t f)
   run_explained k is_o is_r is_h is_z = rw (is_r, is_h, is_o, is_z) refl
 
-no_from : (m s d : Text) (r h f c : Option Text) (o t q g : Option ℕ) (w x y z : Bool) → x ≡ true → is_some f ≡ true
-    → asks (codes "run") m (given_as (Some s) (Some d) r h f c o t q g w x y z) ≡ Unclear
-no_from m s d r h None c o t q g w x y z is_x is_f = cc
-no_from m s d r h (Some f) c o t q g w x true z is_x is_f = rw is_x refl
-no_from m s d r h (Some f) c o t q g w x false z is_x is_f = rw is_x refl
+-- by the tree, with own steps or from a record, nothing is asked for
+by_tree_none : (m s d : Text) (r h f c : Option Text) (o t q g : Option ℕ) (w y z : Bool) (u v : Option ℕ) (e : Bool) → run_product true y (is_some f) ≡ None
+    → asks (codes "run") m (given_as (Some s) (Some d) r h f c o t q g w true y z u v e) ≡ Unclear
+by_tree_none m s d r h None c o t q g w true z None None true none = refl
+by_tree_none m s d r h None c o t q g w true z None None false none = refl
+by_tree_none m s d r h None c o t q g w true z None (Some j) true none = refl
+by_tree_none m s d r h None c o t q g w true z None (Some j) false none = refl
+by_tree_none m s d r h None c o t q g w true z (Some i) None true none = refl
+by_tree_none m s d r h None c o t q g w true z (Some i) None false none = refl
+by_tree_none m s d r h None c o t q g w true z (Some i) (Some j) true none = refl
+by_tree_none m s d r h None c o t q g w true z (Some i) (Some j) false none = refl
+by_tree_none m s d r h (Some a) c o t q g w true z None None true none = refl
+by_tree_none m s d r h (Some a) c o t q g w true z None None false none = refl
+by_tree_none m s d r h (Some a) c o t q g w true z None (Some j) true none = refl
+by_tree_none m s d r h (Some a) c o t q g w true z None (Some j) false none = refl
+by_tree_none m s d r h (Some a) c o t q g w true z (Some i) None true none = refl
+by_tree_none m s d r h (Some a) c o t q g w true z (Some i) None false none = refl
+by_tree_none m s d r h (Some a) c o t q g w true z (Some i) (Some j) true none = refl
+by_tree_none m s d r h (Some a) c o t q g w true z (Some i) (Some j) false none = refl
+by_tree_none m s d r h (Some a) c o t q g w false z None None true none = refl
+by_tree_none m s d r h (Some a) c o t q g w false z None None false none = refl
+by_tree_none m s d r h (Some a) c o t q g w false z None (Some j) true none = refl
+by_tree_none m s d r h (Some a) c o t q g w false z None (Some j) false none = refl
+by_tree_none m s d r h (Some a) c o t q g w false z (Some i) None true none = refl
+by_tree_none m s d r h (Some a) c o t q g w false z (Some i) None false none = refl
+by_tree_none m s d r h (Some a) c o t q g w false z (Some i) (Some j) true none = refl
+by_tree_none m s d r h (Some a) c o t q g w false z (Some i) (Some j) false none = refl
+by_tree_none m s d r h None c o t q g w false z u v e none = cc
+
+tree_alone : (m s d : Text) (r h f c : Option Text) (o t q g : Option ℕ) (w x y z : Bool) (u v : Option ℕ) (e : Bool) → x ≡ true → run_product true y (is_some f) ≡ None
+    → asks (codes "run") m (given_as (Some s) (Some d) r h f c o t q g w x y z u v e) ≡ Unclear
+tree_alone m s d r h f c o t q g w x y z u v e is_x none = rw is_x (by_tree_none m s d r h f c o t q g w y z u v e none)
+
+no_product : (y : Bool) (f : Option Text) → is_some f ≡ true → run_product true y (is_some f) ≡ None
+no_product true (Some a) is = refl
+no_product false (Some a) is = refl
+no_product y None is = cc
 
 -- ---- what is given by options
 
@@ -156,49 +204,80 @@ stepped = is_chosen (codes "steps")
 abbrev trapped : List Chosen → Bool
 trapped = is_chosen (codes "traps")
 
+abbrev seeded : List Chosen → Option ℕ
+seeded = seed_in
+
+abbrev lengthened : List Chosen → Option ℕ
+lengthened = length_in
+
+abbrev ended : List Chosen → Bool
+ended = is_chosen (codes "finish")
+
+no_seed : (chosen : List Chosen) → is_chosen (codes "S") chosen ≡ false → seed_in chosen ≡ None
+no_seed chosen none = ap (option_and_then seed_number) (no_value (codes "S") chosen none)
+
+no_length : (chosen : List Chosen) → is_chosen (codes "LENGTH") chosen ≡ false → length_in chosen ≡ None
+no_length chosen none = ap (option_and_then budget_number) (no_value (codes "LENGTH") chosen none)
+
 -- ---- so much for the words
 
 pub seq_form : ScriptAsksFor (codes "seq") seq_options (Lacks []) (λ m s chosen. Seq (calls_with m s 16 chosen))
 seq_form m s chosen no_m no_s plain lacks = seq_asks m s chosen no_m no_s plain (not_needed chosen)
 
-pub run_form : RunAsksFor (codes "run") run_options (Lacks (codes "tree" ∷ codes "steps" ∷ [])) Run
+pub run_form : RunAsksFor (codes "run") run_options (Lacks (codes "tree" ∷ codes "steps" ∷ codes "S" ∷ codes "LENGTH" ∷ codes "finish" ∷ [])) Run
 run_form m s d chosen k no_m no_s no_d plain count lacks =
-    run_asks m s d chosen no_m no_s no_d plain (λ e. counted chosen k count) ∙ a_run m s d (told chosen) (seen chosen) (begun chosen) (shown chosen) (count_in chosen) (spent chosen) (looked chosen) (parted chosen) (recorded chosen) (treed chosen) (stepped chosen) (trapped chosen) k count lacks.0 lacks.1.0
+    run_asks m s d chosen no_m no_s no_d plain (λ e. counted chosen k count)
+    ∙ a_run m s d (told chosen) (seen chosen) (begun chosen) (shown chosen) (count_in chosen) (spent chosen) (looked chosen) (parted chosen) (recorded chosen) (treed chosen) (stepped chosen) (trapped chosen) (seeded chosen) (lengthened chosen) (ended chosen) k count lacks.0 lacks.1.0 (no_seed chosen lacks.1.1.0) (no_length chosen lacks.1.1.1.0) lacks.1.1.1.1.0
 
-pub tree_form : RunAsksFor (codes "run") run_options (λ chosen. Has (codes "tree") chosen × Lacks (codes "steps" ∷ codes "FROM" ∷ []) chosen) RunTree
+pub tree_form : RunAsksFor (codes "run") run_options (λ chosen. Has (codes "tree") chosen × Lacks (codes "steps" ∷ codes "FROM" ∷ codes "S" ∷ codes "LENGTH" ∷ codes "finish" ∷ []) chosen) RunTree
 tree_form m s d chosen k no_m no_s no_d plain count holds =
     run_asks m s d chosen no_m no_s no_d plain (λ e. counted chosen k count)
-    ∙ by_tree m s d (told chosen) (seen chosen) (begun chosen) (shown chosen) (count_in chosen) (spent chosen) (looked chosen) (parted chosen) (recorded chosen) (treed chosen) (stepped chosen) (trapped chosen) k count holds.0 holds.1.0 (no_value (codes "FROM") chosen holds.1.1.0)
+    ∙ by_tree m s d (told chosen) (seen chosen) (begun chosen) (shown chosen) (count_in chosen) (spent chosen) (looked chosen) (parted chosen) (recorded chosen) (treed chosen) (stepped chosen) (trapped chosen) (seeded chosen) (lengthened chosen) (ended chosen) k count holds.0 holds.1.0 (no_value (codes "FROM") chosen holds.1.1.0) (no_seed chosen holds.1.1.1.0) (no_length chosen holds.1.1.1.1.0) holds.1.1.1.1.1.0
 
-pub steps_form : RunAsksFor (codes "run") run_options (λ chosen. Has (codes "steps") chosen × Lacks (codes "tree" ∷ []) chosen) RunSteps
+pub steps_form : RunAsksFor (codes "run") run_options (λ chosen. Has (codes "steps") chosen × Lacks (codes "tree" ∷ codes "S" ∷ codes "LENGTH" ∷ codes "finish" ∷ []) chosen) RunSteps
 steps_form m s d chosen k no_m no_s no_d plain count holds =
-    run_asks m s d chosen no_m no_s no_d plain (λ e. counted chosen k count) ∙ with_steps m s d (told chosen) (seen chosen) (begun chosen) (shown chosen) (count_in chosen) (spent chosen) (looked chosen) (parted chosen) (recorded chosen) (treed chosen) (stepped chosen) (trapped chosen) k count holds.0 holds.1.0
+    run_asks m s d chosen no_m no_s no_d plain (λ e. counted chosen k count)
+    ∙ with_steps m s d (told chosen) (seen chosen) (begun chosen) (shown chosen) (count_in chosen) (spent chosen) (looked chosen) (parted chosen) (recorded chosen) (treed chosen) (stepped chosen) (trapped chosen) (seeded chosen) (lengthened chosen) (ended chosen) k count holds.0 holds.1.0 (no_seed chosen holds.1.1.0) (no_length chosen holds.1.1.1.0) holds.1.1.1.1.0
+
+pub finish_form : (product : RunProduct) → RunAsksFor (codes "run") run_options
+    (λ chosen. Has (codes "finish") chosen × Lacks (codes "S" ∷ codes "LENGTH" ∷ []) chosen × (product_in chosen ≡ Some product)) (RunFinished product)
+finish_form product m s d chosen k no_m no_s no_d plain count holds =
+    run_asks m s d chosen no_m no_s no_d plain (λ e. counted chosen k count)
+    ∙ finished m s d (told chosen) (seen chosen) (begun chosen) (shown chosen) (count_in chosen) (spent chosen) (looked chosen) (parted chosen) (recorded chosen) (treed chosen) (stepped chosen) (trapped chosen) (seeded chosen) (lengthened chosen) (ended chosen) k product count (no_seed chosen holds.1.0) (no_length chosen holds.1.1.0) holds.0 holds.2
+
+pub chance_form : (product : RunProduct) (k seed : ℕ) → ScriptAsksFor (codes "run") run_options
+    (λ chosen. (count_in chosen ≡ Some k) × (seed_in chosen ≡ Some seed) × IsLength chosen × (product_in chosen ≡ Some product))
+    (λ m s chosen. RunByChance product (chance_with m s k seed chosen))
+chance_form product k seed m s chosen no_m no_s plain holds =
+    run_script_asks m s chosen no_m no_s plain (λ e. counted chosen k holds.0)
+    ∙ by_chance m s [] (told chosen) (seen chosen) (begun chosen) (shown chosen) (count_in chosen) (spent chosen) (looked chosen) (parted chosen) (recorded chosen) (treed chosen) (stepped chosen) (trapped chosen) (seeded chosen) (lengthened chosen) (ended chosen) k seed product holds.0 holds.1 holds.2 holds.3
 
 pub tree_steps_form : RunAsksFor (codes "run") run_options (λ chosen. Has (codes "tree") chosen × Has (codes "steps") chosen) (λ run. Unclear)
 tree_steps_form m s d chosen k no_m no_s no_d plain count holds =
-    run_asks m s d chosen no_m no_s no_d plain (λ e. counted chosen k count) ∙ no_steps m s d (told chosen) (seen chosen) (begun chosen) (shown chosen) (count_in chosen) (spent chosen) (looked chosen) (parted chosen) (recorded chosen) (treed chosen) (stepped chosen) (trapped chosen) holds.0 holds.1
+    run_asks m s d chosen no_m no_s no_d plain (λ e. counted chosen k count)
+    ∙ tree_alone m s d (told chosen) (seen chosen) (begun chosen) (shown chosen) (count_in chosen) (spent chosen) (looked chosen) (parted chosen) (recorded chosen) (treed chosen) (stepped chosen) (trapped chosen) (seeded chosen) (lengthened chosen) (ended chosen) holds.0 (ap (λ (y : Bool). run_product true y (is_some (begun chosen))) holds.1)
 
 pub tree_from_form : RunAsksFor (codes "run") run_options (λ chosen. Has (codes "tree") chosen × Has (codes "FROM") chosen) (λ run. Unclear)
 tree_from_form m s d chosen k no_m no_s no_d plain count holds =
     run_asks m s d chosen no_m no_s no_d plain (λ e. counted chosen k count)
-    ∙ no_from m s d (told chosen) (seen chosen) (begun chosen) (shown chosen) (count_in chosen) (spent chosen) (looked chosen) (parted chosen) (recorded chosen) (treed chosen) (stepped chosen) (trapped chosen) holds.0 (a_value (codes "FROM") chosen holds.1)
+    ∙ tree_alone m s d (told chosen) (seen chosen) (begun chosen) (shown chosen) (count_in chosen) (spent chosen) (looked chosen) (parted chosen) (recorded chosen) (treed chosen) (stepped chosen) (trapped chosen) (seeded chosen) (lengthened chosen) (ended chosen) holds.0 (no_product (stepped chosen) (begun chosen) (a_value (codes "FROM") chosen holds.1))
 
 pub serve_form : (k : ℕ) → ScriptAsksFor (codes "serve") serve_options (λ chosen. count_in chosen ≡ Some k) (λ m s chosen. Serve (calls_with m s k chosen))
 serve_form k m s chosen no_m no_s plain count =
-    serve_asks m s chosen no_m no_s plain (λ e. counted chosen k count) ∙ served m s [] (told chosen) (seen chosen) (begun chosen) (shown chosen) (count_in chosen) (spent chosen) (looked chosen) (parted chosen) (recorded chosen) (treed chosen) (stepped chosen) (trapped chosen) k count
+    serve_asks m s chosen no_m no_s plain (λ e. counted chosen k count) ∙ served m s [] (told chosen) (seen chosen) (begun chosen) (shown chosen) (count_in chosen) (spent chosen) (looked chosen) (parted chosen) (recorded chosen) (treed chosen) (stepped chosen) (trapped chosen) (seeded chosen) (lengthened chosen) (ended chosen) k count
 
 pub bound_form : (k : ℕ) → ModuleAsksFor (codes "bound") bound_options (λ chosen. count_in chosen ≡ Some k) (λ m chosen. Bound m k (turns_in chosen))
-bound_form k m chosen no_m plain count = bound_asks m chosen no_m plain (λ e. counted chosen k count) ∙ bounded m [] [] (told chosen) (seen chosen) (begun chosen) (shown chosen) (count_in chosen) (spent chosen) (looked chosen) (parted chosen) (recorded chosen) (treed chosen) (stepped chosen) (trapped chosen) k count
+bound_form k m chosen no_m plain count = bound_asks m chosen no_m plain (λ e. counted chosen k count) ∙ bounded m [] [] (told chosen) (seen chosen) (begun chosen) (shown chosen) (count_in chosen) (spent chosen) (looked chosen) (parted chosen) (recorded chosen) (treed chosen) (stepped chosen) (trapped chosen) (seeded chosen) (lengthened chosen) (ended chosen) k count
 
 pub draw_form : (calls : Option CallNumbers) → RunAsksFor (codes "draw") draw_options (λ chosen. range_by (value_in (codes "FROM-TO") chosen) ≡ Some calls) (λ run. Draw run calls)
 draw_form calls m s d chosen k no_m no_s no_d plain count range =
-    draw_schedule_asks m s d chosen no_m no_s no_d plain (not_needed chosen) ∙ drawn m s d (told chosen) (seen chosen) (begun chosen) (shown chosen) (count_in chosen) (spent chosen) (looked chosen) (parted chosen) (recorded chosen) (treed chosen) (stepped chosen) (trapped chosen) k calls count range
+    draw_schedule_asks m s d chosen no_m no_s no_d plain (not_needed chosen) ∙ drawn m s d (told chosen) (seen chosen) (begun chosen) (shown chosen) (count_in chosen) (spent chosen) (looked chosen) (parted chosen) (recorded chosen) (treed chosen) (stepped chosen) (trapped chosen) (seeded chosen) (lengthened chosen) (ended chosen) k calls count range
 
 pub draw_record_form : (calls : Option CallNumbers) → ScriptAsksFor (codes "draw") draw_options
     (λ chosen. (range_by (value_in (codes "FROM-TO") chosen) ≡ Some calls) × Lacks (codes "N" ∷ codes "BUDGET" ∷ codes "FROM" ∷ []) chosen) (λ m r chosen. DrawRecord m r calls)
 draw_record_form calls m r chosen no_m no_r plain holds =
     draw_script_asks m r chosen no_m no_r plain (not_needed chosen)
-    ∙ record_drawn m r [] (told chosen) (seen chosen) (begun chosen) (shown chosen) (count_in chosen) (spent chosen) (looked chosen) (parted chosen) (recorded chosen) (treed chosen) (stepped chosen) (trapped chosen) calls holds.0 (no_count chosen holds.1.0) (no_turns chosen holds.1.1.0) (no_value (codes "FROM") chosen holds.1.1.1.0)
+    ∙ record_drawn m r [] (told chosen) (seen chosen) (begun chosen) (shown chosen) (count_in chosen) (spent chosen) (looked chosen) (parted chosen) (recorded chosen) (treed chosen) (stepped chosen) (trapped chosen) (seeded chosen) (lengthened chosen) (ended chosen) calls holds.0 (no_count chosen holds.1.0) (no_turns chosen holds.1.1.0) (no_value (codes "FROM") chosen holds.1.1.1.0)
 
 -- three tests hold, or one does not
 all_three : (a b c : Bool) → a ≡ true → b ≡ true → c ≡ true → (a && b && c) ≡ true
@@ -242,6 +321,9 @@ plain_number names (ByTree ∷ others) plain is = plain_number names others plai
 plain_number names (WithSteps ∷ others) plain is = plain_number names others plain.3 is
 plain_number names (OfTraps ∷ others) plain is = plain_number names others plain.3 is
 plain_number names (AsRecord ∷ others) plain is = plain_number names others plain.3 is
+plain_number names (BySeed v ∷ others) plain is = plain_number names others plain.3 is
+plain_number names (OfLength j ∷ others) plain is = plain_number names others plain.3 is
+plain_number names (Finishing ∷ others) plain is = plain_number names others plain.3 is
 
 no_parts : (t : Bool) (argument : Option ℕ) → t ≡ true → is_some argument ≡ true → product_by t argument ≡ None
 no_parts t None is some = cc
@@ -332,7 +414,7 @@ pub explain_form : ModuleAsksFor (codes "explain") explain_options (Lacks (codes
     (λ m chosen. Explain m (turns_in chosen))
 explain_form m chosen no_m plain lacks =
     explain_module_asks m chosen no_m plain (not_needed chosen)
-    ∙ explained m [] [] (told chosen) (seen chosen) (begun chosen) (shown chosen) (count_in chosen) (spent chosen) (looked chosen) (parted chosen) (recorded chosen) (treed chosen) (stepped chosen) (trapped chosen) (no_value (codes "RECORD") chosen lacks.0) (no_value (codes "HISTORY") chosen lacks.1.0)
+    ∙ explained m [] [] (told chosen) (seen chosen) (begun chosen) (shown chosen) (count_in chosen) (spent chosen) (looked chosen) (parted chosen) (recorded chosen) (treed chosen) (stepped chosen) (trapped chosen) (seeded chosen) (lengthened chosen) (ended chosen) (no_value (codes "RECORD") chosen lacks.0) (no_value (codes "HISTORY") chosen lacks.1.0)
     (no_value (codes "FROM") chosen lacks.1.1.0) (no_count chosen lacks.1.1.1.0) lacks.1.1.1.1.0
 
 pub explain_record_form : (r : Text) → ModuleAsksFor (codes "explain") explain_options
@@ -340,7 +422,7 @@ pub explain_record_form : (r : Text) → ModuleAsksFor (codes "explain") explain
     (λ m chosen. ExplainRecord m r)
 explain_record_form r m chosen no_m plain holds =
     explain_module_asks m chosen no_m plain (not_needed chosen)
-    ∙ record_explained m [] [] (told chosen) (seen chosen) (begun chosen) (shown chosen) (count_in chosen) (spent chosen) (looked chosen) (parted chosen) (recorded chosen) (treed chosen) (stepped chosen) (trapped chosen) r holds.0 (no_value (codes "HISTORY") chosen holds.1.0) (no_value (codes "FROM") chosen holds.1.1.0)
+    ∙ record_explained m [] [] (told chosen) (seen chosen) (begun chosen) (shown chosen) (count_in chosen) (spent chosen) (looked chosen) (parted chosen) (recorded chosen) (treed chosen) (stepped chosen) (trapped chosen) (seeded chosen) (lengthened chosen) (ended chosen) r holds.0 (no_value (codes "HISTORY") chosen holds.1.0) (no_value (codes "FROM") chosen holds.1.1.0)
     (no_count chosen holds.1.1.1.0) (no_turns chosen holds.1.1.1.1.0) holds.1.1.1.1.1.0
 
 pub explain_history_form : (h : Text) → ModuleAsksFor (codes "explain") explain_options
@@ -348,14 +430,14 @@ pub explain_history_form : (h : Text) → ModuleAsksFor (codes "explain") explai
     (λ m chosen. ExplainHistory m h)
 explain_history_form h m chosen no_m plain holds =
     explain_module_asks m chosen no_m plain (not_needed chosen)
-    ∙ history_explained m [] [] (told chosen) (seen chosen) (begun chosen) (shown chosen) (count_in chosen) (spent chosen) (looked chosen) (parted chosen) (recorded chosen) (treed chosen) (stepped chosen) (trapped chosen) h holds.0 (no_value (codes "RECORD") chosen holds.1.0) (no_value (codes "FROM") chosen holds.1.1.0)
+    ∙ history_explained m [] [] (told chosen) (seen chosen) (begun chosen) (shown chosen) (count_in chosen) (spent chosen) (looked chosen) (parted chosen) (recorded chosen) (treed chosen) (stepped chosen) (trapped chosen) (seeded chosen) (lengthened chosen) (ended chosen) h holds.0 (no_value (codes "RECORD") chosen holds.1.0) (no_value (codes "FROM") chosen holds.1.1.0)
     (no_count chosen holds.1.1.1.0) (no_turns chosen holds.1.1.1.1.0) holds.1.1.1.1.1.0
 
 pub explain_calls_form : ScriptAsksFor (codes "explain") explain_options (Lacks (codes "RECORD" ∷ codes "HISTORY" ∷ codes "N" ∷ codes "traps" ∷ []))
     (λ m s chosen. ExplainCalls (calls_with m s 16 chosen))
 explain_calls_form m s chosen no_m no_s plain lacks =
     explain_script_asks m s chosen no_m no_s plain (not_needed chosen)
-    ∙ calls_explained m s [] (told chosen) (seen chosen) (begun chosen) (shown chosen) (count_in chosen) (spent chosen) (looked chosen) (parted chosen) (recorded chosen) (treed chosen) (stepped chosen) (trapped chosen) (no_value (codes "RECORD") chosen lacks.0) (no_value (codes "HISTORY") chosen lacks.1.0)
+    ∙ calls_explained m s [] (told chosen) (seen chosen) (begun chosen) (shown chosen) (count_in chosen) (spent chosen) (looked chosen) (parted chosen) (recorded chosen) (treed chosen) (stepped chosen) (trapped chosen) (seeded chosen) (lengthened chosen) (ended chosen) (no_value (codes "RECORD") chosen lacks.0) (no_value (codes "HISTORY") chosen lacks.1.0)
     (no_count chosen lacks.1.1.0) lacks.1.1.1.0
 
 pub explain_traps_form : ScriptAsksFor (codes "explain") explain_options
@@ -363,10 +445,10 @@ pub explain_traps_form : ScriptAsksFor (codes "explain") explain_options
     (λ m s chosen. ExplainTraps (calls_with m s 16 chosen))
 explain_traps_form m s chosen no_m no_s plain holds =
     explain_script_asks m s chosen no_m no_s plain (not_needed chosen)
-    ∙ traps_explained m s [] (told chosen) (seen chosen) (begun chosen) (shown chosen) (count_in chosen) (spent chosen) (looked chosen) (parted chosen) (recorded chosen) (treed chosen) (stepped chosen) (trapped chosen) holds.0 (no_value (codes "RECORD") chosen holds.1.0) (no_value (codes "HISTORY") chosen holds.1.1.0)
+    ∙ traps_explained m s [] (told chosen) (seen chosen) (begun chosen) (shown chosen) (count_in chosen) (spent chosen) (looked chosen) (parted chosen) (recorded chosen) (treed chosen) (stepped chosen) (trapped chosen) (seeded chosen) (lengthened chosen) (ended chosen) holds.0 (no_value (codes "RECORD") chosen holds.1.0) (no_value (codes "HISTORY") chosen holds.1.1.0)
     (no_count chosen holds.1.1.1.0)
 
 pub explain_run_form : RunAsksFor (codes "explain") explain_options (Lacks (codes "RECORD" ∷ codes "HISTORY" ∷ codes "traps" ∷ [])) ExplainRun
 explain_run_form m s d chosen k no_m no_s no_d plain count lacks =
     explain_schedule_asks m s d chosen no_m no_s no_d plain (not_needed chosen)
-    ∙ run_explained m s d (told chosen) (seen chosen) (begun chosen) (shown chosen) (count_in chosen) (spent chosen) (looked chosen) (parted chosen) (recorded chosen) (treed chosen) (stepped chosen) (trapped chosen) k count (no_value (codes "RECORD") chosen lacks.0) (no_value (codes "HISTORY") chosen lacks.1.0) lacks.1.1.0
+    ∙ run_explained m s d (told chosen) (seen chosen) (begun chosen) (shown chosen) (count_in chosen) (spent chosen) (looked chosen) (parted chosen) (recorded chosen) (treed chosen) (stepped chosen) (trapped chosen) (seeded chosen) (lengthened chosen) (ended chosen) k count (no_value (codes "RECORD") chosen lacks.0) (no_value (codes "HISTORY") chosen lacks.1.0) lacks.1.1.0

@@ -12,8 +12,8 @@ use Rattle.clap.specs.Kinds.{Kinds, or_else}
 use Rattle.clap.specs.Faults.{default_fault, defaults_fault}
 use Rattle.clap.specs.declared.builder.value_parser.ValueParser.TheVariants as parser
 use Rattle.clap.specs.declared.parser.matches.ValueSource.TheVariants.{DefaultValue}
-use Rattle.ob_command.specs.CommandLine.{Given, budget_number, given_of, is_set, is_true, number}
-use Rattle.ob_command_laws.specs.PlainForms.{ArePlain, Argument, AsRecord, ByTree, Chosen, Count, Most, OfTraps, Range, Seen, Start, Told, Turns, WithSteps, given_in, given_with_history, id_of, is_chosen, text_of, value_in}
+use Rattle.ob_command.specs.CommandLine.{Given, budget_number, given_of, is_set, is_true, number, seed_number}
+use Rattle.ob_command_laws.specs.PlainForms.{ArePlain, Argument, AsRecord, BySeed, ByTree, Chosen, Count, Finishing, Most, OfLength, OfTraps, Range, Seen, Start, Told, Turns, WithSteps, given_in, given_with_history, id_of, is_chosen, text_of, value_in}
 use Rattle.ob_command_laws.proofs.AskedWords.{budget_is, number_is}
 use Rattle.ob_command.proofs.BuiltLine.{built_flag, name_row, no_flag_row}
 use Rattle.ob_command_laws.proofs.ChosenWords.{row_of, some_of, with_new}
@@ -21,8 +21,8 @@ use Rattle.ob_command_laws.proofs.ChosenWords.{row_of, some_of, with_new}
 abbrev found : Text → List Row → Option Row
 found id rows = find (λ r. bytes_eq r.id id) rows
 
-abbrev pub given_as : (s d r h f c : Option Text) (k t q g : Option ℕ) (w x y z : Bool) → Given
-given_as s d r h f c k t q g w x y z = record {
+abbrev pub given_as : (s d r h f c : Option Text) (k t q g : Option ℕ) (w x y z : Bool) (u v : Option ℕ) (e : Bool) → Given
+given_as s d r h f c k t q g w x y z u v e = record {
   script_name = s;
   schedule_name = d;
   record_name = r;
@@ -37,19 +37,25 @@ given_as s d r h f c k t q g w x y z = record {
   tree = x;
   steps = y;
   traps = z;
+  seed = u;
+  schedule_length = v;
+  finish = e;
 }
 
-same_as : (s s' d d' r r' h h' f f' c c' : Option Text) (k k' t t' q q' g g' : Option ℕ) (w w' x x' y y' z z' : Bool) → s ≡ s' → d ≡ d' → r ≡ r' → h ≡ h'
-    → f ≡ f' → c ≡ c' → k ≡ k' → t ≡ t' → q ≡ q' → g ≡ g' → w ≡ w' → x ≡ x' → y ≡ y' → z ≡ z'
-    → given_as s d r h f c k t q g w x y z ≡ given_as s' d' r' h' f' c' k' t' q' g' w' x' y' z'
-same_as s s' d d' r r' h h' f f' c c' k k' t t' q q' g g' w w' x x' y y' z z' is_s is_d is_r is_h is_f is_c is_k is_t is_q is_g is_w is_x is_y is_z =
-    rw (is_s, is_d, is_r, is_h, is_f, is_c, is_k, is_t, is_q, is_g, is_w, is_x, is_y, is_z) refl
+same_as : (s s' d d' r r' h h' f f' c c' : Option Text) (k k' t t' q q' g g' : Option ℕ) (w w' x x' y y' z z' : Bool) (u u' v v' : Option ℕ) (e e' : Bool)
+    → s ≡ s' → d ≡ d' → r ≡ r' → h ≡ h' → f ≡ f' → c ≡ c' → k ≡ k' → t ≡ t' → q ≡ q' → g ≡ g' → w ≡ w' → x ≡ x' → y ≡ y' → z ≡ z' → u ≡ u' → v ≡ v' → e ≡ e'
+    → given_as s d r h f c k t q g w x y z u v e ≡ given_as s' d' r' h' f' c' k' t' q' g' w' x' y' z' u' v' e'
+same_as s s' d d' r r' h h' f f' c c' k k' t t' q q' g g' w w' x x' y y' z z' u u' v v' e e' is_s is_d is_r is_h is_f is_c is_k is_t is_q is_g is_w is_x is_y is_z is_u is_v is_e =
+    rw (is_s, is_d, is_r, is_h, is_f, is_c, is_k, is_t, is_q, is_g, is_w, is_x, is_y, is_z, is_u, is_v, is_e) refl
 
 abbrev first_text : Option Row → Option Text
 first_text = option_and_then (λ r. slice_get r.values 0)
 
 abbrev number_text : Option Row → Option ℕ
 number_text row = option_and_then number (option_and_then row_text row)
+
+abbrev seed_text : Option Row → Option ℕ
+seed_text row = option_and_then seed_number (option_and_then row_text row)
 
 abbrev budget_text : Option Row → Option ℕ
 budget_text row = option_and_then budget_number (option_and_then row_text row)
@@ -162,36 +168,43 @@ quiet_flag name same other = record {
 -- a row of a word without a value gives nothing but that word
 module _ (name : Text) (rows : List Row) (s : bytes_eq name (codes "SCRIPT") ≡ false) (d : bytes_eq name (codes "SCHEDULE") ≡ false)
     (r : bytes_eq name (codes "RECORD") ≡ false) (h : bytes_eq name (codes "HISTORY") ≡ false) (f : bytes_eq name (codes "FROM") ≡ false) (c : bytes_eq name (codes "FROM-TO") ≡ false)
-    (k : bytes_eq name (codes "N") ≡ false) (t : bytes_eq name (codes "BUDGET") ≡ false) (q : bytes_eq name (codes "K") ≡ false) (g : bytes_eq name (codes "BY") ≡ false) where
+    (k : bytes_eq name (codes "N") ≡ false) (t : bytes_eq name (codes "BUDGET") ≡ false) (q : bytes_eq name (codes "K") ≡ false) (g : bytes_eq name (codes "BY") ≡ false)
+    (u : bytes_eq name (codes "S") ≡ false) (v : bytes_eq name (codes "LENGTH") ≡ false) where
   abbrev behind : List Row
   behind = rows ++ no_flag_row name ∷ []
 
   word_gives : is_set (codes "record") behind ≡ is_set (codes "record") rows → is_set (codes "tree") behind ≡ is_set (codes "tree") rows
-      → is_set (codes "steps") behind ≡ is_set (codes "steps") rows → is_set (codes "traps") behind ≡ is_set (codes "traps") rows → given_of behind ≡ given_of rows
-  word_gives w x y z =
+      → is_set (codes "steps") behind ≡ is_set (codes "steps") rows → is_set (codes "traps") behind ≡ is_set (codes "traps") rows
+      → is_set (codes "finish") behind ≡ is_set (codes "finish") rows → given_of behind ≡ given_of rows
+  word_gives w x y z e =
       let row = no_flag_row name in
-      same_as _ _ _ _ _ _ _ _ _ _ _ _ _ _ _ _ _ _ _ _ _ _ _ _ _ _ _ _
+      same_as _ _ _ _ _ _ _ _ _ _ _ _ _ _ _ _ _ _ _ _ _ _ _ _ _ _ _ _ _ _ _ _ _ _
       (ap first_text (found_before (codes "SCRIPT") rows row s)) (ap first_text (found_before (codes "SCHEDULE") rows row d))
       (ap first_text (found_before (codes "RECORD") rows row r)) (ap first_text (found_before (codes "HISTORY") rows row h)) (ap first_text (found_before (codes "FROM") rows row f))
       (ap first_text (found_before (codes "FROM-TO") rows row c)) (ap number_text (found_before (codes "N") rows row k))
       (ap budget_text (found_before (codes "BUDGET") rows row t)) (ap budget_text (found_before (codes "K") rows row q))
       (ap number_text (found_before (codes "BY") rows row g)) w x y z
+      (ap seed_text (found_before (codes "S") rows row u)) (ap budget_text (found_before (codes "LENGTH") rows row v)) e
 
 pub quiet_tree : Quiet (built_flag (codes "tree"))
-quiet_tree = quiet_flag (codes "tree") (λ rows none. word_gives (codes "tree") rows refl refl refl refl refl refl refl refl refl refl
-    (set_before (codes "tree") (codes "record") rows refl) (unset (codes "tree") rows none refl) (set_before (codes "tree") (codes "steps") rows refl) (set_before (codes "tree") (codes "traps") rows refl)) refl
+quiet_tree = quiet_flag (codes "tree") (λ rows none. word_gives (codes "tree") rows refl refl refl refl refl refl refl refl refl refl refl refl
+    (set_before (codes "tree") (codes "record") rows refl) (unset (codes "tree") rows none refl) (set_before (codes "tree") (codes "steps") rows refl) (set_before (codes "tree") (codes "traps") rows refl) (set_before (codes "tree") (codes "finish") rows refl)) refl
 
 pub quiet_steps : Quiet (built_flag (codes "steps"))
-quiet_steps = quiet_flag (codes "steps") (λ rows none. word_gives (codes "steps") rows refl refl refl refl refl refl refl refl refl refl
-    (set_before (codes "steps") (codes "record") rows refl) (set_before (codes "steps") (codes "tree") rows refl) (unset (codes "steps") rows none refl) (set_before (codes "steps") (codes "traps") rows refl)) refl
+quiet_steps = quiet_flag (codes "steps") (λ rows none. word_gives (codes "steps") rows refl refl refl refl refl refl refl refl refl refl refl refl
+    (set_before (codes "steps") (codes "record") rows refl) (set_before (codes "steps") (codes "tree") rows refl) (unset (codes "steps") rows none refl) (set_before (codes "steps") (codes "traps") rows refl) (set_before (codes "steps") (codes "finish") rows refl)) refl
 
 pub quiet_traps : Quiet (built_flag (codes "traps"))
-quiet_traps = quiet_flag (codes "traps") (λ rows none. word_gives (codes "traps") rows refl refl refl refl refl refl refl refl refl refl
-    (set_before (codes "traps") (codes "record") rows refl) (set_before (codes "traps") (codes "tree") rows refl) (set_before (codes "traps") (codes "steps") rows refl) (unset (codes "traps") rows none refl)) refl
+quiet_traps = quiet_flag (codes "traps") (λ rows none. word_gives (codes "traps") rows refl refl refl refl refl refl refl refl refl refl refl refl
+    (set_before (codes "traps") (codes "record") rows refl) (set_before (codes "traps") (codes "tree") rows refl) (set_before (codes "traps") (codes "steps") rows refl) (unset (codes "traps") rows none refl) (set_before (codes "traps") (codes "finish") rows refl)) refl
 
 pub quiet_as_record : Quiet (built_flag (codes "record"))
-quiet_as_record = quiet_flag (codes "record") (λ rows none. word_gives (codes "record") rows refl refl refl refl refl refl refl refl refl refl
-    (unset (codes "record") rows none refl) (set_before (codes "record") (codes "tree") rows refl) (set_before (codes "record") (codes "steps") rows refl) (set_before (codes "record") (codes "traps") rows refl)) refl
+quiet_as_record = quiet_flag (codes "record") (λ rows none. word_gives (codes "record") rows refl refl refl refl refl refl refl refl refl refl refl refl
+    (unset (codes "record") rows none refl) (set_before (codes "record") (codes "tree") rows refl) (set_before (codes "record") (codes "steps") rows refl) (set_before (codes "record") (codes "traps") rows refl) (set_before (codes "record") (codes "finish") rows refl)) refl
+
+pub quiet_finish : Quiet (built_flag (codes "finish"))
+quiet_finish = quiet_flag (codes "finish") (λ rows none. word_gives (codes "finish") rows refl refl refl refl refl refl refl refl refl refl refl refl
+    (set_before (codes "finish") (codes "record") rows refl) (set_before (codes "finish") (codes "tree") rows refl) (set_before (codes "finish") (codes "steps") rows refl) (set_before (codes "finish") (codes "traps") rows refl) (unset (codes "finish") rows none refl)) refl
 
 abbrev pub EachQuiet : List Rule → Type 0
 EachQuiet [] = Unit {0}
@@ -270,6 +283,9 @@ no_script ByTree = refl
 no_script WithSteps = refl
 no_script OfTraps = refl
 no_script AsRecord = refl
+no_script (BySeed v) = refl
+no_script (OfLength j) = refl
+no_script Finishing = refl
 
 no_schedule : (one : Chosen) → bytes_eq (id_of one) (codes "SCHEDULE") ≡ false
 no_schedule (Count n) = refl
@@ -284,6 +300,9 @@ no_schedule ByTree = refl
 no_schedule WithSteps = refl
 no_schedule OfTraps = refl
 no_schedule AsRecord = refl
+no_schedule (BySeed v) = refl
+no_schedule (OfLength j) = refl
+no_schedule Finishing = refl
 
 number_in : (n : Text) → is_some (number n) ≡ true → number (without_minus n) ≡ number n
 number_in n plain = let k = some_of (number n) plain in number_is n k.0 k.1 ∙ sym k.1
@@ -306,6 +325,9 @@ count_found names (ByTree ∷ others) plain = count_found names others plain.3
 count_found names (WithSteps ∷ others) plain = count_found names others plain.3
 count_found names (OfTraps ∷ others) plain = count_found names others plain.3
 count_found names (AsRecord ∷ others) plain = count_found names others plain.3
+count_found names (BySeed v ∷ others) plain = count_found names others plain.3
+count_found names (OfLength j ∷ others) plain = count_found names others plain.3
+count_found names (Finishing ∷ others) plain = count_found names others plain.3
 
 turns_found : (names : List Text) (chosen : List Chosen) → ArePlain names chosen
     → budget_text (found (codes "BUDGET") (map row_of chosen)) ≡ option_and_then budget_number (value_in (codes "BUDGET") chosen)
@@ -322,6 +344,9 @@ turns_found names (ByTree ∷ others) plain = turns_found names others plain.3
 turns_found names (WithSteps ∷ others) plain = turns_found names others plain.3
 turns_found names (OfTraps ∷ others) plain = turns_found names others plain.3
 turns_found names (AsRecord ∷ others) plain = turns_found names others plain.3
+turns_found names (BySeed v ∷ others) plain = turns_found names others plain.3
+turns_found names (OfLength j ∷ others) plain = turns_found names others plain.3
+turns_found names (Finishing ∷ others) plain = turns_found names others plain.3
 
 most_found : (names : List Text) (chosen : List Chosen) → ArePlain names chosen
     → budget_text (found (codes "K") (map row_of chosen)) ≡ option_and_then budget_number (value_in (codes "K") chosen)
@@ -338,6 +363,9 @@ most_found names (ByTree ∷ others) plain = most_found names others plain.3
 most_found names (WithSteps ∷ others) plain = most_found names others plain.3
 most_found names (OfTraps ∷ others) plain = most_found names others plain.3
 most_found names (AsRecord ∷ others) plain = most_found names others plain.3
+most_found names (BySeed v ∷ others) plain = most_found names others plain.3
+most_found names (OfLength j ∷ others) plain = most_found names others plain.3
+most_found names (Finishing ∷ others) plain = most_found names others plain.3
 
 argument_found : (names : List Text) (chosen : List Chosen) → ArePlain names chosen
     → number_text (found (codes "BY") (map row_of chosen)) ≡ option_and_then number (value_in (codes "BY") chosen)
@@ -354,6 +382,9 @@ argument_found names (ByTree ∷ others) plain = argument_found names others pla
 argument_found names (WithSteps ∷ others) plain = argument_found names others plain.3
 argument_found names (OfTraps ∷ others) plain = argument_found names others plain.3
 argument_found names (AsRecord ∷ others) plain = argument_found names others plain.3
+argument_found names (BySeed v ∷ others) plain = argument_found names others plain.3
+argument_found names (OfLength j ∷ others) plain = argument_found names others plain.3
+argument_found names (Finishing ∷ others) plain = argument_found names others plain.3
 
 record_found : (chosen : List Chosen) → is_set (codes "record") (map row_of chosen) ≡ is_chosen (codes "record") chosen
 record_found [] = refl
@@ -369,6 +400,9 @@ record_found (ByTree ∷ others) = record_found others
 record_found (WithSteps ∷ others) = record_found others
 record_found (OfTraps ∷ others) = record_found others
 record_found (AsRecord ∷ others) = refl
+record_found (BySeed v ∷ others) = record_found others
+record_found (OfLength j ∷ others) = record_found others
+record_found (Finishing ∷ others) = record_found others
 
 tree_found : (chosen : List Chosen) → is_set (codes "tree") (map row_of chosen) ≡ is_chosen (codes "tree") chosen
 tree_found [] = refl
@@ -384,6 +418,9 @@ tree_found (ByTree ∷ others) = refl
 tree_found (WithSteps ∷ others) = tree_found others
 tree_found (OfTraps ∷ others) = tree_found others
 tree_found (AsRecord ∷ others) = tree_found others
+tree_found (BySeed v ∷ others) = tree_found others
+tree_found (OfLength j ∷ others) = tree_found others
+tree_found (Finishing ∷ others) = tree_found others
 
 steps_found : (chosen : List Chosen) → is_set (codes "steps") (map row_of chosen) ≡ is_chosen (codes "steps") chosen
 steps_found [] = refl
@@ -399,6 +436,9 @@ steps_found (ByTree ∷ others) = steps_found others
 steps_found (WithSteps ∷ others) = refl
 steps_found (OfTraps ∷ others) = steps_found others
 steps_found (AsRecord ∷ others) = steps_found others
+steps_found (BySeed v ∷ others) = steps_found others
+steps_found (OfLength j ∷ others) = steps_found others
+steps_found (Finishing ∷ others) = steps_found others
 
 traps_found : (chosen : List Chosen) → is_set (codes "traps") (map row_of chosen) ≡ is_chosen (codes "traps") chosen
 traps_found [] = refl
@@ -414,6 +454,65 @@ traps_found (ByTree ∷ others) = traps_found others
 traps_found (WithSteps ∷ others) = traps_found others
 traps_found (OfTraps ∷ others) = refl
 traps_found (AsRecord ∷ others) = traps_found others
+traps_found (BySeed v ∷ others) = traps_found others
+traps_found (OfLength j ∷ others) = traps_found others
+traps_found (Finishing ∷ others) = traps_found others
+
+seed_found : (chosen : List Chosen)
+    → seed_text (found (codes "S") (map row_of chosen)) ≡ option_and_then seed_number (value_in (codes "S") chosen)
+seed_found [] = refl
+seed_found (Count n ∷ others) = seed_found others
+seed_found (Turns short b ∷ others) = seed_found others
+seed_found (Most k ∷ others) = seed_found others
+seed_found (Argument n ∷ others) = seed_found others
+seed_found (Start f ∷ others) = seed_found others
+seed_found (Range c ∷ others) = seed_found others
+seed_found (Told r ∷ others) = seed_found others
+seed_found (Seen h ∷ others) = seed_found others
+seed_found (ByTree ∷ others) = seed_found others
+seed_found (WithSteps ∷ others) = seed_found others
+seed_found (OfTraps ∷ others) = seed_found others
+seed_found (AsRecord ∷ others) = seed_found others
+seed_found (BySeed v ∷ others) = refl
+seed_found (OfLength j ∷ others) = seed_found others
+seed_found (Finishing ∷ others) = seed_found others
+
+length_found : (names : List Text) (chosen : List Chosen) → ArePlain names chosen
+    → budget_text (found (codes "LENGTH") (map row_of chosen)) ≡ option_and_then budget_number (value_in (codes "LENGTH") chosen)
+length_found names [] plain = refl
+length_found names (Count n ∷ others) plain = length_found names others plain.3
+length_found names (Turns short b ∷ others) plain = length_found names others plain.3
+length_found names (Most k ∷ others) plain = length_found names others plain.3
+length_found names (Argument n ∷ others) plain = length_found names others plain.3
+length_found names (Start f ∷ others) plain = length_found names others plain.3
+length_found names (Range c ∷ others) plain = length_found names others plain.3
+length_found names (Told r ∷ others) plain = length_found names others plain.3
+length_found names (Seen h ∷ others) plain = length_found names others plain.3
+length_found names (ByTree ∷ others) plain = length_found names others plain.3
+length_found names (WithSteps ∷ others) plain = length_found names others plain.3
+length_found names (OfTraps ∷ others) plain = length_found names others plain.3
+length_found names (AsRecord ∷ others) plain = length_found names others plain.3
+length_found names (BySeed v ∷ others) plain = length_found names others plain.3
+length_found names (OfLength j ∷ others) plain = budget_in j plain.1
+length_found names (Finishing ∷ others) plain = length_found names others plain.3
+
+finish_found : (chosen : List Chosen) → is_set (codes "finish") (map row_of chosen) ≡ is_chosen (codes "finish") chosen
+finish_found [] = refl
+finish_found (Count n ∷ others) = finish_found others
+finish_found (Turns short b ∷ others) = finish_found others
+finish_found (Most k ∷ others) = finish_found others
+finish_found (Argument n ∷ others) = finish_found others
+finish_found (Start f ∷ others) = finish_found others
+finish_found (Range c ∷ others) = finish_found others
+finish_found (Told r ∷ others) = finish_found others
+finish_found (Seen h ∷ others) = finish_found others
+finish_found (ByTree ∷ others) = finish_found others
+finish_found (WithSteps ∷ others) = finish_found others
+finish_found (OfTraps ∷ others) = finish_found others
+finish_found (AsRecord ∷ others) = finish_found others
+finish_found (BySeed v ∷ others) = finish_found others
+finish_found (OfLength j ∷ others) = finish_found others
+finish_found (Finishing ∷ others) = refl
 
 -- behind a module's name alone, that of a script or of a history too, and that of a schedule too
 module _ (names : List Text) (chosen : List Chosen) (plain : ArePlain names chosen) where
@@ -421,26 +520,30 @@ module _ (names : List Text) (chosen : List Chosen) (plain : ArePlain names chos
   rows = map row_of chosen
 
   pub given_alone : given_of rows ≡ given_in None None chosen
-  given_alone = same_as _ _ _ _ _ _ _ _ _ _ _ _ _ _ _ _ _ _ _ _ _ _ _ _ _ _ _ _ (no_value (codes "SCRIPT") no_script chosen) (no_value (codes "SCHEDULE") no_schedule chosen)
+  given_alone = same_as _ _ _ _ _ _ _ _ _ _ _ _ _ _ _ _ _ _ _ _ _ _ _ _ _ _ _ _ _ _ _ _ _ _ (no_value (codes "SCRIPT") no_script chosen) (no_value (codes "SCHEDULE") no_schedule chosen)
       (value_found (codes "RECORD") chosen) (value_found (codes "HISTORY") chosen) (value_found (codes "FROM") chosen) (value_found (codes "FROM-TO") chosen) (count_found names chosen plain)
       (turns_found names chosen plain) (most_found names chosen plain) (argument_found names chosen plain)
       (record_found chosen) (tree_found chosen) (steps_found chosen) (traps_found chosen)
+      (seed_found chosen) (length_found names chosen plain) (finish_found chosen)
 
   pub given_script : (s : Text) → given_of (name_row (codes "SCRIPT") s ∷ rows) ≡ given_in (Some s) None chosen
-  given_script s = same_as _ _ _ _ _ _ _ _ _ _ _ _ _ _ _ _ _ _ _ _ _ _ _ _ _ _ _ _ refl (no_value (codes "SCHEDULE") no_schedule chosen)
+  given_script s = same_as _ _ _ _ _ _ _ _ _ _ _ _ _ _ _ _ _ _ _ _ _ _ _ _ _ _ _ _ _ _ _ _ _ _ refl (no_value (codes "SCHEDULE") no_schedule chosen)
       (value_found (codes "RECORD") chosen) (value_found (codes "HISTORY") chosen) (value_found (codes "FROM") chosen) (value_found (codes "FROM-TO") chosen) (count_found names chosen plain)
       (turns_found names chosen plain) (most_found names chosen plain) (argument_found names chosen plain)
       (record_found chosen) (tree_found chosen) (steps_found chosen) (traps_found chosen)
+      (seed_found chosen) (length_found names chosen plain) (finish_found chosen)
 
   pub given_history : (h : Text) → given_of (name_row (codes "HISTORY") h ∷ rows) ≡ given_with_history h chosen
-  given_history h = same_as _ _ _ _ _ _ _ _ _ _ _ _ _ _ _ _ _ _ _ _ _ _ _ _ _ _ _ _ (no_value (codes "SCRIPT") no_script chosen)
+  given_history h = same_as _ _ _ _ _ _ _ _ _ _ _ _ _ _ _ _ _ _ _ _ _ _ _ _ _ _ _ _ _ _ _ _ _ _ (no_value (codes "SCRIPT") no_script chosen)
       (no_value (codes "SCHEDULE") no_schedule chosen) (value_found (codes "RECORD") chosen) refl (value_found (codes "FROM") chosen) (value_found (codes "FROM-TO") chosen) (count_found names chosen plain)
       (turns_found names chosen plain) (most_found names chosen plain) (argument_found names chosen plain)
       (record_found chosen) (tree_found chosen) (steps_found chosen) (traps_found chosen)
+      (seed_found chosen) (length_found names chosen plain) (finish_found chosen)
 
   pub given_schedule : (s d : Text) → given_of (name_row (codes "SCRIPT") s ∷ name_row (codes "SCHEDULE") d ∷ rows)
       ≡ given_in (Some s) (Some d) chosen
-  given_schedule s d = same_as _ _ _ _ _ _ _ _ _ _ _ _ _ _ _ _ _ _ _ _ _ _ _ _ _ _ _ _ refl refl
+  given_schedule s d = same_as _ _ _ _ _ _ _ _ _ _ _ _ _ _ _ _ _ _ _ _ _ _ _ _ _ _ _ _ _ _ _ _ _ _ refl refl
       (value_found (codes "RECORD") chosen) (value_found (codes "HISTORY") chosen) (value_found (codes "FROM") chosen) (value_found (codes "FROM-TO") chosen) (count_found names chosen plain)
       (turns_found names chosen plain) (most_found names chosen plain) (argument_found names chosen plain)
       (record_found chosen) (tree_found chosen) (steps_found chosen) (traps_found chosen)
+      (seed_found chosen) (length_found names chosen plain) (finish_found chosen)

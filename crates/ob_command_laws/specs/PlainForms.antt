@@ -3,8 +3,9 @@ use Rattle.std.specs.Prelude.{◌≡◌, ℕ, Bool, true, false, not, List, [], 
 use Rattle.std.specs.List.{list_any}
 use Rattle.std.specs.Option.{option_map_or}
 use Rattle.std.specs.Str.{bytes_eq}
-use Rattle.ob_command.specs.CommandLine.{CallsRequest, Given, Help, OrderRequest, Request, RunRequest, Text, Unclear, Version, asked, budget_number, calls_in, default_budget, default_most, form_mistake_of, is_most, is_option, is_place, is_seen_budget, number, request}
+use Rattle.ob_command.specs.CommandLine.{CallsRequest, ChanceRequest, Given, Help, OrderRequest, Request, RunRequest, Text, Unclear, Version, asked, budget_number, calls_in, default_budget, default_length, default_most, form_mistake_of, is_length, is_most, is_option, is_place, is_seen_budget, number, request, run_product, seed_number}
 use Rattle.ob_command.specs.declared.command.OrderProduct.{OrderProduct}
+use Rattle.ob_command.specs.declared.command.RunProduct.{RunProduct}
 
 -- `help` and the name, the name with `--help` or `-h`, and all three ask for help.
 pub record IsHelpAsked (name : Text) : Type 0 where
@@ -22,7 +23,7 @@ pub record IsVersionAsked (name : Text) : Type 0 where
 -- ---- options among words
 
 -- an option as it stands among words, with the word behind it where it has one: `-n`, `-b` or `--budget`, `--most`, `--by`, `--from`,
--- `--calls`, `--record` with a name, `--history`, `--tree`, `--steps`, `--traps`, and `--record` alone
+-- `--calls`, `--record` with a name, `--history`, `--tree`, `--steps`, `--traps`, `--record` alone, `--seed`, `--length` and `--finish`
 pub data Chosen : Type 0 where
   Count : (n : Text) → Chosen
   Turns : (short : Bool) (b : Text) → Chosen
@@ -36,6 +37,9 @@ pub data Chosen : Type 0 where
   WithSteps : Chosen
   OfTraps : Chosen
   AsRecord : Chosen
+  BySeed : (s : Text) → Chosen
+  OfLength : (j : Text) → Chosen
+  Finishing : Chosen
 
 -- the name by which it is known
 abbrev pub id_of : Chosen → Text
@@ -51,6 +55,9 @@ id_of ByTree = codes "tree"
 id_of WithSteps = codes "steps"
 id_of OfTraps = codes "traps"
 id_of AsRecord = codes "record"
+id_of (BySeed s) = codes "S"
+id_of (OfLength j) = codes "LENGTH"
+id_of Finishing = codes "finish"
 
 -- what stands behind it, and `true` where nothing does
 abbrev pub text_of : Chosen → Text
@@ -62,6 +69,8 @@ text_of (Start f) = f
 text_of (Range c) = c
 text_of (Told r) = r
 text_of (Seen h) = h
+text_of (BySeed s) = s
+text_of (OfLength j) = j
 text_of _ = codes "true"
 
 -- the word that stands before a budget
@@ -83,6 +92,9 @@ with_words ByTree rest = codes "--tree" ∷ rest
 with_words WithSteps rest = codes "--steps" ∷ rest
 with_words OfTraps rest = codes "--traps" ∷ rest
 with_words AsRecord rest = codes "--record" ∷ rest
+with_words (BySeed s) rest = codes "--seed" ∷ s ∷ rest
+with_words (OfLength j) rest = codes "--length" ∷ j ∷ rest
+with_words Finishing rest = codes "--finish" ∷ rest
 
 abbrev pub words_of : List Chosen → List Text
 words_of [] = []
@@ -98,6 +110,8 @@ is_plain (Start f) = not (is_option f)
 is_plain (Range c) = is_some (calls_in c)
 is_plain (Told r) = not (is_option r)
 is_plain (Seen h) = not (is_option h)
+is_plain (BySeed s) = is_some (seed_number s)
+is_plain (OfLength j) = is_some (budget_number j)
 is_plain _ = true
 
 -- Options of these names in any order, each at most once, with what can stand behind them.
@@ -111,7 +125,7 @@ abbrev pub seq_options : List Text
 seq_options = codes "BUDGET" ∷ codes "FROM" ∷ []
 
 abbrev pub run_options : List Text
-run_options = codes "N" ∷ codes "BUDGET" ∷ codes "FROM" ∷ codes "tree" ∷ codes "steps" ∷ []
+run_options = codes "N" ∷ codes "BUDGET" ∷ codes "FROM" ∷ codes "tree" ∷ codes "steps" ∷ codes "S" ∷ codes "LENGTH" ∷ codes "finish" ∷ []
 
 abbrev pub serve_options : List Text
 serve_options = codes "N" ∷ codes "BUDGET" ∷ codes "FROM" ∷ []
@@ -148,10 +162,13 @@ given_in script_name schedule_name chosen = record {
   budget = option_and_then budget_number (value_in (codes "BUDGET") chosen);
   most = option_and_then budget_number (value_in (codes "K") chosen);
   argument = option_and_then number (value_in (codes "BY") chosen);
+  seed = option_and_then seed_number (value_in (codes "S") chosen);
+  schedule_length = option_and_then budget_number (value_in (codes "LENGTH") chosen);
   as_record = is_chosen (codes "record") chosen;
   tree = is_chosen (codes "tree") chosen;
   steps = is_chosen (codes "steps") chosen;
   traps = is_chosen (codes "traps") chosen;
+  finish = is_chosen (codes "finish") chosen;
 }
 
 -- the same with the name of a history and no other file's
@@ -223,6 +240,28 @@ calls_with m s processes chosen = record {
 
 abbrev pub run_with : (m s d : Text) (processes : ℕ) → List Chosen → RunRequest
 run_with m s d processes chosen = record { calls = calls_with m s processes chosen; schedule_name = d }
+
+-- what is told of a run by them, the seed of a schedule by chance, and how many steps that has
+abbrev pub product_in : List Chosen → Option RunProduct
+product_in chosen = run_product (is_chosen (codes "tree") chosen) (is_chosen (codes "steps") chosen) (is_some (value_in (codes "FROM") chosen))
+
+abbrev pub seed_in : List Chosen → Option ℕ
+seed_in chosen = option_and_then seed_number (value_in (codes "S") chosen)
+
+abbrev pub length_in : List Chosen → Option ℕ
+length_in chosen = option_and_then budget_number (value_in (codes "LENGTH") chosen)
+
+abbrev pub IsLength : List Chosen → Type 0
+IsLength chosen = option_map_or is_length (length_in chosen) true ≡ true
+
+-- the run by a schedule of chance
+abbrev pub chance_with : (m s : Text) (processes seed : ℕ) → List Chosen → ChanceRequest
+chance_with m s processes seed chosen = record {
+  calls = calls_with m s processes chosen;
+  seed = seed;
+  steps = unwrap_or (length_in chosen) default_length;
+  finish = is_chosen (codes "finish") chosen;
+}
 
 -- A command on a module, on a script too, and on a schedule too, with options of these names of which that holds, asks for this.
 abbrev pub ModuleAsksFor : (command : Text) (names : List Text) (Holds : List Chosen → Type 0) (asks : (m : Text) → List Chosen → Request) → Type 0

@@ -4,14 +4,17 @@ ghost use Rattle.std.specs.Prelude.{◌≡◌, ◌⊎◌, ℕ, List, Option, Som
 ghost use Rattle.clap.specs.Words.{fault_of};
 ghost use Rattle.ob_command_line.specs.ClapCommand.{obl0_app};
 ghost use Rattle.ob_command.specs.CommandLine.{Bound, Check, Draw, DrawRecord, Explain, ExplainCalls, ExplainHistory, ExplainRecord, ExplainRun};
-ghost use Rattle.ob_command.specs.CommandLine.{ExplainTraps, Help, Listing, Order, Run, RunSteps, RunTree, Seq, Serve, Text, Unclear, Verify};
+ghost use Rattle.ob_command.specs.CommandLine.{ExplainTraps, Help, Listing, Order, Run, RunByChance, RunFinished, RunSteps, RunTree, Seq, Serve, Text, Unclear};
+ghost use Rattle.ob_command.specs.CommandLine.{Verify};
 ghost use Rattle.ob_command.specs.CommandLine.{Version, asks_command, command_names, form_mistake_of, is_option, most_mistake, parts_mistake};
 ghost use Rattle.ob_command.specs.CommandLine.{place_mistake, range_by, request, seen_budget_mistake};
 ghost use Rattle.ob_command_laws.specs.PlainForms.{AreInRange, AsksWithHistory, AsksWithModule, AsksWithSchedule, AsksWithScript, Has, IsHelpAsked};
-ghost use Rattle.ob_command_laws.specs.PlainForms.{IsMost, IsPlace, IsSeenBudget, IsVersionAsked, Lacks, ModuleAsksFor, RunAsksFor, ScriptAsksFor};
-ghost use Rattle.ob_command_laws.specs.PlainForms.{ScriptSays, argument_in, bound_options, calls_with, count_in, draw_options, explain_options};
-ghost use Rattle.ob_command_laws.specs.PlainForms.{order_options, order_with, run_options, seq_options, serve_options, turns_in, value_in};
+ghost use Rattle.ob_command_laws.specs.PlainForms.{IsLength, IsMost, IsPlace, IsSeenBudget, IsVersionAsked, Lacks, ModuleAsksFor, RunAsksFor, ScriptAsksFor};
+ghost use Rattle.ob_command_laws.specs.PlainForms.{ScriptSays, argument_in, bound_options, calls_with, chance_with, count_in, draw_options};
+ghost use Rattle.ob_command_laws.specs.PlainForms.{explain_options, order_options, order_with, product_in, run_options, seed_in, seq_options, serve_options};
+ghost use Rattle.ob_command_laws.specs.PlainForms.{turns_in, value_in};
 ghost use Rattle.ob_command.specs.declared.command.CallNumbers.{CallNumbers};
+ghost use Rattle.ob_command.specs.declared.command.RunProduct.{RunProduct};
 ghost use Rattle.ob_command.specs.declared.command.OrderProduct.TheVariants.{Apart, Line, WholeRecord};
 
 /// `check` and a name that is no option.
@@ -30,12 +33,20 @@ pub fn seq_is_asked()
     ensures calls { ScriptAsksFor (codes "seq") seq_options (Lacks []) (λ m s chosen. Seq (calls_with m s 16 chosen)) }
 {}
 
-/// `run` and three names that are no options, and its options in any order.
+/// `run` and three names that are no options, or two, and its options in any order.
 pub fn run_is_asked()
     ensures table { AsksWithSchedule (codes "run") true run_options }
-    ensures code { RunAsksFor (codes "run") run_options (Lacks (codes "tree" ∷ codes "steps" ∷ [])) Run }
-    ensures tree { RunAsksFor (codes "run") run_options (λ chosen. Has (codes "tree") chosen × Lacks (codes "steps" ∷ codes "FROM" ∷ []) chosen) RunTree }
-    ensures steps { RunAsksFor (codes "run") run_options (λ chosen. Has (codes "steps") chosen × Lacks (codes "tree" ∷ []) chosen) RunSteps }
+    ensures table_of_two { AsksWithScript (codes "run") true run_options }
+    ensures code { RunAsksFor (codes "run") run_options (Lacks (codes "tree" ∷ codes "steps" ∷ codes "S" ∷ codes "LENGTH" ∷ codes "finish" ∷ [])) Run }
+    ensures tree { RunAsksFor (codes "run") run_options
+        (λ chosen. Has (codes "tree") chosen × Lacks (codes "steps" ∷ codes "FROM" ∷ codes "S" ∷ codes "LENGTH" ∷ codes "finish" ∷ []) chosen) RunTree }
+    ensures steps { RunAsksFor (codes "run") run_options
+        (λ chosen. Has (codes "steps") chosen × Lacks (codes "tree" ∷ codes "S" ∷ codes "LENGTH" ∷ codes "finish" ∷ []) chosen) RunSteps }
+    ensures finish { (product : RunProduct) → RunAsksFor (codes "run") run_options
+        (λ chosen. Has (codes "finish") chosen × Lacks (codes "S" ∷ codes "LENGTH" ∷ []) chosen × (product_in chosen ≡ Some product)) (RunFinished product) }
+    ensures chance { (product : RunProduct) (k seed : ℕ) → ScriptAsksFor (codes "run") run_options
+        (λ chosen. (count_in chosen ≡ Some k) × (seed_in chosen ≡ Some seed) × IsLength chosen × (product_in chosen ≡ Some product))
+        (λ m s chosen. RunByChance product (chance_with m s k seed chosen)) }
     ensures tree_steps { RunAsksFor (codes "run") run_options (λ chosen. Has (codes "tree") chosen × Has (codes "steps") chosen) (λ run. Unclear) }
     ensures tree_from { RunAsksFor (codes "run") run_options (λ chosen. Has (codes "tree") chosen × Has (codes "FROM") chosen) (λ run. Unclear) }
 {}

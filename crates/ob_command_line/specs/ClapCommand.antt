@@ -2,7 +2,7 @@
 use Rattle.std.specs.Prelude.{List, Some, pos, true, false, [], ◌∷◌, codes, fold}
 use Rattle.clap.specs.Words.{App, Rule, Shape, Text, new_app, new_rule, with_rule, with_subcommand}
 use Rattle.clap.specs.declared.builder.action.ArgAction.TheVariants.{SetTrue}
-use Rattle.clap.specs.declared.builder.value_parser.ValueParser.TheVariants.{Signed}
+use Rattle.clap.specs.declared.builder.value_parser.ValueParser.TheVariants.{Signed, Unsigned}
 
 -- ---- files and options
 
@@ -29,6 +29,14 @@ most_rule = record (new_rule (codes "K")) { long = Some (codes "most"); parser =
 -- `--by N`, with a number of 16 bits, which may be missing
 abbrev pub by_rule : Rule
 by_rule = record (new_rule (codes "BY")) { long = Some (codes "by"); value_names = 1; parser = Some (Signed (pos 0) (pos 65535)) }
+
+-- `--seed S`, with a number of 64 bits, which may be missing
+abbrev pub seed_rule : Rule
+seed_rule = record (new_rule (codes "S")) { long = Some (codes "seed"); parser = Some (Unsigned 0 18446744073709551615) }
+
+-- `--length K`, with a number of 32 bits, which may be missing
+abbrev pub length_rule : Rule
+length_rule = record (new_rule (codes "LENGTH")) { long = Some (codes "length"); value_names = 1; parser = Some (Signed (pos 0) (pos 4294967295)) }
 
 -- `--from RECORD`, which may be missing
 abbrev pub from_rule : Rule
@@ -88,7 +96,7 @@ serve_app command = command_app command (name_rule (codes "MODULE") ∷ name_rul
 -- `MODULE SCRIPT SCHEDULE -n N -b BUDGET`, with which the words of `run` begin, and what of it those of `draw` and of `explain` begin with
 abbrev pub schedule_app : Text → App
 schedule_app command =
-    command_app command (name_rule (codes "MODULE") ∷ name_rule (codes "SCRIPT") ∷ name_rule (codes "SCHEDULE") ∷ number_rule ∷ budget_rule ∷ [])
+    command_app command (name_rule (codes "MODULE") ∷ name_rule (codes "SCRIPT") ∷ new_rule (codes "SCHEDULE") ∷ number_rule ∷ budget_rule ∷ [])
 
 abbrev pub drawn_app : Text → App
 drawn_app command =
@@ -103,10 +111,16 @@ abbrev pub files_app : Text → App
 files_app command = command_app command (name_rule (codes "MODULE") ∷ new_rule (codes "SCRIPT") ∷ new_rule (codes "SCHEDULE")
     ∷ optional_number_rule ∷ budget_rule ∷ from_rule ∷ record_rule ∷ history_rule ∷ [])
 
--- `MODULE SCRIPT SCHEDULE -n N -b BUDGET --from RECORD --tree --steps`
-abbrev pub run_app : Text → App
-run_app command = command_app command (name_rule (codes "MODULE") ∷ name_rule (codes "SCRIPT") ∷ name_rule (codes "SCHEDULE")
+-- the same and `--from RECORD --tree --steps`
+abbrev pub told_run_app : Text → App
+told_run_app command = command_app command (name_rule (codes "MODULE") ∷ name_rule (codes "SCRIPT") ∷ new_rule (codes "SCHEDULE")
     ∷ number_rule ∷ budget_rule ∷ from_rule ∷ flag_rule (codes "tree") ∷ flag_rule (codes "steps") ∷ [])
+
+-- `MODULE SCRIPT SCHEDULE -n N -b BUDGET --from RECORD --tree --steps --finish`, `MODULE SCRIPT --seed S -n N --length K ..`
+abbrev pub run_app : Text → App
+run_app command = command_app command (name_rule (codes "MODULE") ∷ name_rule (codes "SCRIPT") ∷ new_rule (codes "SCHEDULE")
+    ∷ number_rule ∷ budget_rule ∷ from_rule ∷ flag_rule (codes "tree") ∷ flag_rule (codes "steps")
+    ∷ seed_rule ∷ length_rule ∷ flag_rule (codes "finish") ∷ [])
 
 -- `MODULE SCRIPT SCHEDULE -n N -b BUDGET --from RECORD --calls FROM-TO`, `MODULE RECORD --calls FROM-TO`
 abbrev pub draw_app : Text → App

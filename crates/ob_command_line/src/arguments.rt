@@ -3,7 +3,7 @@
 ghost use Rattle.std.specs.Prelude.{◌≡◌, false};
 ghost use Rattle.clap.specs.Words.{new_rule, rule_of};
 ghost use Rattle.ob_command_line.specs.ClapCommand.{budget_rule, by_rule, calls_rule, flag_rule, from_rule, history_rule, most_rule};
-ghost use Rattle.ob_command_line.specs.ClapCommand.{name_rule, number_rule, optional_number_rule, record_rule};
+ghost use Rattle.ob_command_line.specs.ClapCommand.{length_rule, name_rule, number_rule, optional_number_rule, record_rule, seed_rule};
 
 use clap::{Arg, ArgAction};
 use std::alloc::Global;
@@ -26,6 +26,12 @@ const HELP_HISTORY: &str = "The file of the history, as `order` reads it";
 
 const HELP_FROM: &str =
     "The file of a record whose variables the object begins with, in the place of the module's body";
+
+const HELP_SEED: &str =
+    "Makes the schedule by chance from this number, 0 to 18446744073709551615, in place of a SCHEDULE";
+
+const HELP_LENGTH: &str =
+    "How many steps a schedule by chance has, 0 to 1000000; 1000 where nothing is said";
 
 const HELP_CALLS: &str =
     "Which calls are drawn: the places of the first and the last, from 1; all where nothing is said";
@@ -151,6 +157,29 @@ pub fn parting_argument<'a>(alloc: Global) -> Arg<'a>
         .value_name("N")
         .value_parser(clap::value_parser!(u16))
         .help(HELP_BY)
+}
+
+/// The option that has the seed of a schedule by chance.
+pub fn schedule_seed<'a>(alloc: Global) -> Arg<'a>
+    ensures rule { rule_of result ≡ seed_rule }
+    ensures local { result.global ≡ false }
+{
+    Arg::new(alloc, "S")
+        .long("seed")
+        .value_parser(clap::value_parser!(u64))
+        .help(HELP_SEED)
+}
+
+/// The option that says how many steps such a schedule has.
+pub fn schedule_length<'a>(alloc: Global) -> Arg<'a>
+    ensures rule { rule_of result ≡ length_rule }
+    ensures local { result.global ≡ false }
+{
+    Arg::new(alloc, "LENGTH")
+        .long("length")
+        .value_name("K")
+        .value_parser(clap::value_parser!(u32))
+        .help(HELP_LENGTH)
 }
 
 /// The option that names a record whose variables an object begins with.

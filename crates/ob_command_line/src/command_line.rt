@@ -1,7 +1,7 @@
 //! The command line as `clap` is told of it.
 
 ghost use Rattle.std.specs.Prelude.{◌≡◌, false, IfOk, IsOkAnd};
-ghost use Rattle.clap.specs.Words.{app_of};
+ghost use Rattle.clap.specs.Words.{App, app_of};
 ghost use Rattle.clap.specs.declared.builder.command.Command.TheViews.{out-Command as fields_of};
 ghost use Rattle.ob_command_line.specs.ClapCommand.{module_apps, obl0_app, record_apps, run_apps, telling_apps, top_app, with_command, with_commands};
 
@@ -14,7 +14,7 @@ use std::alloc::{AllocError, Global};
 const ABOUT_SEQ: &str = "Makes the calls of a script one at a time and prints the reply to each";
 
 const ABOUT_RUN: &str =
-    "Makes the calls of a script by the steps of a schedule and prints the record of the run";
+    "Makes the calls of a script by the steps of a schedule, or of one by chance, and prints the record of the run";
 
 const ABOUT_SERVE: &str =
     "Makes the calls of a script by a worker for each process and prints the record of the run";
@@ -40,8 +40,10 @@ const USAGE_LIST: &str = "obl0 list MODULE";
 const USAGE_SEQ: &str = "obl0 seq MODULE SCRIPT [-b BUDGET] [--from RECORD]";
 
 const USAGE_RUN: &str = "\
-obl0 run MODULE SCRIPT SCHEDULE -n N [-b BUDGET] [--from RECORD] [--steps]
-       obl0 run MODULE SCRIPT SCHEDULE -n N [-b BUDGET] --tree";
+obl0 run MODULE SCRIPT SCHEDULE -n N [--finish] [-b BUDGET] [--from RECORD] [--steps]
+       obl0 run MODULE SCRIPT SCHEDULE -n N [--finish] [-b BUDGET] --tree
+       obl0 run MODULE SCRIPT --seed S -n N [--length K] [--finish] [-b BUDGET] [--from RECORD] [--steps]
+       obl0 run MODULE SCRIPT --seed S -n N [--length K] [--finish] [-b BUDGET] --tree";
 
 const USAGE_SERVE: &str = "obl0 serve MODULE SCRIPT -n N [-b BUDGET] [--from RECORD]";
 
@@ -74,50 +76,43 @@ docs/FAULTS.md lists the faults, such as S3 or O2.";
 pub fn command_line<'a>(alloc: Global) -> Result<clap::Command<'a>, AllocError>
     ensures { IfOk result (λ c. app_of c ≡ obl0_app) }
 {
-    let program = with_module_commands(alloc, program_line(alloc)?)?;
-    let program = with_run_commands(alloc, program)?;
-    let program = with_record_commands(alloc, program)?;
+    let program = with_module_commands(alloc, program_line(alloc));
+    let program = with_run_commands(alloc, program);
+    let program = with_record_commands(alloc, program);
     with_telling_commands(alloc, program)
 }
 
-// A command is handed on as it was made, or not made: so want of memory lets the line go in `with_command` alone.
+// The line and a command are handed on as they were made, or not made: so want of memory lets them go in `with_command` alone.
+
+type Line<'a> = Result<clap::Command<'a>, AllocError>;
 
 /// The command line with the commands that make no calls of a script, or one at a time.
-fn with_module_commands<'a>(
-    alloc: Global,
-    program: clap::Command<'a>,
-) -> Result<clap::Command<'a>, AllocError>
-    ensures { IfOk result (λ c. app_of c ≡ with_commands (app_of program.entry) module_apps) }
+fn with_module_commands<'a>(alloc: Global, program: Line<'a>) -> Line<'a>
+    ensures { (a : App) → IfOk program.entry (λ c. app_of c ≡ a) → IfOk result (λ c. app_of c ≡ with_commands a module_apps) }
 {
     let check = module_line(alloc, "check", "Tells whether a module keeps the rules");
-    let program = with_command(program, USAGE_CHECK, check)?;
+    let program = with_command(program, USAGE_CHECK, check);
     let list = module_line(alloc, "list", "Prints the code of a module");
-    let program = with_command(program, USAGE_LIST, list)?;
+    let program = with_command(program, USAGE_LIST, list);
     with_command(program, USAGE_SEQ, seq_line(alloc, "seq", ABOUT_SEQ))
 }
 
 /// The command line with the commands that make a run.
-fn with_run_commands<'a>(
-    alloc: Global,
-    program: clap::Command<'a>,
-) -> Result<clap::Command<'a>, AllocError>
-    ensures { IfOk result (λ c. app_of c ≡ with_commands (app_of program.entry) run_apps) }
+fn with_run_commands<'a>(alloc: Global, program: Line<'a>) -> Line<'a>
+    ensures { (a : App) → IfOk program.entry (λ c. app_of c ≡ a) → IfOk result (λ c. app_of c ≡ with_commands a run_apps) }
 {
-    let program = with_command(program, USAGE_RUN, run_line(alloc, "run", ABOUT_RUN))?;
+    let program = with_command(program, USAGE_RUN, run_line(alloc, "run", ABOUT_RUN));
     let serve = serve_line(alloc, "serve", ABOUT_SERVE);
-    let program = with_command(program, USAGE_SERVE, serve)?;
+    let program = with_command(program, USAGE_SERVE, serve);
     with_command(program, USAGE_DRAW, draw_line(alloc, "draw", ABOUT_DRAW))
 }
 
 /// The command line with the commands that look at a record or a history.
-fn with_record_commands<'a>(
-    alloc: Global,
-    program: clap::Command<'a>,
-) -> Result<clap::Command<'a>, AllocError>
-    ensures { IfOk result (λ c. app_of c ≡ with_commands (app_of program.entry) record_apps) }
+fn with_record_commands<'a>(alloc: Global, program: Line<'a>) -> Line<'a>
+    ensures { (a : App) → IfOk program.entry (λ c. app_of c ≡ a) → IfOk result (λ c. app_of c ≡ with_commands a record_apps) }
 {
     let verify = record_line(alloc, "verify", ABOUT_VERIFY);
-    let program = with_command(program, USAGE_VERIFY, verify)?;
+    let program = with_command(program, USAGE_VERIFY, verify);
     with_command(
         program,
         USAGE_ORDER,
@@ -126,14 +121,11 @@ fn with_record_commands<'a>(
 }
 
 /// The command line with the commands that tell of a module.
-fn with_telling_commands<'a>(
-    alloc: Global,
-    program: clap::Command<'a>,
-) -> Result<clap::Command<'a>, AllocError>
-    ensures { IfOk result (λ c. app_of c ≡ with_commands (app_of program.entry) telling_apps) }
+fn with_telling_commands<'a>(alloc: Global, program: Line<'a>) -> Line<'a>
+    ensures { (a : App) → IfOk program.entry (λ c. app_of c ≡ a) → IfOk result (λ c. app_of c ≡ with_commands a telling_apps) }
 {
     let explain = explain_line(alloc, "explain", ABOUT_EXPLAIN);
-    let program = with_command(program, USAGE_EXPLAIN, explain)?;
+    let program = with_command(program, USAGE_EXPLAIN, explain);
     with_command(
         program,
         USAGE_BOUND,
@@ -141,16 +133,12 @@ fn with_telling_commands<'a>(
     )
 }
 
-/// The command line with one command more, which has these forms, where that could be made.
-fn with_command<'a>(
-    program: clap::Command<'a>,
-    usage: &'a str,
-    command: Result<clap::Command<'a>, AllocError>,
-) -> Result<clap::Command<'a>, AllocError>
+/// The command line with one command more, which has these forms, where both could be made.
+fn with_command<'a>(program: Line<'a>, usage: &'a str, command: Line<'a>) -> Line<'a>
     requires local { IfOk command (λ c. (fields_of c).has_globals ≡ false) }
-    ensures { IfOk result (λ c. IsOkAnd command.entry (λ added. app_of c ≡ with_command (app_of program.entry) (app_of added))) }
+    ensures { IfOk result (λ c. IsOkAnd program.entry (λ above. IsOkAnd command.entry (λ added. app_of c ≡ with_command (app_of above) (app_of added)))) }
 {
-    program.subcommand(command?.override_usage(usage))
+    program?.subcommand(command?.override_usage(usage))
 }
 
 /// The command line before any command.

@@ -1,16 +1,17 @@
 //! The words behind each command.
 
-ghost use Rattle.std.specs.Prelude.{◌≡◌, false, IfOk};
-ghost use Rattle.clap.specs.Words.{app_of};
+ghost use Rattle.std.specs.Prelude.{◌≡◌, false, IfOk, IsOkAnd};
+ghost use Rattle.clap.specs.Words.{app_of, rule_of, with_rule};
 ghost use Rattle.clap.specs.declared.builder.command.Command.TheViews.{out-Command as fields_of};
 ghost use Rattle.ob_command_line.specs.ClapCommand.{bound_app, draw_app, drawn_app, explain_app, files_app, module_app, order_app, record_app};
-ghost use Rattle.ob_command_line.specs.ClapCommand.{run_app, schedule_app, search_app, seq_app, serve_app, texts_app};
+ghost use Rattle.ob_command_line.specs.ClapCommand.{run_app, schedule_app, search_app, seq_app, serve_app, texts_app, told_run_app};
 
 use crate::arguments::{
     call_budget, drawn_calls, explained_history, explained_record, file_name, first_record, flag,
     most_configurations, optional_count, optional_name, parting_argument, process_count,
-    seen_budget,
+    schedule_length, schedule_seed, seen_budget,
 };
+use clap::Arg;
 use std::alloc::{AllocError, Global};
 
 const HELP_SCRIPT: &str = "The file of the calls, one a line: PROCESS PROCEDURE ARGUMENTS";
@@ -44,10 +45,13 @@ const HELP_TREE: &str =
 const HELP_STEPS: &str =
     "Prints on standard error each ended call's own steps too, a line each, as `0.1 37`";
 
+const HELP_FINISH: &str =
+    "Goes on behind the schedule until each call has ended, by an item PROCESS! for each of them";
+
 const HELP_TRAPS: &str =
     "Shows for each call of the script that traps the operation that traps, and its values";
 
-/// The words behind a command that makes a run and may tell more of it.
+/// The words behind a command that makes a run, by a schedule that is named or one by chance.
 pub fn run_line<'a>(
     alloc: Global,
     command: &'a str,
@@ -56,14 +60,28 @@ pub fn run_line<'a>(
     ensures app { IfOk result (λ c. app_of c ≡ run_app command.entry.now) }
     ensures local { IfOk result (λ c. (fields_of c).has_globals ≡ false) }
 {
-    schedule_line(alloc, command, about)?
-        .after_help(ITEMS)
-        .arg(first_record(alloc))?
-        .arg(flag(alloc, "tree", HELP_TREE))?
-        .arg(flag(alloc, "steps", HELP_STEPS))
+    let line = told_run_line(alloc, command, about);
+    let line = with_arg(line, schedule_seed(alloc));
+    let line = with_arg(line, schedule_length(alloc));
+    with_arg(line, flag(alloc, "finish", HELP_FINISH))
 }
 
-/// The words behind a command on a module, a script and a schedule, for a number of processes.
+/// The words behind a command that makes a run and may tell more of it.
+pub fn told_run_line<'a>(
+    alloc: Global,
+    command: &'a str,
+    about: &'a str,
+) -> Result<clap::Command<'a>, AllocError>
+    ensures app { IfOk result (λ c. app_of c ≡ told_run_app command.entry.now) }
+    ensures local { IfOk result (λ c. (fields_of c).has_globals ≡ false) }
+{
+    let line = with_items(schedule_line(alloc, command, about));
+    let line = with_arg(line, first_record(alloc));
+    let line = with_arg(line, flag(alloc, "tree", HELP_TREE));
+    with_arg(line, flag(alloc, "steps", HELP_STEPS))
+}
+
+/// The words behind a command on a module, on a script and on a schedule where one is named, for a number of processes.
 pub fn schedule_line<'a>(
     alloc: Global,
     command: &'a str,
@@ -72,11 +90,11 @@ pub fn schedule_line<'a>(
     ensures app { IfOk result (λ c. app_of c ≡ schedule_app command.entry.now) }
     ensures local { IfOk result (λ c. (fields_of c).has_globals ≡ false) }
 {
-    module_line(alloc, command, about)?
-        .arg(file_name(alloc, "SCRIPT", HELP_SCRIPT))?
-        .arg(file_name(alloc, "SCHEDULE", HELP_SCHEDULE))?
-        .arg(process_count(alloc))?
-        .arg(call_budget(alloc))
+    let line = module_line(alloc, command, about);
+    let line = with_arg(line, file_name(alloc, "SCRIPT", HELP_SCRIPT));
+    let line = with_arg(line, optional_name(alloc, "SCHEDULE", HELP_SCHEDULE));
+    let line = with_arg(line, process_count(alloc));
+    with_arg(line, call_budget(alloc))
 }
 
 /// The words behind a command on a module, and on a script and a schedule for a number of processes with a budget or on a record.
@@ -88,10 +106,9 @@ pub fn draw_line<'a>(
     ensures app { IfOk result (λ c. app_of c ≡ draw_app command.entry.now) }
     ensures local { IfOk result (λ c. (fields_of c).has_globals ≡ false) }
 {
-    drawn_line(alloc, command, about)?
-        .after_help(ITEMS)
-        .arg(first_record(alloc))?
-        .arg(drawn_calls(alloc))
+    let line = with_items(drawn_line(alloc, command, about));
+    let line = with_arg(line, first_record(alloc));
+    with_arg(line, drawn_calls(alloc))
 }
 
 /// The names behind a command that draws: of a module, and of a script and a schedule or of a record.
@@ -103,11 +120,11 @@ pub fn drawn_line<'a>(
     ensures app { IfOk result (λ c. app_of c ≡ drawn_app command.entry.now) }
     ensures local { IfOk result (λ c. (fields_of c).has_globals ≡ false) }
 {
-    module_line(alloc, command, about)?
-        .arg(file_name(alloc, "SCRIPT", HELP_DRAWN))?
-        .arg(optional_name(alloc, "SCHEDULE", HELP_SCHEDULE))?
-        .arg(optional_count(alloc))?
-        .arg(call_budget(alloc))
+    let line = module_line(alloc, command, about);
+    let line = with_arg(line, file_name(alloc, "SCRIPT", HELP_DRAWN));
+    let line = with_arg(line, optional_name(alloc, "SCHEDULE", HELP_SCHEDULE));
+    let line = with_arg(line, optional_count(alloc));
+    with_arg(line, call_budget(alloc))
 }
 
 /// The words behind a command on a module and a script, for a number of processes with a budget.
@@ -119,11 +136,11 @@ pub fn serve_line<'a>(
     ensures app { IfOk result (λ c. app_of c ≡ serve_app command.entry.now) }
     ensures local { IfOk result (λ c. (fields_of c).has_globals ≡ false) }
 {
-    module_line(alloc, command, about)?
-        .arg(file_name(alloc, "SCRIPT", HELP_SCRIPT))?
-        .arg(process_count(alloc))?
-        .arg(call_budget(alloc))?
-        .arg(first_record(alloc))
+    let line = module_line(alloc, command, about);
+    let line = with_arg(line, file_name(alloc, "SCRIPT", HELP_SCRIPT));
+    let line = with_arg(line, process_count(alloc));
+    let line = with_arg(line, call_budget(alloc));
+    with_arg(line, first_record(alloc))
 }
 
 /// The words behind a command that makes the calls of a script on a module.
@@ -135,10 +152,10 @@ pub fn seq_line<'a>(
     ensures app { IfOk result (λ c. app_of c ≡ seq_app command.entry.now) }
     ensures local { IfOk result (λ c. (fields_of c).has_globals ≡ false) }
 {
-    module_line(alloc, command, about)?
-        .arg(file_name(alloc, "SCRIPT", HELP_SCRIPT))?
-        .arg(call_budget(alloc))?
-        .arg(first_record(alloc))
+    let line = module_line(alloc, command, about);
+    let line = with_arg(line, file_name(alloc, "SCRIPT", HELP_SCRIPT));
+    let line = with_arg(line, call_budget(alloc));
+    with_arg(line, first_record(alloc))
 }
 
 /// The words behind a command on a module, on a script where one is named, and on a schedule, a record or a history.
@@ -150,9 +167,8 @@ pub fn explain_line<'a>(
     ensures app { IfOk result (λ c. app_of c ≡ explain_app command.entry.now) }
     ensures local { IfOk result (λ c. (fields_of c).has_globals ≡ false) }
 {
-    files_line(alloc, command, about)?
-        .after_help(ITEMS)
-        .arg(flag(alloc, "traps", HELP_TRAPS))
+    let line = with_items(files_line(alloc, command, about));
+    with_arg(line, flag(alloc, "traps", HELP_TRAPS))
 }
 
 /// The names behind a command that explains, and the options that name files.
@@ -164,10 +180,10 @@ pub fn files_line<'a>(
     ensures app { IfOk result (λ c. app_of c ≡ files_app command.entry.now) }
     ensures local { IfOk result (λ c. (fields_of c).has_globals ≡ false) }
 {
-    texts_line(alloc, command, about)?
-        .arg(first_record(alloc))?
-        .arg(explained_record(alloc))?
-        .arg(explained_history(alloc))
+    let line = texts_line(alloc, command, about);
+    let line = with_arg(line, first_record(alloc));
+    let line = with_arg(line, explained_record(alloc));
+    with_arg(line, explained_history(alloc))
 }
 
 /// The names behind a command that explains: of a module, of a script and of a schedule, where they are named.
@@ -179,11 +195,11 @@ pub fn texts_line<'a>(
     ensures app { IfOk result (λ c. app_of c ≡ texts_app command.entry.now) }
     ensures local { IfOk result (λ c. (fields_of c).has_globals ≡ false) }
 {
-    module_line(alloc, command, about)?
-        .arg(optional_name(alloc, "SCRIPT", HELP_SCRIPT))?
-        .arg(optional_name(alloc, "SCHEDULE", HELP_SCHEDULE))?
-        .arg(optional_count(alloc))?
-        .arg(call_budget(alloc))
+    let line = module_line(alloc, command, about);
+    let line = with_arg(line, optional_name(alloc, "SCRIPT", HELP_SCRIPT));
+    let line = with_arg(line, optional_name(alloc, "SCHEDULE", HELP_SCHEDULE));
+    let line = with_arg(line, optional_count(alloc));
+    with_arg(line, call_budget(alloc))
 }
 
 /// The words behind a command on a module, for a number of processes with a budget.
@@ -195,9 +211,9 @@ pub fn bound_line<'a>(
     ensures app { IfOk result (λ c. app_of c ≡ bound_app command.entry.now) }
     ensures local { IfOk result (λ c. (fields_of c).has_globals ≡ false) }
 {
-    module_line(alloc, command, about)?
-        .arg(process_count(alloc))?
-        .arg(call_budget(alloc))
+    let line = module_line(alloc, command, about);
+    let line = with_arg(line, process_count(alloc));
+    with_arg(line, call_budget(alloc))
 }
 
 /// The words behind a command on a module and the record of a run.
@@ -209,7 +225,8 @@ pub fn record_line<'a>(
     ensures app { IfOk result (λ c. app_of c ≡ record_app command.entry.now) }
     ensures local { IfOk result (λ c. (fields_of c).has_globals ≡ false) }
 {
-    module_line(alloc, command, about)?.arg(file_name(alloc, "RECORD", HELP_RECORD))
+    let line = module_line(alloc, command, about);
+    with_arg(line, file_name(alloc, "RECORD", HELP_RECORD))
 }
 
 /// The words behind a command that looks for an order of a history, and says what is printed of it.
@@ -221,9 +238,9 @@ pub fn order_line<'a>(
     ensures app { IfOk result (λ c. app_of c ≡ order_app command.entry.now) }
     ensures local { IfOk result (λ c. (fields_of c).has_globals ≡ false) }
 {
-    search_line(alloc, command, about)?
-        .arg(flag(alloc, "record", HELP_AS_RECORD))?
-        .arg(parting_argument(alloc))
+    let line = search_line(alloc, command, about);
+    let line = with_arg(line, flag(alloc, "record", HELP_AS_RECORD));
+    with_arg(line, parting_argument(alloc))
 }
 
 /// The words behind a command on a module and a history of calls, with a budget, for a search.
@@ -235,10 +252,10 @@ pub fn search_line<'a>(
     ensures app { IfOk result (λ c. app_of c ≡ search_app command.entry.now) }
     ensures local { IfOk result (λ c. (fields_of c).has_globals ≡ false) }
 {
-    module_line(alloc, command, about)?
-        .arg(file_name(alloc, "HISTORY", HELP_HISTORY))?
-        .arg(seen_budget(alloc))?
-        .arg(most_configurations(alloc))
+    let line = module_line(alloc, command, about);
+    let line = with_arg(line, file_name(alloc, "HISTORY", HELP_HISTORY));
+    let line = with_arg(line, seen_budget(alloc));
+    with_arg(line, most_configurations(alloc))
 }
 
 /// The words behind a command on a module: the module's name.
@@ -252,4 +269,28 @@ pub fn module_line<'a>(
 {
     let module = file_name(alloc, "MODULE", "The file of the module's text");
     clap::Command::new(alloc, command).about(about).arg(module)
+}
+
+// What is made is handed on as it was made, or not made: so want of memory lets a line go in these two alone.
+
+/// The words behind a command with one more, where they could be made.
+fn with_arg<'a>(
+    line: Result<clap::Command<'a>, AllocError>,
+    arg: Arg<'a>,
+) -> Result<clap::Command<'a>, AllocError>
+    requires { arg.global ≡ false }
+    ensures app { IfOk result (λ c. IsOkAnd line.entry (λ before. app_of c ≡ with_rule (app_of before) (rule_of arg.entry))) }
+    ensures local { IfOk result (λ c. IsOkAnd line.entry (λ before. (fields_of c).has_globals ≡ (fields_of before).has_globals)) }
+{
+    line?.arg(arg)
+}
+
+/// The same words, where they could be made; below their help stands what the items of a schedule are.
+fn with_items<'a>(
+    line: Result<clap::Command<'a>, AllocError>,
+) -> Result<clap::Command<'a>, AllocError>
+    ensures app { IfOk result (λ c. IsOkAnd line.entry (λ before. app_of c ≡ app_of before)) }
+    ensures local { IfOk result (λ c. IsOkAnd line.entry (λ before. (fields_of c).has_globals ≡ (fields_of before).has_globals)) }
+{
+    Ok(line?.after_help(ITEMS))
 }

@@ -17,8 +17,21 @@ const COUNTER: &[u8] = b"MODULE C; VAR x: INTEGER; PROCEDURE Inc*; BEGIN x := x 
 
 type CodeDesk = Desk<CodeEngine>;
 
-/// Whether a desk was closed with seats; none where memory wanted before that.
-type Closing = Option<Result<(), CloseFault>>;
+/// Whether a desk was closed with seats, where memory did not want before that.
+pub type Closing = Result<Result<(), CloseFault>, Short>;
+
+/// What is done with a desk's seats before it is closed with them.
+#[derive(Clone, Copy)]
+pub enum Change {
+    /// They stay as they are.
+    Nothing,
+    /// That of process 1 is taken away.
+    Missing,
+    /// One of another tag stands in the place of that of process 0.
+    OtherTag,
+    /// That of process 1 is of a desk at which it took its turns first, so that it has another answer.
+    OtherDesk,
+}
 
 /// Memory wanted before a desk was closed.
 #[derive(Clone, Copy)]
@@ -77,40 +90,43 @@ fn used<R: Wait + AllocGlobal>(
     Ok((desk, seats))
 }
 
-/// What closing a desk with seats comes to.
-fn closed(desk: CodeDesk, seats: Vec<Seat>) -> Result<(), CloseFault> {
-    desk.close(seats.as_slice())?;
+/// What closing a desk comes to, with its seats so changed.
+pub fn closed<R: Wait + AllocGlobal>(rt: &R, change: Change) -> Closing {
+    let (desk, mut seats) = used(rt, 0, 1)?;
+    make(rt, change, &mut seats)?;
+    Ok(close(desk, seats))
+}
+
+/// Makes a change of seats.
+fn make<R: Wait + AllocGlobal>(rt: &R, change: Change, seats: &mut Vec<Seat>) -> Result<(), Short> {
+    match change {
+        Change::Nothing => {}
+        Change::Missing => {
+            seats.pop();
+        }
+        Change::OtherTag => {
+            let own = seats.pop();
+            seats.clear();
+            add(seats, Some(Seat::new(rt.alloc(), 0, 8)))?;
+            add(seats, own)?;
+        }
+        Change::OtherDesk => {
+            let (_, mut others) = used(rt, 1, 0)?;
+            seats.pop();
+            add(seats, others.pop())?;
+        }
+    }
     Ok(())
 }
 
-/// With the desk's own seats.
-pub fn own_seats<R: Wait + AllocGlobal>(rt: &R) -> Closing {
-    let (desk, seats) = used(rt, 0, 1).ok()?;
-    Some(closed(desk, seats))
+/// Adds a seat, where there is one.
+fn add(seats: &mut Vec<Seat>, seat: Option<Seat>) -> Result<(), NoMemory> {
+    seats.extend(seat)?;
+    Ok(())
 }
 
-/// Without that of process 1.
-pub fn missing_seat<R: Wait + AllocGlobal>(rt: &R) -> Closing {
-    let (desk, mut seats) = used(rt, 0, 1).ok()?;
-    seats.pop();
-    Some(closed(desk, seats))
-}
-
-/// With one of another tag in the place of that of process 0.
-pub fn seat_of_another_tag<R: Wait + AllocGlobal>(rt: &R) -> Closing {
-    let (desk, mut seats) = used(rt, 0, 1).ok()?;
-    let own = seats.pop();
-    seats.clear();
-    seats.push(Seat::new(rt.alloc(), 0, 8)).ok()?;
-    seats.extend(own).ok()?;
-    Some(closed(desk, seats))
-}
-
-/// With one of a desk at which process 1 took its turns first in the place of its own, so that it has another answer.
-pub fn seat_of_another_desk<R: Wait + AllocGlobal>(rt: &R) -> Closing {
-    let (_, mut others) = used(rt, 1, 0).ok()?;
-    let (desk, mut seats) = used(rt, 0, 1).ok()?;
-    seats.pop();
-    seats.extend(others.pop()).ok()?;
-    Some(closed(desk, seats))
+/// What closing a desk with seats comes to.
+fn close(desk: CodeDesk, seats: Vec<Seat>) -> Result<(), CloseFault> {
+    desk.close(seats.as_slice())?;
+    Ok(())
 }

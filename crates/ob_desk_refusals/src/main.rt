@@ -5,7 +5,7 @@
 mod desks;
 mod gates;
 
-use ob_desk_lock::CloseFault;
+use desks::{Change, Closing};
 use ob_desk_texts::ServeTextFault;
 use std::process::ExitCode;
 use std::sync::Wait;
@@ -22,10 +22,10 @@ fn main(rt: HostRuntime) -> ExitCode {
 fn run<R: Threads + Wait + Sync + Print + AllocGlobal>(rt: &R) -> Result<(), std::io::Error> {
     served(rt, gates::together(rt))?;
     served(rt, gates::one_stands_still(rt))?;
-    closed(rt, desks::own_seats(rt))?;
-    closed(rt, desks::missing_seat(rt))?;
-    closed(rt, desks::seat_of_another_tag(rt))?;
-    closed(rt, desks::seat_of_another_desk(rt))
+    closed(rt, desks::closed(rt, Change::Nothing))?;
+    closed(rt, desks::closed(rt, Change::Missing))?;
+    closed(rt, desks::closed(rt, Change::OtherTag))?;
+    closed(rt, desks::closed(rt, Change::OtherDesk))
 }
 
 /// Whether workers gave the record that has to come, or why they gave none.
@@ -37,11 +37,11 @@ fn served<R: Print>(rt: &R, told: Result<bool, ServeTextFault>) -> Result<(), st
     }
 }
 
-/// Whether a desk was closed, or why it was not; none where it could not be opened or used.
-fn closed<R: Print>(rt: &R, told: Option<Result<(), CloseFault>>) -> Result<(), std::io::Error> {
+/// Whether a desk was closed, or why it was not; want of memory where it could not be opened or used.
+fn closed<R: Print>(rt: &R, told: Closing) -> Result<(), std::io::Error> {
     match told {
-        Some(Ok(())) => rt.println("closed"),
-        Some(Err(fault)) => rt.println(fault),
-        None => rt.println("NoMemory"),
+        Ok(Ok(())) => rt.println("closed"),
+        Ok(Err(fault)) => rt.println(fault),
+        Err(_) => rt.println("NoMemory"),
     }
 }

@@ -2,4 +2,4 @@ mod Ends
 mod Started
 mod Numbered
 pub mod Closed
-mod Submitted
+pub mod Submitted

@@ -7,7 +7,7 @@ use Rattle.ob_object_perform.specs.declared.drawing.DrawFault.{DrawFault}
 use Rattle.ob_object_perform.specs.declared.drawing.DrawFault.TheVariants as Faults
 use Rattle.ob_text_picture_chart.specs.declared.fault.PictureFault.{PictureFault}
 use Rattle.ob_text_picture_chart.specs.declared.fault.PictureFault.TheVariants as Pictures
-use Rattle.ob_fault_lines.specs.ModuleFaultLines.{Text, no_memory_line, text_line}
+use Rattle.ob_fault_lines.specs.ModuleFaultLines.{Text, no_memory_line, open_line, text_line}
 use Rattle.ob_fault_lines.specs.RunFaultLines.{run_fault_line}
 use Rattle.ob_fault_lines.specs.ScriptFaultLines.{at_line}
 
@@ -24,5 +24,6 @@ draw_fault_line beginning (Faults.Calls e) = picture_line e
 abbrev pub draw_record_fault_line : DrawRecordFault → Text
 draw_record_fault_line (Records.Text e) = text_line e
 draw_record_fault_line (Records.Form line) = at_line (codes "F1") line
+draw_record_fault_line (Records.Open e) = open_line e
 draw_record_fault_line (Records.Calls e) = picture_line e
 draw_record_fault_line Records.NoMemory = no_memory_line

@@ -4,7 +4,7 @@ ghost use Rattle.std.specs.Prelude.{◌≡◌, ◌++◌, IfOk, OnOk, codes, deci
 ghost use Rattle.ob_fault_lines.specs.DrawFaultLines.{draw_fault_line, draw_record_fault_line, picture_line};
 ghost use Rattle.ob_object_compile.specs.View.{beginning_of};
 
-use crate::module_faults::push_text_fault;
+use crate::module_faults::{push_open_fault, push_text_fault};
 use crate::run_faults::run_fault_line;
 use crate::script_faults::push_line_number;
 use ob_object_compile::Beginning;
@@ -28,7 +28,8 @@ pub fn draw_fault_line(
     }
 }
 
-fn picture_fault_line(alloc: Global, fault: PictureFault) -> Result<String, AllocError>
+/// The line of a fault of the calls of a picture, without a line feed.
+pub fn picture_fault_line(alloc: Global, fault: PictureFault) -> Result<String, AllocError>
     ensures { IfOk result (λ line. string_bytes line ≡ picture_line fault) }
 {
     let mut line = String::new(alloc);
@@ -44,6 +45,7 @@ pub fn draw_record_fault_line(alloc: Global, fault: DrawRecordFault) -> Result<S
     match fault {
         DrawRecordFault::Text(fault) => push_text_fault(&mut line, fault)?,
         DrawRecordFault::Form(number) => push_line_number(&mut line, "F1", number)?,
+        DrawRecordFault::Open(fault) => push_open_fault(&mut line, fault)?,
         DrawRecordFault::Calls(fault) => push_picture_fault(&mut line, fault)?,
         DrawRecordFault::NoMemory => line.push_str("NoMemory")?,
     }

@@ -65,14 +65,6 @@ fn assign_part(
     Ok(turns)
 }
 
-/// How many variables of its own a procedure has; none where there is no such procedure.
-fn variables_of(program: &Program, number: usize) -> usize {
-    match program.procedures.get(number) {
-        Some(procedure) => procedure.variables.len(),
-        None => 0,
-    }
-}
-
 /// Runs statements one after the other with so many turns, and answers how many are left.
 #[cycle(running)]
 pub fn run(
@@ -107,7 +99,11 @@ fn execute(
     match statement {
         Statement::Assign { target, value } => assign(context.alloc, store, target, value, turns),
         Statement::Call { procedure, actuals } => {
-            let room = variables_of(context.program, *procedure);
+            // (room for the variables of its own, which the call adds)
+            let room = match context.program.procedures.get(*procedure) {
+                Some(called) => called.variables.len(),
+                None => 0,
+            };
             let handed = all_handed(context.alloc, store, actuals.as_slice(), room)?;
             call(context, store, *procedure, handed, turns)
         }

@@ -17,7 +17,7 @@ use Rattle.ob_typing.specs.ModuleText.{IsModule}
 use Rattle.ob_typing.specs.Program.{Program}
 
 -- a range with a fault has no calls, or more than a picture
-not_shown : (total : ℕ) (calls : Option CallRange) (e : PictureFault) → e ≢ Pictures.NoMemory → IsRangeFault total calls e → MayBeShown total calls → ⊥
+pub not_shown : (total : ℕ) (calls : Option CallRange) (e : PictureFault) → e ≢ Pictures.NoMemory → IsRangeFault total calls e → MayBeShown total calls → ⊥
 not_shown total None (Pictures.NoCalls all) known h shown = h.1
 not_shown total (Some range) (Pictures.NoCalls all) known h shown =
     let first = shown.some.0 in
@@ -51,7 +51,7 @@ module _ (module_text record_text : List ℕ) (calls : Option CallRange) where
       shown_here : (output : List ℕ) → IsRecordPicture module_text record_text calls output → MayBeShown (length (begun seen)) calls
       shown_here output p =
           rw same
-          (subst (λ (t : Told). MayBeShown (length (begun (moments_of t))) calls) (alone p.tells (record_here output p)) p.within)
+          (subst (λ (t : Told). MayBeShown (length (begun (moments_of t))) calls) (alone p.tells (record_here output p)) p.drawn.within)
 
       pub no_range : (e : PictureFault) → IsRangeFault (length (begun seen)) calls e → IsNumbered (of_picture e) → HasNoPicture module_text record_text calls
       no_range (Pictures.NoCalls all) h numbered output p = not_shown (length (begun seen)) calls (Pictures.NoCalls all) numbered.1 h (shown_here output p)

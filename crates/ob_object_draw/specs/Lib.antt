@@ -1,1 +1,2 @@
 pub mod RecordPictures
+pub mod Marks

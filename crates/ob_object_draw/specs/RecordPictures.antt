@@ -1,13 +1,18 @@
 -- What is drawn of a record, from the bytes of a module and of the record, and why there is no picture.
-use Rattle.std.specs.Prelude.{◌≡◌, ◌≢◌, ℕ, List, Option, length}
+use Rattle.std.specs.Prelude.{◌≡◌, ◌≢◌, ℕ, List, Option, length, option_map}
 use Rattle.ob_check_text.specs.CheckedText.{IsTextFault, TellsTextMemoryApart}
 use Rattle.ob_check_text.specs.declared.checked_text.TextFault.{TextFault}
 use Rattle.ob_check_text.specs.declared.checked_text.TextFault.TheVariants as Text
 use Rattle.ob_checked.specs.Exports.{signatures}
+use Rattle.ob_interface.specs.Export.{Signature}
+use Rattle.ob_interpreter.specs.declared.opening.OpenFault.TheVariants as Open
+use Rattle.ob_object_draw.specs.Marks.{IsCallMarked}
 use Rattle.ob_object_draw.specs.declared.drawing.DrawRecordFault.{DrawRecordFault}
 use Rattle.ob_object_draw.specs.declared.drawing.DrawRecordFault.TheVariants as Faults
+use Rattle.ob_object_verify.specs.VerifyFaults.{IsVerifyFault}
+use Rattle.ob_object_verify.specs.declared.verifying.VerifyFault.TheVariants as Verify
 use Rattle.ob_text_picture.specs.Shapes.{picture_text}
-use Rattle.ob_text_picture_chart.specs.Charts.{begun, chart_of, range_of}
+use Rattle.ob_text_picture_chart.specs.Charts.{Mark, begun, chart_of, marked, range_of}
 use Rattle.ob_text_picture_chart.specs.Faults.{IsRangeFault, MayBeShown}
 use Rattle.ob_text_picture_chart.specs.Moments.{Moment, placed_from}
 use Rattle.ob_text_picture_chart.specs.declared.charts.CallRange.{CallRange}
@@ -28,14 +33,21 @@ pub record IsRead (module_text record_text : List ℕ) (program : Program) (tell
   pub is_module : IsModule module_text program
   pub is_record : IsRecord program record_text tells
 
--- the bytes are the picture of the calls of a range of what the record tells: there are such calls, no more than a picture has
+-- the bytes are the picture of the calls of a range of what a record tells, with this mark: there are such calls, no more than a picture
+-- has
+pub record IsDrawn (names : List Signature) (tells : Told) (mark : Option Mark) (calls : Option CallRange) (output : List ℕ) : Type 0 where
+  pub within : MayBeShown (length (begun (moments_of tells))) calls
+  pub printed :
+      output ≡ picture_text names (marked mark (chart_of tells.processes (moments_of tells) tells.order (range_of (length (begun (moments_of tells))) calls)))
+
+-- the bytes are such a picture of a record, in which the call is marked of which its order's fault is, or none where the order is legal
 pub record IsRecordPicture (module_text record_text : List ℕ) (calls : Option CallRange) (output : List ℕ) : Type 0 where
   pub program : Program
   pub tells : Told
   pub read : IsRead module_text record_text program tells
-  pub within : MayBeShown (length (begun (moments_of tells))) calls
-  pub printed :
-      output ≡ picture_text (signatures program) (chart_of tells.processes (moments_of tells) tells.order (range_of (length (begun (moments_of tells))) calls))
+  pub mark : Option Mark
+  pub marks : IsCallMarked module_text record_text (option_map (λ m. m.id) mark)
+  pub drawn : IsDrawn (signatures program) tells mark calls output
 
 -- the texts have no picture of the calls of a range
 abbrev pub HasNoPicture : (module_text record_text : List ℕ) → Option CallRange → Type 0
@@ -58,6 +70,7 @@ pub record IsRangeFaultOf (module_text record_text : List ℕ) (calls : Option C
 abbrev pub IsDrawRecordFault : (module_text record_text : List ℕ) → Option CallRange → DrawRecordFault → Type 0
 IsDrawRecordFault module_text record_text calls (Faults.Text e) = IsTextFault module_text e
 IsDrawRecordFault module_text record_text calls (Faults.Form line) = IsFormFault module_text record_text line
+IsDrawRecordFault module_text record_text calls (Faults.Open e) = IsVerifyFault module_text record_text (Verify.Open e)
 IsDrawRecordFault module_text record_text calls (Faults.Calls e) = IsRangeFaultOf module_text record_text calls e
 IsDrawRecordFault module_text record_text calls Faults.NoMemory = Unit {0}
 
@@ -79,9 +92,16 @@ of_picture e = Faults.Calls e
 abbrev pub TellsMemoryApart : DrawRecordFault → Type 0
 TellsMemoryApart (Faults.Text e) = TellsTextMemoryApart e × (e ≢ Text.NoMemory)
 TellsMemoryApart (Faults.Form line) = Unit {0}
+TellsMemoryApart (Faults.Open e) = e ≢ Open.NoMemory
 TellsMemoryApart (Faults.Calls e) = e ≢ Pictures.NoMemory
 TellsMemoryApart Faults.NoMemory = Unit {0}
 
 -- a fault with a number, so no want of memory
 abbrev pub IsNumbered : DrawRecordFault → Type 0
 IsNumbered fault = (fault ≢ Faults.NoMemory) × TellsMemoryApart fault
+
+-- what is said with a fault, whatever calls are to be drawn
+pub record IsRefusal (module_text record_text : List ℕ) (fault : DrawRecordFault) : Type 0 where
+  pub says : (calls : Option CallRange) → IsDrawRecordFault module_text record_text calls fault
+  pub none : IsNumbered fault → (calls : Option CallRange) → HasNoPicture module_text record_text calls
+  pub memory : TellsMemoryApart fault

@@ -1,18 +1,24 @@
 //! Records as pictures.
 
-ghost use Rattle.std.specs.Prelude.{◌≡◌, ◌<◌, ◌≤◌, Err, IfErr, IfOk, length, string_bytes};
+ghost use Rattle.std.specs.Prelude.{◌≡◌, ◌<◌, ◌≤◌, Err, IfErr, IfOk, length, option_map, string_bytes};
 ghost use Rattle.ob_checked.specs.CheckedModule.{program_in};
 ghost use Rattle.ob_interface.specs.Processes.{most_processes};
-ghost use Rattle.ob_object_draw.specs.RecordPictures.{HasNoPicture, IsDrawRecordFault, IsNumbered, IsRecordPicture, TellsMemoryApart};
+ghost use Rattle.ob_object_draw.specs.RecordPictures.{HasNoPicture, IsDrawRecordFault, IsDrawn, IsNumbered, IsRecordPicture, TellsMemoryApart, moments_of};
+ghost use Rattle.ob_checked.specs.Exports.{signatures};
+ghost use Rattle.ob_text_picture_chart.specs.Charts.{begun};
+ghost use Rattle.ob_text_picture_chart.specs.Faults.{IsRangeFault};
+ghost use Rattle.ob_text_picture_chart.specs.View.{mark_of};
 ghost use Rattle.ob_text_record_reading.specs.RecordLines.{IsRecord, IsRecordFault, Told};
 ghost use Rattle.ob_text_record_reading.specs.Told.{told_of};
 
+use crate::marking::{mark_of, marked_call};
 use ob_check_text::checked_text::{TextFault, checked_text};
 use ob_checked::checked::Checked;
+use ob_interpreter::opening::OpenFault;
 use ob_scan::ScanFault;
 use ob_scan::scanner::LONGEST_TEXT;
-use ob_text_picture::draw;
-use ob_text_picture_chart::{CallRange, PictureFault, placed_moments};
+use ob_text_picture::picture;
+use ob_text_picture_chart::{CallRange, Mark, PictureFault, chart_of, placed_moments};
 use ob_text_record_reading::{ReadRecord, RecordFault, read_record};
 use std::alloc::{AllocError, Global};
 use thiserror::Error;
@@ -26,6 +32,9 @@ pub enum DrawRecordFault {
     /// F1: the record's line is missing, or not of its form or place. Lines count from 1.
     #[error("F1 line {0}")]
     Form(usize),
+    /// O2: the module has no opening state, and no values were carried over.
+    #[error("{0}")]
+    Open(OpenFault),
     /// I1 or I2: the record has no calls of the range, or more than a picture.
     #[error("{0}")]
     Calls(PictureFault),
@@ -88,7 +97,7 @@ impl From<AllocError> for DrawRecordFault {
 }
 
 /// The picture of the calls of a range of a record of a module's object, or of all: an SVG. When calls took effect is told by
-/// the record's order alone, and by whose step isn't told.
+/// the record's order alone, and by whose step isn't told. Where that order is no legal one, the call of its fault is marked.
 pub fn draw_record_text(
     alloc: Global,
     module: &[u8],
@@ -107,17 +116,29 @@ pub fn draw_record_text(
     // A module's text over the scanner's bound is refused, whatever it says.
     ensures too_long { LONGEST_TEXT < length «module».now → result ≡ Err (DrawRecordFault.Text (TextFault.Scan ScanFault.TooLong)) }
 {
+    let marked = marked_call(alloc, module, record)?;
     let checked = checked_text(alloc, module)?;
     let read = read_few(alloc, &checked, record)?;
+    let mark = mark_of(&marked);
+    Ok(drawn(alloc, &checked, &read, mark, calls)?)
+}
+
+/// The picture of what a record tells, with a mark.
+fn drawn(
+    alloc: Global,
+    checked: &Checked,
+    read: &ReadRecord,
+    mark: Option<Mark>,
+    calls: Option<CallRange>,
+) -> Result<String, PictureFault>
+    requires { read.now.processes ≤ most_processes }
+    ensures picture { IfOk result (λ text. IsDrawn (signatures (program_in checked.now)) (told_of read.now) (option_map mark_of mark.entry) calls (string_bytes text)) }
+    ensures fault { IfErr result (IsRangeFault (length (begun (moments_of (told_of read.now)))) calls) }
+{
     let moments = placed_moments(alloc, read.history.events(), &read.order)?;
-    Ok(draw(
-        alloc,
-        checked.exports(),
-        read.processes,
-        &moments,
-        &read.order,
-        calls,
-    )?)
+    let mut chart = chart_of(alloc, read.processes, &moments, &read.order, calls)?;
+    chart.mark = mark;
+    Ok(picture(alloc, checked.exports(), &chart)?)
 }
 
 /// What a record tells, whose processes are no more than an object has.

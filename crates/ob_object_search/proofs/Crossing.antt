@@ -1,5 +1,5 @@
 -- Histories by position and by name: they have the same legal orders, and cease at the same call to have one.
-use Rattle.std.proofs.Common.{ℕ, ◌+◌, List, Option, take}
+use Rattle.std.proofs.Common.{ℕ, ◌+◌, List, ◌++◌, Option, take}
 use Rattle.ob_agreement.specs.Resolved.{IsResolved}
 use Rattle.ob_agreement.specs.Same.{SameState}
 use Rattle.ob_code_law.proofs.Named.{names_simulate, positions_simulate}
@@ -11,7 +11,7 @@ use Rattle.ob_interpreter.specs.declared.opening.OpenFault.TheVariants as Open
 use Rattle.ob_meaning.specs.Object.{State}
 use Rattle.ob_object_order.specs.LegalOrder.{CallEnds}
 use Rattle.ob_object_search.proofs.Fitting.{calls_fit, front_fits, history_opened}
-use Rattle.ob_object_search.specs.Searched.{HasOrder, budget_of}
+use Rattle.ob_object_search.specs.Searched.{HasNoneNeedless, HasOrder, budget_of}
 use Rattle.ob_object_search.specs.SearchFaults.{CeasesAt, HasSearchFault}
 use Rattle.ob_object_search.specs.declared.searching.SearchFault.{SearchFault}
 use Rattle.ob_object_search.specs.declared.searching.SearchFault.TheVariants as Faults
@@ -74,6 +74,9 @@ module _ (program : Program) (good : IsResolved program) where
         let legal = legal_there (Fits program) IsPlaced (CallMeans program (budget_of asked t.budget)) (CallEnds program (budget_of asked t.budget)) (positions_simulate program (budget_of asked t.budget) good)
         t.events order (calls_fit program text t r.start.is_history) r.start.opening o.0 o.2 r.last r.legal in
         record { start = record { tells = t; is_history = r.start.is_history; opening = o.0; begins = o.1 }; last = legal.end; legal = legal.legal }
+
+    pub needed_named : (order : List CallId) → HasNoneNeedless BeginsPlaced CallEnds program text asked order → HasNoneNeedless BeginsNamed CallMeans program text asked order
+    needed_named order needed first rest id parts opens has = needed first rest id parts opens (order_placed (first ++ rest) has)
 
     pub fault_named : (most : ℕ) (e : SearchFault) → HasSearchFault BeginsPlaced TrapsPlaced CallEnds program text asked most e → HasSearchFault BeginsNamed TrapsNamed CallMeans program text asked most e
     fault_named most (Faults.Text e) h = h

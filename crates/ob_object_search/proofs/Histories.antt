@@ -1,13 +1,13 @@
 -- What is found of a history's text, as what is answered.
-use Rattle.std.proofs.Common.{◌≡◌, ◌≢◌, ◌<◌, ◌≤◌, ◌∙◌, List, [], ℕ, Option, All, length, map, refl, ap, sym, subst, ◌⊎◌, inl, inr, arith}
+use Rattle.std.proofs.Common.{◌≡◌, ◌≢◌, ◌<◌, ◌≤◌, ◌∙◌, List, [], ◌∷◌, ◌++◌, ℕ, Option, All, length, map, refl, ap, sym, subst, ◌⊎◌, inl, inr, arith}
 use Rattle.std.proofs.lemmas.List.{length-map}
 use Rattle.ob_interface.specs.Call.{ObjectCall, Reply}
 use Rattle.ob_interpreter.specs.declared.opening.OpenFault.{OpenFault}
 use Rattle.ob_interpreter.specs.declared.opening.OpenFault.TheVariants as Open
 use Rattle.ob_object_order.specs.LegalOrder.{CallEnds}
 use Rattle.ob_object_search.proofs.Few.{no_more}
-use Rattle.ob_object_search.specs.Found.{HasOrderHere, IsEnoughHere, IsFaultHere}
-use Rattle.ob_object_search.specs.Searched.{HasEnough, HasOrder, budget_of}
+use Rattle.ob_object_search.specs.Found.{HasOrderHere, IsEnoughHere, IsFaultHere, IsNeededHere}
+use Rattle.ob_object_search.specs.Searched.{HasEnough, HasNoneNeedless, HasOrder, budget_of}
 use Rattle.ob_object_search.specs.SearchFaults.{CeasesAt, HasSearchFault, IsUndecided, TellsMemoryApart, of_open, of_reading}
 use Rattle.ob_object_search.specs.declared.searching.SearchFault.{SearchFault}
 use Rattle.ob_object_search.specs.declared.searching.SearchFault.TheVariants as Faults
@@ -22,6 +22,7 @@ use Rattle.ob_typing.specs.Program.{Program}
 use Rattle.wf_history.specs.History.{Event, own_events}
 use Rattle.wf_history.specs.Legal.{IsLegal}
 use Rattle.wf_history.specs.declared.event.CallId.{CallId}
+use Rattle.wf_needed.specs.Needed.{IsOpen}
 use Rattle.wf_order.proofs.Bounds.{enough_more}
 use Rattle.wf_order.specs.Verdict.{HasLegal, HasMoreFront, enough}
 
@@ -90,14 +91,16 @@ module _ (program : Program) (text : List ℕ) (asked : Option ℕ) (most : ℕ)
             legal = subst (λ (b : ℕ). IsLegal (CallEnds program b) opening tells.events order l.0) is_budget l.1;
           }
 
-      has_legal : (order : List CallId) → Has order → HasLegal Ends opening tells.events
-      has_legal order r = (
-        order,
+      legal_has : (order : List CallId) → Has order → (last : Activation) × IsLegal Ends opening tells.events order last
+      legal_has order r = (
         r.last,
         subst (λ (s : Activation). IsLegal Ends s tells.events order r.last) (one_state program tells.carried r.start.opening opening (same_beginning r.start.tells r.start.is_history r.start.opening r.start.begins) begins)
             (subst (λ (b : ℕ). IsLegal (CallEnds program b) r.start.opening tells.events order r.last) (sym is_budget)
             (subst (λ (t : HistoryTold). IsLegal (CallEnds program (budget_of asked t.budget)) r.start.opening t.events order r.last) (alone r.start.tells r.start.is_history) r.legal)),
       )
+
+      has_legal : (order : List CallId) → Has order → HasLegal Ends opening tells.events
+      has_legal order r = let l = legal_has order r in (order, l.0, l.1)
 
       pub no_order : (id : CallId) → CeasesAt Ends opening tells.events id → HasFault (Faults.Illegal id)
       no_order id c =
@@ -129,6 +132,14 @@ module _ (program : Program) (text : List ℕ) (asked : Option ℕ) (most : ℕ)
       module _ (names : List ℕ) (numbered : List (Event ObjectCall Reply)) (same : tells.events ≡ named_all names numbered) where
         pub found_order : (order : List CallId) → HasOrderHere program budget opening numbered names order → Has order
         found_order order h = order_here order (h.0, subst (λ (l : List (Event ObjectCall Reply)). IsLegal Ends opening l order h.0) (sym same) h.1)
+
+        pub found_needed : (order : List CallId) → IsNeededHere program budget opening numbered names order → HasNoneNeedless BeginsPlaced CallEnds program text asked order
+        found_needed order needed first rest id parts opens has =
+            let l = legal_has (first ++ rest) has in
+            let never = subst (λ (t : HistoryTold). IsOpen t.events id) (alone opens.tells opens.is_history) opens.never_ends in
+            needed first rest id l.0 parts
+            (subst (λ (es : List (Event ObjectCall Reply)). IsOpen es id) same never)
+            (subst (λ (es : List (Event ObjectCall Reply)). IsLegal Ends opening es (first ++ rest) l.0) same l.1)
 
         ceases : (id : CallId) → IsFaultHere program budget opening numbered names most (Faults.Illegal id) → CeasesAt Ends opening tells.events id
         ceases id h = subst (λ (l : List (Event ObjectCall Reply)). CeasesAt Ends opening l id) (sym same) h

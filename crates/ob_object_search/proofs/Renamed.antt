@@ -1,17 +1,18 @@
 -- Where the processes of a history go by other numbers, no two by the same, its legal orders are the same orders by those numbers.
 use Rattle.std.proofs.Common.{◌≡◌, ◌∙◌, ℕ, zero, suc, ◌+◌, ◌<◌, List, [], ◌∷◌, ◌++◌, length, map, Some, None, sym, ap, subst, refl, arith, option_map, get_or, take, Bool, cond, inl, inr, eq-eqb}
 use Rattle.std.proofs.lemmas.Bool.{cases_eq, ne_eqb}
-use Rattle.std.proofs.lemmas.List.{take-map}
+use Rattle.std.proofs.lemmas.List.{map-append, take-map}
 use Rattle.std.proofs.lemmas.List.Elements.{Contains-append_right}
 use Rattle.std.proofs.lemmas.Option.{same_Some, slice_get-get_or, slice_get-map}
 use Rattle.std.specs.List.{slice_get, Contains}
 use Rattle.std.specs.Prelude.{Option, nat_eq}
 use Rattle.ob_interface.specs.Call.{ObjectCall, Reply}
 use Rattle.ob_text_history_reading.specs.Names.{AreApart, AreBelow, named, named_all, named_id}
-use Rattle.wf_history.proofs.Positions.{contains_at, place_here, place_of, place_take, same_call}
+use Rattle.wf_history.proofs.Positions.{contains_at, place_behind, place_here, place_left, place_of, place_take, same_call}
 use Rattle.wf_history.specs.declared.event.CallId.{CallId}
 use Rattle.wf_history.specs.History.{Event, Begin, Applied, End, Before}
 use Rattle.wf_history.specs.Legal.{HasBegun, IsLegal, NoRepeats, OneAtATime, RepliesAgree, more, none}
+use Rattle.wf_needed.specs.Needed.{NoneIsNeedless}
 use Rattle.wf_order.proofs.Places.{before_at, places_before}
 use Rattle.wf_order.specs.Verdict.{HasLegal, IsLastLegal}
 
@@ -52,6 +53,23 @@ module _ {A B : Type 0} (g : A → B) where
   split_map (x ∷ xs) (f ∷ first) y rest h =
       let r = split_map xs first y rest (first_is (g x) f (map g xs) (first ++ y ∷ rest) h).1 in
       (x ∷ r.0, r.1, r.2, ap (λ (l : List A). x ∷ l) r.3, r.4, r.5)
+
+  -- the same with what stands before it
+  pub split_whole : (xs : List A) (first : List B) (y : B) (rest : List B) → map g xs ≡ first ++ y ∷ rest →
+      (front : List A) × (x : A) × (back : List A) × (xs ≡ front ++ x ∷ back) × (map g front ≡ first) × (g x ≡ y) × (map g back ≡ rest)
+  split_whole [] [] y rest h = absurd (cc)
+  split_whole [] (f ∷ first) y rest h = absurd (cc)
+  split_whole (x ∷ xs) [] y rest h = let s = first_is (g x) y (map g xs) rest h in ([], x, xs, refl, refl, s.0, s.1)
+  split_whole (x ∷ xs) (f ∷ first) y rest h =
+      let s = first_is (g x) f (map g xs) (first ++ y ∷ rest) h in
+      let r = split_whole xs first y rest s.1 in
+      (x ∷ r.0, r.1, r.2, ap (λ (l : List A). x ∷ l) r.3, ap (λ (z : B). z ∷ map g r.0) s.0 ∙ ap (λ (l : List B). f ∷ l) r.4, r.5, r.6)
+
+  -- what comes back, item by item
+  back_again : (h : B → A) (xs : List A) → ((k : ℕ) (x : A) → slice_get xs k ≡ Some x → h (g x) ≡ x) → map h (map g xs) ≡ xs
+  back_again h [] known = refl
+  back_again h (x ∷ xs) known =
+      ap (λ (y : A). y ∷ map h (map g xs)) (known 0 x refl) ∙ ap (λ (l : List A). x ∷ l) (back_again h xs (λ k y at. known (suc k) y at))
 
 pub behind : {A : Type 0} (x : A) (xs : List A) (y : A) → Contains xs y → Contains (x ∷ xs) y
 behind x xs y h = let p = place_of xs y h in contains_at (x ∷ xs) (suc p.0) y p.1
@@ -175,6 +193,30 @@ module _ {Call Reply : Type 0} where
           agree = agree_there known l.agree;
         }
 
+-- where no open call of a legal order can be left out, none can be by other ids
+module _ {Call Reply State : Type 0} (Effect : Call → State → State → Reply → Type 0) (g h : CallId → CallId) (from to : List (Event Call Reply)) (renames : Renames g from to) (back : ComesBack g h from) (opening : State) where
+  pub needless_there : (last : State) (order : List CallId) → IsLegal Effect opening from order last → NoneIsNeedless Effect opening from order → NoneIsNeedless Effect opening to (map g order)
+  needless_there last order l needed first rest id end parts never legal =
+      let s = split_whole g order first id rest parts in
+      let front = s.0 in
+      let x = s.1 in
+      let behind_it = s.2 in
+      let known = made_back Effect g h from to renames back l.made in
+      let before = back_again g h front (λ k y at. known k y (ap (λ (ids : List CallId). slice_get ids k) s.3 ∙ place_left front (x ∷ behind_it) k y at)) in
+      let after = back_again g h behind_it
+      (λ k y at. known (length front + suc k) y (ap (λ (ids : List CallId). slice_get ids (length front + suc k)) s.3 ∙ place_behind front (x ∷ behind_it) (suc k) ∙ at)) in
+      let joined : first ++ rest ≡ map g (front ++ behind_it) =
+      ap (λ (ids : List CallId). ids ++ rest) (sym s.4) ∙ ap (λ (ids : List CallId). map g front ++ ids) (sym s.6) ∙ sym (map-append g front behind_it) in
+      let same : map h (first ++ rest) ≡ front ++ behind_it =
+      ap (map h) joined ∙ ap (map h) (map-append g front behind_it) ∙ map-append h (map g front) (map g behind_it)
+      ∙ ap (λ (ids : List CallId). ids ++ map h (map g behind_it)) before ∙ ap (λ (ids : List CallId). front ++ ids) after in
+      let never_here = λ (reply : Reply) (ended : Contains from (End x reply)).
+      let p = place_of from (End x reply) ended in
+      never reply (subst (λ (i : CallId). Contains to (End i reply)) s.5 (contains_at to p.0 (End (g x) reply) (renames.ends p.0 x reply p.1))) in
+      needed front behind_it x end s.3 never_here
+      (subst (λ (ids : List CallId). IsLegal Effect opening from ids end) same
+      (legal_there Effect h g to from (turned g h from to renames back) (turned_back g h from to renames back) opening end (first ++ rest) legal))
+
 -- a history with names is one with other ids
 
 pub named_begin : (names : List ℕ) (e : Event ObjectCall Reply) (id : CallId) (call : ObjectCall) → named names e ≡ Begin id call → (old : CallId) × (e ≡ Begin old call) × (named_id names old ≡ id)
@@ -269,6 +311,10 @@ module _ (names : List ℕ) (apart : AreApart names) where
           legal_there Effect (placed_id names) (named_id names) (named_all names history) history
           (turned (named_id names) (placed_id names) history (named_all names history) (names_rename names history) all_back)
           (turned_back (named_id names) (placed_id names) history (named_all names history) (names_rename names history) all_back) opening
+
+      pub needless_named : (last : State) (order : List CallId) → IsLegal Effect opening history order last → NoneIsNeedless Effect opening history order →
+          NoneIsNeedless Effect opening (named_all names history) (map (named_id names) order)
+      needless_named = needless_there Effect (named_id names) (placed_id names) history (named_all names history) (names_rename names history) all_back opening
 
       pub has_named : HasLegal Effect opening history → HasLegal Effect opening (named_all names history)
       has_named h = (map (named_id names) h.0, h.1, legal_named h.1 h.0 h.2)

@@ -1,11 +1,11 @@
 -- What is found of a module's text and of a history of its program's object, as what is answered of both texts.
-use Rattle.std.proofs.Common.{◌≡◌, ◌≢◌, List, ℕ, Option, Result, Ok, Err, IfErr, ◌⊎◌, inl, inr, refl, subst}
+use Rattle.std.proofs.Common.{◌≡◌, ◌≢◌, List, ◌++◌, ℕ, Option, Result, Ok, Err, IfErr, ◌⊎◌, inl, inr, refl, subst}
 use Rattle.ob_check_text.specs.CheckedText.{IsNumberedText, IsTextFault, TellsTextMemoryApart}
 use Rattle.ob_check_text.specs.declared.checked_text.TextFault.{TextFault}
 use Rattle.ob_check_text.specs.declared.checked_text.TextFault.TheVariants as Text
 use Rattle.ob_object_order.specs.LegalOrder.{CallEnds}
 use Rattle.ob_object_search.proofs.Crossing.{fault_named, order_named, order_placed}
-use Rattle.ob_object_search.specs.Searched.{HasEnough, HasOrder, IsEnough, IsLegalOrder}
+use Rattle.ob_object_search.specs.Searched.{HasEnough, HasNoneNeedless, HasOpen, HasOrder, IsEnough, IsLegalOrder, IsOpenCall, NoneIsNeedless}
 use Rattle.ob_object_search.specs.SearchFaults.{HasSearchFault, IsFaultOfHistory, IsSearchFault, IsUndecided, TellsMemoryApart, of_text}
 use Rattle.ob_object_search.specs.declared.searching.SearchFault.{SearchFault}
 use Rattle.ob_object_search.specs.declared.searching.SearchFault.TheVariants as Faults
@@ -64,6 +64,12 @@ module _ (module_text history_text : List ℕ) (asked : Option ℕ) (most : ℕ)
     order_in order r =
         subst (λ (p : Program). HasOrder BeginsPlaced CallEnds p history_text asked order) (alone r.program r.is_module)
         (order_placed r.program (module_resolved module_text r.program r.is_module) history_text asked order r.has_order)
+
+    open_in : (id : CallId) → IsOpenCall module_text history_text id → HasOpen program history_text id
+    open_in id r = subst (λ (p : Program). HasOpen p history_text id) (alone r.program r.is_module) r.has_open
+
+    pub needed_by : (order : List CallId) → HasNoneNeedless BeginsPlaced CallEnds program history_text asked order → NoneIsNeedless module_text history_text asked order
+    needed_by order needed first rest id parts opens legal = needed first rest id parts (open_in id opens) (order_in (first ++ rest) legal)
 
     pub enough_in : IsEnough module_text history_text most → HasEnough program history_text most
     enough_in r = subst (λ (p : Program). HasEnough p history_text most) (alone r.program r.is_module) r.has_enough

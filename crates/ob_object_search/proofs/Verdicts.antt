@@ -2,8 +2,8 @@
 use Rattle.std.proofs.Common.{◌≡◌, ◌∙◌, ◌≤◌, ℕ, List, Vec, Global, length, map, sym, ap, subst, inl, inr, refl}
 use Rattle.ob_interface.specs.Call.{ObjectCall, Reply}
 use Rattle.ob_object_order.specs.LegalOrder.{CallEnds}
-use Rattle.ob_object_search.proofs.Renamed.{has_unnamed, last_named, legal_named}
-use Rattle.ob_object_search.specs.Found.{HasOrderHere, IsEnoughHere, IsFaultHere}
+use Rattle.ob_object_search.proofs.Renamed.{has_unnamed, last_named, legal_named, needless_named}
+use Rattle.ob_object_search.specs.Found.{HasOrderHere, IsEnoughHere, IsFaultHere, IsNeededHere}
 use Rattle.ob_object_search.specs.SearchFaults.{CeasesAt, TellsMemoryApart}
 use Rattle.ob_object_search.specs.declared.searching.SearchFault.{SearchFault}
 use Rattle.ob_object_search.specs.declared.searching.SearchFault.TheVariants as Faults
@@ -13,6 +13,7 @@ use Rattle.ob_typing.specs.Program.{Program}
 use Rattle.wf_history.specs.History.{Event, Begin, Applied, End}
 use Rattle.wf_history.specs.Legal.{IsLegal}
 use Rattle.wf_history.specs.declared.event.CallId.{CallId}
+use Rattle.wf_needed.specs.Needed.{NoneIsNeedless}
 use Rattle.wf_order.specs.Rows.{AreOfProcesses, IsOfProcesses}
 use Rattle.wf_order.specs.Verdict.{IsVerdict, enough}
 use Rattle.wf_order.specs.declared.find.Verdict.{Verdict}
@@ -24,11 +25,21 @@ below_is n (Applied ids) h = tt
 below_is n (End id reply) h = h
 
 module _ (program : Program) (budget : ℕ) (opening : Activation) (history : List (Event ObjectCall Reply)) (names : List ℕ) (most : ℕ) (apart : AreApart names) (below : AreBelow (length names) history) where
-  pub order_named : (verdict : Verdict) → IsVerdict (CallEnds program budget) opening history most verdict → (order : Vec CallId Global) → verdict ≡ Verdicts.Legal order →
-      (named : List CallId) → named ≡ map (named_id names) order.items → HasOrderHere program budget opening history names named
-  order_named verdict h order is named same =
-      let v = subst (λ (x : Verdict). IsVerdict (CallEnds program budget) opening history most x) is h in
-      (v.0, subst (λ (l : List CallId). IsLegal (CallEnds program budget) opening (named_all names history) l v.0) (sym same) (legal_named names apart history below (CallEnds program budget) opening v.0 order.items v.1))
+  -- the order that is found, before open calls are left out
+  pub legal_found : (verdict : Verdict) → IsVerdict (CallEnds program budget) opening history most verdict → (order : Vec CallId Global) → verdict ≡ Verdicts.Legal order →
+      (last : Activation) × IsLegal (CallEnds program budget) opening history order.items last
+  legal_found verdict h order is = subst (λ (x : Verdict). IsVerdict (CallEnds program budget) opening history most x) is h
+
+  pub order_named : (order : List CallId) → (last : Activation) × IsLegal (CallEnds program budget) opening history order last → (named : List CallId) → named ≡ map (named_id names) order →
+      HasOrderHere program budget opening history names named
+  order_named order h named same =
+      (h.0, subst (λ (l : List CallId). IsLegal (CallEnds program budget) opening (named_all names history) l h.0) (sym same) (legal_named names apart history below (CallEnds program budget) opening h.0 order h.1))
+
+  pub needed_named : (order : List CallId) → (last : Activation) × IsLegal (CallEnds program budget) opening history order last → NoneIsNeedless (CallEnds program budget) opening history order →
+      (named : List CallId) → named ≡ map (named_id names) order → IsNeededHere program budget opening history names named
+  needed_named order h needed named same =
+      subst (λ (l : List CallId). NoneIsNeedless (CallEnds program budget) opening (named_all names history) l) (sym same)
+      (needless_named names apart history below (CallEnds program budget) opening h.0 order h.1 needed)
 
   pub none_named : (verdict : Verdict) → IsVerdict (CallEnds program budget) opening history most verdict → (id : CallId) (place : ℕ) → verdict ≡ Verdicts.Illegal id place →
       (named : CallId) → named ≡ named_id names id → IsFaultHere program budget opening history names most (Faults.Illegal named)

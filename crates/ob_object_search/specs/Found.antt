@@ -11,6 +11,7 @@ use Rattle.ob_typing.specs.Program.{Program}
 use Rattle.wf_history.specs.declared.event.CallId.{CallId}
 use Rattle.wf_history.specs.History.{Event}
 use Rattle.wf_history.specs.Legal.{IsLegal}
+use Rattle.wf_needed.specs.Needed.{NoneIsNeedless}
 use Rattle.wf_order.specs.Verdict.{HasMoreFront, enough}
 
 -- by what calls with a budget do from a state
@@ -18,6 +19,10 @@ module _ (program : Program) (budget : ℕ) (opening : Activation) (history : Li
   -- the order is legal by the names
   abbrev pub HasOrderHere : List CallId → Type 0
   HasOrderHere order = (last : Activation) × IsLegal (CallEnds program budget) opening (named_all names history) order last
+
+  -- and no open call of it can be left out
+  abbrev pub IsNeededHere : List CallId → Type 0
+  IsNeededHere order = NoneIsNeedless (CallEnds program budget) opening (named_all names history) order
 
   -- why there is none
   abbrev pub IsFaultHere : (most : ℕ) → SearchFault → Type 0

@@ -4,7 +4,9 @@ ghost use Rattle.std.specs.Prelude.{◌≡◌, IfOk};
 ghost use Rattle.ob_checked.specs.CheckedModule.{program_in};
 ghost use Rattle.ob_interface.specs.View as Objects;
 ghost use Rattle.ob_interpreter.specs.View.{call_of, reply_of};
+ghost use Rattle.ob_object_order.specs.LegalOrder.{CallEnds};
 ghost use Rattle.ob_read_only.specs.ReadOnly.{TellsReadOnly};
+ghost use Rattle.ob_store.specs.View.{state_of, variables_in};
 ghost use Rattle.wf_history.specs.View.{seen_call};
 
 use crate::words::words_in;
@@ -12,13 +14,15 @@ use ob_checked::checked::Checked;
 use ob_interface::NoMemory;
 use ob_interface::call::Reply;
 use ob_interpreter::call as interpreter;
-use ob_interpreter::object::interpret;
+use ob_interpreter::object::step;
 use ob_read_only::exports::read_only_exports;
 use ob_store::state::State;
+use ob_store::value::{Value, copy_all};
 use smallvec::SmallVec;
 use std::alloc::{AllocError, Global};
 use wf_history::{SeenCall, SeenReply};
 use wf_order::Object;
+use wf_order::object::Words;
 
 /// The object of a checked module that begins with this state, each call with so many turns.
 #[derive(Drop)]
@@ -87,19 +91,44 @@ fn object_reply(alloc: Global, reply: &interpreter::Reply) -> Result<Reply, Allo
     }
 }
 
+/// A state whose variables have these values.
+fn state_copied(alloc: Global, values: &[Value]) -> Result<State, AllocError>
+    ensures { IfOk result (λ state. state_of state ≡ variables_in values.now) }
+{
+    let copies = copy_all(alloc, values)?;
+    Ok(State::new(copies))
+}
+
+/// What a call with so many turns makes of a state, and what it answers.
+fn called(
+    alloc: Global,
+    checked: &Checked,
+    before: State,
+    call: SeenCall,
+    budget: u64,
+) -> Result<(State, Reply), NoMemory>
+    ensures { IfOk result (λ made. CallEnds (program_in checked.now) budget (seen_call call.entry) (state_of before) (state_of made.0) (Objects.reply_of made.1)) }
+{
+    let call = call_in(alloc, call)?;
+    let (next, reply) = step(alloc, checked.program(), before, &call, budget)?;
+    let given = object_reply(alloc, &reply)?;
+    Ok((next, given))
+}
+
 impl<'a> Object for ModuleObject<'a> {
     ghost use Rattle.ob_checked.specs.CheckedModule.{program_in};
     ghost use Rattle.ob_object_order.specs.LegalOrder.{CallEnds};
     ghost use Rattle.ob_object_search.specs.Laws.{one_outcome, words_told_apart};
     ghost use Rattle.ob_object_search.specs.Words.{words_of};
     ghost use Rattle.ob_positions.specs.Store.{Activation};
-    ghost use Rattle.ob_store.specs.View.{state_of};
+    ghost use Rattle.ob_store.specs.View.{state_of, variables_in};
 
-    type State = State;
+    // The values of the module's variables, without the memory that a call works in.
+    type State = Vec<Value>;
 
     ghost Meaning = { Activation };
 
-    ghost meaning = { state_of };
+    ghost meaning = { λ values. variables_in values.items };
 
     ghost opening = { λ o. state_of o.opening.now };
 
@@ -107,24 +136,23 @@ impl<'a> Object for ModuleObject<'a> {
 
     ghost words_of = { words_of };
 
-    fn open(&self, alloc: Global) -> Result<State, NoMemory> {
-        Ok(self.opening.copy(alloc)?)
+    fn open(&self, alloc: Global) -> Result<Vec<Value>, NoMemory> {
+        Ok(self.opening.copy(alloc)?.into_values())
     }
 
     fn apply(
         &self,
         alloc: Global,
-        state: &State,
+        state: &Vec<Value>,
         call: SeenCall,
-    ) -> Result<(State, Reply), NoMemory> {
-        let call = call_in(alloc, call)?;
-        let (next, reply) = interpret(alloc, self.checked, state, &call, self.budget)?;
-        let given = object_reply(alloc, &reply)?;
-        Ok((next, given))
+    ) -> Result<(Vec<Value>, Reply), NoMemory> {
+        let before = state_copied(alloc, state.as_slice())?;
+        let (next, reply) = called(alloc, self.checked, before, call, self.budget)?;
+        Ok((next.into_values(), reply))
     }
 
-    fn words(&self, alloc: Global, state: &State) -> Result<Vec<u64>, NoMemory> {
-        words_in(alloc, state.values())
+    fn words(&self, alloc: Global, state: &Vec<Value>) -> Result<Words, NoMemory> {
+        words_in(alloc, state.as_slice())
     }
 
     fn is_silent(&self, call: SeenCall, reply: SeenReply) -> bool {

@@ -3,8 +3,8 @@
 ghost use Rattle.std.specs.Prelude.{◌≡◌, ◌≢◌, ◌<◌, ◌≤◌, ℕ, List, Err, IfOk, IfErr, length, map};
 ghost use Rattle.ob_checked.specs.CheckedModule.{program_in};
 ghost use Rattle.ob_object_order.specs.LegalOrder.{CallEnds};
-ghost use Rattle.ob_object_search.specs.Found.{HasOrderHere, IsFaultHere, IsEnoughHere};
-ghost use Rattle.ob_object_search.specs.Searched.{HasEnough, HasOrder, IsEnough, IsLegalOrder, budget_of};
+ghost use Rattle.ob_object_search.specs.Found.{HasOrderHere, IsFaultHere, IsEnoughHere, IsNeededHere};
+ghost use Rattle.ob_object_search.specs.Searched.{HasEnough, HasOrder, HasNoneNeedless, IsEnough, IsLegalOrder, NoneIsNeedless, budget_of};
 ghost use Rattle.ob_object_search.specs.SearchFaults.{HasSearchFault, IsNumbered, IsSearchFault, IsUndecided, TellsMemoryApart, too_long};
 ghost use Rattle.ob_object_search.specs.declared.searching.SearchFault.TheVariants as Faults;
 ghost use Rattle.ob_object_verify.specs.Beginnings.{BeginsPlaced, TrapsPlaced};
@@ -25,6 +25,7 @@ use std::alloc::{AllocError, Global};
 use std::hash::RandomState;
 use thiserror::Error;
 use wf_history::{CallId, History};
+use wf_needed::needed_order;
 use wf_order::{Verdict, find_order};
 
 /// What a search is to go by.
@@ -137,6 +138,8 @@ pub fn search_text(
     search: &Search,
 ) -> Result<Vec<CallId>, SearchFault>
     ensures order { IfOk result (λ order. IsLegalOrder «module».now history.now search.now.budget order.items) }
+    // No open call of the order can be left out.
+    ensures needed { IfOk result (λ order. NoneIsNeedless «module».now history.now search.now.budget order.items) }
     ensures fault { IfErr result (IsSearchFault «module».now history.now search.now.budget search.now.most) }
 
     // Where there is no order but for X2 and want of memory, no order is legal.
@@ -166,6 +169,7 @@ fn search_checked(
     search: &Search,
 ) -> Result<Vec<CallId>, SearchFault>
     ensures order { IfOk result (λ order. HasOrder BeginsPlaced CallEnds (program_in checked.now) text.now search.now.budget order.items) }
+    ensures needed { IfOk result (λ order. HasNoneNeedless BeginsPlaced CallEnds (program_in checked.now) text.now search.now.budget order.items) }
     ensures fault { IfErr result (HasSearchFault BeginsPlaced TrapsPlaced CallEnds (program_in checked.now) text.now search.now.budget search.now.most) }
     ensures lawful { (order : List CallId) → HasOrder BeginsPlaced CallEnds (program_in checked.now) text.now search.now.budget order → IfErr result IsUndecided }
     ensures decided { HasEnough (program_in checked.now) text.now search.now.most → IfErr result (λ e. e ≢ Faults.TooMany) }
@@ -191,8 +195,8 @@ pub fn budget_of(asked: Option<u64>, told: Option<u64>) -> u64
     asked.or(told).unwrap_or(DEFAULT_BUDGET)
 }
 
-/// A legal order of a history, whose processes have these names, by the names.
-fn order_found(
+/// A legal order of a history, whose processes have these names, by the names. No open call of it can be left out.
+pub fn order_found(
     alloc: Global,
     object: &ModuleObject,
     history: &History,
@@ -202,11 +206,15 @@ fn order_found(
     requires apart { AreApart names.now }
     requires below { AreBelow (length names.now) history.now }
     ensures order { IfOk result (λ order. HasOrderHere (program_in object.now.checked.now) object.now.budget (state_of object.now.opening.now) history.now names.now order.items) }
+    ensures needed { IfOk result (λ order. IsNeededHere (program_in object.now.checked.now) object.now.budget (state_of object.now.opening.now) history.now names.now order.items) }
     ensures fault { IfErr result (IsFaultHere (program_in object.now.checked.now) object.now.budget (state_of object.now.opening.now) history.now names.now search.now.most) }
     ensures decided { IsEnoughHere history.now names.now search.now.most → IfErr result (λ e. e ≢ Faults.TooMany) }
 {
     match find_order(alloc, history, object, search.most, search.keys)? {
-        Verdict::Legal(order) => Ok(named_all(alloc, names, order.as_slice())?),
+        Verdict::Legal(order) => {
+            let needed = needed_order(alloc, history, object, order.as_slice())?;
+            Ok(named_all(alloc, names, needed.as_slice())?)
+        }
         Verdict::Illegal(id, _) => Err(SearchFault::Illegal(named(names, id))),
         Verdict::TooMany => Err(SearchFault::TooMany),
     }

@@ -7,7 +7,9 @@ ghost use Rattle.ob_store.specs.View.{value_in, values_in, variables_in};
 use ob_interface::NoMemory;
 use ob_interface::scalar::Scalar;
 use ob_store::value::Value;
+use smallvec::SmallVec;
 use std::alloc::Global;
+use wf_order::object::Words;
 
 /// The word of a scalar.
 fn word_of(scalar: Scalar) -> u64
@@ -23,7 +25,7 @@ fn word_of(scalar: Scalar) -> u64
 
 /// Adds the words of a value.
 #[cycle(words)]
-fn push_value(words: &mut Vec<u64>, value: &Value) -> Result<(), NoMemory>
+fn push_value(words: &mut Words, value: &Value) -> Result<(), NoMemory>
     ensures { OnOk result (words.new.items ≡ words.old.items ++ value_words (value_in value.now)) }
 {
     match value {
@@ -39,7 +41,7 @@ fn push_value(words: &mut Vec<u64>, value: &Value) -> Result<(), NoMemory>
 
 /// Adds the words of values.
 #[cycle(words)]
-fn push_all(words: &mut Vec<u64>, values: &[Value]) -> Result<(), NoMemory>
+fn push_all(words: &mut Words, values: &[Value]) -> Result<(), NoMemory>
     ensures { OnOk result (words.new.items ≡ words.old.items ++ parts_words (values_in values.now)) }
 {
     for value in values {
@@ -50,10 +52,10 @@ fn push_all(words: &mut Vec<u64>, values: &[Value]) -> Result<(), NoMemory>
 
 /// The words of variables that have these values.
 #[tactic(auto, using(crate::proofs::Wording::words_all))]
-pub(crate) fn words_in(alloc: Global, values: &[Value]) -> Result<Vec<u64>, NoMemory>
+pub(crate) fn words_in(alloc: Global, values: &[Value]) -> Result<Words, NoMemory>
     ensures { IfOk result (λ words. words.items ≡ words_of (variables_in values.now)) }
 {
-    let mut words = Vec::new(alloc);
+    let mut words = SmallVec::new(alloc);
     push_all(&mut words, values)?;
     Ok(words)
 }

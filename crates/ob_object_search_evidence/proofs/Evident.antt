@@ -3,7 +3,7 @@ use Rattle.std.proofs.Common.{ℕ, List, [], ◌∷◌, ◌++◌, Option, Some, 
 use Rattle.std.proofs.lemmas.List.Elements.{All-weaker, Contains-push_cases}
 use Rattle.ob_agreement.specs.Resolved.{IsResolved}
 use Rattle.ob_agreement.specs.Same.{SameState}
-use Rattle.ob_code_law.proofs.Named.{names_simulate}
+use Rattle.ob_code_law.proofs.Named.{names_simulate, positions_simulate}
 use Rattle.ob_code_law.specs.Carried.{BegunFit}
 use Rattle.ob_code_law.specs.Compiled.{Fits}
 use Rattle.ob_code_law.specs.Named.{CallMeans}
@@ -11,6 +11,7 @@ use Rattle.ob_interface.specs.Call.{ObjectCall, Reply}
 use Rattle.ob_interface.specs.View.{reply_of}
 use Rattle.ob_meaning.specs.Object.{State}
 use Rattle.ob_object_order.specs.LegalOrder.{CallEnds}
+use Rattle.ob_object_search.proofs.Crossing.{IsPlaced}
 use Rattle.ob_object_search.proofs.Fitting.{calls_fit, front_fits, history_opened}
 use Rattle.ob_object_search.specs.Searched.{budget_of}
 use Rattle.ob_object_search_evidence.specs.Evidence.{HasEvidence, IsEvidence, IsNoEnd, NeverEnds, Shows}
@@ -52,6 +53,9 @@ module _ (program : Program) (good : IsResolved program) where
           ends = s.ends;
           last = l.end;
           legal = l.legal;
+          needed = λ first rest x last parts never legal.
+              let back = legal_there (Fits program) (IsPlaced program good) (CallMeans program budget) (CallEnds program budget) (positions_simulate program budget good) (take s.place events) (first ++ rest) fits state activation is last legal in
+              s.needed first rest x back.end parts never back.legal;
           are_open = s.are_open;
           possible = All-weaker _ _
               (λ r could. legal_named (take s.place events ++ End id (reply_of r) ∷ []) (end_fits (Fits program) (take s.place events) id (reply_of r) fits) could) e.replies.items s.possible;

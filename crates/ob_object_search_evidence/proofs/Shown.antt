@@ -9,7 +9,7 @@ use Rattle.ob_interface.specs.View.{reply_of}
 use Rattle.ob_interface.specs.declared.call.Reply as Rust
 use Rattle.ob_object_order.specs.LegalOrder.{CallEnds}
 use Rattle.ob_object_search.proofs.Renamed.{has_named}
-use Rattle.ob_object_search.specs.Found.{HasOrderHere}
+use Rattle.ob_object_search.specs.Found.{HasOrderHere, IsNeededHere}
 use Rattle.ob_object_search_evidence.proofs.Fronts.{below_front, named_front}
 use Rattle.ob_object_search_evidence.specs.Evidence.{CouldEnd, EndsNowhere, HasEvidence, IsNoEnd, Shows}
 use Rattle.ob_object_search_evidence.specs.declared.showing.Evidence.{Evidence}
@@ -26,6 +26,7 @@ use Rattle.wf_history.proofs.Positions.{contains_at}
 use Rattle.wf_history.specs.History.{Event, End}
 use Rattle.wf_history.specs.Legal.{IsLegal}
 use Rattle.wf_history.specs.declared.event.CallId.{CallId}
+use Rattle.wf_needed.specs.Needed.{NoneIsNeedless}
 use Rattle.wf_order.specs.Verdict.{HasLegal}
 
 module _ (names : List ℕ) (apart : AreApart names) (history : List (Event ObjectCall Reply)) (below : AreBelow (length names) history) where
@@ -64,10 +65,10 @@ module _ (program : Program) (text : List ℕ) (asked : Option ℕ) (h : Heards.
   no_end id none = record { tells = told_of h.read; is_history = heard.history; ends_nowhere = none }
 
   pub evident : (place : ℕ) (end id : CallId) (reply : Reply) → named_id names end ≡ id → slice_get history place ≡ Some (End end reply) → (e : Evidence) →
-      HasOrderHere program h.budget (state_of h.opening) (take place history) names e.order.items → e.open_calls.items ≡ open_calls (named_all names (take place history)) →
+      HasOrderHere program h.budget (state_of h.opening) (take place history) names e.order.items → IsNeededHere program h.budget (state_of h.opening) (take place history) names e.order.items → e.open_calls.items ≡ open_calls (named_all names (take place history)) →
       All (λ r. HasLegal Ends (state_of h.opening) (take place history ++ End end (reply_of r) ∷ [])) e.replies.items →
       HasEvidence BeginsPlaced CallEnds program text asked id e
-  evident place end id reply is here e order are_open possible =
+  evident place end id reply is here e order needed are_open possible =
       record {
         start = record { tells = told_of h.read; is_history = heard.history; opening = state_of h.opening; begins = heard.begins };
         shows = subst (λ (b : ℕ). Shows (CallEnds program b) (state_of h.opening) (named_all names history) id e) heard.budget
@@ -77,6 +78,7 @@ module _ (program : Program) (text : List ℕ) (asked : Option ℕ) (h : Heards.
               ends = end_named names heard.apart history heard.below place end id reply is here;
               last = order.0;
               legal = subst (λ (es : List (Event ObjectCall Reply)). IsLegal Ends (state_of h.opening) es e.order.items order.0) (sym (named_front names history place)) order.1;
+              needed = subst (λ (es : List (Event ObjectCall Reply)). NoneIsNeedless Ends (state_of h.opening) es e.order.items) (sym (named_front names history place)) needed;
               are_open = are_open ∙ ap open_calls (sym (named_front names history place));
               possible = All-weaker _ _
                   (λ r could. subst (λ (i : CallId). CouldEnd Ends (state_of h.opening) (named_all names history) i place (reply_of r)) is

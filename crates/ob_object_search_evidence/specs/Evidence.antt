@@ -14,6 +14,7 @@ use Rattle.wf_beginnings.specs.Beginnings.{open_calls}
 use Rattle.wf_history.specs.History.{Event, End}
 use Rattle.wf_history.specs.Legal.{IsLegal}
 use Rattle.wf_history.specs.declared.event.CallId.{CallId}
+use Rattle.wf_needed.specs.Needed.{NoneIsNeedless}
 use Rattle.wf_order.specs.Verdict.{HasLegal}
 
 -- the call does not end
@@ -26,13 +27,14 @@ module _ {State : Type 0} (Effect : ObjectCall → State → State → Reply →
   abbrev pub CouldEnd : (place : ℕ) → Reply → Type 0
   CouldEnd place reply = HasLegal Effect opening (take place events ++ End id reply ∷ [])
 
-  -- of the events before the call's end: a legal order, the calls that are open, and replies with which the call could have ended there
+  -- of the events before the call's end: a legal order of which no open call can be left out, the calls that are open, and replies with which the call could have ended there
   pub record Shows (e : Evidence) : Type 0 where
     pub place : ℕ
     pub reply : Reply
     pub ends : slice_get events place ≡ Some (End id reply)
     pub last : State
     pub legal : IsLegal Effect opening (take place events) e.order.items last
+    pub needed : NoneIsNeedless Effect opening (take place events) e.order.items
     pub are_open : e.open_calls.items ≡ open_calls (take place events)
     pub possible : All (λ r. CouldEnd place (reply_of r)) e.replies.items
 

@@ -14,9 +14,9 @@ use crate::possible::possible_replies;
 use ob_check_text::checked_text::checked_text;
 use ob_checked::checked::Checked;
 use ob_interface::call::Reply;
+use ob_object_search::searching::order_found;
 use ob_object_search::{ModuleObject, Search, SearchFault};
 use ob_object_search_record::copying::named_history;
-use ob_object_search_record::finding::order_found;
 use ob_object_search_record::recording::{Heard, hear};
 use std::alloc::Global;
 use wf_beginnings::{copied, open_calls};
@@ -25,7 +25,7 @@ use wf_history::CallId;
 /// What there is of the events before a call's end.
 #[derive(Drop)]
 pub struct Evidence {
-    /// A legal order of them.
+    /// A legal order of them, of which no open call can be left out.
     pub order: Vec<CallId>,
     /// The calls that have begun and not ended, in the order in which they began; the call itself is one of them.
     pub open_calls: Vec<CallId>,

@@ -1,6 +1,6 @@
 -- Parts of histories by position and by name: they have the same legal orders, and cease at the same call to have one; and what is found of
 -- a module's text and of a history, as what is answered of both texts.
-use Rattle.std.proofs.Common.{◌≡◌, ℕ, List, Option, Result, Ok, Err, IfErr, ◌⊎◌, inl, inr, refl, subst}
+use Rattle.std.proofs.Common.{◌≡◌, ◌≢◌, ℕ, List, ◌++◌, Option, Result, Ok, Err, IfErr, ◌⊎◌, inl, inr, refl, subst}
 use Rattle.ob_agreement.specs.Resolved.{IsResolved}
 use Rattle.ob_agreement.specs.Same.{SameState}
 use Rattle.ob_check_text.specs.CheckedText.{IsNumberedText, IsTextFault, TellsTextMemoryApart}
@@ -16,9 +16,9 @@ use Rattle.ob_meaning.specs.Object.{State}
 use Rattle.ob_object_order.specs.LegalOrder.{CallEnds}
 use Rattle.ob_object_search.proofs.Crossing.{IsNamed, IsPlaced, ceases_named}
 use Rattle.ob_object_search.proofs.Fitting.{calls_fit, history_opened}
-use Rattle.ob_object_search.specs.Searched.{budget_of}
+use Rattle.ob_object_search.specs.Searched.{HasEnough, IsEnough, budget_of}
 use Rattle.ob_object_search_parts.proofs.Picked.{picked_at}
-use Rattle.ob_object_search_parts.specs.Parted.{AreLegalOrders, AreOrders, HasPartOrder, HasPartOrders, PartOrder}
+use Rattle.ob_object_search_parts.specs.Parted.{AreLegalOrders, AreNeeded, AreNeededOrders, AreOrders, HasNeededOrders, HasPartOrder, HasPartOrders, PartOrder}
 use Rattle.ob_object_search_parts.specs.PartedFaults.{HasPartsFault, IsFaultOfParts, IsPartsFault, IsUndecided, PartCeases, TellsMemoryApart, of_text}
 use Rattle.ob_object_search_parts.specs.declared.fault.PartsFault.{PartsFault}
 use Rattle.ob_object_search_parts.specs.declared.fault.PartsFault.TheVariants as Faults
@@ -57,6 +57,13 @@ module _ (program : Program) (good : IsResolved program) (budget : ℕ) (activat
       (part_fits program events h.part by v h.is_part fit) state activation is h.last h.legal in
       record { part = h.part; is_part = h.is_part; last = l.end; legal = l.legal }
 
+  all_needed : (parts : List PartOrder) → AreNeeded (CallEnds program budget) activation events by parts → AreNeeded (CallMeans program budget) state events by parts
+  all_needed parts needed k p part at own first rest id last split never legal =
+      let l =
+      legal_there (Fits program) (IsPlaced program good) (CallMeans program budget) (CallEnds program budget) (positions_simulate program budget good) part (first ++ rest)
+      (part_fits program events part by p.value own fit) state activation is last legal in
+      needed k p part at own first rest id l.end split never l.legal
+
   all_named : (parts : List PartOrder) → AreOrders (CallEnds program budget) activation events by parts → AreOrders (CallMeans program budget) state events by parts
   all_named parts o = record { values = o.values; each = λ k p at. order_named p.value p.order (o.each k p at) }
 
@@ -86,6 +93,15 @@ module _ (program : Program) (good : IsResolved program) (text : List ℕ) (aske
       record {
         start = record { tells = t; is_history = r.start.is_history; opening = o.0; begins = o.1 };
         orders = all_named program good (budget_of asked t.budget) r.start.opening o.0 o.2 t.events (calls_fit program text t r.start.is_history) by parts r.orders;
+      }
+
+  pub needed_named : (parts : List PartOrder) → HasNeededOrders BeginsPlaced CallEnds program text asked by parts → HasNeededOrders BeginsNamed CallMeans program text asked by parts
+  needed_named parts r =
+      let t = r.start.tells in
+      let o = beginning_named program good t.carried (history_opened program text t r.start.is_history) r.start.opening r.start.begins in
+      record {
+        start = record { tells = t; is_history = r.start.is_history; opening = o.0; begins = o.1 };
+        needed = all_needed program good (budget_of asked t.budget) r.start.opening o.0 o.2 t.events (calls_fit program text t r.start.is_history) by parts r.needed;
       }
 
   pub orders_placed : (parts : List PartOrder) → HasPartOrders BeginsNamed CallMeans program text asked by parts → HasPartOrders BeginsPlaced CallEnds program text asked by parts
@@ -129,6 +145,12 @@ apart_told (Text.Parse e) apart = inr (refl, apart)
 apart_told (Text.Check e) apart = inr (refl, apart)
 apart_told Text.NoMemory apart = inl refl
 
+pub text_decided : (e : TextFault) → of_text e ≢ Faults.TooMany
+text_decided (Text.Scan e) same = cc
+text_decided (Text.Parse e) same = cc
+text_decided (Text.Check e) same = cc
+text_decided Text.NoMemory same = cc
+
 -- where legal orders leave no more than two answers, with another one there are none
 pub none_by : {X A : Type 0} {Has : A → Type 0} (r : Result X PartsFault) → ((a : A) → Has a → IfErr r IsUndecided) → IfErr r (λ e. ¬ IsUndecided e → (a : A) → ¬ Has a)
 none_by (Ok x) lawful = tt
@@ -154,6 +176,17 @@ module _ (module_text history_text : List ℕ) (asked : Option ℕ) (by most : �
           is_module = is_module;
           has_orders = orders_named program (module_resolved module_text program is_module) history_text asked by parts r;
         }
+
+    pub needed_by : (parts : List PartOrder) → HasNeededOrders BeginsPlaced CallEnds program history_text asked by parts → AreNeededOrders module_text history_text asked by parts
+    needed_by parts r =
+        record {
+          program = program;
+          is_module = is_module;
+          has_needed = needed_named program (module_resolved module_text program is_module) history_text asked by parts r;
+        }
+
+    pub enough_in : IsEnough module_text history_text most → HasEnough program history_text most
+    enough_in r = subst (λ (p : Program). HasEnough p history_text most) (alone r.program r.is_module) r.has_enough
 
     pub orders_in : (parts : List PartOrder) → AreLegalOrders module_text history_text asked by parts → HasPartOrders BeginsPlaced CallEnds program history_text asked by parts
     orders_in parts r =

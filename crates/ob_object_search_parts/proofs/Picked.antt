@@ -1,5 +1,6 @@
 -- A history has one part of each value, and one list of values; and by other names for processes they are the same.
-use Rattle.std.proofs.Common.{◌≡◌, ◌∙◌, ℕ, zero, suc, ◌<◌, List, [], ◌∷◌, ◌++◌, length, Some, None, sym, ap, subst, refl, slice_get}
+use Rattle.std.proofs.Common.{◌≡◌, ◌∙◌, ℕ, zero, suc, ◌+◌, ◌<◌, ◌≤◌, arith, List, [], ◌∷◌, ◌++◌, length, Some, None, sym, ap, subst, refl, slice_get}
+use Rattle.std.proofs.Math.Nat.{pow-le-pow_right}
 use Rattle.std.proofs.lemmas.List.{map-append}
 use Rattle.std.proofs.lemmas.Option.{same_Some}
 use Rattle.std.specs.List.{Contains}
@@ -10,6 +11,7 @@ use Rattle.ob_text_history_reading.specs.Names.{AreApart, AreBelow, IsBelow, nam
 use Rattle.wf_history.proofs.Positions.{contains_at, place_of}
 use Rattle.wf_history.specs.declared.event.CallId.{CallId}
 use Rattle.wf_history.specs.History.{Event, Begin, Applied, End}
+use Rattle.wf_order.specs.Verdict.{enough}
 use Rattle.wf_parts.specs.Numbering.{PartView, whole_event, whole_events}
 use Rattle.wf_parts.specs.Parts.{ArePicked, BringValues, Events, IsOwn, IsPart, IsShort, IsWith, argument_at, none, own, other, quiet, known, new}
 
@@ -24,11 +26,23 @@ module _ (all : Events) (by : ℕ) (value : Scalar) where
   picked_once (other not first) (own is second) = absurd (not is)
   picked_once (other not first) (other also second) = picked_once first second
 
+  pub picked_size : {es p : Events} → ArePicked all by value es p → length p ≤ length es
+  picked_size none = omega arith
+  picked_size (own is rest) = let n = picked_size rest in omega (arith, n)
+  picked_size (other not rest) = let n = picked_size rest in omega (arith, n)
+
   pub picked_at : {es p : Events} → ArePicked all by value es p → (k : ℕ) (x : Event ObjectCall Reply) → slice_get p k ≡ Some x → (j : ℕ) × (slice_get es j ≡ Some x)
   picked_at none k x at = absurd (cc)
   picked_at (own is rest) zero x at = (0, at)
   picked_at (own is rest) (suc k) x at = let r = picked_at rest k x at in (suc r.0, r.1)
   picked_at (other not rest) k x at = let r = picked_at rest k x at in (suc r.0, r.1)
+
+-- for fewer events fewer configurations are enough
+pub fewer_events : (n few many : ℕ) → few ≤ many → enough n few ≤ enough n many
+fewer_events n few many le =
+    let positive : 0 < n + 2 = omega arith in
+    let exponent : few + 1 ≤ many + 1 = omega (arith, le) in
+    pow-le-pow_right positive exponent
 
 module _ (by : ℕ) where
   pub values_once : {vs ws us : List Scalar} {es : Events} → BringValues by vs es ws → BringValues by vs es us → ws ≡ us

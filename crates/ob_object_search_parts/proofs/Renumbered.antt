@@ -4,13 +4,14 @@ use Rattle.std.proofs.Common.{◌≡◌, ◌∙◌, ℕ, ◌+◌, ◌-◌, ◌<�
 use Rattle.std.proofs.lemmas.List.{take-map}
 use Rattle.std.proofs.lemmas.Option.{slice_get-get_or}
 use Rattle.ob_interface.specs.Call.{ObjectCall, Reply}
-use Rattle.ob_object_search.proofs.Renamed.{ComesBack, Renames, at_map, at_mapped, has_unnamed, last_named, legal_named, legal_there, place_found, place_in, turned, turned_back}
+use Rattle.ob_object_search.proofs.Renamed.{ComesBack, Renames, at_map, at_mapped, has_unnamed, last_named, legal_named, legal_there, needless_named, needless_there, place_found, place_in, turned, turned_back}
 use Rattle.ob_object_search_parts.specs.Here.{IsPartHere, named_call, named_part}
 use Rattle.ob_text_history_reading.specs.Names.{AreApart, AreBelow, IsBelow, named_id}
 use Rattle.wf_history.proofs.Positions.{contains_at, place_of, place_take, same_call}
 use Rattle.wf_history.specs.declared.event.CallId.{CallId}
 use Rattle.wf_history.specs.History.{Event, Begin, Applied, End}
 use Rattle.wf_history.specs.Legal.{IsLegal}
+use Rattle.wf_needed.specs.Needed.{NoneIsNeedless}
 use Rattle.wf_order.specs.Rows.{row_of}
 use Rattle.wf_order.specs.Verdict.{HasLegal, IsLastLegal}
 use Rattle.wf_order.proofs.Lists.{map-map}
@@ -89,6 +90,10 @@ module _ (rows : List (List ℕ)) (events : Events) (numbered : AreNumbered rows
         (turned (whole_id rows) (part_id rows) events (whole_events rows events) (rows_rename rows events) all_back)
         (turned_back (whole_id rows) (part_id rows) events (whole_events rows events) (rows_rename rows events) all_back) opening
 
+    needless_whole : (last : State) (order : List CallId) → IsLegal Effect opening events order last → NoneIsNeedless Effect opening events order →
+        NoneIsNeedless Effect opening (whole_events rows events) (map (whole_id rows) order)
+    needless_whole = needless_there Effect (whole_id rows) (part_id rows) events (whole_events rows events) (rows_rename rows events) all_back opening
+
     has_whole : HasLegal Effect opening events → HasLegal Effect opening (whole_events rows events)
     has_whole h = (map (whole_id rows) h.0, h.1, legal_whole h.1 h.0 h.2)
 
@@ -136,6 +141,13 @@ module _ (names : List ℕ) (apart : AreApart names) (p : PartView) (here : IsPa
   legal_here last order l =
       subst (λ (ids : List CallId). IsLegal Effect opening (named_part names p) ids last) (map-map (named_id names) (whole_id p.rows) order)
       (legal_named names apart (whole_events p.rows p.events) below_whole Effect opening last (map (whole_id p.rows) order) (legal_whole p.rows p.events here.numbered Effect opening last order l))
+
+  pub needed_here : (last : State) (order : List CallId) → IsLegal Effect opening p.events order last → NoneIsNeedless Effect opening p.events order →
+      NoneIsNeedless Effect opening (named_part names p) (map (named_call names p.rows) order)
+  needed_here last order l needed =
+      subst (λ (ids : List CallId). NoneIsNeedless Effect opening (named_part names p) ids) (map-map (named_id names) (whole_id p.rows) order)
+      (needless_named names apart (whole_events p.rows p.events) below_whole Effect opening last (map (whole_id p.rows) order) (legal_whole p.rows p.events here.numbered Effect opening last order l)
+      (needless_whole p.rows p.events here.numbered Effect opening last order l needed))
 
   pub has_back : HasLegal Effect opening (named_part names p) → HasLegal Effect opening p.events
   has_back h = has_part p.rows p.events here.numbered Effect opening (has_unnamed names apart (whole_events p.rows p.events) below_whole Effect opening h)

@@ -1,5 +1,5 @@
 -- What is found of the parts of a history's text, as what is answered.
-use Rattle.std.proofs.Common.{◌≡◌, ◌∙◌, List, ℕ, Option, Some, length, map, slice_get, refl, ap, sym, subst, inl, inr, arith, option_map}
+use Rattle.std.proofs.Common.{◌≡◌, ◌≢◌, ◌∙◌, List, ℕ, Option, Some, length, map, slice_get, refl, ap, sym, subst, inl, inr, arith, option_map}
 use Rattle.std.proofs.lemmas.List.{length-map}
 use Rattle.std.proofs.lemmas.Option.{same_Some, slice_get-map, slice_get_within}
 use Rattle.ob_interface.specs.Call.{ObjectCall, Reply}
@@ -7,10 +7,11 @@ use Rattle.ob_interface.specs.declared.scalar.Scalar.{Scalar}
 use Rattle.ob_interpreter.specs.declared.opening.OpenFault.{OpenFault}
 use Rattle.ob_interpreter.specs.declared.opening.OpenFault.TheVariants as Open
 use Rattle.ob_object_order.specs.LegalOrder.{CallEnds}
+use Rattle.ob_object_search.specs.Found.{IsEnoughHere}
 use Rattle.ob_object_search.specs.Searched.{HasBeginning, budget_of}
-use Rattle.ob_object_search_parts.proofs.Picked.{below_part, none_short, part_named, picked_once, short_named, values_named, values_once}
-use Rattle.ob_object_search_parts.specs.Here.{AreOrdersHere, HasOrderHere, IsFaultHere, IsFirstFault, IsPartFault, IsPartHere, IsShortHere, named_part}
-use Rattle.ob_object_search_parts.specs.Parted.{AreOrders, HasPartOrder, HasPartOrders, PartOrder}
+use Rattle.ob_object_search_parts.proofs.Picked.{below_part, fewer_events, none_short, part_named, picked_once, picked_size, short_named, values_named, values_once}
+use Rattle.ob_object_search_parts.specs.Here.{AreEnoughHere, AreOrdersHere, HasOrderHere, IsFaultHere, IsFirstFault, IsPartFault, IsPartHere, IsShortHere, named_part}
+use Rattle.ob_object_search_parts.specs.Parted.{AreNeeded, AreOrders, HasNeededOrders, HasPartOrder, HasPartOrders, PartOrder}
 use Rattle.ob_object_search_parts.specs.Parted as Parted
 use Rattle.ob_object_search_parts.specs.PartedFaults.{HasManyParts, HasPartsFault, IsUndecided, PartCeases, TellsMemoryApart, of_open, of_reading}
 use Rattle.ob_object_search_parts.specs.declared.fault.PartsFault.{PartsFault}
@@ -25,8 +26,9 @@ use Rattle.ob_text_record_reading.specs.declared.reading.RecordFault.TheVariants
 use Rattle.ob_typing.specs.Program.{Program}
 use Rattle.wf_history.specs.declared.event.CallId.{CallId}
 use Rattle.wf_history.specs.Legal.{IsLegal}
+use Rattle.wf_needed.specs.Needed.{NoneIsNeedless}
 use Rattle.wf_order.proofs.Turns.{slice_get_some}
-use Rattle.wf_parts.specs.Numbering.{ArePartsOf, PartView, value_of}
+use Rattle.wf_parts.specs.Numbering.{ArePartsOf, PartView, value_of, whole_event}
 use Rattle.wf_parts.specs.Parts.{AreValues, Events, IsPart, IsShort}
 
 -- a fault is told as want of memory or has a number
@@ -61,6 +63,25 @@ pub found_apart : (program : Program) (budget : ℕ) (opening : Activation) (nam
     TellsMemoryApart e
 found_apart program budget opening names most parts e (inl same) = inl same
 found_apart program budget opening names most parts e (inr f) = part_apart program budget opening names most f.part e f.fault
+
+-- and not as too many configurations
+
+pub reading_decided : (e : RecordFault) → of_reading e ≢ Faults.TooMany
+reading_decided (Reading.Form line) same = cc
+reading_decided Reading.NoMemory same = cc
+
+pub open_decided : (e : OpenFault) → of_open e ≢ Faults.TooMany
+open_decided (Open.Trap k) same = cc
+open_decided Open.NoMemory same = cc
+
+pub short_decided : (events : Events) (names : List ℕ) (by : ℕ) (e : PartsFault) → IsShortHere events names by e → e ≢ Faults.TooMany
+short_decided events names by (Faults.Text e) h same = absurd h
+short_decided events names by (Faults.Form line) h same = absurd h
+short_decided events names by (Faults.Open e) h same = absurd h
+short_decided events names by (Faults.Short id) h same = cc
+short_decided events names by (Faults.Illegal id value) h same = absurd h
+short_decided events names by Faults.TooMany h same = absurd h
+short_decided events names by Faults.NoMemory h same = cc
 
 -- values of lists with the same ones
 at_value : {A : Type 0} (f : A → Scalar) (xs : List A) (k : ℕ) (x : A) → slice_get xs k ≡ Some x → slice_get (map f xs) k ≡ Some (f x)
@@ -179,9 +200,32 @@ module _ (program : Program) (text : List ℕ) (asked : Option ℕ) (by most : �
                   values = subst (λ (vs : List Scalar). AreValues by tells.events vs) (sym h.values) values_here;
                   each = λ k o at.
                       let p = part_of (map Parted.value_of found) h.values k o.value (at_value Parted.value_of found k o at) in
-                      has_order p.0 k p.1 o.value p.2 o.order (h.each k p.0 o p.1 at);
+                      has_order p.0 k p.1 o.value p.2 o.order (h.each k p.0 o p.1 at).0;
                 });
               }
+
+          needed_of : (p : PartView) (k : ℕ) → slice_get parts k ≡ Some p → (v : Scalar) → p.value ≡ v → (order : List CallId) (part : Events) → IsPart tells.events by v part →
+              NoneIsNeedless Ends opening (named_part names p) order → NoneIsNeedless Ends opening part order
+          needed_of p k at v is order part own needed =
+              subst (λ (es : Events). NoneIsNeedless Ends opening es order)
+              (picked_once tells.events by v (subst (λ (x : Scalar). IsPart tells.events by x (named_part names p)) is (part_here k p at)) own) needed
+
+          pub found_needed : (found : List PartOrder) → AreOrdersHere program budget opening names parts found → HasNeededOrders BeginsPlaced CallEnds program text asked by found
+          found_needed found h =
+              record {
+                start = start_here;
+                needed = subst (λ (b : ℕ). AreNeeded (CallEnds program b) opening tells.events by found) is_budget (λ k o part at own.
+                    let p = part_of (map Parted.value_of found) h.values k o.value (at_value Parted.value_of found k o at) in
+                    needed_of p.0 k p.1 o.value p.2 o.order part own (h.each k p.0 o p.1 at).1);
+              }
+
+          -- a part has no more events than the whole
+          pub found_enough : IsEnoughHere numbered names most → AreEnoughHere parts names most
+          found_enough enough k p at =
+              let less = picked_size numbered by p.value (are.each k p at).part in
+              let size = length-map p.events (whole_event p.rows) in
+              let fewer = fewer_events (length names) (length p.events) (length numbered) (omega (arith, less, size)) in
+              omega (arith, fewer, enough)
 
           ceases_here : (id : CallId) (value : Scalar) → IsFirstFault program budget opening names most parts (Faults.Illegal id value) → PartCeases Ends opening tells.events by id value
           ceases_here id value f =

@@ -1,6 +1,7 @@
 -- What is found of the parts of a history, where processes and calls go by small numbers.
 use Rattle.std.specs.Prelude.{◌≡◌, ◌⊎◌, ℕ, ◌<◌, List, Some, length, map, slice_get}
 use Rattle.ob_object_order.specs.LegalOrder.{CallEnds}
+use Rattle.ob_object_search.specs.Found.{IsEnoughHere}
 use Rattle.ob_object_search.specs.SearchFaults.{CeasesAt}
 use Rattle.ob_object_search_parts.specs.Parted.{PartOrder}
 use Rattle.ob_object_search_parts.specs.Parted as Parted
@@ -11,6 +12,7 @@ use Rattle.ob_text_history_reading.specs.Names.{AreBelow, named_all, named_id}
 use Rattle.ob_typing.specs.Program.{Program}
 use Rattle.wf_history.specs.declared.event.CallId.{CallId}
 use Rattle.wf_history.specs.Legal.{IsLegal}
+use Rattle.wf_needed.specs.Needed.{NoneIsNeedless}
 use Rattle.wf_order.specs.Verdict.{HasMoreFront}
 use Rattle.wf_parts.specs.Numbering.{AreNumbered, PartView, value_of, whole_events, whole_id}
 use Rattle.wf_parts.specs.Parts.{Events, IsShort}
@@ -37,11 +39,23 @@ IsShortHere events names by (Faults.Illegal id value) = ⊥
 IsShortHere events names by Faults.TooMany = ⊥
 IsShortHere events names by Faults.NoMemory = Unit {0}
 
+-- so many configurations are enough for each part
+abbrev pub AreEnoughHere : List PartView → (names : List ℕ) → (most : ℕ) → Type 0
+AreEnoughHere parts names most = (k : ℕ) (p : PartView) → slice_get parts k ≡ Some p → IsEnoughHere p.events names most
+
+-- a part of a history with so many names, at each place
+abbrev pub ArePartsHere : List ℕ → List PartView → Type 0
+ArePartsHere names parts = (k : ℕ) (p : PartView) → slice_get parts k ≡ Some p → IsPartHere names p
+
 -- by what calls with a budget do from a state
 module _ (program : Program) (budget : ℕ) (opening : Activation) (names : List ℕ) where
   -- the order is a legal order of the part
   abbrev pub HasOrderHere : PartView → List CallId → Type 0
   HasOrderHere p order = (last : Activation) × IsLegal (CallEnds program budget) opening (named_part names p) order last
+
+  -- and no open call of it can be left out
+  abbrev pub IsFoundHere : PartView → List CallId → Type 0
+  IsFoundHere p order = HasOrderHere p order × NoneIsNeedless (CallEnds program budget) opening (named_part names p) order
 
   -- why a part has none
   abbrev pub IsPartFault : (most : ℕ) → PartView → PartsFault → Type 0
@@ -56,7 +70,7 @@ module _ (program : Program) (budget : ℕ) (opening : Activation) (names : List
   -- each part has its order
   pub record AreOrdersHere (parts : List PartView) (found : List PartOrder) : Type 0 where
     pub values : map Parted.value_of found ≡ map value_of parts
-    pub each : (k : ℕ) (p : PartView) (o : PartOrder) → slice_get parts k ≡ Some p → slice_get found k ≡ Some o → HasOrderHere p o.order
+    pub each : (k : ℕ) (p : PartView) (o : PartOrder) → slice_get parts k ≡ Some p → slice_get found k ≡ Some o → IsFoundHere p o.order
 
   -- the first part that has none
   pub record IsFirstFault (most : ℕ) (parts : List PartView) (e : PartsFault) : Type 0 where

@@ -10,6 +10,7 @@ use Rattle.ob_typing.specs.ModuleText.{IsModule}
 use Rattle.ob_typing.specs.Program.{Program}
 use Rattle.wf_history.specs.declared.event.CallId.{CallId}
 use Rattle.wf_history.specs.Legal.{IsLegal}
+use Rattle.wf_needed.specs.Needed.{NoneIsNeedless}
 use Rattle.wf_parts.specs.Parts.{AreValues, Events, IsPart}
 
 -- an order of the calls that have this value
@@ -34,6 +35,10 @@ module _ {State : Type 0} (Effect : ObjectCall → State → State → Reply →
     pub values : AreValues by events (map value_of parts)
     pub each : (k : ℕ) (p : PartOrder) → slice_get parts k ≡ Some p → HasPartOrder p.value p.order
 
+  -- no open call of an order can be left out
+  abbrev pub AreNeeded : List PartOrder → Type 0
+  AreNeeded parts = (k : ℕ) (p : PartOrder) (part : Events) → slice_get parts k ≡ Some p → IsPart events by p.value part → NoneIsNeedless Effect opening part p.order
+
 module _ {State : Type 0} (Begins : Program → Option Activation → State → Type 0) (Ends : Program → (budget : ℕ) → ObjectCall → State → State → Reply → Type 0) (program : Program) (text : List ℕ) where
   -- the text is a history of the program's object, and these are legal orders of its parts, each from the state with which calls begin,
   -- where each call has the budget that is asked for or told
@@ -41,9 +46,20 @@ module _ {State : Type 0} (Begins : Program → Option Activation → State → 
     pub start : HasBeginning Begins program text
     pub orders : AreOrders (Ends program (budget_of asked start.tells.budget)) start.opening start.tells.events by parts
 
+  -- the same, where no open call of these orders can be left out
+  pub record HasNeededOrders (asked : Option ℕ) (by : ℕ) (parts : List PartOrder) : Type 0 where
+    pub start : HasBeginning Begins program text
+    pub needed : AreNeeded (Ends program (budget_of asked start.tells.budget)) start.opening start.tells.events by parts
+
 -- one text is a module, and the other one a history of its object whose parts have these legal orders, by what the module's body and its
 -- calls mean
 pub record AreLegalOrders (module_text history_text : List ℕ) (asked : Option ℕ) (by : ℕ) (parts : List PartOrder) : Type 0 where
   pub program : Program
   pub is_module : IsModule module_text program
   pub has_orders : HasPartOrders BeginsNamed CallMeans program history_text asked by parts
+
+-- one text is a module, and the other one a history of its object; no open call of these orders of its parts can be left out, by the same
+pub record AreNeededOrders (module_text history_text : List ℕ) (asked : Option ℕ) (by : ℕ) (parts : List PartOrder) : Type 0 where
+  pub program : Program
+  pub is_module : IsModule module_text program
+  pub has_needed : HasNeededOrders BeginsNamed CallMeans program history_text asked by parts

@@ -1,17 +1,20 @@
 //! Legal orders of the parts of a history, from the bytes of a module and of the history.
 
-ghost use Rattle.std.specs.Prelude.{◌≡◌, ◌<◌, ◌-◌, ◌++◌, ◌∷◌, [], ℕ, List, Err, Some, IfOk, IfErr, OnOk, get_or, length, map, slice_get};
+ghost use Rattle.std.specs.Prelude.{◌≡◌, ◌≢◌, ◌<◌, ◌-◌, ◌++◌, ◌∷◌, [], ℕ, List, Err, IfOk, IfErr, OnOk, get_or, length, map};
 ghost use Rattle.ob_checked.specs.CheckedModule.{program_in};
 ghost use Rattle.ob_object_order.specs.LegalOrder.{CallEnds};
-ghost use Rattle.ob_object_search_parts.specs.Here.{AreOrdersHere, HasOrderHere, IsFaultHere, IsPartFault, IsPartHere, IsShortHere, named_call};
-ghost use Rattle.ob_object_search_parts.specs.Parted.{AreLegalOrders, HasPartOrders, PartOrder};
+ghost use Rattle.ob_object_search.specs.Found.{IsEnoughHere};
+ghost use Rattle.ob_object_search.specs.Searched.{HasEnough, IsEnough};
+ghost use Rattle.ob_object_search_parts.specs.Here.{AreEnoughHere, AreOrdersHere, ArePartsHere, IsFaultHere, IsFoundHere, IsPartFault, IsPartHere, IsShortHere, named_call};
+ghost use Rattle.ob_object_search_parts.specs.Parted.{AreLegalOrders, AreNeededOrders, HasNeededOrders, HasPartOrders, PartOrder};
+ghost use Rattle.ob_object_search_parts.specs.declared.fault.PartsFault.TheVariants as Faults;
 ghost use Rattle.ob_object_search_parts.specs.PartedFaults.{HasPartsFault, IsPartsFault, IsUndecided, TellsMemoryApart, too_long};
 ghost use Rattle.ob_object_search_parts.specs.View.{order_in, orders_in};
 ghost use Rattle.ob_object_verify.specs.Beginnings.{BeginsPlaced, TrapsPlaced};
 ghost use Rattle.ob_store.specs.View.{state_of};
 ghost use Rattle.ob_text_history_reading.specs.Names.{AreApart};
 ghost use Rattle.wf_order.specs.Rows.{row_of};
-ghost use Rattle.wf_parts.specs.Numbering.{ArePartsOf, PartView};
+ghost use Rattle.wf_parts.specs.Numbering.{ArePartsOf};
 ghost use Rattle.wf_parts.specs.View.{part_in, parts_in, rows_in};
 
 use crate::fault::PartsFault;
@@ -25,6 +28,7 @@ use ob_scan::scanner::LONGEST_TEXT;
 use ob_text_history_reading::read_history;
 use std::alloc::{AllocError, Global};
 use wf_history::{CallId, History};
+use wf_needed::needed_order;
 use wf_order::{Verdict, find_order};
 use wf_parts::parts_of;
 
@@ -46,6 +50,8 @@ pub fn search_parts_text(
     search: &Search,
 ) -> Result<Vec<Part>, PartsFault>
     ensures orders { IfOk result (λ parts. AreLegalOrders «module».now history.now search.now.budget by (orders_in parts.items)) }
+    // No open call of an order can be left out.
+    ensures needed { IfOk result (λ parts. AreNeededOrders «module».now history.now search.now.budget by (orders_in parts.items)) }
     ensures fault { IfErr result (IsPartsFault «module».now history.now search.now.budget by search.now.most) }
 
     // Where there are no orders but for X2 and want of memory, not all parts have legal ones.
@@ -53,6 +59,9 @@ pub fn search_parts_text(
 
     // A history all of whose parts have legal orders is refused with X2 alone, or for want of memory.
     ensures lawful { (parts : List PartOrder) → AreLegalOrders «module».now history.now search.now.budget by parts → IfErr result IsUndecided }
+
+    // With enough configurations no part is left undecided.
+    ensures decided { IsEnough «module».now history.now search.now.most → IfErr result (λ e. e ≢ Faults.TooMany) }
 
     // Want of memory is told by its own variant alone.
     ensures memory { IfErr result TellsMemoryApart }
@@ -73,8 +82,10 @@ fn search_parts(
     search: &Search,
 ) -> Result<Vec<Part>, PartsFault>
     ensures orders { IfOk result (λ parts. HasPartOrders BeginsPlaced CallEnds (program_in checked.now) text.now search.now.budget by (orders_in parts.items)) }
+    ensures needed { IfOk result (λ parts. HasNeededOrders BeginsPlaced CallEnds (program_in checked.now) text.now search.now.budget by (orders_in parts.items)) }
     ensures fault { IfErr result (HasPartsFault BeginsPlaced TrapsPlaced CallEnds (program_in checked.now) text.now search.now.budget by search.now.most) }
     ensures lawful { (parts : List PartOrder) → HasPartOrders BeginsPlaced CallEnds (program_in checked.now) text.now search.now.budget by parts → IfErr result IsUndecided }
+    ensures decided { HasEnough (program_in checked.now) text.now search.now.most → IfErr result (λ e. e ≢ Faults.TooMany) }
     ensures memory { IfErr result TellsMemoryApart }
 {
     let read = read_history(alloc, checked, text)?;
@@ -120,9 +131,10 @@ fn orders_found(
     search: &Search,
 ) -> Result<Vec<Part>, PartsFault>
     requires apart { AreApart names.now }
-    requires here { (k : ℕ) (p : PartView) → slice_get (parts_in parts.now) k ≡ Some p → IsPartHere names.now p }
+    requires here { ArePartsHere names.now (parts_in parts.now) }
     ensures orders { IfOk result (λ found. AreOrdersHere (program_in object.now.checked.now) object.now.budget (state_of object.now.opening.now) names.now (parts_in parts.now) (orders_in found.items)) }
     ensures fault { IfErr result (IsFaultHere (program_in object.now.checked.now) object.now.budget (state_of object.now.opening.now) names.now search.now.most (parts_in parts.now)) }
+    ensures decided { AreEnoughHere (parts_in parts.now) names.now search.now.most → IfErr result (λ e. e ≢ Faults.TooMany) }
 {
     let mut found = Vec::new(alloc);
     for part in parts {
@@ -137,7 +149,7 @@ fn orders_found(
     Ok(found)
 }
 
-/// A legal order of a part.
+/// A legal order of a part. No open call of it can be left out.
 fn part_order(
     alloc: Global,
     object: &ModuleObject,
@@ -147,12 +159,16 @@ fn part_order(
 ) -> Result<Vec<CallId>, PartsFault>
     requires apart { AreApart names.now }
     requires here { IsPartHere names.now (part_in part.now) }
-    ensures order { IfOk result (λ order. HasOrderHere (program_in object.now.checked.now) object.now.budget (state_of object.now.opening.now) names.now (part_in part.now) order.items) }
+    ensures order { IfOk result (λ order. IsFoundHere (program_in object.now.checked.now) object.now.budget (state_of object.now.opening.now) names.now (part_in part.now) order.items) }
     ensures fault { IfErr result (IsPartFault (program_in object.now.checked.now) object.now.budget (state_of object.now.opening.now) names.now search.now.most (part_in part.now)) }
+    ensures decided { IsEnoughHere (part_in part.now).events names.now search.now.most → IfErr result (λ e. e ≢ Faults.TooMany) }
 {
     let numbers = part.numbers.as_slice();
     match find_order(alloc, &part.history, object, search.most, search.keys)? {
-        Verdict::Legal(order) => Ok(calls_named(alloc, names, numbers, order.as_slice())?),
+        Verdict::Legal(order) => {
+            let needed = needed_order(alloc, &part.history, object, order.as_slice())?;
+            Ok(calls_named(alloc, names, numbers, needed.as_slice())?)
+        }
         Verdict::Illegal(id, _) => {
             let call = call_named(names, numbers, id);
             Err(PartsFault::Illegal(call, part.value))

@@ -10,6 +10,7 @@ use Rattle.ob_interface.specs.Call.{ObjectCall, Reply}
 use Rattle.ob_meaning.specs.Object.{State}
 use Rattle.ob_object_order.specs.LegalOrder.{CallEnds}
 use Rattle.ob_object_record.specs.Record.{Record}
+use Rattle.ob_object_search.proofs.Crossing.{needed_named}
 use Rattle.ob_object_search.proofs.Fitting.{calls_fit, history_opened}
 use Rattle.ob_object_search.proofs.Texts as Texts
 use Rattle.ob_object_search.specs.declared.searching.SearchFault.{SearchFault}
@@ -57,6 +58,7 @@ module _ (program : Program) (good : IsResolved program) (text : List ℕ) where
         history = h.history;
         last = legal.end;
         legal = legal.legal;
+        needed = needed_named program good text asked r.order h.needed;
         schedule = h.schedule;
         leads = subst (λ (a : Activation). SameState program legal.end a) h.leads legal.is;
       }

@@ -5,7 +5,7 @@ use Rattle.ob_code_law.specs.Named.{CallMeans}
 use Rattle.ob_interface.specs.Call.{ObjectCall, Reply}
 use Rattle.ob_interface.specs.Processes.{most_processes}
 use Rattle.ob_object_record.specs.Record.{Record}
-use Rattle.ob_object_search.specs.Searched.{HasBeginning, budget_of}
+use Rattle.ob_object_search.specs.Searched.{HasBeginning, HasNoneNeedless, budget_of}
 use Rattle.ob_object_verify.specs.Beginnings.{BeginsNamed}
 use Rattle.ob_positions.specs.Store.{Activation}
 use Rattle.ob_text_record.specs.RecordText.{record_text}
@@ -18,8 +18,8 @@ use Rattle.wf_history.specs.Legal.{IsLegal}
 module _ {State : Type 0} (Begins : Program → Option Activation → State → Type 0) (Ends : Program → (budget : ℕ) → ObjectCall → State → State → Reply → Type 0)
     (Is : Program → State → Activation → Type 0) where
   -- the text is a history of the program's object, and this is its record: it has the history's events, with the processes that they need,
-  -- the budget that is asked for or told, the values that were carried over, a legal order, no schedule, and the variables that the
-  -- order leads to
+  -- the budget that is asked for or told, the values that were carried over, a legal order of which no open call can be left out, no
+  -- schedule, and the variables that the order leads to
   pub record IsHistoryRecord (program : Program) (text : List ℕ) (asked : Option ℕ) (r : Record) : Type 0 where
     pub start : HasBeginning Begins program text
     pub processes : r.processes ≡ process_count start.tells.events
@@ -29,6 +29,7 @@ module _ {State : Type 0} (Begins : Program → Option Activation → State → 
     pub history : r.history ≡ start.tells.events
     pub last : State
     pub legal : IsLegal (Ends program r.budget) start.opening r.history r.order last
+    pub needed : HasNoneNeedless Begins Ends program text asked r.order
     pub schedule : r.schedule ≡ []
     pub leads : Is program last r.state
 

@@ -18,13 +18,12 @@ ghost use Rattle.wf_history.specs.Legal.{IsLegal};
 ghost use Rattle.wf_history.specs.declared.event.CallId.{CallId};
 
 use crate::copying::named_history;
-use crate::finding::order_found;
 use ob_check_text::checked_text::{TextFault, checked_text};
 use ob_checked::checked::Checked;
 use ob_interface::NoMemory;
 use ob_object_order::{OrderFault, check_order};
 use ob_object_record::Record;
-use ob_object_search::searching::budget_of;
+use ob_object_search::searching::{budget_of, order_found};
 use ob_object_search::{ModuleObject, Search, SearchFault};
 use ob_object_verify::beginning::beginning;
 use ob_scan::scanner::LONGEST_TEXT;

@@ -1,2 +1,3 @@
 pub mod RecordingFaultLines
 pub mod PartsFaultLines
+pub mod HistoryFaultLines

@@ -73,7 +73,7 @@ impl Gate for Closed {
 
 /// Whether the number comes to be so great while it is looked at a bounded number of times.
 fn comes(number: &AtomicU64, least: u64) -> bool {
-    for _ in 0..100_000_000u32 {
+    for _ in 0..10_000_000_000u64 {
         if number.load(Ordering::SeqCst) >= least {
             return true;
         }
@@ -189,7 +189,8 @@ fn thread_count<R: Files + AllocGlobal>(rt: &R) -> Option<u64> {
     number.trim().parse().ok()
 }
 
-/// A gate that always passes, and keeps how many threads there are where it is asked first.
+/// A gate that keeps how many threads there are where it is asked first, and passes when it has. Until then no worker takes a step, so
+/// none has ended.
 #[derive(Drop)]
 struct Roll<'a, R> {
     rt: &'a R,
@@ -209,7 +210,7 @@ impl<R: Files + AllocGlobal> Gate for Roll<'_, R> {
             let threads = thread_count(self.rt).unwrap_or(0);
             self.threads.store(threads, Ordering::SeqCst);
         }
-        true
+        comes(&self.threads, 1)
     }
 
     fn answered(&self, _process: usize, _number: u64) {}

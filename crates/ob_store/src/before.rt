@@ -191,14 +191,6 @@ impl Before {
         }
     }
 
-    /// The list of the writes, for its memory: an empty one where they aren't listed.
-    pub(crate) fn into_writes(self, alloc: Global) -> Vec<Listed> {
-        match self {
-            Before::Writes(writes) => writes,
-            Before::Whole(_) => Vec::new(alloc),
-        }
-    }
-
     /// The module's activation as it was, from what it is.
     pub fn take_back(self, variables: Vec<Value>) -> Vec<Value>
         ensures { variables_in result.items ≡ begun_by self (variables_in variables.items) }

@@ -357,10 +357,16 @@ impl Store {
         ensures { state_of result ≡ Stores.activation_at (store_in self) 0 }
     {
         let alloc = *self.variables.allocator();
+        let before = self.before;
+        // A list of writes is kept for its memory.
+        let writes = match before {
+            Before::Writes(writes) => writes,
+            Before::Whole(_values) => Vec::new(alloc),
+        };
         State {
             values: self.variables,
             others: self.others,
-            writes: self.before.into_writes(alloc),
+            writes,
         }
     }
 

@@ -1,7 +1,9 @@
 -- Where things stand in a picture, in pixels from the left and from the top. The columns of a run stand in bands, one below the other.
-use Rattle.std.specs.Prelude.{ℕ, ◌+◌, ◌-◌, ◌*◌, ◌/◌, ◌%◌, ◌==◌, ◌&&◌, cond, length, nat_le, nat_lt, position, unwrap_or, Bool, List, min, max}
+use Rattle.std.specs.Prelude.{ℕ, ◌+◌, ◌-◌, ◌*◌, ◌/◌, ◌%◌, ◌==◌, ◌&&◌, cond, length, nat_le, nat_lt, position, unwrap_or, Bool, false, List, Option, None, Some, min, max}
 use Rattle.ob_text_picture.specs.declared.places.Frame.{Frame}
+use Rattle.ob_text_picture_chart.specs.Same.{is_same}
 use Rattle.ob_text_picture_svg.specs.declared.svg.Point.{Point}
+use Rattle.wf_history.specs.declared.event.CallId.{CallId}
 
 abbrev pub at : ℕ → ℕ → Point
 at x y = record { x = x; y = y }
@@ -45,14 +47,20 @@ x_of f band column = lead band + min (column - first f band) (columns_in f band)
 abbrev pub beyond : ℕ
 beyond = 200
 
--- a band: its number, from 0; where it begins, from the top; the processes that have a row there, in their order; and how far the words of
--- calls go on behind its end
+-- a band: its number, from 0; where it begins, from the top; the processes that have a row there, in their order; how far the words of
+-- calls go on behind its end; and the call that is marked in the picture, if one is
 pub record Band : Type 0 where
   pub frame : Frame
   pub number : ℕ
   pub top : ℕ
   pub rows : List ℕ
   pub spill : ℕ
+  pub marked : Option CallId
+
+-- a call is the marked one
+abbrev pub is_marked : Option CallId → CallId → Bool
+is_marked None id = false
+is_marked (Some marked) id = is_same marked id
 
 -- the height of a band: the numbers of its events, and so many rows
 abbrev pub band_height : (rows : ℕ) → ℕ

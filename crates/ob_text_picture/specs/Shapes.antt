@@ -1,12 +1,12 @@
 -- The shapes of a picture, by what is seen of a run.
 use Rattle.std.specs.Prelude.{ℕ, zero, suc, ◌+◌, ◌-◌, ◌*◌, ◌/◌, ◌%◌, ◌==◌, ◌&&◌, ◌||◌, not, List, [], ◌∷◌, ◌++◌, Bool, false, cond, Option, Some}
-use Rattle.std.specs.Prelude.{None, codes, decimal, length, max, min, nat_le, nat_lt, slice_get, unwrap_or}
+use Rattle.std.specs.Prelude.{None, codes, decimal, length, max, min, nat_le, nat_lt, option_map, slice_get, unwrap_or}
 use Rattle.std.specs.List.{flat_map}
 use Rattle.ob_interface.specs.Call.{Reply, Answers, Trapped}
 use Rattle.ob_interface.specs.Export.{Signature}
-use Rattle.ob_text_picture.specs.Places.{Band, at, band_height, bands, below, beyond, cell, columns_in, first, height, is_in, width, x_of, y_of}
+use Rattle.ob_text_picture.specs.Places.{Band, at, band_height, bands, below, beyond, cell, columns_in, first, height, is_in, is_marked, width, x_of, y_of}
 use Rattle.ob_text_picture.specs.declared.places.Frame.{Frame}
-use Rattle.ob_text_picture_chart.specs.Charts.{Chart, Happening, Begun, Taken, Ended, Sight}
+use Rattle.ob_text_picture_chart.specs.Charts.{Chart, Happening, Begun, Mark, Taken, Ended, Sight}
 use Rattle.ob_text_picture_chart.specs.declared.charts.CallRange.{CallRange}
 use Rattle.ob_text_picture_chart.specs.declared.charts.Placed.{Placed}
 use Rattle.ob_text_picture_labels.specs.Bars.{Bar, bar_of}
@@ -64,6 +64,10 @@ row band process =
 
 -- ---- calls
 
+-- the class of what shows a call: the marked one has one class more
+abbrev pub class_of : (marked : Bool) (class : List ℕ) → List ℕ
+class_of marked class = cond marked (class ++ codes " marked") class
+
 abbrev pub bar_class : Option Reply → List ℕ
 bar_class None = codes "open"
 bar_class (Some (Answers values)) = codes "done"
@@ -118,11 +122,11 @@ label_words exports f band b =
 -- the call, above its bar; the reply, below it
 abbrev pub label : List Signature → Band → Bar → Shape
 label exports band b =
-    Words (codes "label") (at (left band.frame band.number b) (y_of band b.id.process - 15)) (label_words exports band.frame band.number b)
+    Words (class_of (is_marked band.marked b.id) (codes "label")) (at (left band.frame band.number b) (y_of band b.id.process - 15)) (label_words exports band.frame band.number b)
 
 abbrev pub answer : Band → Bar → Reply → Shape
 answer band b reply =
-    Words (reply_class reply) (at (left band.frame band.number b) (y_of band b.id.process + 22))
+    Words (class_of (is_marked band.marked b.id) (reply_class reply)) (at (left band.frame band.number b) (y_of band b.id.process + 22))
     (short (letters band.frame band.number b) (answer_words reply))
 
 -- below a bar stands the reply, in the band of the end; a bar without one has a cross at the end of the picture
@@ -148,7 +152,7 @@ unfoldable pub bar : List Signature → Band → Bar → List Shape
 bar exports band b =
     let x = left band.frame band.number b in
     cond (is_seen band.frame band.number b)
-    (Group (title exports b) ∷ Box (bar_class b.reply) (at x (y_of band b.id.process - 10)) (at (right band.frame band.number b - x) 20)
+    (Group (title exports b) ∷ Box (class_of (is_marked band.marked b.id) (bar_class b.reply)) (at x (y_of band b.id.process - 10)) (at (right band.frame band.number b - x) 20)
     ∷ fade_before band b ++ (fade_behind band b ++ (label exports band b ∷ ending band b ++ EndGroup ∷ []))) []
 
 abbrev pub bar_at : List Signature → Band → Sight → Happening → List Sight → List Shape
@@ -247,6 +251,7 @@ band_of exports f c band =
       top = top_of f c band;
       rows = rows f band c.sights c.processes;
       spill = spill exports f band c.sights;
+      marked = option_map (λ mark. mark.id) c.mark;
     }
 
 -- what stands in a band: the events, the processes, and then what is seen, the bars above the lines and the marks above the bars
@@ -319,10 +324,15 @@ call_keys = bar_keys ++ fade_keys
 unfoldable pub text_keys : List Shape
 text_keys = word_keys ++ event_keys
 
+-- why a call is marked, if one is
+abbrev pub mark_words : Option Mark → List Shape
+mark_words None = []
+mark_words (Some mark) = Words (codes "bold marked") (at 12 208) mark.words ∷ []
+
 -- the ground, which is as large as the picture, and what stands above the bands
 unfoldable pub head_shapes : Chart → (size : Point) → List Shape
 head_shapes c size =
-    Box (codes "ground") (at 0 0) size ∷ Words (codes "head") (at 12 22) (heading_words c) ∷ call_keys ++ mark_keys ++ text_keys
+    Box (codes "ground") (at 0 0) size ∷ Words (codes "head") (at 12 22) (heading_words c) ∷ call_keys ++ mark_keys ++ text_keys ++ mark_words c.mark
 
 abbrev pub frame_of : List Signature → Chart → Frame
 frame_of exports c =

@@ -10,7 +10,7 @@ use Rattle.ob_text_picture_chart.specs.declared.charts.Sight.{Sight}
 use Rattle.ob_text_picture_svg.specs.Svg.{Shape}
 
 abbrev pub band_in : Band → Places.Band
-band_in b = record { frame = b.frame; number = b.number; top = b.top; rows = b.rows.now; spill = b.spill }
+band_in b = record { frame = b.frame; number = b.number; top = b.top; rows = b.rows.now; spill = b.spill; marked = b.marked }
 
 -- the bar of a call in a band, where it begins, by what is seen behind
 abbrev pub bar_begun : List Export → Band → Sight → (behind : List Sight) → List Shape

@@ -1,9 +1,9 @@
 //! The bars of calls.
 
-ghost use Rattle.std.specs.Prelude.{◌≡◌, ◌++◌, ◌≤◌, OnOk, ◌+◌, ◌<◌, ◌^◌, map, option_map, string_bytes};
+ghost use Rattle.std.specs.Prelude.{◌≡◌, ◌++◌, ◌≤◌, OnOk, ◌+◌, ◌<◌, ◌^◌, codes, map, option_map, string_bytes};
 ghost use Rattle.ob_interface.specs.View.{signature_of};
 ghost use Rattle.ob_text_picture.specs.Shapes as Shapes;
-ghost use Rattle.ob_text_picture.specs.Shapes.{bar_class, cross, ending, fade_before, fade_behind, goes_on, is_last, is_seen, label_words, left};
+ghost use Rattle.ob_text_picture.specs.Shapes.{bar_class, class_of, cross, ending, fade_before, fade_behind, goes_on, is_last, is_seen, label_words, left};
 ghost use Rattle.ob_text_picture.specs.Shapes.{letters, reply_behind, reply_class, right};
 ghost use Rattle.ob_text_picture.specs.View.{band_in};
 ghost use Rattle.ob_text_picture_labels.specs.View.{bar_in};
@@ -45,7 +45,7 @@ pub(crate) fn push_bar(
         y: 20,
     };
     push_title(text, exports, bar)?;
-    push_box(text, bar_class(bar.reply), corner, size)?;
+    push_box(text, bar_class(band.marks(bar.id), bar.reply), corner, size)?;
     push_fade_before(text, band, bar)?;
     push_fade_behind(text, band, bar)?;
     push_label(alloc, text, exports, band, bar)?;
@@ -171,23 +171,34 @@ fn end_group(text: &mut String) -> Result<(), AllocError>
     text.push_str("</g>\n")
 }
 
-fn bar_class(reply: Option<SeenReply>) -> &'static str
-    ensures { result.now ≡ bar_class (option_map seen_reply reply.entry) }
+fn bar_class(marked: bool, reply: Option<SeenReply>) -> &'static str
+    ensures { result.now ≡ class_of marked (bar_class (option_map seen_reply reply.entry)) }
 {
-    match reply {
-        Some(SeenReply::Done(_)) => "done",
-        Some(SeenReply::Trap(_)) => "trap",
-        None => "open",
+    match (marked, reply) {
+        (false, Some(SeenReply::Done(_))) => "done",
+        (false, Some(SeenReply::Trap(_))) => "trap",
+        (false, None) => "open",
+        (true, Some(SeenReply::Done(_))) => "done marked",
+        (true, Some(SeenReply::Trap(_))) => "trap marked",
+        (true, None) => "open marked",
     }
 }
 
-fn reply_class(reply: SeenReply) -> &'static str
-    ensures { result.now ≡ reply_class (seen_reply reply.entry) }
+fn reply_class(marked: bool, reply: SeenReply) -> &'static str
+    ensures { result.now ≡ class_of marked (reply_class (seen_reply reply.entry)) }
 {
-    match reply {
-        SeenReply::Done(_) => "reply",
-        SeenReply::Trap(_) => "trapped",
+    match (marked, reply) {
+        (false, SeenReply::Done(_)) => "reply",
+        (false, SeenReply::Trap(_)) => "trapped",
+        (true, SeenReply::Done(_)) => "reply marked",
+        (true, SeenReply::Trap(_)) => "trapped marked",
     }
+}
+
+fn label_class(marked: bool) -> &'static str
+    ensures { result.now ≡ class_of marked (codes "label") }
+{
+    if marked { "label marked" } else { "label" }
 }
 
 /// The words above a bar: the call, which stands again in a band to which it goes on.
@@ -227,7 +238,7 @@ fn push_label(
         x: left(band.frame, band.number, bar),
         y: band.y(bar.id.process) - 15,
     };
-    open_words(text, "label", at)?;
+    open_words(text, label_class(band.marks(bar.id)), at)?;
     push_label_words(alloc, text, exports, band.frame, band.number, bar)?;
     close_words(text)
 }
@@ -273,7 +284,7 @@ fn push_answer(
         y: band.y(bar.id.process) + 22,
     };
     let room = letters(band.frame, band.number, bar);
-    open_words(text, reply_class(reply), at)?;
+    open_words(text, reply_class(band.marks(bar.id), reply), at)?;
     push_short_answer(alloc, text, reply, room)?;
     close_words(text)
 }

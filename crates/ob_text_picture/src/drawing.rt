@@ -1,12 +1,12 @@
 //! A run as a picture that a browser shows.
 
-ghost use Rattle.std.specs.Prelude.{◌≡◌, ◌+◌, ◌++◌, ◌<◌, ◌≤◌, ◌^◌, IfErr, IfOk, OnOk, codes, length, map, string_bytes};
+ghost use Rattle.std.specs.Prelude.{◌≡◌, ◌+◌, ◌++◌, ◌<◌, ◌≤◌, ◌^◌, IfErr, IfOk, OnOk, codes, length, map, option_map, string_bytes};
 ghost use Rattle.ob_interface.specs.View.{signature_of};
-ghost use Rattle.ob_text_picture.specs.Shapes.{band_shapes, below_bands, calls_words, frame_of, head_shapes, heading_words, picture_text, shapes_of_bands, top_of};
+ghost use Rattle.ob_text_picture.specs.Shapes.{band_shapes, below_bands, calls_words, frame_of, head_shapes, heading_words, mark_words, picture_text, shapes_of_bands, top_of};
 ghost use Rattle.ob_text_picture.specs.Places.{at};
 ghost use Rattle.ob_text_picture_chart.specs.Charts.{begun, chart_of_calls};
 ghost use Rattle.ob_text_picture_chart.specs.Faults.{IsRangeFault, MayBeShown};
-ghost use Rattle.ob_text_picture_chart.specs.View.{chart_in, moment_of};
+ghost use Rattle.ob_text_picture_chart.specs.View.{chart_in, mark_of, moment_of};
 ghost use Rattle.ob_text_picture_svg.specs.Svg.{Words, shape_text, shapes_text};
 
 use crate::bands::push_band;
@@ -17,9 +17,9 @@ use crate::rows::rows_of;
 use crate::spill::spill_of;
 use ob_interface::MOST_PROCESSES;
 use ob_interface::export::Export;
-use ob_text_picture_chart::{CallRange, Chart, Moment, PictureFault, chart_of};
+use ob_text_picture_chart::{CallRange, Chart, Mark, Moment, PictureFault, chart_of};
 use ob_text_picture_labels::wanted;
-use ob_text_picture_svg::{Point, close_words, open_picture, open_words, push_box};
+use ob_text_picture_svg::{Point, close_words, open_picture, open_words, push_box, push_words};
 use ob_text_words::numbers::push_number;
 use std::alloc::{AllocError, Global};
 use wf_history::CallId;
@@ -84,7 +84,18 @@ fn push_head(text: &mut String, chart: &Chart, size: Point) -> Result<(), AllocE
     push_heading(text, chart)?;
     push_call_keys(text)?;
     push_mark_keys(text)?;
-    push_text_keys(text)
+    push_text_keys(text)?;
+    push_mark_words(text, chart.mark)
+}
+
+/// Why a call is marked, if one is.
+fn push_mark_words(text: &mut String, mark: Option<Mark>) -> Result<(), AllocError>
+    ensures { OnOk result (string_bytes text.new ≡ string_bytes text.old ++ shapes_text (mark_words (option_map mark_of mark.entry))) }
+{
+    match mark {
+        Some(mark) => push_words(text, "bold marked", Point { x: 12, y: 208 }, mark.words),
+        None => Ok(()),
+    }
 }
 
 /// How many processes there are, and which calls are shown.
@@ -172,6 +183,7 @@ fn push_band_at(
         top,
         rows: rows.as_slice(),
         spill,
+        marked: chart.mark.map(|mark| mark.id),
     };
     push_band(alloc, text, exports, &band, chart)?;
     Ok(band.below())

@@ -1,11 +1,12 @@
 //! Where things stand in a picture, in pixels.
 
 ghost use Rattle.std.specs.Prelude.{◌≡◌, ◌+◌, ◌-◌, ◌*◌, ◌<◌, ◌≤◌, ◌==◌, ◌^◌, length, position};
-ghost use Rattle.ob_text_picture.specs.Places.{bands, below, cell, column_width, columns_in, first, height, in_line, is_in, lead, most, room, row_of};
+ghost use Rattle.ob_text_picture.specs.Places.{bands, below, cell, column_width, columns_in, first, height, in_line, is_in, is_marked, lead, most, room, row_of};
 ghost use Rattle.ob_text_picture.specs.Places.{width, x_of, y_of};
 ghost use Rattle.ob_text_picture.specs.View.{band_in};
 
 use ob_text_picture_svg::Point;
+use wf_history::CallId;
 
 /// How far words may go on behind the end of a band.
 pub(crate) const BEYOND: u128 = 200;
@@ -33,6 +34,8 @@ pub struct Band<'a> {
     pub rows: &'a [usize],
     /// How far the words of calls go on behind its end.
     pub spill: u128,
+    /// The call that is marked, if one is.
+    pub marked: Option<CallId>,
 }
 
 /// A product that fits.
@@ -180,6 +183,16 @@ impl Band<'_> {
         ensures { result ≡ is_in self.now.frame self.now.number column }
     {
         self.frame.is_in(self.number, column)
+    }
+
+    /// Whether a call is the marked one.
+    pub(crate) fn marks(&self, id: CallId) -> bool
+        ensures { result ≡ is_marked self.now.marked id }
+    {
+        match self.marked {
+            Some(marked) => marked == id,
+            None => false,
+        }
     }
 
     /// From the top: where the next band begins.

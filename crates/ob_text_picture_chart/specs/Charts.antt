@@ -21,9 +21,14 @@ pub record Sight : Type 0 where
   pub id : CallId
   pub happening : Happening
 
+-- a call that a picture marks, and a line that says why
+pub record Mark : Type 0 where
+  pub id : CallId
+  pub words : List ℕ
+
 -- what a picture shows: of how many processes; how many calls begin in the run, and from which to which of them are shown; what happens to
 -- these; the columns in which that is, each with its time in the whole run; and those that took effect, in their order, with their numbers
--- there
+-- there; and the call that is marked, if one is
 pub record Chart : Type 0 where
   pub processes : ℕ
   pub total : ℕ
@@ -31,6 +36,7 @@ pub record Chart : Type 0 where
   pub sights : List Sight
   pub times : List ℕ
   pub order : List Placed
+  pub mark : Option Mark
 
 -- the calls, in the order in which they begin
 abbrev pub begun_at : Moment → List CallId
@@ -109,8 +115,13 @@ chart_of processes moments order range =
       sights = sights_from order (in_range range (begun moments)) 0 moments;
       times = times_from order (in_range range (begun moments)) 0 1 moments;
       order = placed order (in_range range (begun moments));
+      mark = None;
     }
 
 -- the same of those calls of a range that there are, or of all
 abbrev pub chart_of_calls : (processes : ℕ) → List Moment → (order : List CallId) → Option CallRange → Chart
 chart_of_calls processes moments order calls = chart_of processes moments order (range_of (length (begun moments)) calls)
+
+-- the same chart, in which this call is marked, or none
+abbrev pub marked : Option Mark → Chart → Chart
+marked mark c = record c { mark = mark }

@@ -3,3 +3,4 @@ pub mod Moments
 pub mod Charts
 pub mod View
 pub mod Faults
+pub mod Places

@@ -3,11 +3,11 @@
 ghost use Rattle.std.specs.Prelude.{◌≡◌, ◌+◌, ◌<◌, ◌≤◌, ◌++◌, ◌^◌, IfErr, IfOk, OnOk, length, map};
 ghost use Rattle.ob_text_picture_chart.specs.Charts.{begun, chart_of_calls, chosen_at, chosen_sight, placed, range_of, sights_from, time_behind, times_from};
 ghost use Rattle.ob_text_picture_chart.specs.Faults.{IsRangeFault, MayBeShown, count, most_calls};
-ghost use Rattle.ob_text_picture_chart.specs.Same.{is_among};
 ghost use Rattle.ob_text_picture_chart.specs.View.{chart_in, happening_of, moment_of, sight_of};
 
 use crate::fault::PictureFault;
-use crate::moments::{Moment, place_in};
+use crate::moments::Moment;
+use crate::order::Order;
 use std::alloc::{AllocError, Global};
 use wf_history::{CallId, SeenCall, SeenReply};
 
@@ -51,6 +51,15 @@ pub struct Chart<'a> {
     pub times: Vec<usize>,
     /// The calls that are shown and took effect, in their order, each with its number in the order of the whole run.
     pub order: Vec<Placed>,
+    /// The call that is marked, if one is.
+    pub mark: Option<Mark<'a>>,
+}
+
+/// A call that a picture marks, and a line that says why.
+#[derive(Clone, Copy)]
+pub struct Mark<'a> {
+    pub id: CallId,
+    pub words: &'a str,
 }
 
 /// A call, with its number in an order.
@@ -75,9 +84,10 @@ pub fn chart_of<'a>(
     let begun = begun_calls(alloc, moments)?;
     let total = begun.len();
     let range = range_in(total, calls)?;
-    let chosen = &begun[range.from - 1..range.to];
-    let (sights, times) = sights_of(alloc, moments, order, chosen)?;
-    let order = placed_of(alloc, order, chosen)?;
+    let chosen = Order::new(alloc, &begun[range.from - 1..range.to])?;
+    let known = Order::new(alloc, order)?;
+    let (sights, times) = sights_of(alloc, moments, &known, &chosen)?;
+    let order = placed_of(alloc, &known, &chosen)?;
     Ok(Chart {
         processes,
         total,
@@ -85,6 +95,7 @@ pub fn chart_of<'a>(
         sights,
         times,
         order,
+        mark: None,
     })
 }
 
@@ -133,21 +144,15 @@ fn few_calls(range: CallRange) -> Result<CallRange, PictureFault>
     Ok(range)
 }
 
-fn is_among(ids: &[CallId], id: CallId) -> bool
-    ensures { result ≡ is_among ids.now id }
-{
-    ids.contains(&id)
-}
-
 /// What happens to the chosen calls, and the times of its columns. A moment at which nothing happens to them has none.
 fn sights_of<'a>(
     alloc: Global,
     moments: &[Moment<'a>],
-    order: &[CallId],
-    chosen: &[CallId],
+    order: &Order,
+    chosen: &Order,
 ) -> Result<(Vec<Sight<'a>>, Vec<usize>), AllocError>
-    ensures sights { IfOk result (λ r. map sight_of r.0.items ≡ sights_from order.now chosen.now 0 (map moment_of moments.now)) }
-    ensures times { IfOk result (λ r. r.1.items ≡ times_from order.now chosen.now 0 1 (map moment_of moments.now)) }
+    ensures sights { IfOk result (λ r. map sight_of r.0.items ≡ sights_from order.now.ids.now chosen.now.ids.now 0 (map moment_of moments.now)) }
+    ensures times { IfOk result (λ r. r.1.items ≡ times_from order.now.ids.now chosen.now.ids.now 0 1 (map moment_of moments.now)) }
 {
     let mut sights = Vec::new(alloc);
     let mut times = Vec::new(alloc);
@@ -178,11 +183,11 @@ fn time_behind(time: usize, moment: Moment) -> usize
 fn push_moment<'a>(
     sights: &mut Vec<Sight<'a>>,
     moment: Moment<'a>,
-    order: &[CallId],
-    chosen: &[CallId],
+    order: &Order,
+    chosen: &Order,
     column: usize,
 ) -> Result<(), AllocError>
-    ensures { OnOk result (map sight_of sights.new.items ≡ map sight_of sights.old.items ++ chosen_at order.now chosen.now column (moment_of moment.entry)) }
+    ensures { OnOk result (map sight_of sights.new.items ≡ map sight_of sights.old.items ++ chosen_at order.now.ids.now chosen.now.ids.now column (moment_of moment.entry)) }
 {
     match moment {
         Moment::Begins(id, call) => {
@@ -190,7 +195,7 @@ fn push_moment<'a>(
         }
         Moment::Takes(ids, maker) => {
             for id in ids {
-                let happening = Happening::Taken(place_in(order, *id), maker);
+                let happening = Happening::Taken(order.place(*id), maker);
                 push_sight(sights, chosen, column, *id, happening)?;
             }
             Ok(())
@@ -202,14 +207,14 @@ fn push_moment<'a>(
 /// Appends what happens to a call, if it is chosen.
 fn push_sight<'a>(
     sights: &mut Vec<Sight<'a>>,
-    chosen: &[CallId],
+    chosen: &Order,
     column: usize,
     id: CallId,
     happening: Happening<'a>,
 ) -> Result<(), AllocError>
-    ensures { OnOk result (map sight_of sights.new.items ≡ map sight_of sights.old.items ++ chosen_sight chosen.now column id (happening_of happening.entry)) }
+    ensures { OnOk result (map sight_of sights.new.items ≡ map sight_of sights.old.items ++ chosen_sight chosen.now.ids.now column id (happening_of happening.entry)) }
 {
-    if is_among(chosen, id) {
+    if chosen.has(id) {
         sights.push(Sight {
             column,
             id,
@@ -220,14 +225,14 @@ fn push_sight<'a>(
 }
 
 /// The chosen calls of an order, each with its number there.
-fn placed_of(alloc: Global, order: &[CallId], chosen: &[CallId]) -> Result<Vec<Placed>, AllocError>
-    ensures { IfOk result (λ calls. calls.items ≡ placed order.now chosen.now) }
+fn placed_of(alloc: Global, order: &Order, chosen: &Order) -> Result<Vec<Placed>, AllocError>
+    ensures { IfOk result (λ calls. calls.items ≡ placed order.now.ids.now chosen.now.ids.now) }
 {
     let mut placed = Vec::new(alloc);
-    for id in order {
-        if is_among(chosen, *id) {
+    for id in order.ids {
+        if chosen.has(*id) {
             placed.push(Placed {
-                number: place_in(order, *id),
+                number: order.place(*id),
                 id: *id,
             })?;
         }

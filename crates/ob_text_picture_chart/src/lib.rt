@@ -4,7 +4,10 @@
 pub mod charts;
 pub mod fault;
 pub mod moments;
+mod order;
+mod places;
+mod row;
 
-pub use charts::{CallRange, Chart, Happening, MOST_CALLS, Placed, Sight, chart_of};
+pub use charts::{CallRange, Chart, Happening, MOST_CALLS, Mark, Placed, Sight, chart_of};
 pub use fault::PictureFault;
 pub use moments::{Moment, placed_moments, seen_moments};

@@ -1,11 +1,11 @@
 //! What is seen of a run, one moment after the other.
 
-ghost use Rattle.std.specs.Prelude.{◌≡◌, ◌<◌, ◌≤◌, ◌++◌, IfOk, IfSome, OnOk, length, map, position, slice_get};
-ghost use Rattle.ob_text_picture_chart.specs.Moments.{made_behind, place_in, placed_at, placed_from, seen, seen_from};
-ghost use Rattle.ob_text_picture_chart.specs.Same.{is_same};
+ghost use Rattle.std.specs.Prelude.{◌≡◌, ◌≤◌, ◌++◌, IfOk, OnOk, length, map, slice_get};
+ghost use Rattle.ob_text_picture_chart.specs.Moments.{made_behind, placed_at, placed_from, seen, seen_from};
 ghost use Rattle.ob_text_picture_chart.specs.View.{moment_of};
 ghost use Rattle.wf_history.specs.View.{event_of};
 
+use crate::order::Order;
 use std::alloc::{AllocError, Global};
 use wf_history::{CallId, Event, SeenCall, SeenEvent, SeenReply};
 
@@ -55,10 +55,11 @@ pub fn placed_moments<'a>(
 ) -> Result<Vec<Moment<'a>>, AllocError>
     ensures { IfOk result (λ moments. map moment_of moments.items ≡ placed_from order.now 0 (map event_of events.now)) }
 {
+    let known = Order::new(alloc, order)?;
     let mut moments = Vec::new(alloc);
     let mut made = 0;
     for event in events {
-        made = push_placed(&mut moments, event, order, made)?;
+        made = push_placed(&mut moments, event, &known, made)?;
     }
     moments.push(Moment::Takes(&order[made..], None))?;
     Ok(moments)
@@ -68,12 +69,12 @@ pub fn placed_moments<'a>(
 fn push_placed<'a>(
     moments: &mut Vec<Moment<'a>>,
     event: &'a Event,
-    order: &'a [CallId],
+    order: &Order<'a>,
     made: usize,
 ) -> Result<usize, AllocError>
-    requires { made ≤ length order.now }
-    ensures moments { OnOk result (map moment_of moments.new.items ≡ map moment_of moments.old.items ++ placed_at order.now made (event_of event.now)) }
-    ensures made { IfOk result (λ behind. (behind ≡ made_behind order.now made (event_of event.now)) × (behind ≤ length order.now)) }
+    requires { made ≤ length order.now.ids.now }
+    ensures moments { OnOk result (map moment_of moments.new.items ≡ map moment_of moments.old.items ++ placed_at order.now.ids.now made (event_of event.now)) }
+    ensures made { IfOk result (λ behind. (behind ≡ made_behind order.now.ids.now made (event_of event.now)) × (behind ≤ length order.now.ids.now)) }
 {
     match event.seen() {
         SeenEvent::Begin(id, call) => {
@@ -82,28 +83,10 @@ fn push_placed<'a>(
         }
         SeenEvent::Applied(_) => Ok(made),
         SeenEvent::End(id, reply) => {
-            let behind = place_in(order, id).max(made);
-            moments.push(Moment::Takes(&order[made..behind], None))?;
+            let behind = order.place(id).max(made);
+            moments.push(Moment::Takes(&order.ids[made..behind], None))?;
             moments.push(Moment::Ends(id, reply))?;
             Ok(behind)
         }
     }
-}
-
-/// Where a call stands in an order, from 1; 0 where it doesn't.
-pub(crate) fn place_in(order: &[CallId], id: CallId) -> usize
-    ensures place { result ≡ place_in order.now id }
-    ensures within { result ≤ length order.now }
-{
-    match index_in(order, id) {
-        Some(index) => index + 1,
-        None => 0,
-    }
-}
-
-fn index_in(order: &[CallId], id: CallId) -> Option<usize>
-    ensures index { result ≡ position (λ other. is_same other id) order.now }
-    ensures within { IfSome result (λ index. index < length order.now) }
-{
-    order.iter().position(|other| *other == id)
 }

@@ -1,10 +1,7 @@
-//! Tests of what no row of the program shows: tokens, printed texts, faults as people read them, a call on its own,
-//! which exports only read, the words of variables and their parts, and the record of a run over compiled code. Nothing
-//! stands on this crate.
+//! Tests of what no row of the program shows: tokens, printed texts, faults as people read them, which exports only read, and the
+//! words of variables and their parts. Nothing stands on this crate.
 #![tactic(auto)]
 
-#[cfg(test)]
-mod calls;
 #[cfg(test)]
 mod explanations;
 #[cfg(test)]
@@ -15,7 +12,5 @@ mod nesting;
 mod printing;
 #[cfg(test)]
 mod read_only;
-#[cfg(test)]
-mod runs;
 #[cfg(test)]
 mod tokens;

@@ -6,9 +6,11 @@ use Rattle.std.specs.List.{after_first, before_first, list_all, starts_with}
 use Rattle.std.specs.Str.{bytes_eq}
 use Rattle.std.specs.declared.io.ErrorKind.{ErrorKind}
 use Rattle.std.specs.declared.io.ErrorKind.TheVariants as Kind
-use Rattle.ob_command.specs.CommandLine.{Text, CallsRequest, OrderRequest, Request, RunRequest, Check, Listing, Seq, Run, RunTree, RunSteps, Serve, Draw, DrawRecord, Verify, Order}
+use Rattle.ob_command.specs.CommandLine.{Text, CallsRequest, OrderRequest, Request, RunRequest, Check, Listing, Seq, Run, RunTree, RunSteps, RunFinished, RunByChance, Serve, Draw, DrawRecord, Verify, Order}
 use Rattle.ob_command.specs.CommandLine.{Explain, ExplainCalls, ExplainTraps, ExplainRun, ExplainRecord, ExplainHistory, Bound, default_budget, default_most}
 use Rattle.ob_command.specs.declared.command.OrderProduct.{OrderProduct}
+use Rattle.ob_command.specs.declared.command.RunProduct.{RunProduct}
+use Rattle.ob_command.specs.declared.command.RunProduct.TheVariants as products
 use Rattle.ob_command.specs.declared.command.OrderProduct.TheVariants.{Apart}
 
 -- the exit status of a fault with a number
@@ -79,7 +81,7 @@ calls_form calls = (script_words calls ++ option_words calls) ++ telling
 abbrev pub run_form : RunRequest → Text
 run_form run = (run_words run ++ option_words run.calls) ++ telling
 
--- calls that workers make are explained as a run by a schedule with no items
+-- calls that workers make, and those of a run by a schedule of chance, are explained as a run by a schedule with no items
 abbrev pub served : CallsRequest → RunRequest
 served calls = record { calls = calls; schedule_name = codes "/dev/null" }
 
@@ -130,6 +132,11 @@ order_form order line = if is_of_text line then module_form order.module_name el
 abbrev pub tree_form : RunRequest → (line : Text) → Text
 tree_form run line = if is_of_text line then run_form run else []
 
+-- of a run whose schedule is made
+abbrev pub made_form : RunProduct → RunRequest → (line : Text) → Text
+made_form products.TreeRecord run line = tree_form run line
+made_form product run line = run_form run
+
 -- which form of `explain` tells more of the fault of a command with this line; nothing behind `explain` itself
 abbrev pub form_about : Request → (line : Text) → Text
 form_about (Check module_name) line = module_form module_name
@@ -139,6 +146,8 @@ form_about (Seq calls) line = calls_form calls
 form_about (Run run) line = run_form run
 form_about (RunTree run) line = tree_form run line
 form_about (RunSteps run) line = run_form run
+form_about (RunFinished product run) line = made_form product run line
+form_about (RunByChance product run) line = made_form product (served run.calls) line
 form_about (Draw run range) line = run_form run
 form_about (Serve calls) line = run_form (served calls)
 form_about (DrawRecord module_name record_name calls) line = drawn_form module_name record_name line

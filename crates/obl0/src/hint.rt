@@ -4,12 +4,14 @@ ghost use Rattle.std.specs.Prelude.{◌≡◌, ◌++◌, IfOk, OnOk, option_map,
 ghost use Rattle.std.specs.List.{after_first, before_first, list_all};
 ghost use Rattle.obl0.specs.Hints.{asks_of_fault, beside, beside_texts, budget_words, calls_form, cause, count_words, drawn_form, first_place};
 ghost use Rattle.obl0.specs.Hints.{form_about, from_words, history_form, illegal_end, is_apart, is_blank, is_explain, is_explained, is_fault};
-ghost use Rattle.obl0.specs.Hints.{is_fault_name, is_of_record, is_of_text, is_plain, is_plain_byte, module_form, module_words, more_about};
+ghost use Rattle.obl0.specs.Hints.{is_fault_name, is_of_record, is_of_text, is_plain, is_plain_byte, made_form, module_form, module_words, more_about};
 ghost use Rattle.obl0.specs.Hints.{more_about_unread, more_of, name_word, named, of_order, option_words, order_form, record_form, run_form};
 ghost use Rattle.obl0.specs.Hints.{run_words, script_words, search_form, served, third_word, told_of, tree_form};
 ghost use Rattle.ob_command.specs.Commands.{calls_request_of, order_request_of, request_of, run_request_of};
 
-use ob_command::command::{CallsCommand, Command, OrderCommand, OrderProduct, RunCommand};
+use ob_command::command::{
+    CallsCommand, Command, OrderCommand, OrderProduct, RunCommand, RunProduct,
+};
 use ob_text_words::numbers::push_number;
 use std::alloc::{AllocError, Global};
 use std::io;
@@ -189,6 +191,10 @@ fn form_about(alloc: Global, command: Command<'_>, line: &[u8]) -> Result<String
         Command::Run(run) => run_form(alloc, run),
         Command::RunTree(run) => tree_form(alloc, run, line),
         Command::RunSteps(run) => run_form(alloc, run),
+        Command::RunFinished { product, run } => made_form(alloc, product, run, line),
+        Command::RunByChance { product, run } => {
+            made_form(alloc, product, served(run.calls), line)
+        }
         Command::Draw { run, .. } => run_form(alloc, run),
         Command::Serve(calls) => run_form(alloc, served(calls)),
         Command::DrawRecord {
@@ -207,6 +213,21 @@ fn form_about(alloc: Global, command: Command<'_>, line: &[u8]) -> Result<String
         | Command::ExplainRun(_)
         | Command::ExplainRecord { .. }
         | Command::ExplainHistory { .. } => Ok(String::new(alloc)),
+    }
+}
+
+/// The form of a run whose schedule is made.
+fn made_form(
+    alloc: Global,
+    product: RunProduct,
+    run: RunCommand<'_>,
+    line: &[u8],
+) -> Result<String, AllocError>
+    ensures { IfOk result (λ text. string_bytes text ≡ made_form product (run_request_of run.entry) line.now) }
+{
+    match product {
+        RunProduct::TreeRecord => tree_form(alloc, run, line),
+        RunProduct::Record | RunProduct::RecordWithSteps => run_form(alloc, run),
     }
 }
 

@@ -7,7 +7,7 @@ use Rattle.std.proofs.lemmas.Option.{slice_get_within, get_or_from_slice_get}
 use Rattle.std.specs.List.{slice_get, Contains}
 use Rattle.ob_interface.specs.Call.{ObjectCall, Reply}
 use Rattle.wf_history.specs.declared.event.CallId.{CallId}
-use Rattle.wf_history.specs.History.{Event}
+use Rattle.wf_history.specs.History.{Event, Begin}
 use Rattle.wf_history.specs.Legal.{IsLegal}
 use Rattle.wf_history.proofs.Positions.{place_push, place_left, contains_at, one_item}
 use Rattle.wf_order.specs.declared.rows.Rows.{Rows}
@@ -16,6 +16,7 @@ use Rattle.wf_order.specs.Rows.{AreRows, begun_rows, row_of}
 use Rattle.wf_order.specs.Rules.{IsBehind, IsAnswered}
 use Rattle.wf_order.specs.Steps.{Configuration, IsTaken, IsLimit, IsStep}
 use Rattle.wf_order.specs.Search.{HasNoStep, IsOnlyStep, IsSilentStep, IsSearch, IsArrival, left, weights, work}
+use Rattle.wf_order.specs.Turns.{BeginsFrom, turns}
 use Rattle.wf_order.proofs.Searching.{top_led, popped, advanced, pushed, found_legal, places_within}
 use Rattle.wf_order.proofs.Weights.{left_step, pop_less, try_less, push_less}
 
@@ -32,32 +33,40 @@ module _ {M : Type 0} (Effect : ObjectCall → M → M → Reply → Type 0) (hi
         subst (λ (x : Configuration M). IsLimit history x.counts f.limit) (one_item found f.place t.0 c t.1 at) t.3,
       )
 
-  pub after_pop : processes ≤ f.next → IsSearch Effect history processes start found xs × (work processes rows found xs < work processes rows found (xs ++ f ∷ []))
+  pub after_pop : ((c d : Configuration M) (id : CallId) → slice_get found f.place ≡ Some c → IsStep Effect history c id d → BeginsFrom history f.next id → ⊥) →
+      IsSearch Effect history processes start found xs × (work processes rows found xs < work processes rows found (xs ++ f ∷ []))
   unfolding work
   after_pop all = (
     popped Effect history processes start found xs f h all,
-    pop_less processes (map length (begun_rows rows)) (map (λ c. c.counts) found) xs f,
+    pop_less processes (begun_rows rows) (map (λ c. c.counts) found) xs f,
   )
 
-  module _ (c : Configuration M) (at : slice_get found f.place ≡ Some c) (g : Frame) (place : g.place ≡ f.place) (next : f.next < g.next) (limit : g.limit ≡ f.limit) (within : f.next < processes) where
+  module _ (c : Configuration M) (at : slice_get found f.place ≡ Some c) (g : Frame) (place : g.place ≡ f.place) (limit : g.limit ≡ f.limit)
+      (fewer : turns g.next (begun_rows rows) c.counts + 1 ≤ turns f.next (begun_rows rows) c.counts) where
+    counted_here : row_of (map (λ c. c.counts) found) f.place ≡ c.counts
+    counted_here =
+        let lt = slice_get_within found f.place c at in
+        get_or-map counts_in found f.place c [] lt ∙ ap (λ (x : Configuration M). x.counts) (get_or_from_slice_get found f.place c c at)
+
+    fewer_here : turns g.next (begun_rows rows) (row_of (map (λ c. c.counts) found) f.place) + 1 ≤ turns f.next (begun_rows rows) (row_of (map (λ c. c.counts) found) f.place)
+    fewer_here = subst (λ (l : List ℕ). turns g.next (begun_rows rows) l + 1 ≤ turns f.next (begun_rows rows) l) (sym counted_here) fewer
+
     tried_less : work processes rows found (xs ++ g ∷ []) < work processes rows found (xs ++ f ∷ [])
     unfolding work
-    tried_less = try_less processes (map length (begun_rows rows)) (map (λ c. c.counts) found) xs f g place next within
+    tried_less = try_less processes (begun_rows rows) (map (λ c. c.counts) found) xs f g place fewer_here
 
-    pub after_none : g.next ≡ f.next + 1 → HasNoStep Effect history c f.next → IsSearch Effect history processes start found (xs ++ g ∷ []) × (work processes rows found (xs ++ g ∷ []) < work processes rows found (xs ++ f ∷ []))
-    after_none one no_step = (advanced Effect history processes start found xs f g h c at place next limit (λ id d le lt s. absurd (no_step id d (omega (arith, one, le, lt)) s)), tried_less)
+    -- each step whose call begins from the one place up to the other is of this process
+    module _ (process : ℕ) (of : (id : CallId) (d : Configuration M) (call : ObjectCall) (begun : ℕ) → slice_get history begun ≡ Some (Begin id call) → f.next ≤ begun → begun < g.next → IsStep Effect history c id d → id.process ≡ process) where
+      pub after_none : HasNoStep Effect history c process → IsSearch Effect history processes start found (xs ++ g ∷ []) × (work processes rows found (xs ++ g ∷ []) < work processes rows found (xs ++ f ∷ []))
+      after_none no_step = (advanced Effect history processes start found xs f g h c at place limit (λ id d call begun is le lt s. absurd (no_step id d (of id d call begun is le lt s) s)), tried_less)
 
-    pub after_behind : g.next ≡ f.next + 1 → ((id : CallId) (d : Configuration M) → id.process ≡ f.next → IsStep Effect history c id d → IsBehind Effect history c id) →
-        IsSearch Effect history processes start found (xs ++ g ∷ []) × (work processes rows found (xs ++ g ∷ []) < work processes rows found (xs ++ f ∷ []))
-    after_behind one behind = (advanced Effect history processes start found xs f g h c at place next limit (λ id d le lt s. inr (inr (behind id d (omega (arith, one, le, lt)) s))), tried_less)
+      pub after_behind : ((id : CallId) (d : Configuration M) → id.process ≡ process → IsStep Effect history c id d → IsBehind Effect history c id) →
+          IsSearch Effect history processes start found (xs ++ g ∷ []) × (work processes rows found (xs ++ g ∷ []) < work processes rows found (xs ++ f ∷ []))
+      after_behind behind = (advanced Effect history processes start found xs f g h c at place limit (λ id d call begun is le lt s. inr (inr (behind id d (of id d call begun is le lt s) s))), tried_less)
 
     module _ (d : Configuration M) (step : IsStep Effect history c g.id d)
-        (covers : (all : List (Configuration M)) → Contains all d → (id : CallId) (y : Configuration M) → f.next ≤ id.process → id.process < g.next → IsStep Effect history c id y → IsAnswered Effect history all c id y) where
-      counted_here : row_of (map (λ c. c.counts) found) f.place ≡ c.counts
-      counted_here =
-          let lt = slice_get_within found f.place c at in
-          get_or-map counts_in found f.place c [] lt ∙ ap (λ (x : Configuration M). x.counts) (get_or_from_slice_get found f.place c c at)
-
+        (covers : (all : List (Configuration M)) → Contains all d → (id : CallId) (y : Configuration M) (call : ObjectCall) (begun : ℕ) → slice_get history begun ≡ Some (Begin id call) → f.next ≤ begun → begun < g.next →
+        IsStep Effect history c id y → IsAnswered Effect history all c id y) where
       left_less : left (map length (begun_rows rows)) d.counts + 1 ≡ left (map length (begun_rows rows)) (row_of (map (λ c. c.counts) found) f.place)
       left_less =
           let s = step in
@@ -84,14 +93,15 @@ module _ {M : Type 0} (Effect : ObjectCall → M → M → Reply → Type 0) (hi
                 omega (arith, size, lt, same, place)
           ]
 
-      new_less : (new : Frame) → new.place ≡ length found → new.next ≡ 0 → work processes rows (found ++ d ∷ []) ((xs ++ g ∷ []) ++ new ∷ []) < work processes rows found (xs ++ f ∷ [])
+      new_less : (new : Frame) → new.place ≡ length found → work processes rows (found ++ d ∷ []) ((xs ++ g ∷ []) ++ new ∷ []) < work processes rows found (xs ++ f ∷ [])
       unfolding work
-      new_less new new_place new_next =
+      new_less new new_place =
+          let count = are.row_count in
           let size = length-map found counts_in in
           let here : row_of (map (λ c. c.counts) found ++ d.counts ∷ []) new.place ≡ d.counts = get_or_at (map (λ c. c.counts) found) d.counts [] [] new.place (size ∙ sym new_place) in
-          subst (λ (l : List (List ℕ)). weights processes (map length (begun_rows rows)) l ((xs ++ g ∷ []) ++ new ∷ []) < weights processes (map length (begun_rows rows)) (map (λ c. c.counts) found) (xs ++ f ∷ []))
+          subst (λ (l : List (List ℕ)). weights processes (begun_rows rows) l ((xs ++ g ∷ []) ++ new ∷ []) < weights processes (begun_rows rows) (map (λ c. c.counts) found) (xs ++ f ∷ []))
           (sym (map-append counts_in found (d ∷ [])))
-          (push_less processes (map length (begun_rows rows)) (map (λ c. c.counts) found) xs f g place next within d.counts new places_tried here new_next left_less)
+          (push_less processes (begun_rows rows) (map (λ c. c.counts) found) xs f g place fewer_here d.counts new places_tried here (omega (arith, count)) left_less)
 
       pub after_arrival : (more : List (Configuration M)) (stack : List Frame) → IsArrival Effect history d found more (xs ++ g ∷ []) stack None →
           IsSearch Effect history processes start more stack × (work processes rows more stack < work processes rows found (xs ++ f ∷ []))
@@ -100,11 +110,11 @@ module _ {M : Type 0} (Effect : ObjectCall → M → M → Reply → Type 0) (hi
             | inl old ↦
                 subst (λ (l : List (Configuration M)). IsSearch Effect history processes start l stack × (work processes rows l stack < work processes rows found (xs ++ f ∷ []))) (sym old.1)
                 (subst (λ (l : List Frame). IsSearch Effect history processes start found l × (work processes rows found l < work processes rows found (xs ++ f ∷ []))) (sym old.2)
-                (advanced Effect history processes start found xs f g h c at place next limit (covers found old.0), tried_less))
+                (advanced Effect history processes start found xs f g h c at place limit (covers found old.0), tried_less))
             | inr new ↦
                 subst (λ (l : List (Configuration M)). IsSearch Effect history processes start l stack × (work processes rows l stack < work processes rows found (xs ++ f ∷ []))) (sym new.0)
                 (subst (λ (l : List Frame). IsSearch Effect history processes start (found ++ d ∷ []) l × (work processes rows (found ++ d ∷ []) l < work processes rows found (xs ++ f ∷ []))) (sym new.2)
-                (pushed Effect history processes start found xs f g h c at place next limit d step (covers (found ++ d ∷ []) (Contains-push found d)) a.0 new.1 new.3 new.4 new.5, new_less new.1 new.3 new.4))
+                (pushed Effect history processes start found xs f g h c at place limit d step (covers (found ++ d ∷ []) (Contains-push found d)) a.0 new.1 new.3 new.4 new.5, new_less new.1 new.3))
           ]
 
       pub after_found : (more : List (Configuration M)) (stack : List Frame) (path : List CallId) → IsArrival Effect history d found more (xs ++ g ∷ []) stack (Some path) →
@@ -112,7 +122,7 @@ module _ {M : Type 0} (Effect : ObjectCall → M → M → Reply → Type 0) (hi
       after_found more stack path a fresh = (
         d.state,
         subst (λ (l : List CallId). IsLegal Effect start.state history l d.state) (sym a.0)
-            (found_legal Effect history processes start found xs f g h c at place next limit fresh d step a.1),
+            (found_legal Effect history processes start found xs f g h c at place limit fresh d step a.1),
       )
 
       at_arrival : {V : Type 0} (items : V → List CallId) (more : List (Configuration M)) (stack : List Frame) (to : Option V) → IsArrival Effect history d found more (xs ++ g ∷ []) stack (option_map items to) →
@@ -134,11 +144,11 @@ pub step_rows : {M : Type 0} (Effect : ObjectCall → M → M → Reply → Type
 step_rows Effect history rows c d id s are =
     subst (λ (n : ℕ). AreRows history n rows) (sym (length-set c.counts id.process id.number) ∙ ap length (sym s.counts)) are
 
-module _ {M : Type 0} (Effect : ObjectCall → M → M → Reply → Type 0) (history : List (Event ObjectCall Reply)) (c : Configuration M) (from to : ℕ) (id : CallId) (d : Configuration M)
-    (all : List (Configuration M)) (there : Contains all d) (other : CallId) (y : Configuration M) (le : from ≤ other.process) (lt : other.process < to) (s : IsStep Effect history c other y) where
+module _ {M : Type 0} (Effect : ObjectCall → M → M → Reply → Type 0) (history : List (Event ObjectCall Reply)) (c : Configuration M) (id : CallId) (d : Configuration M)
+    (all : List (Configuration M)) (there : Contains all d) (other : CallId) (y : Configuration M) (s : IsStep Effect history c other y) where
   -- the one step of a process is tried
-  pub only_covers : IsOnlyStep Effect history c from id d → to ≡ from + 1 → IsAnswered Effect history all c other y
-  only_covers only one = inl (subst (λ (x : Configuration M). Contains all x) (sym (only.only other y (omega (arith, one, le, lt)) s)) there)
+  pub only_covers : (process : ℕ) → other.process ≡ process → IsOnlyStep Effect history c process id d → IsAnswered Effect history all c other y
+  only_covers process own only = inl (subst (λ (x : Configuration M). Contains all x) (sym (only.only other y own s)) there)
 
   -- a silent call is tried
   pub silent_covers : IsSilentStep Effect history c id d → IsAnswered Effect history all c other y

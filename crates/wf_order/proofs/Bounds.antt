@@ -11,6 +11,8 @@ use Rattle.wf_order.specs.declared.search.Frame.{Frame}
 use Rattle.wf_order.specs.Rows.{AreRows, begun_rows, total}
 use Rattle.wf_order.specs.Search.{left, try_cost, work}
 use Rattle.wf_order.specs.Steps.{start_at}
+use Rattle.wf_order.specs.Turns.{turns}
+use Rattle.wf_order.proofs.Turning.{turns_all}
 use Rattle.wf_order.specs.Verdict.{enough}
 
 pow_suc : (a k : ℕ) → a ^ suc k ≡ a ^ k * a
@@ -55,8 +57,8 @@ left_start [] n = omega arith
 left_start (row ∷ rows) zero = let r = left_start rows zero in omega (arith, r)
 left_start (row ∷ rows) (suc n) = let r = left_start rows n in omega (arith, r)
 
-weighed : (processes x c : ℕ) → x ≡ processes → 1 + (1 + x * c + 0) ≡ 2 + processes * c
-weighed processes x c e = ap (λ (y : ℕ). 1 + (1 + y * c + 0)) e ∙ omega arith
+weighed : (processes x c : ℕ) → x ≤ processes → 1 + (1 + x * c + 0) ≤ 2 + processes * c
+weighed processes x c le = let more = mul-le x c processes c le (omega arith) in omega (arith, more)
 
 module _ {M : Type 0} (history : List (Event ObjectCall Reply)) (processes : ℕ) (rows : Rows) (are : AreRows history processes rows) (opening : M) where
   all_cost : processes * try_cost processes (left (map length (begun_rows rows)) (replicate processes 0)) ≤ processes * try_cost processes (length history)
@@ -71,9 +73,9 @@ module _ {M : Type 0} (history : List (Event ObjectCall Reply)) (processes : ℕ
   at_start : (id : CallId) (limit : ℕ) → 1 + work processes rows (start_at processes opening ∷ []) (record { place = 0; next = 0; id = id; limit = limit } ∷ []) ≤ try_cost processes (length history + 1)
   unfolding work
   at_start id limit =
-      let all = processes - 0 in
-      let none : all ≡ processes = omega arith in
-      let w = weighed processes all (try_cost processes (left (map length (begun_rows rows)) (replicate processes 0))) none in
+      let count = are.row_count in
+      let all = turns_all 0 (begun_rows rows) (replicate processes 0) in
+      let w = weighed processes (turns 0 (begun_rows rows) (replicate processes 0)) (try_cost processes (left (map length (begun_rows rows)) (replicate processes 0))) (omega (arith, all, count)) in
       let le = all_cost in
       let one : length history + 1 ≡ suc (length history) = omega arith in
       let cost : try_cost processes (length history + 1) ≡ 2 + processes * try_cost processes (length history) = ap (try_cost processes) one in

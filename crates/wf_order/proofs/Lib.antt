@@ -15,5 +15,6 @@ pub mod Rowing
 pub mod Searching
 pub mod Soundness
 pub mod Stepping
+pub mod Turning
 pub mod Turns
 pub mod Weights

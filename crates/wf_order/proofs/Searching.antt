@@ -7,7 +7,7 @@ use Rattle.std.proofs.lemmas.Option.{same_Some, slice_get_within}
 use Rattle.std.specs.List.{slice_get, Contains}
 use Rattle.ob_interface.specs.Call.{ObjectCall, Reply}
 use Rattle.wf_history.specs.declared.event.CallId.{CallId}
-use Rattle.wf_history.specs.History.{Event, End, IsHistory}
+use Rattle.wf_history.specs.History.{Event, Begin, End, IsHistory}
 use Rattle.wf_history.specs.Legal.{IsLegal}
 use Rattle.wf_history.proofs.Positions.{place_push, place_left, place_here, place_of, contains_at, one_item}
 use Rattle.wf_order.specs.declared.rows.Rows.{Rows}
@@ -17,6 +17,7 @@ use Rattle.wf_order.specs.Steps.{Configuration, IsTaken, IsLimit, IsStep, Leads,
 use Rattle.wf_order.specs.Verdict.{HasLegal}
 use Rattle.wf_order.specs.Rules.{ComesFirst, ends, open_ones, IsOpen, IsBehind, IsAnswered}
 use Rattle.wf_order.specs.Search.{ids_of, IsSearch}
+use Rattle.wf_order.specs.Turns.{BeginsFrom}
 use Rattle.wf_order.proofs.Exchange.{IsHopeful, hope_more, silent_first, alike_first}
 use Rattle.wf_order.proofs.Soundness.{sound}
 use Rattle.wf_order.proofs.Completeness.{complete, none_taken}
@@ -136,6 +137,10 @@ module _ {State Call Reply : Type 0} (Effect : Call → State → State → Repl
   pub places_within : (found : List (Configuration State)) (xs : List Frame) → IsSearch Effect history processes start found xs → (k : ℕ) (f : Frame) → slice_get xs k ≡ Some f → f.place < length found
   places_within found xs h k f at = let r = h.led k f at in slice_get_within found f.place r.0 r.1
 
+  -- each step is still to be tried by a frame that begins
+  from_start : (f : Frame) → f.next ≡ 0 → (id : CallId) (d c : Configuration State) → IsStep Effect history c id d → BeginsFrom history f.next id
+  from_start f next id d c s = let p = place_of history (Begin id s.call) s.begun in record { call = s.call; place = p.0; at = p.1; behind = omega (arith, next) }
+
   pub begun_search : length start.counts ≡ processes → ¬ IsDone Effect history start → (f : Frame) → f.place ≡ 0 → f.next ≡ 0 → IsLimit history start.counts f.limit → IsSearch Effect history processes start (start ∷ []) (f ∷ [])
   begun_search size undone f place next limit = record {
     start_found = contains_at (start ∷ []) 0 start refl;
@@ -143,7 +148,7 @@ module _ {State Call Reply : Type 0} (Effect : Call → State → State → Repl
     led = led_more (start ∷ []) [] f (λ k g at. absurd (cc)) (start, ap (slice_get (start ∷ [])) place, none, limit);
     reached = λ c h. ([], subst (λ (x : Configuration State). Leads Effect history start [] x) (only c h) none);
     not_done = λ c h. subst (λ (x : Configuration State). ¬ IsDone Effect history x) (only c h) undone;
-    next = λ c d id h s. inr (f, contains_at (f ∷ []) 0 f refl, ap (slice_get (start ∷ [])) place ∙ ap Some (only c h), omega arith);
+    next = λ c d id h s. inr (f, contains_at (f ∷ []) 0 f refl, ap (slice_get (start ∷ [])) place ∙ ap Some (only c h), from_start f next id d c s);
   }
     where
       only : (c : Configuration State) → Contains (start ∷ []) c → start ≡ c
@@ -153,8 +158,9 @@ module _ {State Call Reply : Type 0} (Effect : Call → State → State → Repl
           only_at zero c e = same_Some start c e
           only_at (suc k) c e = absurd (cc)
 
-  -- all processes of the frame were tried
-  pub popped : (found : List (Configuration State)) (xs : List Frame) (f : Frame) → IsSearch Effect history processes start found (xs ++ f ∷ []) → processes ≤ f.next → IsSearch Effect history processes start found xs
+  -- nothing is left for the frame to be tried
+  pub popped : (found : List (Configuration State)) (xs : List Frame) (f : Frame) → IsSearch Effect history processes start found (xs ++ f ∷ []) →
+      ((c d : Configuration State) (id : CallId) → slice_get found f.place ≡ Some c → IsStep Effect history c id d → BeginsFrom history f.next id → ⊥) → IsSearch Effect history processes start found xs
   popped found xs f h all = record {
     start_found = h.start_found;
     sizes = h.sizes;
@@ -168,17 +174,14 @@ module _ {State Call Reply : Type 0} (Effect : Call → State → State → Repl
               elim (Contains-push_cases xs f undone.0 undone.1) [
                 | inl old ↦ inr (undone.0, old, undone.2, undone.3)
                 | inr same ↦
-                    let size = h.sizes c in_found in
-                    let within = s.process in
-                    let next : f.next ≡ undone.0.next = ap (λ (x : Frame). x.next) same in
-                    let le = undone.3 in
-                    absurd (omega (arith, size, within, next, le))
+                    absurd (all c d id (ap (λ (x : Frame). slice_get found x.place) same ∙ undone.2) s
+                    (subst (λ (n : ℕ). BeginsFrom history n id) (sym (ap (λ (x : Frame). x.next) same)) undone.3))
               ]
         ];
   }
 
   module _ (found : List (Configuration State)) (xs : List Frame) (f g : Frame) (h : IsSearch Effect history processes start found (xs ++ f ∷ []))
-      (c : Configuration State) (at : slice_get found f.place ≡ Some c) (place : g.place ≡ f.place) (next : f.next < g.next) (limit : g.limit ≡ f.limit) where
+      (c : Configuration State) (at : slice_get found f.place ≡ Some c) (place : g.place ≡ f.place) (limit : g.limit ≡ f.limit) where
     top_same : (x : Configuration State) (o : Frame) → f ≡ o → slice_get found o.place ≡ Some x → c ≡ x
     top_same x o same there = one_item found f.place c x at (ap (λ (y : Frame). slice_get found y.place) same ∙ there)
 
@@ -195,8 +198,8 @@ module _ {State Call Reply : Type 0} (Effect : Call → State → State → Repl
     led_tried : AreLed found (xs ++ g ∷ [])
     led_tried = led_more found xs g (led_front found xs (f ∷ []) h.led) (c, ap (slice_get found) place ∙ at, led_to, limit_here)
 
-    -- the next process of the frame was tried, and leads to nothing new
-    pub advanced : ((id : CallId) (d : Configuration State) → f.next ≤ id.process → id.process < g.next → IsStep Effect history c id d → IsAnswered Effect history found c id d) → IsSearch Effect history processes start found (xs ++ g ∷ [])
+    -- the next turn of the frame was tried, and leads to nothing new
+    pub advanced : ((id : CallId) (d : Configuration State) (call : Call) (begun : ℕ) → slice_get history begun ≡ Some (Begin id call) → f.next ≤ begun → begun < g.next → IsStep Effect history c id d → IsAnswered Effect history found c id d) → IsSearch Effect history processes start found (xs ++ g ∷ [])
     advanced old_ones = record {
       start_found = h.start_found;
       sizes = h.sizes;
@@ -212,19 +215,20 @@ module _ {State Call Reply : Type 0} (Effect : Call → State → State → Repl
                   | inr same ↦
                       let is = top_same x undone.0 same undone.2 in
                       let top : f.next ≡ undone.0.next = ap (λ (y : Frame). y.next) same in
-                      let le = undone.3 in
-                      elim (cases_lt id.process g.next) [
+                      let begins = undone.3 in
+                      let le = begins.behind in
+                      elim (cases_lt begins.place g.next) [
                         | inl lt ↦ inl (subst (λ (y : Configuration State). IsAnswered Effect history found y id d) is
-                            (old_ones id d (omega (arith, le, top)) lt (subst (λ (y : Configuration State). IsStep Effect history y id d) (sym is) s)))
-                        | inr ge ↦ inr (g, Contains-push xs g, ap (slice_get found) place ∙ at ∙ ap Some is, ge)
+                            (old_ones id d begins.call begins.place begins.at (omega (arith, le, top)) lt (subst (λ (y : Configuration State). IsStep Effect history y id d) (sym is) s)))
+                        | inr ge ↦ inr (g, Contains-push xs g, ap (slice_get found) place ∙ at ∙ ap Some is, record { call = begins.call; place = begins.place; at = begins.at; behind = ge })
                       ]
                 ]
           ];
     }
 
-    -- the next process of the frame was tried, and leads to one that is new
+    -- the next turn of the frame was tried, and leads to one that is new
     pub pushed : (d : Configuration State) → IsStep Effect history c g.id d →
-        ((id : CallId) (y : Configuration State) → f.next ≤ id.process → id.process < g.next → IsStep Effect history c id y → IsAnswered Effect history (found ++ d ∷ []) c id y) → ¬ IsDone Effect history d → (new : Frame) → new.place ≡ length found → new.next ≡ 0 → IsLimit history d.counts new.limit →
+        ((id : CallId) (y : Configuration State) (call : Call) (begun : ℕ) → slice_get history begun ≡ Some (Begin id call) → f.next ≤ begun → begun < g.next → IsStep Effect history c id y → IsAnswered Effect history (found ++ d ∷ []) c id y) → ¬ IsDone Effect history d → (new : Frame) → new.place ≡ length found → new.next ≡ 0 → IsLimit history d.counts new.limit →
         IsSearch Effect history processes start (found ++ d ∷ []) ((xs ++ g ∷ []) ++ new ∷ [])
     pushed d step covers undone new new_place new_next new_limit = record {
       start_found = Contains-append_left found (d ∷ []) start h.start_found;
@@ -257,19 +261,20 @@ module _ {State Call Reply : Type 0} (Effect : Call → State → State → Repl
                     | inr same ↦
                         let is = top_same x still.0 same still.2 in
                         let top : f.next ≡ still.0.next = ap (λ (z : Frame). z.next) same in
-                        let le = still.3 in
-                        elim (cases_lt id.process g.next) [
+                        let begins = still.3 in
+                        let le = begins.behind in
+                        elim (cases_lt begins.place g.next) [
                           | inl lt ↦ inl (subst (λ (z : Configuration State). IsAnswered Effect history (found ++ d ∷ []) z id y) is
-                              (covers id y (omega (arith, le, top)) lt (subst (λ (z : Configuration State). IsStep Effect history z id y) (sym is) s)))
-                          | inr ge ↦ inr (g, Contains-append_left (xs ++ g ∷ []) (new ∷ []) g (Contains-push xs g), place_left found (d ∷ []) g.place x (ap (slice_get found) place ∙ at ∙ ap Some is), ge)
+                              (covers id y begins.call begins.place begins.at (omega (arith, le, top)) lt (subst (λ (z : Configuration State). IsStep Effect history z id y) (sym is) s)))
+                          | inr ge ↦ inr (g, Contains-append_left (xs ++ g ∷ []) (new ∷ []) g (Contains-push xs g), place_left found (d ∷ []) g.place x (ap (slice_get found) place ∙ at ∙ ap Some is), record { call = begins.call; place = begins.place; at = begins.at; behind = ge })
                         ]
                   ]
             ]
-        | inr same ↦ inr (new, Contains-push (xs ++ g ∷ []) new, ap (slice_get (found ++ d ∷ [])) new_place ∙ place_here found [] d ∙ ap Some same, omega (arith, new_next))
+        | inr same ↦ inr (new, Contains-push (xs ++ g ∷ []) new, ap (slice_get (found ++ d ∷ [])) new_place ∙ place_here found [] d ∙ ap Some same, from_start new new_next id y x s)
       ];
     }
 
-    -- the next process of the frame leads to one that is done
+    -- the next turn of the frame leads to one that is done
     pub found_legal : ((a : CallId) → IsTaken start.counts a → ⊥) → (d : Configuration State) → IsStep Effect history c g.id d → IsDone Effect history d →
         IsLegal Effect start.state history (ids_of (xs ++ g ∷ [])) d.state
     found_legal fresh d s done =

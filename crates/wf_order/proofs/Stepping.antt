@@ -2,7 +2,7 @@
 use Rattle.std.proofs.Common.{◌≡◌, refl, sym, ap, ◌∙◌, subst, ℕ, ◌+◌, ◌-◌, ◌<◌, ◌≤◌, List, length, get_or, set, Option, option_map, Some, None, arith}
 use Rattle.std.proofs.lemmas.Option.{same_Some}
 use Rattle.std.specs.List.{slice_get, Contains}
-use Rattle.std.specs.Prelude.{IfSome, MatchOption}
+use Rattle.std.specs.Prelude.{IfSome}
 use Rattle.ob_interface.specs.Call.{ObjectCall, Reply}
 use Rattle.wf_history.specs.declared.event.CallId.{CallId}
 use Rattle.wf_history.specs.History.{Event, Begin, End, Before}
@@ -14,7 +14,7 @@ use Rattle.wf_order.specs.declared.rows.Begun.{Begun}
 use Rattle.wf_order.specs.declared.rows.Ended.{Ended}
 use Rattle.wf_order.specs.declared.rows.Rows.{Rows}
 use Rattle.wf_order.specs.Rows.{row_of, begun_rows, ended_rows, call_at, AreRows}
-use Rattle.wf_order.specs.Steps.{Configuration, IsLimit, IsStep}
+use Rattle.wf_order.specs.Steps.{Configuration, IsLimit, IsStep, one_more}
 use Rattle.wf_order.specs.Search.{HasNoStep, IsOnlyStep, IsSilentStep, IsOutcome}
 use Rattle.wf_order.proofs.Limits.{limit_earlier, limit_later}
 use Rattle.wf_order.proofs.Lists.{same_configuration}
@@ -127,10 +127,30 @@ module _ {M : Type 0} (Effect : ObjectCall → M → M → Reply → Type 0)
             },
           )
 
--- one of two outcomes, without the first
-pub some_of : {V : Type 0} (P : Type 0) (Q R : V → Type 0) (o : Option V) → ((v : V) → Q v → R v) → MatchOption o P Q → IfSome o R
-some_of P Q R None f h = tt
-some_of P Q R (Some v) f h = f v h
+      -- one of two outcomes, without the first
+      -- a silent call is taken
+      pub silent_taken : (e : Ended) → slice_get (row_of (ended_rows rows) process) k ≡ Some e → ((before after : M) → Effect (seen_call b.call) before after (seen_reply e.reply) → before ≡ after) →
+          process < length c.counts → b.place < limit → (after : M) (reply : Reply) → Effect (seen_call b.call) c.state after reply → reply ≡ seen_reply e.reply →
+          IsSilentStep Effect history c (call_at process k) (record { counts = set c.counts process (k + 1); state = after })
+      silent_taken e there leaves within inside after reply effect same =
+          let known = subst (λ (o : Option Ended). IfSome (option_map seen_reply (option_map (λ x. x.reply) o)) (λ r. r ≡ reply)) (sym there) (sym same) in
+          silent_from e there leaves (call_at process k) (record { counts = set c.counts process (k + 1); state = after })
+          (only_step after (set c.counts process (k + 1)) within inside refl (reply, effect, known))
+
+-- where the next call leads to, as it is told
+module _ {M : Type 0} (Effect : ObjectCall → M → M → Reply → Type 0) (history : List (Event ObjectCall Reply)) (c : Configuration M) (process k : ℕ) (after : M) (id : CallId) (d : Configuration M)
+    (is : k ≡ get_or c.counts process 0) (id_is : id ≡ call_at process (get_or c.counts process 0)) (found_is : d ≡ one_more c.counts process after) where
+  same_id : call_at process k ≡ id
+  same_id = ap (call_at process) is ∙ sym id_is
+
+  same_to : ◌≡◌ {A = Configuration M} (record { counts = set c.counts process (k + 1); state = after }) d
+  same_to = ap (λ (n : ℕ). record { counts = set c.counts process (n + 1); state = after }) is ∙ sym found_is
+
+  pub only_as : IsOnlyStep Effect history c process (call_at process k) (record { counts = set c.counts process (k + 1); state = after }) → IsOnlyStep Effect history c process id d
+  only_as h = subst (λ (i : CallId). IsOnlyStep Effect history c process i d) same_id (subst (λ (x : Configuration M). IsOnlyStep Effect history c process (call_at process k) x) same_to h)
+
+  pub silent_as : IsSilentStep Effect history c (call_at process k) (record { counts = set c.counts process (k + 1); state = after }) → IsSilentStep Effect history c id d
+  silent_as h = subst (λ (i : CallId). IsSilentStep Effect history c i d) same_id (subst (λ (x : Configuration M). IsSilentStep Effect history c (call_at process k) x) same_to h)
 
 pub some_at : {V : Type 0} (R : V → Type 0) (o : Option V) (v : V) → o ≡ Some v → IfSome o R → R v
 some_at R None v e h = absurd (cc)

@@ -30,6 +30,10 @@ module _ {A : Type 0} where
 abbrev pub call_at : ℕ → ℕ → CallId
 call_at process k = record { process = process; number = k + 1 }
 
+-- a process's call of this number, and its reply, stand so in the rows
+abbrev pub AreAt : Rows → ℕ → ℕ → Begun → Ended → Type 0
+AreAt rows process k begun ended = (slice_get (row_of (begun_rows rows) process) k ≡ Some begun) × (slice_get (row_of (ended_rows rows) process) k ≡ Some ended)
+
 -- the rows hold the calls of the history and their replies
 pub record AreRows (history : List (Event ObjectCall Reply)) (processes : ℕ) (rows : Rows) : Type 0 where
   pub whole : IsHistory history

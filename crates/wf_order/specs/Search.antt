@@ -1,20 +1,26 @@
 -- What a search has found so far.
-use Rattle.std.specs.Prelude.{◌≡◌, ℕ, zero, suc, ◌+◌, ◌-◌, ◌*◌, ◌<◌, ◌≤◌, List, [], ◌∷◌, ◌++◌, map, length, slice_get, Option, Some, None, IfSome, Contains, ◌⊎◌}
+use Rattle.std.specs.Prelude.{◌≡◌, ℕ, zero, suc, ◌+◌, ◌-◌, ◌*◌, ◌<◌, List, [], ◌∷◌, ◌++◌, map, length, get_or, slice_get, Option, Some, None, IfSome, Contains, ◌⊎◌}
 use Rattle.std.proofs.Common.{take}
 use Rattle.wf_history.specs.declared.event.CallId.{CallId}
 use Rattle.ob_interface.specs.Call.{ObjectCall, Reply}
 use Rattle.wf_history.specs.History.{Event}
 use Rattle.wf_history.specs.Legal.{IsLegal}
+use Rattle.wf_history.specs.View.{seen_call, seen_reply}
+use Rattle.ob_interface.specs.View.{reply_of}
 use Rattle.std.specs.HashSet.{HashSet}
 use Rattle.wf_order.specs.declared.search.Answer.{Answer}
 use Rattle.wf_order.specs.declared.search.Answer.TheVariants as Answers
 use Rattle.wf_order.specs.declared.search.Frame.{Frame}
 use Rattle.wf_order.specs.declared.step.Here.{Here}
+use Rattle.wf_order.specs.declared.step.Made.{Made}
+use Rattle.wf_order.specs.declared.rows.Begun.{Begun}
+use Rattle.wf_order.specs.declared.rows.Ended.{Ended}
 use Rattle.wf_order.specs.declared.rows.Rows.{Rows}
 use Rattle.wf_order.specs.declared.seen.Found as Rust
-use Rattle.wf_order.specs.Rows.{AreRows, begun_rows, row_of}
+use Rattle.wf_order.specs.Rows.{AreAt, AreRows, begun_rows, row_of}
 use Rattle.wf_order.specs.Rules.{IsAnswered, IsSilent}
 use Rattle.wf_order.specs.Steps.{Configuration, IsLimit, IsStep, Leads, IsDone}
+use Rattle.wf_order.specs.Turns.{BeginsFrom, turns}
 use Rattle.wf_order.specs.Verdict.{HasLegal, HasMore}
 
 -- a configuration that is kept, as the definitions see it
@@ -44,6 +50,17 @@ abbrev pub IsOutcome : {State Reply : Type 0} → (State → State → Reply →
 IsOutcome {State} {Reply} Effect before known (Some after) = (reply : Reply) × Effect before after reply × IfSome known (λ r. r ≡ reply)
 IsOutcome {State} {Reply} Effect before known None = (after : State) × (reply : Reply) × Effect before after reply × (r : Reply) × (known ≡ Some r) × (r ≡ reply → ⊥)
 
+-- what a call made of a state
+abbrev pub IsMade : {State Meaning : Type 0} → (State → Meaning) → (ObjectCall → Meaning → Meaning → Reply → Type 0) → Meaning → Made State → Type 0
+IsMade meaning Effect before made = Effect (seen_call made.call) before (meaning made.state) (reply_of made.reply)
+
+-- the next call of the process, with its end, may be taken, and leaves each state as it is
+pub record IsSilentCall {M : Type 0} (Effect : ObjectCall → M → M → Reply → Type 0) (rows : Rows) (counts : List ℕ) (limit process : ℕ) (begun : Begun) (ended : Ended) : Type 0 where
+  pub within : process < length counts
+  pub at : AreAt rows process (get_or counts process 0) begun ended
+  pub early : begun.place < limit
+  pub leaves : (before after : M) → Effect (seen_call begun.call) before after (seen_reply ended.reply) → before ≡ after
+
 module _ {State Call Reply : Type 0} (Effect : Call → State → State → Reply → Type 0) (history : List (Event Call Reply)) where
   -- no call of the process is next
   abbrev pub HasNoStep : Configuration State → ℕ → Type 0
@@ -69,7 +86,7 @@ module _ {State Call Reply : Type 0} (Effect : Call → State → State → Repl
     pub reached : (c : Configuration State) → Contains found c → (ids : List CallId) × Leads Effect history start ids c
     pub not_done : (c : Configuration State) → Contains found c → ¬ IsDone Effect history c
     pub next : (c d : Configuration State) (id : CallId) → Contains found c → IsStep Effect history c id d →
-        IsAnswered Effect history found c id d ⊎ ((f : Frame) × Contains stack f × (slice_get found f.place ≡ Some c) × (f.next ≤ id.process))
+        IsAnswered Effect history found c id d ⊎ ((f : Frame) × Contains stack f × (slice_get found f.place ≡ Some c) × BeginsFrom history f.next id)
 
   -- what an arrival at a configuration makes of what was found: a path, or nothing
   abbrev pub IsArrival : Configuration State → (found more : List (Configuration State)) → (stack new : List Frame) → Option (List CallId) → Type 0
@@ -91,16 +108,16 @@ try_cost n zero = 1
 try_cost n (suc r) = 2 + n * try_cost n r
 
 -- what is left of a frame, where those found have these counts
-abbrev pub weight : ℕ → List ℕ → List (List ℕ) → Frame → ℕ
-weight n lengths counted f = 1 + (n - f.next) * try_cost n (left lengths (row_of counted f.place))
+abbrev pub weight : ℕ → List (List Begun) → List (List ℕ) → Frame → ℕ
+weight n rows counted f = 1 + turns f.next rows (row_of counted f.place) * try_cost n (left (map length rows) (row_of counted f.place))
 
-abbrev pub weights : ℕ → List ℕ → List (List ℕ) → List Frame → ℕ
-weights n lengths counted [] = 0
-weights n lengths counted (f ∷ fs) = weight n lengths counted f + weights n lengths counted fs
+abbrev pub weights : ℕ → List (List Begun) → List (List ℕ) → List Frame → ℕ
+weights n rows counted [] = 0
+weights n rows counted (f ∷ fs) = weight n rows counted f + weights n rows counted fs
 
 -- a bound on the work that is left
 unfoldable pub work : {State : Type 0} → ℕ → Rows → List (Configuration State) → List Frame → ℕ
-work processes rows found stack = weights processes (map length (begun_rows rows)) (map (λ c. c.counts) found) stack
+work processes rows found stack = weights processes (begun_rows rows) (map (λ c. c.counts) found) stack
 
 -- what a search answers: a legal order, that there is none, or that there is more than the most to be looked at, which is
 -- less than one try may cost

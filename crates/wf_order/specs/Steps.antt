@@ -15,6 +15,10 @@ pub record Configuration (State : Type 0) : Type 0 where
 abbrev pub start_at : {State : Type 0} → ℕ → State → Configuration State
 start_at processes opening = record { counts = replicate processes 0; state = opening }
 
+-- one more call of the process is taken, and led to this state
+abbrev pub one_more : {State : Type 0} → List ℕ → ℕ → State → Configuration State
+one_more counts process state = record { counts = set counts process (get_or counts process 0 + 1); state = state }
+
 -- the call is one of those that are counted
 abbrev pub IsTaken : List ℕ → CallId → Type 0
 IsTaken counts id = (0 < id.number) × (id.number ≤ get_or counts id.process 0)

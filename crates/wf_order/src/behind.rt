@@ -30,11 +30,11 @@ fn is_behind_next<O: Object>(
     };
     let own = Spot {
         process,
-        place: *place,
+        place: *place as usize,
     };
     let first = Spot {
         process: other,
-        place: *other_place,
+        place: *other_place as usize,
     };
     if !are_alike(task.rows, first, own) {
         return Ok(false);
@@ -57,7 +57,7 @@ fn is_behind_any<O: Object>(
     let Some(place) = here.found.counts.get(process) else {
         return Ok(false);
     };
-    if task.rows.ended_at(process, *place).is_some() {
+    if task.rows.ended_at(process, *place as usize).is_some() {
         return Ok(false);
     }
     for other in 0..here.found.counts.len() {

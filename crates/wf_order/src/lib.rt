@@ -17,6 +17,7 @@ mod search;
 mod seen;
 mod sooner;
 mod step;
+mod turn;
 
 pub use find::{Verdict, find_order};
 pub use object::Object;

@@ -2,8 +2,12 @@
 
 use ob_interface::NoMemory;
 use ob_interface::call::Reply;
+use smallvec::SmallVec;
 use std::alloc::Global;
 use wf_history::{SeenCall, SeenReply};
+
+/// A state in words.
+pub type Words = SmallVec<u64, 2>;
 
 /// An object that is used by one call at a time. What a call does is determined by the state and the call.
 pub trait Object {
@@ -43,7 +47,7 @@ pub trait Object {
         ensures { IfOk result (λ made. effect self.now (seen_call call.entry) (meaning state.now) (meaning made.0) (reply_of made.1)) };
 
     /// The state in words. No two states have the same ones.
-    fn words(&self, alloc: Global, state: &Self::State) -> Result<Vec<u64>, NoMemory>
+    fn words(&self, alloc: Global, state: &Self::State) -> Result<Words, NoMemory>
         ensures { IfOk result (λ words. words.items ≡ words_of (meaning state.now)) };
 
     /// Whether a call leaves the state as it is, whatever the state, wherever it has this reply. Where it says no of a call

@@ -148,12 +148,12 @@ pub(crate) fn processes_of(events: &[Event]) -> Option<usize>
 }
 
 /// The first place at which a call ends that is not among those counted; where there is none, the number of events.
-pub(crate) fn limit_of(rows: &Rows, counts: &[usize]) -> usize
+pub(crate) fn limit_of(rows: &Rows, counts: &[u32]) -> usize
     ensures { (history : List (AnyEvent ObjectCall Reply)) → AreRows history (length counts.now) rows.now → IsLimit history counts.now result }
 {
     let mut limit = rows.events;
     for (process, count) in counts.iter().enumerate() {
-        if let Some(end) = rows.ended_at(process, *count) {
+        if let Some(end) = rows.ended_at(process, *count as usize) {
             limit = limit.min(end.place);
         }
     }

@@ -16,13 +16,15 @@ use crate::object::Object;
 use crate::rows::limit_of;
 use crate::seen::{Found, Seen};
 use crate::step::{Here, Task, any_silent_step, step};
+use crate::turn::next_turn;
 use ob_interface::NoMemory;
+use smallvec::SmallVec;
 use std::alloc::Global;
 use std::hash::RandomState;
 use wf_history::CallId;
 
-/// A configuration on the way from the start, by its place: the process to be tried next, the call that was tried last, and
-/// the first place at which a call ends that is not taken there.
+/// A configuration on the way from the start, by its place: the place from which on calls begin that are still to be tried, the
+/// call that was tried last, and the first place at which a call ends that is not taken there.
 #[derive(Clone, Copy)]
 pub(crate) struct Frame {
     pub place: usize,
@@ -83,17 +85,16 @@ fn arrive<O: Object>(
     Ok(None)
 }
 
-/// Tries a silent call or else the next process of the frame that was on top of the stack: a legal order, if one is found.
+/// Tries a silent call or else the next call of the frame that was on top of the stack: a legal order, if one is found.
 fn advance<O: Object>(
     task: &Task<O>,
-    processes: usize,
     seen: &mut Seen<O::State>,
     stack: &mut Vec<Frame>,
     frame: Frame,
 ) -> Result<Option<Vec<CallId>>, NoMemory>
     requires place { frame.place < index_set_len seen.old }
     requires worded { AreWorded O.meaning O.words_of seen.old }
-    ensures search { (history : List (Event ObjectCall Reply)) (start : Configuration O.Meaning) → AreRows history processes task.now.rows.now
+    ensures search { (history : List (Event ObjectCall Reply)) (processes : ℕ) (start : Configuration O.Meaning) → AreRows history processes task.now.rows.now
         → IsSearch (O.effect task.now.object.now) history processes start (all_found O.meaning seen.old) (stack.old.items ++ frame ∷ [])
         → IfOk result (λ to. MatchOption to
         (IsSearch (O.effect task.now.object.now) history processes start (all_found O.meaning seen.new) stack.new.items
@@ -102,9 +103,6 @@ fn advance<O: Object>(
     ensures worded { IfOk result (λ to. AreWorded O.meaning O.words_of seen.new) }
     ensures one_more { IfOk result (λ to. index_set_len seen.new ≤ index_set_len seen.old + 1) }
 {
-    if frame.next >= processes {
-        return Ok(None);
-    }
     let place = frame.place;
     let limit = frame.limit;
     let here = Here {
@@ -114,7 +112,7 @@ fn advance<O: Object>(
     if frame.next == 0 {
         // A silent call is taken at once, and nothing else is tried here.
         if let Some((id, there)) = any_silent_step(task, &here)? {
-            let next = processes;
+            let next = limit;
             stack.push(Frame {
                 place,
                 next,
@@ -124,9 +122,13 @@ fn advance<O: Object>(
             return arrive(task, seen, stack, there);
         }
     }
-    let next = frame.next + 1;
+    let turn = next_turn(task.rows, &here.found.counts, frame.next, limit);
+    if turn.place >= limit {
+        return Ok(None);
+    }
+    let next = turn.place + 1;
     let id = frame.id;
-    if is_behind(task, &here, frame.next)? {
+    if is_behind(task, &here, turn.process)? {
         stack.push(Frame {
             place,
             next,
@@ -135,7 +137,7 @@ fn advance<O: Object>(
         })?;
         return Ok(None);
     }
-    let Some((id, there)) = step(task, &here, frame.next)? else {
+    let Some((id, there)) = step(task, &here, turn.process)? else {
         stack.push(Frame {
             place,
             next,
@@ -159,7 +161,7 @@ fn start_of<O: Object>(task: &Task<O>, processes: usize) -> Result<Found<O::Stat
     ensures words { IfOk result (λ start. IsWorded O.meaning O.words_of start) }
 {
     let alloc = task.alloc;
-    let counts = vec![in alloc; 0; processes]?;
+    let counts = SmallVec::from_elem(alloc, 0, processes)?;
     let state = task.object.open(alloc)?;
     let words = task.object.words(alloc, &state)?;
     Ok(Found {
@@ -191,7 +193,7 @@ pub(crate) fn search<O: Object>(
         if seen.len() > most {
             return Ok(Answer::TooMany);
         }
-        if let Some(order) = advance(task, processes, &mut seen, &mut stack, frame)? {
+        if let Some(order) = advance(task, &mut seen, &mut stack, frame)? {
             return Ok(Answer::Order(order));
         }
     }

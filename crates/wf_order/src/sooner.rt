@@ -3,12 +3,12 @@
 ghost use Rattle.std.specs.Prelude.{◌≡◌, ◌<◌, ℕ, List, length, get_or, IsTrue};
 ghost use Rattle.ob_interface.specs.Call.{ObjectCall, Reply};
 ghost use Rattle.wf_history.specs.History.{Event};
-ghost use Rattle.wf_order.specs.Rows.{AreRows, call_at};
-ghost use Rattle.wf_order.specs.Rules.{ComesFirst, AreAlike, AreSameReplies, HasSooner};
+ghost use Rattle.wf_order.specs.Rows.{AreAt, AreRows, call_at};
+ghost use Rattle.wf_order.specs.Rules.{ComesFirst, AreAlike, HasSooner};
 ghost use Rattle.wf_order.specs.Steps.{IsLimit};
 
 use crate::replies::{are_same_replies, is_same_call};
-use crate::rows::Rows;
+use crate::rows::{Begun, Ended, Rows};
 
 /// A call by its process and its place in the row.
 #[derive(Clone, Copy)]
@@ -51,56 +51,59 @@ pub(crate) fn are_alike(rows: &Rows, first: Spot, other: Spot) -> bool
     comes_first(rows, first, other)
 }
 
-/// Whether two calls have the same reply.
-fn have_same_reply(rows: &Rows, first: Spot, other: Spot) -> bool
-    ensures { (history : List (Event ObjectCall Reply)) (processes : ℕ) → AreRows history processes rows.now
-        → IsTrue result → AreSameReplies history (call_at first.process first.place) (call_at other.process other.place) }
+/// Whether a call that may be taken before the limit can stand for one that has begun and ended so, and ends before it.
+fn is_sooner(rows: &Rows, limit: usize, first: Spot, begun: Begun, end: Ended) -> bool
+    ensures { (history : List (Event ObjectCall Reply)) (counts : List ℕ) (p k : ℕ) → AreRows history (length counts) rows.now → IsLimit history counts limit
+        → AreAt rows.now p k begun.entry end.entry → first.process < length counts → first.place ≡ get_or counts first.process 0
+        → IsTrue result → HasSooner history counts (call_at p k) }
 {
-    let Some(end) = rows.ended_at(first.process, first.place) else {
+    let Some(sooner_end) = rows.ended_at(first.process, first.place) else {
         return false;
     };
-    let Some(other_end) = rows.ended_at(other.process, other.place) else {
-        return false;
-    };
-    are_same_replies(end.reply, other_end.reply)
-}
-
-/// Whether a call that may be taken before the limit can stand for another one, and comes first.
-fn is_sooner(rows: &Rows, limit: usize, first: Spot, other: Spot) -> bool
-    ensures { (history : List (Event ObjectCall Reply)) (counts : List ℕ) → AreRows history (length counts) rows.now → IsLimit history counts limit
-        → first.process < length counts → first.place ≡ get_or counts first.process 0
-        → IsTrue result → HasSooner history counts (call_at other.process other.place) }
-{
-    let Some(begun) = rows.begun_at(first.process, first.place) else {
-        return false;
-    };
-    if begun.place >= limit {
+    if sooner_end.place >= end.place {
         return false;
     }
-    if !have_same_reply(rows, first, other) {
+    let Some(sooner_begun) = rows.begun_at(first.process, first.place) else {
+        return false;
+    };
+    if sooner_begun.place >= limit {
         return false;
     }
-    are_alike(rows, first, other)
+    if !are_same_replies(sooner_end.reply, end.reply) {
+        return false;
+    }
+    is_same_call(sooner_begun.call, begun.call)
 }
 
-/// Whether the next call of a process need not be tried.
-pub(crate) fn has_sooner(rows: &Rows, limit: usize, counts: &[usize], process: usize) -> bool
-    ensures { (history : List (Event ObjectCall Reply)) → AreRows history (length counts.now) rows.now → IsLimit history counts.now limit
-        → IsTrue result → HasSooner history counts.now (call_at process (get_or counts.now process 0)) }
+/// Whether the next call of a process, which has begun and ended so, need not be tried.
+fn has_sooner_than(rows: &Rows, limit: usize, counts: &[u32], begun: Begun, end: Ended) -> bool
+    ensures { (history : List (Event ObjectCall Reply)) (p k : ℕ) → AreRows history (length counts.now) rows.now → IsLimit history counts.now limit
+        → AreAt rows.now p k begun.entry end.entry → IsTrue result → HasSooner history counts.now (call_at p k) }
 {
-    let Some(place) = counts.get(process) else {
-        return false;
-    };
-    let other = Spot {
-        process,
-        place: *place,
-    };
-    for (process, place) in counts.iter().enumerate() {
-        let place = *place;
+    for (process, count) in counts.iter().enumerate() {
+        let place = *count as usize;
         let first = Spot { process, place };
-        if is_sooner(rows, limit, first, other) {
+        if is_sooner(rows, limit, first, begun, end) {
             return true;
         }
     }
     false
+}
+
+/// Whether the next call of a process need not be tried.
+pub(crate) fn has_sooner(rows: &Rows, limit: usize, counts: &[u32], process: usize) -> bool
+    ensures { (history : List (Event ObjectCall Reply)) → AreRows history (length counts.now) rows.now → IsLimit history counts.now limit
+        → IsTrue result → HasSooner history counts.now (call_at process (get_or counts.now process 0)) }
+{
+    let Some(count) = counts.get(process) else {
+        return false;
+    };
+    let place = *count as usize;
+    let Some(begun) = rows.begun_at(process, place) else {
+        return false;
+    };
+    let Some(end) = rows.ended_at(process, place) else {
+        return false;
+    };
+    has_sooner_than(rows, limit, counts, begun, end)
 }

@@ -1,17 +1,21 @@
 //! Steps from a configuration.
 
-ghost use Rattle.std.specs.Prelude.{◌≡◌, ◌<◌, List, length, IfOk, IfSome, MatchOption, IsTrue, option_map};
+ghost use Rattle.std.specs.Prelude.{◌≡◌, ◌<◌, List, length, get_or, IfOk, IfSome, MatchOption, IsTrue, option_map, slice_set};
+ghost use Rattle.smallvec.specs.SmallVec.{small_vec_len};
 ghost use Rattle.ob_interface.specs.Call.{ObjectCall, Reply};
 ghost use Rattle.wf_history.specs.History.{Event as AnyEvent};
 ghost use Rattle.wf_history.specs.View.{seen_call, seen_reply};
-ghost use Rattle.wf_order.specs.Search.{found_in, HasNoStep, IsOnlyStep, IsSilentStep, IsOutcome, IsAt, IsWorded};
+ghost use Rattle.wf_order.specs.Search.{found_in, HasNoStep, IsOnlyStep, IsSilentStep, IsMade, IsOutcome, IsAt, IsSilentCall, IsWorded};
+ghost use Rattle.wf_order.specs.Rows.{call_at};
+ghost use Rattle.wf_order.specs.Steps.{one_more};
 
 use crate::object::Object;
-use crate::replies::is_same_reply;
-use crate::rows::Rows;
-use crate::seen::Found;
-use ob_interface::NoMemory;
-use std::alloc::Global;
+use crate::replies::{is_same_call, is_same_reply};
+use crate::rows::{Begun, Ended, Rows};
+use crate::seen::{Counts, Found};
+use ob_interface::{NoMemory, call};
+use smallvec::SmallVec;
+use std::alloc::{AllocError, Global};
 use wf_history::{CallId, Event, SeenCall, SeenReply};
 
 /// What is searched: events, with their rows, on an object.
@@ -28,6 +32,14 @@ pub(crate) struct Task<'r, 'a, O> {
 pub(crate) struct Here<'a, S> {
     pub found: &'a Found<S>,
     pub limit: usize,
+}
+
+/// What a call made of a state.
+#[derive(Drop)]
+pub(crate) struct Made<'a, S> {
+    pub call: SeenCall<'a>,
+    pub state: S,
+    pub reply: call::Reply,
 }
 
 /// What a call makes of a state, where its reply is the one that is known, if one is.
@@ -53,6 +65,53 @@ fn outcome<O: Object>(
     }
 }
 
+/// The counts with another one for a process.
+fn counts_with(
+    alloc: Global,
+    counts: &Counts,
+    process: usize,
+    number: u32,
+) -> Result<Counts, AllocError>
+    requires { process < small_vec_len counts.now }
+    ensures { IfOk result (λ new. new.items ≡ slice_set counts.now.items process number) }
+{
+    let mut new = SmallVec::from_slice(alloc, counts.as_slice())?;
+    if let Some(count) = new.get_mut(process) {
+        *count = number;
+    }
+    Ok(new)
+}
+
+/// Where the next call of a process leads to that makes this state, and which call it is.
+fn one_more<O: Object>(
+    task: &Task<O>,
+    counts: &Counts,
+    process: usize,
+    state: O::State,
+) -> Result<(CallId, Found<O::State>), NoMemory>
+    requires { process < small_vec_len counts.now }
+    ensures id { IfOk result (λ to. to.0 ≡ call_at process (get_or counts.now.items process 0)) }
+    ensures found { IfOk result (λ to. found_in O.meaning to.1 ≡ one_more counts.now.items process (O.meaning state)) }
+    ensures words { IfOk result (λ to. IsWorded O.meaning O.words_of to.1) }
+{
+    let alloc = task.alloc;
+    let words = task.object.words(alloc, &state)?;
+    let Some(number) = counts[process].checked_add(1) else {
+        return Err(NoMemory);
+    };
+    let counts = counts_with(alloc, counts, process, number)?;
+    let id = CallId {
+        process,
+        number: number as u64,
+    };
+    let found = Found {
+        counts,
+        words,
+        state,
+    };
+    Ok((id, found))
+}
+
 /// What the next call of a process leads to, where it may be taken and has the history's reply.
 pub(crate) fn step<O: Object>(
     task: &Task<O>,
@@ -68,57 +127,59 @@ pub(crate) fn step<O: Object>(
     let Some(taken) = here.found.counts.get(process) else {
         return Ok(None);
     };
-    let taken = *taken;
-    let Some(begun) = task.rows.begun_at(process, taken) else {
+    let place = *taken as usize;
+    let Some(begun) = task.rows.begun_at(process, place) else {
         return Ok(None);
     };
     if begun.place >= here.limit {
         return Ok(None);
     }
-    let known = task.rows.reply_at(process, taken);
+    let known = task.rows.reply_at(process, place);
     let Some(state) = outcome(alloc, task.object, &here.found.state, begun.call, known)? else {
         return Ok(None);
     };
-    let words = task.object.words(alloc, &state)?;
-    let number = taken + 1;
-    let mut counts = Vec::from_slice(alloc, here.found.counts.as_slice())?;
-    counts[process] = number;
-    let id = CallId {
-        process,
-        number: number as u64,
-    };
-    let found = Found {
-        counts,
-        words,
-        state,
-    };
-    Ok(Some((id, found)))
+    let to = one_more(task, &here.found.counts, process, state)?;
+    Ok(Some(to))
 }
 
-/// What the next call of a process leads to, where it has ended and is silent, and may be taken.
-fn silent_step<O: Object>(
-    task: &Task<O>,
+/// What a call makes of a state: what an equal one made of it, where one was made, so that none is made twice.
+fn made_by<'a, O: Object>(
+    task: &Task<'_, 'a, O>,
+    before: &O::State,
+    call: SeenCall<'a>,
+    made: Option<Made<'a, O::State>>,
+) -> Result<Made<'a, O::State>, NoMemory>
+    requires { IfSome made (IsMade O.meaning (O.effect task.now.object.now) (O.meaning before.now)) }
+    ensures { IfOk result (λ m. IsMade O.meaning (O.effect task.now.object.now) (O.meaning before.now) m × (seen_call m.call ≡ seen_call call.entry)) }
+{
+    if let Some(made) = made {
+        if is_same_call(made.call, call) {
+            return Ok(made);
+        }
+    }
+    let (state, reply) = task.object.apply(task.alloc, before, call)?;
+    Ok(Made { call, state, reply })
+}
+
+/// The next call of a process, and its end, where it is silent and may be taken.
+fn silent_call<'a, O: Object>(
+    task: &Task<'_, 'a, O>,
     here: &Here<O::State>,
     process: usize,
-) -> Result<Option<(CallId, Found<O::State>)>, NoMemory>
-    ensures silent { (history : List (AnyEvent ObjectCall Reply)) → IsAt history task.now.rows.now here.now
-        → IfOk result (λ stepped. IfSome stepped (λ to. IsSilentStep (O.effect task.now.object.now) history (found_in O.meaning here.now.found.now) to.0 (found_in O.meaning to.1))) }
-    ensures words { IfOk result (λ stepped. IfSome stepped (λ to. IsWorded O.meaning O.words_of to.1)) }
+) -> Option<(Begun<'a>, Ended<'a>)>
+    ensures { IfSome result (λ call. IsSilentCall (O.effect task.now.object.now) task.now.rows.now here.now.found.now.counts.items here.now.limit process call.0 call.1) }
 {
-    let Some(taken) = here.found.counts.get(process) else {
-        return Ok(None);
-    };
-    let taken = *taken;
-    let Some(begun) = task.rows.begun_at(process, taken) else {
-        return Ok(None);
-    };
-    let Some(end) = task.rows.ended_at(process, taken) else {
-        return Ok(None);
-    };
-    if !task.object.is_silent(begun.call, end.reply) {
-        return Ok(None);
+    let limit = here.limit;
+    let place = *here.found.counts.get(process)? as usize;
+    let end = task.rows.ended_at(process, place)?;
+    let begun = task.rows.begun_at(process, place)?;
+    if begun.place >= limit {
+        return None;
     }
-    step(task, here, process)
+    if !task.object.is_silent(begun.call, end.reply) {
+        return None;
+    }
+    Some((begun, end))
 }
 
 /// What a silent call leads to, where one may be taken.
@@ -130,9 +191,15 @@ pub(crate) fn any_silent_step<O: Object>(
         → IfOk result (λ stepped. IfSome stepped (λ to. IsSilentStep (O.effect task.now.object.now) history (found_in O.meaning here.now.found.now) to.0 (found_in O.meaning to.1))) }
     ensures words { IfOk result (λ stepped. IfSome stepped (λ to. IsWorded O.meaning O.words_of to.1)) }
 {
+    let mut made = None;
     for process in 0..here.found.counts.len() {
-        if let Some(to) = silent_step(task, here, process)? {
-            return Ok(Some(to));
+        if let Some((begun, end)) = silent_call(task, here, process) {
+            let now = made_by(task, &here.found.state, begun.call, made.take())?;
+            if is_same_reply(&now.reply, end.reply) {
+                let to = one_more(task, &here.found.counts, process, now.state)?;
+                return Ok(Some(to));
+            }
+            made = Some(now);
         }
     }
     Ok(None)

@@ -124,8 +124,10 @@ impl Split {
         call: SeenCall,
         value: Scalar,
     ) -> Result<(), NoMemory>
-        requires { (all front : Events) × (by : ℕ) × AreSplit all by front (split_in self.old) × IsNext all front (Begin id (seen_call call)) × (argument_at by (seen_call call) ≡ Some value) }
-        ensures { (all front : Events) (by : ℕ) → AreSplit all by front (split_in self.old) → IsNext all front (Begin id (seen_call call.entry)) → argument_at by (seen_call call.entry) ≡ Some value
+        requires { (all front : Events) × (by : ℕ) × AreSplit all by front (split_in self.old) × IsNext all front (Begin id (seen_call call))
+            × (argument_at by (seen_call call) ≡ Some value) }
+        ensures { (all front : Events) (by : ℕ) → AreSplit all by front (split_in self.old) → IsNext all front (Begin id (seen_call call.entry))
+            → argument_at by (seen_call call.entry) ≡ Some value
             → OnOk result (AreSplit all by (front ++ Begin id (seen_call call.entry) ∷ []) (split_in self.new)) }
     {
         let place = self.place_of(alloc, value)?;

@@ -7,7 +7,9 @@ ghost use Rattle.wf_history.specs.Legal.{NoRepeats};
 ghost use Rattle.wf_table.specs.declared.process.Sizes.{Sizes};
 ghost use Rattle.wf_table.specs.Object.{State};
 ghost use Rattle.wf_commits.specs.Commits.{IsCommitted};
-ghost use Rattle.wf_theorems.specs.Commits.{EndedIsInOrder, EveryRunIsCommitted, ExchangePutsOlder, ExchangePutsOwn, OrderIsInTime, OrderWasAnnounced, ServedIsNew, ServedIsOpen, ServedIsWanted, ServedIsWhole, TwoExchangesPut, TwoRoundsPut};
+ghost use Rattle.wf_theorems.specs.Commits.{EndedIsInOrder, EveryRunIsCommitted, ExchangePutsOlder, ExchangePutsOwn, OrderIsInTime};
+ghost use Rattle.wf_theorems.specs.Commits.{OrderWasAnnounced, ServedIsNew, ServedIsOpen, ServedIsWanted, ServedIsWhole, TwoExchangesPut};
+ghost use Rattle.wf_theorems.specs.Commits.{TwoRoundsPut};
 
 use wf_object::engine::Engine;
 

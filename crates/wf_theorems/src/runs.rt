@@ -1,6 +1,8 @@
 //! What holds of the bodies of every engine, and of every run.
 
-ghost use Rattle.wf_theorems.specs.Bodies.{CopiesAreRoots, EffectsAreOne, EffectsAreReturned, EffectsAreTrapped, EndsAreEffects, EndsAreOne, EndsLeadOn, EveryRunGoesOn, EveryRunIsNeverStuck, EveryRunIsSound, HaltedIsCounted, NoBodyIsStuck, ReturnsAreEffects, StuckChangesNothing, TrapsAreEffects};
+ghost use Rattle.wf_theorems.specs.Bodies.{CopiesAreRoots, EffectsAreOne, EffectsAreReturned, EffectsAreTrapped, EndsAreEffects, EndsAreOne};
+ghost use Rattle.wf_theorems.specs.Bodies.{EndsLeadOn, EveryRunGoesOn, EveryRunIsNeverStuck, EveryRunIsSound, HaltedIsCounted, NoBodyIsStuck};
+ghost use Rattle.wf_theorems.specs.Bodies.{ReturnsAreEffects, StuckChangesNothing, TrapsAreEffects};
 
 use wf_object::engine::Engine;
 

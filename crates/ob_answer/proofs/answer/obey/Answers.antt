@@ -24,6 +24,12 @@ returns-in-RunTree g c = rw c.in-RunTree.is c.obey_run-in-RunTree.ensures
 pub returns-in-RunSteps : goal.returns-in-RunSteps
 returns-in-RunSteps g c = rw c.in-RunSteps.is c.obey_run-in-RunSteps.ensures
 
+pub returns-in-RunFinished : goal.returns-in-RunFinished
+returns-in-RunFinished g c = rw c.in-RunFinished.is c.obey_finished.ensures
+
+pub returns-in-RunByChance : goal.returns-in-RunByChance
+returns-in-RunByChance g c = rw c.in-RunByChance.is c.obey_chance.ensures
+
 pub returns-in-Serve : goal.returns-in-Serve
 returns-in-Serve g c = rw c.in-Serve.is c.obey_calls-in-Serve.ensures
 
@@ -34,7 +40,7 @@ returns-in-Draw g c =
     c.range_of.ensures c.obey_run-in-Draw.ensures)
 
 pub returns-in-DrawRecord : goal.returns-in-DrawRecord
-returns-in-DrawRecord g c = rw c.in-DrawRecord.is c.obey_draw_record.ensures
+returns-in-DrawRecord g c = rw c.in-DrawRecord.is c.obey_draw_seen.ensures
 
 pub returns-in-Verify : goal.returns-in-Verify
 returns-in-Verify g c = rw c.in-Verify.is c.obey_verify.ensures

@@ -5,7 +5,7 @@ use Rattle.ob_code_law.specs.CodeMeaning.{EngineParts}
 use Rattle.ob_code_law.specs.Compiled.{IsFitting}
 use Rattle.ob_code_scheme.specs.Layout.{encoded}
 use Rattle.ob_desk_serve.proofs.Closed.{lawful_opening}
-use Rattle.ob_code_refusals.proofs.Submitted.{all_submitted}
+use Rattle.ob_desk_serve.proofs.Submitted.{all_submitted}
 use Rattle.ob_interface.specs.Call.{ObjectCall}
 use Rattle.ob_object_compile.specs.View.{object_in}
 use Rattle.ob_text_words.specs.ScriptCalls.{object_call, script_call_of}

@@ -1,11 +1,7 @@
-use Rattle.std.proofs.Common.{refl}
-use Rattle.std.proofs.lemmas.Result.{IfOk-weaker}
-use Rattle.clap.specs.Words.{app_of}
 use Rattle.ob_command_line.proofs.Added.{added}
 use Rattle.ob_command_line.proofs.command_line.with_record_commands.Goals as goal
 
 pub returns : goal.returns
-returns c =
-    let verify = added _ _ (app_of c.args.program) _ _ c.in_ok-program.ensures c.record_line-verify.ensures.app refl in
-    IfOk-weaker c.with_command-2.result _ _
-    (λ whole adds. added _ _ _ _ _ adds c.order_line.ensures.app verify) c.with_command-2.ensures
+returns c a above =
+    let verify = added _ _ _ _ _ above c.record_line-verify.ensures.app c.with_command-program.ensures in
+    added _ _ _ _ _ verify c.order_line.ensures.app c.with_command.ensures

@@ -1,11 +1,7 @@
-use Rattle.std.proofs.Common.{refl}
-use Rattle.std.proofs.lemmas.Result.{IfOk-weaker}
-use Rattle.clap.specs.Words.{app_of}
 use Rattle.ob_command_line.proofs.Added.{added}
 use Rattle.ob_command_line.proofs.command_line.with_telling_commands.Goals as goal
 
 pub returns : goal.returns
-returns c =
-    let explain = added _ _ (app_of c.args.program) _ _ c.in_ok-program.ensures c.explain_line-explain.ensures.app refl in
-    IfOk-weaker c.with_command-2.result _ _
-    (λ whole adds. added _ _ _ _ _ adds c.bound_line.ensures.app explain) c.with_command-2.ensures
+returns c a above =
+    let explain = added _ _ _ _ _ above c.explain_line-explain.ensures.app c.with_command-program.ensures in
+    added _ _ _ _ _ explain c.bound_line.ensures.app c.with_command.ensures

@@ -1,7 +1,7 @@
 use Rattle.std.proofs.Common.{inr, refl}
 use Rattle.std.proofs.lemmas.Result.{err_from_is_err_and, IfErr-weaker, IfOk-weaker}
 use Rattle.ob_checked.specs.CheckedModule.{program_in}
-use Rattle.ob_object_search.proofs.Histories.{enough_here, found_fault, found_lawful, found_order, open_lawful, reading_lawful}
+use Rattle.ob_object_search.proofs.Histories.{enough_here, found_fault, found_lawful, found_needed, found_order, open_lawful, reading_lawful}
 use Rattle.ob_object_search.proofs.searching.search_checked.Goals as goal
 
 pub returns-in_err-read-clause-lawful : goal.returns-in_err-read-clause-lawful
@@ -28,6 +28,13 @@ returns-clause-order c =
     (λ order. found_order (program_in c.args.checked.now) c.args.text.now c.args.search.now.budget c.args.search.now.most _ c.in_ok-read.ensures.history c.in_ok-read.ensures.alone
     _ c.in_ok-opening.ensures.state _ c.budget_of-budget.ensures _ _ refl order.items)
     (rw (c.as_slice.ensures.value, c.in_ok-object.ensures.checked, c.in_ok-object.ensures.opening, c.in_ok-object.ensures.budget) at c.order_found.ensures.order)
+
+pub returns-clause-needed : goal.returns-clause-needed
+returns-clause-needed c =
+    IfOk-weaker c.order_found.result _ _
+    (λ order. found_needed (program_in c.args.checked.now) c.args.text.now c.args.search.now.budget c.args.search.now.most _ c.in_ok-read.ensures.history c.in_ok-read.ensures.alone
+    _ c.in_ok-opening.ensures.state _ c.budget_of-budget.ensures _ _ refl order.items)
+    (rw (c.as_slice.ensures.value, c.in_ok-object.ensures.checked, c.in_ok-object.ensures.opening, c.in_ok-object.ensures.budget) at c.order_found.ensures.needed)
 
 pub returns-clause-fault : goal.returns-clause-fault
 returns-clause-fault c =

@@ -1,5 +1,5 @@
 use Rattle.std.proofs.lemmas.Result.{err_from_is_err_and, IfErr-weaker, IfOk-weaker}
-use Rattle.ob_object_search.proofs.Texts.{enough_in, none_by, order_by, order_in, text_lawful, told_of}
+use Rattle.ob_object_search.proofs.Texts.{enough_in, needed_by, none_by, order_by, order_in, text_lawful, told_of}
 use Rattle.ob_object_search.proofs.searching.search_text.Goals as goal
 
 pub returns-in_err-checked-clause-none : goal.returns-in_err-checked-clause-none
@@ -20,6 +20,12 @@ returns-clause-order c =
     IfOk-weaker c.search_checked.result _ _
     (λ order. order_by c.args.module.now c.args.history.now c.args.search.now.budget c.args.search.now.most _ c.in_ok-checked.ensures.program c.in_ok-checked.ensures.alone order.items)
     c.search_checked.ensures.order
+
+pub returns-clause-needed : goal.returns-clause-needed
+returns-clause-needed c =
+    IfOk-weaker c.search_checked.result _ _
+    (λ order. needed_by c.args.module.now c.args.history.now c.args.search.now.budget c.args.search.now.most _ c.in_ok-checked.ensures.program c.in_ok-checked.ensures.alone order.items)
+    c.search_checked.ensures.needed
 
 pub returns-clause-fault : goal.returns-clause-fault
 returns-clause-fault c =

@@ -11,4 +11,4 @@ pub push_value-returns-in_ok-push_all-in-Parts : goal.push_value-returns-in_ok-p
 push_value-returns-in_ok-push_all-in-Parts t c =
     words_parts c.args.words.now.items c.push-in-Parts.new.self.items c.push-in-Parts-2.new.self.items c.push_all.new.words.items c.args.value.now c.in-Parts.parts
     c.as_slice.result.now c.len.result c.in-Parts.is c.as_slice.ensures.value (omega (arith, c.len.ensures, c.in-Parts.parts.ok.0))
-    c.in_ok-push-in-Parts.ensures.items c.in_ok-push-in-Parts-2.ensures.items c.in_ok-push_all-in-Parts.ensures
+    c.in_ok-push-in-Parts.ensures.ok c.in_ok-push-in-Parts-2.ensures.ok c.in_ok-push_all-in-Parts.ensures

@@ -11,13 +11,14 @@ use Rattle.ob_object_search_evidence.proofs.Ended.{ends_with}
 use Rattle.ob_object_search_evidence.proofs.Fronts.{below_front, fault_front}
 use Rattle.ob_object_search_evidence.proofs.Shown.{evident, no_end, possible_found}
 use Rattle.ob_object_search_evidence.specs.Evidence.{EndsNowhere}
-use Rattle.ob_object_search_record.proofs.Recorded.{fault_heard, fault_there, legal_found}
+use Rattle.ob_object_search_record.proofs.Recorded.{fault_heard, fault_there, legal_found, needed_there}
 use Rattle.ob_store.specs.View.{state_of}
 use Rattle.ob_text_history_reading.specs.Names.{AreBelow, named_all, named_id}
 use Rattle.wf_beginnings.specs.Beginnings.{open_calls}
 use Rattle.wf_history.specs.History.{Event, End, IsHistory}
 use Rattle.wf_history.specs.Legal.{IsLegal}
 use Rattle.wf_history.specs.View.{event_of}
+use Rattle.wf_needed.specs.Needed.{NoneIsNeedless}
 use Rattle.wf_order.proofs.Turns.{take_whole}
 use Rattle.ob_object_search_evidence.proofs.showing.evidence_of_heard.Goals as goal
 
@@ -113,6 +114,9 @@ returns-clause-evidence c =
           (legal_found program c.args._text.now c.args.search.now.budget heard c.requires _ _ _ _ (ap program_in object.checked) object.budget (ap state_of object.opening) value
           (named_all c.as_slice-names.result.now c.in_ok-before.before) c.in_ok-order.order.items c.in_ok-order.order.items order.0 refl order.1),
     )
+    (subst (λ (es : Events). NoneIsNeedless (CallEnds program heard.budget) (state_of heard.opening) es c.in_ok-order.order.items) told
+    (needed_there program c.args._text.now c.args.search.now.budget heard c.requires _ _ _ _ (ap program_in object.checked) object.budget (ap state_of object.opening) value
+    (named_all c.as_slice-names.result.now c.in_ok-before.before) c.in_ok-order.order.items c.in_ok-order.ensures.needed))
     (c.in_ok-open_calls.ensures ∙ ap open_calls (c.events.ensures.value ∙ c.in_ok-told.ensures ∙ told))
     (possible_found program c.args._text.now c.args.search.now.budget heard c.requires _ _ _ (take place history) _ c.in-Some.end c.in_ok-replies.replies.items
     (ap program_in object.checked) object.budget (ap state_of object.opening) (c.events-2.ensures.value ∙ before) c.in_ok-replies.ensures)

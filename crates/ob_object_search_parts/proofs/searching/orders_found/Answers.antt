@@ -20,6 +20,11 @@ returns-in-Err-clause-fault c =
     first_fault (program_in c.args.object.now.checked.now) c.args.object.now.budget (state_of c.args.object.now.opening.now) c.args.names.now c.args.search.now.most (parts_in c.args.parts.now) (orders_in c.loop-part.found.items)
     c.loop-part.part-index (part_in c.part-item.result) c.in-Err.fault (item_here part_in c.args.parts.now c.loop-part.part-index c.part-item.result c.loop-part-test.true c.part-item.is) c.loop-part.invariant c.in-Err.ensures.fault
 
+pub returns-in-Err-clause-decided : goal.returns-in-Err-clause-decided
+returns-in-Err-clause-decided c = λ enough.
+    c.in-Err.ensures.decided
+    (enough c.loop-part.part-index (part_in c.part-item.result) (item_here part_in c.args.parts.now c.loop-part.part-index c.part-item.result c.loop-part-test.true c.part-item.is))
+
 pub loop-part-preserved : goal.loop-part-preserved
 loop-part-preserved c =
     let parts = parts_in c.args.parts.now in

@@ -1,7 +1,8 @@
 use Rattle.std.proofs.Common.{refl, inr}
 use Rattle.std.proofs.lemmas.Result.{err_from_is_err_and, IfErr-weaker, IfOk-weaker}
 use Rattle.ob_checked.specs.CheckedModule.{program_in}
-use Rattle.ob_object_search_parts.proofs.Told.{found_fault, found_lawful, found_orders, open_lawful, parts_here, reading_lawful, short_fails, short_lawful}
+use Rattle.ob_object_search.proofs.Histories.{enough_here}
+use Rattle.ob_object_search_parts.proofs.Told.{found_enough, found_fault, found_lawful, found_needed, found_orders, open_lawful, parts_here, reading_lawful, short_fails, short_lawful}
 use Rattle.ob_object_search_parts.specs.View.{orders_in}
 use Rattle.ob_object_search_parts.proofs.searching.search_parts.Goals as goal
 
@@ -52,6 +53,21 @@ returns-clause-orders c =
     (λ found. found_orders (program_in c.args.checked.now) c.args.text.now c.args.search.now.budget c.args.by c.args.search.now.most _ c.in_ok-read.ensures.history c.in_ok-read.ensures.alone
     _ c.in_ok-opening.ensures.state _ c.budget_of-budget.ensures _ c.in_ok-read.ensures.apart _ c.in_ok-read.ensures.numbered refl _ c.in_ok-parts.ensures.parts (orders_in found.items))
     (rw (c.as_slice-names.ensures.value, c.as_slice.ensures.value, c.in_ok-object.ensures.checked, c.in_ok-object.ensures.opening, c.in_ok-object.ensures.budget) at c.orders_found.ensures.orders)
+
+pub returns-clause-needed : goal.returns-clause-needed
+returns-clause-needed c =
+    IfOk-weaker c.orders_found.result _ _
+    (λ found. found_needed (program_in c.args.checked.now) c.args.text.now c.args.search.now.budget c.args.by c.args.search.now.most _ c.in_ok-read.ensures.history c.in_ok-read.ensures.alone
+    _ c.in_ok-opening.ensures.state _ c.budget_of-budget.ensures _ c.in_ok-read.ensures.apart _ c.in_ok-read.ensures.numbered refl _ c.in_ok-parts.ensures.parts (orders_in found.items))
+    (rw (c.as_slice-names.ensures.value, c.as_slice.ensures.value, c.in_ok-object.ensures.checked, c.in_ok-object.ensures.opening, c.in_ok-object.ensures.budget) at c.orders_found.ensures.orders)
+
+pub returns-clause-decided : goal.returns-clause-decided
+returns-clause-decided c =
+    λ enough. (rw (c.as_slice-names.ensures.value, c.as_slice.ensures.value) at c.orders_found.ensures.decided)
+    (found_enough (program_in c.args.checked.now) c.args.text.now c.args.search.now.budget c.args.by c.args.search.now.most _ c.in_ok-read.ensures.history c.in_ok-read.ensures.alone
+    _ c.in_ok-opening.ensures.state _ c.budget_of-budget.ensures _ c.in_ok-read.ensures.apart _ c.in_ok-read.ensures.numbered refl _ c.in_ok-parts.ensures.parts
+    (enough_here (program_in c.args.checked.now) c.args.text.now c.args.search.now.budget c.args.search.now.most _ c.in_ok-read.ensures.history c.in_ok-read.ensures.alone
+    _ _ refl c.in_ok-read.ensures.apart c.in_ok-read.ensures.begun enough))
 
 pub returns-clause-fault : goal.returns-clause-fault
 returns-clause-fault c =

@@ -1,5 +1,5 @@
 use Rattle.std.proofs.lemmas.Result.{err_from_is_err_and, IfErr-weaker, IfOk-weaker}
-use Rattle.ob_object_search_parts.proofs.Crossed.{none_by, orders_by, orders_in, text_lawful, told_of}
+use Rattle.ob_object_search_parts.proofs.Crossed.{enough_in, needed_by, none_by, orders_by, orders_in, text_lawful, told_of}
 use Rattle.ob_object_search_parts.specs.View.{orders_in as orders_of}
 use Rattle.ob_object_search_parts.proofs.searching.search_parts_text.Goals as goal
 
@@ -21,6 +21,17 @@ returns-clause-orders c =
     IfOk-weaker c.search_parts.result _ _
     (λ parts. orders_by c.args.module.now c.args.history.now c.args.search.now.budget c.args.by c.args.search.now.most _ c.in_ok-checked.ensures.program c.in_ok-checked.ensures.alone (orders_of parts.items))
     c.search_parts.ensures.orders
+
+pub returns-clause-needed : goal.returns-clause-needed
+returns-clause-needed c =
+    IfOk-weaker c.search_parts.result _ _
+    (λ parts. needed_by c.args.module.now c.args.history.now c.args.search.now.budget c.args.by c.args.search.now.most _ c.in_ok-checked.ensures.program c.in_ok-checked.ensures.alone (orders_of parts.items))
+    c.search_parts.ensures.needed
+
+pub returns-clause-decided : goal.returns-clause-decided
+returns-clause-decided c =
+    λ e. c.search_parts.ensures.decided
+    (enough_in c.args.module.now c.args.history.now c.args.search.now.budget c.args.by c.args.search.now.most _ c.in_ok-checked.ensures.program c.in_ok-checked.ensures.alone e)
 
 pub returns-clause-fault : goal.returns-clause-fault
 returns-clause-fault c =

@@ -5,7 +5,7 @@ use Rattle.ob_interface.specs.Call.{ObjectCall, Reply}
 use Rattle.ob_interface.specs.Processes.{most_processes}
 use Rattle.ob_object_order.specs.LegalOrder.{CallEnds}
 use Rattle.ob_object_record.specs.Record.{record_of}
-use Rattle.ob_object_search_record.proofs.Recorded.{enough_found, fault_found, lawful_found, legal_found, many_heard, recorded}
+use Rattle.ob_object_search_record.proofs.Recorded.{enough_found, fault_found, lawful_found, legal_found, many_heard, needed_found, recorded}
 use Rattle.ob_object_search_record.proofs.Recordings.{search_decided}
 use Rattle.ob_store.specs.View.{state_of}
 use Rattle.ob_text_history_reading.specs.Names.{named_all}
@@ -74,3 +74,6 @@ returns-clause-made c =
     (legal_found (program_in c.args.checked.now) c.args._text.now c.args.search.now.budget c.args.heard c.requires _ _ _ _
     (ap program_in c.in_ok-object.ensures.checked) c.in_ok-object.ensures.budget (ap state_of c.in_ok-object.ensures.opening) c.as_slice-names.ensures.value
     c.in_ok-history.history c.in_ok-order.order.items _ _ c.deref.ensures.value c.in_ok-state.ensures)
+    (needed_found (program_in c.args.checked.now) c.args._text.now c.args.search.now.budget c.args.heard c.requires _ _ _ _
+    (ap program_in c.in_ok-object.ensures.checked) c.in_ok-object.ensures.budget (ap state_of c.in_ok-object.ensures.opening) c.as_slice-names.ensures.value
+    c.in_ok-order.order.items c.in_ok-order.ensures.needed)

@@ -7,4 +7,4 @@ use Rattle.ob_text_picture_chart.proofs.charts.push_moment.Given as goal
 
 abbrev pub invariant-loop-id : goal.invariant-loop-id
 invariant-loop-id l =
-    map sight_of l.sights.items ≡ map sight_of l.fn.sights.items ++ chosen_at l.order l.chosen l.column (Takes (take l.id-index l.ids) l.maker)
+    map sight_of l.sights.items ≡ map sight_of l.fn.sights.items ++ chosen_at l.order.ids.now l.chosen.ids.now l.column (Takes (take l.id-index l.ids) l.maker)

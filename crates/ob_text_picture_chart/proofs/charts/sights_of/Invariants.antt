@@ -8,10 +8,10 @@ abbrev pub invariant-loop-moment : goal.invariant-loop-moment
 invariant-loop-moment l =
     record {
       sights :
-          map sight_of l.sights.items ++ sights_from l.order l.chosen (length l.times.items) (map moment_of (drop l.moment-index l.moments))
-          ≡ sights_from l.order l.chosen 0 (map moment_of l.moments);
+          map sight_of l.sights.items ++ sights_from l.order.ids.now l.chosen.ids.now (length l.times.items) (map moment_of (drop l.moment-index l.moments))
+          ≡ sights_from l.order.ids.now l.chosen.ids.now 0 (map moment_of l.moments);
       times :
-          l.times.items ++ times_from l.order l.chosen (length l.times.items) l.time (map moment_of (drop l.moment-index l.moments))
-          ≡ times_from l.order l.chosen 0 1 (map moment_of l.moments);
+          l.times.items ++ times_from l.order.ids.now l.chosen.ids.now (length l.times.items) l.time (map moment_of (drop l.moment-index l.moments))
+          ≡ times_from l.order.ids.now l.chosen.ids.now 0 1 (map moment_of l.moments);
       early : l.time ≤ l.moment-index + 1;
     }

@@ -9,7 +9,7 @@ abbrev pub invariant-loop-event : goal.invariant-loop-event
 invariant-loop-event l =
     record {
       moments :
-          map moment_of l.moments.items ++ placed_from l.order l.made (map event_of (drop l.event-index l.events))
-          ≡ placed_from l.order 0 (map event_of l.events);
-      made : l.made ≤ length l.order;
+          map moment_of l.moments.items ++ placed_from l.known.ids.now l.made (map event_of (drop l.event-index l.events))
+          ≡ placed_from l.known.ids.now 0 (map event_of l.events);
+      made : l.made ≤ length l.known.ids.now;
     }

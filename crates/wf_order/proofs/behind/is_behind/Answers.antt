@@ -11,7 +11,7 @@ pub returns-then-has_sooner : goal.returns-then-has_sooner
 returns-then-has_sooner g c = λ history at t.
     let here = found_in g.O.Object.meaning c.args.here.now.found.now in
     let process = c.args.process in
-    let are = subst (λ (xs : List ℕ). AreRows history (length xs) c.args.task.now.rows.now) (sym c.deref.ensures.value) at.0 in
-    let limit = subst (λ (xs : List ℕ). IsLimit history xs c.args.here.now.limit) (sym c.deref.ensures.value) at.1 in
+    let are = subst (λ (xs : List ℕ). AreRows history (length xs) c.args.task.now.rows.now) (sym c.deref.ensures) at.0 in
+    let limit = subst (λ (xs : List ℕ). IsLimit history xs c.args.here.now.limit) (sym c.deref.ensures) at.1 in
     process_behind (g.O.Object.effect c.args.task.now.object.now) history at.0.whole here process
-    (subst (λ (xs : List ℕ). HasSooner history xs (call_at process (get_or xs process 0))) c.deref.ensures.value (c.has_sooner.ensures history are limit c.if-has_sooner.true))
+    (subst (λ (xs : List ℕ). HasSooner history xs (call_at process (get_or xs process 0))) c.deref.ensures (c.has_sooner.ensures history are limit c.if-has_sooner.true))

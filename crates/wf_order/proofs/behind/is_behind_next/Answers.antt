@@ -20,8 +20,8 @@ returns g c = λ history at.
     let found = c.args.here.now.found.now in
     let here = found_in g.O.Object.meaning found in
     let effect = g.O.Object.effect c.args.task.now.object.now in
-    let own = taken_is c.deref.result.now found.counts.items process c.in-Some.place.now c.in-Some.ensures.lookup.0 c.in-Some.ensures.lookup.1 c.deref.ensures.value in
-    let others = taken_is c.deref-2.result.now found.counts.items other c.in-Some-get.other_place.now c.in-Some-get.ensures.lookup.0 c.in-Some-get.ensures.lookup.1 c.deref-2.ensures.value in
+    let own = taken_is c.deref.result.now found.counts.items process c.in-Some.place.now c.in-Some.ensures.lookup.0 c.in-Some.ensures.lookup.1 c.deref.ensures in
+    let others = taken_is c.deref-2.result.now found.counts.items other c.in-Some-get.other_place.now c.in-Some-get.ensures.lookup.0 c.in-Some-get.ensures.lookup.1 c.deref-2.ensures in
     let alike = subst (λ (k : ℕ). AreAlike history (call_at other k) (call_at process (get_or here.counts process 0))) others
     (subst (λ (k : ℕ). AreAlike history (call_at other c.in-Some-get.other_place.now) (call_at process k)) own (c.are_alike.ensures history (length here.counts) at.0 c.if-not-are_alike.false)) in
     let only = MatchOption-at_some (HasNoStep effect history here other) (λ to. IsOnlyStep effect history here other to.0 (found_in g.O.Object.meaning to.1)) c.in-Some-2._to c.in-Some-2.is (c.in_ok-_to.ensures.only history at) in

@@ -26,8 +26,8 @@ returns-then-not-branch-clause-arrival g c = λ history are.
     let there = c.args.there in
     let keys = c.args.seen.now.keys in
     let effect = g.O.Object.effect c.args.task.now.object.now in
-    let limit = subst (λ (xs : List ℕ). IsLimit history xs c.limit_of-limit.result) c.deref.ensures.value
-    (c.limit_of-limit.ensures history (subst (λ (xs : List ℕ). AreRows history (length xs) rows) (sym c.deref.ensures.value) are)) in
+    let limit = subst (λ (xs : List ℕ). IsLimit history xs c.limit_of-limit.result) c.deref.ensures
+    (c.limit_of-limit.ensures history (subst (λ (xs : List ℕ). AreRows history (length xs) rows) (sym c.deref.ensures) are)) in
     let few = c.if-limit-task.false in
     let size = are.events in
     let less : c.limit_of-limit.result < length history = omega (arith, few, size) in
@@ -47,8 +47,8 @@ returns-clause-arrival g c = λ history are.
     let there = c.args.there in
     let keys = c.args.seen.now.keys in
     let effect = g.O.Object.effect c.args.task.now.object.now in
-    let limit = subst (λ (xs : List ℕ). IsLimit history xs c.limit_of-limit.result) c.deref.ensures.value
-    (c.limit_of-limit.ensures history (subst (λ (xs : List ℕ). AreRows history (length xs) rows) (sym c.deref.ensures.value) are)) in
+    let limit = subst (λ (xs : List ℕ). IsLimit history xs c.limit_of-limit.result) c.deref.ensures
+    (c.limit_of-limit.ensures history (subst (λ (xs : List ℕ). AreRows history (length xs) rows) (sym c.deref.ensures) are)) in
     let few = c.if-limit-task.false in
     let size = are.events in
     let less : c.limit_of-limit.result < length history = omega (arith, few, size) in

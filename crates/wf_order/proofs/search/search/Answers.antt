@@ -92,7 +92,7 @@ returns-in-Some-2 g c =
     let start = start_at c.args.processes (g.O.Object.opening c.args.task.now.object.now) in
     let found = all_found g.O.Object.meaning c.loop-frame.seen in
     let h = subst (λ (l : List Frame). IsSearch effect history c.args.processes start found l) c.in-Some-pop.ensures.items c.loop-frame.invariant.0 in
-    MatchOption-at_some _ _ c.in-Some-2.order c.in-Some-2.is (c.in_ok-order-2.ensures.search history start c.requires h) (none_taken c.args.processes)
+    MatchOption-at_some _ _ c.in-Some-2.order c.in-Some-2.is (c.in_ok-order-2.ensures.search history c.args.processes start c.requires h) (none_taken c.args.processes)
 
 pub loop-frame-smaller : goal.loop-frame-smaller
 loop-frame-smaller g c =
@@ -103,7 +103,7 @@ loop-frame-smaller g c =
     let found = all_found g.O.Object.meaning c.loop-frame.seen in
     let more = all_found g.O.Object.meaning c.advance.new.seen in
     let h = subst (λ (l : List Frame). IsSearch effect history c.args.processes start found l) c.in-Some-pop.ensures.items c.loop-frame.invariant.0 in
-    let both = MatchOption-at_none _ _ c.in_default-2.is (c.in_ok-order-2.ensures.search history start c.requires h) in
+    let both = MatchOption-at_none _ _ c.in_default-2.is (c.in_ok-order-2.ensures.search history c.args.processes start c.requires h) in
     subst (λ (l : List Frame). work c.args.processes rows more c.advance.new.stack.items < work c.args.processes rows found l) (sym c.in-Some-pop.ensures.items) both.1
 
 pub loop-frame-preserved : goal.loop-frame-preserved
@@ -115,7 +115,7 @@ loop-frame-preserved g c =
     let found = all_found g.O.Object.meaning c.loop-frame.seen in
     let more = all_found g.O.Object.meaning c.advance.new.seen in
     let h = subst (λ (l : List Frame). IsSearch effect history c.args.processes start found l) c.in-Some-pop.ensures.items c.loop-frame.invariant.0 in
-    let both = MatchOption-at_none _ _ c.in_default-2.is (c.in_ok-order-2.ensures.search history start c.requires h) in
+    let both = MatchOption-at_none _ _ c.in_default-2.is (c.in_ok-order-2.ensures.search history c.args.processes start c.requires h) in
     let less = subst (λ (l : List Frame). work c.args.processes rows more c.advance.new.stack.items < work c.args.processes rows found l) (sym c.in-Some-pop.ensures.items) both.1 in
     let one = c.in_ok-order-2.ensures.one_more in
     let bound = c.loop-frame.invariant.2 in

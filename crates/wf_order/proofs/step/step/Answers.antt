@@ -1,12 +1,12 @@
 -- The rows show which call is next.
-use Rattle.std.proofs.Common.{◌≡◌, ap, sym, subst, ◌∙◌, ℕ, set, ◌+◌, ◌<◌, true, List, length, get_or, Option, option_map, Some, None}
+use Rattle.std.proofs.Common.{◌≡◌, ap, sym, subst, ◌∙◌, ℕ, set, ◌+◌, ◌<◌, true, List, length, get_or, Option, option_map, Some, None, refl}
 use Rattle.std.specs.Prelude.{nat_lt}
 use Rattle.std.proofs.lemmas.Bool.{ltb-true}
 use Rattle.std.proofs.lemmas.List.{get_or_read}
 use Rattle.wf_history.specs.declared.seen_event.SeenReply.{SeenReply}
 use Rattle.wf_history.specs.View.{seen_call, seen_reply}
 use Rattle.wf_order.specs.Search.{found_in, IsOutcome}
-use Rattle.wf_order.proofs.Stepping.{none_begun, none_before, none_agrees, only_step}
+use Rattle.wf_order.proofs.Stepping.{none_begun, none_before, none_agrees, only_as, only_step}
 use Rattle.wf_order.proofs.step.step.Goals as goal
 
 within_is : (xs ys : List ℕ) (p : ℕ) → true ≡ nat_lt p (length xs) → xs ≡ ys → p < length ys
@@ -19,7 +19,7 @@ pub returns-in_default-begun_at-clause-only : goal.returns-in_default-begun_at-c
 returns-in_default-begun_at-clause-only g c = λ history at.
     let process = c.args.process in
     let found = c.args.here.now.found.now in
-    let is = taken_is c.deref.result.now found.counts.items process c.in-Some.taken.now c.in-Some.ensures.lookup.0 c.in-Some.ensures.lookup.1 c.deref.ensures.value in
+    let is = taken_is c.deref.result.now found.counts.items process c.in-Some.taken.now c.in-Some.ensures.lookup.0 c.in-Some.ensures.lookup.1 c.deref.ensures in
     none_begun (g.O.Object.effect c.args.task.now.object.now) (λ call. g.met.O.Object.determined c.args.task.now.object.now call) history c.args.task.now.rows.now
     (found_in g.O.Object.meaning found) at.0 c.args.here.now.limit at.1 process c.in-Some.taken.now is (sym c.begun_at.ensures.item ∙ c.in_default-begun_at.is)
 
@@ -27,7 +27,7 @@ pub returns-then-begun-here-clause-only : goal.returns-then-begun-here-clause-on
 returns-then-begun-here-clause-only g c = λ history at.
     let process = c.args.process in
     let found = c.args.here.now.found.now in
-    let is = taken_is c.deref.result.now found.counts.items process c.in-Some.taken.now c.in-Some.ensures.lookup.0 c.in-Some.ensures.lookup.1 c.deref.ensures.value in
+    let is = taken_is c.deref.result.now found.counts.items process c.in-Some.taken.now c.in-Some.ensures.lookup.0 c.in-Some.ensures.lookup.1 c.deref.ensures in
     none_before (g.O.Object.effect c.args.task.now.object.now) (λ call. g.met.O.Object.determined c.args.task.now.object.now call) history c.args.task.now.rows.now
     (found_in g.O.Object.meaning found) at.0 c.args.here.now.limit at.1 process c.in-Some.taken.now is c.in-Some-begun_at.begun (sym c.begun_at.ensures.item ∙ c.in-Some-begun_at.is) c.if-begun-here.true
 
@@ -38,7 +38,7 @@ returns-in_default-2-clause-only g c = λ history at.
     let here = found_in g.O.Object.meaning found in
     let begun = c.in-Some-begun_at.begun in
     let effect = g.O.Object.effect c.args.task.now.object.now in
-    let is = taken_is c.deref.result.now found.counts.items process c.in-Some.taken.now c.in-Some.ensures.lookup.0 c.in-Some.ensures.lookup.1 c.deref.ensures.value in
+    let is = taken_is c.deref.result.now found.counts.items process c.in-Some.taken.now c.in-Some.ensures.lookup.0 c.in-Some.ensures.lookup.1 c.deref.ensures in
     let outcome = subst (λ (o : Option g.row.O-State.Denot). IsOutcome (effect (seen_call begun.call)) here.state (option_map seen_reply c.reply_at-known.result) (option_map g.O.Object.meaning o)) c.in_default-2.is c.in_ok-state.ensures in
     let known = subst (λ (o : Option SeenReply). IsOutcome (effect (seen_call begun.call)) here.state (option_map seen_reply o) None) c.reply_at-known.ensures outcome in
     none_agrees effect (λ call. g.met.O.Object.determined c.args.task.now.object.now call) history c.args.task.now.rows.now here at.0 c.args.here.now.limit at.1 process c.in-Some.taken.now is begun (sym c.begun_at.ensures.item ∙ c.in-Some-begun_at.is) known
@@ -51,9 +51,10 @@ returns-clause-only g c = λ history at.
     let begun = c.in-Some-begun_at.begun in
     let effect = g.O.Object.effect c.args.task.now.object.now in
     let after = g.O.Object.meaning c.in-Some-2.state in
-    let is = taken_is c.deref.result.now found.counts.items process c.in-Some.taken.now c.in-Some.ensures.lookup.0 c.in-Some.ensures.lookup.1 c.deref.ensures.value in
-    let within = within_is c.deref.result.now found.counts.items process c.in-Some.ensures.lookup.0 c.deref.ensures.value in
+    let is = taken_is c.deref.result.now found.counts.items process c.in-Some.taken.now c.in-Some.ensures.lookup.0 c.in-Some.ensures.lookup.1 c.deref.ensures in
+    let within = within_is c.deref.result.now found.counts.items process c.in-Some.ensures.lookup.0 c.deref.ensures in
     let outcome = subst (λ (o : Option g.row.O-State.Denot). IsOutcome (effect (seen_call begun.call)) here.state (option_map seen_reply c.reply_at-known.result) (option_map g.O.Object.meaning o)) c.in-Some-2.is c.in_ok-state.ensures in
     let known = subst (λ (o : Option SeenReply). IsOutcome (effect (seen_call begun.call)) here.state (option_map seen_reply o) (Some after)) c.reply_at-known.ensures outcome in
-    only_step effect (λ call. g.met.O.Object.determined c.args.task.now.object.now call) history c.args.task.now.rows.now here at.0 c.args.here.now.limit at.1 process c.in-Some.taken.now is begun (sym c.begun_at.ensures.item ∙ c.in-Some-begun_at.is)
-    after _ within c.if-begun-here.false (ap (λ (l : List ℕ). set l process (c.in-Some.taken.now + 1)) (c.in_ok-counts.ensures.items ∙ c.as_slice.ensures.value)) known
+    let only = only_step effect (λ call. g.met.O.Object.determined c.args.task.now.object.now call) history c.args.task.now.rows.now here at.0 c.args.here.now.limit at.1 process c.in-Some.taken.now is begun (sym c.begun_at.ensures.item ∙ c.in-Some-begun_at.is)
+    after (set here.counts process (c.in-Some.taken.now + 1)) within c.if-begun-here.false refl known in
+    only_as effect history here process c.in-Some.taken.now after c.in_ok-to.to.0 (found_in g.O.Object.meaning c.in_ok-to.to.1) is c.in_ok-to.ensures.id c.in_ok-to.ensures.found only

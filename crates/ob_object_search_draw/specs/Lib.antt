@@ -1,0 +1,4 @@
+pub mod Parts
+pub mod HistoryPictures
+pub mod DrawHistoryFaults
+pub mod Forms

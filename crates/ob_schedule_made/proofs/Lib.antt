@@ -1,0 +1,4 @@
+pub mod ItemWords
+pub mod Numbers
+pub mod Chosen
+pub mod Answering

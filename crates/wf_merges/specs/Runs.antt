@@ -1,0 +1,22 @@
+-- Runs of scripts, and what their legal orders are.
+use Rattle.std.specs.Prelude.{◌≡◌, ℕ, ◌+◌, ◌-◌, ◌<◌, List, [], get_or, slice_get, Some, Contains}
+use Rattle.wf_history.specs.declared.event.CallId.{CallId}
+use Rattle.wf_history.specs.History.{Event, End, IsHistory}
+use Rattle.wf_history.specs.Legal.{HasBegun, IsLegal}
+use Rattle.wf_outcomes.specs.Merges.{Leads, start, full, IsPossible}
+
+-- Each call that begins is the one that the script of its process has under its number, and each call of the scripts ends.
+pub record IsRunOfScripts {Call Reply : Type 0} (scripts : List (List Call)) (history : List (Event Call Reply)) : Type 0 where
+  pub whole : IsHistory history
+  pub begins : (id : CallId) (call : Call) → HasBegun history id call → (0 < id.number) × (slice_get (get_or scripts id.process []) (id.number - 1) ≡ Some call)
+  pub ends : (process k : ℕ) (call : Call) → slice_get (get_or scripts process []) k ≡ Some call → (reply : Reply) × Contains history (End (record { process = process; number = k + 1 }) reply)
+
+module _ {State Call Reply : Type 0} (Effect : Call → State → State → Reply → Type 0) (scripts : List (List Call)) (opening : State) where
+  -- these calls are a merge of all calls, which leads to this state; and each reply of the history is one that its call may have
+  pub record IsMerge (history : List (Event Call Reply)) (order : List CallId) (last : State) : Type 0 where
+    pub leads : Leads Effect scripts (start Effect scripts opening) order (full Effect scripts last)
+    pub replies : (id : CallId) (reply : Reply) → Contains history (End id reply) → IsPossible Effect scripts opening id reply
+
+  abbrev pub LegalOrdersAreMerges : Type 0
+  LegalOrdersAreMerges =
+      (history : List (Event Call Reply)) (order : List CallId) (last : State) → IsRunOfScripts scripts history → IsLegal Effect opening history order last → IsMerge history order last

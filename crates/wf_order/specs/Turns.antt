@@ -1,0 +1,47 @@
+-- Which calls are tried next.
+use Rattle.std.specs.Prelude.{◌≡◌, ℕ, ◌+◌, ◌-◌, ◌<◌, ◌≤◌, List, [], ◌∷◌, length, get_or, slice_get, Option, Some, None, ◌⊎◌}
+use Rattle.wf_history.specs.declared.event.CallId.{CallId}
+use Rattle.wf_history.specs.History.{Event, Begin}
+use Rattle.wf_order.specs.declared.rows.Begun.{Begun}
+use Rattle.wf_order.specs.declared.rows.Rows.{Rows}
+use Rattle.wf_order.specs.declared.turn.Turn.{Turn}
+use Rattle.wf_order.specs.Rows.{begun_rows, row_of}
+
+-- the call begins at this place or behind it
+pub record BeginsFrom {Call Reply : Type 0} (history : List (Event Call Reply)) (from : ℕ) (id : CallId) : Type 0 where
+  pub call : Call
+  pub place : ℕ
+  pub at : slice_get history place ≡ Some (Begin id call)
+  pub behind : from ≤ place
+
+-- the next call of a process, where so many are taken
+abbrev pub IsNext : Rows → List ℕ → ℕ → Begun → Type 0
+IsNext rows counts process begun = slice_get (row_of (begun_rows rows) process) (get_or counts process 0) ≡ Some begun
+
+-- Of the next calls of the first processes that begin at a place or behind it, and before the limit, this one begins first;
+-- where there is none, its place is the limit.
+pub record IsFirstOf (rows : Rows) (counts : List ℕ) (processes from limit : ℕ) (turn : Turn) : Type 0 where
+  pub within : turn.place ≤ limit
+  pub least : (process : ℕ) (begun : Begun) → process < processes → IsNext rows counts process begun → from ≤ begun.place → turn.place ≤ begun.place
+  pub own : turn.place < limit → (begun : Begun) × (turn.process < processes) × IsNext rows counts turn.process begun × (begun.place ≡ turn.place) × (from ≤ turn.place)
+
+-- the same of all processes
+abbrev pub IsFirstTurn : Rows → List ℕ → ℕ → ℕ → Turn → Type 0
+IsFirstTurn rows counts from limit turn = IsFirstOf rows counts (length counts) from limit turn
+
+-- a process's call begins at a place or behind it, and sooner than the turn, and is what there is then; else it is the turn
+abbrev pub IsSooner : Turn → ℕ → ℕ → Begun → Turn → Type 0
+IsSooner turn from process begun new =
+    ((new ≡ turn) × (from ≤ begun.place → turn.place ≤ begun.place))
+    ⊎ ((new ≡ record { process = process; place = begun.place }) × (from ≤ begun.place) × (begun.place < turn.place))
+
+-- one where a call begins at a place or behind it, and else none
+abbrev pub one_from : ℕ → Option Begun → ℕ
+one_from from None = 0
+one_from from (Some begun) = 1 - (from - begun.place)
+
+-- how many of the next calls begin at a place or behind it, where so many are taken
+abbrev pub turns : ℕ → List (List Begun) → List ℕ → ℕ
+turns from [] counts = 0
+turns from (row ∷ rows) [] = one_from from (slice_get row 0) + turns from rows []
+turns from (row ∷ rows) (count ∷ counts) = one_from from (slice_get row count) + turns from rows counts

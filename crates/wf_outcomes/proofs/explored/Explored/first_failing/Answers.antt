@@ -1,0 +1,35 @@
+-- What holds of each place so far.
+use Rattle.std.proofs.Common.{ap, ◌∙◌, option_map, arith}
+use Rattle.std.proofs.lemmas.List.{length-map}
+use Rattle.std.proofs.lemmas.Option.{slice_get-map}
+use Rattle.wf_history.specs.View.{kept_call, kept_reply}
+use Rattle.wf_outcomes.specs.Explored.{kept_in, all_kept}
+use Rattle.wf_outcomes.specs.Outcomes.{Answers}
+use Rattle.wf_outcomes.proofs.Backward.{good_more}
+use Rattle.wf_outcomes.proofs.explored.Explored.first_failing.Goals as goal
+
+pub returns-then-not-branch : goal.returns-then-not-branch
+returns-then-not-branch g c =
+    let view = kept_in g.O.Object.meaning in
+    let at = slice_get-map view c.args.self.now.seen.keys c.loop-place.place ∙ ap (option_map view) c.index.ensures in (
+      view c.index.result.now,
+      at,
+      (λ good. let t = c.in_ok-answers.ensures.1 good in let f = c.if-not-branch.true in absurd (cc)),
+      c.loop-place.invariant,
+    )
+
+pub loop-place-preserved : goal.loop-place-preserved
+loop-place-preserved g c =
+    let view = kept_in g.O.Object.meaning in
+    let self = c.args.self.now in
+    let question = c.args.question in
+    let at = slice_get-map view self.seen.keys c.loop-place.place ∙ ap (option_map view) c.index.ensures in
+    good_more (Answers (g.O.Object.effect self.object.now) (kept_call question.call.now) (kept_reply question.wanted.now)) (all_kept g.O.Object.meaning self.seen) c.loop-place.place c.loop-place.invariant
+    (view c.index.result.now) at (c.in_ok-answers.ensures.0 c.if-not-branch.false)
+
+pub returns : goal.returns
+returns g c = λ k e lt there.
+    let size = length-map c.args.self.now.seen.keys (kept_in g.O.Object.meaning) in
+    let all = c.len-place-end.ensures.len in
+    let end = c.loop-place-test.false in
+    c.loop-place.invariant k e (omega (arith, lt, size, all, end)) there

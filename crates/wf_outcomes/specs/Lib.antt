@@ -1,0 +1,5 @@
+pub mod Explored
+pub mod Merges
+pub mod Outcomes
+pub mod Possible
+pub mod Whole

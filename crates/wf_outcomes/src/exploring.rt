@@ -1,0 +1,174 @@
+//! The exploration.
+
+ghost use Rattle.std.specs.Prelude.{◌≡◌, ◌<◌, ◌≤◌, ◌+◌, length, replicate, IfOk, IsErrOf};
+ghost use Rattle.indexmap.specs.IndexSet.{index_set_len};
+ghost use Rattle.wf_outcomes.specs.Explored.{all_kept, kept_in, calls_in, AreWorded, IsWorded, IsArrival, IsExploring, HasMore};
+ghost use Rattle.wf_outcomes.specs.Merges.{start};
+
+use crate::explored::Explored;
+use crate::seen::{Found, Seen};
+use crate::step::{Task, step};
+use ob_interface::NoMemory;
+use std::alloc::Global;
+use std::hash::RandomState;
+use thiserror::Error;
+use wf_history::KeptCall;
+use wf_order::Object;
+
+/// Why an exploration gives up.
+#[derive(Clone, Copy, Debug, Error)]
+pub enum ExploreFault {
+    /// There are more configurations than were allowed.
+    #[error("too many configurations")]
+    TooMany,
+    /// A growth was refused.
+    #[error("NoMemory")]
+    NoMemory,
+}
+
+impl From<NoMemory> for ExploreFault {
+    ghost use Rattle.std.specs.Prelude.{◌≡◌};
+    ghost use Rattle.wf_outcomes.specs.declared.exploring.ExploreFault.TheVariants as Faults;
+
+    ghost from_gives = { λ _ e. e ≡ Faults.NoMemory };
+
+    fn from(_: NoMemory) -> ExploreFault {
+        ExploreFault::NoMemory
+    }
+}
+
+/// One more is found, unless it was found before.
+fn arrive<O: Object>(
+    _object: &O,
+    seen: &mut Seen<O::State>,
+    there: Found<O::State>,
+) -> Result<(), NoMemory>
+    requires worded { AreWorded O.meaning O.words_of seen.old }
+    requires words { IsWorded O.meaning O.words_of there }
+    ensures grown { IfOk result (λ _. index_set_len seen.old ≤ index_set_len seen.new) }
+    ensures found { IfOk result (λ _. IsArrival (all_kept O.meaning seen.old) (all_kept O.meaning seen.new) (kept_in O.meaning there)) }
+    ensures worded { IfOk result (λ _. AreWorded O.meaning O.words_of seen.new) }
+{
+    let _is_new = seen.insert(there)?;
+    Ok(())
+}
+
+/// Tries the next call of a process at a place.
+fn advance<O: Object>(
+    task: &Task<O>,
+    seen: &mut Seen<O::State>,
+    place: usize,
+    process: usize,
+) -> Result<(), NoMemory>
+    requires place { place < index_set_len seen.old }
+    requires process { process < length task.now.scripts.now }
+    requires worded { AreWorded O.meaning O.words_of seen.old }
+    requires exploring { IsExploring (O.effect task.now.object.now) (calls_in task.now.scripts.now) (O.opening task.now.object.now) (all_kept O.meaning seen.old) place process }
+    ensures worded { IfOk result (λ _. AreWorded O.meaning O.words_of seen.new) }
+    ensures grown { IfOk result (λ _. index_set_len seen.old ≤ index_set_len seen.new) }
+    ensures exploring { IfOk result (λ _. IsExploring (O.effect task.now.object.now) (calls_in task.now.scripts.now) (O.opening task.now.object.now)
+        (all_kept O.meaning seen.new) place (process + 1)) }
+{
+    match step(task, &seen[place], place, process)? {
+        None => Ok(()),
+        Some(there) => arrive(task.object, seen, there),
+    }
+}
+
+/// Tries the next call of each process at a place.
+fn expand<O: Object>(
+    task: &Task<O>,
+    seen: &mut Seen<O::State>,
+    place: usize,
+) -> Result<(), NoMemory>
+    requires place { place < index_set_len seen.old }
+    requires worded { AreWorded O.meaning O.words_of seen.old }
+    requires exploring { IsExploring (O.effect task.now.object.now) (calls_in task.now.scripts.now) (O.opening task.now.object.now) (all_kept O.meaning seen.old) place 0 }
+    ensures worded { IfOk result (λ _. AreWorded O.meaning O.words_of seen.new) }
+    ensures exploring { IfOk result (λ _. IsExploring (O.effect task.now.object.now) (calls_in task.now.scripts.now) (O.opening task.now.object.now)
+        (all_kept O.meaning seen.new) (place + 1) 0) }
+{
+    for process in 0..task.scripts.len() {
+        advance(task, seen, place, process)?;
+    }
+    Ok(())
+}
+
+/// No call of any process.
+fn no_calls(alloc: Global, processes: usize) -> Result<Vec<usize>, NoMemory>
+    ensures { IfOk result (λ counts. counts.items ≡ replicate processes 0) }
+{
+    Ok(vec![in alloc; 0; processes]?)
+}
+
+/// The configuration in which no call is made.
+fn start_of<O: Object>(task: &Task<O>) -> Result<Found<O::State>, NoMemory>
+    ensures start { IfOk result (λ first. (kept_in O.meaning first).here ≡ start (O.effect task.now.object.now) (calls_in task.now.scripts.now) (O.opening task.now.object.now)) }
+    ensures words { IfOk result (IsWorded O.meaning O.words_of) }
+{
+    let alloc = task.alloc;
+    let counts = no_calls(alloc, task.scripts.len())?;
+    let state = task.object.open(alloc)?;
+    let words = task.object.words(alloc, &state)?;
+    let (from, by) = (0, 0);
+    Ok(Found {
+        counts,
+        words,
+        state,
+        from,
+        by,
+    })
+}
+
+/// The start alone is found.
+fn begin<O: Object>(task: &Task<O>, keys: RandomState) -> Result<Seen<O::State>, NoMemory>
+    ensures worded { IfOk result (AreWorded O.meaning O.words_of) }
+    ensures one { IfOk result (λ seen. index_set_len seen ≡ 1) }
+    ensures exploring { IfOk result (λ seen. IsExploring (O.effect task.now.object.now) (calls_in task.now.scripts.now) (O.opening task.now.object.now) (all_kept O.meaning seen) 0 0) }
+{
+    let mut seen = Seen::with_hasher(task.alloc, keys);
+    let first = start_of(task)?;
+    arrive(task.object, &mut seen, first)?;
+    Ok(seen)
+}
+
+/// All configurations that the merges of these scripts can reach on an object, where there are at most so many. The keys
+/// are those of the table of what was found.
+pub fn explore<'a, O: Object>(
+    alloc: Global,
+    object: &'a O,
+    scripts: &'a [Vec<KeptCall>],
+    most: usize,
+    keys: RandomState,
+) -> Result<Explored<'a, O>, ExploreFault>
+    // What is found is of these scripts and this object: see the invariant of `Explored`.
+    ensures object { IfOk result (λ explored. explored.object.now ≡ object.now) }
+    ensures scripts { IfOk result (λ explored. explored.scripts.now ≡ scripts.now) }
+    // No more than that many were asked for.
+    ensures few { IfOk result (λ explored. length (all_kept O.meaning explored.seen) ≤ most) }
+    // It gives up only where more can be reached.
+    ensures most { IsErrOf result ExploreFault.TooMany → HasMore (O.effect object.now) (calls_in scripts.now) (O.opening object.now) most }
+{
+    let task = Task {
+        alloc,
+        object,
+        scripts,
+    };
+    let mut seen = begin(&task, keys)?;
+    if most == 0 {
+        return Err(ExploreFault::TooMany);
+    }
+    let mut place = 0;
+    while place < seen.len() {
+        expand(&task, &mut seen, place)?;
+        if seen.len() > most {
+            return Err(ExploreFault::TooMany);
+        }
+        place += 1;
+    }
+    Ok(Explored {
+        object,
+        scripts,
+        seen,
+    })
+}

@@ -1,0 +1,89 @@
+//! Steps from a configuration.
+
+ghost use Rattle.std.specs.Prelude.{◌≡◌, ◌<◌, ◌+◌, [], length, get_or, slice_get, slice_set, option_map, IfOk, IfSome, MatchOption, IsTrue, ◌↔◌};
+ghost use Rattle.std.specs.Option.{option_copied};
+ghost use Rattle.ob_interface.specs.View.{reply_of};
+ghost use Rattle.wf_history.specs.View.{kept_call};
+ghost use Rattle.wf_outcomes.specs.Explored.{kept_in, calls_in, HasNoStep, IsOnlyStep, IsWorded};
+
+use crate::seen::Found;
+use ob_interface::NoMemory;
+use ob_interface::call::Reply;
+use std::alloc::Global;
+use wf_history::{KeptCall, SeenCall};
+use wf_order::Object;
+
+/// What is explored: the calls of each process, on an object.
+#[derive_where(Clone, Copy)]
+pub(crate) struct Task<'a, O> {
+    pub alloc: Global,
+    pub object: &'a O,
+    pub scripts: &'a [Vec<KeptCall>],
+}
+
+/// What a call makes of a state, and what it answers.
+pub(crate) fn applied<O: Object>(
+    alloc: Global,
+    object: &O,
+    state: &O::State,
+    call: &KeptCall,
+) -> Result<(O::State, Reply), NoMemory>
+    ensures { IfOk result (λ made. O.effect object.now (kept_call call.now) (O.meaning state.now) (O.meaning made.0) (reply_of made.1)) }
+{
+    let seen = SeenCall {
+        proc: call.proc,
+        args: &call.args,
+    };
+    object.apply(alloc, state, seen)
+}
+
+/// The next call of a process, if it has one.
+pub(crate) fn next_call<'a>(
+    scripts: &'a [Vec<KeptCall>],
+    counts: &[usize],
+    process: usize,
+) -> Option<&'a KeptCall>
+    ensures { process < length counts.now → option_map kept_call (option_copied result) ≡ slice_get (get_or (calls_in scripts.now) process []) (get_or counts.now process 0) }
+{
+    scripts.get(process)?.get(*counts.get(process)?)
+}
+
+/// The counts with one call more of a process.
+fn one_more(alloc: Global, counts: &[usize], process: usize) -> Result<Vec<usize>, NoMemory>
+    requires { process < length counts.now }
+    ensures { IfOk result (λ more. more.items ≡ slice_set counts.now process (get_or counts.now process 0 + 1)) }
+{
+    let mut more = Vec::from_slice(alloc, counts)?;
+    more[process] = more[process].checked_add(1).ok_or(NoMemory)?;
+    Ok(more)
+}
+
+/// What the next call of a process leads to from the configuration at a place, if it has one.
+pub(crate) fn step<O: Object>(
+    task: &Task<O>,
+    here: &Found<O::State>,
+    place: usize,
+    process: usize,
+) -> Result<Option<Found<O::State>>, NoMemory>
+    requires { process < length here.now.counts.items }
+    ensures only { IfOk result (λ stepped. MatchOption stepped (HasNoStep (O.effect task.now.object.now) (calls_in task.now.scripts.now) (kept_in O.meaning here.now).here process)
+        (λ to. IsOnlyStep (O.effect task.now.object.now) (calls_in task.now.scripts.now) (kept_in O.meaning here.now).here process (kept_in O.meaning to).here)) }
+    ensures origin { IfOk result (λ stepped. IfSome stepped (λ to. (to.from ≡ place) × (to.by ≡ process))) }
+    ensures words { IfOk result (λ stepped. IfSome stepped (IsWorded O.meaning O.words_of)) }
+{
+    let alloc = task.alloc;
+    let Some(call) = next_call(task.scripts, &here.counts, process) else {
+        return Ok(None);
+    };
+    let (state, _) = applied(alloc, task.object, &here.state, call)?;
+    let words = task.object.words(alloc, &state)?;
+    let counts = one_more(alloc, &here.counts, process)?;
+    let (from, by) = (place, process);
+    Ok(Some(Found {
+        counts,
+        words,
+        state,
+        from,
+        by,
+    }))
+}

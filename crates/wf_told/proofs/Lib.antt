@@ -1,0 +1,4 @@
+pub mod Calling
+pub mod Lists
+pub mod Matching
+pub mod Telling
