@@ -6,6 +6,7 @@ mod Results
 mod QuietSteps
 mod Spends
 mod Keeps
+mod Halting
 mod InARow
 mod InBody
 mod Staying

@@ -306,6 +306,23 @@ impl<E: Engine> Machine<E> {
         count
     }
 
+    /// Steps of the process where it is halted, each as `advance` takes it, and how many they are: at most so many, and none where the
+    /// last turn was another process's. They take no memory, nor time by their number: nothing changes but the schedule.
+    pub fn rest(&mut self, p: usize, most: u64) -> u64
+        requires { p < self.old.sizes.processes }
+        ensures stepped { self.new ≡ object_after (E.meaning self.old.engine) p result self.old }
+        ensures few { result ≤ most }
+        ensures halted { 0 < result → is_halted self.old.state p ≡ true }
+        ensures turns { steps_of self.new.state.records.schedule ≡ steps_of self.old.state.records.schedule ++ replicate result p }
+    {
+        if !self.is_halted(p) {
+            return 0;
+        }
+        let count = self.records.room(p, most);
+        self.records.count_more(p, count);
+        count
+    }
+
     /// Nothing happens: what the machine keeps, for those who hold one.
     pub fn keeps(&self)
         ensures sound { IsSound (E.meaning self.now.engine) (E.lawful self.now.engine) (E.fits self.now.engine) (E.ready self.now.engine) self.now.sizes self.now.opening self.now.state }

@@ -4,7 +4,7 @@ ghost use Rattle.std.specs.Prelude.{◌≡◌, ◌≢◌, ◌<◌, ◌≤◌, []
 ghost use Rattle.ob_schedule.specs.Schedule.{process_of};
 ghost use Rattle.ob_schedule.specs.declared.item.Item.TheVariants as Items;
 ghost use Rattle.wf_object.specs.Halted.{is_halted};
-ghost use Rattle.wf_object.specs.InARow.{AreInBody, after_steps, stepped};
+ghost use Rattle.wf_object.specs.InARow.{AreInBody, after_steps, object_after, stepped};
 ghost use Rattle.wf_play.specs.ItemSteps.{IsItemPlayed};
 ghost use Rattle.wf_play.specs.Played.{IsSameObject};
 ghost use Rattle.wf_table.specs.declared.process.Label.TheVariants as Labels;
@@ -50,9 +50,23 @@ fn step_times<E: Engine>(
     while taken < count {
         step_once(machine, p)?;
         taken += 1;
-        taken += machine.go_on(p, count - taken);
+        taken += go_far(machine, p, count - taken);
     }
     Ok(true)
+}
+
+/// Steps of the process that show nothing, or of a process that is halted; at most so many, and how many they are.
+#[inline(always)]
+fn go_far<E: Engine>(machine: &mut Machine<E>, p: usize, most: u64) -> u64
+    requires { p < machine.old.sizes.processes }
+    ensures stepped { machine.new ≡ object_after (E.meaning machine.old.engine) p result machine.old }
+    ensures few { result ≤ most }
+    ensures turns { steps_of machine.new.state.records.schedule ≡ steps_of machine.old.state.records.schedule ++ replicate result p }
+{
+    if machine.is_halted(p) {
+        return machine.rest(p, most);
+    }
+    machine.go_on(p, most)
 }
 
 /// Steps of the process until it stands at the label, or is halted.
