@@ -39,4 +39,4 @@ returns-clause-alone c =
     let same : map (λ w. w.now) c.deref-word-items.result.now ≡ item_words c.args.text.now =
     ap (map (λ w. w.now)) c.deref-word-items.ensures.value ∙ c.in_ok-words.ensures in
     λ others h. one_schedule c.args.processes h
-        (all_items c.args.processes c.args.text.now c.deref-word-items.result.now same c.loop-index.index _ c.loop-index-test.false c.loop-index.invariant)
+    (all_items c.args.processes c.args.text.now c.deref-word-items.result.now same c.loop-index.index _ c.loop-index-test.false c.loop-index.invariant)
