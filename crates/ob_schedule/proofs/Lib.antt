@@ -1,3 +1,4 @@
 pub mod Labels
 pub mod ItemReading
+pub mod LineItems
 pub mod ScheduleReading

@@ -1,9 +1,7 @@
 -- Schedules read word by word.
-use Rattle.std.proofs.Common.{◌≡◌, ℕ, ◌+◌, ◌-◌, ◌<◌, ◌≤◌, zero, suc, List, [], ◌∷◌, ◌++◌, length, take, get_or, refl, sym, ◌∙◌, ap, subst, zero-add, arith}
-use Rattle.std.proofs.lemmas.List.{take_more}
-use Rattle.std.proofs.lemmas.List.FromFn.{get_or-enumerate_from, length-enumerate_from}
+use Rattle.std.proofs.Common.{◌≡◌, ℕ, ◌+◌, ◌-◌, ◌<◌, ◌≤◌, zero, suc, Bor, List, [], ◌∷◌, ◌++◌, length, map, take, get_or, refl, sym, ◌∙◌, ap, subst, arith}
+use Rattle.std.proofs.lemmas.List.{get_or-map, length-map, take_all, take_more}
 use Rattle.std.proofs.lemmas.Option.{slice_get_read}
-use Rattle.std.specs.List.{enumerate_from}
 use Rattle.ob_text_words.specs.Words.{Word}
 use Rattle.ob_schedule.specs.Schedule.{AreItems, FailsAtItem, HasNoForm, HasNoProcess, IsItem, IsScheduleFault, item_words, more, none, process_of}
 use Rattle.ob_schedule.specs.declared.item.Item.{Item}
@@ -65,10 +63,32 @@ module _ (processes : ℕ) where
       let rest = one_schedule h k in
       cc
 
--- what a turn of the loop over numbered words has read
-pub word_at : (ws : List Word) (n i : ℕ) (word : Word) → n < length (enumerate_from 0 ws) → (i, word) ≡ get_or (enumerate_from 0 ws) n (i, word) →
-    (n < length ws) × (i ≡ n) × (word ≡ get_or ws n word)
-word_at ws n i word below at =
-    let within : n < length ws = rw length-enumerate_from at below in
-    let e : (i, word) ≡ (0 + n, get_or ws n word) = at ∙ get_or-enumerate_from 0 ws n (i, word) within in
-    (within, ap (λ p. p.0) e ∙ zero-add n, ap (λ p. p.1) e)
+  -- words that are read in place
+  module _ (text : List ℕ) (ws : List (Bor Word)) (same : map (λ w. w.now) ws ≡ item_words text) where
+    module _ (i : ℕ) (word d : Bor Word) (within : i < length ws) (at : word ≡ get_or ws i d) where
+      within_text : i < length (item_words text)
+      within_text = rw (← same, length-map) within
+
+      at_text : word.now ≡ get_or (item_words text) i word.now
+      at_text = ap (λ (w : Bor Word). w.now) at ∙ sym (get_or-map (λ (w : Bor Word). w.now) ws i d word.now within) ∙ ap (λ (us : List Word). get_or us i word.now) same
+
+      module _ (items : List Item) (so_far : AreItems processes (take i (map (λ w. w.now) ws)) items) where
+        so_far_text : AreItems processes (take i (item_words text)) items
+        so_far_text = subst (λ (us : List Word). AreItems processes (take i us) items) same so_far
+
+        pub no_form_at : ((item : Item) → IsItem word.now item → ⊥) → IsScheduleFault processes text (Faults.Form (i + 1))
+        no_form_at misfit = no_form_here text i word.now items within_text at_text so_far_text (i + 1) refl misfit
+
+        pub no_process_at : (item : Item) → IsItem word.now item → processes ≤ process_of item → IsScheduleFault processes text (Faults.Process (i + 1))
+        no_process_at item says past = no_process_here text i word.now items within_text at_text so_far_text (i + 1) refl item says past
+
+        pub item_more_at : (item : Item) → IsItem word.now item → process_of item < processes
+            → AreItems processes (take (i + 1) (map (λ w. w.now) ws)) (items ++ item ∷ [])
+        item_more_at item says below =
+            subst (λ (us : List Word). AreItems processes (take (i + 1) us) (items ++ item ∷ [])) (sym same)
+            (AreItems-more (item_words text) i word.now items item within_text at_text says below so_far_text)
+
+    pub all_items : (n : ℕ) (items : List Item) → length ws ≤ n → AreItems processes (take n (map (λ w. w.now) ws)) items → AreItems processes (item_words text) items
+    all_items n items past so_far =
+        subst (λ (us : List Word). AreItems processes us items)
+        (take_all n (map (λ (w : Bor Word). w.now) ws) (omega (arith, past, length-map ws (λ (w : Bor Word). w.now))) ∙ same) so_far

@@ -1,7 +1,6 @@
 -- Schedules: what each word says, of steps of so many processes.
-use Rattle.std.specs.Prelude.{◌≡◌, ℕ, ◌-◌, ◌<◌, ◌≤◌, ◌==◌, ◌||◌, not, Bool, List, [], ◌∷◌, ◌++◌, length, filter, take, slice_get, Some}
-use Rattle.std.specs.List.{slice_split}
-use Rattle.ob_text_words.specs.Words.{Word, IsDigits, IsProcess, is_blank}
+use Rattle.std.specs.Prelude.{◌≡◌, ℕ, ◌-◌, ◌<◌, ◌≤◌, ◌==◌, Bool, false, List, [], ◌∷◌, ◌++◌, flat_map, take, slice_get, Some, if◌then◌else◌}
+use Rattle.ob_text_words.specs.Words.{Word, IsDigits, IsProcess, lines, words}
 use Rattle.ob_schedule.specs.LabelNames.{label_name}
 use Rattle.ob_schedule.specs.declared.item.Item.{Item}
 use Rattle.ob_schedule.specs.declared.item.Item.TheVariants as Items
@@ -9,13 +8,19 @@ use Rattle.ob_schedule.specs.declared.schedule.ScheduleFault.{ScheduleFault}
 use Rattle.ob_schedule.specs.declared.schedule.ScheduleFault.TheVariants as Faults
 use Rattle.wf_table.specs.declared.process.Label.{Label}
 
--- a blank or a line feed
-abbrev pub is_separator : ℕ → Bool
-is_separator b = is_blank b || (b == 10)
+-- the words of a line are a comment where the first one begins with #
+abbrev pub is_comment : List Word → Bool
+is_comment [] = false
+is_comment ([] ∷ ws) = false
+is_comment ((b ∷ more) ∷ ws) = b == 35
 
--- the words of a schedule: what stands between separators, where that is something
+-- what a line says: its words, and nothing where they are a comment
+abbrev pub line_items : List ℕ → List Word
+line_items line = if is_comment (words line) then [] else words line
+
+-- the words of a schedule: what its lines say
 abbrev pub item_words : List ℕ → List Word
-item_words text = filter (λ w. not (length w == 0)) (slice_split is_separator text)
+item_words text = flat_map line_items (lines text)
 
 -- p*k: so many steps, k of one to nine digits; p:LABEL: until it stands at the label; p!: until it answers
 pub data IsItem : Word → Item → Type 0 where

@@ -1,10 +1,11 @@
 //! Schedules as texts.
 
-ghost use Rattle.std.specs.Prelude.{◌≡◌, List, IfOk, IfErr};
+ghost use Rattle.std.specs.Prelude.{◌≡◌, List, IfOk, IfErr, map};
 ghost use Rattle.ob_schedule.specs.declared.item.Item.{Item};
-ghost use Rattle.ob_schedule.specs.Schedule.{IsSchedule, IsScheduleFault, is_separator};
+ghost use Rattle.ob_schedule.specs.Schedule.{IsSchedule, IsScheduleFault, is_comment, item_words};
 
 use crate::item::{Item, read_item};
+use ob_text_words::words::put_words;
 use std::alloc::{AllocError, AllocFailed, Global};
 use thiserror::Error;
 
@@ -54,11 +55,9 @@ pub fn read_schedule(
     ensures alone { IfOk result (λ items. (others : List Item) → IsSchedule processes text.now others → others ≡ items.items) }
     ensures fault { IfErr result (λ e. IsScheduleFault processes text.now e) }
 {
-    let words = text
-        .split(|byte| is_separator(*byte))
-        .filter(|word| !word.is_empty());
+    let words = item_words(alloc, text)?;
     let mut items = Vec::new(alloc);
-    for (index, word) in words.enumerate() {
+    for (index, word) in words.iter().enumerate() {
         let Some(item) = read_item(word) else {
             return Err(ScheduleFault::Form(index + 1));
         };
@@ -70,9 +69,27 @@ pub fn read_schedule(
     Ok(items)
 }
 
-/// A blank, or a line feed.
-fn is_separator(byte: u8) -> bool
-    ensures { result ≡ is_separator byte }
+/// The words of the lines of a schedule, but for comments.
+pub fn item_words(alloc: Global, text: &[u8]) -> Result<Vec<&[u8]>, AllocError>
+    ensures { IfOk result (λ ws. map (λ w. w.now) ws.items ≡ item_words text.now) }
 {
-    matches!(byte, b' ' | b'\t' | b'\r' | b'\n')
+    let mut items = Vec::new(alloc);
+    let mut words = Vec::new(alloc);
+    for line in text.split(|byte| *byte == b'\n') {
+        put_words(&mut words, line)?;
+        if !is_comment(&words) {
+            items.extend_from_slice(&words)?;
+        }
+    }
+    Ok(items)
+}
+
+/// Whether the words of a line are a comment.
+pub fn is_comment(words: &[&[u8]]) -> bool
+    ensures { result ≡ is_comment (map (λ w. w.now) words.now) }
+{
+    match words.first() {
+        Some(first) => first.first() == Some(&b'#'),
+        None => false,
+    }
 }

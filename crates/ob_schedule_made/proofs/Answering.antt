@@ -11,23 +11,23 @@ use Rattle.ob_text_words.specs.ScriptCalls.{ScriptCall}
 use Rattle.ob_text_words.specs.Words.{IsProcess, Word, lines, words}
 use Rattle.ob_text_scripts.specs.Script as Scripts
 use Rattle.ob_text_scripts.specs.Script.{AreLines, IsSkipped, Makes, blank, comment, makes}
-use Rattle.ob_schedule.specs.Schedule.{AreItems, is_separator, item_words, more, none, to_answer}
+use Rattle.ob_schedule.specs.Schedule.{AreItems, item_words, more, none, to_answer}
 use Rattle.ob_schedule_made.specs.Finish.{AddsWords, GoesOnBy, IsFinished, answer_item, named, nothing, unnamed}
-use Rattle.ob_schedule_made.proofs.ItemWords.{HasNoSeparator, items_behind, word_behind}
-use Rattle.ob_schedule_made.proofs.Numbers.{no_separators}
+use Rattle.ob_schedule_made.proofs.ItemWords.{HasNoMark, is_mark, items_behind, word_behind}
+use Rattle.ob_schedule_made.proofs.Numbers.{no_marks}
 
 -- ---- one line
 
 module _ (first : Word) (p : ℕ) (is : IsProcess first p) where
-  whole_word : HasNoSeparator (first ++ 33 ∷ [])
+  whole_word : HasNoMark (first ++ 33 ∷ [])
   whole_word =
-      All-append (λ b. is_separator b ≡ false) first (33 ∷ []) (no_separators first is.digits)
-      (All-cons (λ b. is_separator b ≡ false) 33 [] refl (All-nil (λ b. is_separator b ≡ false)))
+      All-append (λ b. is_mark b ≡ false) first (33 ∷ []) (no_marks first is.digits)
+      (All-cons (λ b. is_mark b ≡ false) 33 [] refl (All-nil (λ b. is_mark b ≡ false)))
 
   some_word : 0 < length (first ++ 33 ∷ [])
   some_word = let one = length-append first (33 ∷ []) in omega (arith, one)
 
-  pub goes_on_named : (rest : List Word) (text : List ℕ) → GoesOnBy (first ∷ rest) text (text ++ 32 ∷ (first ++ 33 ∷ []))
+  pub goes_on_named : (rest : List Word) (text : List ℕ) → GoesOnBy (first ∷ rest) text (text ++ 10 ∷ (first ++ 33 ∷ []))
   goes_on_named rest text = record { behind = (first ++ 33 ∷ []) ∷ []; adds = named is; words = word_behind text (first ++ 33 ∷ []) whole_word some_word }
 
 pub goes_on_alone : (line : List Word) (text : List ℕ) → AddsWords line [] → GoesOnBy line text text

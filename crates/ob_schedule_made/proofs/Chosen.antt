@@ -2,11 +2,11 @@
 use Rattle.std.proofs.Common.{◌≡◌, ◌+◌, ◌<◌, ◌≤◌, ◌^◌, ℕ, List, [], ◌∷◌, ◌++◌, length, decimal, refl, arith, length-append, false}
 use Rattle.std.proofs.lemmas.List.Elements.{All-append, All-cons, All-nil}
 use Rattle.std.proofs.lemmas.List.Sums.{sum_by-append}
-use Rattle.ob_schedule.specs.Schedule.{is_separator, item_words, more, none, steps}
+use Rattle.ob_schedule.specs.Schedule.{item_words, more, none, steps}
 use Rattle.ob_schedule.specs.declared.item.Item.TheVariants as Items
 use Rattle.ob_schedule_made.specs.Chance.{IsCounted, IsOfSteps, steps_in, steps_word}
-use Rattle.ob_schedule_made.proofs.ItemWords.{HasNoSeparator, items_behind, word_behind}
-use Rattle.ob_schedule_made.proofs.Numbers.{nine_digits, no_separators}
+use Rattle.ob_schedule_made.proofs.ItemWords.{HasNoMark, is_mark, items_behind, word_behind}
+use Rattle.ob_schedule_made.proofs.Numbers.{nine_digits, no_marks}
 
 -- no word is a schedule of no steps
 pub no_steps : (processes : ℕ) → IsOfSteps processes 0 []
@@ -17,17 +17,17 @@ pub nobody : (processes n : ℕ) → processes ≡ 0 → IsOfSteps processes n [
 nobody processes n is = record { items = []; says = none; counted = All-nil IsCounted; total = λ some. absurd (omega (arith, is, some)) }
 
 module _ (p k : ℕ) (short : p < 10 ^ 9) (few : k < 10 ^ 9) where
-  whole_word : HasNoSeparator (steps_word p k)
+  whole_word : HasNoMark (steps_word p k)
   whole_word =
-      All-append (λ b. is_separator b ≡ false) (decimal p) (42 ∷ decimal k) (no_separators (decimal p) (nine_digits p short).digits)
-      (All-cons (λ b. is_separator b ≡ false) 42 (decimal k) refl (no_separators (decimal k) (nine_digits k few).digits))
+      All-append (λ b. is_mark b ≡ false) (decimal p) (42 ∷ decimal k) (no_marks (decimal p) (nine_digits p short).digits)
+      (All-cons (λ b. is_mark b ≡ false) 42 (decimal k) refl (no_marks (decimal k) (nine_digits k few).digits))
 
   some_word : 0 < length (steps_word p k)
   some_word = let one = length-append (decimal p) (42 ∷ decimal k) in omega (arith, one)
 
   -- one more item
   pub more_steps : (processes n m : ℕ) (text : List ℕ) → p < processes → k ≤ 1000000 → m ≡ n + k → IsOfSteps processes n text
-      → IsOfSteps processes m (text ++ 32 ∷ steps_word p k)
+      → IsOfSteps processes m (text ++ 10 ∷ steps_word p k)
   more_steps processes n m text below most is so_far = record {
     items = so_far.items ++ Items.Steps p k ∷ [];
     says = rw (word_behind text (steps_word p k) whole_word some_word)

@@ -9,8 +9,7 @@ use Rattle.std.proofs.lemmas.List.Elements.{All-cons, All-nil}
 use Rattle.std.proofs.lemmas.Str.Parse.{IsDigitsTest, FoldsDigits, IsNumeralModel, numerals_by_fold}
 use Rattle.ob_scan.specs.Spelling.{number_value}
 use Rattle.ob_text_words.specs.Words.{IsDigits}
-use Rattle.ob_schedule.specs.Schedule.{is_separator}
-use Rattle.ob_schedule_made.proofs.ItemWords.{HasNoSeparator}
+use Rattle.ob_schedule_made.proofs.ItemWords.{HasNoMark, is_mark}
 
 abbrev AreDigits : List ℕ → Type 0
 AreDigits ds = list_all is_ascii_digit ds ≡ true
@@ -48,15 +47,15 @@ nine_digits n h =
       spells = digits_value-decimal numerals n small;
     }
 
--- a digit is no separator
-no_separator : (b : ℕ) → is_ascii_digit b ≡ true → is_separator b ≡ false
-no_separator b digit =
+-- a digit parts no words or lines, and begins no comment
+no_mark : (b : ℕ) → is_ascii_digit b ≡ true → is_mark b ≡ false
+no_mark b digit =
     let least : 48 ≤ b = grind (arith, nat_tests) in
-    rw (ne_eqb b 32 (λ e. omega (arith, e, least)), ne_eqb b 9 (λ e. omega (arith, e, least)), ne_eqb b 13 (λ e. omega (arith, e, least)), ne_eqb b 10 (λ e. omega (arith, e, least)))
+    rw (ne_eqb b 32 (λ e. omega (arith, e, least)), ne_eqb b 9 (λ e. omega (arith, e, least)), ne_eqb b 13 (λ e. omega (arith, e, least)), ne_eqb b 10 (λ e. omega (arith, e, least)), ne_eqb b 35 (λ e. omega (arith, e, least)))
     refl
 
-pub no_separators : (w : List ℕ) → list_all is_ascii_digit w ≡ true → HasNoSeparator w
-no_separators [] digits = All-nil (λ b. is_separator b ≡ false)
-no_separators (b ∷ bs) digits =
+pub no_marks : (w : List ℕ) → list_all is_ascii_digit w ≡ true → HasNoMark w
+no_marks [] digits = All-nil (λ b. is_mark b ≡ false)
+no_marks (b ∷ bs) digits =
     let p = and_parts (is_ascii_digit b) (list_all is_ascii_digit bs) digits in
-    All-cons (λ b. is_separator b ≡ false) b bs (no_separator b p.0) (no_separators bs p.1)
+    All-cons (λ b. is_mark b ≡ false) b bs (no_mark b p.0) (no_marks bs p.1)

@@ -97,11 +97,11 @@ fn longest_burst(word: u32) -> u32
     }
 }
 
-/// Appends an item: so many steps of a process.
+/// Appends an item, on a line of its own: so many steps of a process.
 fn push_steps(text: &mut String, process: usize, count: u64) -> Result<(), AllocError>
-    ensures { OnOk result (string_bytes text.new ≡ string_bytes text.old ++ 32 ∷ steps_word process count) }
+    ensures { OnOk result (string_bytes text.new ≡ string_bytes text.old ++ 10 ∷ steps_word process count) }
 {
-    text.push_str(" ")?;
+    text.push_str("\n")?;
     push_count(text, process as u64)?;
     text.push_str("*")?;
     push_count(text, count)

@@ -45,11 +45,11 @@ fn push_answer_of(text: &mut Vec<u8>, first: &[u8]) -> Result<(), AllocError>
     }
 }
 
-/// Appends an item of the process that a word names.
+/// Appends an item of the process that a word names, on a line of its own: what stands before it may be a comment.
 fn push_item(text: &mut Vec<u8>, process: &[u8]) -> Result<(), AllocError>
-    ensures { OnOk result (text.new.items ≡ text.old.items ++ 32 ∷ (process.now ++ 33 ∷ [])) }
+    ensures { OnOk result (text.new.items ≡ text.old.items ++ 10 ∷ (process.now ++ 33 ∷ [])) }
 {
-    text.push(b' ')?;
+    text.push(b'\n')?;
     text.extend_from_slice(process)?;
     text.push(b'!')?;
     Ok(())
