@@ -12,7 +12,7 @@ mod behind;
 pub mod find;
 pub mod object;
 mod replies;
-mod rows;
+pub mod rows;
 mod search;
 mod seen;
 mod sooner;

@@ -13,21 +13,21 @@ use wf_history::{Event, SeenCall, SeenEvent, SeenReply};
 
 /// A call, and its place among the events.
 #[derive(Clone, Copy)]
-pub(crate) struct Begun<'a> {
+pub struct Begun<'a> {
     pub call: SeenCall<'a>,
     pub place: usize,
 }
 
 /// A reply, and its place among the events.
 #[derive(Clone, Copy)]
-pub(crate) struct Ended<'a> {
+pub struct Ended<'a> {
     pub reply: SeenReply<'a>,
     pub place: usize,
 }
 
 /// Of each process the calls that it began and the replies that it got, in order; and the number of events.
 #[derive(Drop)]
-pub(crate) struct Rows<'a> {
+pub struct Rows<'a> {
     pub begun: Vec<Vec<Begun<'a>>>,
     pub ended: Vec<Vec<Ended<'a>>>,
     pub events: usize,
@@ -38,7 +38,7 @@ impl<'a> Rows<'a> {
     ghost use Rattle.wf_order.specs.Rows.{begun_rows, ended_rows, row_of};
 
     /// A call by its process and its place in the row.
-    pub(crate) fn begun_at(&self, process: usize, place: usize) -> Option<Begun<'a>>
+    pub fn begun_at(&self, process: usize, place: usize) -> Option<Begun<'a>>
         ensures item { result ≡ slice_get (row_of (begun_rows self.now) process) place }
         ensures room { IsSome result → place + 1 < 2 ^ 64 }
     {
@@ -46,14 +46,14 @@ impl<'a> Rows<'a> {
     }
 
     /// A reply by its process and its place in the row.
-    pub(crate) fn ended_at(&self, process: usize, place: usize) -> Option<Ended<'a>>
+    pub fn ended_at(&self, process: usize, place: usize) -> Option<Ended<'a>>
         ensures { result ≡ slice_get (row_of (ended_rows self.now) process) place }
     {
         self.ended.get(process)?.get(place).copied()
     }
 
     /// The reply alone.
-    pub(crate) fn reply_at(&self, process: usize, place: usize) -> Option<SeenReply<'a>>
+    pub fn reply_at(&self, process: usize, place: usize) -> Option<SeenReply<'a>>
         ensures { result ≡ option_map (λ e. e.reply) (slice_get (row_of (ended_rows self.now) process) place) }
     {
         Some(self.ended_at(process, place)?.reply)
@@ -101,7 +101,7 @@ fn note<'a>(
 }
 
 /// The rows of these events, which are of so many processes.
-pub(crate) fn rows_of(
+pub fn rows_of(
     alloc: Global,
     events: &[Event],
     processes: usize,
@@ -136,7 +136,7 @@ fn enough_for(event: &Event, processes: usize) -> Option<usize>
 }
 
 /// One more than the largest process of the events, if it is a number.
-pub(crate) fn processes_of(events: &[Event]) -> Option<usize>
+pub fn processes_of(events: &[Event]) -> Option<usize>
     ensures enough { IfSome result (λ count. (event : AnyEvent ObjectCall Reply) → Contains (map event_of events.now) event → IsOfProcesses count event) }
     ensures least { IfSome result (λ count. (n : ℕ) → ((event : AnyEvent ObjectCall Reply) → Contains (map event_of events.now) event → IsOfProcesses n event) → count ≤ n) }
 {

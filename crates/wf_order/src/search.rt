@@ -14,7 +14,7 @@ ghost use Rattle.wf_order.specs.Steps.{Configuration, IsTaken, start_at};
 use crate::behind::is_behind;
 use crate::object::Object;
 use crate::rows::limit_of;
-use crate::seen::{Found, Seen};
+use crate::seen::{Found, Keys, Seen};
 use crate::step::{Here, Task, any_silent_step, step};
 use crate::turn::next_turn;
 use ob_interface::NoMemory;
@@ -183,7 +183,7 @@ pub(crate) fn search<O: Object>(
     ensures { IfOk result (IsAnswer (O.effect task.now.object.now) (O.opening task.now.object.now) (map event_of task.now.events.now) processes most) }
 {
     let alloc = task.alloc;
-    let mut seen = Seen::with_hasher(alloc, keys);
+    let mut seen = Seen::with_hasher(alloc, Keys::new(keys));
     let mut stack = Vec::new(alloc);
     let start = start_of(task, processes)?;
     if let Some(order) = arrive(task, &mut seen, &mut stack, start)? {
