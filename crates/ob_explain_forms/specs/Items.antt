@@ -31,6 +31,6 @@ numbered_sentence digits behind =
 abbrev pub item_sentence : List ℕ → List ℕ
 item_sentence word =
     if begins byte_order_mark word then order_mark_sentence
-    else if begins (codes "#") word || begins_comment word then codes "a schedule has no comments; it has items alone, as 0*3, 0:TRY or 0!"
+    else if begins (codes "#") word || begins_comment word then codes "a remark is a line of its own that begins with #"
     else if has 44 word || has 59 word then codes "items are separated by blanks or line feeds, and not by commas or semicolons"
     else numbered_sentence (prefix_len is_ascii_digit word) (drop (prefix_len is_ascii_digit word) word)

@@ -21,7 +21,7 @@ pub fn item_sentence(word: &[u8]) -> &'static str
     if begins_order_mark(word) {
         ORDER_MARK
     } else if word.starts_with(b"#") || begins_comment(word) {
-        "a schedule has no comments; it has items alone, as 0*3, 0:TRY or 0!"
+        "a remark is a line of its own that begins with #"
     } else if word.contains(&b',') || word.contains(&b';') {
         "items are separated by blanks or line feeds, and not by commas or semicolons"
     } else {

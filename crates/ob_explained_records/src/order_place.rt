@@ -1,12 +1,13 @@
 //! Where a record names a call.
 
 ghost use Rattle.std.specs.Prelude.{◌≡◌, IfOk, map};
-ghost use Rattle.ob_explained_records.specs.OrderPlaces.{IsEndPlace, IsNamed, IsOrderPlace, IsPlaceNamed, MarksItem, word_place};
+ghost use Rattle.ob_explained.specs.Marks.{MarksWord};
+ghost use Rattle.ob_explained.specs.ScriptPlaces.{in_line, word_place};
+ghost use Rattle.ob_explained_records.specs.OrderPlaces.{IsEndPlace, IsNamed, IsOrderPlace, IsPlaceNamed};
 
-use ob_explained::script_place::script_line;
+use ob_explained::script_place::{script_line, word_place};
 use ob_explained_lines::call_name::{first_naming, next_naming};
 use ob_explained_lines::record_line::{Wanted, first_line};
-use ob_explained_runs::item_place::item_begin;
 use ob_text_words::words::words_of;
 use std::alloc::{AllocError, Global};
 use wf_history::CallId;
@@ -67,11 +68,11 @@ fn named(words: &[&[u8]], id: CallId, again: bool) -> Option<usize>
 
 /// Where a word of a line stands, before which so many others stand.
 pub fn place_of_word(text: &[u8], number: usize, word: usize) -> usize
-    ensures place { result ≡ word_place text.now number word }
+    ensures place { result ≡ in_line (word_place word) text.now number }
 
     // The words before it stand before it there, and it and the others from there on.
-    ensures marked { MarksItem text.now number word result }
+    ensures marked { MarksWord text.now number word result }
 {
     let (begin, line) = script_line(text, number);
-    begin + item_begin(line, word)
+    begin + word_place(line, word)
 }

@@ -3,7 +3,7 @@ use Rattle.std.specs.Global.{Global}
 use Rattle.std.specs.Prelude.{◌≡◌, ℕ, List, Option, None, String, option_map, string_bytes}
 use Rattle.ob_explain.specs.Remarks.{Remark}
 use Rattle.ob_explained.specs.Explained.{IsObjectExplanation}
-use Rattle.ob_explained_runs.specs.RunRemarks.{IsRunScriptRemark, long_item_remark, schedule_remark}
+use Rattle.ob_explained_runs.specs.RunRemarks.{IsAtItem, IsRunScriptRemark, IsScheduleRemark, long_item_sentence}
 use Rattle.ob_explained_runs.specs.Sources.{Source, shown_in, source_of}
 use Rattle.ob_explained_runs.specs.declared.source.Source as Rust
 use Rattle.ob_object_perform.specs.declared.performing.PerformFault.{PerformFault}
@@ -16,12 +16,19 @@ pub record IsRunScriptExplanation (n : ℕ) (text : List ℕ) (scripts : Source)
   pub remarked : IsRunScriptRemark n text scripts.text fault remark
   pub shows : shown ≡ shown_in scripts remark
 
+-- of the schedule: a remark of this kind
+pub record ShowsRemark (IsRemark : Option Remark → Type 0) (schedule : Source) (shown : Option (List ℕ)) : Type 0 where
+  pub remark : Option Remark
+  pub remarked : IsRemark remark
+  pub shows : shown ≡ shown_in schedule remark
+
 -- of a module, of scripts and of a schedule for n processes, whose calls have a budget each: the fault of each stands in its own text
 abbrev pub IsRunExplanation : (object scripts schedule : Source) (n budget : ℕ) → PerformFault → Option (List ℕ) → Type 0
 IsRunExplanation object scripts schedule n budget (Runs.Compile e) shown = IsObjectExplanation object.name object.text n budget e shown
 IsRunExplanation object scripts schedule n budget (Runs.Script e) shown = IsRunScriptExplanation n object.text scripts e shown
-IsRunExplanation object scripts schedule n budget (Runs.Schedule e) shown = shown ≡ shown_in schedule (schedule_remark n schedule.text e)
-IsRunExplanation object scripts schedule n budget (Runs.TooLong item) shown = shown ≡ shown_in schedule (long_item_remark schedule.text item)
+IsRunExplanation object scripts schedule n budget (Runs.Schedule e) shown = ShowsRemark (IsScheduleRemark n schedule.text e) schedule shown
+IsRunExplanation object scripts schedule n budget (Runs.TooLong item) shown =
+    ShowsRemark (IsAtItem schedule.text item long_item_sentence) schedule shown
 IsRunExplanation object scripts schedule n budget Runs.NoMemory shown = shown ≡ None
 
 -- the same of texts and of what is shown as the code has them

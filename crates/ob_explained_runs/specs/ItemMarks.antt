@@ -1,19 +1,18 @@
--- At which item of a schedule a mark stands, by what stands between separators.
-use Rattle.std.specs.Prelude.{◌≡◌, ◌≤◌, ◌-◌, ℕ, List, Some, false, drop, length, slice_get, take}
-use Rattle.ob_schedule.specs.Schedule.{is_separator, item_words}
+-- At which item of a schedule a mark stands, by what stands between line feeds and between blanks.
+use Rattle.std.specs.Prelude.{ℕ, ◌-◌, ◌≤◌, List, length}
+use Rattle.ob_explained.specs.Marks.{MarksWord}
+use Rattle.ob_explained_runs.specs.ItemPlaces.{IsItemAt}
+use Rattle.ob_schedule.specs.Schedule.{item_words}
 use Rattle.ob_schedule.specs.declared.schedule.ScheduleFault.{ScheduleFault}
 use Rattle.ob_schedule.specs.declared.schedule.ScheduleFault.TheVariants as Schedule
 
--- A place in a schedule at which its item of a number begins, counted from 0: the items before it stand up to there, and it and the
--- others from there on. Where the schedule has fewer items it is its end.
-pub record BeginsItem (text : List ℕ) (number place : ℕ) : Type 0 where
-  pub before : item_words (take place text) ≡ take number (item_words text)
-  pub behind : item_words (drop place text) ≡ drop number (item_words text)
-  pub no_separator : (b : ℕ) → slice_get text place ≡ Some b → is_separator b ≡ false
-  pub within : place ≤ length text
+-- a place in a schedule at which the item of a number begins as a word of its line; its end, where it has fewer items
+pub data MarksItem (text : List ℕ) (number : ℕ) : ℕ → Type 0 where
+  item : {line word place : ℕ} → IsItemAt text number line word → MarksWord text line word place → MarksItem text number place
+  none : length (item_words text) ≤ number - 1 → MarksItem text number (length text)
 
 -- the item that the fault tells
 abbrev pub IsItemMark : (schedule : List ℕ) → ScheduleFault → (place : ℕ) → Type 0
-IsItemMark schedule (Schedule.Form number) place = BeginsItem schedule (number - 1) place
-IsItemMark schedule (Schedule.Process number) place = BeginsItem schedule (number - 1) place
+IsItemMark schedule (Schedule.Form number) place = MarksItem schedule number place
+IsItemMark schedule (Schedule.Process number) place = MarksItem schedule number place
 IsItemMark schedule Schedule.NoMemory place = ⊥

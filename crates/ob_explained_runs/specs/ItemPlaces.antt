@@ -1,27 +1,23 @@
 -- Where the items of a schedule stand.
-use Rattle.std.specs.Prelude.{ℕ, zero, suc, ◌+◌, ◌-◌, not, Bool, List, drop, take}
-use Rattle.std.specs.List.{prefix_len}
-use Rattle.ob_schedule.specs.Schedule.{is_separator}
+use Rattle.std.specs.Prelude.{◌≡◌, ℕ, ◌+◌, ◌-◌, ◌<◌, ◌≤◌, List, [], Some, flat_map, get_or, length, slice_get, take}
+use Rattle.ob_text_words.specs.Words.{Word, lines}
+use Rattle.ob_explained.specs.ScriptPlaces.{in_line, word_place}
+use Rattle.ob_schedule.specs.Schedule.{item_words, line_items}
 
-abbrev pub is_of_item : ℕ → Bool
-is_of_item b = not (is_separator b)
+-- The item of a number, from 1, is a word of a line: the line's number, from 1, and how many words stand in it before the word. The
+-- items before it are those of the lines before, and these words. A comment has no items.
+pub record IsItemAt (text : List ℕ) (number line word : ℕ) : Type 0 where
+  pub bytes : List ℕ
+  pub counted : 1 ≤ line
+  pub here : slice_get (lines text) (line - 1) ≡ Some bytes
+  pub within : word < length (line_items bytes)
+  pub before : length (flat_map line_items (take (line - 1) (lines text))) + word ≡ number - 1
 
--- where the first item begins, and where it ends; the text's end, where there is none
-abbrev pub first_begin : List ℕ → ℕ
-first_begin text = prefix_len is_separator text
-
-abbrev pub item_end : List ℕ → ℕ
-item_end text = first_begin text + prefix_len is_of_item (drop (first_begin text) text)
-
--- where an item begins before which so many others stand; the text's end, where there are fewer
-abbrev pub item_begin : ℕ → List ℕ → ℕ
-item_begin zero text = first_begin text
-item_begin (suc n) text = item_end text + item_begin n (drop (item_end text) text)
-
--- where the item of a number begins, from 1
-abbrev pub item_place : List ℕ → ℕ → ℕ
-item_place text number = item_begin (number - 1) text
+-- the place of the item of a number: of its word, and the text's end where there are fewer items
+pub data IsItemPlace (text : List ℕ) (number : ℕ) : ℕ → Type 0 where
+  item : {line word : ℕ} → IsItemAt text number line word → IsItemPlace text number (in_line (word_place word) text line)
+  none : length (item_words text) ≤ number - 1 → IsItemPlace text number (length text)
 
 -- the item of a number; nothing, where there are fewer
-abbrev pub item_at : List ℕ → (number : ℕ) → List ℕ
-item_at text number = take (prefix_len is_of_item (drop (item_place text number) text)) (drop (item_place text number) text)
+abbrev pub item_at : List ℕ → (number : ℕ) → Word
+item_at text number = get_or (item_words text) (number - 1) []

@@ -4,7 +4,7 @@ use Rattle.ob_explain.specs.Remarks.{Remark, at}
 use Rattle.ob_explained.specs.ScriptPlaces.{first_place, in_line}
 use Rattle.ob_explained.specs.CallRemarks.{IsScriptRemark}
 use Rattle.ob_explain_forms.specs.Items.{item_sentence}
-use Rattle.ob_explained_runs.specs.ItemPlaces.{item_at, item_place}
+use Rattle.ob_explained_runs.specs.ItemPlaces.{IsItemPlace, item_at}
 use Rattle.ob_schedule.specs.declared.schedule.ScheduleFault.{ScheduleFault}
 use Rattle.ob_schedule.specs.declared.schedule.ScheduleFault.TheVariants as Schedule
 use Rattle.ob_text_scripts.specs.declared.script.ScriptFault.{ScriptFault}
@@ -21,13 +21,16 @@ abbrev pub IsRunScriptRemark : (n : ℕ) → (text scripts : List ℕ) → Scrip
 IsRunScriptRemark n text scripts (Script.Process line) remark = remark ≡ at (in_line first_place scripts line) (processes_sentence n)
 IsRunScriptRemark n text scripts fault remark = IsScriptRemark text scripts fault remark
 
--- at the item
-abbrev pub schedule_remark : (n : ℕ) → List ℕ → ScheduleFault → Option Remark
-schedule_remark n schedule (Schedule.Form item) =
-    at (item_place schedule item) (item_sentence (item_at schedule item))
-schedule_remark n schedule (Schedule.Process item) = at (item_place schedule item) (processes_sentence n)
-schedule_remark n schedule Schedule.NoMemory = None
+-- at the place of the item of a number
+pub record IsAtItem (schedule : List ℕ) (item : ℕ) (sentence : List ℕ) (remark : Option Remark) : Type 0 where
+  pub place : ℕ
+  pub stands : IsItemPlace schedule item place
+  pub told : remark ≡ at place sentence
 
-abbrev pub long_item_remark : List ℕ → (item : ℕ) → Option Remark
-long_item_remark schedule item =
-    at (item_place schedule item) (codes "an item stands for at most 1000000 steps; write several items, or give the calls fewer turns")
+abbrev pub IsScheduleRemark : (n : ℕ) → List ℕ → ScheduleFault → Option Remark → Type 0
+IsScheduleRemark n schedule (Schedule.Form item) remark = IsAtItem schedule item (item_sentence (item_at schedule item)) remark
+IsScheduleRemark n schedule (Schedule.Process item) remark = IsAtItem schedule item (processes_sentence n) remark
+IsScheduleRemark n schedule Schedule.NoMemory remark = remark ≡ None
+
+abbrev pub long_item_sentence : List ℕ
+long_item_sentence = codes "an item stands for at most 1000000 steps; write several items, or give the calls fewer turns"

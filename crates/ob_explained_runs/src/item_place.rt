@@ -1,69 +1,59 @@
 //! Where the items of a schedule stand.
 
-ghost use Rattle.std.specs.Prelude.{◌≡◌, ◌≤◌, ◌-◌, length};
-ghost use Rattle.std.specs.List.{prefix_len};
-ghost use Rattle.ob_schedule.specs.Schedule.{is_separator};
-ghost use Rattle.ob_explained_runs.specs.ItemMarks.{BeginsItem};
-ghost use Rattle.ob_explained_runs.specs.ItemPlaces.{is_of_item, item_at, item_begin, item_end, item_place};
+ghost use Rattle.std.specs.Prelude.{◌≡◌, ℕ, List, IfOk, length, map};
+ghost use Rattle.ob_text_words.specs.Words.{words};
+ghost use Rattle.ob_explained.specs.Marks.{MarksWord};
+ghost use Rattle.ob_explained.specs.ScriptPlaces.{in_line, word_place};
+ghost use Rattle.ob_explained_runs.specs.ItemMarks.{MarksItem};
+ghost use Rattle.ob_explained_runs.specs.ItemPlaces.{IsItemPlace, item_at};
+ghost use Rattle.ob_schedule.specs.Schedule.{line_items};
 
-/// Where the item of a number begins, from 1; the text's end, where there are fewer.
-pub fn item_place(text: &[u8], number: usize) -> usize
-    ensures place { result ≡ item_place text.now number }
-    ensures item { BeginsItem text.now (number - 1) result }
-    ensures within { result ≤ length text.now }
+use ob_explained::script_place::{script_line, word_place};
+use ob_schedule::schedule::{is_comment, item_words};
+use ob_text_words::words::put_words;
+use std::alloc::{AllocError, Global};
+
+/// Where the item of a number stands, from 1; the text's end, where there are fewer.
+pub fn item_place(alloc: Global, text: &[u8], number: usize) -> Result<usize, AllocError>
+    ensures place { IfOk result (IsItemPlace text.now number) }
+    ensures marked { IfOk result (MarksItem text.now number) }
 {
-    item_begin(text, number.saturating_sub(1))
+    let mut left = number.saturating_sub(1);
+    let mut words = Vec::new(alloc);
+    for (index, line) in text.split(|byte| *byte == b'\n').enumerate() {
+        put_words(&mut words, line)?;
+        let items = items_of(&words);
+        if left < items {
+            return Ok(place_of_word(text, index + 1, left));
+        }
+        left -= items;
+    }
+    Ok(text.len())
+}
+
+/// How many items the words of a line are.
+fn items_of(words: &[&[u8]]) -> usize
+    ensures { (line : List ℕ) → map (λ w. w.now) words.now ≡ words line → result ≡ length (line_items line) }
+{
+    if is_comment(words) { 0 } else { words.len() }
 }
 
 /// The item of a number, from 1; nothing, where there are fewer.
-pub fn item_at(text: &[u8], number: usize) -> &[u8]
-    ensures { result.now ≡ item_at text.now number }
+pub fn item_at(alloc: Global, text: &[u8], number: usize) -> Result<&[u8], AllocError>
+    ensures { IfOk result (λ item. item.now ≡ item_at text.now number) }
 {
-    let from = &text[item_place(text, number)..];
-    &from[..item_length(from)]
-}
-
-/// Where an item begins before which so many others stand; the text's end, where there are fewer.
-pub fn item_begin(text: &[u8], before: usize) -> usize
-    ensures place { result ≡ item_begin before text.now }
-    ensures item { BeginsItem text.now before result }
-    ensures within { result ≤ length text.now }
-{
-    let mut end = 0;
-    for _passed in 0..before {
-        end += item_end(&text[end..]);
+    let words = item_words(alloc, text)?;
+    match words.get(number.saturating_sub(1)) {
+        Some(word) => Ok(word),
+        None => Ok(b""),
     }
-    end + separators(&text[end..])
 }
 
-/// Where the first item ends; the text's end, where there is none.
-fn item_end(text: &[u8]) -> usize
-    ensures end { result ≡ item_end text.now }
-    ensures within { result ≤ length text.now }
+/// Where a word of a line stands, counted from 0.
+fn place_of_word(text: &[u8], line: usize, word: usize) -> usize
+    ensures place { result ≡ in_line (word_place word) text.now line }
+    ensures marked { MarksWord text.now line word result }
 {
-    let begin = separators(text);
-    begin + item_length(&text[begin..])
-}
-
-/// How many separators a text begins with.
-fn separators(text: &[u8]) -> usize
-    ensures count { result ≡ prefix_len is_separator text.now }
-    ensures within { result ≤ length text.now }
-{
-    text.iter().take_while(|byte| is_separator(**byte)).count()
-}
-
-/// How many bytes of an item a text begins with.
-fn item_length(text: &[u8]) -> usize
-    ensures count { result ≡ prefix_len is_of_item text.now }
-    ensures within { result ≤ length text.now }
-{
-    text.iter().take_while(|byte| !is_separator(**byte)).count()
-}
-
-/// A blank, or a line feed.
-fn is_separator(byte: u8) -> bool
-    ensures { result ≡ is_separator byte }
-{
-    matches!(byte, b' ' | b'\t' | b'\r' | b'\n')
+    let (begin, bytes) = script_line(text, line);
+    begin + word_place(bytes, word)
 }

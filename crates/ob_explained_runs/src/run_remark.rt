@@ -1,11 +1,11 @@
 //! What is wrong in the scripts or in the schedule of a run, in a sentence.
 
-ghost use Rattle.std.specs.Prelude.{◌≡◌, ◌-◌, IfOk, IfSome, option_map, string_bytes};
+ghost use Rattle.std.specs.Prelude.{◌≡◌, IfOk, IfSome, option_map, string_bytes};
 ghost use Rattle.ob_explain.specs.Remarks.{at, remark_of};
 ghost use Rattle.ob_explained.specs.Marks.{IsToldMark, MarksWord};
 ghost use Rattle.ob_explained.specs.ScriptPlaces.{first_place, in_line};
-ghost use Rattle.ob_explained_runs.specs.ItemMarks.{BeginsItem, IsItemMark};
-ghost use Rattle.ob_explained_runs.specs.RunRemarks.{IsRunScriptRemark, long_item_remark, processes_sentence, schedule_remark};
+ghost use Rattle.ob_explained_runs.specs.ItemMarks.{IsItemMark, MarksItem};
+ghost use Rattle.ob_explained_runs.specs.RunRemarks.{IsAtItem, IsRunScriptRemark, IsScheduleRemark, long_item_sentence, processes_sentence};
 
 use crate::item_place::{item_at, item_place};
 use ob_explain::remark::Remark;
@@ -55,18 +55,18 @@ pub fn schedule_remark(
     schedule: &[u8],
     fault: ScheduleFault,
 ) -> Result<Option<Remark>, AllocError>
-    ensures remark { IfOk result (λ remark. option_map remark_of remark ≡ schedule_remark n schedule.now fault) }
+    ensures remark { IfOk result (λ remark. IsScheduleRemark n schedule.now fault (option_map remark_of remark)) }
 
-    // It stands at the item, by what stands between separators.
+    // It stands at the item, by what stands between line feeds and between blanks.
     ensures marked { IfOk result (λ remark. IfSome remark (λ r. IsItemMark schedule.now fault r.place)) }
 {
     match fault {
-        ScheduleFault::Form(item) => told(
-            item_place(schedule, item),
-            String::from_str(alloc, item_sentence(item_at(schedule, item)))?,
-        ),
+        ScheduleFault::Form(item) => {
+            let sentence = item_sentence(item_at(alloc, schedule, item)?);
+            told_of_item(alloc, schedule, item, String::from_str(alloc, sentence)?)
+        }
         ScheduleFault::Process(item) => {
-            told(item_place(schedule, item), processes_sentence(alloc, n)?)
+            told_of_item(alloc, schedule, item, processes_sentence(alloc, n)?)
         }
         ScheduleFault::NoMemory => Ok(None),
     }
@@ -78,14 +78,27 @@ pub fn long_item_remark(
     schedule: &[u8],
     item: usize,
 ) -> Result<Option<Remark>, AllocError>
-    ensures remark { IfOk result (λ remark. option_map remark_of remark ≡ long_item_remark schedule.now item) }
-    ensures marked { IfOk result (λ remark. IfSome remark (λ r. BeginsItem schedule.now (item - 1) r.place)) }
+    ensures remark { IfOk result (λ remark. IsAtItem schedule.now item long_item_sentence (option_map remark_of remark)) }
+    ensures marked { IfOk result (λ remark. IfSome remark (λ r. MarksItem schedule.now item r.place)) }
 {
     let sentence = String::from_str(
         alloc,
         "an item stands for at most 1000000 steps; write several items, or give the calls fewer turns",
     )?;
-    told(item_place(schedule, item), sentence)
+    told_of_item(alloc, schedule, item, sentence)
+}
+
+/// A remark at an item.
+fn told_of_item(
+    alloc: Global,
+    schedule: &[u8],
+    item: usize,
+    sentence: String,
+) -> Result<Option<Remark>, AllocError>
+    ensures remark { IfOk result (λ remark. IsAtItem schedule.now item (string_bytes sentence) (option_map remark_of remark)) }
+    ensures marked { IfOk result (λ remark. IfSome remark (λ r. MarksItem schedule.now item r.place)) }
+{
+    told(item_place(alloc, schedule, item)?, sentence)
 }
 
 /// Which processes there are.

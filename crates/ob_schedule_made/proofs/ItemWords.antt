@@ -62,7 +62,7 @@ only_line w whole = slice_split_none (λ b. b == 10) w (λ k d h. (neither _ _ (
 
 no_comment : (w : Word) → HasNoMark w → is_comment (w ∷ []) ≡ false
 no_comment [] whole = refl
-no_comment (b ∷ more) whole = (neither _ _ (neither (is_blank b) _ (All-head (λ c. is_mark c ≡ false) b more whole)).1).1
+no_comment (b ∷ bs) whole = (neither _ _ (neither (is_blank b) _ (All-head (λ c. is_mark c ≡ false) b bs whole)).1).1
 
 own_items : (w : Word) → HasNoMark w → 0 < length w → line_items w ≡ w ∷ []
 own_items w whole some = rw (only_word w whole some, no_comment w whole) refl
