@@ -101,11 +101,7 @@ fn note<'a>(
 }
 
 /// The rows of these events, which are of so many processes.
-pub fn rows_of(
-    alloc: Global,
-    events: &[Event],
-    processes: usize,
-) -> Result<Rows<'_>, NoMemory>
+pub fn rows_of(alloc: Global, events: &[Event], processes: usize) -> Result<Rows<'_>, NoMemory>
     requires history { IsHistory (map event_of events.now) }
     requires few { (event : AnyEvent ObjectCall Reply) → Contains (map event_of events.now) event → IsOfProcesses processes event }
     ensures { IfOk result (λ rows. AreRows (map event_of events.now) processes rows) }
