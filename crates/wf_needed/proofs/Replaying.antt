@@ -22,6 +22,17 @@ module _ {State : Type 0} (Effect : ObjectCall → State → State → Reply →
   parted [] rest before last h = (before, over, h)
   parted (c ∷ first) rest before last (next {between = between} e r) = let p = parted first rest between last r in (p.0, next e p.1, p.2)
 
+  pub joined : (first rest : List Listed) (before state last : State) → Replays Effect before first state → Replays Effect state rest last → Replays Effect before (first ++ rest) last
+  joined [] rest before state last (over) r = r
+  joined (c ∷ first) rest before state last (next {between = between} e f) r = next e (joined first rest between state last f r)
+
+  -- the first call of some has its reply
+  one_end_of : (c : Listed) (rest : List Listed) (before last : State) → Replays Effect before (c ∷ rest) last → (after : State) × Ends Effect c before after
+  one_end_of c rest before last (next {between = between} e r) = (between, e)
+
+  pub has_end : (c : Listed) (all rest : List Listed) (before last : State) → all ≡ c ∷ rest → Replays Effect before all last → (after : State) × Ends Effect c before after
+  has_end c all rest before last split h = one_end_of c rest before last (subst (λ (cs : List Listed). Replays Effect before cs last) split h)
+
   -- from two states lists of calls lead to the same states
   abbrev pub LeadAlike : State → List Listed → State → List Listed → Type 0
   LeadAlike before all state rest = (last : State) → Replays Effect before all last ↔ Replays Effect state rest last
@@ -44,6 +55,12 @@ module _ {State : Type 0} (Effect : ObjectCall → State → State → Reply →
         let both = determined (seen_call c.call) before between after f.0 reply f.1 does in
         (f.0, subst (λ (x : State). Effect (seen_call c.call) before x f.0) both.0 f.1, f.2)
 
+    -- what a call leads to is what those behind it go on from
+    pub leads_on : (c : Listed) (all rest : List Listed) (before after last : State) (reply : Reply) → all ≡ c ∷ rest → Effect (seen_call c.call) before after reply → Replays Effect before all last → Replays Effect after rest last
+    leads_on c all rest before after last reply split does h =
+        let whole = subst (λ (cs : List Listed). Replays Effect before cs last) split h in
+        behind_first c rest before after last (first_ends c rest before after last reply does whole) whole
+
     pub alike_first : (c : Listed) (all rest : List Listed) (before after : State) → all ≡ c ∷ rest → Ends Effect c before after → LeadAlike before all after rest
     alike_first c all rest before after split e =
         subst (λ (cs : List Listed). LeadAlike before cs after rest) (sym split) (λ last. ((λ h. behind_first c rest before after last e h), (λ r. next e r)))
@@ -59,6 +76,10 @@ module _ {State : Type 0} (Effect : ObjectCall → State → State → Reply →
         split : drop k rest ≡ c ∷ drop (k + 1) rest
         split = drop_more rest k c lt ∙ ap (λ (x : Listed). x ∷ drop (k + 1) rest) (sym is)
 
+        -- the next call leads on, from whatever state the calls do
+        pub leads_next : (state after last : State) (reply : Reply) → Effect (seen_call c.call) state after reply → Replays Effect state (drop k rest) last → Replays Effect after (drop (k + 1) rest) last
+        leads_next state after last reply does h = leads_on c (drop k rest) (drop (k + 1) rest) state after last reply split does h
+
         -- the next call leads on
         pub alike_next : (after : State) → Ends Effect c here after → LeadAlike before all after (drop (k + 1) rest)
         alike_next after e last =
@@ -69,6 +90,10 @@ module _ {State : Type 0} (Effect : ObjectCall → State → State → Reply →
         -- or it has another reply
         pub never_next : ((after : State) → ¬ Ends Effect c here after) → (last : State) → ¬ Replays Effect before all last
         never_next not last h = never c (drop k rest) (drop (k + 1) rest) here split not last ((alike last).0 h)
+
+      -- the same state is come to from elsewhere
+      pub alike_same : (other last : State) → other ≡ here → Replays Effect other (drop k rest) last → (end : State) × Replays Effect before all end
+      alike_same other last same h = (last, (alike last).1 (subst (λ (x : State). Replays Effect x (drop k rest) last) same h))
 
       pub alike_over : length rest ≤ k → (last : State) × Replays Effect before all last
       alike_over past = (here, (alike here).1 (subst (λ (cs : List Listed). Replays Effect here cs here) (sym (drop_all k rest past)) over))

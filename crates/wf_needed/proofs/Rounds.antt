@@ -1,14 +1,14 @@
 -- Rounds over the calls of an order.
 use Rattle.std.proofs.Common.{◌≡◌, ◌∙◌, refl, sym, ap, subst, ℕ, ◌+◌, ◌<◌, ◌≤◌, List, [], ◌∷◌, ◌++◌, length, get_or, take, drop, arith, inl, inr}
 use Rattle.std.proofs.lemmas.Bool.{cases_lt}
-use Rattle.std.proofs.lemmas.List.{append-nil, append_assoc, drop_all, drop_at, drop_more, get_or_at, length-append, length_push, take_all, take_at, take_more}
+use Rattle.std.proofs.lemmas.List.{append_assoc, drop_at, drop_more, get_or_at, length-append, length-drop, length_push, take-append-drop, take_at, take_more}
 use Rattle.std.proofs.lemmas.Option.{slice_get_read}
 use Rattle.std.specs.Prelude.{slice_get, Some}
 use Rattle.ob_interface.specs.Call.{ObjectCall, Reply}
 use Rattle.wf_history.proofs.Positions.{one_item, place_here}
 use Rattle.wf_history.specs.View.{seen_call}
-use Rattle.wf_needed.proofs.Replaying.{behind_first, first_ends, one_last, one_more, parted}
-use Rattle.wf_needed.specs.Listed.{EachIsNeeded, IsOpenCall, IsRound, IsThinner, Replays, over}
+use Rattle.wf_needed.proofs.Replaying.{behind_first, first_ends, has_end, joined, one_last, one_more, parted}
+use Rattle.wf_needed.specs.Listed.{EachIsNeeded, Ends, IsOpenCall, IsRound, IsThinner, Replays, over}
 use Rattle.wf_needed.specs.Needed.{LeavesOut, nothing, one}
 use Rattle.wf_needed.specs.declared.listed.Listed.{Listed}
 
@@ -38,7 +38,19 @@ pub left_twice : {A : Type 0} {May : A → Type 0} {all more kept : List A} → 
 left_twice {A} {May} {all} left (nothing same) = subst (λ (xs : List A). LeavesOut May all xs) (sym same) left
 left_twice left (one first rest x also parts may is) = one first rest x (left_twice left also) parts may is
 
--- none of the calls is opens
+-- none of the calls from a place on is open, up to one more
+pub none_behind : (all : List Listed) (until k : ℕ) (c : Listed) → k < length all → c ≡ get_or all k c → ((j : ℕ) (d : Listed) → until ≤ j → j < k → slice_get all j ≡ Some d → ¬ IsOpenCall d) → ¬ IsOpenCall c →
+    (j : ℕ) (d : Listed) → until ≤ j → j < k + 1 → slice_get all j ≡ Some d → ¬ IsOpenCall d
+none_behind all until k c lt is before not j d from less at opens =
+    elim (cases_lt j k) [
+      | inl early ↦ before j d from early at opens
+      | inr late ↦
+          let here : j ≡ k = omega (arith, less, late) in
+          let item = one_item all k d c (ap (slice_get all) (sym here) ∙ at) (slice_get_read all (length all) k c refl lt is) in
+          not (subst (λ (x : Listed). IsOpenCall x) item opens)
+    ]
+
+-- none of the calls is open
 pub none_more : (all : List Listed) (k : ℕ) (c : Listed) → k < length all → c ≡ get_or all k c → ((j : ℕ) (d : Listed) → j < k → slice_get all j ≡ Some d → ¬ IsOpenCall d) → ¬ IsOpenCall c →
     (j : ℕ) (d : Listed) → j < k + 1 → slice_get all j ≡ Some d → ¬ IsOpenCall d
 none_more all k c lt is before not j d less at opens =
@@ -75,6 +87,12 @@ module _ {State : Type 0} (Effect : ObjectCall → State → State → Reply →
     module _ (k : ℕ) (kept : List Listed) (c : Listed) (state : State) (lt : k < length all) (is : c ≡ get_or all k c) (r : IsRound Effect opening all k kept state) where
       split : drop k all ≡ c ∷ drop (k + 1) all
       split = drop_more all k c lt ∙ ap (λ (x : Listed). x ∷ drop (k + 1) all) (sym is)
+
+      pub behind_here : (last : State) × Replays Effect state (c ∷ drop (k + 1) all) last
+      behind_here = (r.last, subst (λ (cs : List Listed). Replays Effect state cs r.last) split r.behind)
+
+      pub end_here : (after : State) × Ends Effect c state after
+      end_here = has_end Effect c (drop k all) (drop (k + 1) all) state r.last split r.behind
 
       -- without this call those behind it can't be made so
       needed_here : length kept ≡ k → (IsOpenCall c → (last : State) → ¬ Replays Effect state (drop (k + 1) all) last) →
@@ -135,20 +153,29 @@ module _ {State : Type 0} (Effect : ObjectCall → State → State → Reply →
             whole = λ same. absurd (omega (arith, same, less));
           }
 
-    -- behind the last call
-    pub round_end : (k : ℕ) (kept : List Listed) (state : State) → length all ≤ k → IsRound Effect opening all k kept state → IsThinner Effect opening all kept
-    round_end k kept state past r =
-        let within = r.within in
-        let less = r.size in
-        record {
-          last = state;
-          replays = r.here;
-          left_out = subst (λ (cs : List Listed). LeavesOut IsOpenCall all cs) (ap (λ (cs : List Listed). kept ++ cs) (drop_all k all past) ∙ append-nil kept) r.left_out;
-          size = omega (arith, within, less);
+    -- behind the last open call
+    pub round_end : (k : ℕ) (kept more : List Listed) (state : State) → k ≤ length all → ((j : ℕ) (d : Listed) → slice_get all j ≡ Some d → k ≤ j → ¬ IsOpenCall d) → more ≡ kept ++ drop k all →
+        IsRound Effect opening all k kept state → IsThinner Effect opening all more
+    round_end k kept more state within none grows r =
+        let rest = drop k all in
+        subst (λ (cs : List Listed). IsThinner Effect opening all cs) (sym grows)
+        (record {
+          last = r.last;
+          replays = joined Effect kept rest opening state r.last r.here r.behind;
+          left_out = r.left_out;
+          size = left_size r.left_out;
           needed = λ same.
-              let w = r.whole (omega (arith, same, past, within)) in
-              (w.0 ∙ take_all k all past, λ first rest c last parts lt opens replays. w.1 first rest c last parts (omega (arith, lt, past)) opens replays);
-        }
+              let sum = length-append kept rest in
+              let size = length-drop k all in
+              let w = r.whole (omega (arith, same, sum, size, within)) in (
+                ap (λ (cs : List Listed). cs ++ rest) w.0 ∙ take-append-drop k all,
+                λ first back c last parts lt opens replays.
+                    elim (cases_lt (length first) k) [
+                      | inl early ↦ w.1 first back c last parts early opens replays
+                      | inr late ↦ absurd (none (length first) c (ap (λ (cs : List Listed). slice_get cs (length first)) parts ∙ place_here first back c) late opens)
+                    ],
+              );
+        })
 
   -- where the last round has left out none
   module _ (kept : List Listed) (thinner : IsThinner Effect opening all kept) (no_less : length all ≤ length kept) where

@@ -9,7 +9,6 @@
 
 mod listed;
 pub mod needed;
-mod places;
 mod replay;
 
 pub use needed::needed_order;

@@ -1,13 +1,13 @@
 //! Legal orders in which each open call is needed.
 
-ghost use Rattle.std.specs.Prelude.{◌≡◌, ◌≤◌, ℕ, length, slice_get, vec_len, IfOk, IsTrue, None, Some};
+ghost use Rattle.std.specs.Prelude.{◌≡◌, ◌≤◌, ◌∷◌, ℕ, length, slice_get, vec_len, IfOk, IsTrue, None, Some};
 ghost use Rattle.wf_history.specs.Legal.{IsLegal};
 ghost use Rattle.wf_needed.specs.Listed.{EachIsNeeded, IsOpenCall, IsThinner, Replays};
 ghost use Rattle.wf_needed.specs.Needed.{IsOpen, LeavesOut, NoneIsNeedless};
 ghost use Rattle.wf_needed.specs.declared.listed.Listed as Rust;
 
 use crate::listed::{Listed, listed_all, names_of};
-use crate::replay::{after, replays};
+use crate::replay::{after, onward, replays};
 use ob_interface::NoMemory;
 use std::alloc::Global;
 use wf_history::{CallId, History};
@@ -25,6 +25,20 @@ fn any_open(all: &[Listed]) -> bool
     false
 }
 
+/// How many calls stand up to the last open one, it included.
+fn open_until(all: &[Listed]) -> usize
+    ensures within { result ≤ length all.now }
+    ensures none { (k : ℕ) (c : Rust.Listed) → slice_get all.now k ≡ Some c → result ≤ k → ¬ IsOpenCall c }
+{
+    let mut until = 0;
+    for (place, listed) in all.iter().enumerate() {
+        if listed.reply.is_none() {
+            until = place + 1;
+        }
+    }
+    until
+}
+
 /// Whether a call is open and can be left out: from the state before it the calls behind it have their replies.
 fn is_needless<O: Object>(
     alloc: Global,
@@ -33,6 +47,7 @@ fn is_needless<O: Object>(
     listed: &Listed,
     behind: &[Listed],
 ) -> Result<bool, NoMemory>
+    requires { (last : O.Meaning) × Replays (O.effect object.now) (O.meaning state.now) (listed.now ∷ behind.now) last }
     ensures open { IfOk result (λ can. IsTrue can → IsOpenCall listed.now) }
     ensures replays { IfOk result (λ can. IsTrue can → (last : O.Meaning) × Replays (O.effect object.now) (O.meaning state.now) behind.now last) }
     ensures not { IfOk result (λ can. ¬ IsTrue can → IsOpenCall listed.now → (last : O.Meaning) → ¬ Replays (O.effect object.now) (O.meaning state.now) behind.now last) }
@@ -40,7 +55,8 @@ fn is_needless<O: Object>(
     if listed.reply.is_some() {
         return Ok(false);
     }
-    replays(alloc, object, state, behind)
+    let with = after(alloc, object, state, listed)?;
+    replays(alloc, object, &with, state, behind)
 }
 
 /// One round over the calls of an order: each open call that can be left out where it stands is left out.
@@ -52,15 +68,18 @@ fn round<'a, O: Object>(
     requires { (last : O.Meaning) × Replays (O.effect object.now) (O.opening object.now) all.now last }
     ensures { IfOk result (λ kept. IsThinner (O.effect object.now) (O.opening object.now) all.now kept.items) }
 {
+    let until = open_until(all);
     let mut kept = Vec::new(alloc);
     let mut state = object.open(alloc)?;
-    for (place, listed) in all.iter().enumerate() {
+    for place in 0..until {
+        let listed = &all[place];
         if is_needless(alloc, object, &state, listed, &all[place + 1..])? {
             continue;
         }
-        state = after(alloc, object, &state, listed)?;
+        state = onward(alloc, object, state, listed)?;
         kept.push(*listed)?;
     }
+    kept.extend_from_slice(&all[until..])?;
     Ok(kept)
 }
 
@@ -88,7 +107,8 @@ fn thinned<'a, O: Object>(
 }
 
 /// A legal order without those of its open calls that it does not need. Where n of its calls are open, all are made one after the
-/// other (n + 1) (n + 2) / 2 times at most, and mostly about twice for each open call.
+/// other (n + 1)² times at most. Mostly only some calls are made for each open call, since the state without it is soon the
+/// same as with it, or some reply another one; and in each round those before the last open call.
 pub fn needed_order<O: Object>(
     alloc: Global,
     history: &History,

@@ -1,25 +1,30 @@
--- What stands at the places of a call.
-use Rattle.std.proofs.Common.{◌∙◌, sym, map}
-use Rattle.wf_history.specs.View.{event_of, seen_call, seen_reply}
-use Rattle.wf_needed.proofs.Placing.{begun_here, ended_here, has_place, not_ended}
+-- What the rows say of the call.
+use Rattle.std.proofs.Common.{◌≡◌, ◌∙◌, ◌+◌, Option, arith, subst, sym}
+use Rattle.std.specs.Prelude.{MatchOption}
+use Rattle.ob_interface.specs.Call.{ObjectCall}
+use Rattle.wf_history.specs.Legal.{HasBegun}
+use Rattle.wf_needed.proofs.Placing.{begun_here, not_begun, not_numbered, replied_here}
 use Rattle.wf_needed.proofs.listed.known_call.Goals as goal
+use Rattle.wf_needed.specs.Listed.{IsListed}
+use Rattle.wf_needed.specs.declared.listed.Listed.{Listed}
 
-pub unreachable-requires : goal.unreachable-requires
-unreachable-requires c =
-    has_place (map event_of c.args.events.now) _ _ c.requires.places c.args.id (sym c.place_of.ensures ∙ c.in_default.is) c.requires.begun.0 c.requires.begun.1
+pub returns-in_err-place-clause-listed : goal.returns-in_err-place-clause-listed
+returns-in_err-place-clause-listed c = λ history processes are.
+    subst (λ (r : Option Listed). MatchOption r ((call : ObjectCall) → ¬ HasBegun history c.args.id call) (IsListed history)) (sym c.from_residual.ensures)
+    (λ call. not_numbered history processes c.args.rows.now are c.args.id c.in_err-place.ensures call)
 
-pub returns-in-Some-place_of-clause-listed : goal.returns-in-Some-place_of-clause-listed
-returns-in-Some-place_of-clause-listed c =
-    let history = map event_of c.args.events.now in
+pub returns-in_err-begun-clause-listed : goal.returns-in_err-begun-clause-listed
+returns-in_err-begun-clause-listed c = λ history processes are.
+    let behind = c.in_ok-place.ensures in
+    let is : c.in_ok-place.place + 1 ≡ c.args.id.number = omega (arith, behind) in
+    subst (λ (r : Option Listed). MatchOption r ((call : ObjectCall) → ¬ HasBegun history c.args.id call) (IsListed history)) (sym c.from_residual-in_err-begun.ensures)
+    (λ call. not_begun history processes c.args.rows.now are c.args.id c.in_ok-place.place is (sym c.begun_at.ensures.item ∙ c.in_err-begun.was) call)
+
+pub returns-clause-listed : goal.returns-clause-listed
+returns-clause-listed c = λ history processes are.
+    let behind = c.in_ok-place.ensures in
+    let is : c.in_ok-place.place + 1 ≡ c.args.id.number = omega (arith, behind) in
     record {
-      begun = begun_here history _ _ c.requires.places c.args.id c.call_at-call.ensures.0 c.in-Some.begin (seen_call c.call_at-call.result) (sym c.place_of.ensures ∙ c.in-Some.is) c.call_at-call.ensures.1;
-      reply = ended_here history _ _ c.requires.places c.args.id c.reply_at.ensures.0 c.in-Some-place_of.end (seen_reply c.reply_at.result) (sym c.place_of-2.ensures ∙ c.in-Some-place_of.is) c.reply_at.ensures.1;
-    }
-
-pub returns-in-None-clause-listed : goal.returns-in-None-clause-listed
-returns-in-None-clause-listed c =
-    let history = map event_of c.args.events.now in
-    record {
-      begun = begun_here history _ _ c.requires.places c.args.id c.call_at-call.ensures.0 c.in-Some.begin (seen_call c.call_at-call.result) (sym c.place_of.ensures ∙ c.in-Some.is) c.call_at-call.ensures.1;
-      reply = not_ended history _ _ c.requires.places c.args.id (sym c.place_of-2.ensures ∙ c.in-None.is);
+      begun = begun_here history processes c.args.rows.now are c.args.id c.in_ok-place.place is c.in_ok-begun.begun (sym c.begun_at.ensures.item ∙ c.in_ok-begun.was);
+      reply = replied_here history processes c.args.rows.now are c.args.id c.in_ok-place.place is c.reply_at-reply.result c.reply_at-reply.ensures;
     }

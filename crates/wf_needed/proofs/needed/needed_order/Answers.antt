@@ -2,14 +2,17 @@
 use Rattle.std.proofs.Common.{◌∙◌, List, ap, subst, sym}
 use Rattle.std.proofs.lemmas.Result.{IfOk-weaker}
 use Rattle.ob_interface.specs.Call.{ObjectCall, Reply}
-use Rattle.wf_history.specs.History.{Event}
+use Rattle.wf_history.specs.History.{Event, IsHistory}
 use Rattle.wf_history.specs.Legal.{HasBegun}
 use Rattle.wf_needed.proofs.Legality.{begun_of, kept_left, kept_legal, kept_needed, order_replays}
 use Rattle.wf_needed.proofs.needed.needed_order.Goals as goal
 use Rattle.wf_needed.specs.Listed.{AreListed, ids_of}
 
-pub listed_all-requires : goal.listed_all-requires
-listed_all-requires g c = λ k id at.
+pub listed_all-requires-clause-history : goal.listed_all-requires-clause-history
+listed_all-requires-clause-history g c = subst (λ (es : List (Event ObjectCall Reply)). IsHistory es) (sym c.events.ensures.value) c.events.ensures.in_turn
+
+pub listed_all-requires-clause-begun : goal.listed_all-requires-clause-begun
+listed_all-requires-clause-begun g c = λ k id at.
     let b = begun_of c.args.history.now c.events.ensures.in_turn (g.O.Object.effect c.args.object.now) c.requires.1.made k id at in
     (b.0, subst (λ (es : List (Event ObjectCall Reply)). HasBegun es id b.0) (sym c.events.ensures.value) b.1)
 
