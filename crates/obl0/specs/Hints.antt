@@ -202,6 +202,19 @@ told_by None request line = form_about request line
 abbrev pub told_of : Request → (line : Text) → Text
 told_of request line = if begins (codes "I1") line then first_place (third_word line) else told_by (beside request line) request line
 
+-- a command prints the record of a run by a schedule
+abbrev pub is_run : Request → Bool
+is_run (Run run) = true
+is_run (RunTree run) = true
+is_run (RunSteps run) = true
+is_run (RunFinished product run) = true
+is_run (RunByChance product run) = true
+is_run request = false
+
+-- how many calls its script makes, where that was done
+abbrev pub calls_told : Request → (status : ℕ) → (calls : Option ℕ) → Option ℕ
+calls_told request status calls = if is_run request && (status == 0) then calls else None
+
 -- a command shows its faults to people itself
 abbrev pub is_explain : Request → Bool
 is_explain (Explain module_name budget) = true

@@ -1,11 +1,13 @@
 //! The files of the host.
 
-ghost use Rattle.std.specs.Prelude.{◌≡◌, ◌≤◌, length, IfOk, Some};
+ghost use Rattle.std.specs.Prelude.{◌≡◌, ◌≤◌, length, IfOk, IfSome, None, Some};
 ghost use Rattle.obl0.specs.Refusals.{file_fault};
+ghost use Rattle.ob_call_counts.specs.Counts.{CountsCalls};
 ghost use Rattle.ob_device.specs.Devices.{IsAll};
 
 use ob_answer::answer::INPUT_NAME;
 use ob_answer_files::files::{FileFault, Files};
+use ob_call_counts::counts::script_calls;
 use ob_device::{Counted, IoFault, slurp};
 use std::alloc::Global;
 use std::io::Read;
@@ -18,6 +20,8 @@ pub struct HostFiles<'a, R> {
     pub rt: &'a R,
     /// What the host said of the last file that it gave no bytes of.
     pub refusal: Option<io::ErrorKind>,
+    /// How many calls the first file makes of which all was read: that of a run's script.
+    pub calls: Option<usize>,
 }
 
 impl<R> HostFiles<'_, R> {
@@ -29,6 +33,17 @@ impl<R> HostFiles<'_, R> {
         self.refusal = Some(kind);
         fault_of(kind)
     }
+
+    /// Keeps how many calls the first file makes of which all was read.
+    fn count_calls(&mut self, bytes: &[u8])
+        ensures first { self.old.calls ≡ None → IfSome self.new.calls (CountsCalls bytes.now) }
+        ensures later { IfSome self.old.calls (λ calls. self.new.calls ≡ Some calls) }
+        ensures refusal { self.new.refusal ≡ self.old.refusal }
+    {
+        if self.calls.is_none() {
+            self.calls = Some(script_calls(bytes));
+        }
+    }
 }
 
 impl<R: HostRead + Input + AllocGlobal> Files for HostFiles<'_, R> {
@@ -36,7 +51,10 @@ impl<R: HostRead + Input + AllocGlobal> Files for HostFiles<'_, R> {
 
     fn read(&mut self, name: &str) -> Result<Vec<u8>, FileFault> {
         match whole(self.rt, name) {
-            Ok(bytes) => Ok(bytes),
+            Ok(bytes) => {
+                self.count_calls(&bytes);
+                Ok(bytes)
+            }
             Err(kind) => Err(self.refused(kind)),
         }
     }

@@ -4,7 +4,7 @@ ghost use Rattle.std.specs.Prelude.{◌≡◌, ◌++◌, IfOk, OnOk, option_map,
 ghost use Rattle.std.specs.List.{after_first, before_first, list_all};
 ghost use Rattle.obl0.specs.Hints.{asks_of_fault, beside, beside_texts, budget_words, calls_form, cause, count_words, drawn_form, first_place};
 ghost use Rattle.obl0.specs.Hints.{form_about, from_words, history_form, illegal_end, is_apart, is_blank, is_explain, is_explained, is_fault};
-ghost use Rattle.obl0.specs.Hints.{is_fault_name, is_of_record, is_of_text, is_plain, is_plain_byte, made_form, module_form, module_words, more_about};
+ghost use Rattle.obl0.specs.Hints.{is_fault_name, is_of_record, is_of_text, is_plain, is_plain_byte, is_run, made_form, module_form, module_words, more_about};
 ghost use Rattle.obl0.specs.Hints.{more_about_unread, more_of, name_word, named, of_order, option_words, order_form, record_form, run_form};
 ghost use Rattle.obl0.specs.Hints.{run_words, script_words, search_form, served, third_word, told_of, tree_form};
 ghost use Rattle.ob_command.specs.Commands.{calls_request_of, order_request_of, request_of, run_request_of};
@@ -102,6 +102,20 @@ fn of_order(line: &[u8]) -> Option<&'static str>
     } else {
         None
     }
+}
+
+/// Whether a command prints the record of a run by a schedule.
+pub fn is_run(command: Command<'_>) -> bool
+    ensures { result ≡ is_run (request_of command.entry) }
+{
+    matches!(
+        command,
+        Command::Run(_)
+            | Command::RunTree(_)
+            | Command::RunSteps(_)
+            | Command::RunFinished { .. }
+            | Command::RunByChance { .. }
+    )
 }
 
 /// Whether a command shows its faults to people itself.

@@ -2,6 +2,8 @@
 #![tactic(auto)]
 
 ghost use Rattle.std.specs.Prelude.{◌≡◌, ◌≢◌, Err, IfErr, IfOk};
+ghost use Rattle.ob_command.specs.Commands.{request_of};
+ghost use Rattle.obl0.specs.Hints.{calls_told};
 ghost use Rattle.obl0.specs.Refusals.{refusal_status};
 
 mod files;
@@ -10,10 +12,11 @@ mod refusal;
 
 use crossbeam_channel::{Receiver, RecvTimeoutError, Sender, unbounded};
 use files::HostFiles;
-use hint::more_of;
+use hint::{is_run, more_of};
 use ob_answer::answer::{INPUT_NAME, answer};
 use ob_answer_files::answered::Answer;
-use ob_command::command::read_command;
+use ob_call_counts::line::counts_line;
+use ob_command::command::{Command, read_command};
 use ob_device::{Counted, emit};
 use refusal::{Refusal, refusal_of_words};
 use std::alloc::Global;
@@ -36,11 +39,13 @@ const PATIENCE: u64 = 1;
 /// What a terminal is told then.
 const WORKING: &str = "working ..\n";
 
-/// What came of the work: the answer, and what the host said where it gave no bytes of a file.
+/// What came of the work: the answer, what the host said where it gave no bytes of a file, and how many calls the script makes, where one
+/// was read.
 #[derive(Drop)]
 struct Outcome {
     answer: Answer,
     refusal: Option<io::ErrorKind>,
+    calls: Option<usize>,
 }
 
 /// The work is done on a stack of its own, so that it doesn't matter how much the system grants for the first one. That thread
@@ -75,9 +80,23 @@ fn more_told<R: Env + AllocGlobal>(rt: &R, outcome: &Outcome) -> Result<String, 
     let Ok(command) = read_command(alloc, words.as_slice()) else {
         return Ok(String::new(alloc));
     };
+    if let Some(calls) = calls_of_run(command, outcome) {
+        return Ok(counts_line(alloc, calls, outcome.answer.out.as_bytes())?);
+    }
     let line = outcome.answer.err.as_str();
     let more = more_of(alloc, command, outcome.answer.status, line, outcome.refusal)?;
     Ok(more)
+}
+
+/// How many calls the script of a run makes whose record was printed.
+fn calls_of_run(command: Command<'_>, outcome: &Outcome) -> Option<usize>
+    ensures { result ≡ calls_told (request_of command.entry) outcome.now.answer.status outcome.now.calls }
+{
+    if is_run(command) && outcome.answer.status == 0 {
+        outcome.calls
+    } else {
+        None
+    }
 }
 
 /// The words behind the program's name.
@@ -173,11 +192,16 @@ fn obeyed<R: Files + Input + AllocGlobal + Threads + Wait + Sync + RandomSource>
     // Want of memory is never told as a mistake in the words.
     ensures { IfErr result (λ refusal. refusal ≢ Refusal.Words) }
 {
-    let mut files = HostFiles { rt, refusal: None };
+    let mut files = HostFiles {
+        rt,
+        refusal: None,
+        calls: None,
+    };
     let answer = answer(rt, words, &mut files)?;
     Ok(Outcome {
         answer,
         refusal: files.refusal,
+        calls: files.calls,
     })
 }
 
