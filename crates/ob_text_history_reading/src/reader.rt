@@ -60,7 +60,9 @@ impl Reader {
         self.values.is_empty() || self.values.len() == checked.program().variables.len()
     }
 
-    /// Takes a line up; `None` where it may not stand there. Words that say values are put in place of those that the list has.
+    /// Takes a line up; `None` where it may not stand there. Words that say values are put in place of those that the list has. It
+    /// stands in the loop over the lines, so that no line moves all that is known.
+    #[inline(always)]
     pub(crate) fn take_line<'a>(
         self,
         alloc: Global,
