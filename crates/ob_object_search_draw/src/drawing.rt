@@ -6,11 +6,8 @@ ghost use Rattle.ob_interface.specs.Processes.{most_processes};
 ghost use Rattle.ob_interface.specs.View.{signature_of};
 ghost use Rattle.ob_object_draw.specs.Marks.{id_of};
 ghost use Rattle.ob_object_order.specs.LegalOrder.{CallEnds};
-ghost use Rattle.ob_object_search.specs.SearchFaults.{HasSearchFault, TellsMemoryApart as TellsSearchMemoryApart};
 ghost use Rattle.ob_object_search_draw.specs.DrawHistoryFaults.{HasDrawFault, IsDrawHistoryFault, RulesOut, TellsMemoryApart, too_long};
 ghost use Rattle.ob_object_search_draw.specs.HistoryPictures.{AreDrawn, AreDrawnMarked, HasNoPicture, HasPicture, IsHistoryPicture, begun_with};
-ghost use Rattle.ob_object_search_draw.specs.Parts.{IsNoX1};
-ghost use Rattle.ob_object_search_record.specs.Heard.{IsHeard};
 ghost use Rattle.ob_object_verify.specs.Beginnings.{BeginsPlaced, TrapsPlaced};
 ghost use Rattle.ob_text_picture_chart.specs.Faults.{IsRangeFault};
 ghost use Rattle.ob_text_picture_chart.specs.View.{mark_of};
@@ -21,8 +18,8 @@ use ob_check_text::checked_text::checked_text;
 use ob_checked::checked::Checked;
 use ob_interface::export::Export;
 use ob_object_draw::marking::{Marked, mark_of};
-use ob_object_search::{Search, SearchFault};
-use ob_object_search_record::recording::{Heard, hear};
+use ob_object_search::Search;
+use ob_object_search_record::recording::hear;
 use ob_scan::scanner::LONGEST_TEXT;
 use ob_text_picture::picture;
 use ob_text_picture_chart::{CallRange, Mark, PictureFault, chart_of, placed_moments};
@@ -66,31 +63,10 @@ fn draw_checked(
     ensures fault { IfErr result (HasDrawFault BeginsPlaced TrapsPlaced CallEnds (program_in checked.now) text.now search.now.budget search.now.most calls) }
     ensures memory { IfErr result TellsMemoryApart }
 {
-    let heard = heard_of(alloc, checked, text, search.budget)?;
+    // No order is looked for yet, so that no X1 is told.
+    let heard = hear(alloc, checked, text, search.budget)?;
     let shown = shown_of(alloc, checked, &heard, text, search)?;
     Ok(draw_shown(alloc, checked.exports(), &shown, calls)?)
-}
-
-/// What is heard of a text. Only F1 and O2 are told, or want of memory, as no order is looked for yet.
-fn heard_of(
-    alloc: Global,
-    checked: &Checked,
-    text: &[u8],
-    asked: Option<u64>,
-) -> Result<Heard, SearchFault>
-    ensures heard { IfOk result (IsHeard (program_in checked.now) text.now asked) }
-    ensures fault { (most : ℕ) → IfErr result (HasSearchFault BeginsPlaced TrapsPlaced CallEnds (program_in checked.now) text.now asked most) }
-    ensures unsearched { IfErr result IsNoX1 }
-    ensures memory { IfErr result TellsSearchMemoryApart }
-{
-    match hear(alloc, checked, text, asked) {
-        Ok(heard) => Ok(heard),
-        Err(fault) => match fault {
-            SearchFault::Form(_) => Err(fault),
-            SearchFault::Open(_) => Err(fault),
-            _ => Err(SearchFault::NoMemory),
-        },
-    }
 }
 
 /// The picture of what is shown.

@@ -13,12 +13,17 @@ use Rattle.ob_object_record.specs.Record.{Record}
 use Rattle.ob_object_search.proofs.Crossing.{needed_named}
 use Rattle.ob_object_search.proofs.Fitting.{calls_fit, history_opened}
 use Rattle.ob_object_search.proofs.Texts as Texts
+use Rattle.ob_object_search.specs.SearchFaults.{of_open, of_reading}
 use Rattle.ob_object_search.specs.declared.searching.SearchFault.{SearchFault}
 use Rattle.ob_object_search.specs.declared.searching.SearchFault.TheVariants as SearchFaults
 use Rattle.ob_object_search_record.specs.RecordingFaults.{HasManyProcesses, HasRecordingFault, IsRecordingFault, too_many}
 use Rattle.ob_object_search_record.specs.SearchRecords.{IsHistoryRecord, IsRecordFound, IsSame}
 use Rattle.ob_object_search_record.specs.declared.recording.RecordingFault.{RecordingFault}
 use Rattle.ob_object_search_record.specs.declared.recording.RecordingFault.TheVariants as Faults
+use Rattle.ob_interpreter.specs.declared.opening.OpenFault.{OpenFault}
+use Rattle.ob_interpreter.specs.declared.opening.OpenFault.TheVariants as Open
+use Rattle.ob_text_record_reading.specs.declared.reading.RecordFault.{RecordFault}
+use Rattle.ob_text_record_reading.specs.declared.reading.RecordFault.TheVariants as Reading
 use Rattle.ob_object_verify.proofs.Beginnings.{beginning_named}
 use Rattle.ob_object_verify.proofs.Openings.{module_resolved}
 use Rattle.ob_object_verify.proofs.Simulated.{legal_there}
@@ -28,10 +33,20 @@ use Rattle.ob_text_record.specs.RecordText.{record_text}
 use Rattle.ob_typing.specs.ModuleText.{IsModule}
 use Rattle.ob_typing.specs.Program.{Program}
 use Rattle.wf_history.specs.History.{Event}
+use Rattle.wf_history.specs.declared.event.CallId.{CallId}
 
 -- no other fault is that of too many configurations
 pub search_decided : (e : SearchFault) → e ≢ SearchFaults.TooMany → Faults.Search e ≢ too_many
 search_decided e decided same = decided (cc)
+
+-- nor is a fault of the history's form, or of its opening, the end of a call
+pub form_unsearched : (e : RecordFault) (id : CallId) → of_reading e ≢ SearchFaults.Illegal id
+form_unsearched (Reading.Form line) id same = cc
+form_unsearched Reading.NoMemory id same = cc
+
+pub open_unsearched : (e : OpenFault) (id : CallId) → of_open e ≢ SearchFaults.Illegal id
+open_unsearched (Open.Trap trap) id same = cc
+open_unsearched Open.NoMemory id same = cc
 
 module _ (program : Program) (good : IsResolved program) (text : List ℕ) where
   abbrev IsNamed : Activation → State → Type 0

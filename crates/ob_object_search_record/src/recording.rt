@@ -155,6 +155,8 @@ pub fn hear(
     ensures fault { (most : ℕ) → IfErr result (HasSearchFault BeginsPlaced TrapsPlaced CallEnds (program_in checked.now) text.now asked most) }
     ensures lawful { (order : List CallId) → HasOrder BeginsPlaced CallEnds (program_in checked.now) text.now asked order → IfErr result IsUndecided }
     ensures decided { IfErr result (λ e. e ≢ SearchFaults.TooMany) }
+    // No order is looked for yet.
+    ensures unsearched { IfErr result (λ e. (id : CallId) → e ≢ SearchFaults.Illegal id) }
     ensures memory { IfErr result TellsSearchMemoryApart }
 {
     let read = read_history(alloc, checked, text)?;
