@@ -1,0 +1,4 @@
+pub mod MoreTurns
+pub mod Counting
+pub mod Calls
+pub mod Least
