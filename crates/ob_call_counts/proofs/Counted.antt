@@ -1,5 +1,5 @@
 -- Lines counted, and the calls and events that they say.
-use Rattle.std.proofs.Common.{◌≡◌, ◌∙◌, ℕ, ◌+◌, ◌<◌, ◌≤◌, ◌==◌, suc, not, cond, Bool, true, false, List, [], ◌∷◌, ◌++◌, All, codes, count_by, length, map, take, get_or, refl, sym, ap, subst, append_assoc, arith}
+use Rattle.std.proofs.Common.{◌≡◌, ◌∙◌, ℕ, ◌+◌, ◌<◌, ◌≤◌, ◌==◌, not, cond, Bool, true, false, List, [], ◌∷◌, ◌++◌, All, codes, count_by, length, map, take, get_or, refl, sym, ap, arith}
 use Rattle.std.specs.Char.{is_ascii_digit}
 use Rattle.std.specs.List.{list_all}
 use Rattle.std.proofs.lemmas.Bool.{and_parts, eqb-true, false≢true}
@@ -17,8 +17,8 @@ use Rattle.ob_text_record_reading.specs.RecordLines.{AreLines, IsApplied, IsBudg
 use Rattle.ob_text_scripts.specs.Script as Script
 use Rattle.ob_text_scripts.specs.Script.{IsSkipped, Makes}
 use Rattle.ob_text_words.specs.ScriptCalls.{ScriptCall}
-use Rattle.ob_text_words.specs.Words.{Word, lines, words}
-use Rattle.ob_typing.specs.Program.{Program, Variable}
+use Rattle.ob_text_words.specs.Words.{Word, words}
+use Rattle.ob_typing.specs.Program.{Variable}
 use Rattle.wf_history.specs.History.{Event, Applied, Begin, End}
 
 -- ---- one more line

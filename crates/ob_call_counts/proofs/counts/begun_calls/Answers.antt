@@ -1,4 +1,4 @@
-use Rattle.std.proofs.Common.{◌≡◌, ◌∙◌, ap, count_by, map}
+use Rattle.std.proofs.Common.{◌∙◌, ap, count_by, map}
 use Rattle.ob_call_counts.specs.Counts.{begins_with}
 use Rattle.ob_text_words.specs.Words.{lines, words}
 use Rattle.ob_call_counts.proofs.Counted.{counts_events, letter_of_begin}

@@ -1,4 +1,4 @@
-use Rattle.std.proofs.Common.{◌≡◌, ◌-◌, ◌++◌, ◌∙◌, List, ℕ, ap, codes, rules, string_bytes}
+use Rattle.std.proofs.Common.{◌≡◌, ◌-◌, ◌++◌, ◌∙◌, List, ℕ, ap, codes, rules}
 use Rattle.ob_call_counts.specs.Counts.{part}
 use Rattle.ob_call_counts.proofs.line.counts_line.Goals as goal
 
@@ -18,6 +18,6 @@ returns c =
       says =
           c.in_ok-push_part-3.ensures
           ∙ ap (λ (t : List ℕ). t ++ part c.saturating_sub.result (codes " never began\n"))
-              (c.in_ok-push_part-2.ensures ∙ ap (λ (t : List ℕ). t ++ second) (c.in_ok-push_part.ensures ∙ ap (λ (t : List ℕ). t ++ first) c.new-line.ensures.bytes))
+          (c.in_ok-push_part-2.ensures ∙ ap (λ (t : List ℕ). t ++ second) (c.in_ok-push_part.ensures ∙ ap (λ (t : List ℕ). t ++ first) c.new-line.ensures.bytes))
           ∙ ap (λ (k : ℕ). (first ++ second) ++ part k (codes " never began\n")) left;
     }
