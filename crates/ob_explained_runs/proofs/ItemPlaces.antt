@@ -1,10 +1,10 @@
 -- Where the items of a schedule stand, line by line.
-use Rattle.std.proofs.Common.{◌≡◌, ℕ, ◌+◌, ◌-◌, ◌<◌, ◌≤◌, List, Bor, length, map, take, get_or, refl, sym, ◌∙◌, ap, subst, zero-add, arith, length-append}
+use Rattle.std.proofs.Common.{◌≡◌, ℕ, ◌+◌, ◌-◌, ◌<◌, ◌≤◌, List, length, take, get_or, refl, sym, ◌∙◌, ap, zero-add, arith, length-append}
 use Rattle.std.specs.List.{enumerate_from, flat_map}
-use Rattle.std.proofs.lemmas.List.{length-map, take_all}
+use Rattle.std.proofs.lemmas.List.{take_all}
 use Rattle.std.proofs.lemmas.List.FromFn.{get_or-enumerate_from, length-enumerate_from}
 use Rattle.std.proofs.lemmas.Option.{slice_get_read}
-use Rattle.ob_text_words.specs.Words.{Word, lines, words}
+use Rattle.ob_text_words.specs.Words.{lines}
 use Rattle.ob_schedule.proofs.LineItems.{lines_more}
 use Rattle.ob_schedule.specs.Schedule.{item_words, line_items}
 use Rattle.ob_explained_runs.specs.ItemPlaces.{IsItemAt}

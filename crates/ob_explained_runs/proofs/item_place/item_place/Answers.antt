@@ -1,9 +1,9 @@
-use Rattle.std.proofs.Common.{◌≡◌, ◌∙◌, ◌<◌, ◌≤◌, ◌==◌, ℕ, rules, tests, arith, ap, length, map, subst, sym}
+use Rattle.std.proofs.Common.{◌≡◌, ◌∙◌, ◌≤◌, ◌==◌, ℕ, rules, tests, arith, ap, length, map, subst, sym}
 use Rattle.std.proofs.lemmas.Iterator.Consumers.{YieldsList-at, YieldsList-from_enumerate, YieldsList-turn, YieldsList-end}
 use Rattle.std.proofs.lemmas.Iterator.Splits.{YieldsList-from_slice_split}
 use Rattle.std.proofs.lemmas.List.{length_push}
 use Rattle.std.proofs.lemmas.List.FromFn.{length-enumerate_from}
-use Rattle.ob_text_words.specs.Words.{lines, words}
+use Rattle.ob_text_words.specs.Words.{lines}
 use Rattle.ob_schedule.specs.Schedule.{line_items}
 use Rattle.ob_explained_runs.specs.ItemMarks as Marks
 use Rattle.ob_explained_runs.specs.ItemPlaces as Places
