@@ -32,10 +32,10 @@ pub fn item_place(alloc: Global, text: &[u8], number: usize) -> Result<usize, Al
 }
 
 /// How many items the words of a line are.
-fn items_of(words: &[&[u8]]) -> usize
-    ensures { (line : List ℕ) → map (λ w. w.now) words.now ≡ words line → result ≡ length (line_items line) }
+fn items_of(list: &[&[u8]]) -> usize
+    ensures { (line : List ℕ) → map (λ w. w.now) list.now ≡ words line → result ≡ length (line_items line) }
 {
-    if is_comment(words) { 0 } else { words.len() }
+    if is_comment(list) { 0 } else { list.len() }
 }
 
 /// The item of a number, from 1; nothing, where there are fewer.
