@@ -1,6 +1,6 @@
 //! The files of the host.
 
-ghost use Rattle.std.specs.Prelude.{◌≡◌, ◌≤◌, length, IfOk, IfSome, None, Some};
+ghost use Rattle.std.specs.Prelude.{◌≡◌, ◌≢◌, ◌≤◌, length, IfOk, IfSome, None, Some, true};
 ghost use Rattle.obl0.specs.Refusals.{file_fault};
 ghost use Rattle.ob_call_counts.specs.Counts.{CountsCalls};
 ghost use Rattle.ob_device.specs.Devices.{IsAll};
@@ -20,6 +20,8 @@ pub struct HostFiles<'a, R> {
     pub rt: &'a R,
     /// What the host said of the last file that it gave no bytes of.
     pub refusal: Option<io::ErrorKind>,
+    /// Whether calls are counted, as they are for a run: for other commands that would be time for nothing.
+    pub counts: bool,
     /// How many calls the first file makes of which all was read: that of a run's script.
     pub calls: Option<usize>,
 }
@@ -34,13 +36,14 @@ impl<R> HostFiles<'_, R> {
         fault_of(kind)
     }
 
-    /// Keeps how many calls the first file makes of which all was read.
+    /// Keeps how many calls the first file makes of which all was read, where calls are counted.
     fn count_calls(&mut self, bytes: &[u8])
-        ensures first { self.old.calls ≡ None → IfSome self.new.calls (CountsCalls bytes.now) }
+        ensures first { self.old.calls ≡ None → self.old.counts ≡ true → self.new.calls ≢ None }
+        ensures counted { self.old.calls ≡ None → IfSome self.new.calls (CountsCalls bytes.now) }
         ensures later { IfSome self.old.calls (λ calls. self.new.calls ≡ Some calls) }
         ensures refusal { self.new.refusal ≡ self.old.refusal }
     {
-        if self.calls.is_none() {
+        if self.counts && self.calls.is_none() {
             self.calls = Some(script_calls(bytes));
         }
     }

@@ -195,6 +195,7 @@ fn obeyed<R: Files + Input + AllocGlobal + Threads + Wait + Sync + RandomSource>
     let mut files = HostFiles {
         rt,
         refusal: None,
+        counts: words.first().copied() == Some("run"),
         calls: None,
     };
     let answer = answer(rt, words, &mut files)?;
