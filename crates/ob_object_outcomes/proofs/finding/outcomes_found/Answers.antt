@@ -1,0 +1,21 @@
+-- With copies of the states.
+use Rattle.std.proofs.Common.{◌∙◌, Global, List, Vec, ap, map, subst, sym}
+use Rattle.ob_checked.specs.CheckedModule.{program_in}
+use Rattle.ob_object_order.specs.LegalOrder.{CallEnds}
+use Rattle.ob_positions.specs.Store.{Activation}
+use Rattle.ob_store.specs.View.{state_of, variables_in}
+use Rattle.ob_store.specs.declared.value.Value.{Value}
+use Rattle.wf_outcomes.specs.Explored.{calls_in}
+use Rattle.wf_told.specs.Told.{AreOutcomes, End, IsItself}
+use Rattle.wf_told.specs.View.{call_in, end_in}
+use Rattle.wf_told.specs.declared.ends.ToldEnd.{ToldEnd}
+use Rattle.ob_object_outcomes.proofs.finding.outcomes_found.Goals as goal
+
+abbrev ends_in : List (ToldEnd (Vec Value Global)) → List (End Activation)
+ends_in = map (end_in (λ (values : Vec Value Global). variables_in values.items))
+
+pub returns : goal.returns
+returns c =
+    let object = c.args.explored.now.object.now in
+    subst (λ (ends : List (End Activation)). AreOutcomes IsItself (CallEnds (program_in object.checked.now) object.budget) (calls_in c.args.explored.now.scripts.now) (state_of object.opening.now)
+    (map call_in c.in_ok-calls.field-0.calls.items) ends) (sym (c.in_ok-ends.ensures ∙ ap ends_in c.deref.ensures.value)) c.in_ok-calls.ensures
