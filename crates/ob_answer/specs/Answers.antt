@@ -27,8 +27,8 @@ use Rattle.ob_object_verify.specs.Verified.{IsVerified}
 use Rattle.ob_answer_orders.specs.HistoryPictureAnswers.{IsHistoryPictureAnswer}
 use Rattle.ob_schedule_made.specs.Chance.{IsOfSteps}
 use Rattle.ob_schedule_made.specs.Finish.{IsFinished}
-use Rattle.ob_command.specs.CommandLine.{CallsRequest, ChanceRequest, Request, RunRequest, Text, default_most, Check, Listing, Seq, Run, RunTree, RunSteps, RunFinished, RunByChance, Serve, Draw, DrawRecord, Verify, Order, request}
-use Rattle.ob_command.specs.CommandLine.{Explain, ExplainCalls, ExplainTraps, ExplainRun, ExplainRecord, ExplainHistory, Bound, Help, Version, Unclear}
+use Rattle.ob_command.specs.CommandLine.{CallsRequest, ChanceRequest, Request, RunRequest, Text, default_most, Check, Listing, Seq, Run, RunTree, RunSteps, RunFinished, RunByChance, Serve, Draw, DrawHistory, DrawRecord, Outcomes, Verify, Order, request}
+use Rattle.ob_command.specs.CommandLine.{Explain, ExplainAlways, ExplainCalls, ExplainTraps, ExplainRun, ExplainRecord, ExplainHistory, Bound, Help, Version, Unclear}
 use Rattle.ob_command.specs.Commands.{IsMistakeTextOf, calls_request_of, chance_request_of, run_request_of}
 use Rattle.ob_command.specs.declared.command.CallNumbers.{CallNumbers}
 use Rattle.ob_command.specs.declared.command.CallsCommand.{CallsCommand}
@@ -233,7 +233,7 @@ IsChanceOfCalls product run bytes whole = IsChanceMade product (chance_request_o
 abbrev pub files_of : Request → List Text
 files_of (Check module_name) = module_name ∷ []
 files_of (Listing module_name) = module_name ∷ []
-files_of (Seq calls) = files_of_calls calls
+files_of (Seq sequence) = files_of_calls sequence.calls
 files_of (Run run) = files_of_run run
 files_of (RunTree run) = files_of_run run
 files_of (RunSteps run) = files_of_run run
@@ -242,12 +242,15 @@ files_of (RunByChance product run) = files_of_calls run.calls
 files_of (Serve calls) = files_of_calls calls
 files_of (Draw run range) = files_of_run run
 files_of (DrawRecord module_name record_name range) = module_name ∷ record_name ∷ []
+files_of (DrawHistory seen) = seen.module_name ∷ seen.history_name ∷ []
+files_of (Outcomes outcomes) = files_of_calls outcomes.calls
 files_of (Verify module_name record_name) = module_name ∷ record_name ∷ []
 files_of (Order order) = order.module_name ∷ order.history_name ∷ []
 files_of (Explain module_name budget) = module_name ∷ []
 files_of (ExplainCalls calls) = files_of_calls calls
 files_of (ExplainTraps calls) = files_of_calls calls
 files_of (ExplainRun run) = files_of_run run
+files_of (ExplainAlways asked) = files_of_calls asked.calls
 files_of (ExplainRecord module_name record_name) = module_name ∷ record_name ∷ []
 files_of (ExplainHistory module_name history_name) = module_name ∷ history_name ∷ []
 files_of (Bound module_name processes budget) = module_name ∷ []
@@ -257,7 +260,7 @@ files_of _ = []
 abbrev pub IsMade : Request → List (List ℕ) → Answer → Type 0
 IsMade (Check module_name) (module_bytes ∷ []) answer = IsCheckAnswer module_bytes answer
 IsMade (Listing module_name) (module_bytes ∷ []) answer = IsListAnswer module_bytes answer
-IsMade (Seq calls) bytes answer = IsCallsMade CallsProducts.Replies calls bytes answer
+IsMade (Seq sequence) bytes answer = IsCallsMade CallsProducts.Replies sequence.calls bytes answer
 IsMade (Run run) bytes answer = IsRunMade Products.Record run bytes answer
 IsMade (RunTree run) bytes answer = IsRunMade Products.TreeRecord run bytes answer
 IsMade (RunSteps run) bytes answer = IsRunMade Products.RecordWithSteps run bytes answer
@@ -267,6 +270,9 @@ IsMade (Serve calls) bytes answer = IsCallsMade CallsProducts.Workers calls byte
 IsMade (Draw run range) bytes answer = IsRunMade (Products.Picture (range_of range)) run bytes answer
 IsMade (DrawRecord module_name record_name range) (module_bytes ∷ record_bytes ∷ []) answer =
     IsSeenPictureAnswer (range_of range) module_bytes record_bytes answer
+IsMade (DrawHistory seen) (module_bytes ∷ history_bytes ∷ []) answer =
+    IsHistoryPictureAnswer (range_of seen.calls) module_bytes history_bytes seen.budget seen.most answer
+IsMade (Outcomes outcomes) bytes answer = IsCallsMade CallsProducts.Replies outcomes.calls bytes answer
 IsMade (Verify module_name record_name) (module_bytes ∷ record_bytes ∷ []) answer = IsVerifyAnswer module_bytes record_bytes answer
 IsMade (Order order) (module_bytes ∷ history_bytes ∷ []) answer =
     IsProductAnswer order.product module_bytes history_bytes order.budget order.most answer
@@ -274,6 +280,7 @@ IsMade (Explain module_name budget) (module_bytes ∷ []) answer = IsModuleExpla
 IsMade (ExplainCalls calls) bytes answer = IsCallsMade CallsProducts.Explanation calls bytes answer
 IsMade (ExplainTraps calls) bytes answer = IsCallsMade CallsProducts.Traps calls bytes answer
 IsMade (ExplainRun run) bytes answer = IsRunMade Products.Explanation run bytes answer
+IsMade (ExplainAlways asked) bytes answer = IsCallsMade CallsProducts.Explanation asked.calls bytes answer
 IsMade (ExplainRecord module_name record_name) (module_bytes ∷ record_bytes ∷ []) answer =
     IsRecordExplained module_name module_bytes record_name record_bytes answer
 IsMade (ExplainHistory module_name history_name) (module_bytes ∷ history_bytes ∷ []) answer =

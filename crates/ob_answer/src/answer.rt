@@ -4,8 +4,8 @@ ghost use Rattle.std.specs.Prelude.{◌≡◌, IfOk, count_by, map, nat_lt};
 ghost use Rattle.std.specs.Str.{bytes_eq};
 ghost use Rattle.ob_answer.specs.Answers.{IsAnswer, IsAnswerTo, IsObeyed, files_of, input_name, range_of, reads_input_twice};
 ghost use Rattle.ob_answer_files.specs.Reads.{files_of_calls, files_of_run};
-ghost use Rattle.ob_command.specs.CommandLine.{Bound, Check, DrawRecord, Listing, Order, Verify};
-ghost use Rattle.ob_command.specs.Commands.{calls_request_of, order_request_of, request_of, run_request_of};
+ghost use Rattle.ob_command.specs.CommandLine.{Bound, Check, DrawHistory, DrawRecord, Listing, Order, Verify};
+ghost use Rattle.ob_command.specs.Commands.{calls_request_of, order_request_of, request_of, run_request_of, seen_request_of};
 
 use crate::explaining::{obey_explain_history, obey_explain_module, obey_explain_record};
 use crate::making::{answer_bound, answer_check, answer_draw_seen, answer_list, answer_verify};
@@ -15,9 +15,10 @@ use crate::product::{CallsProduct, Product};
 use ob_answer_files::answered::Answer;
 use ob_answer_files::files::{FileFault, Files};
 use ob_answer_files::reading::{MODULE_BYTES, TwoFiles, read_two, unreadable};
+use ob_answer_orders::drawing::{HistoryDrawing, answer_draw_history};
 use ob_answer_orders::ordering::answer_order;
 use ob_command::command::{
-    CallNumbers, CallsCommand, Command, OrderCommand, RunCommand, Stop, read_command,
+    CallNumbers, CallsCommand, Command, OrderCommand, RunCommand, SeenCommand, Stop, read_command,
 };
 use ob_interface::NoMemory;
 use ob_text_picture_chart::CallRange;
@@ -79,7 +80,7 @@ fn reads_input_twice(command: Command<'_>) -> bool
         Command::Check { .. } => false,
         Command::List { .. } => false,
         Command::Bound { .. } => false,
-        Command::Seq(calls) => are_inputs_of_calls(calls),
+        Command::Seq(sequence) => are_inputs_of_calls(sequence.calls),
         Command::Serve(calls) => are_inputs_of_calls(calls),
         Command::Run(run) => are_inputs_of_run(run),
         Command::RunTree(run) => are_inputs_of_run(run),
@@ -92,6 +93,8 @@ fn reads_input_twice(command: Command<'_>) -> bool
             record_name,
             ..
         } => are_two_inputs(&[module_name, record_name]),
+        Command::DrawHistory(seen) => are_two_inputs(&[seen.module_name, seen.history_name]),
+        Command::Outcomes(outcomes) => are_inputs_of_calls(outcomes.calls),
         Command::Verify {
             module_name,
             record_name,
@@ -101,6 +104,7 @@ fn reads_input_twice(command: Command<'_>) -> bool
         Command::ExplainCalls(calls) => are_inputs_of_calls(calls),
         Command::ExplainTraps(calls) => are_inputs_of_calls(calls),
         Command::ExplainRun(run) => are_inputs_of_run(run),
+        Command::ExplainAlways(asked) => are_inputs_of_calls(asked.calls),
         Command::ExplainRecord {
             module_name,
             record_name,
@@ -158,7 +162,9 @@ fn obey<R: Threads + Wait + Sync + RandomSource, F: Files>(
     match command {
         Command::Check { module_name } => obey_check(alloc, module_name, files),
         Command::List { module_name } => obey_list(alloc, module_name, files),
-        Command::Seq(calls) => obey_calls(rt, alloc, CallsProduct::Replies, calls, files),
+        Command::Seq(sequence) => {
+            obey_calls(rt, alloc, CallsProduct::Replies, sequence.calls, files)
+        }
         Command::Run(run) => obey_run(alloc, Product::Record, run, files),
         Command::RunTree(run) => obey_run(alloc, Product::TreeRecord, run, files),
         Command::RunSteps(run) => obey_run(alloc, Product::RecordWithSteps, run, files),
@@ -180,6 +186,10 @@ fn obey<R: Threads + Wait + Sync + RandomSource, F: Files>(
             };
             obey_draw_seen(rt, alloc, seen, files)
         }
+        Command::DrawHistory(seen) => obey_draw_history(rt, alloc, seen, files),
+        Command::Outcomes(outcomes) => {
+            obey_calls(rt, alloc, CallsProduct::Replies, outcomes.calls, files)
+        }
         Command::Verify {
             module_name,
             record_name,
@@ -191,6 +201,9 @@ fn obey<R: Threads + Wait + Sync + RandomSource, F: Files>(
         }
         Command::ExplainTraps(calls) => obey_calls(rt, alloc, CallsProduct::Traps, calls, files),
         Command::ExplainRun(run) => obey_run(alloc, Product::Explanation, run, files),
+        Command::ExplainAlways(asked) => {
+            obey_calls(rt, alloc, CallsProduct::Explanation, asked.calls, files)
+        }
         Command::ExplainRecord {
             module_name,
             record_name,
@@ -285,6 +298,28 @@ fn obey_draw_seen<R: RandomSource, F: Files>(
                 second.as_slice(),
                 range_of(seen.calls),
             )
+        }
+        TwoFiles::Unread(answer) => Ok(answer),
+    }
+}
+
+/// The answer to `draw` on a history, by a search that is told how to search.
+fn obey_draw_history<R: RandomSource, F: Files>(
+    rt: &R,
+    alloc: Global,
+    seen: SeenCommand<'_>,
+    files: &mut F,
+) -> Result<Answer, NoMemory>
+    ensures { IfOk result (λ a. IsObeyed F.reads (DrawHistory (seen_request_of seen.entry)) files.old a files.new) }
+{
+    match read_two(alloc, seen.module_name, seen.history_name, files)? {
+        TwoFiles::Read { module, second } => {
+            let drawing = HistoryDrawing {
+                budget: seen.budget,
+                most: seen.most,
+                calls: range_of(seen.calls),
+            };
+            answer_draw_history(rt, alloc, module.as_slice(), second.as_slice(), drawing)
         }
         TwoFiles::Unread(answer) => Ok(answer),
     }

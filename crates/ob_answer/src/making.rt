@@ -21,7 +21,7 @@ ghost use Rattle.ob_object_perform.specs.Texts.{texts_of};
 ghost use Rattle.ob_object_sequence.specs.SequentialRun.{is_want_of_memory};
 
 use ob_answer_files::answered::{Answer, refused};
-use ob_answer_orders::drawing::answer_draw_history;
+use ob_answer_orders::drawing::{HistoryDrawing, answer_draw_history};
 use ob_desk_texts::{ServeTextFault, serve_text};
 use ob_fault_lines::compile_faults::compile_fault_line;
 use ob_fault_lines::draw_faults::{draw_fault_line, draw_record_fault_line};
@@ -44,6 +44,9 @@ use std::alloc::Global;
 use std::random::RandomSource;
 use std::sync::Wait;
 use std::thread::Threads;
+
+/// How many configurations are looked at where nothing is said of it.
+const DEFAULT_MOST: u32 = 10_000_000;
 
 /// The answer of `check` to the beginning of a module's text.
 pub(crate) fn answer_check(alloc: Global, module: &[u8]) -> Result<Answer, NoMemory>
@@ -235,7 +238,12 @@ pub(crate) fn answer_draw_seen<R: RandomSource>(
     if is_record_form(seen) {
         return answer_draw_record(alloc, module, seen, calls);
     }
-    answer_draw_history(rt, alloc, module, seen, calls)
+    let drawing = HistoryDrawing {
+        budget: None,
+        most: DEFAULT_MOST,
+        calls,
+    };
+    answer_draw_history(rt, alloc, module, seen, drawing)
 }
 
 /// The same of a record.

@@ -1,10 +1,9 @@
 //! The answers of `draw` on a history. Of a module's text they have the beginning: a module of more bytes is too long.
 
-ghost use Rattle.std.specs.Prelude.{◌≡◌, ◌≢◌, ◌++◌, None, IfOk, codes};
+ghost use Rattle.std.specs.Prelude.{◌≡◌, ◌≢◌, ◌++◌, IfOk, codes};
 ghost use Rattle.ob_answer_files.specs.Printed.{IsRefused};
 ghost use Rattle.ob_answer_files.specs.Reads.{OfWhole};
 ghost use Rattle.ob_answer_orders.specs.HistoryPictureAnswers.{IsHistoryPictureAnswer};
-ghost use Rattle.ob_command.specs.CommandLine.{default_most};
 ghost use Rattle.ob_object_search_draw.specs.DrawHistoryFaults.{no_memory};
 ghost use Rattle.ob_order_lines.specs.HistoryFaultLines.{draw_history_fault_line};
 
@@ -18,8 +17,14 @@ use ob_text_picture_chart::CallRange;
 use std::alloc::Global;
 use std::random::RandomSource;
 
-/// How many configurations are looked at.
-const MOST: u32 = 10_000_000;
+/// How a history is drawn: with which budget of its calls, where one is given, how many configurations are looked at, and which calls are
+/// drawn.
+#[derive(Clone, Copy)]
+pub struct HistoryDrawing {
+    pub budget: Option<u32>,
+    pub most: u32,
+    pub calls: Option<CallRange>,
+}
 
 /// The answer to `draw`, of the beginning of a module's text and the text of a history, of some calls or of all.
 pub fn answer_draw_history<R: RandomSource>(
@@ -27,12 +32,12 @@ pub fn answer_draw_history<R: RandomSource>(
     alloc: Global,
     module: &[u8],
     history: &[u8],
-    calls: Option<CallRange>,
+    drawing: HistoryDrawing,
 ) -> Result<Answer, NoMemory>
-    ensures { IfOk result (OfWhole «module».now (λ whole. IsHistoryPictureAnswer calls whole history.now None default_most)) }
+    ensures { IfOk result (OfWhole «module».now (λ whole. IsHistoryPictureAnswer drawing.calls whole history.now drawing.budget drawing.most)) }
 {
-    let search = search_by(rt, None, MOST)?;
-    answer_drawn(alloc, module, history, &search, calls)
+    let search = search_by(rt, drawing.budget, drawing.most)?;
+    answer_drawn(alloc, module, history, &search, drawing.calls)
 }
 
 /// The same by a search.

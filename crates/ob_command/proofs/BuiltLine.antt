@@ -35,6 +35,9 @@ built_budget = record (built_one (codes "BUDGET") None (Some 98) (parser.Signed 
 abbrev pub built_most : Rule
 built_most = record (built_one (codes "K") None None (parser.Signed (pos 0) (pos 4294967295))) { long = Some (codes "most"); required = false }
 
+abbrev pub built_always : Rule
+built_always = record (built_one (codes "NAME") None None parser.String) { long = Some (codes "always"); required = false }
+
 abbrev pub built_by : Rule
 built_by = record (built_one (codes "BY") None None (parser.Signed (pos 0) (pos 65535))) { long = Some (codes "by"); value_names = 1; required = false }
 
@@ -89,7 +92,8 @@ abbrev pub module_leaf : Text → Shape
 module_leaf command = leaf command (built_name 1 (codes "MODULE") ∷ built_help ∷ [])
 
 abbrev pub seq_leaf : Shape
-seq_leaf = leaf (codes "seq") (built_name 1 (codes "MODULE") ∷ built_name 2 (codes "SCRIPT") ∷ built_budget ∷ built_from ∷ built_help ∷ [])
+seq_leaf = leaf (codes "seq") (built_name 1 (codes "MODULE") ∷ built_name 2 (codes "SCRIPT") ∷ built_budget ∷ built_from
+    ∷ built_flag (codes "state") ∷ built_flag (codes "turns") ∷ built_help ∷ [])
 
 abbrev pub run_leaf : Shape
 run_leaf = leaf (codes "run") (run_rules true false true (built_flag (codes "tree") ∷ built_flag (codes "steps")
@@ -99,7 +103,11 @@ abbrev pub serve_leaf : Shape
 serve_leaf = leaf (codes "serve") (built_name 1 (codes "MODULE") ∷ built_name 2 (codes "SCRIPT") ∷ built_number ∷ built_budget ∷ built_from ∷ built_help ∷ [])
 
 abbrev pub draw_leaf : Shape
-draw_leaf = leaf (codes "draw") (run_rules true false false (built_calls ∷ built_help ∷ []))
+draw_leaf = leaf (codes "draw") (run_rules true false false (built_calls ∷ built_most ∷ built_help ∷ []))
+
+abbrev pub outcomes_leaf : Shape
+outcomes_leaf = leaf (codes "outcomes") (built_name 1 (codes "MODULE") ∷ built_name 2 (codes "SCRIPT") ∷ built_number ∷ built_budget ∷ built_from
+    ∷ built_always ∷ built_flag (codes "whole") ∷ built_most ∷ built_help ∷ [])
 
 abbrev pub verify_leaf : Shape
 verify_leaf = leaf (codes "verify") (built_name 1 (codes "MODULE") ∷ built_name 2 (codes "RECORD") ∷ built_help ∷ [])
@@ -109,7 +117,7 @@ order_leaf = leaf (codes "order") (built_name 1 (codes "MODULE") ∷ built_name 
     ∷ built_flag (codes "record") ∷ built_by ∷ built_help ∷ [])
 
 abbrev pub explain_leaf : Shape
-explain_leaf = leaf (codes "explain") (run_rules false false false (built_record ∷ built_history ∷ built_flag (codes "traps") ∷ built_help ∷ []))
+explain_leaf = leaf (codes "explain") (run_rules false false false (built_record ∷ built_history ∷ built_flag (codes "traps") ∷ built_always ∷ built_help ∷ []))
 
 abbrev pub bound_leaf : Shape
 bound_leaf = leaf (codes "bound") (built_name 1 (codes "MODULE") ∷ built_number ∷ built_budget ∷ built_help ∷ [])
@@ -120,13 +128,13 @@ built_top = record top_shape { rules = built_help ∷ []; is_leaf = false; is_bu
 abbrev pub built_app : App
 built_app = record {
   top = built_top;
-  subs = module_leaf (codes "check") ∷ module_leaf (codes "list") ∷ seq_leaf ∷ run_leaf ∷ serve_leaf ∷ draw_leaf ∷ verify_leaf
-      ∷ order_leaf ∷ explain_leaf ∷ bound_leaf ∷ [];
+  subs = module_leaf (codes "check") ∷ module_leaf (codes "list") ∷ seq_leaf ∷ run_leaf ∷ serve_leaf ∷ draw_leaf ∷ outcomes_leaf
+      ∷ verify_leaf ∷ order_leaf ∷ explain_leaf ∷ bound_leaf ∷ [];
 }
 
 abbrev pub names : Names
-names = (codes "check", []) ∷ (codes "list", []) ∷ (codes "seq", []) ∷ (codes "run", []) ∷ (codes "serve", []) ∷ (codes "draw", []) ∷ (codes "verify", [])
-    ∷ (codes "order", []) ∷ (codes "explain", []) ∷ (codes "bound", []) ∷ []
+names = (codes "check", []) ∷ (codes "list", []) ∷ (codes "seq", []) ∷ (codes "run", []) ∷ (codes "serve", []) ∷ (codes "draw", []) ∷ (codes "outcomes", [])
+    ∷ (codes "verify", []) ∷ (codes "order", []) ∷ (codes "explain", []) ∷ (codes "bound", []) ∷ []
 
 -- ---- the rows that clap keeps of a command
 

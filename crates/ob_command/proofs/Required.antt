@@ -6,9 +6,9 @@ use Rattle.clap.specs.Facts.{explicit_source}
 use Rattle.clap.specs.Values.{read_as, reading_of, refused_kind}
 use Rattle.clap.specs.ValueTests.{accepts}
 use Rattle.clap.specs.declared.builder.value_parser.ValueParser.{ValueParser}
-use Rattle.clap.specs.declared.parser.matches.ValueSource.TheVariants.{CommandLine}
+use Rattle.clap.specs.declared.parser.matches.ValueSource.TheVariants.{CommandLine, DefaultValue}
 use Rattle.clap.specs.declared.builder.value_parser.ValueParser.TheVariants as parser
-use Rattle.clap.specs.Walk.{Row, Rule, Text, action_of, answers_to, first_of, has_row, nothing_held, rows_after, used, values_or_missing, walk, walk_from, without, finished, settled}
+use Rattle.clap.specs.Walk.{Row, Rule, Text, action_of, answers_to, first_of, has_row, nothing_held, rows_after, used, values_or_missing, walk, walk_from, with_values, without, finished, settled}
 use Rattle.clap.specs.Kinds.{Kinds, check_kinds, or_else, range_kinds, value_kinds, values_kinds}
 use Rattle.clap.specs.Faults.{action_fault, check_fault, defaults_fault, entered_fault, fault_of, level_fault, repeat_fault, settle_fault, use_fault, walk_fault}
 use Rattle.clap.specs.Simple.{Shape, entered, label_of, rows_at, subcommand_of}
@@ -16,8 +16,8 @@ use Rattle.clap.specs.Takes.{is_given}
 use Rattle.clap.specs.declared.error.kind.ErrorKind.{ErrorKind}
 use Rattle.clap.specs.declared.error.kind.ErrorKind.TheVariants as kind
 use Rattle.ob_command_line.specs.ClapCommand.{obl0_app}
-use Rattle.ob_command.specs.CommandLine.{Seq, Serve, Verify, asked, asks_command, calls_of, command_of, form_mistake, form_mistake_of, given_of, processes_of, sequence_of}
-use Rattle.ob_command.proofs.BuiltLine.{bound_leaf, built_app, built_budget, built_from, built_help, built_name, built_number, built_one, built_top, draw_leaf, explain_leaf, module_leaf, names, needed, order_leaf, run_leaf, seq_leaf, serve_leaf, verify_leaf}
+use Rattle.ob_command.specs.CommandLine.{Serve, Verify, asked, asks_command, calls_of, command_of, form_mistake, form_mistake_of, given_of, processes_of, sequence_of}
+use Rattle.ob_command.proofs.BuiltLine.{bound_leaf, built_app, built_budget, built_flag, built_from, built_help, built_name, built_number, built_one, built_top, draw_leaf, explain_leaf, module_leaf, names, needed, order_leaf, outcomes_leaf, run_leaf, seq_leaf, serve_leaf, verify_leaf}
 use Rattle.ob_command.proofs.FilledRows.{EachFills, Filled, Fills, given_first, given_number, level_filled, neither, suits, with_filled, without_filled}
 use Rattle.ob_command.proofs.Numbers.{budget_accepted, number_accepted}
 
@@ -62,6 +62,30 @@ module _ (id : Text) (place short : Option ℕ) (p : ValueParser) (lets : LetsTh
 
   fills_one : Fills one
   fills_one = record { uses = one_uses; defaulted = λ rows f. kept (has_row id rows) rows f }
+
+-- a word without a value
+none_wanted : (n : ℕ) → range_kinds 0 0 (suc n) ≡ kind.WrongNumberOfValues ∷ []
+none_wanted n =
+    let other : (0 == suc n) ≡ false = ne_eqb 0 (suc n) (λ e. omega arith) in
+    rw other refl
+
+module _ (name : Text) (lets : (v : Text) → suits name (read_as (reading_of parser.Bool) v) ≡ true) where
+  flag_uses : (again : Bool) (values : List Text) (rows : List Row) → use_fault again (built_flag name) values rows ≡ [] → Filled rows
+      → Filled (used (built_flag name) values rows)
+  flag_uses again [] rows none f =
+      with_filled name (reading_of parser.Bool) CommandLine (codes "true") (without name rows) (lets (codes "true")) (without_filled name rows f)
+  flag_uses again (v ∷ rest) rows none f =
+      let ranged = neither (range_kinds 0 0 (suc (length rest)))
+      (action_fault (action_of (built_flag name)) again (built_flag name) (values_or_missing (built_flag name) (v ∷ rest)) rows) none in
+      absurd (no_kinds kind.WrongNumberOfValues [] (sym (none_wanted (length rest)) ∙ ranged.0))
+
+  fills_flag : Fills (built_flag name)
+  fills_flag = record { uses = flag_uses; defaulted = λ rows f. go (has_row name rows) rows f }
+    where
+      go : (t : Bool) (rows : List Row) → Filled rows
+          → Filled (if t then rows else with_values name (reading_of parser.Bool) DefaultValue (codes "false" ∷ []) rows)
+      go true rows f = f
+      go false rows f = with_filled name (reading_of parser.Bool) DefaultValue (codes "false") rows (lets (codes "false")) f
 
 -- a name, which has to be there or may be missing
 fills_name : (place : ℕ) (id : Text) → LetsThrough id parser.String → (t : Bool) → Fills (needed t (built_name place id))
@@ -176,11 +200,11 @@ verify_asks words none =
 
 seq_asks : AsksBy seq_leaf
 seq_asks words none =
-    let p = passes seq_leaf (fills_name 1 (codes "MODULE") any_text true, (fills_name 2 (codes "SCRIPT") any_text true, (fills_budget, (fills_from, (fills_help, tt))))) refl words none in
+    let p = passes seq_leaf (fills_name 1 (codes "MODULE") any_text true, (fills_name 2 (codes "SCRIPT") any_text true, (fills_budget, (fills_from, (fills_flag (codes "state") (λ v. refl), (fills_flag (codes "turns") (λ v. refl), (fills_help, tt))))))) refl words none in
     let rows = rows_of_leaf seq_leaf words in
     let script = given_first (codes "SCRIPT") rows p.filled (p.given.1.0 refl) in
     asks_with (codes "seq") rows (given_first (codes "MODULE") rows p.filled (p.given.0 refl))
-    (λ m. some_map (sequence_of m (given_of rows)) Seq (some_map (first_of (codes "SCRIPT") rows) _ script))
+    (λ m. some_map (sequence_of m (given_of rows)) _ (some_map (first_of (codes "SCRIPT") rows) _ script))
 
 serve_asks : AsksBy serve_leaf
 serve_asks words none =
@@ -249,7 +273,13 @@ each_asks = (
         several_forms run_leaf (λ rows. refl),
         (
           one_form serve_leaf serve_asks,
-          (several_forms draw_leaf (λ rows. refl), (one_form verify_leaf verify_asks, (several_forms order_leaf (λ rows. refl), (several_forms explain_leaf (λ rows. refl), (one_form bound_leaf bound_asks, tt))))),
+          (
+            several_forms draw_leaf (λ rows. refl),
+            (
+              several_forms outcomes_leaf (λ rows. refl),
+              (one_form verify_leaf verify_asks, (several_forms order_leaf (λ rows. refl), (several_forms explain_leaf (λ rows. refl), (one_form bound_leaf bound_asks, tt)))),
+            ),
+          ),
         ),
       ),
     ),

@@ -15,7 +15,7 @@ use Rattle.ob_command.specs.declared.command.OrderProduct.TheVariants.{Apart, Li
 use Rattle.ob_command.specs.declared.command.RunProduct.{RunProduct}
 use Rattle.ob_command.specs.declared.command.RunProduct.TheVariants as products
 use Rattle.ob_command.specs.declared.given.Part.{Part}
-use Rattle.ob_command.specs.declared.given.Part.TheVariants.{Script, Schedule, Record, History, From, Processes, Budget, Tree, Steps, Traps, Seed, Length, Finish}
+use Rattle.ob_command.specs.declared.given.Part.TheVariants.{Script, Schedule, Record, History, From, Processes, Budget, Most, Always, Tree, Steps, Traps, Seed, Length, Finish}
 
 abbrev pub Text : Type 0
 Text = List ℕ
@@ -28,6 +28,26 @@ pub record CallsRequest : Type 0 where
   pub processes : ℕ
   pub budget : ℕ
   pub from_name : Option Text
+
+-- What calls that are made one at a time are made of, and what is told of them beside their replies: the variables that each changed, and how
+-- many turns it took.
+pub record SeqRequest : Type 0 where
+  pub calls : CallsRequest
+  pub state : Bool
+  pub turns : Bool
+
+-- What all runs are made of: their calls, the name of the procedure that is to answer TRUE always, where one is named, whether each whole
+-- outcome is told, and how many configurations are looked at at most.
+pub record OutcomesRequest : Type 0 where
+  pub calls : CallsRequest
+  pub always : Option Text
+  pub whole : Bool
+  pub most : ℕ
+
+-- What is explained of all runs: their calls, and the name of the procedure that is to answer TRUE always.
+pub record AlwaysRequest : Type 0 where
+  pub calls : CallsRequest
+  pub name : Text
 
 -- What a run is made of: its calls, and the name of the file of its schedule.
 pub record RunRequest : Type 0 where
@@ -51,17 +71,26 @@ pub record OrderRequest : Type 0 where
   pub most : ℕ
   pub product : OrderProduct
 
+-- What a picture of a history is made of: the names of the files of a module and a history, the budget of its calls where one is given, how
+-- many configurations are looked at at most, and the calls that are drawn.
+pub record SeenRequest : Type 0 where
+  pub module_name : Text
+  pub history_name : Text
+  pub budget : Option ℕ
+  pub most : ℕ
+  pub calls : Option CallNumbers
+
 -- What they ask for: the rules of a module checked; its code listed; the calls of a script made on it; a run's record; the record of the
 -- same run by the tree of the module; the record with the own steps of its calls beside it; the same of a run that goes on until each call has
--- ended, and of a run by a schedule of chance; the record of workers' run; a run's picture;
--- a record's; the order of a record checked; a legal order of a history; what is wrong with a module, or with a module and a script, shown
--- to people; where the calls of a script trap, shown to people; what is wrong with a run; the same of a record, and of a history; how many
+-- ended, and of a run by a schedule of chance; the record of workers' run; a run's picture; that of a record or of a history, and of a history
+-- by a search that is told how to search; what may happen over all runs; the order of a record checked; a legal order of a history; what is
+-- wrong with a module, or with a module and a script, shown to people; how all runs come to what is not to be; where the calls of a script trap, shown to people; what is wrong with a run; the same of a record, and of a history; how many
 -- own steps a call takes at most; help; the version; or nothing that there is. A command has the names of its files, and a budget is how
 -- many turns each call has. A picture has some calls, or all.
 pub data Request : Type 0 where
   Check : (module_name : Text) → Request
   Listing : (module_name : Text) → Request
-  Seq : (calls : CallsRequest) → Request
+  Seq : (sequence : SeqRequest) → Request
   Run : (run : RunRequest) → Request
   RunTree : (run : RunRequest) → Request
   RunSteps : (run : RunRequest) → Request
@@ -70,12 +99,15 @@ pub data Request : Type 0 where
   Serve : (calls : CallsRequest) → Request
   Draw : (run : RunRequest) (calls : Option CallNumbers) → Request
   DrawRecord : (module_name record_name : Text) (calls : Option CallNumbers) → Request
+  DrawHistory : (seen : SeenRequest) → Request
+  Outcomes : (outcomes : OutcomesRequest) → Request
   Verify : (module_name record_name : Text) → Request
   Order : (order : OrderRequest) → Request
   Explain : (module_name : Text) (budget : ℕ) → Request
   ExplainCalls : (calls : CallsRequest) → Request
   ExplainTraps : (calls : CallsRequest) → Request
   ExplainRun : (run : RunRequest) → Request
+  ExplainAlways : (asked : AlwaysRequest) → Request
   ExplainRecord : (module_name record_name : Text) → Request
   ExplainHistory : (module_name history_name : Text) → Request
   Bound : (module_name : Text) (processes budget : ℕ) → Request
@@ -131,6 +163,10 @@ default_budget = 100000
 abbrev pub default_most : ℕ
 default_most = 10000000
 
+-- the same of a search over all runs
+abbrev pub default_most_reached : ℕ
+default_most_reached = 1000000
+
 -- a budget that calls of a history can have had, a number of configurations, and the place of an argument
 abbrev pub is_seen_budget : ℕ → Bool
 is_seen_budget budget = nat_le budget 1000000
@@ -154,8 +190,8 @@ sequence_processes = 16
 
 -- ---- what stands behind a command
 
--- What is given behind the name of a command and that of a module: the names of files, the calls of a picture as they are written, numbers,
--- and words that have no value.
+-- What is given behind the name of a command and that of a module: the names of files, the calls of a picture as they are written, the name of
+-- a procedure, numbers, and words that have no value.
 pub record Given : Type 0 where
   pub script_name : Option Text
   pub schedule_name : Option Text
@@ -163,6 +199,7 @@ pub record Given : Type 0 where
   pub history_name : Option Text
   pub from_name : Option Text
   pub range : Option Text
+  pub always : Option Text
   pub processes : Option ℕ
   pub budget : Option ℕ
   pub most : Option ℕ
@@ -174,6 +211,9 @@ pub record Given : Type 0 where
   pub steps : Bool
   pub traps : Bool
   pub finish : Bool
+  pub state : Bool
+  pub turns : Bool
+  pub whole : Bool
 
 -- the number that stands behind `-n`, of the rows in which clap keeps what stood behind the command
 abbrev pub processes_of : List Row → Option ℕ
@@ -215,6 +255,7 @@ given_of rows = record {
   history_name = first_of (codes "HISTORY") rows;
   from_name = first_of (codes "FROM") rows;
   range = first_of (codes "FROM-TO") rows;
+  always = first_of (codes "NAME") rows;
   processes = processes_of rows;
   budget = budget_of rows;
   most = most_of rows;
@@ -226,6 +267,9 @@ given_of rows = record {
   steps = is_set (codes "steps") rows;
   traps = is_set (codes "traps") rows;
   finish = is_set (codes "finish") rows;
+  state = is_set (codes "state") rows;
+  turns = is_set (codes "turns") rows;
+  whole = is_set (codes "whole") rows;
 }
 
 -- ---- the table of the commands
@@ -250,6 +294,33 @@ sequence_of = calls_by sequence_processes
 
 abbrev pub calls_of : (module_name : Text) → Given → Option CallsRequest
 calls_of module_name given = option_and_then (λ processes. calls_by processes module_name given) given.processes
+
+-- what is told of calls that are made one at a time
+abbrev pub seq_of : (module_name : Text) → Given → Option Request
+seq_of module_name given =
+    option_map (λ calls. Seq (record { calls = calls; state = given.state; turns = given.turns })) (sequence_of module_name given)
+
+-- the number of configurations is in its range, where it is given, and a name does not stand beside `--whole`
+abbrev pub are_reached : Given → Bool
+are_reached given = option_map_or is_most given.most true && not (is_some given.always && given.whole)
+
+-- all runs of as many processes as are given
+abbrev pub outcomes_by : (module_name : Text) → Given → Option Request
+outcomes_by module_name given = option_map (λ calls. Outcomes (record {
+  calls = calls;
+  always = given.always;
+  whole = given.whole;
+  most = unwrap_or given.most default_most_reached;
+})) (calls_of module_name given)
+
+-- the same where what is given goes together
+abbrev pub outcomes_of : (module_name : Text) → Given → Option Request
+outcomes_of module_name given = if are_reached given then outcomes_by module_name given else None
+
+-- the name that is to answer TRUE always in all runs
+abbrev pub always_of : (module_name : Text) → Given → Option Request
+always_of module_name given =
+    option_and_then (λ calls. option_map (λ name. ExplainAlways (record { calls = calls; name = name })) given.always) (calls_of module_name given)
 
 -- the run of them by a schedule
 abbrev pub run_of : (module_name : Text) → Given → Option RunRequest
@@ -301,11 +372,21 @@ abbrev pub record_picture_of : (module_name : Text) → Given → Option Request
 record_picture_of module_name given =
     option_and_then (λ calls. option_map (λ record_name. DrawRecord module_name record_name calls) given.script_name) (range_by given.range)
 
+-- the picture of a history, whose file stands there too, by a search that is told how to search
+abbrev pub history_picture_by : (module_name : Text) → Given → Option CallNumbers → Option Request
+history_picture_by module_name given calls = option_map (λ history_name. DrawHistory (record {
+  module_name = module_name;
+  history_name = history_name;
+  budget = given.budget;
+  most = unwrap_or given.most default_most;
+  calls = calls;
+})) given.script_name
+
 -- the bound of as many processes as are given
 abbrev pub bound_of : (module_name : Text) → Given → Option Request
 bound_of module_name given = option_map (λ processes. Bound module_name processes (turns_of given)) given.processes
 
--- the numbers behind `order` are in their ranges, where they are given
+-- the numbers of a search for an order are in their ranges, where they are given
 abbrev pub are_seen : Given → Bool
 are_seen given =
     option_map_or is_seen_budget given.budget true && option_map_or is_most given.most true && option_map_or is_place given.argument true
@@ -332,6 +413,11 @@ abbrev pub order_of : (module_name : Text) → Given → Option Request
 order_of module_name given =
     if are_seen given then option_and_then (order_by module_name given) (product_by given.as_record given.argument) else None
 
+-- the picture of a history, where the numbers are in their ranges
+abbrev pub history_picture_of : (module_name : Text) → Given → Option Request
+history_picture_of module_name given =
+    if are_seen given then option_and_then (history_picture_by module_name given) (range_by given.range) else None
+
 -- whether a part of what may be given is given
 abbrev pub has : Given → Part → Bool
 has given Script = is_some given.script_name
@@ -341,6 +427,8 @@ has given History = is_some given.history_name
 has given From = is_some given.from_name
 has given Processes = is_some given.processes
 has given Budget = is_some given.budget
+has given Most = is_some given.most
+has given Always = is_some given.always
 has given Tree = given.tree
 has given Steps = given.steps
 has given Traps = given.traps
@@ -381,34 +469,40 @@ run_forms =
 
 abbrev pub draw_forms : List Form
 draw_forms =
-    form (Schedule ∷ []) [] picture_of
-    ∷ form [] (Schedule ∷ Processes ∷ Budget ∷ From ∷ []) record_picture_of
+    form (Schedule ∷ []) (Most ∷ []) picture_of
+    ∷ form [] (Schedule ∷ Processes ∷ Budget ∷ Most ∷ From ∷ []) record_picture_of
+    ∷ form [] (Schedule ∷ Processes ∷ From ∷ []) history_picture_of
     ∷ []
 
 -- what is explained of a module alone, or with calls
 abbrev pub explain_calls_forms : List Form
 explain_calls_forms =
-    form (Traps ∷ []) (Record ∷ History ∷ Schedule ∷ Processes ∷ []) (λ m given. option_map ExplainTraps (sequence_of m given))
-    ∷ form (Schedule ∷ []) (Record ∷ History ∷ Traps ∷ []) (λ m given. option_map ExplainRun (run_of m given))
-    ∷ form (Script ∷ []) (Record ∷ History ∷ Traps ∷ Schedule ∷ Processes ∷ []) (λ m given. option_map ExplainCalls (sequence_of m given))
-    ∷ form [] (Record ∷ History ∷ Traps ∷ Schedule ∷ Script ∷ Processes ∷ From ∷ []) (λ m given. Some (Explain m (turns_of given)))
+    form (Traps ∷ []) (Record ∷ History ∷ Always ∷ Schedule ∷ Processes ∷ []) (λ m given. option_map ExplainTraps (sequence_of m given))
+    ∷ form (Schedule ∷ []) (Record ∷ History ∷ Always ∷ Traps ∷ []) (λ m given. option_map ExplainRun (run_of m given))
+    ∷ form (Script ∷ []) (Record ∷ History ∷ Always ∷ Traps ∷ Schedule ∷ Processes ∷ []) (λ m given. option_map ExplainCalls (sequence_of m given))
+    ∷ form [] (Record ∷ History ∷ Always ∷ Traps ∷ Schedule ∷ Script ∷ Processes ∷ From ∷ []) (λ m given. Some (Explain m (turns_of given)))
     ∷ []
+
+-- the same, or of all runs
+abbrev pub explain_script_forms : List Form
+explain_script_forms = form (Always ∷ []) (Record ∷ History ∷ Schedule ∷ Traps ∷ []) always_of ∷ explain_calls_forms
 
 abbrev pub explain_forms : List Form
 explain_forms =
-    form (Record ∷ []) (History ∷ Script ∷ Processes ∷ Budget ∷ From ∷ Traps ∷ []) (λ m given. option_map (ExplainRecord m) given.record_name)
-    ∷ form (History ∷ []) (Record ∷ Script ∷ Processes ∷ Budget ∷ From ∷ Traps ∷ []) (λ m given. option_map (ExplainHistory m) given.history_name)
-    ∷ explain_calls_forms
+    form (Record ∷ []) (History ∷ Script ∷ Processes ∷ Budget ∷ From ∷ Traps ∷ Always ∷ []) (λ m given. option_map (ExplainRecord m) given.record_name)
+    ∷ form (History ∷ []) (Record ∷ Script ∷ Processes ∷ Budget ∷ From ∷ Traps ∷ Always ∷ []) (λ m given. option_map (ExplainHistory m) given.history_name)
+    ∷ explain_script_forms
 
 -- each command with its forms
 abbrev pub commands : List (Text × List Form)
 commands =
     (codes "check", one_form (λ m given. Some (Check m)))
     ∷ (codes "list", one_form (λ m given. Some (Listing m)))
-    ∷ (codes "seq", one_form (λ m given. option_map Seq (sequence_of m given)))
+    ∷ (codes "seq", one_form seq_of)
     ∷ (codes "run", run_forms)
     ∷ (codes "serve", one_form (λ m given. option_map Serve (calls_of m given)))
     ∷ (codes "draw", draw_forms)
+    ∷ (codes "outcomes", one_form outcomes_of)
     ∷ (codes "verify", one_form (λ m given. option_map (Verify m) given.record_name))
     ∷ (codes "order", one_form order_of)
     ∷ (codes "explain", explain_forms)
@@ -437,7 +531,7 @@ is_option _ = false
 -- what is said of words that clap accepts behind `draw`, and that are in none of its forms
 abbrev pub draw_mistake : Text
 draw_mistake =
-    codes "error: these words are in no form of draw, which are\n  obl0 draw MODULE SCRIPT SCHEDULE -n N [-b BUDGET] [--from RECORD] [--calls FROM-TO]\n  obl0 draw MODULE RECORD [--calls FROM-TO]\n\nFor more information, try '--help'.\n"
+    codes "error: these words are in no form of draw, which are\n  obl0 draw MODULE SCRIPT SCHEDULE -n N [-b BUDGET] [--from RECORD] [--calls FROM-TO]\n  obl0 draw MODULE RECORD [--calls FROM-TO]\n  obl0 draw MODULE HISTORY [-b BUDGET] [--most K] [--calls FROM-TO]\n\nFor more information, try '--help'.\n"
 
 -- and of a word behind `--calls` that names no calls
 abbrev pub calls_mistake : Text
@@ -452,7 +546,7 @@ turned_mistake =
 -- and of words behind `explain` that are in none of its forms
 abbrev pub explain_mistake : Text
 explain_mistake =
-    codes "error: these words are in no form of explain, which are\n  obl0 explain MODULE\n  obl0 explain MODULE SCRIPT [-b BUDGET] [--from RECORD] [--traps]\n  obl0 explain MODULE SCRIPT SCHEDULE -n N [-b BUDGET] [--from RECORD]\n  obl0 explain MODULE --record RECORD\n  obl0 explain MODULE --history HISTORY\n\nFor more information, try '--help'.\n"
+    codes "error: these words are in no form of explain, which are\n  obl0 explain MODULE\n  obl0 explain MODULE SCRIPT [-b BUDGET] [--from RECORD] [--traps]\n  obl0 explain MODULE SCRIPT SCHEDULE -n N [-b BUDGET] [--from RECORD]\n  obl0 explain MODULE SCRIPT -n N --always NAME [-b BUDGET] [--from RECORD]\n  obl0 explain MODULE --record RECORD\n  obl0 explain MODULE --history HISTORY\n\nFor more information, try '--help'.\n"
 
 -- and of numbers behind `order` that are out of their ranges
 abbrev pub seen_budget_mistake : Text
@@ -470,6 +564,10 @@ place_mistake =
 -- and of words there that ask for a record of parts
 abbrev pub parts_mistake : Text
 parts_mistake = codes "error: --record and --by don't stand together\n\nFor more information, try '--help'.\n"
+
+-- and of words behind `outcomes` that name a procedure beside `--whole`
+abbrev pub whole_mistake : Text
+whole_mistake = codes "error: --always and --whole don't stand together\n\nFor more information, try '--help'.\n"
 
 -- and of words behind `run` that ask for own steps by the tree, or that begin a run by the tree with a record
 abbrev pub steps_mistake : Text
@@ -504,9 +602,21 @@ has_negative words = list_any is_negative words
 abbrev pub range_mistake : Option Text → Text
 range_mistake text = if option_map_or is_turned text false then turned_mistake else calls_mistake
 
+-- and of words behind `draw` with such calls: of a number that is out of its range, where no schedule stands there, else of their form
+abbrev pub drawn_mistake : Given → Text
+drawn_mistake given =
+    if is_some given.schedule_name then draw_mistake
+    else if not (option_map_or is_most given.most true) then most_mistake
+    else if not (option_map_or is_seen_budget given.budget true) then seen_budget_mistake
+    else draw_mistake
+
 -- and of all words behind `draw` that are in none of its forms
-abbrev pub draw_mistake_of : (range : Option Text) → Text
-draw_mistake_of range = if is_some (range_by range) then draw_mistake else range_mistake range
+abbrev pub draw_mistake_of : Given → Text
+draw_mistake_of given = if is_some (range_by given.range) then drawn_mistake given else range_mistake given.range
+
+-- and of words behind `outcomes`: of the number of configurations where that is out of its range, else that a name stands beside `--whole`
+abbrev pub outcomes_mistake_of : Given → Text
+outcomes_mistake_of given = if option_map_or is_most given.most true then whole_mistake else most_mistake
 
 -- and of such words behind `run`: of the number of steps where that is out of its range, else of words that don't stand together by the tree
 abbrev pub run_mistake_of : Given → Text
@@ -525,14 +635,16 @@ order_mistake_of given =
     else if not (option_map_or is_place given.argument true) then place_mistake
     else parts_mistake
 
--- What is said where the words of a command that has several forms have none of these, or where what stands behind `order` does not fit.
+-- What is said where the words of a command that has several forms have none of these, or where what stands behind `order` or `outcomes` does
+-- not fit.
 -- Every other command has one form, which clap tests.
 abbrev pub form_mistake_by : Text → Given → Option Text
 form_mistake_by name given =
-    if bytes_eq name (codes "draw") then Some (draw_mistake_of given.range)
+    if bytes_eq name (codes "draw") then Some (draw_mistake_of given)
     else if bytes_eq name (codes "explain") then Some explain_mistake
     else if bytes_eq name (codes "run") then Some (run_mistake_of given)
     else if bytes_eq name (codes "order") then Some (order_mistake_of given)
+    else if bytes_eq name (codes "outcomes") then Some (outcomes_mistake_of given)
     else None
 
 -- the same of the rows
@@ -543,7 +655,7 @@ form_mistake name rows = form_mistake_by name (given_of rows)
 abbrev pub names_of : Text → Option ℕ
 names_of name =
     if bytes_eq name (codes "run") || (bytes_eq name (codes "draw") || bytes_eq name (codes "explain")) then Some 3
-    else if bytes_eq name (codes "serve") then Some 2
+    else if bytes_eq name (codes "serve") || bytes_eq name (codes "outcomes") then Some 2
     else if bytes_eq name (codes "bound") then Some 1
     else None
 
@@ -581,8 +693,8 @@ clap_request words = request_by (fault_of obl0_app words) (subcommand_of obl0_ap
 -- the names of the commands
 abbrev pub command_names : List Text
 command_names =
-    codes "check" ∷ codes "list" ∷ codes "seq" ∷ codes "run" ∷ codes "serve" ∷ codes "draw" ∷ codes "verify"
-    ∷ codes "order" ∷ codes "explain" ∷ codes "bound" ∷ []
+    codes "check" ∷ codes "list" ∷ codes "seq" ∷ codes "run" ∷ codes "serve" ∷ codes "draw"
+    ∷ codes "outcomes" ∷ codes "verify" ∷ codes "order" ∷ codes "explain" ∷ codes "bound" ∷ []
 
 abbrev pub is_command : Text → Bool
 is_command name = list_any (bytes_eq name) command_names

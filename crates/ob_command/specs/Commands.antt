@@ -6,15 +6,19 @@ use Rattle.clap.specs.declared.error.kind.ErrorKind.{ErrorKind}
 use Rattle.clap.specs.declared.error.kind.ErrorKind.TheVariants as kind
 use Rattle.ob_command.specs.declared.command.Command as command
 use Rattle.ob_command.specs.declared.command.Command.TheVariants as commands
+use Rattle.ob_command.specs.declared.command.AlwaysCommand.{AlwaysCommand}
 use Rattle.ob_command.specs.declared.command.CallsCommand.{CallsCommand}
 use Rattle.ob_command.specs.declared.command.ChanceCommand.{ChanceCommand}
 use Rattle.ob_command.specs.declared.command.OrderCommand.{OrderCommand}
+use Rattle.ob_command.specs.declared.command.OutcomesCommand.{OutcomesCommand}
 use Rattle.ob_command.specs.declared.command.RunCommand.{RunCommand}
+use Rattle.ob_command.specs.declared.command.SeenCommand.{SeenCommand}
+use Rattle.ob_command.specs.declared.command.SeqCommand.{SeqCommand}
 use Rattle.ob_command.specs.declared.given.GivenWords.{GivenWords}
 use Rattle.ob_command.specs.declared.command.Stop.{Stop}
 use Rattle.ob_command.specs.declared.command.Stop.TheVariants as stops
 use Rattle.ob_command_line.specs.ClapCommand.{obl0_app}
-use Rattle.ob_command.specs.CommandLine.{Text, clap_words, extra_of_help, form_mistake_of, has_negative, help_mistake, loose_number, number_sentence, number_tip, CallsRequest, ChanceRequest, Given, OrderRequest, Request, RunRequest, Check, Listing, Seq, Run, RunTree, RunSteps, RunFinished, RunByChance, Serve, Draw, DrawRecord, Verify, Order, Explain, ExplainCalls, ExplainTraps, ExplainRun, ExplainRecord, ExplainHistory, Bound, Help, Version, Unclear}
+use Rattle.ob_command.specs.CommandLine.{Text, clap_words, extra_of_help, form_mistake_of, has_negative, help_mistake, loose_number, number_sentence, number_tip, AlwaysRequest, CallsRequest, ChanceRequest, Given, OrderRequest, OutcomesRequest, Request, RunRequest, SeenRequest, SeqRequest, Check, Listing, Seq, Run, RunTree, RunSteps, RunFinished, RunByChance, Serve, Draw, DrawRecord, DrawHistory, Outcomes, Verify, Order, Explain, ExplainCalls, ExplainTraps, ExplainRun, ExplainAlways, ExplainRecord, ExplainHistory, Bound, Help, Version, Unclear}
 
 -- what is given by words
 abbrev pub given_by : GivenWords → Given
@@ -25,6 +29,7 @@ given_by given = record {
   history_name = option_map (λ name. name.now) given.history_name;
   from_name = option_map (λ name. name.now) given.from_name;
   range = option_map (λ text. text.now) given.range;
+  always = option_map (λ name. name.now) given.always;
   processes = given.processes;
   budget = given.budget;
   most = given.most;
@@ -36,6 +41,9 @@ given_by given = record {
   steps = given.steps;
   traps = given.traps;
   finish = given.finish;
+  state = given.state;
+  turns = given.turns;
+  whole = given.whole;
 }
 
 -- what a command asks for
@@ -47,6 +55,20 @@ calls_request_of calls = record {
   budget = calls.budget;
   from_name = option_map (λ name. name.now) calls.from_name;
 }
+
+abbrev pub seq_request_of : SeqCommand → SeqRequest
+seq_request_of sequence = record { calls = calls_request_of sequence.calls; state = sequence.state; turns = sequence.turns }
+
+abbrev pub outcomes_request_of : OutcomesCommand → OutcomesRequest
+outcomes_request_of outcomes = record {
+  calls = calls_request_of outcomes.calls;
+  always = option_map (λ name. name.now) outcomes.always;
+  whole = outcomes.whole;
+  most = outcomes.most;
+}
+
+abbrev pub always_request_of : AlwaysCommand → AlwaysRequest
+always_request_of asked = record { calls = calls_request_of asked.calls; name = asked.name.now }
 
 abbrev pub run_request_of : RunCommand → RunRequest
 run_request_of run = record { calls = calls_request_of run.calls; schedule_name = run.schedule_name.now }
@@ -63,10 +85,19 @@ order_request_of order = record {
   product = order.product;
 }
 
+abbrev pub seen_request_of : SeenCommand → SeenRequest
+seen_request_of seen = record {
+  module_name = seen.module_name.now;
+  history_name = seen.history_name.now;
+  budget = seen.budget;
+  most = seen.most;
+  calls = seen.calls;
+}
+
 abbrev pub request_of : command.Command → Request
 request_of (commands.Check module_name) = Check module_name.now
 request_of (commands.List module_name) = Listing module_name.now
-request_of (commands.Seq calls) = Seq (calls_request_of calls)
+request_of (commands.Seq sequence) = Seq (seq_request_of sequence)
 request_of (commands.Run run) = Run (run_request_of run)
 request_of (commands.RunTree run) = RunTree (run_request_of run)
 request_of (commands.RunSteps run) = RunSteps (run_request_of run)
@@ -75,12 +106,15 @@ request_of (commands.RunByChance product run) = RunByChance product (chance_requ
 request_of (commands.Serve calls) = Serve (calls_request_of calls)
 request_of (commands.Draw run calls) = Draw (run_request_of run) calls
 request_of (commands.DrawRecord module_name record_name calls) = DrawRecord module_name.now record_name.now calls
+request_of (commands.DrawHistory seen) = DrawHistory (seen_request_of seen)
+request_of (commands.Outcomes outcomes) = Outcomes (outcomes_request_of outcomes)
 request_of (commands.Verify module_name record_name) = Verify module_name.now record_name.now
 request_of (commands.Order order) = Order (order_request_of order)
 request_of (commands.Explain module_name budget) = Explain module_name.now budget
 request_of (commands.ExplainCalls calls) = ExplainCalls (calls_request_of calls)
 request_of (commands.ExplainTraps calls) = ExplainTraps (calls_request_of calls)
 request_of (commands.ExplainRun run) = ExplainRun (run_request_of run)
+request_of (commands.ExplainAlways asked) = ExplainAlways (always_request_of asked)
 request_of (commands.ExplainRecord module_name record_name) = ExplainRecord module_name.now record_name.now
 request_of (commands.ExplainHistory module_name history_name) = ExplainHistory module_name.now history_name.now
 request_of (commands.Bound module_name processes budget) = Bound module_name.now processes budget

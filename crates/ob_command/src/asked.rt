@@ -2,15 +2,16 @@
 
 ghost use Rattle.std.specs.Prelude.{◌≡◌, option_map, true};
 ghost use Rattle.std.specs.Option.{option_map_or};
-ghost use Rattle.ob_command.specs.CommandLine.{are_seen, asked, asked_by, bound_of, calls_by, calls_of, chance_by, chance_of, draw_forms};
-ghost use Rattle.ob_command.specs.CommandLine.{explain_calls_forms, explain_forms, finished_of, is_length, is_most};
-ghost use Rattle.ob_command.specs.CommandLine.{is_place, is_seen_budget, order_by, order_of, picture_of, product_by, product_of, record_picture_of};
-ghost use Rattle.ob_command.specs.CommandLine.{run_file_forms, run_forms, run_of, run_product, sequence_of, turns_of};
+ghost use Rattle.ob_command.specs.CommandLine.{always_of, are_reached, are_seen, asked, asked_by, bound_of, calls_by, calls_of, chance_by};
+ghost use Rattle.ob_command.specs.CommandLine.{chance_of, draw_forms, explain_calls_forms, explain_forms, explain_script_forms, finished_of, history_picture_by, history_picture_of, is_length};
+ghost use Rattle.ob_command.specs.CommandLine.{is_most, is_place, is_seen_budget, order_by, order_of, outcomes_by, outcomes_of, picture_of, product_by, product_of};
+ghost use Rattle.ob_command.specs.CommandLine.{record_picture_of, run_file_forms, run_forms, run_of, run_product, seq_of, sequence_of, turns_of};
 ghost use Rattle.ob_command.specs.Commands.{calls_request_of, chance_request_of, given_by, request_of, run_request_of};
 
 use crate::call_range::range_by;
 use crate::command::{
-    CallsCommand, ChanceCommand, Command, OrderCommand, OrderProduct, RunCommand, RunProduct,
+    AlwaysCommand, CallNumbers, CallsCommand, ChanceCommand, Command, OrderCommand, OrderProduct,
+    OutcomesCommand, RunCommand, RunProduct, SeenCommand, SeqCommand,
 };
 use crate::given::{GivenWords, Part, fits};
 
@@ -19,6 +20,9 @@ const DEFAULT_BUDGET: u32 = 100_000;
 
 /// How many configurations a search for an order looks at where nothing is said of it.
 const DEFAULT_MOST: u32 = 10_000_000;
+
+/// The same of a search over all runs.
+const DEFAULT_MOST_REACHED: u32 = 1_000_000;
 
 /// How many steps a schedule by chance has where nothing is said of them.
 const DEFAULT_LENGTH: u32 = 1000;
@@ -49,10 +53,11 @@ pub(crate) fn asked<'a>(
     match name {
         "check" => Some(Command::Check { module_name }),
         "list" => Some(Command::List { module_name }),
-        "seq" => Some(Command::Seq(sequence_of(module_name, given)?)),
+        "seq" => seq_of(module_name, given),
         "run" => run_asked(module_name, given),
         "serve" => Some(Command::Serve(calls_of(module_name, given)?)),
         "draw" => draw_asked(module_name, given),
+        "outcomes" => outcomes_of(module_name, given),
         "verify" => Some(Command::Verify {
             module_name,
             record_name: given.record_name?,
@@ -62,6 +67,48 @@ pub(crate) fn asked<'a>(
         "bound" => bound_of(module_name, given),
         _ => None,
     }
+}
+
+/// What is told of calls that are made one at a time.
+fn seq_of<'a>(module_name: &'a str, given: &GivenWords<'a>) -> Option<Command<'a>>
+    ensures { option_map request_of result ≡ seq_of module_name.entry.now (given_by given.now) }
+{
+    let calls = sequence_of(module_name, given)?;
+    Some(Command::Seq(SeqCommand {
+        calls,
+        state: given.state,
+        turns: given.turns,
+    }))
+}
+
+/// What is told of all runs, where what is given goes together.
+fn outcomes_of<'a>(module_name: &'a str, given: &GivenWords<'a>) -> Option<Command<'a>>
+    ensures { option_map request_of result ≡ outcomes_of module_name.entry.now (given_by given.now) }
+{
+    if !are_reached(given) {
+        return None;
+    }
+    outcomes_by(module_name, given)
+}
+
+/// The same of all that may be given.
+fn outcomes_by<'a>(module_name: &'a str, given: &GivenWords<'a>) -> Option<Command<'a>>
+    ensures { option_map request_of result ≡ outcomes_by module_name.entry.now (given_by given.now) }
+{
+    let calls = calls_of(module_name, given)?;
+    Some(Command::Outcomes(OutcomesCommand {
+        calls,
+        always: given.always,
+        whole: given.whole,
+        most: given.most.unwrap_or(DEFAULT_MOST_REACHED),
+    }))
+}
+
+/// Whether the number of configurations is in its range, where it is given, and no name stands beside `--whole`.
+fn are_reached(given: &GivenWords<'_>) -> bool
+    ensures { result ≡ are_reached (given_by given.now) }
+{
+    is_most(given.most) && !(given.always.is_some() && given.whole)
 }
 
 /// By which schedule a run is made and what is told of it, of what is given behind `run`.
@@ -186,15 +233,24 @@ pub(crate) fn is_length(length: Option<u32>) -> bool
 fn draw_asked<'a>(module_name: &'a str, given: &GivenWords<'a>) -> Option<Command<'a>>
     ensures { option_map request_of result ≡ asked_by draw_forms module_name.entry.now (given_by given.now) }
 {
-    if fits(given, &[Part::Schedule], &[]) {
+    if fits(given, &[Part::Schedule], &[Part::Most]) {
         return picture_of(module_name, given);
     }
     if fits(
         given,
         &[],
-        &[Part::Schedule, Part::Processes, Part::Budget, Part::From],
+        &[
+            Part::Schedule,
+            Part::Processes,
+            Part::Budget,
+            Part::Most,
+            Part::From,
+        ],
     ) {
         return record_picture_of(module_name, given);
+    }
+    if fits(given, &[], &[Part::Schedule, Part::Processes, Part::From]) {
+        return history_picture_of(module_name, given);
     }
     None
 }
@@ -219,6 +275,37 @@ fn record_picture_of<'a>(module_name: &'a str, given: &GivenWords<'a>) -> Option
         record_name,
         calls,
     })
+}
+
+/// The picture of a history, whose file stands there too, where the numbers are in their ranges.
+fn history_picture_of<'a>(module_name: &'a str, given: &GivenWords<'a>) -> Option<Command<'a>>
+    ensures { option_map request_of result ≡ history_picture_of module_name.entry.now (given_by given.now) }
+{
+    if !are_seen(given) {
+        return None;
+    }
+    let calls = range_by(given.range)?;
+    history_picture_by(module_name, given, calls)
+}
+
+/// The picture of these calls.
+fn history_picture_by<'a>(
+    module_name: &'a str,
+    given: &GivenWords<'a>,
+    calls: Option<CallNumbers>,
+) -> Option<Command<'a>>
+    ensures { option_map request_of result ≡ history_picture_by module_name.entry.now (given_by given.now) calls }
+{
+    let history_name = given.script_name?;
+    let budget = given.budget;
+    let most = given.most.unwrap_or(DEFAULT_MOST);
+    Some(Command::DrawHistory(SeenCommand {
+        module_name,
+        history_name,
+        budget,
+        most,
+        calls,
+    }))
 }
 
 /// The legal order of a history, where the numbers behind `order` are in their ranges.
@@ -262,7 +349,7 @@ fn order_by<'a>(
     }))
 }
 
-/// Whether the numbers behind `order` are in their ranges, where they are given.
+/// Whether the numbers of a search for an order are in their ranges, where they are given.
 fn are_seen(given: &GivenWords<'_>) -> bool
     ensures { result ≡ are_seen (given_by given.now) }
 {
@@ -313,6 +400,7 @@ fn explain_asked<'a>(module_name: &'a str, given: &GivenWords<'a>) -> Option<Com
             Part::Budget,
             Part::From,
             Part::Traps,
+            Part::Always,
         ],
     ) {
         return Some(Command::ExplainRecord {
@@ -330,6 +418,7 @@ fn explain_asked<'a>(module_name: &'a str, given: &GivenWords<'a>) -> Option<Com
             Part::Budget,
             Part::From,
             Part::Traps,
+            Part::Always,
         ],
     ) {
         return Some(Command::ExplainHistory {
@@ -337,7 +426,30 @@ fn explain_asked<'a>(module_name: &'a str, given: &GivenWords<'a>) -> Option<Com
             history_name: given.history_name?,
         });
     }
+    explain_script_asked(module_name, given)
+}
+
+/// What is to be shown of all runs, or of a module alone, or with calls.
+fn explain_script_asked<'a>(module_name: &'a str, given: &GivenWords<'a>) -> Option<Command<'a>>
+    ensures { option_map request_of result ≡ asked_by explain_script_forms module_name.entry.now (given_by given.now) }
+{
+    if fits(
+        given,
+        &[Part::Always],
+        &[Part::Record, Part::History, Part::Schedule, Part::Traps],
+    ) {
+        return always_of(module_name, given);
+    }
     explain_calls_asked(module_name, given)
+}
+
+/// What is to be shown of all runs, in which a procedure is to answer TRUE always.
+fn always_of<'a>(module_name: &'a str, given: &GivenWords<'a>) -> Option<Command<'a>>
+    ensures { option_map request_of result ≡ always_of module_name.entry.now (given_by given.now) }
+{
+    let calls = calls_of(module_name, given)?;
+    let name = given.always?;
+    Some(Command::ExplainAlways(AlwaysCommand { calls, name }))
 }
 
 /// What is to be shown of a module alone, or with calls.
@@ -347,14 +459,20 @@ fn explain_calls_asked<'a>(module_name: &'a str, given: &GivenWords<'a>) -> Opti
     if fits(
         given,
         &[Part::Traps],
-        &[Part::Record, Part::History, Part::Schedule, Part::Processes],
+        &[
+            Part::Record,
+            Part::History,
+            Part::Always,
+            Part::Schedule,
+            Part::Processes,
+        ],
     ) {
         return Some(Command::ExplainTraps(sequence_of(module_name, given)?));
     }
     if fits(
         given,
         &[Part::Schedule],
-        &[Part::Record, Part::History, Part::Traps],
+        &[Part::Record, Part::History, Part::Always, Part::Traps],
     ) {
         return Some(Command::ExplainRun(run_of(module_name, given)?));
     }
@@ -364,6 +482,7 @@ fn explain_calls_asked<'a>(module_name: &'a str, given: &GivenWords<'a>) -> Opti
         &[
             Part::Record,
             Part::History,
+            Part::Always,
             Part::Traps,
             Part::Schedule,
             Part::Processes,
@@ -377,6 +496,7 @@ fn explain_calls_asked<'a>(module_name: &'a str, given: &GivenWords<'a>) -> Opti
         &[
             Part::Record,
             Part::History,
+            Part::Always,
             Part::Traps,
             Part::Schedule,
             Part::Script,

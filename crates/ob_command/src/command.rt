@@ -26,8 +26,8 @@ pub enum Command<'a> {
     List {
         module_name: &'a str,
     },
-    /// `seq MODULE SCRIPT -b BUDGET --from RECORD`: the calls of a script on a module, one at a time.
-    Seq(CallsCommand<'a>),
+    /// `seq MODULE SCRIPT -b BUDGET --from RECORD --state --turns`: the calls of a script on a module, one at a time.
+    Seq(SeqCommand<'a>),
     /// `run MODULE SCRIPT SCHEDULE -n N -b BUDGET --from RECORD`: the record of a run.
     Run(RunCommand<'a>),
     /// `run .. --tree`: the record of the same run, by the tree of the module; from no record.
@@ -51,12 +51,16 @@ pub enum Command<'a> {
         run: RunCommand<'a>,
         calls: Option<CallNumbers>,
     },
-    /// `draw MODULE RECORD --calls FROM-TO`: the picture of a record that was printed before.
+    /// `draw MODULE RECORD --calls FROM-TO`: the picture of a record that was printed before, or of a history.
     DrawRecord {
         module_name: &'a str,
         record_name: &'a str,
         calls: Option<CallNumbers>,
     },
+    /// `draw MODULE HISTORY -b BUDGET --most K --calls FROM-TO`: the picture of a history.
+    DrawHistory(SeenCommand<'a>),
+    /// `outcomes MODULE SCRIPT -n N -b BUDGET --from RECORD --most K`, with `--always NAME` or `--whole`: what may happen over all runs.
+    Outcomes(OutcomesCommand<'a>),
     /// `verify MODULE RECORD`: whether the order of a record is a legal order of its calls.
     Verify {
         module_name: &'a str,
@@ -75,6 +79,8 @@ pub enum Command<'a> {
     ExplainTraps(CallsCommand<'a>),
     /// `explain MODULE SCRIPT SCHEDULE -n N -b BUDGET --from RECORD`: what is wrong with a run, shown to people.
     ExplainRun(RunCommand<'a>),
+    /// `explain MODULE SCRIPT -n N --always NAME -b BUDGET --from RECORD`: how a run comes to what should never be, shown to people.
+    ExplainAlways(AlwaysCommand<'a>),
     /// `explain MODULE --record RECORD`: what is wrong with a record, shown to people.
     ExplainRecord {
         module_name: &'a str,
@@ -102,6 +108,32 @@ pub struct CallsCommand<'a> {
     pub processes: usize,
     pub budget: u32,
     pub from_name: Option<&'a str>,
+}
+
+/// What calls that are made one at a time are made of, and what is told of them beside their replies: the variables that each changed, and
+/// how many turns it took.
+#[derive(Clone, Copy)]
+pub struct SeqCommand<'a> {
+    pub calls: CallsCommand<'a>,
+    pub state: bool,
+    pub turns: bool,
+}
+
+/// What all runs are made of: their calls, the name of the procedure that is to answer TRUE always, where one is named, whether each whole
+/// outcome is told, and how many configurations are looked at at most. A name and whole outcomes are not asked for together.
+#[derive(Clone, Copy)]
+pub struct OutcomesCommand<'a> {
+    pub calls: CallsCommand<'a>,
+    pub always: Option<&'a str>,
+    pub whole: bool,
+    pub most: u32,
+}
+
+/// What is explained of all runs: their calls, and the name of the procedure that is to answer TRUE always.
+#[derive(Clone, Copy)]
+pub struct AlwaysCommand<'a> {
+    pub calls: CallsCommand<'a>,
+    pub name: &'a str,
 }
 
 /// What a run is made of: its calls, and the name of the file of its schedule.
@@ -152,6 +184,17 @@ pub enum OrderProduct {
     WholeRecord,
     /// A line for each value of an argument, whose calls are ordered apart. The place of the argument counts from 1.
     Apart(u16),
+}
+
+/// What a picture of a history is made of: the names of the files of a module and a history, the budget of its calls where one is given, how
+/// many configurations are looked at at most, and the calls that are drawn.
+#[derive(Clone, Copy)]
+pub struct SeenCommand<'a> {
+    pub module_name: &'a str,
+    pub history_name: &'a str,
+    pub budget: Option<u32>,
+    pub most: u32,
+    pub calls: Option<CallNumbers>,
 }
 
 /// Some calls of a run, by the places of the first and of the last in the order in which the calls begin, from 1.

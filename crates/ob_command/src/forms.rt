@@ -3,8 +3,8 @@
 ghost use Rattle.std.specs.Prelude.{◌≡◌, option_map};
 ghost use Rattle.clap.specs.Words.{found_of, rows_of};
 ghost use Rattle.ob_command.specs.Commands.{given_by};
-ghost use Rattle.ob_command.specs.CommandLine.{draw_mistake_of, explain_mistake, form_mistake, form_mistake_by, is_turned, order_mistake_of};
-ghost use Rattle.ob_command.specs.CommandLine.{range_mistake, run_mistake_of};
+ghost use Rattle.ob_command.specs.CommandLine.{draw_mistake_of, drawn_mistake, explain_mistake, form_mistake, form_mistake_by, is_turned};
+ghost use Rattle.ob_command.specs.CommandLine.{order_mistake_of, outcomes_mistake_of, range_mistake, run_mistake_of};
 
 use crate::asked::{is_length, is_most, is_place, is_seen_budget};
 use crate::call_range::{is_turned, range_by};
@@ -16,6 +16,7 @@ const UNCLEAR_DRAW: &str = "\
 error: these words are in no form of draw, which are
   obl0 draw MODULE SCRIPT SCHEDULE -n N [-b BUDGET] [--from RECORD] [--calls FROM-TO]
   obl0 draw MODULE RECORD [--calls FROM-TO]
+  obl0 draw MODULE HISTORY [-b BUDGET] [--most K] [--calls FROM-TO]
 
 For more information, try '--help'.
 ";
@@ -26,6 +27,7 @@ error: these words are in no form of explain, which are
   obl0 explain MODULE
   obl0 explain MODULE SCRIPT [-b BUDGET] [--from RECORD] [--traps]
   obl0 explain MODULE SCRIPT SCHEDULE -n N [-b BUDGET] [--from RECORD]
+  obl0 explain MODULE SCRIPT -n N --always NAME [-b BUDGET] [--from RECORD]
   obl0 explain MODULE --record RECORD
   obl0 explain MODULE --history HISTORY
 
@@ -92,6 +94,13 @@ error: --record and --by don't stand together
 For more information, try '--help'.
 ";
 
+/// What is wrong with words behind `outcomes` that name a procedure beside `--whole`.
+const ALWAYS_AND_WHOLE: &str = "\
+error: --always and --whole don't stand together
+
+For more information, try '--help'.
+";
+
 /// What is wrong with a word behind `--calls` that names no calls.
 const UNCLEAR_CALLS: &str = "\
 error: behind --calls stands FROM-TO, as 3-5: the places of the first and the last call, from 1
@@ -118,10 +127,11 @@ fn form_mistake_by(name: &str, given: &GivenWords<'_>) -> Option<&'static str>
     ensures { option_map (λ text. text.now) result ≡ form_mistake_by name.now (given_by given.now) }
 {
     match name {
-        "draw" => Some(draw_mistake_of(given.range)),
+        "draw" => Some(draw_mistake_of(given)),
         "explain" => Some(explain_mistake()),
         "run" => Some(run_mistake_of(given)),
         "order" => Some(order_mistake_of(given)),
+        "outcomes" => Some(outcomes_mistake_of(given)),
         _ => None,
     }
 }
@@ -164,12 +174,38 @@ fn order_mistake_of(given: &GivenWords<'_>) -> &'static str
 }
 
 /// What is said of words that have none of the forms of `draw`.
-fn draw_mistake_of(range: Option<&str>) -> &'static str
-    ensures { result.now ≡ draw_mistake_of (option_map (λ text. text.now) range.entry) }
+fn draw_mistake_of(given: &GivenWords<'_>) -> &'static str
+    ensures { result.now ≡ draw_mistake_of (given_by given.now) }
 {
-    match range_by(range) {
-        Some(_) => UNCLEAR_DRAW,
-        None => range_mistake(range),
+    match range_by(given.range) {
+        Some(_) => drawn_mistake(given),
+        None => range_mistake(given.range),
+    }
+}
+
+/// The same of words that name calls, or all: what is said of a number that is out of its range where no schedule stands there.
+fn drawn_mistake(given: &GivenWords<'_>) -> &'static str
+    ensures { result.now ≡ drawn_mistake (given_by given.now) }
+{
+    if given.schedule_name.is_some() {
+        UNCLEAR_DRAW
+    } else if !is_most(given.most) {
+        UNCLEAR_MOST
+    } else if !is_seen_budget(given.budget) {
+        UNCLEAR_SEEN_BUDGET
+    } else {
+        UNCLEAR_DRAW
+    }
+}
+
+/// What is said of words behind `outcomes` with a number that is out of its range, or with a name beside `--whole`.
+fn outcomes_mistake_of(given: &GivenWords<'_>) -> &'static str
+    ensures { result.now ≡ outcomes_mistake_of (given_by given.now) }
+{
+    if is_most(given.most) {
+        ALWAYS_AND_WHOLE
+    } else {
+        UNCLEAR_MOST
     }
 }
 

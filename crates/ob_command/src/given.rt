@@ -17,6 +17,8 @@ pub(crate) struct GivenWords<'a> {
     pub(crate) from_name: Option<&'a str>,
     /// The calls of a picture, as they are written.
     pub(crate) range: Option<&'a str>,
+    /// The name of a procedure that is to answer TRUE always.
+    pub(crate) always: Option<&'a str>,
     pub(crate) processes: Option<u16>,
     pub(crate) budget: Option<u32>,
     /// How many configurations are looked at.
@@ -33,6 +35,12 @@ pub(crate) struct GivenWords<'a> {
     pub(crate) traps: bool,
     /// Whether a run goes on until each call has ended.
     pub(crate) finish: bool,
+    /// Whether the variables that a call changed are told.
+    pub(crate) state: bool,
+    /// Whether the turns of a call are told.
+    pub(crate) turns: bool,
+    /// Whether each whole outcome is told.
+    pub(crate) whole: bool,
 }
 
 /// A part of what may be given.
@@ -45,6 +53,8 @@ pub(crate) enum Part {
     From,
     Processes,
     Budget,
+    Most,
+    Always,
     Tree,
     Steps,
     Traps,
@@ -64,6 +74,7 @@ pub(crate) fn given_of<'a>(matches: &ArgMatches<'a>) -> GivenWords<'a>
         history_name: text_of(matches, "HISTORY"),
         from_name: text_of(matches, "FROM"),
         range: text_of(matches, "FROM-TO"),
+        always: text_of(matches, "NAME"),
         processes: processes_of(matches),
         budget: budget_of(matches),
         most: most_of(matches),
@@ -75,6 +86,9 @@ pub(crate) fn given_of<'a>(matches: &ArgMatches<'a>) -> GivenWords<'a>
         steps: is_set(matches, "steps"),
         traps: is_set(matches, "traps"),
         finish: is_set(matches, "finish"),
+        state: is_set(matches, "state"),
+        turns: is_set(matches, "turns"),
+        whole: is_set(matches, "whole"),
     }
 }
 
@@ -163,6 +177,8 @@ fn has(given: &GivenWords<'_>, part: Part) -> bool
         Part::From => given.from_name.is_some(),
         Part::Processes => given.processes.is_some(),
         Part::Budget => given.budget.is_some(),
+        Part::Most => given.most.is_some(),
+        Part::Always => given.always.is_some(),
         Part::Tree => given.tree,
         Part::Steps => given.steps,
         Part::Traps => given.traps,

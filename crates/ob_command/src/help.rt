@@ -104,6 +104,7 @@ fn help_of_command(name: &str) -> Option<&'static [&'static str]>
         "run" => Some(&["run", "--help"]),
         "serve" => Some(&["serve", "--help"]),
         "draw" => Some(&["draw", "--help"]),
+        "outcomes" => Some(&["outcomes", "--help"]),
         "verify" => Some(&["verify", "--help"]),
         "order" => Some(&["order", "--help"]),
         "explain" => Some(&["explain", "--help"]),

@@ -10,5 +10,6 @@ mod help;
 mod mistakes;
 
 pub use command::{
-    CallNumbers, CallsCommand, Command, OrderCommand, OrderProduct, RunCommand, Stop, read_command,
+    AlwaysCommand, CallNumbers, CallsCommand, Command, OrderCommand, OrderProduct, OutcomesCommand,
+    RunCommand, SeenCommand, SeqCommand, Stop, read_command,
 };

@@ -164,7 +164,7 @@ fn names_of(name: &str) -> Option<usize>
 {
     match name {
         "run" | "draw" | "explain" => Some(3),
-        "serve" => Some(2),
+        "serve" | "outcomes" => Some(2),
         "bound" => Some(1),
         _ => None,
     }

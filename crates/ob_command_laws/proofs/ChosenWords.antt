@@ -16,7 +16,7 @@ use Rattle.clap.specs.declared.builder.value_parser.ValueParser.TheVariants as p
 use Rattle.clap.specs.declared.parser.matches.ValueSource.{ValueSource}
 use Rattle.clap.specs.declared.parser.matches.ValueSource.TheVariants.{CommandLine}
 use Rattle.ob_command.specs.CommandLine.{budget_number, calls_in, is_option, number, seed_number}
-use Rattle.ob_command_laws.specs.PlainForms.{ArePlain, Argument, AsRecord, BySeed, ByTree, Chosen, Count, Finishing, Most, OfLength, OfTraps, Range, Seen, Start, Told, Turns, WithSteps, budget_flag, id_of, is_plain, text_of, with_words, words_of}
+use Rattle.ob_command_laws.specs.PlainForms.{ArePlain, Argument, AsRecord, BySeed, ByTree, Chosen, Count, Finishing, Always, WithState, WithTurns, AsWhole, Most, OfLength, OfTraps, Range, Seen, Start, Told, Turns, WithSteps, budget_flag, id_of, is_plain, text_of, with_words, words_of}
 use Rattle.ob_command.proofs.CallPlaces.{no_option_in}
 use Rattle.ob_command.proofs.Numbers.{plain_budget, plain_number, plain_seed}
 use Rattle.ob_command_laws.proofs.WalkedWords.{Goes, here, optioned, state, stepped, waits}
@@ -72,6 +72,9 @@ parser_of AsRecord = parser.Bool
 parser_of (BySeed s) = parser.Unsigned 0 18446744073709551615
 parser_of (OfLength j) = parser.Signed (pos 0) (pos 4294967295)
 parser_of Finishing = parser.Bool
+parser_of WithState = parser.Bool
+parser_of WithTurns = parser.Bool
+parser_of AsWhole = parser.Bool
 parser_of _ = parser.String
 
 -- the row that clap keeps of it
@@ -212,6 +215,18 @@ module _ (s : Shape) where
 
   pub finish_moves : Knows s (codes "--finish") (codes "finish") → Moves s Finishing
   finish_moves knows = flag_moves (codes "--finish") (codes "finish") knows
+
+  pub always_moves : Takes s (codes "--always") (codes "NAME") parser.String → (a : Text) → not (is_option a) ≡ true → Moves s (Always a)
+  always_moves takes a plain = value_moves (codes "--always") (codes "NAME") a parser.String takes (turned (is_option a) plain) refl
+
+  pub state_moves : Knows s (codes "--state") (codes "state") → Moves s WithState
+  state_moves knows = flag_moves (codes "--state") (codes "state") knows
+
+  pub turns_word_moves : Knows s (codes "--turns") (codes "turns") → Moves s WithTurns
+  turns_word_moves knows = flag_moves (codes "--turns") (codes "turns") knows
+
+  pub whole_moves : Knows s (codes "--whole") (codes "whole") → Moves s AsWhole
+  whole_moves knows = flag_moves (codes "--whole") (codes "whole") knows
 
 -- ---- options one behind the other
 

@@ -7,12 +7,12 @@ use Rattle.clap.specs.Kinds.{Kinds, check_kinds, or_else}
 use Rattle.clap.specs.Faults.{check_fault, defaults_fault, walk_fault}
 use Rattle.clap.specs.Simple.{Shape}
 use Rattle.clap.proofs.OnLiterals.{clap_on_literals}
-use Rattle.ob_command.specs.CommandLine.{Check, Given, Listing, Unclear, Verify, Version, asked, asks_version, clap_request, command_of, form_mistake, form_mistake_by, form_mistake_of, given_of, is_option, order_mistake_of, request}
-use Rattle.ob_command_laws.specs.PlainForms.{Argument, BySeed, Finishing, OfLength, AsksWithHistory, AsksWithModule, AsksWithSchedule, AsksWithScript, ArePlain, AsRecord, ByTree, Chosen, Count, Most, OfTraps, Range, Seen, Start, Told, Turns, WithSteps, bound_options, draw_options, explain_options, given_in, given_with_history, id_of, is_plain, order_options, run_options, seq_options, serve_options, words_of}
+use Rattle.ob_command.specs.CommandLine.{Check, Given, Listing, Unclear, Verify, Version, asked, asks_version, clap_request, command_of, form_mistake, form_mistake_by, form_mistake_of, given_of, is_option, order_mistake_of, outcomes_mistake_of, request}
+use Rattle.ob_command_laws.specs.PlainForms.{Argument, BySeed, Finishing, Always, WithState, WithTurns, AsWhole, OfLength, AsksWithHistory, AsksWithModule, AsksWithSchedule, AsksWithScript, ArePlain, AsRecord, ByTree, Chosen, Count, Most, OfTraps, Range, Seen, Start, Told, Turns, WithSteps, bound_options, draw_options, explain_options, given_in, given_with_history, id_of, is_chosen, is_plain, order_options, outcomes_options, run_options, seq_options, serve_options, words_of}
 use Rattle.ob_command_laws.proofs.AskedWords.{clap_asked, clap_met, start}
-use Rattle.ob_command.proofs.BuiltLine.{bound_leaf, built_budget, built_by, built_calls, built_from, built_help, built_history, built_length, built_most, built_name, built_number, built_record, built_seed, draw_leaf, explain_leaf, leaf, module_leaf, name_row, needed, order_leaf, run_leaf, seq_leaf, serve_leaf, verify_leaf}
-use Rattle.ob_command_laws.proofs.ChosenWords.{AllFresh, Moves, Standing, all_move, argument_moves, count_moves, finish_moves, length_moves, most_moves, range_moves, record_moves, row_of, seed_moves, seen_moves, start_moves, steps_moves, told_moves, traps_moves, tree_moves, turns_moves}
-use Rattle.ob_command_laws.proofs.OptionRows.{EachQuiet, EachThere, Quiet, counted_there, each_stays, given_alone, given_history, given_schedule, given_script, given_stays, module_stays, no_default_fault, none_lacks, quiet_as_record, quiet_finish, quiet_plain, quiet_steps, quiet_traps, quiet_tree}
+use Rattle.ob_command.proofs.BuiltLine.{bound_leaf, built_always, built_budget, built_by, built_calls, built_from, built_help, built_history, built_length, built_most, built_name, built_number, built_record, built_seed, draw_leaf, explain_leaf, leaf, module_leaf, name_row, needed, order_leaf, outcomes_leaf, run_leaf, seq_leaf, serve_leaf, verify_leaf}
+use Rattle.ob_command_laws.proofs.ChosenWords.{AllFresh, Moves, Standing, all_move, always_moves, argument_moves, count_moves, finish_moves, length_moves, most_moves, range_moves, record_moves, row_of, seed_moves, seen_moves, start_moves, state_moves, steps_moves, told_moves, traps_moves, tree_moves, turns_moves, turns_word_moves, whole_moves}
+use Rattle.ob_command_laws.proofs.OptionRows.{EachQuiet, EachThere, Quiet, counted_there, each_stays, given_alone, given_history, given_schedule, given_script, given_stays, module_stays, no_default_fault, none_lacks, quiet_as_record, quiet_finish, quiet_plain, quiet_state, quiet_steps, quiet_traps, quiet_tree, quiet_turns, quiet_whole}
 use Rattle.ob_command_laws.proofs.PlainWords.{by_clap}
 use Rattle.ob_command.proofs.Readings.{on_module}
 use Rattle.ob_command_laws.proofs.WalkedWords.{Goes, named, state}
@@ -56,10 +56,22 @@ quiet_number : (t : Bool) → Quiet (needed t built_number)
 quiet_number t = quiet_plain (needed t built_number) refl
 
 quiet_seq : EachQuiet seq_leaf.rules
-quiet_seq = (quiet_file 1 (codes "MODULE") true, (quiet_file 2 (codes "SCRIPT") true, (plain built_budget refl, (plain built_from refl, (plain built_help refl, tt)))))
+quiet_seq = (quiet_file 1 (codes "MODULE") true, (quiet_file 2 (codes "SCRIPT") true, (plain built_budget refl, (plain built_from refl, (quiet_state, (quiet_turns, (plain built_help refl, tt)))))))
 
 quiet_serve : EachQuiet serve_leaf.rules
 quiet_serve = (quiet_file 1 (codes "MODULE") true, (quiet_file 2 (codes "SCRIPT") true, (quiet_number true, (plain built_budget refl, (plain built_from refl, (plain built_help refl, tt))))))
+
+quiet_outcomes : EachQuiet outcomes_leaf.rules
+quiet_outcomes = (
+  quiet_file 1 (codes "MODULE") true,
+  (
+    quiet_file 2 (codes "SCRIPT") true,
+    (
+      quiet_number true,
+      (plain built_budget refl, (plain built_from refl, (plain built_always refl, (quiet_whole, (plain built_most refl, (plain built_help refl, tt)))))),
+    ),
+  ),
+)
 
 quiet_bound : EachQuiet bound_leaf.rules
 quiet_bound = (quiet_file 1 (codes "MODULE") true, (quiet_number true, (plain built_budget refl, (plain built_help refl, tt))))
@@ -88,7 +100,7 @@ quiet_draw = (
       quiet_file 3 (codes "SCHEDULE") false,
       (
         quiet_number false,
-        (plain built_budget refl, (plain built_from refl, (plain built_calls refl, (plain built_help refl, tt)))),
+        (plain built_budget refl, (plain built_from refl, (plain built_calls refl, (plain built_most refl, (plain built_help refl, tt))))),
       ),
     ),
   ),
@@ -106,7 +118,7 @@ quiet_explain = (
       quiet_file 3 (codes "SCHEDULE") false,
       (
         quiet_number false,
-        (plain built_budget refl, (plain built_from refl, (plain built_record refl, (plain built_history refl, (quiet_traps, (plain built_help refl, tt)))))),
+        (plain built_budget refl, (plain built_from refl, (plain built_record refl, (plain built_history refl, (quiet_traps, (plain built_always refl, (plain built_help refl, tt))))))),
       ),
     ),
   ),
@@ -132,6 +144,33 @@ serve_moves AsRecord known plain = cc
 serve_moves (BySeed v) known plain = cc
 serve_moves (OfLength j) known plain = cc
 serve_moves Finishing known plain = cc
+serve_moves (Always a) known plain = cc
+serve_moves WithState known plain = cc
+serve_moves WithTurns known plain = cc
+serve_moves AsWhole known plain = cc
+
+outcomes_moves : (one : Chosen) → list_any (bytes_eq (id_of one)) outcomes_options ≡ true → is_plain one ≡ true → Moves outcomes_leaf one
+unfolding clap_on_literals
+outcomes_moves (Count n) known plain = count_moves outcomes_leaf (record { turn = λ h p k. refl; walk = λ h p k. refl; push = λ v h k. refl; fault = λ v h. refl; uses = λ v h. refl }) n plain
+outcomes_moves (Turns true b) known plain = turns_moves outcomes_leaf true (record { turn = λ h p k. refl; walk = λ h p k. refl; push = λ v h k. refl; fault = λ v h. refl; uses = λ v h. refl }) b plain
+outcomes_moves (Turns false b) known plain = turns_moves outcomes_leaf false (record { turn = λ h p k. refl; walk = λ h p k. refl; push = λ v h k. refl; fault = λ v h. refl; uses = λ v h. refl }) b plain
+outcomes_moves (Most k) known plain = most_moves outcomes_leaf (record { turn = λ h p k. refl; walk = λ h p k. refl; push = λ v h k. refl; fault = λ v h. refl; uses = λ v h. refl }) k plain
+outcomes_moves (Argument n) known plain = cc
+outcomes_moves (Start f) known plain = start_moves outcomes_leaf (record { turn = λ h p k. refl; walk = λ h p k. refl; push = λ v h k. refl; fault = λ v h. refl; uses = λ v h. refl }) f plain
+outcomes_moves (Range c) known plain = cc
+outcomes_moves (Told r) known plain = cc
+outcomes_moves (Seen h) known plain = cc
+outcomes_moves ByTree known plain = cc
+outcomes_moves WithSteps known plain = cc
+outcomes_moves OfTraps known plain = cc
+outcomes_moves AsRecord known plain = cc
+outcomes_moves (BySeed v) known plain = cc
+outcomes_moves (OfLength j) known plain = cc
+outcomes_moves Finishing known plain = cc
+outcomes_moves (Always a) known plain = always_moves outcomes_leaf (record { turn = λ h p k. refl; walk = λ h p k. refl; push = λ v h k. refl; fault = λ v h. refl; uses = λ v h. refl }) a plain
+outcomes_moves WithState known plain = cc
+outcomes_moves WithTurns known plain = cc
+outcomes_moves AsWhole known plain = whole_moves outcomes_leaf (record { turn = λ h p k. refl; walk = λ h p k. refl })
 
 seq_moves : (one : Chosen) → list_any (bytes_eq (id_of one)) seq_options ≡ true → is_plain one ≡ true → Moves seq_leaf one
 unfolding clap_on_literals
@@ -151,6 +190,10 @@ seq_moves AsRecord known plain = cc
 seq_moves (BySeed v) known plain = cc
 seq_moves (OfLength j) known plain = cc
 seq_moves Finishing known plain = cc
+seq_moves (Always a) known plain = cc
+seq_moves WithState known plain = state_moves seq_leaf (record { turn = λ h p k. refl; walk = λ h p k. refl })
+seq_moves WithTurns known plain = turns_word_moves seq_leaf (record { turn = λ h p k. refl; walk = λ h p k. refl })
+seq_moves AsWhole known plain = cc
 
 run_moves : (one : Chosen) → list_any (bytes_eq (id_of one)) run_options ≡ true → is_plain one ≡ true → Moves run_leaf one
 unfolding clap_on_literals
@@ -170,13 +213,17 @@ run_moves AsRecord known plain = cc
 run_moves (BySeed v) known plain = seed_moves run_leaf (record { turn = λ h p k. refl; walk = λ h p k. refl; push = λ v h k. refl; fault = λ v h. refl; uses = λ v h. refl }) v plain
 run_moves (OfLength j) known plain = length_moves run_leaf (record { turn = λ h p k. refl; walk = λ h p k. refl; push = λ v h k. refl; fault = λ v h. refl; uses = λ v h. refl }) j plain
 run_moves Finishing known plain = finish_moves run_leaf (record { turn = λ h p k. refl; walk = λ h p k. refl })
+run_moves (Always a) known plain = cc
+run_moves WithState known plain = cc
+run_moves WithTurns known plain = cc
+run_moves AsWhole known plain = cc
 
 draw_moves : (one : Chosen) → list_any (bytes_eq (id_of one)) draw_options ≡ true → is_plain one ≡ true → Moves draw_leaf one
 unfolding clap_on_literals
 draw_moves (Count n) known plain = count_moves draw_leaf (record { turn = λ h p k. refl; walk = λ h p k. refl; push = λ v h k. refl; fault = λ v h. refl; uses = λ v h. refl }) n plain
 draw_moves (Turns true b) known plain = turns_moves draw_leaf true (record { turn = λ h p k. refl; walk = λ h p k. refl; push = λ v h k. refl; fault = λ v h. refl; uses = λ v h. refl }) b plain
 draw_moves (Turns false b) known plain = turns_moves draw_leaf false (record { turn = λ h p k. refl; walk = λ h p k. refl; push = λ v h k. refl; fault = λ v h. refl; uses = λ v h. refl }) b plain
-draw_moves (Most k) known plain = cc
+draw_moves (Most k) known plain = most_moves draw_leaf (record { turn = λ h p k. refl; walk = λ h p k. refl; push = λ v h k. refl; fault = λ v h. refl; uses = λ v h. refl }) k plain
 draw_moves (Argument n) known plain = cc
 draw_moves (Start f) known plain = start_moves draw_leaf (record { turn = λ h p k. refl; walk = λ h p k. refl; push = λ v h k. refl; fault = λ v h. refl; uses = λ v h. refl }) f plain
 draw_moves (Range c) known plain = range_moves draw_leaf (record { turn = λ h p k. refl; walk = λ h p k. refl; push = λ v h k. refl; fault = λ v h. refl; uses = λ v h. refl }) c plain
@@ -189,6 +236,10 @@ draw_moves AsRecord known plain = cc
 draw_moves (BySeed v) known plain = cc
 draw_moves (OfLength j) known plain = cc
 draw_moves Finishing known plain = cc
+draw_moves (Always a) known plain = cc
+draw_moves WithState known plain = cc
+draw_moves WithTurns known plain = cc
+draw_moves AsWhole known plain = cc
 
 explain_moves : (one : Chosen) → list_any (bytes_eq (id_of one)) explain_options ≡ true → is_plain one ≡ true → Moves explain_leaf one
 unfolding clap_on_literals
@@ -208,6 +259,10 @@ explain_moves AsRecord known plain = cc
 explain_moves (BySeed v) known plain = cc
 explain_moves (OfLength j) known plain = cc
 explain_moves Finishing known plain = cc
+explain_moves (Always a) known plain = always_moves explain_leaf (record { turn = λ h p k. refl; walk = λ h p k. refl; push = λ v h k. refl; fault = λ v h. refl; uses = λ v h. refl }) a plain
+explain_moves WithState known plain = cc
+explain_moves WithTurns known plain = cc
+explain_moves AsWhole known plain = cc
 
 order_moves : (one : Chosen) → list_any (bytes_eq (id_of one)) order_options ≡ true → is_plain one ≡ true → Moves order_leaf one
 unfolding clap_on_literals
@@ -227,6 +282,10 @@ order_moves AsRecord known plain = record_moves order_leaf (record { turn = λ h
 order_moves (BySeed v) known plain = cc
 order_moves (OfLength j) known plain = cc
 order_moves Finishing known plain = cc
+order_moves (Always a) known plain = cc
+order_moves WithState known plain = cc
+order_moves WithTurns known plain = cc
+order_moves AsWhole known plain = cc
 
 bound_moves : (one : Chosen) → list_any (bytes_eq (id_of one)) bound_options ≡ true → is_plain one ≡ true → Moves bound_leaf one
 unfolding clap_on_literals
@@ -246,6 +305,10 @@ bound_moves AsRecord known plain = cc
 bound_moves (BySeed v) known plain = cc
 bound_moves (OfLength j) known plain = cc
 bound_moves Finishing known plain = cc
+bound_moves (Always a) known plain = cc
+bound_moves WithState known plain = cc
+bound_moves WithTurns known plain = cc
+bound_moves AsWhole known plain = cc
 
 -- ---- no option is kept under the name of a file
 
@@ -269,6 +332,10 @@ fresh_module m (AsRecord ∷ others) = (refl, fresh_module m others)
 fresh_module m (BySeed v ∷ others) = (refl, fresh_module m others)
 fresh_module m (OfLength j ∷ others) = (refl, fresh_module m others)
 fresh_module m (Finishing ∷ others) = (refl, fresh_module m others)
+fresh_module m (Always a ∷ others) = (refl, fresh_module m others)
+fresh_module m (WithState ∷ others) = (refl, fresh_module m others)
+fresh_module m (WithTurns ∷ others) = (refl, fresh_module m others)
+fresh_module m (AsWhole ∷ others) = (refl, fresh_module m others)
 
 fresh_script : (m s : Text) (chosen : List Chosen) → AllFresh (name_row (codes "MODULE") m ∷ name_row (codes "SCRIPT") s ∷ []) chosen
 fresh_script m s [] = tt
@@ -287,6 +354,10 @@ fresh_script m s (AsRecord ∷ others) = (refl, fresh_script m s others)
 fresh_script m s (BySeed v ∷ others) = (refl, fresh_script m s others)
 fresh_script m s (OfLength j ∷ others) = (refl, fresh_script m s others)
 fresh_script m s (Finishing ∷ others) = (refl, fresh_script m s others)
+fresh_script m s (Always a ∷ others) = (refl, fresh_script m s others)
+fresh_script m s (WithState ∷ others) = (refl, fresh_script m s others)
+fresh_script m s (WithTurns ∷ others) = (refl, fresh_script m s others)
+fresh_script m s (AsWhole ∷ others) = (refl, fresh_script m s others)
 
 -- the one that names a history does not stand behind `order`
 fresh_history : (m h : Text) (chosen : List Chosen) → ArePlain order_options chosen
@@ -307,6 +378,10 @@ fresh_history m h (AsRecord ∷ others) plain = (refl, fresh_history m h others 
 fresh_history m h (BySeed v ∷ others) plain = (refl, fresh_history m h others plain.3)
 fresh_history m h (OfLength j ∷ others) plain = (refl, fresh_history m h others plain.3)
 fresh_history m h (Finishing ∷ others) plain = (refl, fresh_history m h others plain.3)
+fresh_history m h (Always a ∷ others) plain = (refl, fresh_history m h others plain.3)
+fresh_history m h (WithState ∷ others) plain = (refl, fresh_history m h others plain.3)
+fresh_history m h (WithTurns ∷ others) plain = (refl, fresh_history m h others plain.3)
+fresh_history m h (AsWhole ∷ others) plain = (refl, fresh_history m h others plain.3)
 
 fresh_schedule : (m s d : Text) (chosen : List Chosen) → AllFresh (name_row (codes "MODULE") m ∷ name_row (codes "SCRIPT") s ∷ name_row (codes "SCHEDULE") d ∷ []) chosen
 fresh_schedule m s d [] = tt
@@ -325,6 +400,10 @@ fresh_schedule m s d (AsRecord ∷ others) = (refl, fresh_schedule m s d others)
 fresh_schedule m s d (BySeed v ∷ others) = (refl, fresh_schedule m s d others)
 fresh_schedule m s d (OfLength j ∷ others) = (refl, fresh_schedule m s d others)
 fresh_schedule m s d (Finishing ∷ others) = (refl, fresh_schedule m s d others)
+fresh_schedule m s d (Always a ∷ others) = (refl, fresh_schedule m s d others)
+fresh_schedule m s d (WithState ∷ others) = (refl, fresh_schedule m s d others)
+fresh_schedule m s d (WithTurns ∷ others) = (refl, fresh_schedule m s d others)
+fresh_schedule m s d (AsWhole ∷ others) = (refl, fresh_schedule m s d others)
 
 -- ---- a module
 
@@ -347,6 +426,10 @@ by_options name m (AsRecord ∷ others) no_m = refl
 by_options name m (BySeed v ∷ others) no_m = refl
 by_options name m (OfLength j ∷ others) no_m = refl
 by_options name m (Finishing ∷ others) no_m = refl
+by_options name m (Always a ∷ others) no_m = refl
+by_options name m (WithState ∷ others) no_m = refl
+by_options name m (WithTurns ∷ others) no_m = refl
+by_options name m (AsWhole ∷ others) no_m = refl
 
 check_alone : (command m : Text) → is_option m ≡ false → Goes (module_leaf command) start (m ∷ []) (name_row (codes "MODULE") m ∷ [])
 unfolding clap_on_literals
@@ -385,7 +468,7 @@ explain_module_asks m chosen no_m plain counted =
     (named explain_leaf [] None 1 m no_m refl _ refl (words_of chosen) rows
     (all_move explain_leaf explain_options explain_moves chosen plain ([]) (Some (codes "MODULE", m ∷ [])) 2
     (name_row (codes "MODULE") m ∷ []) (record { no_fault = refl; settles = refl }) (fresh_module m chosen) rows
-    (ended (codes "explain") explain_leaf.rules quiet_explain kept (λ e. refl, (λ e. cc, (λ e. cc, (λ e. cc, (λ e. cc, (λ e. cc, (λ e. cc, (λ e. cc, (λ e. cc, (λ e. cc, tt)))))))))) 2)))
+    (ended (codes "explain") explain_leaf.rules quiet_explain kept (λ e. refl, (λ e. cc, (λ e. cc, (λ e. cc, (λ e. cc, (λ e. cc, (λ e. cc, (λ e. cc, (λ e. cc, (λ e. cc, (λ e. cc, tt))))))))))) 2)))
     ∙ answered (codes "explain") explain_leaf.rules quiet_explain m kept (given_in None None chosen) refl (given_alone explain_options chosen plain))
 
 -- ---- a module and a record
@@ -447,7 +530,7 @@ seq_asks m s chosen no_m no_s plain counted =
     (named seq_leaf [] (Some (codes "MODULE", m ∷ [])) 2 s no_s refl _ refl (words_of chosen) rows
     (all_move seq_leaf seq_options seq_moves chosen plain (name_row (codes "MODULE") m ∷ []) (Some (codes "SCRIPT", s ∷ [])) 3
     (name_row (codes "MODULE") m ∷ name_row (codes "SCRIPT") s ∷ []) (record { no_fault = refl; settles = refl }) (fresh_script m s chosen) rows
-    (ended (codes "seq") seq_leaf.rules quiet_seq kept (λ e. refl, (λ e. refl, (λ e. cc, (λ e. cc, (λ e. cc, tt))))) 3))))
+    (ended (codes "seq") seq_leaf.rules quiet_seq kept (λ e. refl, (λ e. refl, (λ e. cc, (λ e. cc, (λ e. cc, (λ e. cc, (λ e. cc, tt))))))) 3))))
     ∙ answered (codes "seq") seq_leaf.rules quiet_seq m kept (given_in (Some s) None chosen) refl (given_script seq_options chosen plain s)
 
 pub serve_asks : AsksWithScript (codes "serve") true serve_options
@@ -462,6 +545,42 @@ serve_asks m s chosen no_m no_s plain counted =
     (name_row (codes "MODULE") m ∷ name_row (codes "SCRIPT") s ∷ []) (record { no_fault = refl; settles = refl }) (fresh_script m s chosen) rows
     (ended (codes "serve") serve_leaf.rules quiet_serve kept (λ e. refl, (λ e. refl, (λ e. counted_there chosen (counted refl), (λ e. cc, (λ e. cc, (λ e. cc, tt)))))) 3))))
     ∙ answered (codes "serve") serve_leaf.rules quiet_serve m kept (given_in (Some s) None chosen) refl (given_script serve_options chosen plain s)
+
+module _ (m s : Text) (chosen : List Chosen) (no_m : is_option m ≡ false) (no_s : is_option s ≡ false) (plain : ArePlain outcomes_options chosen)
+    (counted : is_chosen (codes "N") chosen ≡ true) where
+  abbrev reached_rows : List Row
+  reached_rows = name_row (codes "MODULE") m ∷ name_row (codes "SCRIPT") s ∷ map row_of chosen
+
+  abbrev outcomes_rows : List Row
+  outcomes_rows = fold with_default reached_rows outcomes_leaf.rules
+
+  outcomes_goes : Goes outcomes_leaf start (m ∷ s ∷ words_of chosen) outcomes_rows
+  unfolding clap_on_literals
+  outcomes_goes =
+      named outcomes_leaf [] None 1 m no_m refl _ refl (s ∷ words_of chosen) outcomes_rows
+      (named outcomes_leaf [] (Some (codes "MODULE", m ∷ [])) 2 s no_s refl _ refl (words_of chosen) outcomes_rows
+      (all_move outcomes_leaf outcomes_options outcomes_moves chosen plain (name_row (codes "MODULE") m ∷ []) (Some (codes "SCRIPT", s ∷ [])) 3
+      (name_row (codes "MODULE") m ∷ name_row (codes "SCRIPT") s ∷ []) (record { no_fault = refl; settles = refl }) (fresh_script m s chosen) outcomes_rows
+      (ended (codes "outcomes") outcomes_leaf.rules quiet_outcomes reached_rows
+      (λ e. refl, (λ e. refl, (λ e. counted_there chosen counted, (λ e. cc, (λ e. cc, (λ e. cc, (λ e. cc, (λ e. cc, (λ e. cc, tt))))))))) 3)))
+
+  outcomes_given : given_of reached_rows ≡ given_in (Some s) None chosen
+  outcomes_given = given_script outcomes_options chosen plain s
+
+  pub outcomes_said : form_mistake_of (codes "outcomes" ∷ m ∷ s ∷ words_of chosen) ≡ Some (outcomes_mistake_of (given_in (Some s) None chosen))
+  unfolding clap_on_literals
+  outcomes_said =
+      ap (option_and_then (λ m. form_mistake m.0 m.1))
+      (clap_met (codes "outcomes") outcomes_leaf refl refl refl (m ∷ s ∷ words_of chosen) outcomes_rows outcomes_goes)
+      ∙ ap (λ (g : Given). form_mistake_by (codes "outcomes") g) (given_stays outcomes_leaf.rules quiet_outcomes reached_rows ∙ outcomes_given)
+
+pub outcomes_asks : AsksWithScript (codes "outcomes") true outcomes_options
+unfolding clap_on_literals
+outcomes_asks m s chosen no_m no_s plain counted =
+    clap_asked (codes "outcomes") outcomes_leaf refl refl refl (m ∷ s ∷ words_of chosen) (outcomes_rows m s chosen no_m no_s plain (counted refl))
+    (outcomes_goes m s chosen no_m no_s plain (counted refl))
+    ∙ answered (codes "outcomes") outcomes_leaf.rules quiet_outcomes m (reached_rows m s chosen no_m no_s plain (counted refl)) (given_in (Some s) None chosen) refl
+    (outcomes_given m s chosen no_m no_s plain (counted refl))
 
 pub run_script_asks : AsksWithScript (codes "run") true run_options
 unfolding clap_on_literals
@@ -486,7 +605,7 @@ draw_script_asks m s chosen no_m no_s plain counted =
     (named draw_leaf [] (Some (codes "MODULE", m ∷ [])) 2 s no_s refl _ refl (words_of chosen) rows
     (all_move draw_leaf draw_options draw_moves chosen plain (name_row (codes "MODULE") m ∷ []) (Some (codes "SCRIPT", s ∷ [])) 3
     (name_row (codes "MODULE") m ∷ name_row (codes "SCRIPT") s ∷ []) (record { no_fault = refl; settles = refl }) (fresh_script m s chosen) rows
-    (ended (codes "draw") draw_leaf.rules quiet_draw kept (λ e. refl, (λ e. refl, (λ e. cc, (λ e. cc, (λ e. cc, (λ e. cc, (λ e. cc, (λ e. cc, tt)))))))) 3))))
+    (ended (codes "draw") draw_leaf.rules quiet_draw kept (λ e. refl, (λ e. refl, (λ e. cc, (λ e. cc, (λ e. cc, (λ e. cc, (λ e. cc, (λ e. cc, (λ e. cc, tt))))))))) 3))))
     ∙ answered (codes "draw") draw_leaf.rules quiet_draw m kept (given_in (Some s) None chosen) refl (given_script draw_options chosen plain s)
 
 pub explain_script_asks : AsksWithScript (codes "explain") false explain_options
@@ -499,7 +618,7 @@ explain_script_asks m s chosen no_m no_s plain counted =
     (named explain_leaf [] (Some (codes "MODULE", m ∷ [])) 2 s no_s refl _ refl (words_of chosen) rows
     (all_move explain_leaf explain_options explain_moves chosen plain (name_row (codes "MODULE") m ∷ []) (Some (codes "SCRIPT", s ∷ [])) 3
     (name_row (codes "MODULE") m ∷ name_row (codes "SCRIPT") s ∷ []) (record { no_fault = refl; settles = refl }) (fresh_script m s chosen) rows
-    (ended (codes "explain") explain_leaf.rules quiet_explain kept (λ e. refl, (λ e. cc, (λ e. cc, (λ e. cc, (λ e. cc, (λ e. cc, (λ e. cc, (λ e. cc, (λ e. cc, (λ e. cc, tt)))))))))) 3))))
+    (ended (codes "explain") explain_leaf.rules quiet_explain kept (λ e. refl, (λ e. cc, (λ e. cc, (λ e. cc, (λ e. cc, (λ e. cc, (λ e. cc, (λ e. cc, (λ e. cc, (λ e. cc, (λ e. cc, tt))))))))))) 3))))
     ∙ answered (codes "explain") explain_leaf.rules quiet_explain m kept (given_in (Some s) None chosen) refl (given_script explain_options chosen plain s)
 
 -- ---- a module, a script and a schedule
@@ -529,7 +648,7 @@ draw_schedule_asks m s d chosen no_m no_s no_d plain counted =
     (named draw_leaf (name_row (codes "MODULE") m ∷ []) (Some (codes "SCRIPT", s ∷ [])) 3 d no_d refl _ refl (words_of chosen) rows
     (all_move draw_leaf draw_options draw_moves chosen plain (name_row (codes "MODULE") m ∷ name_row (codes "SCRIPT") s ∷ []) (Some (codes "SCHEDULE", d ∷ [])) 4
     (name_row (codes "MODULE") m ∷ name_row (codes "SCRIPT") s ∷ name_row (codes "SCHEDULE") d ∷ []) (record { no_fault = refl; settles = refl }) (fresh_schedule m s d chosen) rows
-    (ended (codes "draw") draw_leaf.rules quiet_draw kept (λ e. refl, (λ e. refl, (λ e. cc, (λ e. cc, (λ e. cc, (λ e. cc, (λ e. cc, (λ e. cc, tt)))))))) 4)))))
+    (ended (codes "draw") draw_leaf.rules quiet_draw kept (λ e. refl, (λ e. refl, (λ e. cc, (λ e. cc, (λ e. cc, (λ e. cc, (λ e. cc, (λ e. cc, (λ e. cc, tt))))))))) 4)))))
     ∙ answered (codes "draw") draw_leaf.rules quiet_draw m kept (given_in (Some s) (Some d) chosen) refl (given_schedule draw_options chosen plain s d)
 
 pub explain_schedule_asks : AsksWithSchedule (codes "explain") false explain_options
@@ -543,5 +662,5 @@ explain_schedule_asks m s d chosen no_m no_s no_d plain counted =
     (named explain_leaf (name_row (codes "MODULE") m ∷ []) (Some (codes "SCRIPT", s ∷ [])) 3 d no_d refl _ refl (words_of chosen) rows
     (all_move explain_leaf explain_options explain_moves chosen plain (name_row (codes "MODULE") m ∷ name_row (codes "SCRIPT") s ∷ []) (Some (codes "SCHEDULE", d ∷ [])) 4
     (name_row (codes "MODULE") m ∷ name_row (codes "SCRIPT") s ∷ name_row (codes "SCHEDULE") d ∷ []) (record { no_fault = refl; settles = refl }) (fresh_schedule m s d chosen) rows
-    (ended (codes "explain") explain_leaf.rules quiet_explain kept (λ e. refl, (λ e. cc, (λ e. cc, (λ e. cc, (λ e. cc, (λ e. cc, (λ e. cc, (λ e. cc, (λ e. cc, (λ e. cc, tt)))))))))) 4)))))
+    (ended (codes "explain") explain_leaf.rules quiet_explain kept (λ e. refl, (λ e. cc, (λ e. cc, (λ e. cc, (λ e. cc, (λ e. cc, (λ e. cc, (λ e. cc, (λ e. cc, (λ e. cc, (λ e. cc, tt))))))))))) 4)))))
     ∙ answered (codes "explain") explain_leaf.rules quiet_explain m kept (given_in (Some s) (Some d) chosen) refl (given_schedule explain_options chosen plain s d)

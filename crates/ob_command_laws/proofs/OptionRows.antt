@@ -1,8 +1,9 @@
 -- What is given by the rows that clap keeps of names of files and of options.
-use Rattle.std.proofs.Common.{◌≡◌, ◌∙◌, ℕ, refl, sym, ap, ap₂, List, [], ◌∷◌, ◌++◌, ◌||◌, ◌&&◌, not, fold, find, codes, true, false, Bool, if◌then◌else◌, Option, Some, None, is_some, map, option_and_then, option_map, slice_get}
+use Rattle.std.proofs.Common.{◌≡◌, ◌∙◌, ℕ, refl, sym, subst, ap, ap₂, List, [], ◌∷◌, ◌++◌, ◌||◌, ◌&&◌, not, fold, find, codes, true, false, Bool, if◌then◌else◌, Option, Some, None, is_some, map, option_and_then, option_map, slice_get}
 use Rattle.std.specs.List.{list_any}
 use Rattle.std.specs.Option.{option_map_or}
 use Rattle.std.specs.Str.{bytes_eq}
+use Rattle.std.proofs.lemmas.Slice.Eq.{bytes_eq-Decides}
 use Rattle.clap.specs.Facts.{explicit_source}
 use Rattle.clap.specs.Lexer.{without_minus}
 use Rattle.clap.specs.Takes.{is_given}
@@ -13,7 +14,7 @@ use Rattle.clap.specs.Faults.{default_fault, defaults_fault}
 use Rattle.clap.specs.declared.builder.value_parser.ValueParser.TheVariants as parser
 use Rattle.clap.specs.declared.parser.matches.ValueSource.TheVariants.{DefaultValue}
 use Rattle.ob_command.specs.CommandLine.{Given, budget_number, given_of, is_set, is_true, number, seed_number}
-use Rattle.ob_command_laws.specs.PlainForms.{ArePlain, Argument, AsRecord, BySeed, ByTree, Chosen, Count, Finishing, Most, OfLength, OfTraps, Range, Seen, Start, Told, Turns, WithSteps, given_in, given_with_history, id_of, is_chosen, text_of, value_in}
+use Rattle.ob_command_laws.specs.PlainForms.{ArePlain, Argument, AsRecord, BySeed, ByTree, Chosen, Count, Finishing, Always, WithState, WithTurns, AsWhole, Most, OfLength, OfTraps, Range, Seen, Start, Told, Turns, WithSteps, given_in, given_with_history, id_of, is_chosen, text_of, value_in}
 use Rattle.ob_command_laws.proofs.AskedWords.{budget_is, number_is}
 use Rattle.ob_command.proofs.BuiltLine.{built_flag, name_row, no_flag_row}
 use Rattle.ob_command_laws.proofs.ChosenWords.{row_of, some_of, with_new}
@@ -21,14 +22,15 @@ use Rattle.ob_command_laws.proofs.ChosenWords.{row_of, some_of, with_new}
 abbrev found : Text → List Row → Option Row
 found id rows = find (λ r. bytes_eq r.id id) rows
 
-abbrev pub given_as : (s d r h f c : Option Text) (k t q g : Option ℕ) (w x y z : Bool) (u v : Option ℕ) (e : Bool) → Given
-given_as s d r h f c k t q g w x y z u v e = record {
+abbrev pub given_as : (s d r h f c a : Option Text) (k t q g : Option ℕ) (w x y z : Bool) (u v : Option ℕ) (e i j l : Bool) → Given
+given_as s d r h f c a k t q g w x y z u v e i j l = record {
   script_name = s;
   schedule_name = d;
   record_name = r;
   history_name = h;
   from_name = f;
   range = c;
+  always = a;
   processes = k;
   budget = t;
   most = q;
@@ -40,13 +42,18 @@ given_as s d r h f c k t q g w x y z u v e = record {
   seed = u;
   schedule_length = v;
   finish = e;
+  state = i;
+  turns = j;
+  whole = l;
 }
 
-same_as : (s s' d d' r r' h h' f f' c c' : Option Text) (k k' t t' q q' g g' : Option ℕ) (w w' x x' y y' z z' : Bool) (u u' v v' : Option ℕ) (e e' : Bool)
-    → s ≡ s' → d ≡ d' → r ≡ r' → h ≡ h' → f ≡ f' → c ≡ c' → k ≡ k' → t ≡ t' → q ≡ q' → g ≡ g' → w ≡ w' → x ≡ x' → y ≡ y' → z ≡ z' → u ≡ u' → v ≡ v' → e ≡ e'
-    → given_as s d r h f c k t q g w x y z u v e ≡ given_as s' d' r' h' f' c' k' t' q' g' w' x' y' z' u' v' e'
-same_as s s' d d' r r' h h' f f' c c' k k' t t' q q' g g' w w' x x' y y' z z' u u' v v' e e' is_s is_d is_r is_h is_f is_c is_k is_t is_q is_g is_w is_x is_y is_z is_u is_v is_e =
-    rw (is_s, is_d, is_r, is_h, is_f, is_c, is_k, is_t, is_q, is_g, is_w, is_x, is_y, is_z, is_u, is_v, is_e) refl
+same_as : (s s' d d' r r' h h' f f' c c' a a' : Option Text) (k k' t t' q q' g g' : Option ℕ) (w w' x x' y y' z z' : Bool) (u u' v v' : Option ℕ)
+    (e e' i i' j j' l l' : Bool)
+    → s ≡ s' → d ≡ d' → r ≡ r' → h ≡ h' → f ≡ f' → c ≡ c' → a ≡ a' → k ≡ k' → t ≡ t' → q ≡ q' → g ≡ g' → w ≡ w' → x ≡ x' → y ≡ y' → z ≡ z' → u ≡ u' → v ≡ v'
+    → e ≡ e' → i ≡ i' → j ≡ j' → l ≡ l'
+    → given_as s d r h f c a k t q g w x y z u v e i j l ≡ given_as s' d' r' h' f' c' a' k' t' q' g' w' x' y' z' u' v' e' i' j' l'
+same_as s s' d d' r r' h h' f f' c c' a a' k k' t t' q q' g g' w w' x x' y y' z z' u u' v v' e e' i i' j j' l l' is_s is_d is_r is_h is_f is_c is_a is_k is_t is_q is_g is_w is_x is_y is_z is_u is_v is_e is_i is_j is_l =
+    rw (is_s, is_d, is_r, is_h, is_f, is_c, is_a, is_k, is_t, is_q, is_g, is_w, is_x, is_y, is_z, is_u, is_v, is_e, is_i, is_j, is_l) refl
 
 abbrev first_text : Option Row → Option Text
 first_text = option_and_then (λ r. slice_get r.values 0)
@@ -165,46 +172,63 @@ quiet_flag name same other = record {
     go_there id rows is true has = ap (is_given id) (flag_default name rows true has) ∙ is
     go_there id rows is false none = ap (is_given id) (flag_default name rows false none) ∙ given_before id rows (no_flag_row name) is
 
+-- whether a word stands there is not told by the row of one that does not
+set_kept : (name id : Text) (rows : List Row) → has_row name rows ≡ false → is_set id (rows ++ no_flag_row name ∷ []) ≡ is_set id rows
+set_kept name id rows none = go (bytes_eq name id) refl
+  where
+    go : (t : Bool) → bytes_eq name id ≡ t → is_set id (rows ++ no_flag_row name ∷ []) ≡ is_set id rows
+    go true is =
+        let same : name ≡ id = (bytes_eq-Decides name id).0 is in
+        subst (λ (x : Text). is_set x (rows ++ no_flag_row name ∷ []) ≡ is_set x rows) same (unset name rows none ((bytes_eq-Decides name name).1 refl))
+    go false other = set_before name id rows other
+
 -- a row of a word without a value gives nothing but that word
-module _ (name : Text) (rows : List Row) (s : bytes_eq name (codes "SCRIPT") ≡ false) (d : bytes_eq name (codes "SCHEDULE") ≡ false)
-    (r : bytes_eq name (codes "RECORD") ≡ false) (h : bytes_eq name (codes "HISTORY") ≡ false) (f : bytes_eq name (codes "FROM") ≡ false) (c : bytes_eq name (codes "FROM-TO") ≡ false)
-    (k : bytes_eq name (codes "N") ≡ false) (t : bytes_eq name (codes "BUDGET") ≡ false) (q : bytes_eq name (codes "K") ≡ false) (g : bytes_eq name (codes "BY") ≡ false)
-    (u : bytes_eq name (codes "S") ≡ false) (v : bytes_eq name (codes "LENGTH") ≡ false) where
+module _ (name : Text) (rows : List Row) (none : has_row name rows ≡ false)
+    (s : bytes_eq name (codes "SCRIPT") ≡ false) (d : bytes_eq name (codes "SCHEDULE") ≡ false)
+    (r : bytes_eq name (codes "RECORD") ≡ false) (h : bytes_eq name (codes "HISTORY") ≡ false) (f : bytes_eq name (codes "FROM") ≡ false)
+    (c : bytes_eq name (codes "FROM-TO") ≡ false) (a : bytes_eq name (codes "NAME") ≡ false)
+    (k : bytes_eq name (codes "N") ≡ false) (t : bytes_eq name (codes "BUDGET") ≡ false) (q : bytes_eq name (codes "K") ≡ false)
+    (g : bytes_eq name (codes "BY") ≡ false) (u : bytes_eq name (codes "S") ≡ false) (v : bytes_eq name (codes "LENGTH") ≡ false) where
   abbrev behind : List Row
   behind = rows ++ no_flag_row name ∷ []
 
-  word_gives : is_set (codes "record") behind ≡ is_set (codes "record") rows → is_set (codes "tree") behind ≡ is_set (codes "tree") rows
-      → is_set (codes "steps") behind ≡ is_set (codes "steps") rows → is_set (codes "traps") behind ≡ is_set (codes "traps") rows
-      → is_set (codes "finish") behind ≡ is_set (codes "finish") rows → given_of behind ≡ given_of rows
-  word_gives w x y z e =
+  word_gives : given_of behind ≡ given_of rows
+  word_gives =
       let row = no_flag_row name in
-      same_as _ _ _ _ _ _ _ _ _ _ _ _ _ _ _ _ _ _ _ _ _ _ _ _ _ _ _ _ _ _ _ _ _ _
+      same_as _ _ _ _ _ _ _ _ _ _ _ _ _ _ _ _ _ _ _ _ _ _ _ _ _ _ _ _ _ _ _ _ _ _ _ _ _ _ _ _ _ _
       (ap first_text (found_before (codes "SCRIPT") rows row s)) (ap first_text (found_before (codes "SCHEDULE") rows row d))
       (ap first_text (found_before (codes "RECORD") rows row r)) (ap first_text (found_before (codes "HISTORY") rows row h)) (ap first_text (found_before (codes "FROM") rows row f))
-      (ap first_text (found_before (codes "FROM-TO") rows row c)) (ap number_text (found_before (codes "N") rows row k))
+      (ap first_text (found_before (codes "FROM-TO") rows row c)) (ap first_text (found_before (codes "NAME") rows row a))
+      (ap number_text (found_before (codes "N") rows row k))
       (ap budget_text (found_before (codes "BUDGET") rows row t)) (ap budget_text (found_before (codes "K") rows row q))
-      (ap number_text (found_before (codes "BY") rows row g)) w x y z
-      (ap seed_text (found_before (codes "S") rows row u)) (ap budget_text (found_before (codes "LENGTH") rows row v)) e
+      (ap number_text (found_before (codes "BY") rows row g)) (set_kept name (codes "record") rows none) (set_kept name (codes "tree") rows none)
+      (set_kept name (codes "steps") rows none) (set_kept name (codes "traps") rows none)
+      (ap seed_text (found_before (codes "S") rows row u)) (ap budget_text (found_before (codes "LENGTH") rows row v)) (set_kept name (codes "finish") rows none)
+      (set_kept name (codes "state") rows none) (set_kept name (codes "turns") rows none) (set_kept name (codes "whole") rows none)
 
 pub quiet_tree : Quiet (built_flag (codes "tree"))
-quiet_tree = quiet_flag (codes "tree") (λ rows none. word_gives (codes "tree") rows refl refl refl refl refl refl refl refl refl refl refl refl
-    (set_before (codes "tree") (codes "record") rows refl) (unset (codes "tree") rows none refl) (set_before (codes "tree") (codes "steps") rows refl) (set_before (codes "tree") (codes "traps") rows refl) (set_before (codes "tree") (codes "finish") rows refl)) refl
+quiet_tree = quiet_flag (codes "tree") (λ rows none. word_gives (codes "tree") rows none refl refl refl refl refl refl refl refl refl refl refl refl refl) refl
 
 pub quiet_steps : Quiet (built_flag (codes "steps"))
-quiet_steps = quiet_flag (codes "steps") (λ rows none. word_gives (codes "steps") rows refl refl refl refl refl refl refl refl refl refl refl refl
-    (set_before (codes "steps") (codes "record") rows refl) (set_before (codes "steps") (codes "tree") rows refl) (unset (codes "steps") rows none refl) (set_before (codes "steps") (codes "traps") rows refl) (set_before (codes "steps") (codes "finish") rows refl)) refl
+quiet_steps = quiet_flag (codes "steps") (λ rows none. word_gives (codes "steps") rows none refl refl refl refl refl refl refl refl refl refl refl refl refl) refl
 
 pub quiet_traps : Quiet (built_flag (codes "traps"))
-quiet_traps = quiet_flag (codes "traps") (λ rows none. word_gives (codes "traps") rows refl refl refl refl refl refl refl refl refl refl refl refl
-    (set_before (codes "traps") (codes "record") rows refl) (set_before (codes "traps") (codes "tree") rows refl) (set_before (codes "traps") (codes "steps") rows refl) (unset (codes "traps") rows none refl) (set_before (codes "traps") (codes "finish") rows refl)) refl
+quiet_traps = quiet_flag (codes "traps") (λ rows none. word_gives (codes "traps") rows none refl refl refl refl refl refl refl refl refl refl refl refl refl) refl
 
 pub quiet_as_record : Quiet (built_flag (codes "record"))
-quiet_as_record = quiet_flag (codes "record") (λ rows none. word_gives (codes "record") rows refl refl refl refl refl refl refl refl refl refl refl refl
-    (unset (codes "record") rows none refl) (set_before (codes "record") (codes "tree") rows refl) (set_before (codes "record") (codes "steps") rows refl) (set_before (codes "record") (codes "traps") rows refl) (set_before (codes "record") (codes "finish") rows refl)) refl
+quiet_as_record = quiet_flag (codes "record") (λ rows none. word_gives (codes "record") rows none refl refl refl refl refl refl refl refl refl refl refl refl refl) refl
 
 pub quiet_finish : Quiet (built_flag (codes "finish"))
-quiet_finish = quiet_flag (codes "finish") (λ rows none. word_gives (codes "finish") rows refl refl refl refl refl refl refl refl refl refl refl refl
-    (set_before (codes "finish") (codes "record") rows refl) (set_before (codes "finish") (codes "tree") rows refl) (set_before (codes "finish") (codes "steps") rows refl) (set_before (codes "finish") (codes "traps") rows refl) (unset (codes "finish") rows none refl)) refl
+quiet_finish = quiet_flag (codes "finish") (λ rows none. word_gives (codes "finish") rows none refl refl refl refl refl refl refl refl refl refl refl refl refl) refl
+
+pub quiet_state : Quiet (built_flag (codes "state"))
+quiet_state = quiet_flag (codes "state") (λ rows none. word_gives (codes "state") rows none refl refl refl refl refl refl refl refl refl refl refl refl refl) refl
+
+pub quiet_turns : Quiet (built_flag (codes "turns"))
+quiet_turns = quiet_flag (codes "turns") (λ rows none. word_gives (codes "turns") rows none refl refl refl refl refl refl refl refl refl refl refl refl refl) refl
+
+pub quiet_whole : Quiet (built_flag (codes "whole"))
+quiet_whole = quiet_flag (codes "whole") (λ rows none. word_gives (codes "whole") rows none refl refl refl refl refl refl refl refl refl refl refl refl refl) refl
 
 abbrev pub EachQuiet : List Rule → Type 0
 EachQuiet [] = Unit {0}
@@ -286,6 +310,10 @@ no_script AsRecord = refl
 no_script (BySeed v) = refl
 no_script (OfLength j) = refl
 no_script Finishing = refl
+no_script (Always a) = refl
+no_script WithState = refl
+no_script WithTurns = refl
+no_script AsWhole = refl
 
 no_schedule : (one : Chosen) → bytes_eq (id_of one) (codes "SCHEDULE") ≡ false
 no_schedule (Count n) = refl
@@ -303,6 +331,10 @@ no_schedule AsRecord = refl
 no_schedule (BySeed v) = refl
 no_schedule (OfLength j) = refl
 no_schedule Finishing = refl
+no_schedule (Always a) = refl
+no_schedule WithState = refl
+no_schedule WithTurns = refl
+no_schedule AsWhole = refl
 
 number_in : (n : Text) → is_some (number n) ≡ true → number (without_minus n) ≡ number n
 number_in n plain = let k = some_of (number n) plain in number_is n k.0 k.1 ∙ sym k.1
@@ -328,6 +360,10 @@ count_found names (AsRecord ∷ others) plain = count_found names others plain.3
 count_found names (BySeed v ∷ others) plain = count_found names others plain.3
 count_found names (OfLength j ∷ others) plain = count_found names others plain.3
 count_found names (Finishing ∷ others) plain = count_found names others plain.3
+count_found names (Always a ∷ others) plain = count_found names others plain.3
+count_found names (WithState ∷ others) plain = count_found names others plain.3
+count_found names (WithTurns ∷ others) plain = count_found names others plain.3
+count_found names (AsWhole ∷ others) plain = count_found names others plain.3
 
 turns_found : (names : List Text) (chosen : List Chosen) → ArePlain names chosen
     → budget_text (found (codes "BUDGET") (map row_of chosen)) ≡ option_and_then budget_number (value_in (codes "BUDGET") chosen)
@@ -347,6 +383,10 @@ turns_found names (AsRecord ∷ others) plain = turns_found names others plain.3
 turns_found names (BySeed v ∷ others) plain = turns_found names others plain.3
 turns_found names (OfLength j ∷ others) plain = turns_found names others plain.3
 turns_found names (Finishing ∷ others) plain = turns_found names others plain.3
+turns_found names (Always a ∷ others) plain = turns_found names others plain.3
+turns_found names (WithState ∷ others) plain = turns_found names others plain.3
+turns_found names (WithTurns ∷ others) plain = turns_found names others plain.3
+turns_found names (AsWhole ∷ others) plain = turns_found names others plain.3
 
 most_found : (names : List Text) (chosen : List Chosen) → ArePlain names chosen
     → budget_text (found (codes "K") (map row_of chosen)) ≡ option_and_then budget_number (value_in (codes "K") chosen)
@@ -366,6 +406,10 @@ most_found names (AsRecord ∷ others) plain = most_found names others plain.3
 most_found names (BySeed v ∷ others) plain = most_found names others plain.3
 most_found names (OfLength j ∷ others) plain = most_found names others plain.3
 most_found names (Finishing ∷ others) plain = most_found names others plain.3
+most_found names (Always a ∷ others) plain = most_found names others plain.3
+most_found names (WithState ∷ others) plain = most_found names others plain.3
+most_found names (WithTurns ∷ others) plain = most_found names others plain.3
+most_found names (AsWhole ∷ others) plain = most_found names others plain.3
 
 argument_found : (names : List Text) (chosen : List Chosen) → ArePlain names chosen
     → number_text (found (codes "BY") (map row_of chosen)) ≡ option_and_then number (value_in (codes "BY") chosen)
@@ -385,6 +429,10 @@ argument_found names (AsRecord ∷ others) plain = argument_found names others p
 argument_found names (BySeed v ∷ others) plain = argument_found names others plain.3
 argument_found names (OfLength j ∷ others) plain = argument_found names others plain.3
 argument_found names (Finishing ∷ others) plain = argument_found names others plain.3
+argument_found names (Always a ∷ others) plain = argument_found names others plain.3
+argument_found names (WithState ∷ others) plain = argument_found names others plain.3
+argument_found names (WithTurns ∷ others) plain = argument_found names others plain.3
+argument_found names (AsWhole ∷ others) plain = argument_found names others plain.3
 
 record_found : (chosen : List Chosen) → is_set (codes "record") (map row_of chosen) ≡ is_chosen (codes "record") chosen
 record_found [] = refl
@@ -403,6 +451,10 @@ record_found (AsRecord ∷ others) = refl
 record_found (BySeed v ∷ others) = record_found others
 record_found (OfLength j ∷ others) = record_found others
 record_found (Finishing ∷ others) = record_found others
+record_found (Always a ∷ others) = record_found others
+record_found (WithState ∷ others) = record_found others
+record_found (WithTurns ∷ others) = record_found others
+record_found (AsWhole ∷ others) = record_found others
 
 tree_found : (chosen : List Chosen) → is_set (codes "tree") (map row_of chosen) ≡ is_chosen (codes "tree") chosen
 tree_found [] = refl
@@ -421,6 +473,10 @@ tree_found (AsRecord ∷ others) = tree_found others
 tree_found (BySeed v ∷ others) = tree_found others
 tree_found (OfLength j ∷ others) = tree_found others
 tree_found (Finishing ∷ others) = tree_found others
+tree_found (Always a ∷ others) = tree_found others
+tree_found (WithState ∷ others) = tree_found others
+tree_found (WithTurns ∷ others) = tree_found others
+tree_found (AsWhole ∷ others) = tree_found others
 
 steps_found : (chosen : List Chosen) → is_set (codes "steps") (map row_of chosen) ≡ is_chosen (codes "steps") chosen
 steps_found [] = refl
@@ -439,6 +495,10 @@ steps_found (AsRecord ∷ others) = steps_found others
 steps_found (BySeed v ∷ others) = steps_found others
 steps_found (OfLength j ∷ others) = steps_found others
 steps_found (Finishing ∷ others) = steps_found others
+steps_found (Always a ∷ others) = steps_found others
+steps_found (WithState ∷ others) = steps_found others
+steps_found (WithTurns ∷ others) = steps_found others
+steps_found (AsWhole ∷ others) = steps_found others
 
 traps_found : (chosen : List Chosen) → is_set (codes "traps") (map row_of chosen) ≡ is_chosen (codes "traps") chosen
 traps_found [] = refl
@@ -457,6 +517,10 @@ traps_found (AsRecord ∷ others) = traps_found others
 traps_found (BySeed v ∷ others) = traps_found others
 traps_found (OfLength j ∷ others) = traps_found others
 traps_found (Finishing ∷ others) = traps_found others
+traps_found (Always a ∷ others) = traps_found others
+traps_found (WithState ∷ others) = traps_found others
+traps_found (WithTurns ∷ others) = traps_found others
+traps_found (AsWhole ∷ others) = traps_found others
 
 seed_found : (chosen : List Chosen)
     → seed_text (found (codes "S") (map row_of chosen)) ≡ option_and_then seed_number (value_in (codes "S") chosen)
@@ -476,6 +540,10 @@ seed_found (AsRecord ∷ others) = seed_found others
 seed_found (BySeed v ∷ others) = refl
 seed_found (OfLength j ∷ others) = seed_found others
 seed_found (Finishing ∷ others) = seed_found others
+seed_found (Always a ∷ others) = seed_found others
+seed_found (WithState ∷ others) = seed_found others
+seed_found (WithTurns ∷ others) = seed_found others
+seed_found (AsWhole ∷ others) = seed_found others
 
 length_found : (names : List Text) (chosen : List Chosen) → ArePlain names chosen
     → budget_text (found (codes "LENGTH") (map row_of chosen)) ≡ option_and_then budget_number (value_in (codes "LENGTH") chosen)
@@ -495,6 +563,10 @@ length_found names (AsRecord ∷ others) plain = length_found names others plain
 length_found names (BySeed v ∷ others) plain = length_found names others plain.3
 length_found names (OfLength j ∷ others) plain = budget_in j plain.1
 length_found names (Finishing ∷ others) plain = length_found names others plain.3
+length_found names (Always a ∷ others) plain = length_found names others plain.3
+length_found names (WithState ∷ others) plain = length_found names others plain.3
+length_found names (WithTurns ∷ others) plain = length_found names others plain.3
+length_found names (AsWhole ∷ others) plain = length_found names others plain.3
 
 finish_found : (chosen : List Chosen) → is_set (codes "finish") (map row_of chosen) ≡ is_chosen (codes "finish") chosen
 finish_found [] = refl
@@ -513,6 +585,76 @@ finish_found (AsRecord ∷ others) = finish_found others
 finish_found (BySeed v ∷ others) = finish_found others
 finish_found (OfLength j ∷ others) = finish_found others
 finish_found (Finishing ∷ others) = refl
+finish_found (Always a ∷ others) = finish_found others
+finish_found (WithState ∷ others) = finish_found others
+finish_found (WithTurns ∷ others) = finish_found others
+finish_found (AsWhole ∷ others) = finish_found others
+
+state_found : (chosen : List Chosen) → is_set (codes "state") (map row_of chosen) ≡ is_chosen (codes "state") chosen
+state_found [] = refl
+state_found (Count n ∷ others) = state_found others
+state_found (Turns short b ∷ others) = state_found others
+state_found (Most k ∷ others) = state_found others
+state_found (Argument n ∷ others) = state_found others
+state_found (Start f ∷ others) = state_found others
+state_found (Range c ∷ others) = state_found others
+state_found (Told r ∷ others) = state_found others
+state_found (Seen h ∷ others) = state_found others
+state_found (ByTree ∷ others) = state_found others
+state_found (WithSteps ∷ others) = state_found others
+state_found (OfTraps ∷ others) = state_found others
+state_found (AsRecord ∷ others) = state_found others
+state_found (BySeed v ∷ others) = state_found others
+state_found (OfLength j ∷ others) = state_found others
+state_found (Finishing ∷ others) = state_found others
+state_found (Always a ∷ others) = state_found others
+state_found (WithState ∷ others) = refl
+state_found (WithTurns ∷ others) = state_found others
+state_found (AsWhole ∷ others) = state_found others
+
+turns_word_found : (chosen : List Chosen) → is_set (codes "turns") (map row_of chosen) ≡ is_chosen (codes "turns") chosen
+turns_word_found [] = refl
+turns_word_found (Count n ∷ others) = turns_word_found others
+turns_word_found (Turns short b ∷ others) = turns_word_found others
+turns_word_found (Most k ∷ others) = turns_word_found others
+turns_word_found (Argument n ∷ others) = turns_word_found others
+turns_word_found (Start f ∷ others) = turns_word_found others
+turns_word_found (Range c ∷ others) = turns_word_found others
+turns_word_found (Told r ∷ others) = turns_word_found others
+turns_word_found (Seen h ∷ others) = turns_word_found others
+turns_word_found (ByTree ∷ others) = turns_word_found others
+turns_word_found (WithSteps ∷ others) = turns_word_found others
+turns_word_found (OfTraps ∷ others) = turns_word_found others
+turns_word_found (AsRecord ∷ others) = turns_word_found others
+turns_word_found (BySeed v ∷ others) = turns_word_found others
+turns_word_found (OfLength j ∷ others) = turns_word_found others
+turns_word_found (Finishing ∷ others) = turns_word_found others
+turns_word_found (Always a ∷ others) = turns_word_found others
+turns_word_found (WithState ∷ others) = turns_word_found others
+turns_word_found (WithTurns ∷ others) = refl
+turns_word_found (AsWhole ∷ others) = turns_word_found others
+
+whole_found : (chosen : List Chosen) → is_set (codes "whole") (map row_of chosen) ≡ is_chosen (codes "whole") chosen
+whole_found [] = refl
+whole_found (Count n ∷ others) = whole_found others
+whole_found (Turns short b ∷ others) = whole_found others
+whole_found (Most k ∷ others) = whole_found others
+whole_found (Argument n ∷ others) = whole_found others
+whole_found (Start f ∷ others) = whole_found others
+whole_found (Range c ∷ others) = whole_found others
+whole_found (Told r ∷ others) = whole_found others
+whole_found (Seen h ∷ others) = whole_found others
+whole_found (ByTree ∷ others) = whole_found others
+whole_found (WithSteps ∷ others) = whole_found others
+whole_found (OfTraps ∷ others) = whole_found others
+whole_found (AsRecord ∷ others) = whole_found others
+whole_found (BySeed v ∷ others) = whole_found others
+whole_found (OfLength j ∷ others) = whole_found others
+whole_found (Finishing ∷ others) = whole_found others
+whole_found (Always a ∷ others) = whole_found others
+whole_found (WithState ∷ others) = whole_found others
+whole_found (WithTurns ∷ others) = whole_found others
+whole_found (AsWhole ∷ others) = refl
 
 -- behind a module's name alone, that of a script or of a history too, and that of a schedule too
 module _ (names : List Text) (chosen : List Chosen) (plain : ArePlain names chosen) where
@@ -520,30 +662,34 @@ module _ (names : List Text) (chosen : List Chosen) (plain : ArePlain names chos
   rows = map row_of chosen
 
   pub given_alone : given_of rows ≡ given_in None None chosen
-  given_alone = same_as _ _ _ _ _ _ _ _ _ _ _ _ _ _ _ _ _ _ _ _ _ _ _ _ _ _ _ _ _ _ _ _ _ _ (no_value (codes "SCRIPT") no_script chosen) (no_value (codes "SCHEDULE") no_schedule chosen)
-      (value_found (codes "RECORD") chosen) (value_found (codes "HISTORY") chosen) (value_found (codes "FROM") chosen) (value_found (codes "FROM-TO") chosen) (count_found names chosen plain)
+  given_alone = same_as _ _ _ _ _ _ _ _ _ _ _ _ _ _ _ _ _ _ _ _ _ _ _ _ _ _ _ _ _ _ _ _ _ _ _ _ _ _ _ _ _ _ (no_value (codes "SCRIPT") no_script chosen) (no_value (codes "SCHEDULE") no_schedule chosen)
+      (value_found (codes "RECORD") chosen) (value_found (codes "HISTORY") chosen) (value_found (codes "FROM") chosen) (value_found (codes "FROM-TO") chosen) (value_found (codes "NAME") chosen) (count_found names chosen plain)
       (turns_found names chosen plain) (most_found names chosen plain) (argument_found names chosen plain)
       (record_found chosen) (tree_found chosen) (steps_found chosen) (traps_found chosen)
       (seed_found chosen) (length_found names chosen plain) (finish_found chosen)
+      (state_found chosen) (turns_word_found chosen) (whole_found chosen)
 
   pub given_script : (s : Text) → given_of (name_row (codes "SCRIPT") s ∷ rows) ≡ given_in (Some s) None chosen
-  given_script s = same_as _ _ _ _ _ _ _ _ _ _ _ _ _ _ _ _ _ _ _ _ _ _ _ _ _ _ _ _ _ _ _ _ _ _ refl (no_value (codes "SCHEDULE") no_schedule chosen)
-      (value_found (codes "RECORD") chosen) (value_found (codes "HISTORY") chosen) (value_found (codes "FROM") chosen) (value_found (codes "FROM-TO") chosen) (count_found names chosen plain)
+  given_script s = same_as _ _ _ _ _ _ _ _ _ _ _ _ _ _ _ _ _ _ _ _ _ _ _ _ _ _ _ _ _ _ _ _ _ _ _ _ _ _ _ _ _ _ refl (no_value (codes "SCHEDULE") no_schedule chosen)
+      (value_found (codes "RECORD") chosen) (value_found (codes "HISTORY") chosen) (value_found (codes "FROM") chosen) (value_found (codes "FROM-TO") chosen) (value_found (codes "NAME") chosen) (count_found names chosen plain)
       (turns_found names chosen plain) (most_found names chosen plain) (argument_found names chosen plain)
       (record_found chosen) (tree_found chosen) (steps_found chosen) (traps_found chosen)
       (seed_found chosen) (length_found names chosen plain) (finish_found chosen)
+      (state_found chosen) (turns_word_found chosen) (whole_found chosen)
 
   pub given_history : (h : Text) → given_of (name_row (codes "HISTORY") h ∷ rows) ≡ given_with_history h chosen
-  given_history h = same_as _ _ _ _ _ _ _ _ _ _ _ _ _ _ _ _ _ _ _ _ _ _ _ _ _ _ _ _ _ _ _ _ _ _ (no_value (codes "SCRIPT") no_script chosen)
-      (no_value (codes "SCHEDULE") no_schedule chosen) (value_found (codes "RECORD") chosen) refl (value_found (codes "FROM") chosen) (value_found (codes "FROM-TO") chosen) (count_found names chosen plain)
+  given_history h = same_as _ _ _ _ _ _ _ _ _ _ _ _ _ _ _ _ _ _ _ _ _ _ _ _ _ _ _ _ _ _ _ _ _ _ _ _ _ _ _ _ _ _ (no_value (codes "SCRIPT") no_script chosen)
+      (no_value (codes "SCHEDULE") no_schedule chosen) (value_found (codes "RECORD") chosen) refl (value_found (codes "FROM") chosen) (value_found (codes "FROM-TO") chosen) (value_found (codes "NAME") chosen) (count_found names chosen plain)
       (turns_found names chosen plain) (most_found names chosen plain) (argument_found names chosen plain)
       (record_found chosen) (tree_found chosen) (steps_found chosen) (traps_found chosen)
       (seed_found chosen) (length_found names chosen plain) (finish_found chosen)
+      (state_found chosen) (turns_word_found chosen) (whole_found chosen)
 
   pub given_schedule : (s d : Text) → given_of (name_row (codes "SCRIPT") s ∷ name_row (codes "SCHEDULE") d ∷ rows)
       ≡ given_in (Some s) (Some d) chosen
-  given_schedule s d = same_as _ _ _ _ _ _ _ _ _ _ _ _ _ _ _ _ _ _ _ _ _ _ _ _ _ _ _ _ _ _ _ _ _ _ refl refl
-      (value_found (codes "RECORD") chosen) (value_found (codes "HISTORY") chosen) (value_found (codes "FROM") chosen) (value_found (codes "FROM-TO") chosen) (count_found names chosen plain)
+  given_schedule s d = same_as _ _ _ _ _ _ _ _ _ _ _ _ _ _ _ _ _ _ _ _ _ _ _ _ _ _ _ _ _ _ _ _ _ _ _ _ _ _ _ _ _ _ refl refl
+      (value_found (codes "RECORD") chosen) (value_found (codes "HISTORY") chosen) (value_found (codes "FROM") chosen) (value_found (codes "FROM-TO") chosen) (value_found (codes "NAME") chosen) (count_found names chosen plain)
       (turns_found names chosen plain) (most_found names chosen plain) (argument_found names chosen plain)
       (record_found chosen) (tree_found chosen) (steps_found chosen) (traps_found chosen)
       (seed_found chosen) (length_found names chosen plain) (finish_found chosen)
+      (state_found chosen) (turns_word_found chosen) (whole_found chosen)

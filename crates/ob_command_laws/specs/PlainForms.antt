@@ -1,9 +1,10 @@
 -- The plain forms of the commands: names that are no options, and options in any order.
-use Rattle.std.specs.Prelude.{◌≡◌, ℕ, Bool, true, false, not, List, [], ◌∷◌, Option, Some, None, is_some, find, option_and_then, option_map, unwrap_or, codes}
+use Rattle.std.specs.Prelude.{◌≡◌, ◌⊎◌, ℕ, Bool, true, false, not, List, [], ◌∷◌, Option, Some, None, is_some, find, option_and_then, option_map, unwrap_or, codes}
 use Rattle.std.specs.List.{list_any}
 use Rattle.std.specs.Option.{option_map_or}
 use Rattle.std.specs.Str.{bytes_eq}
-use Rattle.ob_command.specs.CommandLine.{CallsRequest, ChanceRequest, Given, Help, OrderRequest, Request, RunRequest, Text, Unclear, Version, asked, budget_number, calls_in, default_budget, default_length, default_most, form_mistake_of, is_length, is_most, is_option, is_place, is_seen_budget, number, request, run_product, seed_number}
+use Rattle.ob_command.specs.CommandLine.{AlwaysRequest, CallsRequest, ChanceRequest, Given, Help, OrderRequest, OutcomesRequest, Request, RunRequest, SeenRequest, SeqRequest, Text, Unclear, Version, asked, budget_number, calls_in, default_budget, default_length, default_most, default_most_reached, form_mistake_of, is_length, is_most, is_option, is_place, is_seen_budget, number, request, run_product, seed_number}
+use Rattle.ob_command.specs.declared.command.CallNumbers.{CallNumbers}
 use Rattle.ob_command.specs.declared.command.OrderProduct.{OrderProduct}
 use Rattle.ob_command.specs.declared.command.RunProduct.{RunProduct}
 
@@ -23,7 +24,8 @@ pub record IsVersionAsked (name : Text) : Type 0 where
 -- ---- options among words
 
 -- an option as it stands among words, with the word behind it where it has one: `-n`, `-b` or `--budget`, `--most`, `--by`, `--from`,
--- `--calls`, `--record` with a name, `--history`, `--tree`, `--steps`, `--traps`, `--record` alone, `--seed`, `--length` and `--finish`
+-- `--calls`, `--record` with a name, `--history`, `--tree`, `--steps`, `--traps`, `--record` alone, `--seed`, `--length`, `--finish`, `--always`,
+-- `--state`, `--turns` and `--whole`
 pub data Chosen : Type 0 where
   Count : (n : Text) → Chosen
   Turns : (short : Bool) (b : Text) → Chosen
@@ -40,6 +42,10 @@ pub data Chosen : Type 0 where
   BySeed : (s : Text) → Chosen
   OfLength : (j : Text) → Chosen
   Finishing : Chosen
+  Always : (a : Text) → Chosen
+  WithState : Chosen
+  WithTurns : Chosen
+  AsWhole : Chosen
 
 -- the name by which it is known
 abbrev pub id_of : Chosen → Text
@@ -58,6 +64,10 @@ id_of AsRecord = codes "record"
 id_of (BySeed s) = codes "S"
 id_of (OfLength j) = codes "LENGTH"
 id_of Finishing = codes "finish"
+id_of (Always a) = codes "NAME"
+id_of WithState = codes "state"
+id_of WithTurns = codes "turns"
+id_of AsWhole = codes "whole"
 
 -- what stands behind it, and `true` where nothing does
 abbrev pub text_of : Chosen → Text
@@ -71,6 +81,7 @@ text_of (Told r) = r
 text_of (Seen h) = h
 text_of (BySeed s) = s
 text_of (OfLength j) = j
+text_of (Always a) = a
 text_of _ = codes "true"
 
 -- the word that stands before a budget
@@ -95,6 +106,10 @@ with_words AsRecord rest = codes "--record" ∷ rest
 with_words (BySeed s) rest = codes "--seed" ∷ s ∷ rest
 with_words (OfLength j) rest = codes "--length" ∷ j ∷ rest
 with_words Finishing rest = codes "--finish" ∷ rest
+with_words (Always a) rest = codes "--always" ∷ a ∷ rest
+with_words WithState rest = codes "--state" ∷ rest
+with_words WithTurns rest = codes "--turns" ∷ rest
+with_words AsWhole rest = codes "--whole" ∷ rest
 
 abbrev pub words_of : List Chosen → List Text
 words_of [] = []
@@ -112,6 +127,7 @@ is_plain (Told r) = not (is_option r)
 is_plain (Seen h) = not (is_option h)
 is_plain (BySeed s) = is_some (seed_number s)
 is_plain (OfLength j) = is_some (budget_number j)
+is_plain (Always a) = not (is_option a)
 is_plain _ = true
 
 -- Options of these names in any order, each at most once, with what can stand behind them.
@@ -122,7 +138,7 @@ ArePlain names (chosen ∷ others) = (list_any (bytes_eq (id_of chosen)) names �
 
 -- the options of each command
 abbrev pub seq_options : List Text
-seq_options = codes "BUDGET" ∷ codes "FROM" ∷ []
+seq_options = codes "BUDGET" ∷ codes "FROM" ∷ codes "state" ∷ codes "turns" ∷ []
 
 abbrev pub run_options : List Text
 run_options = codes "N" ∷ codes "BUDGET" ∷ codes "FROM" ∷ codes "tree" ∷ codes "steps" ∷ codes "S" ∷ codes "LENGTH" ∷ codes "finish" ∷ []
@@ -131,13 +147,16 @@ abbrev pub serve_options : List Text
 serve_options = codes "N" ∷ codes "BUDGET" ∷ codes "FROM" ∷ []
 
 abbrev pub draw_options : List Text
-draw_options = codes "N" ∷ codes "BUDGET" ∷ codes "FROM" ∷ codes "FROM-TO" ∷ []
+draw_options = codes "N" ∷ codes "BUDGET" ∷ codes "FROM" ∷ codes "FROM-TO" ∷ codes "K" ∷ []
+
+abbrev pub outcomes_options : List Text
+outcomes_options = codes "N" ∷ codes "BUDGET" ∷ codes "FROM" ∷ codes "NAME" ∷ codes "whole" ∷ codes "K" ∷ []
 
 abbrev pub order_options : List Text
 order_options = codes "BUDGET" ∷ codes "K" ∷ codes "BY" ∷ codes "record" ∷ []
 
 abbrev pub explain_options : List Text
-explain_options = codes "N" ∷ codes "BUDGET" ∷ codes "FROM" ∷ codes "RECORD" ∷ codes "HISTORY" ∷ codes "traps" ∷ []
+explain_options = codes "N" ∷ codes "BUDGET" ∷ codes "FROM" ∷ codes "RECORD" ∷ codes "HISTORY" ∷ codes "traps" ∷ codes "NAME" ∷ []
 
 abbrev pub bound_options : List Text
 bound_options = codes "N" ∷ codes "BUDGET" ∷ []
@@ -158,6 +177,7 @@ given_in script_name schedule_name chosen = record {
   history_name = value_in (codes "HISTORY") chosen;
   from_name = value_in (codes "FROM") chosen;
   range = value_in (codes "FROM-TO") chosen;
+  always = value_in (codes "NAME") chosen;
   processes = option_and_then number (value_in (codes "N") chosen);
   budget = option_and_then budget_number (value_in (codes "BUDGET") chosen);
   most = option_and_then budget_number (value_in (codes "K") chosen);
@@ -169,6 +189,9 @@ given_in script_name schedule_name chosen = record {
   steps = is_chosen (codes "steps") chosen;
   traps = is_chosen (codes "traps") chosen;
   finish = is_chosen (codes "finish") chosen;
+  state = is_chosen (codes "state") chosen;
+  turns = is_chosen (codes "turns") chosen;
+  whole = is_chosen (codes "whole") chosen;
 }
 
 -- the same with the name of a history and no other file's
@@ -228,6 +251,16 @@ order_with m h chosen product = record {
   product = product;
 }
 
+-- the picture of these calls of a history, with the other options
+abbrev pub seen_with : (m h : Text) → List Chosen → Option CallNumbers → SeenRequest
+seen_with m h chosen calls = record {
+  module_name = m;
+  history_name = h;
+  budget = budget_in chosen;
+  most = unwrap_or (most_in chosen) default_most;
+  calls = calls;
+}
+
 -- the calls and the run of these files, of so many processes, with the other options
 abbrev pub calls_with : (m s : Text) (processes : ℕ) → List Chosen → CallsRequest
 calls_with m s processes chosen = record {
@@ -237,6 +270,21 @@ calls_with m s processes chosen = record {
   budget = turns_in chosen;
   from_name = value_in (codes "FROM") chosen;
 }
+
+-- the calls one at a time, with what is told of them, and all runs of them
+abbrev pub seq_with : (m s : Text) → List Chosen → SeqRequest
+seq_with m s chosen = record { calls = calls_with m s 16 chosen; state = is_chosen (codes "state") chosen; turns = is_chosen (codes "turns") chosen }
+
+abbrev pub outcomes_with : (m s : Text) (processes : ℕ) → List Chosen → OutcomesRequest
+outcomes_with m s processes chosen = record {
+  calls = calls_with m s processes chosen;
+  always = value_in (codes "NAME") chosen;
+  whole = is_chosen (codes "whole") chosen;
+  most = unwrap_or (most_in chosen) default_most_reached;
+}
+
+abbrev pub always_with : (m s name : Text) (processes : ℕ) → List Chosen → AlwaysRequest
+always_with m s name processes chosen = record { calls = calls_with m s processes chosen; name = name }
 
 abbrev pub run_with : (m s d : Text) (processes : ℕ) → List Chosen → RunRequest
 run_with m s d processes chosen = record { calls = calls_with m s processes chosen; schedule_name = d }
@@ -291,7 +339,7 @@ abbrev pub Lacks : (names : List Text) → List Chosen → Type 0
 Lacks [] chosen = Unit {0}
 Lacks (name ∷ names) chosen = (is_chosen name chosen ≡ false) × Lacks names chosen
 
--- The numbers behind `order` are in their ranges: of the budget, of the number of configurations, of the place of an argument, where they
+-- The numbers of a search for an order are in their ranges: of the budget, of the number of configurations, of the place of an argument, where they
 -- stand there.
 abbrev pub IsSeenBudget : List Chosen → Type 0
 IsSeenBudget chosen = option_map_or is_seen_budget (budget_in chosen) true ≡ true
@@ -304,3 +352,11 @@ IsPlace chosen = option_map_or is_place (argument_in chosen) true ≡ true
 
 abbrev pub AreInRange : List Chosen → Type 0
 AreInRange chosen = IsSeenBudget chosen × IsMost chosen × IsPlace chosen
+
+-- one of the options that say how to search is there
+abbrev pub SaysSearch : List Chosen → Type 0
+SaysSearch chosen = Has (codes "BUDGET") chosen ⊎ Has (codes "K") chosen
+
+-- a procedure is named beside `--whole`
+abbrev pub NamesBesideWhole : List Chosen → Type 0
+NamesBesideWhole chosen = Has (codes "NAME") chosen × Has (codes "whole") chosen

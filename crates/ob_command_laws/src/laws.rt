@@ -3,15 +3,17 @@
 ghost use Rattle.std.specs.Prelude.{◌≡◌, ◌⊎◌, ℕ, List, Option, Some, [], ◌∷◌, false, true, All, codes, is_some, unwrap_or};
 ghost use Rattle.clap.specs.Words.{fault_of};
 ghost use Rattle.ob_command_line.specs.ClapCommand.{obl0_app};
-ghost use Rattle.ob_command.specs.CommandLine.{Bound, Check, Draw, DrawRecord, Explain, ExplainCalls, ExplainHistory, ExplainRecord, ExplainRun};
-ghost use Rattle.ob_command.specs.CommandLine.{ExplainTraps, Help, Listing, Order, Run, RunByChance, RunFinished, RunSteps, RunTree, Seq, Serve, Text, Unclear};
-ghost use Rattle.ob_command.specs.CommandLine.{Verify};
+ghost use Rattle.ob_command.specs.CommandLine.{Bound, Check, Draw, DrawHistory, DrawRecord, Explain, ExplainAlways, ExplainCalls};
+ghost use Rattle.ob_command.specs.CommandLine.{ExplainHistory, ExplainRecord, ExplainRun, ExplainTraps, Help, Listing, Order, Outcomes, Run, RunByChance, RunFinished, RunSteps, RunTree, Seq};
+ghost use Rattle.ob_command.specs.CommandLine.{Serve, Text, Unclear, Verify};
 ghost use Rattle.ob_command.specs.CommandLine.{Version, asks_command, command_names, form_mistake_of, is_option, most_mistake, parts_mistake};
-ghost use Rattle.ob_command.specs.CommandLine.{place_mistake, range_by, request, seen_budget_mistake};
+ghost use Rattle.ob_command.specs.CommandLine.{place_mistake, range_by, request, seen_budget_mistake, whole_mistake};
 ghost use Rattle.ob_command_laws.specs.PlainForms.{AreInRange, AsksWithHistory, AsksWithModule, AsksWithSchedule, AsksWithScript, Has, IsHelpAsked};
-ghost use Rattle.ob_command_laws.specs.PlainForms.{IsLength, IsMost, IsPlace, IsSeenBudget, IsVersionAsked, Lacks, ModuleAsksFor, RunAsksFor, ScriptAsksFor};
-ghost use Rattle.ob_command_laws.specs.PlainForms.{ScriptSays, argument_in, bound_options, calls_with, chance_with, count_in, draw_options};
-ghost use Rattle.ob_command_laws.specs.PlainForms.{explain_options, order_options, order_with, product_in, run_options, seed_in, seq_options, serve_options};
+ghost use Rattle.ob_command_laws.specs.PlainForms.{IsLength, IsMost, IsPlace, IsSeenBudget, IsVersionAsked, Lacks, ModuleAsksFor, NamesBesideWhole};
+ghost use Rattle.ob_command_laws.specs.PlainForms.{RunAsksFor, SaysSearch, ScriptAsksFor};
+ghost use Rattle.ob_command_laws.specs.PlainForms.{ScriptSays, always_with, argument_in, bound_options, calls_with, chance_with, count_in, draw_options};
+ghost use Rattle.ob_command_laws.specs.PlainForms.{explain_options, order_options, order_with, outcomes_options, outcomes_with, product_in, run_options};
+ghost use Rattle.ob_command_laws.specs.PlainForms.{seed_in, seen_with, seq_options, seq_with, serve_options};
 ghost use Rattle.ob_command_laws.specs.PlainForms.{turns_in, value_in};
 ghost use Rattle.ob_command.specs.declared.command.CallNumbers.{CallNumbers};
 ghost use Rattle.ob_command.specs.declared.command.RunProduct.{RunProduct};
@@ -30,7 +32,7 @@ pub fn list_is_asked()
 /// `seq` and two names that are no options, and its options in any order.
 pub fn seq_is_asked()
     ensures table { AsksWithScript (codes "seq") false seq_options }
-    ensures calls { ScriptAsksFor (codes "seq") seq_options (Lacks []) (λ m s chosen. Seq (calls_with m s 16 chosen)) }
+    ensures calls { ScriptAsksFor (codes "seq") seq_options (Lacks []) (λ m s chosen. Seq (seq_with m s chosen)) }
 {}
 
 /// `run` and three names that are no options, or two, and its options in any order.
@@ -62,10 +64,25 @@ pub fn draw_is_asked()
     ensures table { AsksWithSchedule (codes "draw") false draw_options }
     ensures table_of_two { AsksWithScript (codes "draw") false draw_options }
     ensures run { (calls : Option CallNumbers) → RunAsksFor (codes "draw") draw_options
-        (λ chosen. range_by (value_in (codes "FROM-TO") chosen) ≡ Some calls) (λ run. Draw run calls) }
+        (λ chosen. (range_by (value_in (codes "FROM-TO") chosen) ≡ Some calls) × Lacks (codes "K" ∷ []) chosen) (λ run. Draw run calls) }
     ensures record { (calls : Option CallNumbers) → ScriptAsksFor (codes "draw") draw_options
-        (λ chosen. (range_by (value_in (codes "FROM-TO") chosen) ≡ Some calls) × Lacks (codes "N" ∷ codes "BUDGET" ∷ codes "FROM" ∷ []) chosen)
+        (λ chosen. (range_by (value_in (codes "FROM-TO") chosen) ≡ Some calls) × Lacks (codes "N" ∷ codes "BUDGET" ∷ codes "FROM" ∷ codes "K" ∷ []) chosen)
         (λ m r chosen. DrawRecord m r calls) }
+    ensures history { (calls : Option CallNumbers) → ScriptAsksFor (codes "draw") draw_options
+        (λ chosen. (range_by (value_in (codes "FROM-TO") chosen) ≡ Some calls) × IsSeenBudget chosen × IsMost chosen × SaysSearch chosen
+        × Lacks (codes "N" ∷ codes "FROM" ∷ []) chosen)
+        (λ m h chosen. DrawHistory (seen_with m h chosen calls)) }
+{}
+
+/// `outcomes` and two names that are no options, and its options in any order; what is said of a number of configurations that is out of its
+/// range, and of a procedure that is named beside `--whole`.
+pub fn outcomes_is_asked()
+    ensures table { AsksWithScript (codes "outcomes") true outcomes_options }
+    ensures runs { (k : ℕ) → ScriptAsksFor (codes "outcomes") outcomes_options
+        (λ chosen. (count_in chosen ≡ Some k) × IsMost chosen × (NamesBesideWhole chosen → ⊥)) (λ m s chosen. Outcomes (outcomes_with m s k chosen)) }
+    ensures most { ScriptSays (codes "outcomes") outcomes_options (λ chosen. Has (codes "N") chosen × (IsMost chosen → ⊥)) most_mistake }
+    ensures whole { ScriptSays (codes "outcomes") outcomes_options
+        (λ chosen. Has (codes "N") chosen × IsMost chosen × NamesBesideWhole chosen) whole_mistake }
 {}
 
 /// `verify` and two names that are no options.
@@ -97,19 +114,26 @@ pub fn explain_is_asked()
     ensures table_of_two { AsksWithScript (codes "explain") false explain_options }
     ensures table { AsksWithSchedule (codes "explain") false explain_options }
     ensures module { ModuleAsksFor (codes "explain") explain_options
-        (Lacks (codes "RECORD" ∷ codes "HISTORY" ∷ codes "FROM" ∷ codes "N" ∷ codes "traps" ∷ [])) (λ m chosen. Explain m (turns_in chosen)) }
+        (Lacks (codes "RECORD" ∷ codes "HISTORY" ∷ codes "NAME" ∷ codes "FROM" ∷ codes "N" ∷ codes "traps" ∷ []))
+        (λ m chosen. Explain m (turns_in chosen)) }
     ensures record { (r : Text) → ModuleAsksFor (codes "explain") explain_options
-        (λ chosen. (value_in (codes "RECORD") chosen ≡ Some r) × Lacks (codes "HISTORY" ∷ codes "FROM" ∷ codes "N" ∷ codes "BUDGET" ∷ codes "traps" ∷ []) chosen)
+        (λ chosen. (value_in (codes "RECORD") chosen ≡ Some r)
+        × Lacks (codes "HISTORY" ∷ codes "FROM" ∷ codes "N" ∷ codes "BUDGET" ∷ codes "traps" ∷ codes "NAME" ∷ []) chosen)
         (λ m chosen. ExplainRecord m r) }
     ensures history { (h : Text) → ModuleAsksFor (codes "explain") explain_options
-        (λ chosen. (value_in (codes "HISTORY") chosen ≡ Some h) × Lacks (codes "RECORD" ∷ codes "FROM" ∷ codes "N" ∷ codes "BUDGET" ∷ codes "traps" ∷ []) chosen)
+        (λ chosen. (value_in (codes "HISTORY") chosen ≡ Some h)
+        × Lacks (codes "RECORD" ∷ codes "FROM" ∷ codes "N" ∷ codes "BUDGET" ∷ codes "traps" ∷ codes "NAME" ∷ []) chosen)
         (λ m chosen. ExplainHistory m h) }
     ensures calls { ScriptAsksFor (codes "explain") explain_options
-        (Lacks (codes "RECORD" ∷ codes "HISTORY" ∷ codes "N" ∷ codes "traps" ∷ [])) (λ m s chosen. ExplainCalls (calls_with m s 16 chosen)) }
+        (Lacks (codes "RECORD" ∷ codes "HISTORY" ∷ codes "NAME" ∷ codes "N" ∷ codes "traps" ∷ [])) (λ m s chosen. ExplainCalls (calls_with m s 16 chosen)) }
     ensures traps { ScriptAsksFor (codes "explain") explain_options
-        (λ chosen. Has (codes "traps") chosen × Lacks (codes "RECORD" ∷ codes "HISTORY" ∷ codes "N" ∷ []) chosen)
+        (λ chosen. Has (codes "traps") chosen × Lacks (codes "RECORD" ∷ codes "HISTORY" ∷ codes "NAME" ∷ codes "N" ∷ []) chosen)
         (λ m s chosen. ExplainTraps (calls_with m s 16 chosen)) }
-    ensures run { RunAsksFor (codes "explain") explain_options (Lacks (codes "RECORD" ∷ codes "HISTORY" ∷ codes "traps" ∷ [])) ExplainRun }
+    ensures always { (k : ℕ) (name : Text) → ScriptAsksFor (codes "explain") explain_options
+        (λ chosen. (count_in chosen ≡ Some k) × (value_in (codes "NAME") chosen ≡ Some name)
+        × Lacks (codes "RECORD" ∷ codes "HISTORY" ∷ codes "traps" ∷ []) chosen)
+        (λ m s chosen. ExplainAlways (always_with m s name k chosen)) }
+    ensures run { RunAsksFor (codes "explain") explain_options (Lacks (codes "RECORD" ∷ codes "HISTORY" ∷ codes "NAME" ∷ codes "traps" ∷ [])) ExplainRun }
 {}
 
 /// `bound` and a name that is no option, and its options in any order.

@@ -26,6 +26,10 @@ budget_rule = record (new_rule (codes "BUDGET")) { short = Some 98; long = Some 
 abbrev pub most_rule : Rule
 most_rule = record (new_rule (codes "K")) { long = Some (codes "most"); parser = Some (Signed (pos 0) (pos 4294967295)) }
 
+-- `--always NAME`, which may be missing
+abbrev pub always_rule : Rule
+always_rule = record (new_rule (codes "NAME")) { long = Some (codes "always") }
+
 -- `--by N`, with a number of 16 bits, which may be missing
 abbrev pub by_rule : Rule
 by_rule = record (new_rule (codes "BY")) { long = Some (codes "by"); value_names = 1; parser = Some (Signed (pos 0) (pos 65535)) }
@@ -85,13 +89,23 @@ order_app command = command_app command (name_rule (codes "MODULE") ∷ name_rul
 abbrev pub bound_app : Text → App
 bound_app command = command_app command (name_rule (codes "MODULE") ∷ number_rule ∷ budget_rule ∷ [])
 
--- `MODULE SCRIPT -b BUDGET --from RECORD`
-abbrev pub seq_app : Text → App
-seq_app command = command_app command (name_rule (codes "MODULE") ∷ name_rule (codes "SCRIPT") ∷ budget_rule ∷ from_rule ∷ [])
+-- `MODULE SCRIPT -b BUDGET --from RECORD`, with which the words of `seq` begin
+abbrev pub sequence_app : Text → App
+sequence_app command = command_app command (name_rule (codes "MODULE") ∷ name_rule (codes "SCRIPT") ∷ budget_rule ∷ from_rule ∷ [])
 
--- `MODULE SCRIPT -n N -b BUDGET --from RECORD`
+-- `MODULE SCRIPT -b BUDGET --from RECORD --state --turns`
+abbrev pub seq_app : Text → App
+seq_app command = command_app command (name_rule (codes "MODULE") ∷ name_rule (codes "SCRIPT") ∷ budget_rule ∷ from_rule
+    ∷ flag_rule (codes "state") ∷ flag_rule (codes "turns") ∷ [])
+
+-- `MODULE SCRIPT -n N -b BUDGET --from RECORD`, with which those of `outcomes` begin too
 abbrev pub serve_app : Text → App
 serve_app command = command_app command (name_rule (codes "MODULE") ∷ name_rule (codes "SCRIPT") ∷ number_rule ∷ budget_rule ∷ from_rule ∷ [])
+
+-- `MODULE SCRIPT -n N -b BUDGET --from RECORD --always NAME --whole --most K`
+abbrev pub outcomes_app : Text → App
+outcomes_app command = command_app command (name_rule (codes "MODULE") ∷ name_rule (codes "SCRIPT") ∷ number_rule ∷ budget_rule ∷ from_rule
+    ∷ always_rule ∷ flag_rule (codes "whole") ∷ most_rule ∷ [])
 
 -- `MODULE SCRIPT SCHEDULE -n N -b BUDGET`, with which the words of `run` begin, and what of it those of `draw` and of `explain` begin with
 abbrev pub schedule_app : Text → App
@@ -122,16 +136,17 @@ run_app command = command_app command (name_rule (codes "MODULE") ∷ name_rule 
     ∷ number_rule ∷ budget_rule ∷ from_rule ∷ flag_rule (codes "tree") ∷ flag_rule (codes "steps")
     ∷ seed_rule ∷ length_rule ∷ flag_rule (codes "finish") ∷ [])
 
--- `MODULE SCRIPT SCHEDULE -n N -b BUDGET --from RECORD --calls FROM-TO`, `MODULE RECORD --calls FROM-TO`
+-- `MODULE SCRIPT SCHEDULE -n N -b BUDGET --from RECORD --calls FROM-TO`, `MODULE RECORD --calls FROM-TO`,
+-- `MODULE HISTORY -b BUDGET --most K --calls FROM-TO`
 abbrev pub draw_app : Text → App
 draw_app command = command_app command (name_rule (codes "MODULE") ∷ name_rule (codes "SCRIPT") ∷ new_rule (codes "SCHEDULE")
-    ∷ optional_number_rule ∷ budget_rule ∷ from_rule ∷ calls_rule ∷ [])
+    ∷ optional_number_rule ∷ budget_rule ∷ from_rule ∷ calls_rule ∷ most_rule ∷ [])
 
 -- `MODULE`, `MODULE SCRIPT -b BUDGET --from RECORD --traps`, `MODULE SCRIPT SCHEDULE -n N -b BUDGET --from RECORD`, `MODULE --record RECORD`,
--- `MODULE --history HISTORY`
+-- `MODULE --history HISTORY`, `MODULE SCRIPT -n N --always NAME -b BUDGET --from RECORD`
 abbrev pub explain_app : Text → App
 explain_app command = command_app command (name_rule (codes "MODULE") ∷ new_rule (codes "SCRIPT") ∷ new_rule (codes "SCHEDULE")
-    ∷ optional_number_rule ∷ budget_rule ∷ from_rule ∷ record_rule ∷ history_rule ∷ flag_rule (codes "traps") ∷ [])
+    ∷ optional_number_rule ∷ budget_rule ∷ from_rule ∷ record_rule ∷ history_rule ∷ flag_rule (codes "traps") ∷ always_rule ∷ [])
 
 abbrev pub top_shape : Shape
 top_shape = record (new_app (codes "obl0")).top {
@@ -149,12 +164,13 @@ top_app = record { top = top_shape; subs = [] }
 abbrev pub with_command : App → App → App
 with_command app command = with_subcommand app command.top
 
--- those that make no calls of a script, or one at a time; that make a run; that look at a record or a history; and that tell of a module
+-- those that make no calls of a script, or one at a time; that make a run, or all runs; that look at a record or a history; and that tell of
+-- a module
 abbrev pub module_apps : List App
 module_apps = module_app (codes "check") ∷ module_app (codes "list") ∷ seq_app (codes "seq") ∷ []
 
 abbrev pub run_apps : List App
-run_apps = run_app (codes "run") ∷ serve_app (codes "serve") ∷ draw_app (codes "draw") ∷ []
+run_apps = run_app (codes "run") ∷ serve_app (codes "serve") ∷ draw_app (codes "draw") ∷ outcomes_app (codes "outcomes") ∷ []
 
 abbrev pub record_apps : List App
 record_apps = record_app (codes "verify") ∷ order_app (codes "order") ∷ []

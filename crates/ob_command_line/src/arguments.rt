@@ -2,7 +2,7 @@
 
 ghost use Rattle.std.specs.Prelude.{◌≡◌, false};
 ghost use Rattle.clap.specs.Words.{new_rule, rule_of};
-ghost use Rattle.ob_command_line.specs.ClapCommand.{budget_rule, by_rule, calls_rule, flag_rule, from_rule, history_rule, most_rule};
+ghost use Rattle.ob_command_line.specs.ClapCommand.{always_rule, budget_rule, by_rule, calls_rule, flag_rule, from_rule, history_rule, most_rule};
 ghost use Rattle.ob_command_line.specs.ClapCommand.{length_rule, name_rule, number_rule, optional_number_rule, record_rule, seed_rule};
 
 use clap::{Arg, ArgAction};
@@ -16,8 +16,17 @@ const HELP_BUDGET: &str =
 const HELP_SEEN_BUDGET: &str =
     "How many turns each call had, 0 to 1000000; where nothing is said, as the history says, or else 100000";
 
+const HELP_DRAWN_BUDGET: &str =
+    "How many turns each call has, 0 to 1000000; 100000 where nothing is said, or as a history says";
+
 const HELP_MOST: &str =
     "How many configurations are looked at, 1 to 1000000000; 10000000 where nothing is said";
+
+const HELP_MOST_REACHED: &str =
+    "How many configurations are looked at, 1 to 1000000000; 1000000 where nothing is said";
+
+const HELP_ALWAYS: &str =
+    "The export, with one VAR parameter, a BOOLEAN, that is to answer TRUE at the opening and behind each call of each run";
 
 const HELP_BY: &str =
     "Orders the calls of each value of their N-th argument apart, N from 1 to 8, and prints a line for each";
@@ -124,6 +133,14 @@ pub fn seen_budget<'a>(alloc: Global) -> Arg<'a>
     budget(alloc, HELP_SEEN_BUDGET)
 }
 
+/// The option that says how many turns each call of a picture has, or had.
+pub fn drawn_budget<'a>(alloc: Global) -> Arg<'a>
+    ensures rule { rule_of result ≡ budget_rule }
+    ensures local { result.global ≡ false }
+{
+    budget(alloc, HELP_DRAWN_BUDGET)
+}
+
 /// The option that has a budget of turns.
 fn budget<'a>(alloc: Global, help: &'a str) -> Arg<'a>
     ensures rule { rule_of result ≡ budget_rule }
@@ -141,10 +158,34 @@ pub fn most_configurations<'a>(alloc: Global) -> Arg<'a>
     ensures rule { rule_of result ≡ most_rule }
     ensures local { result.global ≡ false }
 {
+    most(alloc, HELP_MOST)
+}
+
+/// The option that says how many configurations of all runs are looked at.
+pub fn most_reached<'a>(alloc: Global) -> Arg<'a>
+    ensures rule { rule_of result ≡ most_rule }
+    ensures local { result.global ≡ false }
+{
+    most(alloc, HELP_MOST_REACHED)
+}
+
+/// The option that has a number of configurations.
+fn most<'a>(alloc: Global, help: &'a str) -> Arg<'a>
+    ensures rule { rule_of result ≡ most_rule }
+    ensures local { result.global ≡ false }
+{
     Arg::new(alloc, "K")
         .long("most")
         .value_parser(clap::value_parser!(u32))
-        .help(HELP_MOST)
+        .help(help)
+}
+
+/// The option that names an export that is to answer TRUE always.
+pub fn always_true<'a>(alloc: Global) -> Arg<'a>
+    ensures rule { rule_of result ≡ always_rule }
+    ensures local { result.global ≡ false }
+{
+    Arg::new(alloc, "NAME").long("always").help(HELP_ALWAYS)
 }
 
 /// The option that names the argument by whose values calls are ordered apart.

@@ -6,10 +6,19 @@ ghost use Rattle.clap.specs.declared.builder.command.Command.TheViews.{out-Comma
 ghost use Rattle.ob_command_line.specs.ClapCommand.{module_apps, obl0_app, record_apps, run_apps, telling_apps, top_app, with_command, with_commands};
 
 use crate::lines::{
-    bound_line, draw_line, explain_line, module_line, order_line, record_line, run_line, seq_line,
-    serve_line,
+    bound_line, draw_line, explain_line, module_line, order_line, outcomes_line, record_line,
+    run_line, seq_line, serve_line,
 };
 use std::alloc::{AllocError, Global};
+
+/// What the program is for, above the list of its commands.
+const ABOUT: &str = "\
+Shares a module of Oberon-0 among processes, none of which waits for another.
+
+  Share:    `run` makes the calls of a script by a schedule that you choose, and `serve` by threads.
+  Check:    `verify` tells whether a run went as if its calls were made one at a time, and `order`
+            whether calls that were seen can have done so.
+  Explore:  `outcomes` tells all that may happen, whatever the schedule, and `draw` shows a run.";
 
 const ABOUT_SEQ: &str = "Makes the calls of a script one at a time and prints the reply to each";
 
@@ -20,7 +29,10 @@ const ABOUT_SERVE: &str =
     "Makes the calls of a script by a worker for each process and prints the record of the run";
 
 const ABOUT_DRAW: &str =
-    "Prints a picture in SVG, of the same run as that of `run`, or of a record alone";
+    "Prints a picture in SVG, of the same run as that of `run`, or of a record or a history alone";
+
+const ABOUT_OUTCOMES: &str =
+    "Tells what may happen over all runs of the calls of a script, whatever the schedule";
 
 const ABOUT_VERIFY: &str = "Tells whether the order of a record is a legal order of its calls";
 
@@ -28,7 +40,7 @@ const ABOUT_ORDER: &str = "Tells whether a history of calls has a legal order, a
 
 const ABOUT_EXPLAIN: &str =
     "Shows what is wrong with a module, with a module and a script, with a run, with a record or with a \
-    history, or where calls trap";
+    history, where calls trap, or how a run comes to what should never be";
 
 const ABOUT_BOUND: &str =
     "Prints how many own steps a call takes at most, and the numbers behind it";
@@ -37,7 +49,7 @@ const USAGE_CHECK: &str = "obl0 check MODULE";
 
 const USAGE_LIST: &str = "obl0 list MODULE";
 
-const USAGE_SEQ: &str = "obl0 seq MODULE SCRIPT [-b BUDGET] [--from RECORD]";
+const USAGE_SEQ: &str = "obl0 seq MODULE SCRIPT [-b BUDGET] [--from RECORD] [--state] [--turns]";
 
 const USAGE_RUN: &str = "\
 obl0 run MODULE SCRIPT SCHEDULE -n N [--finish] [-b BUDGET] [--from RECORD] [--steps]
@@ -49,7 +61,11 @@ const USAGE_SERVE: &str = "obl0 serve MODULE SCRIPT -n N [-b BUDGET] [--from REC
 
 const USAGE_DRAW: &str = "\
 obl0 draw MODULE SCRIPT SCHEDULE -n N [-b BUDGET] [--from RECORD] [--calls FROM-TO]
-       obl0 draw MODULE RECORD [--calls FROM-TO]";
+       obl0 draw MODULE RECORD [--calls FROM-TO]
+       obl0 draw MODULE HISTORY [-b BUDGET] [--most K] [--calls FROM-TO]";
+
+const USAGE_OUTCOMES: &str =
+    "obl0 outcomes MODULE SCRIPT -n N [-b BUDGET] [--from RECORD] [--most K] [--always NAME | --whole]";
 
 const USAGE_VERIFY: &str = "obl0 verify MODULE RECORD";
 
@@ -59,6 +75,7 @@ const USAGE_EXPLAIN: &str = "\
 obl0 explain MODULE
        obl0 explain MODULE SCRIPT [-b BUDGET] [--from RECORD] [--traps]
        obl0 explain MODULE SCRIPT SCHEDULE -n N [-b BUDGET] [--from RECORD]
+       obl0 explain MODULE SCRIPT -n N --always NAME [-b BUDGET] [--from RECORD]
        obl0 explain MODULE --record RECORD
        obl0 explain MODULE --history HISTORY";
 
@@ -97,14 +114,16 @@ fn with_module_commands<'a>(alloc: Global, program: Line<'a>) -> Line<'a>
     with_command(program, USAGE_SEQ, seq_line(alloc, "seq", ABOUT_SEQ))
 }
 
-/// The command line with the commands that make a run.
+/// The command line with the commands that make a run, or all runs.
 fn with_run_commands<'a>(alloc: Global, program: Line<'a>) -> Line<'a>
     ensures { (a : App) → IfOk program.entry (λ c. app_of c ≡ a) → IfOk result (λ c. app_of c ≡ with_commands a run_apps) }
 {
     let program = with_command(program, USAGE_RUN, run_line(alloc, "run", ABOUT_RUN));
     let serve = serve_line(alloc, "serve", ABOUT_SERVE);
     let program = with_command(program, USAGE_SERVE, serve);
-    with_command(program, USAGE_DRAW, draw_line(alloc, "draw", ABOUT_DRAW))
+    let program = with_command(program, USAGE_DRAW, draw_line(alloc, "draw", ABOUT_DRAW));
+    let outcomes = outcomes_line(alloc, "outcomes", ABOUT_OUTCOMES);
+    with_command(program, USAGE_OUTCOMES, outcomes)
 }
 
 /// The command line with the commands that look at a record or a history.
@@ -147,7 +166,7 @@ fn program_line<'a>(alloc: Global) -> Result<clap::Command<'a>, AllocError>
 {
     let program = clap::Command::new(alloc, "obl0")
         .bin_name("obl0")?
-        .about("Checks, compiles and runs a module of Oberon-0")
+        .about(ABOUT)
         .after_help(AFTER_HELP)
         .no_binary_name(true)
         .disable_help_subcommand(true)

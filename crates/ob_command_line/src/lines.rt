@@ -3,13 +3,14 @@
 ghost use Rattle.std.specs.Prelude.{◌≡◌, false, IfOk, IsOkAnd};
 ghost use Rattle.clap.specs.Words.{app_of, rule_of, with_rule};
 ghost use Rattle.clap.specs.declared.builder.command.Command.TheViews.{out-Command as fields_of};
-ghost use Rattle.ob_command_line.specs.ClapCommand.{bound_app, draw_app, drawn_app, explain_app, files_app, module_app, order_app, record_app};
-ghost use Rattle.ob_command_line.specs.ClapCommand.{run_app, schedule_app, search_app, seq_app, serve_app, texts_app, told_run_app};
+ghost use Rattle.ob_command_line.specs.ClapCommand.{bound_app, draw_app, drawn_app, explain_app, files_app, module_app, order_app, outcomes_app};
+ghost use Rattle.ob_command_line.specs.ClapCommand.{record_app, run_app, schedule_app, search_app, seq_app, sequence_app, serve_app, texts_app};
+ghost use Rattle.ob_command_line.specs.ClapCommand.{told_run_app};
 
 use crate::arguments::{
-    call_budget, drawn_calls, explained_history, explained_record, file_name, first_record, flag,
-    most_configurations, optional_count, optional_name, parting_argument, process_count,
-    schedule_length, schedule_seed, seen_budget,
+    always_true, call_budget, drawn_budget, drawn_calls, explained_history, explained_record,
+    file_name, first_record, flag, most_configurations, most_reached, optional_count,
+    optional_name, parting_argument, process_count, schedule_length, schedule_seed, seen_budget,
 };
 use clap::Arg;
 use std::alloc::{AllocError, Global};
@@ -17,7 +18,7 @@ use std::alloc::{AllocError, Global};
 const HELP_SCRIPT: &str = "The file of the calls, one a line: PROCESS PROCEDURE ARGUMENTS";
 
 const HELP_DRAWN: &str =
-    "The file of the calls; or the file of a record, as which it is read where no SCHEDULE stands behind it";
+    "The file of the calls; or, where no SCHEDULE stands behind it, that of a record or of a history";
 
 const HELP_SCHEDULE: &str =
     "The file of the items that say which process steps, with blanks between them";
@@ -44,6 +45,14 @@ const HELP_TREE: &str =
 
 const HELP_STEPS: &str =
     "Prints on standard error each ended call's own steps too, a line each, as `0.1 37`";
+
+const HELP_STATE: &str =
+    "Prints behind each reply the variables that the call changed, each with its new value";
+
+const HELP_TURNS: &str = "Prints behind each reply how many turns the call took";
+
+const HELP_WHOLE: &str =
+    "Prints each outcome as a whole, the replies of all calls and the variables at the end; not together with --always";
 
 const HELP_FINISH: &str =
     "Goes on behind the schedule until each call has ended, by an item PROCESS! for each of them";
@@ -97,7 +106,8 @@ pub fn schedule_line<'a>(
     with_arg(line, call_budget(alloc))
 }
 
-/// The words behind a command on a module, and on a script and a schedule for a number of processes with a budget or on a record.
+/// The words behind a command on a module, and on a script and a schedule for a number of processes with a budget, on a record or on a
+/// history.
 pub fn draw_line<'a>(
     alloc: Global,
     command: &'a str,
@@ -108,10 +118,11 @@ pub fn draw_line<'a>(
 {
     let line = with_items(drawn_line(alloc, command, about));
     let line = with_arg(line, first_record(alloc));
-    with_arg(line, drawn_calls(alloc))
+    let line = with_arg(line, drawn_calls(alloc));
+    with_arg(line, most_configurations(alloc))
 }
 
-/// The names behind a command that draws: of a module, and of a script and a schedule or of a record.
+/// The names behind a command that draws: of a module, and of a script and a schedule, of a record or of a history.
 pub fn drawn_line<'a>(
     alloc: Global,
     command: &'a str,
@@ -124,7 +135,7 @@ pub fn drawn_line<'a>(
     let line = with_arg(line, file_name(alloc, "SCRIPT", HELP_DRAWN));
     let line = with_arg(line, optional_name(alloc, "SCHEDULE", HELP_SCHEDULE));
     let line = with_arg(line, optional_count(alloc));
-    with_arg(line, call_budget(alloc))
+    with_arg(line, drawn_budget(alloc))
 }
 
 /// The words behind a command on a module and a script, for a number of processes with a budget.
@@ -143,13 +154,42 @@ pub fn serve_line<'a>(
     with_arg(line, first_record(alloc))
 }
 
-/// The words behind a command that makes the calls of a script on a module.
+/// The words behind a command that tells what may happen in all runs of the calls of a script.
+pub fn outcomes_line<'a>(
+    alloc: Global,
+    command: &'a str,
+    about: &'a str,
+) -> Result<clap::Command<'a>, AllocError>
+    ensures app { IfOk result (λ c. app_of c ≡ outcomes_app command.entry.now) }
+    ensures local { IfOk result (λ c. (fields_of c).has_globals ≡ false) }
+{
+    let line = serve_line(alloc, command, about);
+    let line = with_arg(line, always_true(alloc));
+    let line = with_arg(line, flag(alloc, "whole", HELP_WHOLE));
+    with_arg(line, most_reached(alloc))
+}
+
+/// The words behind a command that makes the calls of a script on a module, and says what is told of them.
 pub fn seq_line<'a>(
     alloc: Global,
     command: &'a str,
     about: &'a str,
 ) -> Result<clap::Command<'a>, AllocError>
     ensures app { IfOk result (λ c. app_of c ≡ seq_app command.entry.now) }
+    ensures local { IfOk result (λ c. (fields_of c).has_globals ≡ false) }
+{
+    let line = sequence_line(alloc, command, about);
+    let line = with_arg(line, flag(alloc, "state", HELP_STATE));
+    with_arg(line, flag(alloc, "turns", HELP_TURNS))
+}
+
+/// The words behind a command that makes the calls of a script on a module.
+pub fn sequence_line<'a>(
+    alloc: Global,
+    command: &'a str,
+    about: &'a str,
+) -> Result<clap::Command<'a>, AllocError>
+    ensures app { IfOk result (λ c. app_of c ≡ sequence_app command.entry.now) }
     ensures local { IfOk result (λ c. (fields_of c).has_globals ≡ false) }
 {
     let line = module_line(alloc, command, about);
@@ -168,7 +208,8 @@ pub fn explain_line<'a>(
     ensures local { IfOk result (λ c. (fields_of c).has_globals ≡ false) }
 {
     let line = with_items(files_line(alloc, command, about));
-    with_arg(line, flag(alloc, "traps", HELP_TRAPS))
+    let line = with_arg(line, flag(alloc, "traps", HELP_TRAPS));
+    with_arg(line, always_true(alloc))
 }
 
 /// The names behind a command that explains, and the options that name files.

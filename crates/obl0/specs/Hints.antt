@@ -6,8 +6,8 @@ use Rattle.std.specs.List.{after_first, before_first, list_all, starts_with}
 use Rattle.std.specs.Str.{bytes_eq}
 use Rattle.std.specs.declared.io.ErrorKind.{ErrorKind}
 use Rattle.std.specs.declared.io.ErrorKind.TheVariants as Kind
-use Rattle.ob_command.specs.CommandLine.{Text, CallsRequest, OrderRequest, Request, RunRequest, Check, Listing, Seq, Run, RunTree, RunSteps, RunFinished, RunByChance, Serve, Draw, DrawRecord, Verify, Order}
-use Rattle.ob_command.specs.CommandLine.{Explain, ExplainCalls, ExplainTraps, ExplainRun, ExplainRecord, ExplainHistory, Bound, default_budget, default_most}
+use Rattle.ob_command.specs.CommandLine.{Text, CallsRequest, OrderRequest, Request, RunRequest, SeenRequest, Check, Listing, Seq, Run, RunTree, RunSteps, RunFinished, RunByChance, Serve, Draw, DrawRecord, DrawHistory, Outcomes, Verify, Order}
+use Rattle.ob_command.specs.CommandLine.{Explain, ExplainAlways, ExplainCalls, ExplainTraps, ExplainRun, ExplainRecord, ExplainHistory, Bound, default_budget, default_most}
 use Rattle.ob_command.specs.declared.command.OrderProduct.{OrderProduct}
 use Rattle.ob_command.specs.declared.command.RunProduct.{RunProduct}
 use Rattle.ob_command.specs.declared.command.RunProduct.TheVariants as products
@@ -89,16 +89,6 @@ abbrev pub record_form : (module_name record_name : Text) → Text
 record_form module_name record_name =
     ((module_words module_name ++ codes " --record") ++ name_word (codes "RECORD") record_name) ++ telling
 
--- a fault of a record's form
-abbrev pub is_of_record : (line : Text) → Bool
-is_of_record line = begins (codes "F1") line
-
--- of `draw` of a record, which its second file is where there is no schedule: somebody may have left the schedule out
-abbrev pub drawn_form : (module_name record_name line : Text) → Text
-drawn_form module_name record_name line =
-    if is_of_record line then record_form module_name record_name ++ codes "without a SCHEDULE the second file is read as a record\n"
-    else record_form module_name record_name
-
 -- a fault of the module's text: of its tokens, its tree or its rules
 abbrev pub is_of_text : (line : Text) → Bool
 is_of_text line = begins (codes "S") line || (begins (codes "P") line || begins (codes "C") line)
@@ -107,14 +97,30 @@ abbrev pub history_form : (module_name history_name : Text) → Text
 history_form module_name history_name =
     ((module_words module_name ++ codes " --history") ++ name_word (codes "HISTORY") history_name) ++ telling
 
+-- Of `draw` of what was seen: without a schedule, which somebody may have left out, its second file is read as a record, or as a history where
+-- it has not the form of a record. Which of them it was the line does not say.
+abbrev pub either_form : (module_name seen_name : Text) → Text
+either_form module_name seen_name =
+    (record_form module_name seen_name
+    ++ codes "without a SCHEDULE the second file is read as a record, or as a history where it lacks the title or the order of a record, and of that ")
+    ++ history_form module_name seen_name
+
+-- the same, and of a fault of the module's text
+abbrev pub drawn_form : (module_name seen_name line : Text) → Text
+drawn_form module_name seen_name line = if is_of_text line then module_form module_name else either_form module_name seen_name
+
 -- of some calls of a history apart from the others
 abbrev pub is_apart : OrderProduct → Bool
 is_apart (Apart place) = true
 is_apart product = false
 
--- `explain` looks for the same order: with the budget of the history, with no fewer configurations, and not of parts
+-- a search as `explain` makes it too: with the budget of the history, and with no more configurations
+abbrev pub is_plain_search : (budget : Option ℕ) (most : ℕ) → Bool
+is_plain_search budget most = not (is_some budget) && nat_le most default_most
+
+-- `explain` looks for the same order, and not for those of parts
 abbrev pub is_explained : OrderRequest → Bool
-is_explained order = not (is_some order.budget) && (nat_le order.most default_most && not (is_apart order.product))
+is_explained order = is_plain_search order.budget order.most && not (is_apart order.product)
 
 -- what is told of the end of a call where it does not
 abbrev pub illegal_end : (line : Text) → Text
@@ -126,6 +132,13 @@ search_form order line = if is_explained order then history_form order.module_na
 
 abbrev pub order_form : OrderRequest → (line : Text) → Text
 order_form order line = if is_of_text line then module_form order.module_name else search_form order line
+
+-- of `draw` of a history
+abbrev pub seen_form : SeenRequest → (line : Text) → Text
+seen_form seen line =
+    if is_of_text line then module_form seen.module_name
+    else if is_plain_search seen.budget seen.most then history_form seen.module_name seen.history_name
+    else []
 
 -- Of a run by the tree that form tells more of faults of the text alone: `explain` makes the module's code, and where that is too long it
 -- tells that before any other.
@@ -142,7 +155,7 @@ abbrev pub form_about : Request → (line : Text) → Text
 form_about (Check module_name) line = module_form module_name
 form_about (Listing module_name) line = module_form module_name
 form_about (Bound module_name processes budget) line = module_form module_name
-form_about (Seq calls) line = calls_form calls
+form_about (Seq sequence) line = calls_form sequence.calls
 form_about (Run run) line = run_form run
 form_about (RunTree run) line = tree_form run line
 form_about (RunSteps run) line = run_form run
@@ -150,7 +163,9 @@ form_about (RunFinished product run) line = made_form product run line
 form_about (RunByChance product run) line = made_form product (served run.calls) line
 form_about (Draw run range) line = run_form run
 form_about (Serve calls) line = run_form (served calls)
+form_about (Outcomes outcomes) line = run_form (served outcomes.calls)
 form_about (DrawRecord module_name record_name calls) line = drawn_form module_name record_name line
+form_about (DrawHistory seen) line = seen_form seen line
 form_about (Verify module_name record_name) line = record_form module_name record_name
 form_about (Order order) line = order_form order line
 form_about request line = []
@@ -171,11 +186,15 @@ first_place count =
     if bytes_eq count (codes "0") then codes "no call begins, so there is none for --calls to name\n"
     else codes "behind --calls stands FROM-TO, and FROM is 1 to " ++ count ++ codes " here\n"
 
+-- a search ended before its end
+abbrev pub is_of_search : (line : Text) → Bool
+is_of_search line = begins (codes "X2") line
+
 -- What is told of any other of `order`: that a search can go on, which argument parts are made by, or which processes a record has.
 abbrev pub of_order : (line : Text) → Option Text
 of_order line =
     if begins (codes "N1") line then Some (codes "a record has processes 0 to 15; without --record there may be others\n")
-    else if begins (codes "X2") line then Some (codes "--most says how many configurations are looked at\n")
+    else if is_of_search line then Some (codes "--most says how many configurations are looked at\n")
     else if begins (codes "X4") line then Some (codes "behind --by stands an argument that each call of the history has\n")
     else None
 
@@ -188,9 +207,18 @@ beside_texts line =
     else if begins (codes "V") line || begins (codes "K") line then Some []
     else None
 
+-- What is told so of a picture of what was seen: which processes it may have, and that a search can go on.
+abbrev pub of_picture : (line : Text) → Option Text
+of_picture line =
+    if begins (codes "N1") line then Some (codes "a picture has processes 0 to 15\n")
+    else if is_of_search line then Some (codes "--most says how many configurations are looked at\n")
+    else beside_texts line
+
 -- the same of a command
 abbrev pub beside : Request → (line : Text) → Option Text
 beside (Order order) line = of_order line
+beside (DrawRecord module_name seen_name calls) line = of_picture line
+beside (DrawHistory seen) line = of_picture line
 beside request line = beside_texts line
 
 -- the same, or else the form of `explain`
@@ -221,6 +249,7 @@ is_explain (Explain module_name budget) = true
 is_explain (ExplainCalls calls) = true
 is_explain (ExplainTraps calls) = true
 is_explain (ExplainRun run) = true
+is_explain (ExplainAlways asked) = true
 is_explain (ExplainRecord module_name record_name) = true
 is_explain (ExplainHistory module_name history_name) = true
 is_explain request = false

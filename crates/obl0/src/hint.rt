@@ -2,15 +2,16 @@
 
 ghost use Rattle.std.specs.Prelude.{◌≡◌, ◌++◌, IfOk, OnOk, option_map, string_bytes};
 ghost use Rattle.std.specs.List.{after_first, before_first, list_all};
-ghost use Rattle.obl0.specs.Hints.{asks_of_fault, beside, beside_texts, budget_words, calls_form, cause, count_words, drawn_form, first_place};
-ghost use Rattle.obl0.specs.Hints.{form_about, from_words, history_form, illegal_end, is_apart, is_blank, is_explain, is_explained, is_fault};
-ghost use Rattle.obl0.specs.Hints.{is_fault_name, is_of_record, is_of_text, is_plain, is_plain_byte, is_run, made_form, module_form, module_words, more_about};
-ghost use Rattle.obl0.specs.Hints.{more_about_unread, more_of, name_word, named, of_order, option_words, order_form, record_form, run_form};
-ghost use Rattle.obl0.specs.Hints.{run_words, script_words, search_form, served, third_word, told_of, tree_form};
-ghost use Rattle.ob_command.specs.Commands.{calls_request_of, order_request_of, request_of, run_request_of};
+ghost use Rattle.obl0.specs.Hints.{asks_of_fault, beside, beside_texts, budget_words, calls_form, cause, count_words, drawn_form, either_form};
+ghost use Rattle.obl0.specs.Hints.{first_place, form_about, from_words, history_form, illegal_end, is_apart, is_blank, is_explain, is_explained, is_fault};
+ghost use Rattle.obl0.specs.Hints.{is_fault_name, is_of_search, is_of_text, is_plain, is_plain_byte, is_plain_search, is_run, made_form, module_form};
+ghost use Rattle.obl0.specs.Hints.{module_words, more_about, more_about_unread, more_of, name_word, named, of_order, of_picture, option_words};
+ghost use Rattle.obl0.specs.Hints.{order_form, record_form, run_form, run_words, script_words, search_form, seen_form, served, third_word, told_of};
+ghost use Rattle.obl0.specs.Hints.{tree_form};
+ghost use Rattle.ob_command.specs.Commands.{calls_request_of, order_request_of, request_of, run_request_of, seen_request_of};
 
 use ob_command::command::{
-    CallsCommand, Command, OrderCommand, OrderProduct, RunCommand, RunProduct,
+    CallsCommand, Command, OrderCommand, OrderProduct, RunCommand, RunProduct, SeenCommand,
 };
 use ob_text_words::numbers::push_number;
 use std::alloc::{AllocError, Global};
@@ -27,6 +28,14 @@ const DEFAULT_MOST: u32 = 10_000_000;
 
 /// A schedule with no items.
 const NO_ITEMS: &str = "/dev/null";
+
+/// As what `draw` reads its second file where there is no third one, up to what tells more of it.
+const WITHOUT_SCHEDULE: &str =
+    "without a SCHEDULE the second file is read as a record, or as a history where it lacks the title or the \
+    order of a record, and of that ";
+
+/// What is told of a search that ended before its end.
+const MOST_LOOKED_AT: &str = "--most says how many configurations are looked at\n";
 
 /// What stands behind words that tell more.
 const TELLING: &str = "` tells more\n";
@@ -85,8 +94,29 @@ fn beside(command: Command<'_>, line: &[u8]) -> Option<&'static str>
 {
     match command {
         Command::Order(_) => of_order(line),
+        Command::DrawRecord { .. } | Command::DrawHistory(_) => of_picture(line),
         _ => beside_texts(line),
     }
+}
+
+/// What is told so of a fault of a picture of what was seen.
+fn of_picture(line: &[u8]) -> Option<&'static str>
+    ensures { option_map (λ text. text.now) result ≡ of_picture line.now }
+{
+    if line.starts_with(b"N1") {
+        Some("a picture has processes 0 to 15\n")
+    } else if is_of_search(line) {
+        Some(MOST_LOOKED_AT)
+    } else {
+        beside_texts(line)
+    }
+}
+
+/// Whether a search ended before its end.
+fn is_of_search(line: &[u8]) -> bool
+    ensures { result ≡ is_of_search line.now }
+{
+    line.starts_with(b"X2")
 }
 
 /// What is told so of a fault of `order`.
@@ -95,8 +125,8 @@ fn of_order(line: &[u8]) -> Option<&'static str>
 {
     if line.starts_with(b"N1") {
         Some("a record has processes 0 to 15; without --record there may be others\n")
-    } else if line.starts_with(b"X2") {
-        Some("--most says how many configurations are looked at\n")
+    } else if is_of_search(line) {
+        Some(MOST_LOOKED_AT)
     } else if line.starts_with(b"X4") {
         Some("behind --by stands an argument that each call of the history has\n")
     } else {
@@ -128,6 +158,7 @@ fn is_explain(command: Command<'_>) -> bool
             | Command::ExplainCalls(_)
             | Command::ExplainTraps(_)
             | Command::ExplainRun(_)
+            | Command::ExplainAlways(_)
             | Command::ExplainRecord { .. }
             | Command::ExplainHistory { .. }
     )
@@ -201,7 +232,7 @@ fn form_about(alloc: Global, command: Command<'_>, line: &[u8]) -> Result<String
         Command::Check { module_name } => module_form(alloc, module_name),
         Command::List { module_name } => module_form(alloc, module_name),
         Command::Bound { module_name, .. } => module_form(alloc, module_name),
-        Command::Seq(calls) => calls_form(alloc, calls),
+        Command::Seq(sequence) => calls_form(alloc, sequence.calls),
         Command::Run(run) => run_form(alloc, run),
         Command::RunTree(run) => tree_form(alloc, run, line),
         Command::RunSteps(run) => run_form(alloc, run),
@@ -211,11 +242,13 @@ fn form_about(alloc: Global, command: Command<'_>, line: &[u8]) -> Result<String
         }
         Command::Draw { run, .. } => run_form(alloc, run),
         Command::Serve(calls) => run_form(alloc, served(calls)),
+        Command::Outcomes(outcomes) => run_form(alloc, served(outcomes.calls)),
         Command::DrawRecord {
             module_name,
             record_name,
             ..
         } => drawn_form(alloc, module_name, record_name, line),
+        Command::DrawHistory(seen) => seen_form(alloc, seen, line),
         Command::Verify {
             module_name,
             record_name,
@@ -225,6 +258,7 @@ fn form_about(alloc: Global, command: Command<'_>, line: &[u8]) -> Result<String
         | Command::ExplainCalls(_)
         | Command::ExplainTraps(_)
         | Command::ExplainRun(_)
+        | Command::ExplainAlways(_)
         | Command::ExplainRecord { .. }
         | Command::ExplainHistory { .. } => Ok(String::new(alloc)),
     }
@@ -284,11 +318,29 @@ fn search_form(alloc: Global, order: OrderCommand<'_>, line: &[u8]) -> Result<St
     }
 }
 
-/// Whether `explain` looks for the same order.
+/// The form that tells more of a history that is drawn.
+fn seen_form(alloc: Global, seen: SeenCommand<'_>, line: &[u8]) -> Result<String, AllocError>
+    ensures { IfOk result (λ text. string_bytes text ≡ seen_form (seen_request_of seen.entry) line.now) }
+{
+    match (is_of_text(line), is_plain_search(seen.budget, seen.most)) {
+        (true, _) => module_form(alloc, seen.module_name),
+        (false, true) => history_form(alloc, seen.module_name, seen.history_name),
+        (false, false) => Ok(String::new(alloc)),
+    }
+}
+
+/// Whether `explain` looks for the same order, and not for those of parts.
 fn is_explained(order: OrderCommand<'_>) -> bool
     ensures { result ≡ is_explained (order_request_of order.entry) }
 {
-    order.budget.is_none() && order.most <= DEFAULT_MOST && !is_apart(order.product)
+    is_plain_search(order.budget, order.most) && !is_apart(order.product)
+}
+
+/// Whether `explain` makes such a search too, or a longer one.
+fn is_plain_search(budget: Option<u32>, most: u32) -> bool
+    ensures { result ≡ is_plain_search budget most }
+{
+    budget.is_none() && most <= DEFAULT_MOST
 }
 
 fn is_apart(product: OrderProduct) -> bool
@@ -349,27 +401,30 @@ fn record_form(alloc: Global, module_name: &str, record_name: &str) -> Result<St
     Ok(text)
 }
 
-/// The same of `draw` of a record, and of a fault of its form which file was read as one.
+/// The form that tells more of the module's text, or of what was seen of its object and is drawn.
 fn drawn_form(
     alloc: Global,
     module_name: &str,
-    record_name: &str,
+    seen_name: &str,
     line: &[u8],
 ) -> Result<String, AllocError>
-    ensures { IfOk result (λ text. string_bytes text ≡ drawn_form module_name.now record_name.now line.now) }
+    ensures { IfOk result (λ text. string_bytes text ≡ drawn_form module_name.now seen_name.now line.now) }
 {
-    let mut text = record_form(alloc, module_name, record_name)?;
-    if is_of_record(line) {
-        text.push_str("without a SCHEDULE the second file is read as a record\n")?;
+    match is_of_text(line) {
+        true => module_form(alloc, module_name),
+        false => either_form(alloc, module_name, seen_name),
     }
-    Ok(text)
 }
 
-/// Whether a fault is one of a record's form.
-fn is_of_record(line: &[u8]) -> bool
-    ensures { result ≡ is_of_record line.now }
+/// The forms that tell more of a record and of a history: as one of them a file was read.
+fn either_form(alloc: Global, module_name: &str, seen_name: &str) -> Result<String, AllocError>
+    ensures { IfOk result (λ text. string_bytes text ≡ either_form module_name.now seen_name.now) }
 {
-    line.starts_with(b"F1")
+    let history = history_form(alloc, module_name, seen_name)?;
+    let mut text = record_form(alloc, module_name, seen_name)?;
+    text.push_str(WITHOUT_SCHEDULE)?;
+    text.push_str(history.as_str())?;
+    Ok(text)
 }
 
 /// The form of a run that was made by the tree, where `explain`, which makes the module's code, tells the same fault in any case.

@@ -42,6 +42,12 @@ returns-in-Draw g c =
 pub returns-in-DrawRecord : goal.returns-in-DrawRecord
 returns-in-DrawRecord g c = rw c.in-DrawRecord.is c.obey_draw_seen.ensures
 
+pub returns-in-DrawHistory : goal.returns-in-DrawHistory
+returns-in-DrawHistory g c = rw c.in-DrawHistory.is c.obey_draw_history.ensures
+
+pub returns-in-Outcomes : goal.returns-in-Outcomes
+returns-in-Outcomes g c = rw c.in-Outcomes.is c.obey_calls-in-Outcomes.ensures
+
 pub returns-in-Verify : goal.returns-in-Verify
 returns-in-Verify g c = rw c.in-Verify.is c.obey_verify.ensures
 
@@ -59,6 +65,9 @@ returns-in-ExplainTraps g c = rw c.in-ExplainTraps.is c.obey_calls-in-ExplainTra
 
 pub returns-in-ExplainRun : goal.returns-in-ExplainRun
 returns-in-ExplainRun g c = rw c.in-ExplainRun.is c.obey_run-in-ExplainRun.ensures
+
+pub returns-in-ExplainAlways : goal.returns-in-ExplainAlways
+returns-in-ExplainAlways g c = rw c.in-ExplainAlways.is c.obey_calls-in-ExplainAlways.ensures
 
 pub returns-in-ExplainRecord : goal.returns-in-ExplainRecord
 returns-in-ExplainRecord g c = rw c.in-ExplainRecord.is c.obey_explain_record.ensures

@@ -1,5 +1,5 @@
 use Rattle.ob_command_laws.proofs.CommandForms.{explain_module_asks, explain_schedule_asks, explain_script_asks}
-use Rattle.ob_command_laws.proofs.FormsAsked.{explain_calls_form, explain_form, explain_history_form, explain_record_form, explain_run_form, explain_traps_form}
+use Rattle.ob_command_laws.proofs.FormsAsked.{explain_always_form, explain_calls_form, explain_form, explain_history_form, explain_record_form, explain_run_form, explain_traps_form}
 use Rattle.ob_command_laws.proofs.laws.explain_is_asked.Goals as goal
 
 pub returns-clause-table_of_one : goal.returns-clause-table_of_one
@@ -25,6 +25,9 @@ returns-clause-calls c = explain_calls_form
 
 pub returns-clause-traps : goal.returns-clause-traps
 returns-clause-traps c = explain_traps_form
+
+pub returns-clause-always : goal.returns-clause-always
+returns-clause-always c = explain_always_form
 
 pub returns-clause-run : goal.returns-clause-run
 returns-clause-run c = explain_run_form

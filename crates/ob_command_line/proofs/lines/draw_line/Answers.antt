@@ -6,10 +6,12 @@ pub returns-clause-app : goal.returns-clause-app
 returns-clause-app c =
     let app_1 = same app_of _ _ _ c.drawn_line.ensures.app c.with_items-line.ensures.app in
     let app_2 = more _ _ _ _ _ app_1 c.first_record.ensures.rule c.with_arg-line.ensures.app in
-    more _ _ _ _ _ app_2 c.drawn_calls.ensures.rule c.with_arg.ensures.app
+    let app_3 = more _ _ _ _ _ app_2 c.drawn_calls.ensures.rule c.with_arg-line-2.ensures.app in
+    more _ _ _ _ _ app_3 c.most_configurations.ensures.rule c.with_arg.ensures.app
 
 pub returns-clause-local : goal.returns-clause-local
 returns-clause-local c =
     let local_1 = same globals _ _ _ c.drawn_line.ensures.local c.with_items-line.ensures.local in
     let local_2 = same globals _ _ _ local_1 c.with_arg-line.ensures.local in
-    same globals _ _ _ local_2 c.with_arg.ensures.local
+    let local_3 = same globals _ _ _ local_2 c.with_arg-line-2.ensures.local in
+    same globals _ _ _ local_3 c.with_arg.ensures.local

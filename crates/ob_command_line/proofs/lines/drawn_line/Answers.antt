@@ -6,7 +6,7 @@ returns-clause-app c =
     let app_1 = more _ _ _ _ _ c.module_line-line.ensures.app c.file_name.ensures.rule c.with_arg-line.ensures.app in
     let app_2 = more _ _ _ _ _ app_1 c.optional_name.ensures.rule c.with_arg-line-2.ensures.app in
     let app_3 = more _ _ _ _ _ app_2 c.optional_count.ensures.rule c.with_arg-line-3.ensures.app in
-    more _ _ _ _ _ app_3 c.call_budget.ensures.rule c.with_arg.ensures.app
+    more _ _ _ _ _ app_3 c.drawn_budget.ensures.rule c.with_arg.ensures.app
 
 pub returns-clause-local : goal.returns-clause-local
 returns-clause-local c =
