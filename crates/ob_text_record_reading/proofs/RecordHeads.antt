@@ -382,11 +382,6 @@ module _ (program : Program) where
     opening_fault ls (Faults.Form number) s = fails_opening ls number s s.left refl
     opening_fault ls Faults.NoMemory s = tt
 
-  pub alone_result : (ls : List Line) (r : Result ReadRecord RecordFault) → IfOk r (λ x. IsRecordOf program ls (told_of x)) →
-      IfOk r (λ x. (other : Told) → IsRecordOf program ls other → other ≡ told_of x)
-  alone_result ls (Ok x) h = λ other k. one_record k h
-  alone_result ls (Err e) h = tt
-
   pub text_fault : (text : List ℕ) (e : RecordFault) → FaultAmong program (record_lines text) e → IsRecordFault program text e
   text_fault text e h = record { stands = h; none = λ s t k. no_record (record_lines text) e h s t k }
 

@@ -93,13 +93,22 @@ fn read_said(alloc: Global, checked: &Checked, text: &[u8]) -> Result<ReadRecord
     ensures record { IfOk result (λ r. IsRecordOf (program_in checked.now) (said (map words (lines text.now))) (told_of «r»)) }
     ensures fault { IfErr result (λ e. FaultStands (program_in checked.now) (said (map words (lines text.now))) e) }
 {
-    if !may_have_comments(text) {
-        return read_lines(alloc, checked, text);
+    if may_have_comments(text) {
+        read_kept(alloc, checked, text)
+    } else {
+        read_lines(alloc, checked, text)
     }
-    match without_comments(alloc, text)? {
-        Some(kept) => read_lines(alloc, checked, &kept),
-        None => Err(RecordFault::Form(1)),
-    }
+}
+
+/// The same, by a copy without the remarks.
+fn read_kept(alloc: Global, checked: &Checked, text: &[u8]) -> Result<ReadRecord, RecordFault>
+    ensures record { IfOk result (λ r. IsRecordOf (program_in checked.now) (said (map words (lines text.now))) (told_of «r»)) }
+    ensures fault { IfErr result (λ e. FaultStands (program_in checked.now) (said (map words (lines text.now))) e) }
+{
+    let Some(kept) = without_comments(alloc, text)? else {
+        return Err(RecordFault::Form(1));
+    };
+    read_lines(alloc, checked, &kept)
 }
 
 /// What the lines of a text tell.

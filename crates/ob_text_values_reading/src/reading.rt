@@ -78,13 +78,23 @@ fn read_said(alloc: Global, text: &[u8], fields: &mut Vec<NamedField>) -> Result
     ensures values { OnOk result (AreValuesIn (said (map words (lines text.now))) (map entry_of fields.new.items)) }
     ensures fault { IfErr result (λ e. FaultStands (said (map words (lines text.now))) e) }
 {
-    if !may_have_comments(text) {
-        return read_lines(alloc, text, fields);
+    if may_have_comments(text) {
+        read_kept(alloc, text, fields)
+    } else {
+        read_lines(alloc, text, fields)
     }
-    match without_comments(alloc, text)? {
-        Some(kept) => read_lines(alloc, &kept, fields),
-        None => Err(ValuesFault::Form(1)),
-    }
+}
+
+/// The same, by a copy without the remarks.
+fn read_kept(alloc: Global, text: &[u8], fields: &mut Vec<NamedField>) -> Result<(), ValuesFault>
+    requires { fields.old.items ≡ [] }
+    ensures values { OnOk result (AreValuesIn (said (map words (lines text.now))) (map entry_of fields.new.items)) }
+    ensures fault { IfErr result (λ e. FaultStands (said (map words (lines text.now))) e) }
+{
+    let Some(kept) = without_comments(alloc, text)? else {
+        return Err(ValuesFault::Form(1));
+    };
+    read_lines(alloc, &kept, fields)
 }
 
 /// Puts what the lines of a text tell into an empty list.
