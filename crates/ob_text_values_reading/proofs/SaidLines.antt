@@ -1,13 +1,13 @@
 -- Lines that are no remarks.
-use Rattle.std.proofs.Common.{◌≡◌, ℕ, zero, suc, ◌+◌, ◌-◌, ◌<◌, ◌≤◌, ◌==◌, not, Bool, true, false, cond, List, [], ◌∷◌, ◌++◌, All, Option, Some, None, filter, length, map, take, get_or, slice_get, refl, sym, ap, subst, ◌∙◌, append_assoc, append-nil, length-append, arith}
+use Rattle.std.proofs.Common.{◌≡◌, ℕ, zero, suc, ◌+◌, ◌-◌, ◌<◌, ◌≤◌, ◌==◌, not, Bool, true, false, cond, List, [], ◌∷◌, ◌++◌, All, Option, Some, None, filter, length, map, take, get_or, slice_get, refl, ap, ◌∙◌, append_assoc, arith}
 use Rattle.std.specs.List.{enumerate_from, onto_first, position, slice_split}
 use Rattle.std.specs.Prelude.{is_some, unwrap_or}
-use Rattle.std.proofs.lemmas.List.{get_or-take, length-map, length-take, map-append}
+use Rattle.std.proofs.lemmas.List.{get_or-take, length-take, map-append}
 use Rattle.std.proofs.lemmas.List.Elements.{All-cons, All-filter, All-from_get_or, All-head, All-nil, All-tail}
 use Rattle.std.proofs.lemmas.List.Quantifiers.{position-Some}
 use Rattle.std.proofs.lemmas.List.Splits.{length-slice_split, slice_split_none}
 use Rattle.memchr.specs.Find.{IsFirstByte, is_byte}
-use Rattle.ob_text_values_reading.specs.Comments.{is_comment, line_number, lines_of, numbered, said, said_number}
+use Rattle.ob_text_values_reading.specs.Comments.{is_comment, line_number, said}
 use Rattle.ob_text_values_reading.specs.RecordTexts.{Line}
 use Rattle.ob_text_words.specs.Words.{Word, is_blank, lines, words}
 
@@ -96,8 +96,8 @@ words_joined xs ys =
 pub front_alone : (p : ℕ → Bool) (xs : List ℕ) (i : ℕ) → position p xs ≡ Some i → slice_split p (take i xs) ≡ take i xs ∷ []
 front_alone p xs i e =
     slice_split_none p (take i xs) (λ k d within.
-        let below : k < i = omega (arith, within, length-take i xs) in
-        ap p (get_or-take i xs k d below) ∙ (position-Some p xs i d e).2 k below)
+    let below : k < i = omega (arith, within, length-take i xs) in
+    ap p (get_or-take i xs k d below) ∙ (position-Some p xs i d e).2 k below)
 
 -- ---- a text without the sign has no remarks
 

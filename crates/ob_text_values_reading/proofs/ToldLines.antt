@@ -10,7 +10,7 @@ use Rattle.ob_text_words.specs.Finding.{FindsAs}
 use Rattle.ob_text_words.specs.Words.{IsName, Word}
 use Rattle.ob_text_values_reading.proofs.Indexing.{distinct_more}
 use Rattle.ob_text_values_reading.proofs.OneValue.{one_value_of}
-use Rattle.ob_text_values_reading.specs.Comments.{line_number, said}
+use Rattle.ob_text_values_reading.specs.Comments.{said}
 use Rattle.ob_text_values_reading.specs.RecordTexts.{IsTitle, Line, record_lines}
 use Rattle.ob_text_values_reading.specs.ToldValues as Told
 use Rattle.ob_text_values_reading.specs.ToldValues.{AreTold, AreValuesIn, BeginsValues, FailsAtLine, FaultAmong, FaultStands, IsValuesFault, LeadsOn, SaysNone}
@@ -137,9 +137,9 @@ fails_with_title line ls number title f =
     record { rest = []; entries = f.told; whole = Told.values title.0 title.1 (subst (λ (xs : List Line). AreTold [] xs f.told) (sym (append-nil f.before)) f.so_far) } in
     let ends : ¬ BeginsValues ((line ∷ f.before) ++ f.line ∷ []) =
     λ b.
-        let told : AreTold [] ((f.before ++ f.line ∷ []) ++ b.rest) b.entries = behind_title b.whole in
-        let here = next_of (behind f.so_far (subst (λ (xs : List Line). AreTold [] xs b.entries) (append_assoc f.before (f.line ∷ []) b.rest) told)) in
-        f.stops here.0 here.1 in
+    let told : AreTold [] ((f.before ++ f.line ∷ []) ++ b.rest) b.entries = behind_title b.whole in
+    let here = next_of (behind f.so_far (subst (λ (xs : List Line). AreTold [] xs b.entries) (append_assoc f.before (f.line ∷ []) b.rest) told)) in
+    f.stops here.0 here.1 in
     subst (λ (n : ℕ). FailsAtLine (line ∷ ls) n) count
     (subst (λ (xs : List Line). FailsAtLine (line ∷ xs) (length (line ∷ f.before) + 1)) (sym f.parts) (Told.misplaced (line ∷ f.before) f.line f.rest begins ends))
 

@@ -43,11 +43,7 @@ pub fn without_comments(alloc: Global, text: &[u8]) -> Result<Option<Vec<u8>>, A
 }
 
 /// A text with one line more, or that line alone.
-fn with_line(
-    alloc: Global,
-    before: Option<Vec<u8>>,
-    line: &[u8],
-) -> Result<Vec<u8>, AllocError>
+fn with_line(alloc: Global, before: Option<Vec<u8>>, line: &[u8]) -> Result<Vec<u8>, AllocError>
     requires { map words (lines line.now) ≡ words line.now ∷ [] }
     ensures { IfOk result (λ v. map words (lines v.items) ≡ lines_of (option_map (λ b. b.items) before) ++ words line.now ∷ []) }
 {

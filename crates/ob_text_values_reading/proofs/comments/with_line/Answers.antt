@@ -12,13 +12,13 @@ returns c =
     elim c.match-before.branch [
       | in-Some+in_ok-push-in-Some w ↦
           ap (λ (bs : List ℕ). map words (lines bs))
-            (c.in_ok-extend_from_slice.ensures.items ∙ ap (λ v. v.items ++ line) w.text-is ∙ ap (λ (bs : List ℕ). bs ++ line) w.in_ok-push-in-Some.ensures.items)
+          (c.in_ok-extend_from_slice.ensures.items ∙ ap (λ v. v.items ++ line) w.text-is ∙ ap (λ (bs : List ℕ). bs ++ line) w.in_ok-push-in-Some.ensures.items)
           ∙ words_joined w.in-Some.text.items line
           ∙ ap (λ (ls : List Line). map words (lines w.in-Some.text.items) ++ ls) c.requires
           ∙ ap (λ o. lines_of (option_map (λ v. v.items) o) ++ words line ∷ []) (sym w.in-Some.is)
       | in-None w ↦
           ap (λ (bs : List ℕ). map words (lines bs))
-            (c.in_ok-extend_from_slice.ensures.items ∙ ap (λ v. v.items ++ line) w.text-is ∙ ap (λ (bs : List ℕ). bs ++ line) w.new-text.ensures.items)
+          (c.in_ok-extend_from_slice.ensures.items ∙ ap (λ v. v.items ++ line) w.text-is ∙ ap (λ (bs : List ℕ). bs ++ line) w.new-text.ensures.items)
           ∙ c.requires
           ∙ ap (λ o. lines_of (option_map (λ v. v.items) o) ++ words line ∷ []) (sym w.in-None.is)
     ]
