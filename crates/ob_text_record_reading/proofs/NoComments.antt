@@ -1,5 +1,5 @@
 -- No line of a record is a remark.
-use Rattle.std.proofs.Common.{◌≡◌, ◌∙◌, ℕ, Bool, false, not, List, [], ◌∷◌, ◌++◌, All, Option, refl, sym, ap, subst}
+use Rattle.std.proofs.Common.{◌≡◌, ◌∙◌, ℕ, false, not, List, [], ◌∷◌, ◌++◌, All, Option, refl, sym, ap, subst}
 use Rattle.std.proofs.lemmas.List.Elements.{All-head, All-tail, filter-append}
 use Rattle.ob_checked.specs.Exports.{signatures}
 use Rattle.ob_interface.specs.Call.{ObjectCall, Reply}
