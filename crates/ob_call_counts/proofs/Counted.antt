@@ -14,6 +14,8 @@ use Rattle.ob_text_record_reading.specs.Openings as Openings
 use Rattle.ob_text_record_reading.specs.Openings.{AreOpenings}
 use Rattle.ob_text_record_reading.specs.RecordLines as Lines
 use Rattle.ob_text_record_reading.specs.RecordLines.{AreLines, IsApplied, IsBudget, IsCount, IsEvent, IsHead, IsOrder, IsTail, IsTitle, Line, Told, record_lines}
+use Rattle.ob_text_values_reading.proofs.SaidLines.{said_on, said_over}
+use Rattle.ob_text_values_reading.specs.Comments.{is_comment, said}
 use Rattle.ob_text_scripts.specs.Script as Script
 use Rattle.ob_text_scripts.specs.Script.{IsSkipped, Makes}
 use Rattle.ob_text_words.specs.ScriptCalls.{ScriptCall}
@@ -103,6 +105,7 @@ module _ (letter : ℕ) (is_of_kind : Event ObjectCall Reply → Bool) where
     pub opening : (ws : List Word) → begins_with letter ((73 ∷ []) ∷ ws) ≡ false
     pub schedule : (more : List ℕ) (ws : List Word) → begins_with letter ((83 ∷ more) ∷ ws) ≡ false
     pub variable : (more : List ℕ) (ws : List Word) → begins_with letter ((86 ∷ more) ∷ ws) ≡ false
+    pub remark : (35 == letter) ≡ false
 
   module _ (is : IsLetter) where
     of_tail : {line : Line} → IsTail line → begins_with letter line ≡ false
@@ -168,12 +171,29 @@ module _ (letter : ℕ) (is_of_kind : Event ObjectCall Reply → Bool) where
     of_head (Lines.of_version_3 {title = a} {second = b} {third = d} {openings = ls} t c u h) =
         two_more a b (d ∷ ls) (of_title t) (of_count c) ∙ counted_no (begins_with letter) d ls (of_budget u) ∙ of_openings h
 
+    -- no remark begins so
+    of_comment : (line : Line) → is_comment line ≡ true → begins_with letter line ≡ false
+    of_comment [] h = absurd (false≢true h)
+    of_comment ([] ∷ ws) h = absurd (false≢true h)
+    of_comment ((b ∷ more) ∷ ws) h = ap (λ (n : ℕ). n == letter) (eqb-true b 35 h) ∙ is.remark
+
+    of_said : (ls : List Line) → count_by (begins_with letter) (said ls) ≡ count_by (begins_with letter) ls
+    of_said [] = refl
+    of_said (line ∷ ls) = go (is_comment line) refl (of_said ls)
+      where
+        go : (t : Bool) → is_comment line ≡ t → count_by (begins_with letter) (said ls) ≡ count_by (begins_with letter) ls →
+            count_by (begins_with letter) (said (line ∷ ls)) ≡ count_by (begins_with letter) (line ∷ ls)
+        go true h so_far = ap (count_by (begins_with letter)) (said_over line ls h) ∙ so_far ∙ sym (counted_no (begins_with letter) line ls (of_comment line h))
+        go false h so_far =
+            ap (count_by (begins_with letter)) (said_on line ls h) ∙ counted (begins_with letter) line (said ls)
+            ∙ ap (λ (k : ℕ). worth (begins_with letter line) + k) so_far ∙ sym (counted (begins_with letter) line ls)
+
     pub counts_events : (text : List ℕ) (count : ℕ) → count ≡ count_by (begins_with letter) (record_lines text) → CountsEvents is_of_kind text count
     counts_events text count counted program told h =
         let behind = of_lines h.tells in
         let head = of_head h.heads in
         let joined = counted_both (begins_with letter) h.head h.behind in
-        let parts = ap (count_by (begins_with letter)) h.parts in
+        let parts = sym (of_said (record_lines text)) ∙ ap (count_by (begins_with letter)) h.parts in
         omega (arith, behind, head, joined, parts, counted)
 
 no_begin : (e : Event ObjectCall Reply) → is_end e ≡ true → false ≡ is_begin e
@@ -198,6 +218,7 @@ letter_of_begin = record {
   opening = λ ws. refl;
   schedule = λ more ws. refl;
   variable = λ more ws. refl;
+  remark = refl;
 }
 
 pub letter_of_end : IsLetter 69 is_end
@@ -212,4 +233,5 @@ letter_of_end = record {
   opening = λ ws. refl;
   schedule = λ more ws. refl;
   variable = λ more ws. refl;
+  remark = refl;
 }

@@ -22,6 +22,7 @@ use Rattle.ob_interface.specs.Export.{Signature, var_types}
 use Rattle.ob_interface.specs.View.{signature_of}
 use Rattle.ob_interface.specs.declared.scalar.ScalarType.{ScalarType}
 use Rattle.ob_text_exports.specs.ExportNames.{export_named}
+use Rattle.ob_text_values_reading.specs.Comments.{line_number}
 use Rattle.ob_text_words.specs.Words.{IsNumeral, Word, lines, words}
 use Rattle.wf_history.specs.declared.event.CallId.{CallId}
 
@@ -45,6 +46,10 @@ words_before (Spots.Value number) = suc (suc (suc number))
 abbrev pub line_words : List ℕ → (number : ℕ) → List Word
 line_words text number = words (unwrap_or (slice_get (lines text) (number - 1)) [])
 
+-- those of the line that has a number among the lines that are no remarks
+abbrev pub head_words : List ℕ → (own : ℕ) → List Word
+head_words text own = line_words text (line_number (map words (lines text)) own)
+
 -- the title of a record says version 2 or 3, which have a budget
 abbrev pub has_budget : (title : List Word) → Bool
 has_budget title = option_map_or (λ version. bytes_eq version (codes "2") || bytes_eq version (codes "3")) (slice_get title 2) false
@@ -53,7 +58,7 @@ has_budget title = option_map_or (λ version. bytes_eq version (codes "2") || by
 abbrev pub has_openings : (title : List Word) → Bool
 has_openings title = option_map_or (λ version. bytes_eq version (codes "3")) (slice_get title 2) false
 
--- how many processes there are, by the words of the second line
+-- how many processes there are, by the words of the second line of the head
 abbrev pub IsProcessCount : List Word → Option ℕ → Type 0
 IsProcessCount ws count =
     MatchOption count ((word : Word) (n : ℕ) → slice_get ws 1 ≡ Some word → IsNumeral word n → n < 2 ^ 64 → ⊥)
@@ -62,7 +67,7 @@ IsProcessCount ws count =
 -- how calls are named, and which processes there are
 abbrev pub id_sentence : (processes : ℕ) → List ℕ
 id_sentence processes =
-    codes "a call is named by its process, a dot and its number, as 0.1, and by line 2 "
+    codes "a call is named by its process, a dot and its number, as 0.1, and by the n line "
     ++ (if processes == 1 then codes "there is process 0 alone" else (codes "the processes are 0 to " ++ decimal (processes - 1)))
 
 abbrev pub reply_sentence : List ℕ
@@ -200,7 +205,7 @@ module _ (object : Object) where
     IsWordsCause [] cause = cause ≡ None
     IsWordsCause (word ∷ rest) cause = (letter : Letter) × IsLetter word letter × IsLetterCause letter rest cause
 
-  -- with the number of processes that the second line says
+  -- with the number of processes that the second line of the head says
   abbrev pub IsCountedCause : (text : List ℕ) (number : ℕ) → (processes : Option ℕ) → Option Cause → Type 0
   IsCountedCause text number None cause = cause ≡ None
   IsCountedCause text number (Some processes) cause = IsWordsCause text number processes (line_words text number) cause
@@ -208,5 +213,5 @@ module _ (object : Object) where
   -- Why the line of a number, from 1, can't stand behind the head of a record, where it is an event or the order; none of all others.
   pub record IsLineCause (text : List ℕ) (number : ℕ) (cause : Option Cause) : Type 0 where
     pub processes : Option ℕ
-    pub counted : IsProcessCount (line_words text 2) processes
+    pub counted : IsProcessCount (head_words text 2) processes
     pub says : IsCountedCause text number processes cause

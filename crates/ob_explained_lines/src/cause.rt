@@ -1,13 +1,13 @@
 //! Why a line of a record can't stand where it does.
 
-ghost use Rattle.std.specs.Prelude.{◌≡◌, ◌↔◌, ◌<◌, ◌-◌, [], IfOk, IfSome, IsTrue, None, Option, Some, length, map, option_map, slice_get};
+ghost use Rattle.std.specs.Prelude.{◌≡◌, ◌↔◌, ◌<◌, ◌≤◌, ◌-◌, [], IfOk, IfSome, IsTrue, None, Option, Some, length, map, option_map, slice_get};
 ghost use Rattle.std.specs.Prelude.{string_bytes, unwrap_or};
 ghost use Rattle.ob_explain_arguments.specs.Calls.{told_of};
 ghost use Rattle.ob_explained_lines.specs.CallPlaces.{NamesNoCall};
 ghost use Rattle.ob_explained_lines.specs.Causes.{IsBeginCause, IsCallsCause, IsCountedCause, IsDoneCause, IsEndCause, IsLetter, IsLetterCause, IsLineCause};
 ghost use Rattle.ob_explained_lines.specs.Causes.{IsDoneTold, IsSaidBegin, IsSaidEnd, IsOutcome, IsOutcomeCause, IsPlacedBegin, IsPlacedEnd, IsProcessCount};
 ghost use Rattle.ob_explained_lines.specs.Causes.{IsReplyCause, IsStranger, IsWordsCause, begin_told, called_by, cause_at, cause_of, done_told, has_budget, has_openings};
-ghost use Rattle.ob_explained_lines.specs.Causes.{id_sentence, line_words, object_of, reply_sentence, told_spot, trap_sentence};
+ghost use Rattle.ob_explained_lines.specs.Causes.{head_words, id_sentence, line_words, object_of, reply_sentence, told_spot, trap_sentence};
 ghost use Rattle.ob_interface.specs.Export.{var_types};
 ghost use Rattle.ob_interface.specs.View.{signature_of};
 
@@ -19,6 +19,7 @@ use ob_explain_arguments::sentences::{done_sentence, value_sentence};
 use ob_interface::export::{Export, Formal};
 use ob_interface::scalar::ScalarType;
 use ob_text_exports::exports::export_named;
+use ob_text_values_reading::comments::line_number;
 use ob_text_words::numbers::{push_number, read_numeral};
 use ob_text_words::words::words_of;
 use std::alloc::{AllocError, Global};
@@ -83,11 +84,11 @@ pub fn line_cause(
     counted_cause(alloc, object, text, number, processes)
 }
 
-/// How many processes there are, by the second line.
+/// How many processes there are, by the second line of the head.
 fn process_count(alloc: Global, text: &[u8]) -> Result<Option<usize>, AllocError>
-    ensures { IfOk result (IsProcessCount (line_words text.now 2)) }
+    ensures { IfOk result (IsProcessCount (head_words text.now 2)) }
 {
-    let words = line_words(alloc, text, 2)?;
+    let words = head_words(alloc, text, 2)?;
     Ok(count_in(&words))
 }
 
@@ -102,9 +103,9 @@ fn count_in(words: &[&[u8]]) -> Option<usize>
 
 /// Whether a record has a line for the budget, by its title.
 pub fn has_budget(alloc: Global, text: &[u8]) -> Result<bool, AllocError>
-    ensures { IfOk result (λ has. has ≡ has_budget (line_words text.now 1)) }
+    ensures { IfOk result (λ has. has ≡ has_budget (head_words text.now 1)) }
 {
-    let words = line_words(alloc, text, 1)?;
+    let words = head_words(alloc, text, 1)?;
     Ok(is_budgeted(&words))
 }
 
@@ -120,9 +121,9 @@ fn is_budgeted(title: &[&[u8]]) -> bool
 
 /// Whether a record has lines for the values that its object began with, by its title.
 pub fn has_openings(alloc: Global, text: &[u8]) -> Result<bool, AllocError>
-    ensures { IfOk result (λ has. has ≡ has_openings (line_words text.now 1)) }
+    ensures { IfOk result (λ has. has ≡ has_openings (head_words text.now 1)) }
 {
-    let words = line_words(alloc, text, 1)?;
+    let words = head_words(alloc, text, 1)?;
     Ok(is_opened(&words))
 }
 
@@ -134,6 +135,14 @@ fn is_opened(title: &[&[u8]]) -> bool
         Some(version) => *version == b"3".as_slice(),
         None => false,
     }
+}
+
+/// The words of the line that has a number among those that are no remarks, from 1.
+fn head_words(alloc: Global, text: &[u8], own: usize) -> Result<Vec<&[u8]>, AllocError>
+    requires { 1 ≤ own }
+    ensures { IfOk result (λ ws. map (λ w. w.now) ws.items ≡ head_words text.now own) }
+{
+    line_words(alloc, text, line_number(text, own))
 }
 
 /// The words of the line of a number, from 1.
@@ -237,7 +246,7 @@ fn id_sentence(alloc: Global, processes: usize) -> Result<String, AllocError>
 {
     let mut said = String::from_str(
         alloc,
-        "a call is named by its process, a dot and its number, as 0.1, and by line 2 ",
+        "a call is named by its process, a dot and its number, as 0.1, and by the n line ",
     )?;
     if processes == 1 {
         said.push_str("there is process 0 alone")?;

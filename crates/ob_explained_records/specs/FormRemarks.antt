@@ -6,10 +6,12 @@ use Rattle.ob_explain_forms.specs.Records.{title_sentence}
 use Rattle.ob_explain_hints.specs.Slips.{begins_with}
 use Rattle.ob_checked.specs.Exports.{signatures}
 use Rattle.ob_explained.specs.ScriptPlaces.{first_place, in_line, line_begin, word_place}
-use Rattle.ob_explained_lines.specs.Causes.{Cause, IsLineCause, Object, cause_at, has_budget, has_openings, line_words, words_before}
+use Rattle.ob_explained_lines.specs.Causes.{Cause, IsLineCause, Object, cause_at, has_budget, has_openings, head_words, words_before}
 use Rattle.ob_explained_lines.specs.Lines.{IsLine}
 use Rattle.ob_explained_lines.specs.declared.cause.Spot.TheVariants as Spots
 use Rattle.ob_explained_lines.specs.declared.record_line.Wanted.TheVariants as Wants
+use Rattle.ob_text_values_reading.specs.Comments.{said_number}
+use Rattle.ob_text_words.specs.Words.{lines, words}
 use Rattle.ob_typing.specs.ModuleText.{IsModule}
 use Rattle.ob_typing.specs.Program.{Name, Program}
 
@@ -38,6 +40,10 @@ form_sentence number behind_order from =
     else if behind_order then codes "behind the order stand S and V lines alone"
     else letter_sentence from
 
+-- the number of a line among those of its text that are no remarks
+abbrev pub own_number : List ℕ → (number : ℕ) → ℕ
+own_number text number = said_number (map words (lines text)) number
+
 -- the line of a number, from 1
 abbrev pub line_at : List ℕ → ℕ → List ℕ
 line_at text number = line_from text (line_begin text number)
@@ -46,7 +52,7 @@ line_at text number = line_from text (line_begin text number)
 abbrev pub from_word : List ℕ → List ℕ
 from_word line = drop (first_place line) line
 
--- the variable whose value stands in the line of a number, behind the budget
+-- the variable whose value stands in the line of a number, behind the budget; remarks don't count here
 abbrev pub opened_at : (openings : Bool) → (variables : List Name) → (number : ℕ) → Option Name
 opened_at openings variables number = if openings then slice_get variables (number - 4) else None
 
@@ -61,7 +67,7 @@ IsPlacedCause (Some name) object text number cause = cause ≡ opening_cause nam
 -- why a line of a record of a module's object can't stand where it does, behind the head; no text but a module has variables and exports
 pub data IsModuleCause (object text : List ℕ) (number : ℕ) : Option Cause → Type 0 where
   of_module : (program : Program) → IsModule object program → {cause : Option Cause} →
-      IsPlacedCause (opened_at (has_openings (line_words text 1)) (map (λ v. v.name) program.variables) number) (record { text = object; exports = signatures program }) text number cause →
+      IsPlacedCause (opened_at (has_openings (head_words text 1)) (map (λ v. v.name) program.variables) (own_number text number)) (record { text = object; exports = signatures program }) text number cause →
       IsModuleCause object text number cause
   of_none : ((program : Program) → IsModule object program → ⊥) → IsModuleCause object text number None
 
@@ -84,11 +90,11 @@ is_apart number behind_order = nat_le number 2 || behind_order
 -- of such a line, or of any other
 abbrev pub IsFormCause : (apart : Bool) → (object text : List ℕ) → (number : ℕ) → Option Cause → Type 0
 IsFormCause true object text number cause = cause ≡ None
-IsFormCause false object text number cause = IsBodyCause (is_budget_line number (has_budget (line_words text 1))) object text number cause
+IsFormCause false object text number cause = IsBodyCause (is_budget_line (own_number text number) (has_budget (head_words text 1))) object text number cause
 
 -- at the word that is the cause, or else at the line's first word, by what the line begins with
 abbrev pub told_form : List ℕ → (number : ℕ) → (behind_order : Bool) → Option Cause → Option Remark
-told_form text number behind_order None = at (in_line first_place text number) (form_sentence number behind_order (from_word (line_at text number)))
+told_form text number behind_order None = at (in_line first_place text number) (form_sentence (own_number text number) behind_order (from_word (line_at text number)))
 told_form text number behind_order (Some cause) = at (in_line (word_place (words_before cause.spot)) text number) cause.sentence
 
 -- of the line of a record of a module's object
@@ -96,5 +102,5 @@ pub record IsFormRemark (object text : List ℕ) (number : ℕ) (remark : Option
   pub order : Option ℕ
   pub is_order : IsLine text Wants.Order order
   pub cause : Option Cause
-  pub is_cause : IsFormCause (is_apart number (is_behind order number)) object text number cause
+  pub is_cause : IsFormCause (is_apart (own_number text number) (is_behind order number)) object text number cause
   pub says : remark ≡ told_form text number (is_behind order number) cause

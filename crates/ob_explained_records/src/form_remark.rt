@@ -5,7 +5,7 @@ ghost use Rattle.ob_check_text.specs.CheckedText.{IsNumberedText, TellsTextMemor
 ghost use Rattle.ob_explain.specs.Remarks.{remark_of};
 ghost use Rattle.ob_explained.specs.Marks.{MarksWord};
 ghost use Rattle.ob_explained.specs.ScriptPlaces.{in_line, word_place};
-ghost use Rattle.ob_explained_lines.specs.Causes.{IsLineCause, cause_of, has_openings, line_words, words_before};
+ghost use Rattle.ob_explained_lines.specs.Causes.{IsLineCause, cause_of, has_openings, words_before};
 ghost use Rattle.ob_explained_records.specs.FormRemarks.{IsBodyCause, IsFormCause, IsFormRemark, IsModuleCause, IsPlacedCause, budget_cause, form_sentence, is_apart};
 ghost use Rattle.ob_explained_records.specs.FormRemarks.{is_behind, is_budget_line, letter_sentence, opened_at, opening_cause, told_form};
 ghost use Rattle.ob_interface.specs.View.{signature_of};
@@ -22,6 +22,7 @@ use ob_explained::script_place::{behind_place, first_place, script_line, word_pl
 use ob_explained_lines::cause::{Cause, Object, Spot, has_budget, has_openings, line_cause};
 use ob_explained_lines::record_line::{Wanted, first_line};
 use ob_interface::export::Export;
+use ob_text_values_reading::comments::said_number;
 use std::alloc::{AllocError, Global};
 
 /// The remark on the line of a number, from 1, which is missing or can't stand there, of a record of a module's object.
@@ -38,7 +39,7 @@ pub fn form_remark(
 {
     let order = first_line(alloc, text, Wanted::Order)?;
     let behind_order = is_behind(order, number);
-    let apart = is_apart(number, behind_order);
+    let apart = is_apart(said_number(text, number), behind_order);
     let cause = form_cause(alloc, object, text, number, apart)?;
     told_form(alloc, text, number, behind_order, cause)
 }
@@ -81,7 +82,8 @@ fn form_cause(
         Ok(None)
     } else {
         let budget = has_budget(alloc, text)?;
-        body_cause(alloc, object, text, number, is_budget_line(number, budget))
+        let own = said_number(text, number);
+        body_cause(alloc, object, text, number, is_budget_line(own, budget))
     }
 }
 
@@ -129,7 +131,7 @@ fn module_cause(
         Ok(checked) => {
             let openings = has_openings(alloc, text)?;
             let variables = checked.program().variables.as_slice();
-            let opened = opened_at(openings, variables, number);
+            let opened = opened_at(openings, variables, said_number(text, number));
             placed_cause(alloc, object, checked.exports(), text, number, opened)
         }
         Err(fault) => no_cause(object, text, number, fault),
@@ -284,7 +286,7 @@ fn first_remark(
 {
     let (begin, line) = script_line(text, number);
     let first = first_place(line);
-    let sentence = form_sentence(number, behind_order, &line[first..]);
+    let sentence = form_sentence(said_number(text, number), behind_order, &line[first..]);
     Ok(Some(Remark {
         place: begin + first,
         sentence: String::from_str(alloc, sentence)?,

@@ -1,5 +1,6 @@
 -- Each value that a record's text tells stands in the line that is counted for it.
 use Rattle.std.proofs.Common.{◌≡◌, ◌∙◌, refl, ap, sym, ℕ, zero, suc, ◌+◌, ◌-◌, ◌<◌, ◌==◌, Bool, cond, true, false, List, [], ◌∷◌, ◌++◌, length, map, take, slice_get, Option, Some, None, option_map, subst, arith, if◌then◌else◌}
+use Rattle.std.proofs.lemmas.Bool.{eqb-true, false≢true}
 use Rattle.std.proofs.lemmas.Bool.Decides.{nat_tests}
 use Rattle.std.proofs.lemmas.List.{length-append, map-append, take_all, take_more}
 use Rattle.std.proofs.lemmas.List.Splits.{length-slice_split}
@@ -9,6 +10,8 @@ use Rattle.std.specs.List.{onto_first}
 use Rattle.std.specs.Prelude.{slice_index}
 use Rattle.ob_text_words.specs.Words.{Word, lines, words}
 use Rattle.ob_carry.specs.Carried.{Entry}
+use Rattle.ob_text_values_reading.proofs.SaidLines.{said_on, said_over}
+use Rattle.ob_text_values_reading.specs.Comments.{is_comment, said}
 use Rattle.ob_text_values_reading.specs.RecordTexts.{IsTitle, Line, record_lines}
 use Rattle.ob_text_values_reading.specs.ToldValues as Told
 use Rattle.ob_text_values_reading.specs.ToldValues.{AreTold, AreValuesIn, AreValuesOf}
@@ -93,26 +96,69 @@ kept (Told.more (Told.other none) rest) k below = kept rest k below
 kept {told} (Told.more (Told.variable {e = e} is new) rest) k below =
     kept rest k (omega (arith, below, long_seam told e)) ∙ got_left told (e ∷ []) k below
 
+-- a remark tells none
+remark_silent : (line : Line) → is_comment line ≡ true → tells_value line ≡ false
+remark_silent [] h = absurd (false≢true h)
+remark_silent ([] ∷ ws) h = absurd (false≢true h)
+remark_silent ((b ∷ more) ∷ ws) h = ap (λ (n : ℕ). n == 86) (eqb-true b 35 h)
+
+-- what is told by the lines of these that are no remarks is told by these
+abbrev TellsIn : List Line → List Entry → Type 0
+TellsIn ls all =
+    (told : List Entry) → AreTold told (said ls) all → (number position : ℕ) (e : Entry) → slice_get all (length told + position) ≡ Some e → IsIn number ls position e
+
 -- the next one is told by the first line that tells one
-told_in : {told all : List Entry} {ls : List Line} → AreTold told ls all → (number position : ℕ) (e : Entry) →
-    slice_get all (length told + position) ≡ Some e → IsIn number ls position e
-told_in {told} Told.nothing number position e got = absurd (omega (arith, slice_get_within told (length told + position) e got))
-told_in (Told.more {line = line} {rest = ls} (Told.other none) rest) number position e got =
-    behind_silent number line ls position e (silent line (tells_value line) refl none) (told_in rest (suc number) position e got)
-told_in {told} (Told.more {line = line} {rest = ls} (Told.variable {e = first} is new) rest) number zero e got =
+step : (line : Line) (ls : List Line) {told all : List Entry} → TellsIn ls all → AreTold told (line ∷ said ls) all → (number position : ℕ) (e : Entry) →
+    slice_get all (length told + position) ≡ Some e → IsIn number (line ∷ ls) position e
+step line ls {told} later (Told.more (Told.other none) rest) number position e got =
+    behind_silent number line ls position e (silent line (tells_value line) refl none) (later told rest (suc number) position e got)
+step line ls {told} later (Told.more (Told.variable {e = first} is new) rest) number zero e got =
     let here : length told + 0 ≡ length told = omega arith in
     let below : length told < length (told ++ first ∷ []) = omega (arith, long_seam told first) in
     let same : Some first ≡ Some e = sym (kept rest (length told) below ∙ got_seam told first) ∙ sym (ap (slice_get _) here) ∙ got in
     let one : first ≡ e = cc in
     at_once number line ls e (tells line (line_begins line first is)) (subst (IsVariableLine 86 line) one is)
-told_in {told} {all} (Told.more {line = line} {rest = ls} (Told.variable {e = first} is new) rest) number (suc k) e got =
+step line ls {told} {all} later (Told.more (Told.variable {e = first} is new) rest) number (suc k) e got =
     let on : length told + suc k ≡ length (told ++ first ∷ []) + k = omega (arith, long_seam told first) in
-    behind_told number line ls k e (tells line (line_begins line first is)) (told_in rest (suc number) k e (sym (ap (slice_get all) on) ∙ got))
+    behind_told number line ls k e (tells line (line_begins line first is)) (later (told ++ first ∷ []) rest (suc number) k e (sym (ap (slice_get all) on) ∙ got))
 
-told_of : {ls : List Line} {entries : List Entry} → AreValuesIn ls entries → (position : ℕ) (e : Entry) → slice_get entries position ≡ Some e → IsIn 1 ls position e
-told_of {entries = entries} (Told.values {title = title} {rest = rest} version is told) position e got =
-    let begin : 0 + position ≡ position = omega arith in
-    behind_silent 1 title rest position e (ap tells_value is) (told_in told 2 position e (ap (slice_get entries) begin ∙ got))
+nothing_in : {told all : List Entry} → AreTold told [] all → (number position : ℕ) (e : Entry) → slice_get all (length told + position) ≡ Some e → IsIn number [] position e
+nothing_in {told} Told.nothing number position e got = absurd (omega (arith, slice_get_within told (length told + position) e got))
+
+told_in : (ls : List Line) (all told : List Entry) → AreTold told (said ls) all → (number position : ℕ) (e : Entry) → slice_get all (length told + position) ≡ Some e → IsIn number ls position e
+told_in [] all told h number position e got = nothing_in h number position e got
+told_in (line ∷ ls) all told h number position e got = go (is_comment line) refl (told_in ls all)
+  where
+    go : (t : Bool) → is_comment line ≡ t → TellsIn ls all → IsIn number (line ∷ ls) position e
+    go true is later =
+        behind_silent number line ls position e (remark_silent line is)
+        (later told (subst (λ (xs : List Line). AreTold told xs all) (said_over line ls is) h) (suc number) position e got)
+    go false is later = step line ls later (subst (λ (xs : List Line). AreTold told xs all) (said_on line ls is) h) number position e got
+
+first_of : {x y : Line} {xs ys : List Line} → x ∷ xs ≡ y ∷ ys → x ≡ y
+first_of e = cc
+
+rest_of : {x y : Line} {xs ys : List Line} → x ∷ xs ≡ y ∷ ys → xs ≡ ys
+rest_of e = cc
+
+-- behind a title, which is the first of these that is no remark
+behind_title : (ls : List Line) (title : Line) (rest : List Line) (entries : List Entry) → title ∷ rest ≡ said ls → tells_value title ≡ false → AreTold [] rest entries →
+    (number position : ℕ) (e : Entry) → slice_get entries position ≡ Some e → IsIn number ls position e
+behind_title [] title rest entries parts quiet told number position e got = absurd cc
+behind_title (line ∷ ls) title rest entries parts quiet told number position e got =
+    go (is_comment line) refl (λ (own : title ∷ rest ≡ said ls). behind_title ls title rest entries own quiet told (suc number) position e got)
+  where
+    go : (t : Bool) → is_comment line ≡ t → (title ∷ rest ≡ said ls → IsIn (suc number) ls position e) → IsIn number (line ∷ ls) position e
+    go true is later = behind_silent number line ls position e (remark_silent line is) (later (parts ∙ said_over line ls is))
+    go false is later =
+        let own : title ∷ rest ≡ line ∷ said ls = parts ∙ said_on line ls is in
+        let begin : 0 + position ≡ position = omega arith in
+        behind_silent number line ls position e (ap tells_value (sym (first_of own)) ∙ quiet)
+        (told_in ls entries [] (subst (λ (xs : List Line). AreTold [] xs entries) (rest_of own) told) (suc number) position e (ap (slice_get entries) begin ∙ got))
+
+told_of : {xs : List Line} {entries : List Entry} → AreValuesIn xs entries → (ls : List Line) → xs ≡ said ls → (position : ℕ) (e : Entry) → slice_get entries position ≡ Some e → IsIn 1 ls position e
+told_of {entries = entries} (Told.values {title = title} {rest = rest} version is told) ls parts position e got =
+    behind_title ls title rest entries parts (ap tells_value is) told 1 position e got
 
 -- ---- with a line more at the end
 
@@ -181,7 +227,7 @@ of_words (Some line) ws h = let same : words line ≡ ws = cc in (line, refl, sa
 
 pub each_value_has_its_line : EachValueHasItsLine
 each_value_has_its_line text entries position e told got =
-    let i : IsIn 1 (map words (lines text)) position e = in_text text (ends_with_byte 10 text) refl position e (told_of told position e got) in
+    let i : IsIn 1 (map words (lines text)) position e = in_text text (ends_with_byte 10 text) refl position e (told_of told (record_lines text) refl position e got) in
     let found = of_words (slice_get (lines text) i.before) i.line (sym (slice_get-map words (lines text) i.before) ∙ i.is_line) in
     let back : 1 + i.before - 1 ≡ i.before = omega arith in
     record {

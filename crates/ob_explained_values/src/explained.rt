@@ -14,6 +14,7 @@ use ob_explained::script_place::{first_place, script_line, word_place};
 use ob_explained_runs::Source;
 use ob_explained_runs::source::shown;
 use ob_text_values_reading::ValuesFault;
+use ob_text_values_reading::comments::said_number;
 use std::alloc::{AllocError, Global};
 
 /// The words of a value's line in which its name and the value stand, counted from 0.
@@ -117,7 +118,7 @@ fn line_remark(alloc: Global, text: &[u8], number: usize) -> Result<Option<Remar
 {
     let (begin, line) = script_line(text, number);
     let first = first_place(line);
-    let sentence = line_sentence(number, &line[first..]);
+    let sentence = line_sentence(said_number(text, number), &line[first..]);
     Ok(Some(Remark {
         place: begin + first,
         sentence: String::from_str(alloc, sentence)?,
@@ -125,7 +126,7 @@ fn line_remark(alloc: Global, text: &[u8], number: usize) -> Result<Option<Remar
     }))
 }
 
-/// What stands in the line of a number, by what it has from its first word on.
+/// What stands in the line of a number among those that are no remarks, by what it has from its first word on.
 fn line_sentence(number: usize, from: &[u8]) -> &'static str {
     if number == 1 {
         title_sentence(from)

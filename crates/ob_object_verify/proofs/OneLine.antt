@@ -3,7 +3,7 @@ use Rattle.std.proofs.Common.{◌≡◌, ◌∙◌, ℕ, ◌+◌, ◌<◌, ◌�
 use Rattle.std.proofs.lemmas.Bool.{cases_lt}
 use Rattle.std.proofs.lemmas.List.{take-append-drop, take-append-le, take-take, take_all}
 use Rattle.ob_text_record_reading.specs.RecordLines as Lines
-use Rattle.ob_text_record_reading.specs.RecordLines.{BeginsRecord, FailsAtLine, IsRecordPart, Line}
+use Rattle.ob_text_record_reading.specs.RecordLines.{BeginsRecord, FailsAtLine, IsRecordPart, Line, StandsAmong, line_number, said}
 use Rattle.ob_typing.specs.Program.{Program}
 
 module _ (program : Program) where
@@ -57,7 +57,7 @@ module _ (program : Program) where
       let within = later.within in
       first.ends (omega (arith, within, lt)) (begins_first ls (suc count) more (omega (arith, lt)) later.begins)
 
-  pub one_line : (ls : List Line) (number other : ℕ) → FailsAtLine program ls number → FailsAtLine program ls other → number ≡ other
+  one_line : (ls : List Line) (number other : ℕ) → FailsAtLine program ls number → FailsAtLine program ls other → number ≡ other
   one_line ls number other f g =
       let a = stops ls number f in
       let b = stops ls other g in
@@ -67,3 +67,7 @@ module _ (program : Program) where
         | inl lt ↦ absurd (stops_first ls a.0 b.0 a.2 b.2 lt)
         | inr le ↦ elim (cases_lt b.0 a.0) [ inl lt ↦ absurd (stops_first ls b.0 a.0 b.2 a.2 lt) | inr ge ↦ omega (arith, here, there, le, ge) ]
       ]
+
+  -- the same among lines that may be remarks
+  pub one_among : (ls : List Line) (number other : ℕ) → StandsAmong (FailsAtLine program) ls number → StandsAmong (FailsAtLine program) ls other → number ≡ other
+  one_among ls number other f g = f.counted ∙ ap (line_number ls) (one_line (said ls) f.own g.own f.stands g.stands) ∙ sym g.counted

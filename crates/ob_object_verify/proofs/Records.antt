@@ -7,7 +7,7 @@ use Rattle.ob_object_order.specs.OrderFaults.{IsOrderFault}
 use Rattle.ob_object_order.specs.declared.order.OrderFault.{OrderFault}
 use Rattle.ob_object_order.specs.declared.order.OrderFault.TheVariants as Order
 use Rattle.ob_object_verify.proofs.Beginnings.{no_trap, one_state, one_trap}
-use Rattle.ob_object_verify.proofs.OneLine.{one_line}
+use Rattle.ob_object_verify.proofs.OneLine.{one_among}
 use Rattle.ob_object_verify.specs.Beginnings.{BeginsPlaced, IsBeginningFault, TrapsPlaced}
 use Rattle.ob_object_verify.specs.Verified.{IsLegalRecord}
 use Rattle.ob_object_verify.specs.VerifyFaults.{HasFaultFrom, HasRecordFault, IsNumbered, TellsMemoryApart, of_open, of_order, of_record}
@@ -75,7 +75,7 @@ module _ (program : Program) (text : List ℕ) where
       (of_record e ≡ fault) ⊎ (of_record e ≡ Faults.NoMemory)
   one_form Record.NoMemory h fault numbered f = inr refl
   one_form (Record.Form line) h (Faults.Text e) numbered f = absurd f
-  one_form (Record.Form line) h (Faults.Form other) numbered f = inl (ap Faults.Form (one_line program (record_lines text) line other h.stands f.stands))
+  one_form (Record.Form line) h (Faults.Form other) numbered f = inl (ap Faults.Form (one_among program (record_lines text) line other h.stands f.stands))
   one_form (Record.Form line) h (Faults.Open (Open.Trap k)) numbered f = absurd (h.none tt f.tells f.is_record)
   one_form (Record.Form line) h (Faults.Open Open.NoMemory) numbered f = absurd f
   one_form (Record.Form line) h (Faults.Order e) numbered f = absurd (h.none tt f.tells f.is_record)

@@ -22,6 +22,7 @@ use Rattle.ob_text_read_back.proofs.ReadValues.{values_read}
 use Rattle.ob_text_read_back.proofs.SaidValues.{lines_open}
 use Rattle.ob_text_read_back.proofs.WordLines.{all_words, answered, budget_line, carried_lines, count_line, event_line, head_lines, lines_behind, order_line, record_written, schedule_line, title_line, value_lines}
 use Rattle.ob_text_record.specs.RecordText.{id_text, name_of, record_text}
+use Rattle.ob_text_record_reading.proofs.NoComments.{lines_are_read}
 use Rattle.ob_text_record_reading.specs.RecordLines as Lines
 use Rattle.ob_text_record_reading.specs.RecordLines.{AreIds, AreLines, IsEvent, IsHead, IsRecordOf, IsTail, Line}
 use Rattle.ob_text_words.specs.ScalarTexts.{scalar_text}
@@ -118,10 +119,11 @@ module _ (m : Module) (program : Program) (text : HasText m) (typed : WellTyped 
 
   read : IsReadBack program r
   read =
-      subst (λ (ls : List Line). IsRecordOf program ls (told_by r))
+      lines_are_read program (record_text program r) (told_by r)
+      (subst (λ (ls : List Line). IsRecordOf program ls (told_by r))
       (sym (ap Lines.record_lines (record_written program r)
       ∙ lines_of_text (title_line r.carried) (count_line r.processes ∷ budget_line r.budget ∷ carried_lines program r.carried ++ lines_behind program r) (all_words m program text typed r h)))
-      all_read
+      all_read)
 
 pub well_typed_is_read : WellTypedIsRead
 well_typed_is_read m program r text typed h = read m program text typed r h

@@ -10,5 +10,6 @@ pub mod Opened
 pub mod Places
 mod Fronts
 pub mod Numbers
+pub mod NoComments
 pub mod NothingSaid
 pub mod WrittenWords

@@ -1,11 +1,11 @@
 -- Heads of records: what the lines of a text are by those of its head, and where they stop being a record.
-use Rattle.std.proofs.Common.{◌≡◌, ◌∙◌, ℕ, ◌+◌, ◌<◌, List, [], ◌∷◌, ◌++◌, Option, Some, None, Result, Ok, Err, IfOk, IfErr, length, codes, refl, sym, ap, subst, arith, append_assoc, append-nil, length-append}
+use Rattle.std.proofs.Common.{◌≡◌, ◌∙◌, ℕ, ◌+◌, ◌<◌, ◌≤◌, List, [], ◌∷◌, ◌++◌, Option, Some, None, Result, Ok, Err, IfOk, IfErr, length, codes, refl, sym, ap, subst, arith, append_assoc, append-nil, length-append}
 use Rattle.ob_meaning.specs.Object.{most_turns}
 use Rattle.ob_checked.specs.Exports.{signatures}
 use Rattle.ob_interface.specs.Call.{ObjectCall, Reply}
 use Rattle.ob_positions.specs.Store.{Activation}
 use Rattle.ob_text_record_reading.specs.RecordLines as Lines
-use Rattle.ob_text_record_reading.specs.RecordLines.{AreLines, BeginsRecord, FailsAtLine, FaultStands, IsBudget, IsCount, IsHead, IsRecordFault, IsRecordOf, IsRecordPart, IsTitle, Line, SaysNone, Told, record_lines}
+use Rattle.ob_text_record_reading.specs.RecordLines.{AreLines, BeginsRecord, FailsAtLine, FaultAmong, FaultStands, IsBudget, IsCount, IsHead, IsRecordFault, IsRecordOf, IsRecordPart, IsTitle, Line, SaysNone, Told, record_lines}
 use Rattle.ob_text_record_reading.specs.LineReading as Reading
 use Rattle.ob_text_record_reading.specs.LineReading.{BeginsLines, FailsBehind, FaultBehind}
 use Rattle.ob_text_record_reading.specs.Openings as Openings
@@ -18,6 +18,7 @@ use Rattle.ob_text_record_reading.specs.Heads.{TakesBudget, TakesNoBudget}
 use Rattle.ob_text_record_reading.proofs.LineRuns.{begins, nothing, one_told}
 use Rattle.ob_text_record_reading.proofs.OneEvent.{first_byte, one_budget, one_count, other_words}
 use Rattle.ob_text_record_reading.proofs.OpeningLines.{counted, next_opening, one_list}
+use Rattle.ob_text_values_reading.specs.Comments.{said}
 use Rattle.ob_text_values_reading.specs.Versions.{version_word}
 use Rattle.ob_text_values_reading.specs.declared.title.Version.{Version}
 use Rattle.ob_text_values_reading.specs.declared.title.Version.TheVariants as Versions
@@ -190,9 +191,14 @@ module _ (program : Program) where
       bad (record { rest = rest; part = Lines.whole (subst (λ (all : List Line). IsRecordOf program all t) (sym (append_assoc before (line ∷ []) rest)) h) })
   no_record_at ls number (Lines.missing good bad) t h = bad t h
 
-  pub no_record : (ls : List Line) (e : RecordFault) → FaultStands program ls e → SaysNone program e → (t : Told) → IsRecordOf program ls t → ⊥
-  no_record ls (Faults.Form number) stands s t h = no_record_at ls number stands t h
-  no_record ls Faults.NoMemory stands s t h = s
+  no_record : (ls : List Line) (e : RecordFault) → FaultAmong program ls e → SaysNone program e → (t : Told) → IsRecordOf program (said ls) t → ⊥
+  no_record ls (Faults.Form number) among s t h = no_record_at (said ls) among.own among.stands t h
+  no_record ls Faults.NoMemory among s t h = s
+
+  -- lines count from 1
+  pub counted_from_one : {ls : List Line} {number : ℕ} → FailsAtLine program ls number → 1 ≤ number
+  counted_from_one (Lines.misplaced before line rest good bad) = omega arith
+  counted_from_one (Lines.missing good bad) = omega arith
 
   -- lines with which a record begins, and fewer of them
   pub begins_fewer : (front back : List Line) → BeginsRecord program (front ++ back) → BeginsRecord program front
@@ -283,6 +289,17 @@ module _ (program : Program) where
       let first : Line = codes "obl0" ∷ codes "record" ∷ codes "1" ∷ [] in
       begins_fewer [] (first ∷ []) (begins_title Versions.First first refl)
 
+  no_lines_whole : {h : List Line} (behind : List Line) {vs : List Variable} {m b : ℕ} {x : Option Activation} → IsHead vs h m b x → [] ≡ h ++ behind → ⊥
+  no_lines_whole behind (Lines.of_version_1 t d) e = nothing_here _ _ [] refl e
+  no_lines_whole behind (Lines.of_version_2 t d f) e = nothing_here _ _ [] refl e
+  no_lines_whole behind (Lines.of_version_3 t d f o) e = nothing_here _ _ [] refl e
+
+  -- where there is no line, the first one is missing
+  pub title_missing : (ls : List Line) → ls ≡ [] → FailsAtLine program ls 1
+  title_missing ls none =
+      subst (λ (xs : List Line). FailsAtLine program xs 1) (sym none)
+      (Lines.missing {ls = []} begins_empty (λ t h. no_lines_whole h.behind h.heads h.parts))
+
   -- lines that lack a line of the head, or have another one there
   pub no_title : (first : Line) (rest : List Line) → ((v : Version) → IsTitle (version_word v) first → ⊥) → FailsAtLine program (first ∷ rest) 1
   no_title first rest bad = Lines.misplaced [] first rest begins_empty (λ h. let t = titled_part first h.rest refl h.part in bad t.0 t.1)
@@ -365,14 +382,8 @@ module _ (program : Program) where
     opening_fault ls (Faults.Form number) s = fails_opening ls number s s.left refl
     opening_fault ls Faults.NoMemory s = tt
 
-  pub alone_result : (ls : List Line) (r : Result ReadRecord RecordFault) → IfOk r (λ x. IsRecordOf program ls (told_of x)) →
-      IfOk r (λ x. (other : Told) → IsRecordOf program ls other → other ≡ told_of x)
-  alone_result ls (Ok x) h = λ other k. one_record k h
-  alone_result ls (Err e) h = tt
-
-  pub text_fault : (text : List ℕ) (r : Result ReadRecord RecordFault) → IfErr r (FaultStands program (record_lines text)) → IfErr r (IsRecordFault program text)
-  text_fault text (Ok x) h = tt
-  text_fault text (Err e) h = record { stands = h; none = λ s t k. no_record (record_lines text) e h s t k }
+  pub text_fault : (text : List ℕ) (e : RecordFault) → FaultAmong program (record_lines text) e → IsRecordFault program text e
+  text_fault text e h = record { stands = h; none = λ s t k. no_record (record_lines text) e h s t k }
 
   -- ---- what the functions answer
 

@@ -1,5 +1,5 @@
 -- Records as they are read: which lines of words are a record, and where lines stop being one. Words are separated as in
--- scripts; A lines and the lines behind the O line are read for their form alone.
+-- scripts, and lines that are remarks are passed over; A lines and the lines behind the O line are read for their form alone.
 use Rattle.std.specs.Prelude.{◌≡◌, ℕ, ◌+◌, ◌-◌, ◌<◌, ◌≤◌, ◌^◌, List, [], ◌∷◌, ◌++◌, All, length, codes, slice_get, Option, Some, None}
 use Rattle.ob_interface.specs.declared.scalar.Scalar.{Scalar}
 use Rattle.ob_interface.specs.Call.{ObjectCall, Reply, Answers, Trapped}
@@ -13,6 +13,7 @@ use Rattle.ob_interface.specs.Export.{Signature, value_types, var_types}
 use Rattle.ob_checked.specs.Exports.{signatures}
 use Rattle.ob_positions.specs.Store.{Activation}
 use Rattle.ob_typing.specs.Program.{Program, Variable}
+pub use Rattle.ob_text_values_reading.specs.Comments.{StandsAmong, line_number, said}
 pub use Rattle.ob_text_values_reading.specs.RecordTexts.{IsTitle, Line, record_lines}
 use Rattle.ob_text_record_reading.specs.Openings.{AreOpenings}
 use Rattle.ob_text_record_reading.specs.declared.reading.RecordFault.{RecordFault}
@@ -114,7 +115,7 @@ module _ (program : Program) where
     pub tells : AreLines t.processes (signatures program) [] behind t.events t.order
 
   abbrev pub IsRecord : List ℕ → Told → Type 0
-  IsRecord text t = IsRecordOf (record_lines text) t
+  IsRecord text t = IsRecordOf (said (record_lines text)) t
 
   -- a whole record, or the first lines of one of version 3, as far as the openings of some of the variables, in their order
   pub data IsRecordPart : List Line → Type 0 where
@@ -138,11 +139,16 @@ module _ (program : Program) where
   FaultStands ls (Faults.Form number) = FailsAtLine ls number
   FaultStands ls Faults.NoMemory = Unit {0}
 
+  -- the same of the lines of a text: of those that are no remarks, told by its number among all
+  abbrev pub FaultAmong : List Line → RecordFault → Type 0
+  FaultAmong ls (Faults.Form number) = StandsAmong FailsAtLine ls number
+  FaultAmong ls Faults.NoMemory = Unit {0}
+
   abbrev pub SaysNone : RecordFault → Type 0
   SaysNone (Faults.Form number) = Unit {0}
   SaysNone Faults.NoMemory = ⊥
 
   -- the fault stands at its line, and the text is no record
   pub record IsRecordFault (text : List ℕ) (fault : RecordFault) : Type 0 where
-    pub stands : FaultStands (record_lines text) fault
+    pub stands : FaultAmong (record_lines text) fault
     pub none : SaysNone fault → (t : Told) → IsRecord text t → ⊥

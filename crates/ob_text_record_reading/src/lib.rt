@@ -5,6 +5,7 @@ pub mod calls;
 mod front;
 pub mod head;
 pub mod id;
+pub mod laws;
 pub mod line;
 mod number;
 pub mod opening;

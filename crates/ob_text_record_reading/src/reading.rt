@@ -7,6 +7,7 @@ ghost use Rattle.ob_text_record_reading.specs.Heads.{ForEachHead, TakesBudget, T
 ghost use Rattle.ob_text_record_reading.specs.LineReading.{FaultBehind};
 ghost use Rattle.ob_text_record_reading.specs.RecordLines.{AreLines, FaultStands, IsRecord, IsRecordFault, IsRecordOf, Told};
 ghost use Rattle.ob_text_record_reading.specs.Told.{carried_of, told_of};
+ghost use Rattle.ob_text_values_reading.specs.Comments.{said};
 ghost use Rattle.ob_text_values_reading.specs.RecordTexts.{lines_behind};
 ghost use Rattle.ob_text_words.specs.Words.{lines, words};
 
@@ -21,6 +22,7 @@ use ob_interface::NoMemory;
 use ob_interface::export::Export;
 use ob_interpreter::opening::MOST_TURNS;
 use ob_store::state::State;
+use ob_text_values_reading::comments::{line_number, may_have_comments, without_comments};
 use ob_text_values_reading::lines::{split_line, without_last_feed};
 use ob_text_values_reading::title::{Version, read_title};
 use ob_text_words::words::words_of;
@@ -78,7 +80,35 @@ pub fn read_record(alloc: Global, checked: &Checked, text: &[u8]) -> Result<Read
     ensures alone { IfOk result (λ r. (other : Told) → IsRecord (program_in checked.now) text.now other → other ≡ told_of «r») }
     ensures fault { IfErr result (λ e. IsRecordFault (program_in checked.now) text.now e) }
 {
-    read_lines(alloc, checked, without_last_feed(text))
+    let text = without_last_feed(text);
+    match read_said(alloc, checked, text) {
+        Ok(read) => Ok(read),
+        Err(RecordFault::Form(own)) => Err(RecordFault::Form(line_number(text, own))),
+        Err(RecordFault::NoMemory) => Err(RecordFault::NoMemory),
+    }
+}
+
+/// What the lines of a text that are no remarks tell. Those lines count from 1 here.
+fn read_said(alloc: Global, checked: &Checked, text: &[u8]) -> Result<ReadRecord, RecordFault>
+    ensures record { IfOk result (λ r. IsRecordOf (program_in checked.now) (said (map words (lines text.now))) (told_of «r»)) }
+    ensures fault { IfErr result (λ e. FaultStands (program_in checked.now) (said (map words (lines text.now))) e) }
+{
+    if may_have_comments(text) {
+        read_kept(alloc, checked, text)
+    } else {
+        read_lines(alloc, checked, text)
+    }
+}
+
+/// The same, by a copy without the remarks.
+fn read_kept(alloc: Global, checked: &Checked, text: &[u8]) -> Result<ReadRecord, RecordFault>
+    ensures record { IfOk result (λ r. IsRecordOf (program_in checked.now) (said (map words (lines text.now))) (told_of «r»)) }
+    ensures fault { IfErr result (λ e. FaultStands (program_in checked.now) (said (map words (lines text.now))) e) }
+{
+    let Some(kept) = without_comments(alloc, text)? else {
+        return Err(RecordFault::Form(1));
+    };
+    read_lines(alloc, checked, &kept)
 }
 
 /// What the lines of a text tell.

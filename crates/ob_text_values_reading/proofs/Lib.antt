@@ -1,4 +1,5 @@
 pub mod FirstLines
+pub mod SaidLines
 pub mod WordsTaken
 pub mod OneValue
 pub mod Marks

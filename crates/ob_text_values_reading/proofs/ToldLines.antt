@@ -10,9 +10,10 @@ use Rattle.ob_text_words.specs.Finding.{FindsAs}
 use Rattle.ob_text_words.specs.Words.{IsName, Word}
 use Rattle.ob_text_values_reading.proofs.Indexing.{distinct_more}
 use Rattle.ob_text_values_reading.proofs.OneValue.{one_value_of}
+use Rattle.ob_text_values_reading.specs.Comments.{said}
 use Rattle.ob_text_values_reading.specs.RecordTexts.{IsTitle, Line, record_lines}
 use Rattle.ob_text_values_reading.specs.ToldValues as Told
-use Rattle.ob_text_values_reading.specs.ToldValues.{AreTold, AreValuesIn, BeginsValues, FailsAtLine, FaultStands, IsValuesFault, LeadsOn, SaysNone}
+use Rattle.ob_text_values_reading.specs.ToldValues.{AreTold, AreValuesIn, BeginsValues, FailsAtLine, FaultAmong, FaultStands, IsValuesFault, LeadsOn, SaysNone}
 use Rattle.ob_text_values_reading.specs.ValueTexts.{SaysValue}
 use Rattle.ob_text_values_reading.specs.Turns.{FailsBehind, FaultBehind, TellsBehind}
 use Rattle.ob_text_values_reading.specs.Variables as Variables
@@ -116,43 +117,53 @@ begins_nothing : BeginsValues []
 begins_nothing = record { rest = (codes "obl0" ∷ codes "record" ∷ codes "1" ∷ []) ∷ []; entries = []; whole = Told.values Versions.First refl Told.nothing }
 
 pub no_title : (line : Line) (rest : List Line) → (IsTitled line → ⊥) → FailsAtLine (line ∷ rest) 1
-no_title line rest bad =
-    record { before = []; line = line; rest = rest; parts = refl; counted = refl; begins = begins_nothing; ends = λ b. bad (titled b.whole) }
+no_title line rest bad = Told.misplaced [] line rest begins_nothing (λ b. bad (titled b.whole))
+
+no_first : (ls : List Line) (entries : List Entry) → ls ≡ [] → AreValuesIn ls entries → ⊥
+no_first ls entries none (Told.values version title h) = cc
+
+-- where there is no line, the first one is missing
+pub nothing_told : (ls : List Line) → ls ≡ [] → FailsAtLine ls 1
+nothing_told ls none =
+    subst (λ (xs : List Line). FailsAtLine xs 1) (sym none) (Told.missing begins_nothing (λ entries. no_first [] entries refl))
 
 pub told_with_title : (line : Line) (rest : List Line) (all : List Entry) → IsTitled line → TellsBehind rest all → AreValuesIn (line ∷ rest) all
 told_with_title line rest all title h = Told.values title.0 title.1 h
 
 fails_with_title : (line : Line) (ls : List Line) (number : ℕ) → IsTitled line → FailsBehind ls number → FailsAtLine (line ∷ ls) number
 fails_with_title line ls number title f =
-    record {
-      before = line ∷ f.before;
-      line = f.line;
-      rest = f.rest;
-      parts = ap (λ (xs : List Line). line ∷ xs) f.parts;
-      counted = omega (arith, f.counted);
-      begins = record { rest = []; entries = f.told; whole = Told.values title.0 title.1 (subst (λ (xs : List Line). AreTold [] xs f.told) (sym (append-nil f.before)) f.so_far) };
-      ends = λ b.
-          let told : AreTold [] ((f.before ++ f.line ∷ []) ++ b.rest) b.entries = behind_title b.whole in
-          let here = next_of (behind f.so_far (subst (λ (xs : List Line). AreTold [] xs b.entries) (append_assoc f.before (f.line ∷ []) b.rest) told)) in
-          f.stops here.0 here.1;
-    }
+    let count : length (line ∷ f.before) + 1 ≡ number = omega (arith, f.counted) in
+    let begins : BeginsValues (line ∷ f.before) =
+    record { rest = []; entries = f.told; whole = Told.values title.0 title.1 (subst (λ (xs : List Line). AreTold [] xs f.told) (sym (append-nil f.before)) f.so_far) } in
+    let ends : ¬ BeginsValues ((line ∷ f.before) ++ f.line ∷ []) =
+    λ b.
+    let told : AreTold [] ((f.before ++ f.line ∷ []) ++ b.rest) b.entries = behind_title b.whole in
+    let here = next_of (behind f.so_far (subst (λ (xs : List Line). AreTold [] xs b.entries) (append_assoc f.before (f.line ∷ []) b.rest) told)) in
+    f.stops here.0 here.1 in
+    subst (λ (n : ℕ). FailsAtLine (line ∷ ls) n) count
+    (subst (λ (xs : List Line). FailsAtLine (line ∷ xs) (length (line ∷ f.before) + 1)) (sym f.parts) (Told.misplaced (line ∷ f.before) f.line f.rest begins ends))
 
 pub fault_with_title : (line : Line) (ls : List Line) (e : ValuesFault) → IsTitled line → FaultBehind ls e → FaultStands (line ∷ ls) e
 fault_with_title line ls (Faults.Form number) title h = fails_with_title line ls number title h
 fault_with_title line ls Faults.NoMemory title h = tt
 
 -- a fault leaves no values
-no_values : (ls : List Line) (e : ValuesFault) → FaultStands ls e → SaysNone e → (entries : List Entry) → AreValuesIn ls entries → ⊥
-no_values ls (Faults.Form number) f s entries h =
-    f.ends (record {
-      rest = f.rest;
-      entries = entries;
-      whole = subst (λ (xs : List Line). AreValuesIn xs entries) (f.parts ∙ sym (append_assoc f.before (f.line ∷ []) f.rest)) h;
-    })
-no_values ls Faults.NoMemory f s entries h = s
+fails_none : {ls : List Line} {number : ℕ} → FailsAtLine ls number → (entries : List Entry) → AreValuesIn ls entries → ⊥
+fails_none (Told.misplaced before line rest begins never) entries h =
+    never (record { rest = rest; entries = entries; whole = subst (λ (xs : List Line). AreValuesIn xs entries) (sym (append_assoc before (line ∷ []) rest)) h })
+fails_none (Told.missing begins never) entries h = never entries h
 
-pub text_fault : (text : List ℕ) (e : ValuesFault) → FaultStands (record_lines text) e → IsValuesFault text e
-text_fault text e h = record { stands = h; none = λ s entries k. no_values (record_lines text) e h s entries k }
+pub text_fault : (text : List ℕ) (e : ValuesFault) → FaultAmong (record_lines text) e → IsValuesFault text e
+text_fault text e h = record { stands = h; none = by_kind e h }
+  where
+    by_kind : (e : ValuesFault) → FaultAmong (record_lines text) e → SaysNone e → (entries : List Entry) → AreValuesIn (said (record_lines text)) entries → ⊥
+    by_kind (Faults.Form number) h says entries told = fails_none h.stands entries told
+    by_kind Faults.NoMemory h says entries told = says
+
+-- lines count from 1
+pub counted_from_one : {ls : List Line} {number : ℕ} → FailsAtLine ls number → 1 ≤ number
+counted_from_one (Told.misplaced before line rest begins never) = omega arith
+counted_from_one (Told.missing begins never) = omega arith
 
 -- ---- no name stands twice
 

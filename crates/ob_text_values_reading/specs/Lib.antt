@@ -1,4 +1,5 @@
 pub mod RecordTexts
+pub mod Comments
 pub mod Versions
 pub mod ValueTexts
 pub mod Taking

@@ -6,9 +6,11 @@ ghost use Rattle.ob_carry.specs.View.{entry_of};
 ghost use Rattle.ob_text_words.specs.Words.{lines, words};
 ghost use Rattle.ob_text_values_reading.specs.Indexed.{IsIndexed};
 ghost use Rattle.ob_text_values_reading.specs.RecordTexts.{lines_behind};
+ghost use Rattle.ob_text_values_reading.specs.Comments.{said};
 ghost use Rattle.ob_text_values_reading.specs.ToldValues.{AreValuesIn, AreValuesOf, FaultStands, IsValuesFault};
 ghost use Rattle.ob_text_values_reading.specs.Turns.{FaultBehind, TellsBehind, TellsLine};
 
+use crate::comments::{line_number, may_have_comments, without_comments};
 use crate::lines::{split_line, without_last_feed};
 use crate::title::read_title;
 use crate::variables::{begins_with, read_variable};
@@ -61,11 +63,38 @@ pub fn read_values(alloc: Global, text: &[u8]) -> Result<Vec<NamedField>, Values
     ensures distinct { IfOk result (λ fields. AreDistinctEntries (map entry_of fields.items)) }
     ensures fault { IfErr result (λ e. IsValuesFault text.now e) }
 {
+    let text = without_last_feed(text);
     let mut fields = Vec::new(alloc);
-    match read_lines(alloc, without_last_feed(text), &mut fields) {
+    match read_said(alloc, text, &mut fields) {
         Ok(()) => Ok(fields),
-        Err(fault) => Err(fault),
+        Err(ValuesFault::Form(own)) => Err(ValuesFault::Form(line_number(text, own))),
+        Err(ValuesFault::NoMemory) => Err(ValuesFault::NoMemory),
     }
+}
+
+/// Puts what the lines of a text that are no remarks tell into an empty list. Those lines count from 1 here.
+fn read_said(alloc: Global, text: &[u8], fields: &mut Vec<NamedField>) -> Result<(), ValuesFault>
+    requires { fields.old.items ≡ [] }
+    ensures values { OnOk result (AreValuesIn (said (map words (lines text.now))) (map entry_of fields.new.items)) }
+    ensures fault { IfErr result (λ e. FaultStands (said (map words (lines text.now))) e) }
+{
+    if may_have_comments(text) {
+        read_kept(alloc, text, fields)
+    } else {
+        read_lines(alloc, text, fields)
+    }
+}
+
+/// The same, by a copy without the remarks.
+fn read_kept(alloc: Global, text: &[u8], fields: &mut Vec<NamedField>) -> Result<(), ValuesFault>
+    requires { fields.old.items ≡ [] }
+    ensures values { OnOk result (AreValuesIn (said (map words (lines text.now))) (map entry_of fields.new.items)) }
+    ensures fault { IfErr result (λ e. FaultStands (said (map words (lines text.now))) e) }
+{
+    let Some(kept) = without_comments(alloc, text)? else {
+        return Err(ValuesFault::Form(1));
+    };
+    read_lines(alloc, &kept, fields)
 }
 
 /// Puts what the lines of a text tell into an empty list.

@@ -1,4 +1,4 @@
-use Rattle.std.proofs.Common.{◌∙◌, Bool, ap, option_map, subst}
+use Rattle.std.proofs.Common.{◌∙◌, Bool, ap₂, option_map, subst}
 use Rattle.std.proofs.lemmas.Result.{IfOk-weaker}
 use Rattle.ob_explained_lines.specs.Causes.{cause_of}
 use Rattle.ob_explained_records.specs.FormRemarks.{IsBodyCause, is_budget_line}
@@ -9,4 +9,4 @@ returns-in_ok-budget c =
     rw c.if-apart.false
     (IfOk-weaker c.body_cause.result _ _
     (λ cause is. subst (λ (budget : Bool). IsBodyCause budget c.args.object.now c.args.text.now c.args.number (option_map cause_of cause))
-    (c.is_budget_line.ensures ∙ ap (is_budget_line c.args.number) c.in_ok-budget.ensures) is) c.body_cause.ensures)
+    (c.is_budget_line.ensures ∙ ap₂ is_budget_line c.said_number-own.ensures c.in_ok-budget.ensures) is) c.body_cause.ensures)

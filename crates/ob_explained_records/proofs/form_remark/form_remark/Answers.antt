@@ -1,4 +1,4 @@
-use Rattle.std.proofs.Common.{◌∙◌, Bool, ap, option_map, subst}
+use Rattle.std.proofs.Common.{◌∙◌, Bool, ap, ap₂, option_map, subst}
 use Rattle.std.proofs.lemmas.Result.{IfOk-weaker}
 use Rattle.ob_explained_lines.specs.Causes.{cause_of}
 use Rattle.ob_explained_records.specs.FormRemarks.{IsFormCause, is_apart, told_form}
@@ -16,7 +16,7 @@ returns-clause-remark c =
       is_order = c.in_ok-order.ensures;
       cause = cause;
       is_cause =
-          subst (λ (apart : Bool). IsFormCause apart object text number cause) (c.is_apart-apart.ensures ∙ ap (is_apart number) c.is_behind-behind_order.ensures)
+          subst (λ (apart : Bool). IsFormCause apart object text number cause) (c.is_apart-apart.ensures ∙ ap₂ is_apart c.said_number.ensures c.is_behind-behind_order.ensures)
           c.in_ok-cause.ensures;
       says = told ∙ ap (λ (behind : Bool). told_form text number behind cause) c.is_behind-behind_order.ensures;
     }) c.told_form.ensures.remark

@@ -3,7 +3,7 @@ use Rattle.std.proofs.lemmas.Result.{IfOk-weaker}
 use Rattle.ob_checked.specs.CheckedModule.{program_in}
 use Rattle.ob_checked.specs.Exports.{signatures}
 use Rattle.ob_checked.specs.View.{table_of, variable_of}
-use Rattle.ob_explained_lines.specs.Causes.{cause_of}
+use Rattle.ob_explained_lines.specs.Causes.{cause_of, has_openings, head_words}
 use Rattle.ob_explained_records.proofs.VariableNames.{names_of}
 use Rattle.ob_explained_records.specs.FormRemarks.{IsPlacedCause, of_module, opened_at}
 use Rattle.ob_typing.specs.Program.{Program}
@@ -17,7 +17,9 @@ returns-in_ok-openings-in-Ok c =
     ap (map (variable_of types)) c.as_slice-variables.ensures.value ∙ ap (λ (p : Program). p.variables) c.program.ensures.program in
     let names : map (λ v. string_bytes v.name) c.as_slice-variables.result.now ≡ map (λ v. v.name) program.variables =
     sym (names_of types c.as_slice-variables.result.now) ∙ ap (map (λ v. v.name)) own in
-    let opened = c.opened_at-opened.ensures ∙ ap₂ (λ b ns. opened_at b ns c.args.number) c.in_ok-openings-in-Ok.ensures names in
+    let opened =
+    c.opened_at-opened.ensures ∙ ap₂ (λ b ns. opened_at b ns c.said_number.result) c.in_ok-openings-in-Ok.ensures names
+    ∙ ap (opened_at (has_openings (head_words c.args.text.now 1)) (map (λ v. v.name) program.variables)) c.said_number.ensures in
     IfOk-weaker c.placed_cause.result _ _
     (λ cause is. of_module program c.in-Ok.ensures.program
     (subst (λ name. IsPlacedCause name (record { text = c.args.object.now; exports = signatures program }) c.args.text.now c.args.number (option_map cause_of cause)) opened
