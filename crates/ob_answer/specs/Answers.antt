@@ -1,5 +1,5 @@
 -- What the program answers to a request, by what reads of files give.
-use Rattle.std.specs.Prelude.{◌≡◌, ◌⊎◌, ℕ, Bool, List, [], ◌∷◌, ◌++◌, true, false, None, Option, Result, codes, option_map, count_by, MatchBool, nat_lt}
+use Rattle.std.specs.Prelude.{◌≡◌, ◌⊎◌, ◌||◌, ℕ, Bool, List, [], ◌∷◌, ◌++◌, true, false, None, Option, Result, codes, option_map, count_by, MatchBool, nat_lt, if◌then◌else◌}
 use Rattle.std.specs.Str.{bytes_eq}
 use Rattle.ob_answer_files.specs.declared.answered.Answer.{Answer}
 use Rattle.ob_answer_files.specs.declared.files.FileFault.{FileFault}
@@ -20,6 +20,8 @@ use Rattle.ob_object_perform.specs.Printed.{IsPrintedOf, IsRecordPrinted}
 use Rattle.ob_object_perform.specs.Texts.{Texts}
 use Rattle.ob_text_picture_chart.specs.declared.charts.CallRange.{CallRange}
 use Rattle.ob_object_sequence.specs.SequentialRun.{HasObject, IsSequentialRun}
+use Rattle.ob_object_sequence.specs.ToldRun.{IsToldRun}
+use Rattle.ob_object_sequence.specs.declared.told.Details.{Details}
 use Rattle.ob_object_search_draw.specs.Forms.{is_record_form}
 use Rattle.ob_object_spent.specs.Spent.{IsPrintedWithSteps}
 use Rattle.ob_object_tree.specs.TreeRuns.{IsPrintedOfCode}
@@ -27,7 +29,7 @@ use Rattle.ob_object_verify.specs.Verified.{IsVerified}
 use Rattle.ob_answer_orders.specs.HistoryPictureAnswers.{IsHistoryPictureAnswer}
 use Rattle.ob_schedule_made.specs.Chance.{IsOfSteps}
 use Rattle.ob_schedule_made.specs.Finish.{IsFinished}
-use Rattle.ob_command.specs.CommandLine.{CallsRequest, ChanceRequest, Request, RunRequest, Text, default_most, Check, Listing, Seq, Run, RunTree, RunSteps, RunFinished, RunByChance, Serve, Draw, DrawHistory, DrawRecord, Outcomes, Verify, Order, request}
+use Rattle.ob_command.specs.CommandLine.{CallsRequest, ChanceRequest, Request, RunRequest, SeqRequest, Text, default_most, Check, Listing, Seq, Run, RunTree, RunSteps, RunFinished, RunByChance, Serve, Draw, DrawHistory, DrawRecord, Outcomes, Verify, Order, request}
 use Rattle.ob_command.specs.CommandLine.{Explain, ExplainAlways, ExplainCalls, ExplainTraps, ExplainRun, ExplainRecord, ExplainHistory, Bound, Help, Version, Unclear}
 use Rattle.ob_command.specs.Commands.{IsMistakeTextOf, calls_request_of, chance_request_of, run_request_of}
 use Rattle.ob_command.specs.declared.command.CallNumbers.{CallNumbers}
@@ -86,6 +88,10 @@ IsBoundAnswer bytes processes budget =
 abbrev pub IsSeqAnswer : Asked → (script_bytes : List ℕ) → Answer → Type 0
 IsSeqAnswer a script_bytes = IsTextAnswer (IsSequentialRun a script_bytes) (RefusesCalls a script_bytes) (seq_fault_line a.beginning)
 
+-- the lines of the sequential run, with what is told beside the replies
+abbrev pub IsToldAnswer : Details → Asked → (script_bytes : List ℕ) → Answer → Type 0
+IsToldAnswer d a script_bytes = IsTextAnswer (IsToldRun d a script_bytes) (RefusesCalls a script_bytes) (seq_fault_line a.beginning)
+
 -- The record of workers, one for each process, whom no gate stops. A fault of the workers rules nothing out.
 abbrev pub IsServeAnswer : Asked → (script_bytes : List ℕ) → Answer → Type 0
 IsServeAnswer a script_bytes = IsTextAnswer (IsServedPrinted a script_bytes) (RefusesWorkers a script_bytes) (serve_fault_line a.beginning)
@@ -143,9 +149,11 @@ IsVerifyAnswer module_bytes record_bytes =
 
 -- ---- of the files of a request
 
--- what is printed of calls: their replies, or the record of workers that make them; or what is wrong is shown, or the traps of the calls are
+-- what is printed of calls: their replies, or these with what is told beside them, or the record of workers that make them; or what is wrong
+-- is shown, or the traps of the calls are
 abbrev pub IsCallsAnswer : CallsProduct → CallsTexts → Answer → Type 0
 IsCallsAnswer CallsProducts.Replies t = IsSeqAnswer t.asked t.script
+IsCallsAnswer (CallsProducts.Told d) t = IsToldAnswer d t.asked t.script
 IsCallsAnswer CallsProducts.Workers t = IsServeAnswer t.asked t.script
 IsCallsAnswer CallsProducts.Explanation t = IsCallsExplained t
 IsCallsAnswer CallsProducts.Traps t = AreTrapsExplained t
@@ -153,9 +161,14 @@ IsCallsAnswer CallsProducts.Traps t = AreTrapsExplained t
 -- the faults of a command are shown to people
 abbrev pub shows_calls : CallsProduct → Bool
 shows_calls CallsProducts.Replies = false
+shows_calls (CallsProducts.Told d) = false
 shows_calls CallsProducts.Workers = false
 shows_calls CallsProducts.Explanation = true
 shows_calls CallsProducts.Traps = true
+
+-- what is printed of calls that are made one at a time: the replies alone, where nothing is to be told beside them
+abbrev pub sequence_product : SeqRequest → CallsProduct
+sequence_product s = if s.state || s.turns then CallsProducts.Told (record { state = s.state; turns = s.turns }) else CallsProducts.Replies
 
 -- what is printed of a run: its record, by the code or by the tree of the module, or with the own steps of its calls, or a picture of it;
 -- or what is wrong is shown
@@ -260,7 +273,7 @@ files_of _ = []
 abbrev pub IsMade : Request → List (List ℕ) → Answer → Type 0
 IsMade (Check module_name) (module_bytes ∷ []) answer = IsCheckAnswer module_bytes answer
 IsMade (Listing module_name) (module_bytes ∷ []) answer = IsListAnswer module_bytes answer
-IsMade (Seq sequence) bytes answer = IsCallsMade CallsProducts.Replies sequence.calls bytes answer
+IsMade (Seq sequence) bytes answer = IsCallsMade (sequence_product sequence) sequence.calls bytes answer
 IsMade (Run run) bytes answer = IsRunMade Products.Record run bytes answer
 IsMade (RunTree run) bytes answer = IsRunMade Products.TreeRecord run bytes answer
 IsMade (RunSteps run) bytes answer = IsRunMade Products.RecordWithSteps run bytes answer

@@ -2,10 +2,10 @@
 
 ghost use Rattle.std.specs.Prelude.{◌≡◌, IfOk, count_by, map, nat_lt};
 ghost use Rattle.std.specs.Str.{bytes_eq};
-ghost use Rattle.ob_answer.specs.Answers.{IsAnswer, IsAnswerTo, IsObeyed, files_of, input_name, range_of, reads_input_twice};
+ghost use Rattle.ob_answer.specs.Answers.{IsAnswer, IsAnswerTo, IsObeyed, files_of, input_name, range_of, reads_input_twice, sequence_product};
 ghost use Rattle.ob_answer_files.specs.Reads.{files_of_calls, files_of_run};
 ghost use Rattle.ob_command.specs.CommandLine.{Bound, Check, DrawHistory, DrawRecord, Listing, Order, Verify};
-ghost use Rattle.ob_command.specs.Commands.{calls_request_of, order_request_of, request_of, run_request_of, seen_request_of};
+ghost use Rattle.ob_command.specs.Commands.{calls_request_of, order_request_of, request_of, run_request_of, seen_request_of, seq_request_of};
 
 use crate::explaining::{obey_explain_history, obey_explain_module, obey_explain_record};
 use crate::making::{answer_bound, answer_check, answer_draw_seen, answer_list, answer_verify};
@@ -18,9 +18,11 @@ use ob_answer_files::reading::{MODULE_BYTES, TwoFiles, read_two, unreadable};
 use ob_answer_orders::drawing::{HistoryDrawing, answer_draw_history};
 use ob_answer_orders::ordering::answer_order;
 use ob_command::command::{
-    CallNumbers, CallsCommand, Command, OrderCommand, RunCommand, SeenCommand, Stop, read_command,
+    CallNumbers, CallsCommand, Command, OrderCommand, RunCommand, SeenCommand, SeqCommand, Stop,
+    read_command,
 };
 use ob_interface::NoMemory;
+use ob_object_sequence::Details;
 use ob_text_picture_chart::CallRange;
 use std::alloc::Global;
 use std::random::RandomSource;
@@ -163,7 +165,7 @@ fn obey<R: Threads + Wait + Sync + RandomSource, F: Files>(
         Command::Check { module_name } => obey_check(alloc, module_name, files),
         Command::List { module_name } => obey_list(alloc, module_name, files),
         Command::Seq(sequence) => {
-            obey_calls(rt, alloc, CallsProduct::Replies, sequence.calls, files)
+            obey_calls(rt, alloc, product_of(sequence), sequence.calls, files)
         }
         Command::Run(run) => obey_run(alloc, Product::Record, run, files),
         Command::RunTree(run) => obey_run(alloc, Product::TreeRecord, run, files),
@@ -217,6 +219,20 @@ fn obey<R: Threads + Wait + Sync + RandomSource, F: Files>(
             processes,
             budget,
         } => obey_bound(alloc, module_name, processes, budget, files),
+    }
+}
+
+/// What is printed of calls that are made one at a time.
+fn product_of(sequence: SeqCommand<'_>) -> CallsProduct
+    ensures { result ≡ sequence_product (seq_request_of sequence.entry) }
+{
+    if sequence.state || sequence.turns {
+        CallsProduct::Told(Details {
+            state: sequence.state,
+            turns: sequence.turns,
+        })
+    } else {
+        CallsProduct::Replies
     }
 }
 

@@ -2,7 +2,7 @@
 
 ghost use Rattle.std.specs.Prelude.{◌≡◌, ◌≢◌, ◌++◌, false, IfOk, codes};
 ghost use Rattle.ob_answer.specs.Answers.{IsBoundAnswer, IsCheckAnswer, IsListAnswer, IsPictureAnswer, IsRecordAnswer, IsRecordPictureAnswer, IsSeenPictureAnswer};
-ghost use Rattle.ob_answer.specs.Answers.{IsSeqAnswer, IsServeAnswer, IsStepsAnswer, IsTreeRecordAnswer};
+ghost use Rattle.ob_answer.specs.Answers.{IsSeqAnswer, IsServeAnswer, IsStepsAnswer, IsToldAnswer, IsTreeRecordAnswer};
 ghost use Rattle.ob_answer.specs.Answers.{IsVerifyAnswer};
 ghost use Rattle.ob_answer_files.specs.Reads.{OfWhole};
 ghost use Rattle.ob_answer_explained.specs.CommandTexts.{of_text, texts_of_text};
@@ -35,7 +35,7 @@ use ob_object_compile::{Asked, Beginning, CompileFault, list_text};
 use ob_object_draw::{DrawRecordFault, draw_record_text};
 use ob_object_perform::{DrawFault, PerformFault, Texts, draw_text, run_text};
 use ob_object_search_draw::is_record_form;
-use ob_object_sequence::{SeqTextFault, check_text, seq_asked};
+use ob_object_sequence::{Details, SeqTextFault, check_text, seq_asked, seq_asked_told};
 use ob_object_spent::run_text_with_steps;
 use ob_object_tree::run_tree_text;
 use ob_object_verify::{VerifyFault, verify_text};
@@ -100,6 +100,21 @@ pub(crate) fn answer_seq(alloc: Global, asked: Asked<'_>, script: &[u8]) -> Resu
     ensures { IfOk result (OfWhole asked.entry.text.now (λ whole. IsSeqAnswer (of_text (asked_of asked.entry) whole) script.now)) }
 {
     match seq_asked(alloc, asked, script) {
+        Ok(lines) => Ok(Answer::printed(alloc, lines)),
+        Err(fault) => seq_refused(alloc, asked.beginning, fault),
+    }
+}
+
+/// The answer of `seq` with more than the replies, of the object that is asked for and the text of a script.
+pub(crate) fn answer_told(
+    alloc: Global,
+    asked: Asked<'_>,
+    script: &[u8],
+    details: Details,
+) -> Result<Answer, NoMemory>
+    ensures { IfOk result (OfWhole asked.entry.text.now (λ whole. IsToldAnswer details (of_text (asked_of asked.entry) whole) script.now)) }
+{
+    match seq_asked_told(alloc, asked, script, details) {
         Ok(lines) => Ok(Answer::printed(alloc, lines)),
         Err(fault) => seq_refused(alloc, asked.beginning, fault),
     }

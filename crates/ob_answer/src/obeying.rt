@@ -8,7 +8,8 @@ ghost use Rattle.ob_answer_explained.specs.CommandTexts.{calls_of_text, calls_te
 ghost use Rattle.ob_command.specs.Commands.{calls_request_of, run_request_of};
 
 use crate::making::{
-    answer_picture, answer_record, answer_seq, answer_serve, answer_steps, answer_tree_record,
+    answer_picture, answer_record, answer_seq, answer_serve, answer_steps, answer_told,
+    answer_tree_record,
 };
 use crate::product::{CallsProduct, Product};
 use ob_answer_explained::explaining::explain_calls;
@@ -73,6 +74,7 @@ fn begun_calls<R: Threads + Wait + Sync>(
 {
     match product {
         CallsProduct::Replies => answer_seq(alloc, calls.asked, calls.script),
+        CallsProduct::Told(details) => answer_told(alloc, calls.asked, calls.script, details),
         CallsProduct::Workers => answer_serve(rt, alloc, calls.asked, calls.script),
         CallsProduct::Explanation => explain_calls(alloc, calls),
         CallsProduct::Traps => explain_traps(alloc, calls),
@@ -84,7 +86,7 @@ fn shows_calls(product: CallsProduct) -> bool
     ensures { result ≡ shows_calls product }
 {
     match product {
-        CallsProduct::Replies | CallsProduct::Workers => false,
+        CallsProduct::Replies | CallsProduct::Told(_) | CallsProduct::Workers => false,
         CallsProduct::Explanation | CallsProduct::Traps => true,
     }
 }

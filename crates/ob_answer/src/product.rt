@@ -1,5 +1,6 @@
 //! What is printed of runs and of calls.
 
+use ob_object_sequence::Details;
 use ob_text_picture_chart::CallRange;
 
 /// What is printed of a run: the text of its record, by the code or by the tree of the module, or with the own steps of its calls,
@@ -13,11 +14,12 @@ pub enum Product {
     Explanation,
 }
 
-/// What is printed of the calls of a script: their replies, made one at a time; the record of workers that make them; what is wrong
-/// with the texts; or where the calls trap.
+/// What is printed of the calls of a script: their replies, made one at a time, or these with what is told beside them; the record
+/// of workers that make them; what is wrong with the texts; or where the calls trap.
 #[derive(Clone, Copy, PartialEq, Eq)]
 pub enum CallsProduct {
     Replies,
+    Told(Details),
     Workers,
     Explanation,
     Traps,

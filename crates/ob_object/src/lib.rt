@@ -15,7 +15,9 @@ pub use ob_object_perform::{
     DrawFault, PerformFault, Texts, draw_text, perform, perform_from, run_text,
 };
 pub use ob_object_record::Record;
-pub use ob_object_sequence::{SeqTextFault, check_text, seq_asked, seq_text};
+pub use ob_object_sequence::{
+    Details, SeqTextFault, check_text, seq_asked, seq_asked_told, seq_text,
+};
 pub use ob_object_tree::{perform_tree, run_tree_text};
 pub use ob_object_twice::{Turn, perform_twice};
 pub use ob_object_verify::{VerifyFault, verify_text};

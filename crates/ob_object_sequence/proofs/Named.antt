@@ -1,20 +1,16 @@
 -- Calls one at a time by position and by name.
-use Rattle.std.proofs.Common.{◌≡◌, ℕ, List, [], ◌∷◌, map, refl, sym, ap, ◌∙◌, subst, All}
+use Rattle.std.proofs.Common.{◌≡◌, ℕ, List, [], ◌∷◌, map, refl, ap, ◌∙◌, All}
 use Rattle.std.proofs.lemmas.List.Elements.{All-head, All-tail}
-use Rattle.ob_agreement.specs.Resolved.{module_scope, IsResolved}
-use Rattle.ob_agreement.specs.Same.{SameOutcome, SameState}
+use Rattle.ob_agreement.specs.Resolved.{IsResolved}
+use Rattle.ob_agreement.specs.Same.{SameState}
 use Rattle.ob_agreement.proofs.SameCalls.{call_same}
-use Rattle.ob_agreement.proofs.SameStatements.{opening_same}
 use Rattle.ob_checked.specs.Exports.{signatures}
-use Rattle.ob_interface.specs.Call.{ObjectCall, Reply}
+use Rattle.ob_interface.specs.Call.{ObjectCall}
 use Rattle.ob_interface.specs.Export.{CallFits}
 use Rattle.ob_interpreter.specs.Sequences as Positions
 use Rattle.ob_meaning.specs.Object as Named
 use Rattle.ob_meaning.specs.Object.{State, most_turns}
-use Rattle.ob_meaning.specs.Statements as Meanings
-use Rattle.ob_object_compile.proofs.Openings.{opening_named}
 use Rattle.ob_positions.specs.Object as Objects
-use Rattle.ob_positions.specs.Statements.{Outcome, Done, Trap}
 use Rattle.ob_positions.specs.Store.{Activation}
 use Rattle.ob_typing.specs.Program.{Program}
 

@@ -21,11 +21,11 @@ use Rattle.ob_typing.specs.Program.{Program}
 pub each : {A B : Type 0} (P : B → Type 0) (f : A → B) (xs : List A) → All P (map f xs) → All (λ x. P (f x)) xs
 each P f xs h = λ k d below. subst P (get_or-map f xs k d) (h k (f d) (rw length-map below))
 
-callers_in : (xs : List Declared.ScriptCall) → map (λ c. c.process) (map script_call_of xs) ≡ map (λ c. c.process) xs
+pub callers_in : (xs : List Declared.ScriptCall) → map (λ c. c.process) (map script_call_of xs) ≡ map (λ c. c.process) xs
 callers_in [] = refl
 callers_in (x ∷ xs) = ap (λ ps. x.process ∷ ps) (callers_in xs)
 
-calls_in : (xs : List Declared.ScriptCall) → map object_call (map script_call_of xs) ≡ map (λ c. object_call (script_call_of c)) xs
+pub calls_in : (xs : List Declared.ScriptCall) → map object_call (map script_call_of xs) ≡ map (λ c. object_call (script_call_of c)) xs
 calls_in [] = refl
 calls_in (x ∷ xs) = ap (λ cs. object_call (script_call_of x) ∷ cs) (calls_in xs)
 

@@ -1,7 +1,6 @@
 -- A sequential run: from the object that is asked for and the bytes of a script to the bytes that are printed.
 use Rattle.std.specs.Prelude.{◌≡◌, ◌≢◌, ℕ, Bool, true, false, List, [], map}
 use Rattle.ob_checked.specs.Exports.{signatures}
-use Rattle.ob_interface.specs.Call.{Reply}
 use Rattle.ob_meaning.specs.Object.{State, replies_to}
 use Rattle.ob_object_compile.specs.Asked.{Asked}
 use Rattle.ob_object_compile.specs.Compilation.{ObjectParts, IsCompilation, IsCompileFault}

@@ -2,10 +2,14 @@
 #![tactic(auto)]
 
 pub mod calls;
+mod changes;
 pub mod check;
 mod replies;
 pub mod reply_lines;
 pub mod sequential;
+pub mod told;
+mod told_lines;
 
 pub use check::check_text;
 pub use sequential::{SeqTextFault, seq_asked, seq_text};
+pub use told::{Details, seq_asked_told};

@@ -1,8 +1,9 @@
 use Rattle.std.proofs.Common.{IfOk, Option, subst}
 use Rattle.std.proofs.lemmas.Result.{IfOk-weaker}
-use Rattle.ob_answer.specs.Answers.{IsRunObeyed}
+use Rattle.ob_answer.specs.Answers.{IsCallsObeyed, IsRunObeyed}
+use Rattle.ob_answer.specs.declared.product.CallsProduct.{CallsProduct}
 use Rattle.ob_answer.specs.declared.product.Product.TheVariants as Products
-use Rattle.ob_command.specs.Commands.{run_request_of}
+use Rattle.ob_command.specs.Commands.{run_request_of, seq_request_of}
 use Rattle.ob_text_picture_chart.specs.declared.charts.CallRange.{CallRange}
 use Rattle.ob_answer.proofs.answer.obey.Goals as goal
 
@@ -13,7 +14,11 @@ pub returns-in-List : goal.returns-in-List
 returns-in-List g c = rw c.in-List.is c.obey_list.ensures
 
 pub returns-in-Seq : goal.returns-in-Seq
-returns-in-Seq g c = rw c.in-Seq.is c.obey_calls.ensures
+returns-in-Seq g c =
+    let request = seq_request_of c.in-Seq.sequence in
+    rw c.in-Seq.is
+    (subst (λ (p : CallsProduct). IfOk c.obey_calls.result (λ a. IsCallsObeyed g.F.Files.reads p request.calls c.args.files.now a c.obey_calls.new.files))
+    c.product_of.ensures c.obey_calls.ensures)
 
 pub returns-in-Run : goal.returns-in-Run
 returns-in-Run g c = rw c.in-Run.is c.obey_run.ensures

@@ -3,6 +3,9 @@ use Rattle.ob_answer.proofs.obeying.begun_calls.Goals as goal
 pub returns-in-Replies : goal.returns-in-Replies
 returns-in-Replies g c = rw c.in-Replies.is c.answer_seq.ensures
 
+pub returns-in-Told : goal.returns-in-Told
+returns-in-Told g c = rw c.in-Told.is c.answer_told.ensures
+
 pub returns-in-Workers : goal.returns-in-Workers
 returns-in-Workers g c = rw c.in-Workers.is c.answer_serve.ensures
 

@@ -7,6 +7,7 @@ use Rattle.std.proofs.lemmas.Slice.Zip.{zip_turn, zip_end}
 use Rattle.std.proofs.Math.ListN.{get_or-map}
 use Rattle.ob_interface.specs.View.{reply_of}
 use Rattle.ob_object_sequence.proofs.Printing.{made_few, HasPrinted-more, HasPrinted-all}
+use Rattle.ob_reply.specs.ReplyLines.{reply_line}
 use Rattle.ob_object_sequence.proofs.reply_lines.print_replies.Goals as goal
 
 pub overflow_add-index_mut : goal.overflow_add-index_mut
@@ -20,7 +21,7 @@ overflow_add-index_mut c =
     let p = c.in-Some.caller.now in
     let below : p < c.args.processes =
     rw (← turn.2 p) at (All-get_or (λ x. x < c.args.processes) c.args.callers.now (length c.loop-caller.yielded) p turn.0 c.requires) in
-    let few = made_few _ _ _ _ _ _ c.loop-caller.invariant p below in
+    let few = made_few _ _ _ _ _ _ _ c.loop-caller.invariant p below in
     let in_range : p < length c.loop-caller.made.items = omega (arith, c.loop-caller.invariant.long) in
     let read : c.index_mut.result.now ≡ get_or c.loop-caller.made.items p 0 = get_or_read _ _ _ in_range c.index_mut.ensures.value 0 in
     omega (arith, few, turn.0, c.iter.ensures.len, c.iter.ensures.bound)
@@ -43,7 +44,7 @@ loop-caller-preserved c =
     let reply : reply_of c.in-Some.reply.now ≡ get_or (map reply_of c.args.replies.now) (length c.loop-caller.yielded) (reply_of c.in-Some.reply.now) =
     ap reply_of (turn.3 c.in-Some.reply.now) ∙ sym (get_or-map reply_of c.args.replies.now (length c.loop-caller.yielded) c.in-Some.reply.now) in
     rw (length_push, c.in_ok-push_reply_line.ensures.ok, number, read)
-    (HasPrinted-more _ _ _ _ _ _ c.loop-caller.invariant p (reply_of c.in-Some.reply.now) below turn.0 (turn.2 p) (rw length-map turn.1) reply)
+    (HasPrinted-more (λ place. reply_line) _ _ _ _ _ _ c.loop-caller.invariant p (reply_of c.in-Some.reply.now) below turn.0 (turn.2 p) (rw length-map turn.1) reply)
 
 pub returns : goal.returns
 returns c =
@@ -52,4 +53,4 @@ returns c =
     (ap (λ z. iter_rest (zip_first z)) c.into_iter-caller-iterator.ensures.into_iter_gives ∙ ap iter_rest c.zip-caller-items.ensures.first ∙ c.iter.ensures.rest)
     (ap (λ z. iter_rest (zip_second z)) c.into_iter-caller-iterator.ensures.into_iter_gives ∙ c.zip-caller-items.ensures.second.0)
     c.loop-caller.yielded_by c.in-None.is c.next.ensures.steps in
-    HasPrinted-all _ _ _ _ _ _ c.loop-caller.invariant (rw length-map end)
+    HasPrinted-all _ _ _ _ _ _ _ c.loop-caller.invariant (rw length-map end)

@@ -1,11 +1,11 @@
-use Rattle.std.proofs.Common.{◌≡◌, ◌∙◌, ◌<◌, ℕ, All, List, ap, map, string_bytes, subst, sym}
+use Rattle.std.proofs.Common.{◌<◌, ℕ, All, ap, subst, sym}
 use Rattle.std.proofs.lemmas.Result.{err_from_is_err_and}
 use Rattle.ob_checked.specs.Exports.{signatures}
 use Rattle.ob_code_law.specs.CodeMeaning.{EngineParts}
 use Rattle.ob_interface.specs.Export.{CallFits}
 use Rattle.ob_object_compile.proofs.Openings.{module_resolved}
 use Rattle.ob_object_compile.specs.View.{asked_of, object_in}
-use Rattle.ob_object_sequence.proofs.Faults.{compile_refused, memory_refused, script_refused}
+use Rattle.ob_object_sequence.proofs.Faults.{compile_refused, script_refused}
 use Rattle.ob_object_sequence.proofs.Runs.{each, prints}
 use Rattle.ob_text_scripts.specs.Script.{IsScript, IsScriptFault}
 use Rattle.ob_text_words.specs.ScriptCalls.{ScriptCall, object_call, script_call_of}
