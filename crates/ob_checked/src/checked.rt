@@ -15,13 +15,23 @@ use ob_interface::export::Export;
 
 /// A module that is well typed, with its tree unchanged, the program that it is well typed as, and what callers know of its
 /// exports.
-#[derive(Drop)]
 pub struct Checked {
     module: Module,
     program: Program,
     exports: Vec<Export>,
     ghost listed: { map signature_of exports.items ≡ signatures (program_of program) } by { Prim.hlevel props },
     ghost typed: { ∥ WellTyped (module_of «module») (program_of program) ∥₁ },
+}
+
+/// Written here, so that it is proved here once, and not in each crate that lets one go.
+impl Drop for Checked {
+    fn drop(self) {
+        let Checked {
+            module: _,
+            program: _,
+            exports: _,
+        } = self;
+    }
 }
 
 impl Checked {
@@ -60,7 +70,12 @@ impl Checked {
     pub fn into_module(self) -> Module
         ensures { module_of result ≡ tree_in self }
     {
-        self.module
+        let Checked {
+            module,
+            program: _,
+            exports: _,
+        } = self;
+        module
     }
 
     /// Its tree, in which nothing stands too deep.
