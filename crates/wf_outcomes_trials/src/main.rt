@@ -228,9 +228,11 @@ fn main(rt: HostRuntime) -> Result<()> {
         let many = wholes_counted(alloc, &scripts, keys)?;
         println!(rt; "{processes} x {calls} counts: {many} whole outcomes")?;
     }
-    let scripts = counting(alloc, 4, 5)?;
-    let many = wholes_counted(alloc, &scripts, keys)?;
-    println!(rt; "4 x 5 calls that add, add and read: {many} whole outcomes")?;
+    for (processes, calls) in [(2u8, 10u8), (4, 5)] {
+        let scripts = counting(alloc, processes, calls)?;
+        let many = wholes_counted(alloc, &scripts, keys)?;
+        println!(rt; "{processes} x {calls} calls that add, add and read: {many} whole outcomes")?;
+    }
     let none = scripts_of(alloc, &[])?;
     let explored = explore(alloc, &Tally, &none, 1, keys)?;
     println!(rt; "nothing: {}", finals_shown(alloc, &explored)?)?;

@@ -14,12 +14,12 @@ use Rattle.wf_outcomes.specs.Explored.{Kept, IsExplored}
 use Rattle.wf_outcomes.specs.Merges.{Configuration, total}
 use Rattle.wf_told.specs.Told.{IsItself}
 use Rattle.wf_whole_outcomes.specs.Graph.{AreRows}
-use Rattle.wf_whole_outcomes.specs.Leaves.{AreLeaves, IsLeaf, named}
+use Rattle.wf_whole_outcomes.specs.Leaves.{AreLeaves, IsLeaf, IsTellable, named}
 use Rattle.wf_whole_outcomes.specs.Tellings.{Gives, HasMoreTold, Telling, Tells, silence}
 use Rattle.wf_whole_outcomes.specs.Wholes.{AreWholes, GivesSo, IsBefore, IsThere, WholeTold}
 use Rattle.wf_whole_outcomes.proofs.Counting.{all_told, long_order}
 use Rattle.wf_whole_outcomes.proofs.Naming.{before_named, length_named, named_before}
-use Rattle.wf_whole_outcomes.proofs.Numbering.{all_somes_same, map_all}
+use Rattle.wf_whole_outcomes.proofs.Numbering.{all_somes_same, map_all, rows_within}
 use Rattle.wf_whole_outcomes.proofs.Standing.{Stands, one_spot, same_telling, stands_first, told_walk, walk_told}
 
 -- of each item of a list something that belongs to it
@@ -63,8 +63,8 @@ module _ {State Call Reply : Type 0} (Effect : Call → State → State → Repl
   pub more_told : (most : ℕ) → HasOver (next_from rows) (first_spot (length scripts)) most → HasMoreTold Effect scripts opening most
   more_told most h =
       let some = h.some in
-      let list = of_each (λ spot v. Here spot v × ((ids : List CallId) × Tells Effect scripts (silence Effect scripts opening) ids v)) some.some
-          (λ k spot at. let w = some.each k spot at in let r = reached w.0 spot w.2 in (r.0, r.1, (named zeros w.0, r.2))) in
+      let list = of_each (λ (spot : Spot) (v : Telling State Reply). Here spot v × ((ids : List CallId) × Tells Effect scripts (silence Effect scripts opening) ids v)) some.some
+          (λ k spot at. let w = some.each k spot at in let r = reached w.0 spot w.2 in (r.0, (r.1, (named zeros w.0, r.2)))) in
       record {
         some = list.0;
         many = let size = list.1 in let count = some.count in let over = h.over in omega (arith, size, count, over);
@@ -75,6 +75,16 @@ module _ {State Call Reply : Type 0} (Effect : Call → State → State → Repl
             let same = one_spot Effect determined scripts opening found explored rows replies right apart sizes one.0 two.0 v one.2.0 two.2.0 in
             some.once j k one.0 one.1 (two.1 ∙ ap Some (sym same));
       }
+
+  -- each spot of a layer can be told
+  pub tellable : (calls : ℕ) (ways : List (List ℕ)) (spots : List Spot) → IsLayer (next_from rows) (first_spot (length scripts)) calls ways spots →
+      (k : ℕ) (spot : Spot) → slice_get spots k ≡ Some spot → IsTellable (length found) (length replies) spot
+  tellable calls ways spots layer k spot at =
+      let way = beside ways spots layer.same k spot at in
+      let e = layer.each k way.0 spot way.1 at in
+      let r = reached way.0 spot e.1 in
+      let here = r.1 in
+      record { place = slice_get_within found spot.place here.it here.at; said = rows_within replies spot.said r.0.replies here.said }
 
   module _ (calls : ℕ) (calls_are : calls ≡ total (map length scripts)) (ways : List (List ℕ)) (spots : List Spot) (layer : IsLayer (next_from rows) (first_spot (length scripts)) calls ways spots)
       (wholes : List (WholeTold State Reply)) (leaves : AreLeaves found replies (length scripts) ways spots wholes) where

@@ -4,7 +4,8 @@ use Rattle.std.proofs.lemmas.List.{length-append}
 use Rattle.std.specs.List.{slice_get}
 use Rattle.wf_history.specs.declared.event.CallId.{CallId}
 use Rattle.wf_outcomes.specs.Explored.{HasMore}
-use Rattle.wf_outcomes.specs.Merges.{Configuration, IsStep, Leads, none as stays, more as steps, start}
+use Rattle.wf_outcomes.specs.Merges as Merges
+use Rattle.wf_outcomes.specs.Merges.{Configuration, IsStep, Leads, start}
 use Rattle.wf_outcomes.proofs.Lists.{same_configuration}
 use Rattle.wf_whole_outcomes.specs.Tellings.{HasMoreTold, IsTold, Telling, Tells, none, more, replies_to, silence}
 use Rattle.wf_whole_outcomes.proofs.Ending.{of_each}
@@ -45,19 +46,19 @@ module _ {State Call Reply : Type 0} (Effect : Call → State → State → Repl
     }
 
   pub told_along : {c d : Configuration State} {ids : List CallId} → Leads Effect scripts c ids d → (t : Telling State Reply) → IsOf t c → (u : Telling State Reply) × IsOf u d × Tells Effect scripts t ids u
-  told_along stays t is = (t, is, none)
-  told_along (steps {c} {d} {e} {id} {ids} reply s l) t is =
+  told_along Merges.none t is = (t, is, none)
+  told_along (Merges.more {c} {d} {e} {id} {ids} reply s l) t is =
       let r = told_along l (behind t c d is id reply s) (of_behind t c d is id reply s) in
       (r.0, r.1, more (told_step t c d is id reply s) r.2)
 
   -- more configurations than so many are more tellings
   pub more_told_by : (opening : State) (most : ℕ) → HasMore Effect scripts opening most → HasMoreTold Effect scripts opening most
   more_told_by opening most h =
-      let list = of_each (λ c v. IsOf v c × ((ids : List CallId) × Tells Effect scripts (silence Effect scripts opening) ids v)) h.some
+      let list = of_each (λ (c : Configuration State) (v : Telling State Reply). IsOf v c × ((ids : List CallId) × Tells Effect scripts (silence Effect scripts opening) ids v)) h.some
           (λ k c at.
           let r = h.reached k c at in
           let along = told_along r.1 (silence Effect scripts opening) (record { counts = sym (map_all length (length scripts) []); state = refl }) in
-          (along.0, along.1, (r.0, along.2))) in
+          (along.0, (along.1, (r.0, along.2)))) in
       record {
         some = list.0;
         many = let size = list.1 in let many = h.many in omega (arith, size, many);

@@ -18,7 +18,7 @@ named_before counts (p ∷ one) (q ∷ other) h =
     elim h [
       | inl less ↦ inl (inl less)
       | inr e ↦
-          let n = λ x. get_or counts x 0 + 1 in
+          let n = λ (x : ℕ). get_or counts x 0 + 1 in
           inr (ap (λ (x : ℕ). record { process = x; number = get_or counts x 0 + 1 }) e.0,
           subst (λ (x : ℕ). IsBefore (named (set counts p (n p)) one) (named (set counts x (n x)) other)) e.0 (named_before (set counts p (n p)) one other e.1))
     ]
@@ -34,7 +34,7 @@ before_named counts (p ∷ one) (q ∷ other) h =
         | inr e ↦ let less = e.1 in let same : get_or counts p 0 + 1 ≡ get_or counts q 0 + 1 = ap (λ (x : ℕ). get_or counts x 0 + 1) e.0 in absurd (omega (arith, less, same))
       ]
       | inr e ↦
-          let n = λ x. get_or counts x 0 + 1 in
+          let n = λ (x : ℕ). get_or counts x 0 + 1 in
           let own : p ≡ q = ap (λ (id : CallId). id.process) e.0 in
           inr (own, before_named (set counts p (n p)) one other (subst (λ (x : ℕ). IsBefore (named (set counts p (n p)) one) (named (set counts x (n x)) other)) (sym own) e.1))
     ]

@@ -1,8 +1,11 @@
 -- Replies by their numbers.
-use Rattle.std.proofs.Common.{◌≡◌, refl, sym, ap, ◌∙◌, ℕ, ◌+◌, ◌<◌, zero, suc, List, [], ◌∷◌, ◌++◌, length, get_or, set, map, replicate, Option, Some, arith}
-use Rattle.std.proofs.lemmas.Option.{same_Some}
-use Rattle.std.specs.List.{slice_get}
-use Rattle.wf_layers.specs.Graph.{AreApart}
+use Rattle.std.proofs.Common.{◌≡◌, refl, sym, ap, ◌∙◌, subst, ℕ, ◌+◌, ◌<◌, zero, suc, List, [], ◌∷◌, ◌++◌, length, get_or, set, map, replicate, All, Option, Some, arith}
+use Rattle.std.proofs.lemmas.List.Elements.{All-cons, All-nil}
+use Rattle.std.proofs.lemmas.Option.{slice_get_within}
+use Rattle.std.specs.List.{slice_get, Contains}
+use Rattle.wf_history.proofs.Positions.{contains_at, place_here}
+use Rattle.wf_layers.specs.Graph.{AreApart, GoesOn}
+use Rattle.wf_layers.proofs.Interning.{apart_push}
 
 pub map_set : {A B : Type 0} (f : A → B) (xs : List A) (i : ℕ) (x : A) → map f (set xs i x) ≡ set (map f xs) i (f x)
 map_set f [] i x = refl
@@ -56,6 +59,23 @@ module _ {Reply : Type 0} (replies : List Reply) (apart : AreApart replies) wher
       let rest = rows_same xs ys said (cc) (cc) in
       cc
 
+-- numbers that stand for replies are numbers of some
+module _ {Reply : Type 0} (replies : List Reply) where
+  abbrev IsNumber : ℕ → Type 0
+  IsNumber n = n < length replies
+
+  row_within : (xs : List ℕ) (said : List Reply) → map (slice_get replies) xs ≡ map Some said → All IsNumber xs
+  row_within [] said e = All-nil IsNumber
+  row_within (x ∷ xs) [] e = absurd (cc)
+  row_within (x ∷ xs) (r ∷ said) e =
+      let first : slice_get replies x ≡ Some r = cc in
+      All-cons IsNumber x xs (slice_get_within replies x r first) (row_within xs said (cc))
+
+  pub rows_within : (xs : List (List ℕ)) (said : List (List Reply)) → map (map (slice_get replies)) xs ≡ map (map Some) said → All (All (λ n. n < length replies)) xs
+  rows_within [] said e = All-nil (All IsNumber)
+  rows_within (x ∷ xs) [] e = absurd (cc)
+  rows_within (x ∷ xs) (r ∷ said) e = All-cons (All IsNumber) x xs (row_within x r (cc)) (rows_within xs said (cc))
+
 -- what is given is what is given
 pub somes_same : {A : Type 0} (xs ys : List A) → map Some xs ≡ map Some ys → xs ≡ ys
 somes_same [] [] e = refl
@@ -68,3 +88,14 @@ all_somes_same [] [] e = refl
 all_somes_same [] (y ∷ ys) e = absurd (cc)
 all_somes_same (x ∷ xs) [] e = absurd (cc)
 all_somes_same (x ∷ xs) (y ∷ ys) e = let first = somes_same x y (cc) in let rest = all_somes_same xs ys (cc) in cc
+
+-- one reply more, which is new
+module _ {Reply : Type 0} (replies : List Reply) (r : Reply) (after : List Reply) (pushed : after ≡ replies ++ r ∷ []) where
+  pub one_here : (number : ℕ) → number ≡ length replies → slice_get after number ≡ Some r
+  one_here number is = ap (λ (l : List Reply). slice_get l number) pushed ∙ ap (slice_get (replies ++ r ∷ [])) is ∙ place_here replies [] r
+
+  pub one_more_apart : AreApart replies → (¬ Contains replies r) → AreApart after
+  one_more_apart apart fresh = subst (λ (l : List Reply). AreApart l) (sym pushed) (apart_push replies r apart (λ k at. fresh (contains_at replies k r at)))
+
+  pub one_more_on : GoesOn replies after
+  one_more_on = (r ∷ [], pushed)

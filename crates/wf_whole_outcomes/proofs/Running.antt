@@ -13,7 +13,8 @@ use Rattle.wf_merges.proofs.Merging.{all_steps, over, step_merged}
 use Rattle.wf_merges.specs.Runs.{IsRunOfScripts}
 use Rattle.wf_order.specs.Steps as Search
 use Rattle.wf_outcomes.proofs.Lists.{same_configuration}
-use Rattle.wf_outcomes.specs.Merges.{Configuration, IsStep, Leads, full, none as stays, more as steps, start}
+use Rattle.wf_outcomes.specs.Merges as Merges
+use Rattle.wf_outcomes.specs.Merges.{Configuration, IsStep, Leads, full, start}
 use Rattle.wf_whole_outcomes.specs.Runs.{GivesRun, HasReplies, RunsGiveWholes, WholesAreOfRuns}
 use Rattle.wf_whole_outcomes.specs.Tellings.{Gives, IsTold, Telling, Tells, none, more, replies_to, silence}
 use Rattle.wf_whole_outcomes.proofs.Merging.{IsOf, behind, of_behind, told_step}
@@ -109,13 +110,13 @@ module _ {State Call Reply : Type 0} (Effect : Call → State → State → Repl
         record {
           told = r.told;
           gives = record { tells = r.tells; whole = sym r.counts ∙ all.2 };
-          last = r.state;
+          ends = r.state;
           replies = λ id reply ended. let p = place_of order id (legal.ended id reply ended) in r.replies p.0 id reply p.1 ended;
         }
 
     -- the steps of what is told
     leads_of : {t v : Telling State Reply} {ids : List CallId} → Tells Effect scripts t ids v → (c : Configuration State) → IsOf t c → (d : Configuration State) × IsOf v d × Leads Effect scripts c ids d
-    leads_of none c is = (c, is, stays)
+    leads_of none c is = (c, is, Merges.none)
     leads_of (more {t} {u} {v} {id} {ids} told l) c is =
         let count : get_or c.counts id.process 0 ≡ length (replies_to t id.process) = ap (λ (n : List ℕ). get_or n id.process 0) is.counts ∙ length_row t.replies id.process in
         let d : Configuration State = record { counts = set c.counts id.process id.number; state = u.state } in
@@ -129,7 +130,7 @@ module _ {State Call Reply : Type 0} (Effect : Call → State → State → Repl
         } in
         let on : IsOf u d = record { counts = (of_behind Effect scripts t c d is id told.reply step).counts ∙ ap (map length) (sym told.replies); state = refl } in
         let r = leads_of l d on in
-        (r.0, r.1, steps told.reply step r.2)
+        (r.0, r.1, Merges.more told.reply step r.2)
 
     module _ (determined : (call : Call) (before after other : State) (reply answer : Reply) → Effect call before after reply → Effect call before other answer → (after ≡ other) × (reply ≡ answer)) where
       -- a call has one outcome

@@ -15,7 +15,7 @@ module _ {State Call Reply : Type 0} (Effect : Call → State → State → Repl
   pub record GivesRun (history : List (Event Call Reply)) (order : List CallId) (last : State) : Type 0 where
     pub told : Telling State Reply
     pub gives : Gives Effect scripts opening order told
-    pub last : told.state ≡ last
+    pub ends : told.state ≡ last
     pub replies : HasReplies history told
 
   -- so does each legal order of a run of the scripts in which all calls end

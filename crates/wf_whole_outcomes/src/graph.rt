@@ -26,8 +26,8 @@ pub(crate) struct Graph {
 fn number_in(replies: &[KeptReply], reply: &Reply) -> Option<usize>
     ensures { MatchOption result (¬ Contains (map kept_reply replies.now) (reply_of reply.now)) (λ number. slice_get (map kept_reply replies.now) number ≡ Some (reply_of reply.now)) }
 {
-    for number in 0..replies.len() {
-        if same_reply(reply, &replies[number]) {
+    for (number, kept) in replies.iter().enumerate() {
+        if same_reply(reply, kept) {
             return Some(number);
         }
     }

@@ -1,8 +1,8 @@
 //! What is told of the nodes of the last layer.
 
-ghost use Rattle.std.specs.Prelude.{◌≡◌, ◌<◌, ◌+◌, ◌∷◌, [], map, length, get_or, replicate, slice_get, slice_set, Some, All, IfOk, OnOk};
+ghost use Rattle.std.specs.Prelude.{◌≡◌, ◌<◌, ◌∷◌, [], map, length, get_or, replicate, slice_get, Some, All, IfOk};
 ghost use Rattle.wf_history.specs.View.{kept_reply};
-ghost use Rattle.wf_layers.specs.Graph.{rows_in};
+ghost use Rattle.wf_layers.specs.Graph.{IsNarrow, rows_in};
 ghost use Rattle.wf_layers.specs.Layers.{ways_of};
 ghost use Rattle.wf_layers.specs.Nodes.{IsFront, lists_in, spots_in, trail_in};
 ghost use Rattle.wf_outcomes.specs.Explored.{all_kept};
@@ -18,31 +18,18 @@ use wf_layers::{Edge, Front, Lists, way_back};
 use wf_order::Object;
 use wf_outcomes::Explored;
 
-/// The number of the next call of a process, which is counted.
-fn next_number(counts: &mut [u64], process: usize) -> Result<u64, NoMemory>
-    ensures number { IfOk result (λ number. number ≡ get_or counts.old process 0 + 1) }
-    ensures counted { OnOk result (counts.new ≡ slice_set counts.old process (get_or counts.old process 0 + 1)) }
-{
-    let made = counts.get(process).copied().unwrap_or(0);
-    let number = made.checked_add(1).ok_or(NoMemory)?;
-    if let Some(count) = counts.get_mut(process) {
-        *count = number;
-    }
-    Ok(number)
-}
-
 /// The calls of processes that come in this order, by their names.
 fn names(alloc: Global, processes: usize, way: &[usize]) -> Result<Vec<CallId>, NoMemory>
+    requires { All (λ process. process < processes) way.now }
     ensures { IfOk result (λ order. order.items ≡ named (replicate processes 0) way.now) }
 {
-    let mut counts = vec![in alloc; 0; processes]?;
+    let mut counts = vec![in alloc; 0u64; processes]?;
     let mut order = Vec::new(alloc);
     for process in way {
-        let number = next_number(&mut counts, *process)?;
-        order.push(CallId {
-            process: *process,
-            number,
-        })?;
+        let process = *process;
+        let number = counts[process].checked_add(1).ok_or(NoMemory)?;
+        counts[process] = number;
+        order.push(CallId { process, number })?;
     }
     Ok(order)
 }
@@ -55,6 +42,7 @@ fn order_at(
     front: &Front,
     at: usize,
 ) -> Result<Vec<CallId>, NoMemory>
+    requires narrow { IsNarrow (rows_in rows.now) processes }
     requires front { IsFront (rows_in rows.now) processes front.now }
     requires at { at < length front.now.layer.keys }
     ensures { IfOk result (λ order. order.items ≡ named (replicate processes 0) (get_or (ways_of ([] ∷ []) (trail_in front.now.trail.items)) at [])) }
@@ -119,6 +107,7 @@ fn leaf_told<'e, O: Object>(
     front: &Front,
     at: usize,
 ) -> Result<ToldWhole<'e, O::State>, NoMemory>
+    requires narrow { IsNarrow (rows_in graph.now.rows.items) (length explored.now.scripts.now) }
     requires front { IsFront (rows_in graph.now.rows.items) (length explored.now.scripts.now) front.now }
     requires tellable { All (IsTellable (length (all_kept O.meaning explored.now.seen)) (length graph.now.replies.items)) (spots_in (lists_in front.now.lists) front.now.layer.keys) }
     requires at { at < length front.now.layer.keys }
@@ -143,6 +132,7 @@ pub(crate) fn leaves_told<'e, O: Object>(
     graph: &Graph,
     front: &Front,
 ) -> Result<Vec<ToldWhole<'e, O::State>>, NoMemory>
+    requires narrow { IsNarrow (rows_in graph.now.rows.items) (length explored.now.scripts.now) }
     requires front { IsFront (rows_in graph.now.rows.items) (length explored.now.scripts.now) front.now }
     requires tellable { All (IsTellable (length (all_kept O.meaning explored.now.seen)) (length graph.now.replies.items)) (spots_in (lists_in front.now.lists) front.now.layer.keys) }
     ensures { IfOk result (λ told. AreLeaves (all_kept O.meaning explored.now.seen) (map kept_reply graph.now.replies.items) (length explored.now.scripts.now)
