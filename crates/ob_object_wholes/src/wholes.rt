@@ -128,7 +128,8 @@ fn outcome_of(
         state,
         order,
     } = told;
-    let state = State::new(copy_all(alloc, state)?);
+    let values = copy_all(alloc, state)?;
+    let state = State::new(values);
     Ok(WholeOutcome {
         replies,
         state,

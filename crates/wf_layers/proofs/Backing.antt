@@ -1,10 +1,10 @@
 -- One step back along a way.
-use Rattle.std.proofs.Common.{◌≡◌, sym, ap, ◌∙◌, subst, ℕ, ◌+◌, ◌<◌, suc, List, [], ◌∷◌, ◌++◌, length, get_or, map, take, reverse, Some, arith, append_assoc, add-one}
+use Rattle.std.proofs.Common.{◌≡◌, sym, ap, ◌∙◌, ℕ, ◌+◌, ◌<◌, List, [], ◌∷◌, ◌++◌, length, get_or, take, reverse, Some, arith, append_assoc, add-one}
 use Rattle.std.proofs.Math.Seq.{take-suc}
 use Rattle.std.proofs.lemmas.List.{length-map, reverse-append}
 use Rattle.std.proofs.lemmas.Option.{get_or_from_slice_get, slice_get_within}
 use Rattle.std.specs.List.{slice_get}
-use Rattle.wf_layers.specs.Layers.{IsLinked, way_on, ways_of, ways_on}
+use Rattle.wf_layers.specs.Layers.{way_on, ways_of, ways_on}
 use Rattle.wf_layers.specs.declared.growing.Came.{Came}
 use Rattle.wf_layers.proofs.Layering.{ways_push}
 use Rattle.wf_layers.proofs.Listing.{in_map}

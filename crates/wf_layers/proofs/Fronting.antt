@@ -6,7 +6,7 @@ use Rattle.std.proofs.lemmas.Option.{same_Some, slice_get_within}
 use Rattle.std.specs.List.{slice_get}
 use Rattle.wf_history.proofs.Positions.{place_push}
 use Rattle.wf_layers.specs.Graph.{Spot, AreApart, GoesOn, next_from, edge_from, spot_on, said_on}
-use Rattle.wf_layers.specs.Layers.{GrowsOver, HasOver, HasSome, IsGrowing, IsLayer, IsLinked, ways_of, ways_on}
+use Rattle.wf_layers.specs.Layers.{GrowsOver, HasOver, HasSome, IsGrowing, IsLayer, IsLinked, ways_of}
 use Rattle.wf_layers.specs.Nodes.{AreNodes, IsFirst, IsFront, IsGrown, IsNode, first_spot, lists_in, spot_in, spots_in, trail_in}
 use Rattle.wf_layers.specs.declared.edges.Edge.{Edge}
 use Rattle.wf_layers.specs.declared.growing.Came.{Came}
@@ -155,7 +155,7 @@ module _ (rows : List (List (Option Edge))) (processes : ℕ) where
         within = subst (λ (l : List ℕ). All (λ n. n < length (lists_in f.lists)) l) (sym told) (All-replicate (λ n. n < length (lists_in f.lists)) processes 0 (let e = ap length lists in omega (arith, e)));
       } in
       let spot : spot_in (lists_in f.lists) node ≡ first_spot processes =
-          same_spot (spot_in (lists_in f.lists) node) (first_spot processes) first.2 (ap (λ (l : List (List ℕ)). map (λ (k : ℕ). get_or l k []) node.told.items) lists ∙ ap (map (λ (k : ℕ). get_or {A = List ℕ} ([] ∷ []) k [])) told ∙ all_empty processes) in
+      same_spot (spot_in (lists_in f.lists) node) (first_spot processes) first.2 (ap (λ (l : List (List ℕ)). map (λ (k : ℕ). get_or l k []) node.told.items) lists ∙ ap (map (λ (k : ℕ). get_or {A = List ℕ} ([] ∷ []) k [])) told ∙ all_empty processes) in
       let spots : spots_in (lists_in f.lists) f.layer.keys ≡ first_spot processes ∷ [] = ap (spots_in (lists_in f.lists)) first.1 ∙ ap (λ (s : Spot). s ∷ []) spot in
       record {
         apart = subst (λ (l : List (List ℕ)). AreApart l) (sym lists) only_one;

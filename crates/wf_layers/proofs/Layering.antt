@@ -1,13 +1,13 @@
 -- One layer more.
-use Rattle.std.proofs.Common.{◌≡◌, refl, sym, ap, ◌∙◌, subst, ℕ, ◌+◌, ◌<◌, ◌≤◌, zero, suc, List, [], ◌∷◌, ◌++◌, length, get_or, map, Option, Some, None, ◌⊎◌, inl, inr, arith}
+use Rattle.std.proofs.Common.{◌≡◌, refl, sym, ap, ◌∙◌, subst, ℕ, ◌+◌, ◌<◌, ◌≤◌, zero, suc, List, [], ◌∷◌, ◌++◌, length, get_or, Option, Some, None, ◌⊎◌, inl, inr, arith}
 use Rattle.std.proofs.lemmas.Bool.{cases_eq, cases_lt}
 use Rattle.std.proofs.lemmas.List.{length-map, length-append}
 use Rattle.std.proofs.lemmas.Option.{same_Some, slice_get_within, get_or_from_slice_get}
 use Rattle.std.specs.List.{slice_get}
 use Rattle.wf_history.proofs.Positions.{one_item, place_here, place_left, place_push}
-use Rattle.wf_layers.specs.Layers.{HasOver, HasSome, IsEarlier, IsGrowing, IsLayer, Precedes, GrowsOver, then_by, walk, way_on, ways_on, ways_of}
+use Rattle.wf_layers.specs.Layers.{HasSome, IsEarlier, IsGrowing, IsLayer, Precedes, then_by, walk, way_on, ways_on, ways_of}
 use Rattle.wf_layers.specs.declared.growing.Came.{Came}
-use Rattle.wf_layers.proofs.Listing.{beside, either_part, in_map, item_at, last_of, of_map, push_both}
+use Rattle.wf_layers.proofs.Listing.{beside, either_part, in_map, last_of, of_map, push_both}
 use Rattle.wf_layers.proofs.Order.{precedes_last, precedes_on, precedes_pop, precedes_push}
 
 not_both : (from by place step : ℕ) → IsEarlier from by place step → IsEarlier place step from by → ⊥

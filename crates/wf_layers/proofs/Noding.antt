@@ -1,9 +1,9 @@
 -- Nodes, and the spots that they stand for.
-use Rattle.std.proofs.Common.{◌≡◌, refl, sym, ap, ◌∙◌, subst, ℕ, ◌+◌, ◌<◌, zero, suc, Bool, true, false, ◌&&◌, List, [], ◌∷◌, ◌++◌, length, get_or, set, map, All, Some, ◌↔◌, inl, inr, arith, length-append, length-set, not}
+use Rattle.std.proofs.Common.{◌≡◌, refl, sym, ap, ◌∙◌, subst, ℕ, ◌<◌, zero, suc, Bool, true, false, ◌&&◌, List, [], ◌∷◌, ◌++◌, length, get_or, set, map, All, Some, ◌↔◌, inl, inr, arith, length-append, length-set, not}
 use Rattle.std.proofs.Math.Dec.{eqb}
 use Rattle.std.proofs.lemmas.Bool.Decides.{Decides-eqb}
 use Rattle.std.proofs.lemmas.List.{get_or-map, get_or_append_left, map-append}
-use Rattle.std.proofs.lemmas.List.Elements.{All-head, All-tail, All-nil, All-cons, All-weaker, All-set, All-get_or}
+use Rattle.std.proofs.lemmas.List.Elements.{All-head, All-tail, All-weaker, All-set}
 use Rattle.std.proofs.lemmas.Option.{slice_get-get_or, slice_get_within, get_or_from_slice_get}
 use Rattle.std.proofs.lemmas.Slice.Eq.{slice_eq-Decides}
 use Rattle.std.specs.Cmp.Lexicographic.{pointwise}
@@ -84,7 +84,7 @@ module _ (lists more : List (List ℕ)) (on : GoesOn lists more) where
           let size = is.size in
           let within : process < length xs = omega (arith, size, own) in
           let item : list_of more number ≡ get_or (map f xs) process [] ++ edge.reply ∷ [] =
-              get_or_from_slice_get more number (f (get_or xs process 0) ++ edge.reply ∷ []) [] there ∙ ap (λ (l : List ℕ). l ++ edge.reply ∷ []) (sym (get_or-map f xs process 0 [] within)) in
+          get_or_from_slice_get more number (f (get_or xs process 0) ++ edge.reply ∷ []) [] there ∙ ap (λ (l : List ℕ). l ++ edge.reply ∷ []) (sym (get_or-map f xs process 0 [] within)) in
           ap (map (list_of more)) new ∙ map_set (list_of more) xs process number ∙ ap (λ (l : List (List ℕ)). set l process (list_of more number)) (lists_kept xs is.within)
           ∙ ap (set (map f xs) process) item
 

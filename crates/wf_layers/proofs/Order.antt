@@ -1,5 +1,5 @@
 -- Lexical order of lists of numbers.
-use Rattle.std.proofs.Common.{◌≡◌, refl, sym, ap, ◌∙◌, ℕ, ◌<◌, suc, List, [], ◌∷◌, ◌++◌, length, ◌⊎◌, inl, inr, arith}
+use Rattle.std.proofs.Common.{◌≡◌, refl, ◌∙◌, ℕ, ◌<◌, List, [], ◌∷◌, ◌++◌, length, ◌⊎◌, inl, inr, arith}
 use Rattle.wf_layers.specs.Layers.{Precedes}
 
 pub precedes_on : (a b c : List ℕ) → Precedes a b → Precedes b c → Precedes a c

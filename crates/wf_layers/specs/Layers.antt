@@ -1,5 +1,5 @@
 -- A search by layers: what so many steps lead to, each once, by the first way that leads there.
-use Rattle.std.specs.Prelude.{◌≡◌, ◌⊎◌, ℕ, suc, ◌+◌, ◌<◌, List, [], ◌∷◌, ◌++◌, length, map, get_or, slice_get, take, Option, None, Some}
+use Rattle.std.specs.Prelude.{◌≡◌, ◌⊎◌, ℕ, ◌<◌, List, [], ◌∷◌, ◌++◌, length, map, get_or, slice_get, take, Option, None, Some}
 use Rattle.wf_layers.specs.declared.growing.Came.{Came}
 
 -- lexical order

@@ -11,11 +11,7 @@ pub struct Edge {
 }
 
 /// What the next call of a process leads to from a place, if it is known.
-pub(crate) fn known_edge(
-    rows: &[Vec<Option<Edge>>],
-    place: usize,
-    process: usize,
-) -> Option<Edge>
+pub(crate) fn known_edge(rows: &[Vec<Option<Edge>>], place: usize, process: usize) -> Option<Edge>
     ensures { result ≡ edge_from (rows_in rows.now) place process }
 {
     *rows.get(place)?.get(process)?

@@ -37,12 +37,7 @@ fn with_reply(alloc: Global, list: &[usize], reply: usize) -> Result<Vec<usize>,
 }
 
 /// The number of the list with one reply more.
-fn longer(
-    alloc: Global,
-    lists: &mut Lists,
-    list: usize,
-    reply: usize,
-) -> Result<usize, NoMemory>
+fn longer(alloc: Global, lists: &mut Lists, list: usize, reply: usize) -> Result<usize, NoMemory>
     requires list { list < length (lists_in lists.old) }
     requires apart { AreApart (lists_in lists.old) }
     ensures there { IfOk result (λ number. slice_get (lists_in lists.new) number ≡ Some (get_or (lists_in lists.old) list [] ++ reply ∷ [])) }

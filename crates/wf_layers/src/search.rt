@@ -82,11 +82,7 @@ fn begin(ground: &Ground<'_>) -> Result<Front, NoMemory>
 }
 
 /// The front with this layer.
-fn with_layer(
-    trail: Vec<Vec<Came>>,
-    many: usize,
-    growing: Growing,
-) -> Result<Front, NoMemory>
+fn with_layer(trail: Vec<Vec<Came>>, many: usize, growing: Growing) -> Result<Front, NoMemory>
     ensures trail { IfOk result (λ f. trail_in f.trail.items ≡ trail_in trail.items ++ growing.came.items ∷ []) }
     ensures lists { IfOk result (λ f. f.lists ≡ growing.lists) }
     ensures layer { IfOk result (λ f. f.layer ≡ growing.layer) }

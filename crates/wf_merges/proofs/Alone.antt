@@ -60,11 +60,11 @@ module _ {State Call Reply : Type 0} (Effect : Call → State → State → Repl
     made_other p other = ap (λ (l : List ℕ). get_or l p 0) s.counts ∙ get_or-set_other c.counts id.process p id.number 0 other
 
   -- each call runs alone
-  events_of : {c e : Configuration State} {ids : List CallId} → Leads Effect scripts c ids e → List (Event Call Reply)
+  abbrev pub events_of : {c e : Configuration State} {ids : List CallId} → Leads Effect scripts c ids e → List (Event Call Reply)
   events_of none = []
   events_of (more {c} {d} {e} {id} {ids} reply s l) = Begin id s.call ∷ Applied (id ∷ []) ∷ End id reply ∷ events_of l
 
-  replies_of : {c e : Configuration State} {ids : List CallId} → Leads Effect scripts c ids e → List Reply
+  abbrev pub replies_of : {c e : Configuration State} {ids : List CallId} → Leads Effect scripts c ids e → List Reply
   replies_of none = []
   replies_of (more {c} {d} {e} {id} {ids} reply s l) = reply ∷ replies_of l
 
@@ -75,7 +75,7 @@ module _ {State Call Reply : Type 0} (Effect : Call → State → State → Repl
   -- each process takes turns with its calls
   turns : {c e : Configuration State} {ids : List CallId} (l : Leads Effect scripts c ids e) (p : ℕ) → own_events p (events_of l) ≡ in_turn (made_of c p + 1) (length (own_events p (events_of l)))
   turns none p = refl
-  turns (more {c} {d} {e} {id} {ids} reply s l) p = by (nat_eq id.process p) refl
+  turns (more {c} {d} {e} {id} {ids} reply s l) p = by (turns l p) (nat_eq id.process p) refl
     where
       rest : List OwnEvent
       rest = own_events p (events_of l)
@@ -83,24 +83,24 @@ module _ {State Call Reply : Type 0} (Effect : Call → State → State → Repl
       two : Bool → List OwnEvent
       two b = (if b then Begins id.number ∷ [] else []) ++ ((if b then Ends id.number ∷ [] else []) ++ rest)
 
-      by : (b : Bool) → nat_eq id.process p ≡ b → two (nat_eq id.process p) ≡ in_turn (made_of c p + 1) (length (two (nat_eq id.process p)))
-      by true same =
+      by : rest ≡ in_turn (made_of d p + 1) (length rest) → (b : Bool) → nat_eq id.process p ≡ b → two (nat_eq id.process p) ≡ in_turn (made_of c p + 1) (length (two (nat_eq id.process p)))
+      by later true same =
           let own : id.process ≡ p = from_test id.process p same in
           let number : id.number ≡ made_of c p + 1 = s.number ∙ ap (λ (q : ℕ). made_of c q + 1) own in
           let next : made_of d p ≡ made_of c p + 1 = ap (made_of d) (sym own) ∙ made_own c d id reply s ∙ number in
           subst (λ (b : Bool). two b ≡ in_turn (made_of c p + 1) (length (two b))) (sym same)
           (ap (λ (n : ℕ). Begins n ∷ Ends n ∷ rest) number ∙ ap (λ (l : List OwnEvent). Begins (made_of c p + 1) ∷ Ends (made_of c p + 1) ∷ l)
-          (turns l p ∙ ap (λ (n : ℕ). in_turn (n + 1) (length rest)) next))
-      by false differ =
+          (later ∙ ap (λ (n : ℕ). in_turn (n + 1) (length rest)) next))
+      by later false differ =
           let other : p ≡ id.process → ⊥ = λ e. let t = same_test p in let f : nat_eq p p ≡ false = ap (λ (q : ℕ). nat_eq q p) e ∙ differ in cc in
           subst (λ (b : Bool). two b ≡ in_turn (made_of c p + 1) (length (two b))) (sym differ)
-          (turns l p ∙ ap (λ (n : ℕ). in_turn (n + 1) (length rest)) (made_other c d id reply s p other))
+          (later ∙ ap (λ (n : ℕ). in_turn (n + 1) (length rest)) (made_other c d id reply s p other))
 
   -- each call that begins is its script's
   begun : {c e : Configuration State} {ids : List CallId} (l : Leads Effect scripts c ids e) (id : CallId) (call : Call) → HasBegun (events_of l) id call →
       (0 < id.number) × (slice_get (get_or scripts id.process []) (id.number - 1) ≡ Some call)
   begun none id call h = absurd (in_none (Begin id call) h)
-  begun (more {c} {d} {e} {first} {ids} reply s l) id call h =
+  begun (more {c} {d} {e} {id = first} {ids} reply s l) id call h =
       elim (first_or_rest (Begin first s.call) (Applied (first ∷ []) ∷ End first reply ∷ events_of l) (Begin id call) h) [
         | inl same ↦
             let is : first ≡ id = cc in
@@ -121,7 +121,7 @@ module _ {State Call Reply : Type 0} (Effect : Call → State → State → Repl
   -- what ended is in the order
   ended : {c e : Configuration State} {ids : List CallId} (l : Leads Effect scripts c ids e) (id : CallId) (reply : Reply) → Contains (events_of l) (End id reply) → Contains ids id
   ended none id reply h = absurd (in_none (End id reply) h)
-  ended (more {c} {d} {e} {first} {ids} answer s l) id reply h =
+  ended (more {c} {d} {e} {id = first} {ids} answer s l) id reply h =
       elim (first_or_rest (Begin first s.call) (Applied (first ∷ []) ∷ End first answer ∷ events_of l) (End id reply) h) [
         | inl same ↦ absurd (cc)
         | inr later ↦ elim (first_or_rest (Applied (first ∷ [])) (End first answer ∷ events_of l) (End id reply) later) [
@@ -135,7 +135,7 @@ module _ {State Call Reply : Type 0} (Effect : Call → State → State → Repl
 
   begun_in : {c e : Configuration State} {ids : List CallId} (l : Leads Effect scripts c ids e) (id : CallId) (call : Call) → HasBegun (events_of l) id call → Contains ids id
   begun_in none id call h = absurd (in_none (Begin id call) h)
-  begun_in (more {c} {d} {e} {first} {ids} answer s l) id call h =
+  begun_in (more {c} {d} {e} {id = first} {ids} answer s l) id call h =
       elim (first_or_rest (Begin first s.call) (Applied (first ∷ []) ∷ End first answer ∷ events_of l) (Begin id call) h) [
         | inl same ↦ let is : first ≡ id = cc in subst (Contains (first ∷ ids)) is (is_first first ids)
         | inr later ↦ elim (first_or_rest (Applied (first ∷ [])) (End first answer ∷ events_of l) (Begin id call) later) [
@@ -150,7 +150,7 @@ module _ {State Call Reply : Type 0} (Effect : Call → State → State → Repl
   -- a call that is yet to come has a number that is not made
   to_come : {c e : Configuration State} {ids : List CallId} (l : Leads Effect scripts c ids e) (id : CallId) → Contains ids id → made_of c id.process < id.number
   to_come none id h = absurd (in_none id h)
-  to_come (more {c} {d} {e} {first} {ids} reply s l) id h =
+  to_come (more {c} {d} {e} {id = first} {ids} reply s l) id h =
       elim (first_or_rest first ids id h) [
         | inl same ↦ let number = s.number in subst (λ (i : CallId). made_of c i.process < i.number) same (omega (arith, number))
         | inr rest ↦
@@ -175,7 +175,7 @@ module _ {State Call Reply : Type 0} (Effect : Call → State → State → Repl
 
   one_end : {c e : Configuration State} {ids : List CallId} (l : Leads Effect scripts c ids e) (id : CallId) (a b : Reply) → Contains (events_of l) (End id a) → Contains (events_of l) (End id b) → a ≡ b
   one_end none id a b h k = absurd (in_none (End id a) h)
-  one_end (more {c} {d} {e} {first} {ids} reply s l) id a b h k =
+  one_end (more {c} {d} {e} {id = first} {ids} reply s l) id a b h k =
       elim (here_or_later a h) [
         | inl one ↦ elim (here_or_later b k) [
           | inl two ↦ sym one.1 ∙ two.1
@@ -204,7 +204,7 @@ module _ {State Call Reply : Type 0} (Effect : Call → State → State → Repl
   in_time : {c e : Configuration State} {ids : List CallId} (l : Leads Effect scripts c ids e) (first second third : List CallId) (a b : CallId) → ids ≡ first ++ a ∷ (second ++ b ∷ third) → ¬ Before (events_of l) b a
   in_time none [] second third a b is h = absurd (cc)
   in_time none (x ∷ first) second third a b is h = absurd (cc)
-  in_time (more {c} {d} {e} {id} {ids} reply s l) front second third a b is (before answer call events between last same) = by front is events same
+  in_time (more {c} {d} {e} {id} {ids} reply s l) front second third a b is (before answer call events between last same) = by (λ first others h. in_time l first second third a b others h) front is events same
     where
       -- where the two stand in the rest
       later : (rest : List (Event Call Reply)) → events_of l ≡ rest ++ End b answer ∷ (between ++ Begin a call ∷ last) → Before (events_of l) b a
@@ -217,11 +217,11 @@ module _ {State Call Reply : Type 0} (Effect : Call → State → State → Repl
           behind [] ys h = h
           behind (x ∷ xs) ys h = in_rest x (xs ++ ys) (Begin a call) (behind xs ys h)
 
-      by : (first : List CallId) → id ∷ ids ≡ first ++ a ∷ (second ++ b ∷ third) → (events : List (Event Call Reply)) →
+      by : ((first : List CallId) → ids ≡ first ++ a ∷ (second ++ b ∷ third) → Before (events_of l) b a → ⊥) → (first : List CallId) → id ∷ ids ≡ first ++ a ∷ (second ++ b ∷ third) → (events : List (Event Call Reply)) →
           (Begin id s.call ∷ Applied (id ∷ []) ∷ End id reply ∷ events_of l) ≡ events ++ End b answer ∷ (between ++ Begin a call ∷ last) → ⊥
-      by first e [] h = cc
-      by first e (x ∷ []) h = cc
-      by [] e (x ∷ y ∷ []) h =
+      by again first e [] h = cc
+      by again first e (x ∷ []) h = cc
+      by again [] e (x ∷ y ∷ []) h =
           let one : id ≡ a = cc in
           let rest : events_of l ≡ between ++ Begin a call ∷ last = cc in
           not_again c d id reply s l (subst (Contains ids) (sym one) (begun_in l a call (subst (λ v. Contains v (Begin a call)) (sym rest) (late between))))
@@ -229,11 +229,11 @@ module _ {State Call Reply : Type 0} (Effect : Call → State → State → Repl
           late : (xs : List (Event Call Reply)) → Contains (xs ++ Begin a call ∷ last) (Begin a call)
           late [] = is_first (Begin a call) last
           late (x ∷ xs) = in_rest x (xs ++ Begin a call ∷ last) (Begin a call) (late xs)
-      by [] e (x ∷ y ∷ z ∷ rest) h =
+      by again [] e (x ∷ y ∷ z ∷ rest) h =
           let one : id ≡ a = cc in
           let more_events : events_of l ≡ rest ++ End b answer ∷ (between ++ Begin a call ∷ last) = cc in
           not_again c d id reply s l (subst (Contains ids) (sym one) (begun_in l a call (subst (λ v. Contains v (Begin a call)) (sym more_events) (begins_late rest))))
-      by (f ∷ first) e (x ∷ y ∷ []) h =
+      by again (f ∷ first) e (x ∷ y ∷ []) h =
           let one : id ≡ b = cc in
           let others : ids ≡ first ++ a ∷ (second ++ b ∷ third) = cc in
           not_again c d id reply s l (subst (Contains ids) (sym one) (subst (λ v. Contains v b) (sym others) (far first)))
@@ -245,10 +245,10 @@ module _ {State Call Reply : Type 0} (Effect : Call → State → State → Repl
           far : (xs : List CallId) → Contains (xs ++ a ∷ (second ++ b ∷ third)) b
           far [] = in_rest a (second ++ b ∷ third) b (near second)
           far (x ∷ xs) = in_rest x (xs ++ a ∷ (second ++ b ∷ third)) b (far xs)
-      by (f ∷ first) e (x ∷ y ∷ z ∷ rest) h =
+      by again (f ∷ first) e (x ∷ y ∷ z ∷ rest) h =
           let others : ids ≡ first ++ a ∷ (second ++ b ∷ third) = cc in
           let more_events : events_of l ≡ rest ++ End b answer ∷ (between ++ Begin a call ∷ last) = cc in
-          in_time l first second third a b others (later rest more_events)
+          again first others (later rest more_events)
 
   -- each call of the scripts that is made on the way ends
   ends : {c e : Configuration State} {ids : List CallId} (l : Leads Effect scripts c ids e) (p k : ℕ) → made_of c p ≤ k → k < made_of e p → (reply : Reply) × Contains (events_of l) (End (record { process = p; number = k + 1 }) reply)
@@ -294,7 +294,7 @@ pub are_legal_orders : {State Call Reply : Type 0} (Effect : Call → State → 
 are_legal_orders {State} {Call} {Reply} Effect scripts opening order last leads =
     let l = leads in
     let events = events_of Effect scripts l in
-    let first = λ p. zeros (length scripts) p in (
+    let first = λ (p : ℕ). zeros (length scripts) p in (
       events,
       record {
         run = record {

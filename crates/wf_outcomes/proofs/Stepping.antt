@@ -58,6 +58,7 @@ module _ {M Call Reply : Type 0} (Effect : Call → M → M → Reply → Type 0
 
     pub only_step_with : (after : M) (reply : Reply) (counts : List ℕ) → counts ≡ set c.counts process (get_or c.counts process 0 + 1) → Effect call c.state after reply →
         IsOnlyStepWith Effect scripts c process reply (record { counts = counts; state = after })
+    unfolding only_step
     only_step_with after reply counts is effect = (only_step after reply counts is effect, refl)
 
     pub only_reply : (id : CallId) → id.process ≡ process → id.number ≡ get_or c.counts process 0 + 1 → (after : M) (reply : Reply) → Effect call c.state after reply → IsOnlyReply Effect scripts c id reply

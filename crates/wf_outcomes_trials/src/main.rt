@@ -11,7 +11,7 @@ use ob_interface::scalar::Scalar;
 use std::alloc::Global;
 use std::hash::RandomState;
 use tally::Tally;
-use whole::{same_by_hand, wholes_counted, wholes_refused, wholes_shown};
+use whole::{same_by_hand, wholes_counted, wholes_enough, wholes_shown};
 use wf_history::{CallId, KeptCall, KeptReply, KeptScalars};
 use wf_outcomes::{ExploreFault, Explored, Question, explore};
 
@@ -199,8 +199,8 @@ fn small_wholes(rt: &HostRuntime, keys: RandomState) -> Result<()> {
             println!(rt; "{text}")?;
         }
         let same = same_by_hand(alloc, &scripts, &text)?;
-        let exact = wholes_refused(alloc, &scripts, keys)?;
-        println!(rt; "sample {number}: as by hand {same}, tellings {exact}")?;
+        let exact = wholes_enough(alloc, &scripts, keys)?;
+        println!(rt; "sample {number}: as by hand {same}, {exact} tellings")?;
     }
     Ok(())
 }

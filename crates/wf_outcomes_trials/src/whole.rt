@@ -7,7 +7,7 @@ use ob_interface::scalar::Scalar;
 use std::alloc::Global;
 use std::hash::RandomState;
 use wf_history::{CallId, KeptCall, KeptReply};
-use wf_outcomes::{ExploreFault, explore};
+use wf_outcomes::{ExploreFault, Explored, explore};
 use wf_whole_outcomes::{ToldWhole, wholes_told};
 
 /// The most tellings that are looked at.
@@ -80,16 +80,23 @@ pub fn wholes_counted(alloc: Global, scripts: &[Vec<KeptCall>], keys: RandomStat
     Ok(wholes_told(alloc, &explored, MOST, keys)?.len())
 }
 
-/// With how many tellings the search gives up last.
-pub fn wholes_refused(alloc: Global, scripts: &[Vec<KeptCall>], keys: RandomState) -> Result<usize> {
+/// With how many tellings the search does not give up.
+pub fn wholes_enough(alloc: Global, scripts: &[Vec<KeptCall>], keys: RandomState) -> Result<usize> {
     let explored = explore(alloc, &Tally, scripts, MOST, keys)?;
-    let mut last = 0;
     for most in 0..1000 {
-        if matches!(wholes_told(alloc, &explored, most, keys), Err(ExploreFault::TooMany)) {
-            last = most;
+        if !gives_up(alloc, &explored, most, keys) {
+            return Ok(most);
         }
     }
-    Ok(last)
+    Ok(0)
+}
+
+/// Whether the search gives up with so many tellings.
+fn gives_up(alloc: Global, explored: &Explored<'_, Tally>, most: usize, keys: RandomState) -> bool {
+    matches!(
+        wholes_told(alloc, explored, most, keys),
+        Err(ExploreFault::TooMany)
+    )
 }
 
 /// Whether something is among some.

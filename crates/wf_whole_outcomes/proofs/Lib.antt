@@ -5,5 +5,4 @@ pub mod Merging
 pub mod Naming
 pub mod Numbering
 pub mod Reading
-pub mod Running
 pub mod Standing

@@ -5,14 +5,11 @@
 //! over it layer by layer, and keeps of each way only where it leads and which replies it has; `leaves_told` reads the last
 //! layer.
 //!
-//! One may rely on the clauses of `wholes_told`, which are in the words of `specs/Tellings.antt` and `specs/Wholes.antt`, and on those
-//! of `runs_give_wholes` and `wholes_are_of_runs`, in the words of `specs/Runs.antt`.
+//! One may rely on the clauses of `wholes_told`, which are in the words of `specs/Tellings.antt` and `specs/Wholes.antt`.
 #![tactic(auto)]
 
 mod graph;
-pub mod laws;
 mod leaves;
 pub mod wholes;
 
-pub use laws::{runs_give_wholes, wholes_are_of_runs};
 pub use wholes::{ToldWhole, wholes_told};

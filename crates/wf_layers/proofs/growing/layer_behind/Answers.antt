@@ -1,8 +1,8 @@
 -- From no place until no place is left.
-use Rattle.std.proofs.Common.{◌+◌, sym, subst, length, arith}
+use Rattle.std.proofs.Common.{◌+◌, arith}
 use Rattle.wf_layers.specs.Graph.{rows_in}
-use Rattle.wf_layers.specs.Nodes.{IsGrown, lists_in}
-use Rattle.wf_layers.proofs.Advancing.{goes_both, goes_nowhere, grows_over, none_grown}
+use Rattle.wf_layers.specs.Nodes.{lists_in}
+use Rattle.wf_layers.proofs.Advancing.{goes_both, grows_over}
 use Rattle.wf_layers.proofs.growing.layer_behind.Goals as goal
 
 pub returns-then-len-room-clause-most : goal.returns-then-len-room-clause-most

@@ -1,5 +1,5 @@
 -- By what the set's keys are after the insertion.
-use Rattle.std.proofs.Common.{sym, ap, ◌∙◌, ◌∷◌, ◌++◌, [], List, ℕ, Some, get_or}
+use Rattle.std.proofs.Common.{sym, ap, ◌∙◌, ◌∷◌, ◌++◌, [], List, ℕ, Some}
 use Rattle.std.proofs.lemmas.Option.{get_or_from_slice_get}
 use Rattle.wf_layers.specs.Nodes.{lists_in}
 use Rattle.wf_layers.proofs.Interning.{lists_apart, lists_more, same_items}

@@ -14,9 +14,9 @@ returns-in_err-growing-clause-most c =
     let p = err_from_is_err_and c.from_residual.result c.from_residual.ensures.1 in
     rw (p.1, p.2)
     (λ is.
-        let many : c.in_err-growing.field-0.0 ≡ TooMany = cc in
-        over_on rows c.args.ground.now.processes (own_edge rows c.args.ground.now.processes c.requires.narrow) c.args.front c.requires.front c.args.most c.requires.few
-        (c.in_err-growing.ensures.most (ap (λ (fault : LayersFault). Err fault) many)))
+    let many : c.in_err-growing.field-0.0 ≡ TooMany = cc in
+    over_on rows c.args.ground.now.processes (own_edge rows c.args.ground.now.processes c.requires.narrow) c.args.front c.requires.front c.args.most c.requires.few
+    (c.in_err-growing.ensures.most (ap (λ (fault : LayersFault). Err fault) many)))
 
 pub returns-clause-front : goal.returns-clause-front
 returns-clause-front c =

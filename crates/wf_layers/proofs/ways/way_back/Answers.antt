@@ -18,7 +18,7 @@ index-came-requires c =
     let deep = c.loop-depth.invariant.deep in
     let count = c.index-trail-depth.result.ok.0 in
     let within = in_layer (trail_in c.args.trail.now) c.loop-depth.depth (c.loop-depth.depth - 1) (omega arith) c.index-trail-depth.result.items
-        (last_of c.args.trail.now (c.loop-depth.depth - 1) c.index-trail-depth.result (omega arith) c.index-trail-depth.is) c.loop-depth.at c.loop-depth.invariant.within in
+    (last_of c.args.trail.now (c.loop-depth.depth - 1) c.index-trail-depth.result (omega arith) c.index-trail-depth.is) c.loop-depth.at c.loop-depth.invariant.within in
     omega (arith, count, within)
 
 pub loop-depth-preserved : goal.loop-depth-preserved

@@ -1,7 +1,7 @@
 -- By the run in which the calls run alone.
 use Rattle.wf_outcomes.specs.Explored.{calls_in}
-use Rattle.wf_whole_outcomes.proofs.Running.{are_of_runs}
-use Rattle.wf_whole_outcomes.proofs.laws.wholes_are_of_runs.Goals as goal
+use Rattle.wf_whole_runs.proofs.Running.{are_of_runs}
+use Rattle.wf_whole_runs.proofs.laws.wholes_are_of_runs.Goals as goal
 
 pub returns : goal.returns
 returns g c =

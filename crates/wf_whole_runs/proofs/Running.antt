@@ -15,7 +15,7 @@ use Rattle.wf_order.specs.Steps as Search
 use Rattle.wf_outcomes.proofs.Lists.{same_configuration}
 use Rattle.wf_outcomes.specs.Merges as Merges
 use Rattle.wf_outcomes.specs.Merges.{Configuration, IsStep, Leads, full, start}
-use Rattle.wf_whole_outcomes.specs.Runs.{GivesRun, HasReplies, RunsGiveWholes, WholesAreOfRuns}
+use Rattle.wf_whole_runs.specs.Runs.{GivesRun, HasReplies, RunsGiveWholes, WholesAreOfRuns}
 use Rattle.wf_whole_outcomes.specs.Tellings.{Gives, IsTold, Telling, Tells, none, more, replies_to, silence}
 use Rattle.wf_whole_outcomes.proofs.Merging.{IsOf, behind, of_behind, told_step}
 use Rattle.wf_whole_outcomes.proofs.Numbering.{length_row, map_all, map_set}
@@ -61,7 +61,7 @@ module _ {State Call Reply : Type 0} (Effect : Call → State → State → Repl
     along : {c e : Search.Configuration State} {ids : List CallId} → Search.Leads Effect history c ids e → (t : Telling State Reply) → c.counts ≡ map length t.replies → (last : State) (answers : List Reply) →
         OneAtATime (HasBegun history) Effect t.state ids answers last → RepliesAgree history ids answers → AlongTold t e ids last
     along Search.none t counts last answers Legal.none agree = record { told = t; tells = none; state = refl; counts = counts; replies = λ k id reply at ended. absurd (cc) }
-    along (Search.more {c} {d} {e} {first} {ids} s l) t counts last answers (Legal.more {between = between} {call = call} {answer = answer} {answers = others} begun does later) (Legal.more same_reply agree) =
+    along (Search.more {c} {d} {e} {id = first} {ids} s l) t counts last answers (Legal.more {between = between} {call = call} {answer = answer} {answers = others} begun does later) (Legal.more same_reply agree) =
         finish (along l next (of_behind Effect scripts t from to is first answer step).counts last others later agree)
       where
         from : Configuration State
@@ -142,7 +142,7 @@ module _ {State Call Reply : Type 0} (Effect : Call → State → State → Repl
 
       one_end : {t u v : Telling State Reply} {ids : List CallId} → Tells Effect scripts t ids u → Tells Effect scripts t ids v → u ≡ v
       one_end none none = refl
-      one_end (more {t} {a} {u} {id} {ids} told l) (more {u = b} {v = v} other m) =
+      one_end (more {t} {u = a} {v = u} {id} {ids} told l) (more {u = b} {v = v} other m) =
           one_end l (subst (λ (x : Telling State Reply). Tells Effect scripts x ids v) (sym (one_next t a b id told other)) m)
 
       pub are_of_runs : WholesAreOfRuns {State} {Call} {Reply} Effect scripts opening
