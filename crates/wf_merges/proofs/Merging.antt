@@ -8,7 +8,7 @@ use Rattle.wf_history.proofs.Positions.{place_of}
 use Rattle.wf_history.specs.declared.event.CallId.{CallId}
 use Rattle.wf_history.specs.History.{Event, End}
 use Rattle.wf_history.specs.Legal as Legal
-use Rattle.wf_history.specs.Legal.{HasBegun, OneAtATime, RepliesAgree}
+use Rattle.wf_history.specs.Legal.{HasBegun, IsLegal, OneAtATime, RepliesAgree}
 use Rattle.wf_merges.specs.Runs.{IsRunOfScripts, LegalOrdersAreMerges}
 use Rattle.wf_order.proofs.Completeness.{complete}
 use Rattle.wf_order.specs.Steps as Search
@@ -62,10 +62,10 @@ module _ {State Call Reply : Type 0} (Effect : Call → State → State → Repl
 
   module _ (history : List (Event Call Reply)) (run : IsRunOfScripts scripts history) where
     -- with a state of its own
-    abbrev over : Search.Configuration State → State → Configuration State
+    abbrev pub over : Search.Configuration State → State → Configuration State
     over c state = record { counts = c.counts; state = state }
 
-    step_merged : (c d : Search.Configuration State) (id : CallId) → Search.IsStep Effect history c id d → (call : Call) → HasBegun history id call → (before after : State) (reply : Reply) →
+    pub step_merged : (c d : Search.Configuration State) (id : CallId) → Search.IsStep Effect history c id d → (call : Call) → HasBegun history id call → (before after : State) (reply : Reply) →
         Effect call before after reply → IsStep Effect scripts (over c before) id reply (over d after)
     step_merged c d id s call begun before after reply does =
         let b = run.begins id call begun in
@@ -117,16 +117,24 @@ module _ {State Call Reply : Type 0} (Effect : Call → State → State → Repl
           | inr enough ↦ let b = small p in omega (arith, enough, b)
         ]
 
-pub are_merges : {State Call Reply : Type 0} (Effect : Call → State → State → Reply → Type 0) (scripts : List (List Call)) (opening : State) → LegalOrdersAreMerges Effect scripts opening
-are_merges {State} {Call} {Reply} Effect scripts opening history order last run legal =
+-- the steps along a legal order of a run come to where all calls of the scripts are made
+pub all_steps : {State Call Reply : Type 0} (Effect : Call → State → State → Reply → Type 0) (scripts : List (List Call)) (opening : State) (history : List (Event Call Reply)) (order : List CallId) (last : State) →
+    IsRunOfScripts scripts history → IsLegal Effect opening history order last →
+    (e : Search.Configuration State) × Search.Leads Effect history (record { counts = replicate (length scripts) 0; state = opening }) order e × (e.counts ≡ map length scripts)
+all_steps {State} {Call} {Reply} Effect scripts opening history order last run legal =
     let all = complete Effect history run.whole (length scripts) (few Effect scripts history run) opening last order legal in
     let leads = leads_merged Effect scripts history run all.1 opening last legal.replies legal.made in
     let small = at_most Effect scripts leads (λ p. let z = none_there (length scripts) p in omega (arith, z)) in
     let size = sizes Effect scripts leads in
     let many = length-replicate {A = ℕ} (length scripts) 0 in
-    let counts = all_lengths scripts all.0.counts (omega (arith, size, many)) (all_made Effect scripts history run all.0 all.2 small) in
+    (all.0, all.1, all_lengths scripts all.0.counts (omega (arith, size, many)) (all_made Effect scripts history run all.0 all.2 small))
+
+pub are_merges : {State Call Reply : Type 0} (Effect : Call → State → State → Reply → Type 0) (scripts : List (List Call)) (opening : State) → LegalOrdersAreMerges Effect scripts opening
+are_merges {State} {Call} {Reply} Effect scripts opening history order last run legal =
+    let all = all_steps Effect scripts opening history order last run legal in
+    let leads = leads_merged Effect scripts history run all.1 opening last legal.replies legal.made in
     record {
-      leads = subst (λ (c : Configuration State). Leads Effect scripts (start Effect scripts opening) order c) (same_configuration counts refl) leads;
+      leads = subst (λ (c : Configuration State). Leads Effect scripts (start Effect scripts opening) order c) (same_configuration all.2 refl) leads;
       replies = λ id reply ended.
           let p = place_of order id (legal.ended id reply ended) in
           possible_at Effect scripts history run opening all.1 opening last legal.replies legal.made legal.agree ([], none) p.0 id p.1 reply ended;

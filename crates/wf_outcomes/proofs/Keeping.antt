@@ -49,7 +49,7 @@ module _ {K : Type 0} (eq : K → K → Bool) (keys : List K) (k : K) where
   keys_pushed new = ap (λ (b : Bool). if b then keys else keys ++ k ∷ []) new
 
 module _ {State Meaning : Type 0} (meaning : State → Meaning) (words_of : Meaning → List ℕ) (told_apart : (a b : Meaning) → words_of a ≡ words_of b → a ≡ b) where
-  abbrev AreWordedKeys : List (Found State) → Type 0
+  abbrev pub AreWordedKeys : List (Found State) → Type 0
   AreWordedKeys keys = (f : Found State) → Contains keys f → IsWorded meaning words_of f
 
   -- the rest is worded, and the first
@@ -59,7 +59,7 @@ module _ {State Meaning : Type 0} (meaning : State → Meaning) (words_of : Mean
   first_worded : (y : Found State) (keys : List (Found State)) → AreWordedKeys (y ∷ keys) → IsWorded meaning words_of y
   first_worded y keys worded = worded y (contains_at (y ∷ keys) 0 y refl)
 
-  same_here : (a b : Found State) → IsWorded meaning words_of a → IsWorded meaning words_of b → found_eq a b ≡ true → (kept_in meaning b).here ≡ (kept_in meaning a).here
+  pub same_here : (a b : Found State) → IsWorded meaning words_of a → IsWorded meaning words_of b → found_eq a b ≡ true → (kept_in meaning b).here ≡ (kept_in meaning a).here
   same_here a b is_a is_b e =
       let parts = found_exact a b e in
       same_configuration (sym parts.0) (told_apart (meaning b.state) (meaning a.state) (sym is_b ∙ sym parts.1 ∙ is_a))

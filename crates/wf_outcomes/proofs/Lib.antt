@@ -4,5 +4,6 @@ pub mod Full
 pub mod Growing
 pub mod Keeping
 pub mod Lists
+pub mod Leading
 pub mod Replying
 pub mod Stepping

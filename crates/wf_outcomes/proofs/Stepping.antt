@@ -5,7 +5,7 @@ use Rattle.std.specs.List.{slice_get}
 use Rattle.wf_history.specs.declared.event.CallId.{CallId}
 use Rattle.wf_history.proofs.Positions.{same_call}
 use Rattle.wf_outcomes.specs.Merges.{Configuration, IsStep}
-use Rattle.wf_outcomes.specs.Explored.{HasNoStep, IsOnlyStep}
+use Rattle.wf_outcomes.specs.Explored.{HasNoStep, IsOnlyStep, IsOnlyStepWith}
 use Rattle.wf_outcomes.specs.Outcomes.{IsOnlyReply}
 use Rattle.wf_outcomes.proofs.Lists.{same_configuration}
 
@@ -55,6 +55,11 @@ module _ {M Call Reply : Type 0} (Effect : Call → M → M → Reply → Type 0
           let both = determined call c.state e.state after r reply (the_call other r e own s) effect in
           same_configuration (s.counts ∙ ap (λ (i : CallId). set c.counts i.process i.number) same ∙ sym is) both.0;
     }
+
+    pub only_step_with : (after : M) (reply : Reply) (counts : List ℕ) → counts ≡ set c.counts process (get_or c.counts process 0 + 1) → Effect call c.state after reply →
+        IsOnlyStepWith Effect scripts c process reply (record { counts = counts; state = after })
+    unfolding only_step
+    only_step_with after reply counts is effect = (only_step after reply counts is effect, refl)
 
     pub only_reply : (id : CallId) → id.process ≡ process → id.number ≡ get_or c.counts process 0 + 1 → (after : M) (reply : Reply) → Effect call c.state after reply → IsOnlyReply Effect scripts c id reply
     only_reply id own number after reply effect =

@@ -51,6 +51,10 @@ module _ {State Call Reply : Type 0} (Effect : Call → State → State → Repl
     pub step : IsStep Effect scripts c id reply d
     pub only : (other : CallId) (r : Reply) (e : Configuration State) → other.process ≡ process → IsStep Effect scripts c other r e → e ≡ d
 
+  -- and it has this reply
+  abbrev pub IsOnlyStepWith : Configuration State → ℕ → Reply → Configuration State → Type 0
+  IsOnlyStepWith c process reply d = (only : IsOnlyStep c process d) × (only.reply ≡ reply)
+
   -- a call of its process leads there from its earlier place
   pub record IsOrigin (found : List (Kept State)) (k : ℕ) (e : Kept State) : Type 0 where
     pub before : Kept State

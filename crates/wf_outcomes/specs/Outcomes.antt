@@ -2,7 +2,7 @@
 use Rattle.std.specs.Prelude.{◌≡◌, ℕ, ◌<◌, ◌≤◌, ◌++◌, List, [], ◌∷◌, map, length, slice_get, Some, Contains, ◌⊎◌}
 use Rattle.wf_history.specs.declared.event.CallId.{CallId}
 use Rattle.wf_outcomes.specs.Merges.{Configuration, IsStep, Leads, start, full, IsFinal, IsPossible, IsReached}
-use Rattle.wf_outcomes.specs.Explored.{Kept}
+use Rattle.wf_outcomes.specs.Explored.{HasNoStep, Kept}
 
 -- a reply, and the place of a configuration at which a call has it
 pub record Had (Reply : Type 0) : Type 0 where
@@ -44,6 +44,21 @@ module _ {State Call Reply : Type 0} (Effect : Call → State → State → Repl
     pub had : (k : ℕ) (h : Had Reply) → slice_get replies k ≡ Some h → IsHad id h
     pub every : (reply : Reply) → IsPossible Effect scripts opening id reply → Contains (map reply_had replies) reply
     pub once : (j k : ℕ) (reply : Reply) → slice_get (map reply_had replies) j ≡ Some reply → slice_get (map reply_had replies) k ≡ Some reply → j ≡ k
+
+module _ {State Call Reply : Type 0} (Effect : Call → State → State → Reply → Type 0) (scripts : List (List Call)) (found : List (Kept State)) where
+  -- at the configuration at the place no call of the process is next
+  abbrev pub IsAtEnd : (place process : ℕ) → Type 0
+  IsAtEnd place process = (e : Kept State) → slice_get found place ≡ Some e → HasNoStep Effect scripts e.here process
+
+  -- from the configuration at the place the next call of the process leads to the one at the other place, with this reply
+  pub record LeadsOn (place process : ℕ) (reply : Reply) (to : ℕ) : Type 0 where
+    pub here : Kept State
+    pub there : slice_get found place ≡ Some here
+    pub after : Kept State
+    pub at : slice_get found to ≡ Some after
+    pub id : CallId
+    pub own : id.process ≡ process
+    pub step : IsStep Effect scripts here.here id reply after.here
 
 -- the call is next, with this one reply
 abbrev pub IsOnlyReply : {State Call Reply : Type 0} (Effect : Call → State → State → Reply → Type 0) (scripts : List (List Call)) → Configuration State → CallId → Reply → Type 0

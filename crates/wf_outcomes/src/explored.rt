@@ -1,16 +1,18 @@
 //! What an exploration has found.
 
-ghost use Rattle.wf_outcomes.specs.Explored.{all_kept, calls_in, IsExplored};
+ghost use Rattle.wf_outcomes.specs.Explored.{all_kept, calls_in, AreWorded, IsExplored};
 
 use crate::seen::Seen;
 use wf_history::KeptCall;
 use wf_order::Object;
 
 /// All configurations of the merges of some scripts of calls on an object, each once, and by how many calls lead to them.
+#[derive(Drop)]
 pub struct Explored<'a, O: Object> {
     pub object: &'a O,
     pub scripts: &'a [Vec<KeptCall>],
     pub seen: Seen<O::State>,
+    ghost worded: { AreWorded O.meaning O.words_of seen },
     ghost explored: { ∥ IsExplored (O.effect object.now) (calls_in scripts.now) (O.opening object.now) (all_kept O.meaning seen) ∥₁ },
 }
 

@@ -4,7 +4,7 @@ ghost use Rattle.std.specs.Prelude.{◌≡◌, ◌<◌, ◌+◌, [], length, get
 ghost use Rattle.std.specs.Option.{option_copied};
 ghost use Rattle.ob_interface.specs.View.{reply_of};
 ghost use Rattle.wf_history.specs.View.{kept_call};
-ghost use Rattle.wf_outcomes.specs.Explored.{kept_in, calls_in, HasNoStep, IsOnlyStep, IsWorded};
+ghost use Rattle.wf_outcomes.specs.Explored.{kept_in, calls_in, HasNoStep, IsOnlyStep, IsOnlyStepWith, IsWorded};
 
 use crate::seen::Found;
 use ob_interface::NoMemory;
@@ -58,6 +58,37 @@ fn one_more(alloc: Global, counts: &[usize], process: usize) -> Result<Vec<usize
     Ok(more)
 }
 
+/// What the next call of a process leads to from the configuration at a place, if it has one, and its reply.
+pub(crate) fn stepped<O: Object>(
+    task: &Task<O>,
+    here: &Found<O::State>,
+    place: usize,
+    process: usize,
+) -> Result<Option<(Found<O::State>, Reply)>, NoMemory>
+    requires { process < length here.now.counts.items }
+    ensures only { IfOk result (λ made. MatchOption made (HasNoStep (O.effect task.now.object.now) (calls_in task.now.scripts.now) (kept_in O.meaning here.now).here process)
+        (λ to. IsOnlyStepWith (O.effect task.now.object.now) (calls_in task.now.scripts.now) (kept_in O.meaning here.now).here process (reply_of to.1) (kept_in O.meaning to.0).here)) }
+    ensures origin { IfOk result (λ made. IfSome made (λ to. (to.0.from ≡ place) × (to.0.by ≡ process))) }
+    ensures words { IfOk result (λ made. IfSome made (λ to. IsWorded O.meaning O.words_of to.0)) }
+{
+    let alloc = task.alloc;
+    let Some(call) = next_call(task.scripts, &here.counts, process) else {
+        return Ok(None);
+    };
+    let (state, reply) = applied(alloc, task.object, &here.state, call)?;
+    let words = task.object.words(alloc, &state)?;
+    let counts = one_more(alloc, &here.counts, process)?;
+    let (from, by) = (place, process);
+    let there = Found {
+        counts,
+        words,
+        state,
+        from,
+        by,
+    };
+    Ok(Some((there, reply)))
+}
+
 /// What the next call of a process leads to from the configuration at a place, if it has one.
 pub(crate) fn step<O: Object>(
     task: &Task<O>,
@@ -71,19 +102,8 @@ pub(crate) fn step<O: Object>(
     ensures origin { IfOk result (λ stepped. IfSome stepped (λ to. (to.from ≡ place) × (to.by ≡ process))) }
     ensures words { IfOk result (λ stepped. IfSome stepped (IsWorded O.meaning O.words_of)) }
 {
-    let alloc = task.alloc;
-    let Some(call) = next_call(task.scripts, &here.counts, process) else {
-        return Ok(None);
-    };
-    let (state, _) = applied(alloc, task.object, &here.state, call)?;
-    let words = task.object.words(alloc, &state)?;
-    let counts = one_more(alloc, &here.counts, process)?;
-    let (from, by) = (place, process);
-    Ok(Some(Found {
-        counts,
-        words,
-        state,
-        from,
-        by,
-    }))
+    match stepped(task, here, place, process)? {
+        None => Ok(None),
+        Some((there, _)) => Ok(Some(there)),
+    }
 }

@@ -1,0 +1,16 @@
+-- By where the call leads, and the number of its reply.
+use Rattle.std.proofs.Common.{map}
+use Rattle.std.proofs.Math.Logic.{∥∥₁_map}
+use Rattle.ob_interface.specs.View.{reply_of}
+use Rattle.wf_history.specs.View.{kept_reply}
+use Rattle.wf_layers.proofs.Advancing.{goes_nowhere}
+use Rattle.wf_whole_outcomes.proofs.graph.edge_of.Goals as goal
+
+pub returns-in_default-clause-edge : goal.returns-in_default-clause-edge
+returns-in_default-clause-edge c = ?
+
+pub returns-in_default-clause-more : goal.returns-in_default-clause-more
+returns-in_default-clause-more c = goes_nowhere (map kept_reply c.args.replies.now.items)
+
+pub returns-clause-edge : goal.returns-clause-edge
+returns-clause-edge c = ?

@@ -1,0 +1,5 @@
+pub mod Graph
+pub mod Leaves
+pub mod Tellings
+pub mod View
+pub mod Wholes
