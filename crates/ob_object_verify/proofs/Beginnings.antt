@@ -1,9 +1,8 @@
 -- With which state the calls of a record begin, by position and by name: one state, or one trap.
-use Rattle.std.proofs.Common.{◌≡◌, ◌∙◌, ap, refl, subst, sym, List, [], ◌∷◌, map, ℕ, Option, Some, None}
+use Rattle.std.proofs.Common.{◌≡◌, ◌∙◌, refl, subst, sym, List, [], ◌∷◌, map, ℕ, Option, Some, None}
 use Rattle.ob_agreement.specs.Resolved.{IsResolved, AreDistinct, as_parameter, module_scope}
-use Rattle.ob_agreement.specs.Same.{SameActivation, SameState, SameValue, Scopes}
+use Rattle.ob_agreement.specs.Same.{SameActivation, SameState, Scopes}
 use Rattle.ob_interpreter.specs.Faults.{IsOpenFault}
-use Rattle.ob_interpreter.specs.Sequences as Positions
 use Rattle.ob_interpreter.specs.declared.opening.OpenFault.{OpenFault}
 use Rattle.ob_interpreter.specs.declared.opening.OpenFault.TheVariants as Open
 use Rattle.ob_meaning.specs.Object.{State}

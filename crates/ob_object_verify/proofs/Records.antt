@@ -1,5 +1,5 @@
 -- What is found of a record's text, as what is answered.
-use Rattle.std.proofs.Common.{◌≡◌, ◌≢◌, List, [], ◌∷◌, ℕ, refl, ap, sym, ◌∙◌, subst, ◌⊎◌, inl, inr}
+use Rattle.std.proofs.Common.{◌≡◌, ◌≢◌, List, ℕ, refl, ap, ◌∙◌, subst, ◌⊎◌, inl, inr}
 use Rattle.ob_interpreter.specs.declared.opening.OpenFault.{OpenFault}
 use Rattle.ob_interpreter.specs.declared.opening.OpenFault.TheVariants as Open
 use Rattle.ob_object_order.specs.LegalOrder.{CallEnds, IsLegalOrder}
