@@ -86,7 +86,7 @@ module _ {State Call Reply : Type 0} (Effect : Call → State → State → Repl
         let size = size_told l in
         let one = length-map v.replies length in
         let two = length-map scripts length in
-        let start = length-replicate (length scripts) [] in
+        let start = length-replicate {A = List Reply} (length scripts) [] in
         same_by_sum (map length v.replies) (map length scripts) (omega (arith, size, one, two, start))
         (at_most l (λ p. let none_yet = ap (λ (c : List ℕ). get_or c p 0) none_told ∙ zeros (length scripts) p in omega (arith, none_yet)))
         (omega (arith, sum, first, long))

@@ -1,6 +1,6 @@
 -- What is told on a way through the graph, and the other way round.
-use Rattle.std.proofs.Common.{◌≡◌, refl, sym, ap, ◌∙◌, subst, ℕ, ◌+◌, ◌<◌, ◌≤◌, zero, suc, List, [], ◌∷◌, ◌++◌, length, get_or, set, map, replicate, Option, Some, None, option_map, MatchOption, arith, length-map, length-set}
-use Rattle.std.proofs.lemmas.List.{length-append, length-replicate}
+use Rattle.std.proofs.Common.{◌≡◌, refl, sym, ap, ◌∙◌, subst, ℕ, ◌+◌, ◌<◌, ◌≤◌, zero, suc, List, [], ◌∷◌, ◌++◌, length, get_or, set, map, replicate, Option, Some, None, option_map, MatchOption, arith, length-set}
+use Rattle.std.proofs.lemmas.List.{length-append, length-map, length-replicate}
 use Rattle.std.proofs.lemmas.Option.{same_Some, slice_get_within, slice_get-get_or, MatchOption-at_none, MatchOption-at_some}
 use Rattle.std.specs.List.{slice_get}
 use Rattle.wf_history.proofs.Positions.{one_item, same_call}
