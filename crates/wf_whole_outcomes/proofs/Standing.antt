@@ -137,6 +137,7 @@ module _ {State Call Reply : Type 0} (Effect : Call → State → State → Repl
 
     -- what is told is a step of the graph
     pub on_telling : (id : CallId) (v : Telling State Reply) → id.process ≡ process → IsTold Effect scripts t id v → (u : Spot) × (next_from rows s process ≡ Some u) × Stands u v × (id ≡ next_id)
+    unfolding told_next
     on_telling id v own told = by (edge_from rows s.place process) refl
       where
         is_id : id ≡ next_id
