@@ -1,5 +1,5 @@
 -- What is told of the nodes of the last layer.
-use Rattle.std.specs.Prelude.{◌≡◌, ℕ, ◌+◌, ◌<◌, List, [], ◌∷◌, length, map, get_or, replicate, slice_get, slice_set, Option, Some, All}
+use Rattle.std.specs.Prelude.{◌≡◌, ℕ, ◌+◌, ◌<◌, List, [], ◌∷◌, length, map, get_or, replicate, slice_get, slice_set, Some, All}
 use Rattle.wf_history.specs.declared.event.CallId.{CallId}
 use Rattle.wf_layers.specs.Graph.{Spot}
 use Rattle.wf_outcomes.specs.Explored.{Kept}

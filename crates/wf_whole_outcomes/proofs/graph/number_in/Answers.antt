@@ -1,5 +1,5 @@
 -- None of the replies before has it.
-use Rattle.std.proofs.Common.{refl, sym, ap, ◌∙◌, map, Some, arith, inl, inr}
+use Rattle.std.proofs.Common.{sym, ap, ◌∙◌, map, Some, arith, inl, inr}
 use Rattle.std.specs.List.{slice_get}
 use Rattle.std.proofs.lemmas.Bool.{cases_eq}
 use Rattle.std.proofs.lemmas.List.{length-map}

@@ -1,8 +1,7 @@
 -- One reply more.
-use Rattle.std.proofs.Common.{◌≡◌, ◌∙◌, ◌∷◌, ◌++◌, [], ap, sym, List, Some, get_or, map}
+use Rattle.std.proofs.Common.{◌∙◌, ◌∷◌, [], ap, sym, Some, get_or, map}
 use Rattle.std.proofs.lemmas.List.{map-append}
 use Rattle.std.specs.List.{slice_get}
-use Rattle.ob_interface.specs.Call.{Reply}
 use Rattle.wf_history.specs.View.{kept_reply}
 use Rattle.wf_outcomes.proofs.Lists.{item_here}
 use Rattle.wf_whole_outcomes.proofs.Reading.{both_more}

@@ -42,12 +42,12 @@ returns-in_err-front-clause-most g c =
     let p = err_from_is_err_and c.from_residual-in_err-front.result c.from_residual-in_err-front.ensures.1 in
     rw (p.1, p.2)
     (λ is.
-        let many : c.in_err-front.field-0.0 ≡ TooMany = cc in
-        let over = same_of (λ (l : List (Vec (Option Edge) Global)) (n : ℕ). HasOver (next_from (rows_in l)) (first_spot n) c.args.most) c.deref.result.now graph.rows.items (length explored.scripts.now) (length scripts)
-            c.deref.ensures.value (sym size) (c.in_err-front.ensures.most (ap (λ (fault : ExploreFault). Err fault) many)) in
-        ∥∥₁_elim explored.explored ∥∥₁_prop (λ h. ∥∥₁_map c.in_ok-graph.ensures.rows (λ right.
-        more_told effect (λ call before after other reply answer. g.met.O.Object.determined object call before after other reply answer) scripts opening found h (rows_in graph.rows.items) (map kept_reply graph.replies.items)
-        right c.in_ok-graph.ensures.apart (sizes effect scripts opening found h) c.args.most over)))
+    let many : c.in_err-front.field-0.0 ≡ TooMany = cc in
+    let over = same_of (λ (l : List (Vec (Option Edge) Global)) (n : ℕ). HasOver (next_from (rows_in l)) (first_spot n) c.args.most) c.deref.result.now graph.rows.items (length explored.scripts.now) (length scripts)
+    c.deref.ensures.value (sym size) (c.in_err-front.ensures.most (ap (λ (fault : ExploreFault). Err fault) many)) in
+    ∥∥₁_elim explored.explored ∥∥₁_prop (λ h. ∥∥₁_map c.in_ok-graph.ensures.rows (λ right.
+    more_told effect (λ call before after other reply answer. g.met.O.Object.determined object call before after other reply answer) scripts opening found h (rows_in graph.rows.items) (map kept_reply graph.replies.items)
+    right c.in_ok-graph.ensures.apart (sizes effect scripts opening found h) c.args.most over)))
 
 pub leaves_told-requires-clause-tellable : goal.leaves_told-requires-clause-tellable
 leaves_told-requires-clause-tellable g c = λ k d less.
@@ -62,18 +62,18 @@ leaves_told-requires-clause-tellable g c = λ k d less.
     let spots = spots_in (lists_in front.lists) front.layer.keys in
     let size = length-map explored.scripts.now (λ s. map kept_call s.items) in
     let is_front = same_of (λ (l : List (Vec (Option Edge) Global)) (n : ℕ). IsFront (rows_in l) n front) c.deref.result.now graph.rows.items (length explored.scripts.now) (length scripts) c.deref.ensures.value (sym size)
-        c.in_ok-front.ensures.front in
+    c.in_ok-front.ensures.front in
     let layer = layer_of (rows_in graph.rows.items) (length scripts) front is_front in
     let at = slice_get-get_or spots k d less in
     let counts = length-map graph.replies.items kept_reply in
     record {
       place = ∥∥₁_elim explored.explored le_prop (λ h. ∥∥₁_elim c.in_ok-graph.ensures.rows le_prop (λ right.
           (tellable effect (λ call before after other reply answer. g.met.O.Object.determined object call before after other reply answer) scripts opening found h (rows_in graph.rows.items)
-        (map kept_reply graph.replies.items) right c.in_ok-graph.ensures.apart (sizes effect scripts opening found h) (length front.trail.items) (ways_of ([] ∷ []) (trail_in front.trail.items)) spots layer k (get_or spots k d) at).place));
+          (map kept_reply graph.replies.items) right c.in_ok-graph.ensures.apart (sizes effect scripts opening found h) (length front.trail.items) (ways_of ([] ∷ []) (trail_in front.trail.items)) spots layer k (get_or spots k d) at).place));
       said = λ j e within i n inside. ∥∥₁_elim explored.explored le_prop (λ h. ∥∥₁_elim c.in_ok-graph.ensures.rows le_prop (λ right.
           subst (λ (m : ℕ). get_or (get_or (get_or spots k d).said j e) i n < m) counts
           ((tellable effect (λ call before after other reply answer. g.met.O.Object.determined object call before after other reply answer) scripts opening found h (rows_in graph.rows.items)
-        (map kept_reply graph.replies.items) right c.in_ok-graph.ensures.apart (sizes effect scripts opening found h) (length front.trail.items) (ways_of ([] ∷ []) (trail_in front.trail.items)) spots layer k (get_or spots k d) at).said j e within i n inside)));
+          (map kept_reply graph.replies.items) right c.in_ok-graph.ensures.apart (sizes effect scripts opening found h) (length front.trail.items) (ways_of ([] ∷ []) (trail_in front.trail.items)) spots layer k (get_or spots k d) at).said j e within i n inside)));
     }
 
 pub returns-clause-wholes : goal.returns-clause-wholes
@@ -92,7 +92,7 @@ returns-clause-wholes g c =
     let wholes = map (whole_in g.O.Object.meaning) c.in_ok-leaves_told.field-0.items in
     let size = length-map explored.scripts.now (λ s. map kept_call s.items) in
     let is_front = same_of (λ (l : List (Vec (Option Edge) Global)) (n : ℕ). IsFront (rows_in l) n front) c.deref.result.now graph.rows.items (length explored.scripts.now) (length scripts) c.deref.ensures.value (sym size)
-        c.in_ok-front.ensures.front in
+    c.in_ok-front.ensures.front in
     let layer = subst (λ (n : ℕ). IsLayer (next_from (rows_in graph.rows.items)) (first_spot (length scripts)) n ways spots) c.in_ok-front.ensures.size (layer_of (rows_in graph.rows.items) (length scripts) front is_front) in
     let leaves = subst (λ (n : ℕ). AreLeaves found replies n ways spots wholes) (sym size) c.in_ok-leaves_told.ensures in
     ∥∥₁_elim explored.explored ∥∥₁_prop (λ h. ∥∥₁_map c.in_ok-graph.ensures.rows (λ right.
