@@ -1,17 +1,17 @@
 -- The run of a merge in which its calls run alone, one after the other.
-use Rattle.std.proofs.Common.{◌≡◌, refl, sym, ap, ◌∙◌, subst, ℕ, ◌+◌, ◌-◌, ◌<◌, ◌≤◌, zero, suc, Bool, true, false, List, [], ◌∷◌, ◌++◌, length, get_or, set, map, replicate, Some, ◌⊎◌, arith, inl, inr, if◌then◌else◌, eq-eqb, get_or-set_same, get_or-set_other}
+use Rattle.std.proofs.Common.{◌≡◌, refl, sym, ap, ◌∙◌, subst, ℕ, ◌+◌, ◌-◌, ◌<◌, ◌≤◌, zero, suc, Bool, true, false, List, [], ◌∷◌, ◌++◌, length, get_or, map, replicate, Some, ◌⊎◌, arith, inl, inr, if◌then◌else◌, eq-eqb, get_or-set_same, get_or-set_other}
 use Rattle.std.proofs.lemmas.Bool.{cases_eq, ne_eqb}
 use Rattle.std.proofs.lemmas.Option.{same_Some, slice_get_within}
 use Rattle.std.specs.List.{slice_get, Contains}
 use Rattle.std.specs.Prelude.{nat_eq}
 use Rattle.wf_history.proofs.Positions.{contains_at, place_of, same_call}
 use Rattle.wf_history.specs.declared.event.CallId.{CallId}
-use Rattle.wf_history.specs.History.{Event, Begin, Applied, End, Begins, Ends, Before, before, IsHistory, OwnEvent, in_turn, own_events}
+use Rattle.wf_history.specs.History.{Event, Begin, Applied, End, Begins, Ends, Before, before, OwnEvent, in_turn, own_events}
 use Rattle.wf_history.specs.Legal as Legal
 use Rattle.wf_history.specs.Legal.{HasBegun, IsLegal, NoRepeats, OneAtATime, RepliesAgree}
 use Rattle.wf_merges.specs.Runs as Runs
 use Rattle.wf_merges.specs.Runs.{IsOneByOne, IsRunAlone, IsRunOfScripts, MergesAreLegalOrders}
-use Rattle.wf_outcomes.specs.Merges.{Configuration, IsStep, Leads, none, more, start, full}
+use Rattle.wf_outcomes.specs.Merges.{Configuration, IsStep, Leads, none, more}
 
 from_test : (a b : ℕ) → nat_eq a b ≡ true → a ≡ b
 from_test a b h = elim (cases_eq a b) [ inl e ↦ e | inr ne ↦ let f = ne_eqb a b ne in absurd (cc) ]
@@ -258,9 +258,11 @@ module _ {State Call Reply : Type 0} (Effect : Call → State → State → Repl
         | inl own ↦ elim (cases_eq k (made_of c p)) [
           | inl here ↦
               let number : id.number ≡ k + 1 = s.number ∙ ap (λ (q : ℕ). made_of c q + 1) (sym own) ∙ ap (λ (n : ℕ). n + 1) (sym here) in
-              let is : id ≡ record { process = p; number = k + 1 } = same_call id (record { process = p; number = k + 1 }) (sym own) number in
-              (reply, subst (λ (i : CallId). Contains (Begin id s.call ∷ Applied (id ∷ []) ∷ End id reply ∷ events_of l) (End i reply)) is
-              (in_rest (Begin id s.call) (Applied (id ∷ []) ∷ End id reply ∷ events_of l) (End id reply) (in_rest (Applied (id ∷ [])) (End id reply ∷ events_of l) (End id reply) (is_first (End id reply) (events_of l)))))
+              let is : id ≡ record { process = p; number = k + 1 } = same_call id (record { process = p; number = k + 1 }) (sym own) number in (
+                reply,
+                subst (λ (i : CallId). Contains (Begin id s.call ∷ Applied (id ∷ []) ∷ End id reply ∷ events_of l) (End i reply)) is
+                    (in_rest (Begin id s.call) (Applied (id ∷ []) ∷ End id reply ∷ events_of l) (End id reply) (in_rest (Applied (id ∷ [])) (End id reply ∷ events_of l) (End id reply) (is_first (End id reply) (events_of l)))),
+              )
           | inr past ↦
               let now : made_of d p ≡ id.number = ap (made_of d) own ∙ made_own c d id reply s in
               let number : id.number ≡ made_of c p + 1 = s.number ∙ ap (λ (q : ℕ). made_of c q + 1) (sym own) in

@@ -1,5 +1,5 @@
 -- Where a call leads on, as a place.
-use Rattle.std.proofs.Common.{◌≡◌, refl, sym, ap, ◌∙◌, subst, ℕ, ◌<◌, Bool, true, List, length, map, Option, Some, MatchOption, IfSome}
+use Rattle.std.proofs.Common.{◌≡◌, refl, sym, ◌∙◌, subst, ℕ, List, length, map, Option, Some, MatchOption, IfSome}
 use Rattle.std.proofs.lemmas.List.{length-replicate}
 use Rattle.std.proofs.lemmas.List.Quantifiers.{position-Some}
 use Rattle.std.proofs.lemmas.Option.{slice_get-get_or, MatchOption-at_some}
@@ -8,7 +8,7 @@ use Rattle.wf_history.proofs.Positions.{contains_at, one_item}
 use Rattle.wf_history.specs.declared.event.CallId.{CallId}
 use Rattle.wf_outcomes.specs.declared.seen.Found.{Found}
 use Rattle.wf_outcomes.specs.Explored.{Kept, kept_in, HasNoStep, IsExplored, IsOnlyStepWith, IsWorded}
-use Rattle.wf_outcomes.specs.Merges.{Configuration, IsStep, Leads, none, more, start}
+use Rattle.wf_outcomes.specs.Merges.{Configuration, IsStep, Leads, none, more}
 use Rattle.wf_outcomes.specs.Outcomes.{IsAtEnd, LeadsOn}
 use Rattle.wf_outcomes.proofs.Growing.{size_step}
 use Rattle.wf_outcomes.proofs.Keeping.{found_eq, same_here, some_at}

@@ -1,9 +1,8 @@
 -- How many calls are told.
-use Rattle.std.proofs.Common.{◌≡◌, refl, sym, ap, ◌∙◌, subst, ℕ, ◌+◌, ◌<◌, ◌≤◌, zero, suc, List, [], ◌∷◌, ◌++◌, length, get_or, set, map, replicate, Some, arith, inl, inr, get_or-set_same, get_or-set_other}
+use Rattle.std.proofs.Common.{◌≡◌, refl, sym, ap, ◌∙◌, ℕ, ◌+◌, ◌≤◌, zero, suc, List, [], ◌∷◌, ◌++◌, length, get_or, set, map, replicate, arith, inl, inr, get_or-set_same, get_or-set_other}
 use Rattle.std.proofs.lemmas.Bool.{cases_eq}
 use Rattle.std.proofs.lemmas.List.{length-append, length-map, length-set, length-replicate}
 use Rattle.std.proofs.lemmas.Option.{slice_get_within}
-use Rattle.std.specs.List.{slice_get}
 use Rattle.wf_history.specs.declared.event.CallId.{CallId}
 use Rattle.wf_outcomes.specs.Merges.{total}
 use Rattle.wf_outcomes.proofs.Lists.{sum_none, sum_set}
@@ -86,7 +85,7 @@ module _ {State Call Reply : Type 0} (Effect : Call → State → State → Repl
         let size = size_told l in
         let one = length-map v.replies length in
         let two = length-map scripts length in
-        let start = length-replicate (length scripts) [] in
+        let start = length-replicate {A = List Reply} (length scripts) [] in
         same_by_sum (map length v.replies) (map length scripts) (omega (arith, size, one, two, start))
         (at_most l (λ p. let none_yet = ap (λ (c : List ℕ). get_or c p 0) none_told ∙ zeros (length scripts) p in omega (arith, none_yet)))
         (omega (arith, sum, first, long))

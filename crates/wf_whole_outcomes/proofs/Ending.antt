@@ -1,17 +1,16 @@
 -- What is told of the last layer are the whole outcomes.
-use Rattle.std.proofs.Common.{◌≡◌, refl, sym, ap, ◌∙◌, subst, ℕ, ◌+◌, ◌<◌, zero, suc, List, [], ◌∷◌, length, get_or, map, replicate, Option, Some, arith}
-use Rattle.std.proofs.Math.Logic.{∥∥₁_map}
+use Rattle.std.proofs.Common.{◌≡◌, refl, sym, ap, ◌∙◌, subst, ℕ, zero, suc, List, [], ◌∷◌, length, map, replicate, Option, Some, arith}
 use Rattle.std.proofs.lemmas.Option.{get_or_from_slice_get, same_Some, slice_get_within}
 use Rattle.std.specs.List.{slice_get}
 use Rattle.wf_history.proofs.Positions.{one_item}
 use Rattle.wf_history.specs.declared.event.CallId.{CallId}
 use Rattle.wf_layers.specs.Graph.{Spot, AreApart, next_from}
-use Rattle.wf_layers.specs.Layers.{HasOver, HasSome, IsLayer, Precedes, walk}
+use Rattle.wf_layers.specs.Layers.{HasOver, IsLayer, walk}
 use Rattle.wf_layers.specs.Nodes.{first_spot}
 use Rattle.wf_layers.specs.declared.edges.Edge.{Edge}
 use Rattle.wf_layers.proofs.Listing.{beside, item_at}
 use Rattle.wf_outcomes.specs.Explored.{Kept, IsExplored}
-use Rattle.wf_outcomes.specs.Merges.{Configuration, total}
+use Rattle.wf_outcomes.specs.Merges.{total}
 use Rattle.wf_told.specs.Told.{IsItself}
 use Rattle.wf_whole_outcomes.specs.Graph.{AreRows}
 use Rattle.wf_whole_outcomes.specs.Leaves.{AreLeaves, IsLeaf, IsTellable, named}
@@ -64,7 +63,7 @@ module _ {State Call Reply : Type 0} (Effect : Call → State → State → Repl
   more_told most h =
       let some = h.some in
       let list = of_each (λ (spot : Spot) (v : Telling State Reply). Here spot v × ((ids : List CallId) × Tells Effect scripts (silence Effect scripts opening) ids v)) some.some
-          (λ k spot at. let w = some.each k spot at in let r = reached w.0 spot w.2 in (r.0, (r.1, (named zeros w.0, r.2)))) in
+      (λ k spot at. let w = some.each k spot at in let r = reached w.0 spot w.2 in (r.0, (r.1, (named zeros w.0, r.2)))) in
       record {
         some = list.0;
         many = let size = list.1 in let count = some.count in let over = h.over in omega (arith, size, count, over);

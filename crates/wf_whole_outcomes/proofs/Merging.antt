@@ -1,6 +1,6 @@
 -- What is told along the calls that lead to a configuration.
-use Rattle.std.proofs.Common.{◌≡◌, refl, sym, ap, ◌∙◌, subst, ℕ, ◌+◌, ◌<◌, List, [], ◌∷◌, ◌++◌, length, get_or, set, map, Some, arith, length-map}
-use Rattle.std.proofs.lemmas.List.{length-append}
+use Rattle.std.proofs.Common.{◌≡◌, refl, sym, ap, ◌∙◌, subst, ℕ, ◌+◌, List, [], ◌∷◌, ◌++◌, length, get_or, set, map, Some, arith}
+use Rattle.std.proofs.lemmas.List.{length-append, length-map}
 use Rattle.std.specs.List.{slice_get}
 use Rattle.wf_history.specs.declared.event.CallId.{CallId}
 use Rattle.wf_outcomes.specs.Explored.{HasMore}
@@ -19,13 +19,13 @@ pub record IsOf {State Reply : Type 0} (t : Telling State Reply) (c : Configurat
 module _ {State Call Reply : Type 0} (Effect : Call → State → State → Reply → Type 0) (scripts : List (List Call)) where
   module _ (t : Telling State Reply) (c d : Configuration State) (is : IsOf t c) (id : CallId) (reply : Reply) (s : IsStep Effect scripts c id reply d) where
     -- what is told behind the step
-    abbrev behind : Telling State Reply
+    abbrev pub behind : Telling State Reply
     behind = record { replies = set t.replies id.process (replies_to t id.process ++ reply ∷ []); state = d.state }
 
     count_is : get_or c.counts id.process 0 ≡ length (replies_to t id.process)
     count_is = ap (λ (l : List ℕ). get_or l id.process 0) is.counts ∙ length_row t.replies id.process
 
-    told_step : IsTold Effect scripts t id behind
+    pub told_step : IsTold Effect scripts t id behind
     told_step = record {
       call = s.call;
       reply = reply;
@@ -36,7 +36,7 @@ module _ {State Call Reply : Type 0} (Effect : Call → State → State → Repl
       replies = refl;
     }
 
-    of_behind : IsOf behind d
+    pub of_behind : IsOf behind d
     of_behind = record {
       counts =
           s.counts ∙ ap (λ (l : List ℕ). set l id.process id.number) is.counts
@@ -55,10 +55,10 @@ module _ {State Call Reply : Type 0} (Effect : Call → State → State → Repl
   pub more_told_by : (opening : State) (most : ℕ) → HasMore Effect scripts opening most → HasMoreTold Effect scripts opening most
   more_told_by opening most h =
       let list = of_each (λ (c : Configuration State) (v : Telling State Reply). IsOf v c × ((ids : List CallId) × Tells Effect scripts (silence Effect scripts opening) ids v)) h.some
-          (λ k c at.
-          let r = h.reached k c at in
-          let along = told_along r.1 (silence Effect scripts opening) (record { counts = sym (map_all length (length scripts) []); state = refl }) in
-          (along.0, (along.1, (r.0, along.2)))) in
+      (λ k c at.
+      let r = h.reached k c at in
+      let along = told_along r.1 (silence Effect scripts opening) (record { counts = sym (map_all length (length scripts) []); state = refl }) in
+      (along.0, (along.1, (r.0, along.2)))) in
       record {
         some = list.0;
         many = let size = list.1 in let many = h.many in omega (arith, size, many);

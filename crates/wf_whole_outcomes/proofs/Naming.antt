@@ -1,9 +1,9 @@
 -- The names of calls, by the processes that call one after the other.
-use Rattle.std.proofs.Common.{◌≡◌, refl, sym, ap, ◌∙◌, subst, ℕ, ◌+◌, ◌<◌, suc, List, [], ◌∷◌, length, get_or, set, ◌⊎◌, inl, inr, arith}
+use Rattle.std.proofs.Common.{◌≡◌, refl, sym, ap, subst, ℕ, ◌+◌, suc, List, [], ◌∷◌, length, get_or, set, inl, inr, arith}
 use Rattle.wf_history.specs.declared.event.CallId.{CallId}
 use Rattle.wf_layers.specs.Layers.{Precedes}
 use Rattle.wf_whole_outcomes.specs.Leaves.{named}
-use Rattle.wf_whole_outcomes.specs.Wholes.{IsBefore, IsSmaller}
+use Rattle.wf_whole_outcomes.specs.Wholes.{IsBefore}
 
 pub length_named : (counts way : List ℕ) → length (named counts way) ≡ length way
 length_named counts [] = refl
@@ -19,8 +19,10 @@ named_before counts (p ∷ one) (q ∷ other) h =
       | inl less ↦ inl (inl less)
       | inr e ↦
           let n = λ (x : ℕ). get_or counts x 0 + 1 in
-          inr (ap (λ (x : ℕ). record { process = x; number = get_or counts x 0 + 1 }) e.0,
-          subst (λ (x : ℕ). IsBefore (named (set counts p (n p)) one) (named (set counts x (n x)) other)) e.0 (named_before (set counts p (n p)) one other e.1))
+          inr (
+            ap (λ (x : ℕ). record { process = x; number = get_or counts x 0 + 1 }) e.0,
+            subst (λ (x : ℕ). IsBefore (named (set counts p (n p)) one) (named (set counts x (n x)) other)) e.0 (named_before (set counts p (n p)) one other e.1),
+          )
     ]
 
 pub before_named : (counts one other : List ℕ) → IsBefore (named counts one) (named counts other) → Precedes one other

@@ -1,21 +1,22 @@
 -- What is read of the last layer.
-use Rattle.std.proofs.Common.{◌≡◌, refl, sym, ap, ◌∙◌, subst, ℕ, ◌+◌, ◌<◌, ◌≤◌, suc, List, [], ◌∷◌, ◌++◌, length, get_or, map, set, take, drop, All, Option, None, Some, inl, inr, arith, append_assoc, add-one}
+use Rattle.std.proofs.Common.{◌≡◌, refl, sym, ap, ◌∙◌, subst, ℕ, ◌+◌, ◌<◌, suc, List, [], ◌∷◌, ◌++◌, length, get_or, map, set, take, drop, All, Option, None, Some, inl, inr, arith, append_assoc, add-one}
 use Rattle.std.proofs.Math.Seq.{drop-cons}
 use Rattle.std.proofs.lemmas.List.{length-append, length-map, map-append, take_more}
 use Rattle.std.proofs.lemmas.Option.{get_or_from_slice_get}
-use Rattle.std.proofs.lemmas.List.Elements.{All-cons, All-nil}
+use Rattle.std.proofs.lemmas.List.Elements.{All-cons, All-contains, All-nil}
 use Rattle.std.specs.List.{slice_get}
-use Rattle.wf_history.proofs.Positions.{place_push}
+use Rattle.wf_history.proofs.Positions.{contains_at, place_push}
 use Rattle.wf_history.specs.declared.event.CallId.{CallId}
 use Rattle.wf_layers.specs.Graph.{Spot, IsNarrow, next_from}
 use Rattle.wf_layers.specs.Layers.{walk, ways_of}
-use Rattle.wf_layers.specs.Nodes.{IsFront, first_spot, lists_in, spot_in, spots_in, trail_in}
+use Rattle.wf_layers.specs.Nodes.{AreNodes, IsFront, IsNode, first_spot, lists_in, spot_in, spots_in, trail_in}
+use Rattle.wf_layers.specs.declared.nodes.Node.{Node}
 use Rattle.wf_layers.specs.declared.search.Front.{Front}
 use Rattle.wf_layers.specs.declared.edges.Edge.{Edge}
 use Rattle.wf_layers.proofs.Advancing.{of_process}
-use Rattle.wf_layers.proofs.Listing.{beside, item_at}
+use Rattle.wf_layers.proofs.Listing.{beside, in_map, item_at}
 use Rattle.wf_outcomes.specs.Explored.{Kept}
-use Rattle.wf_whole_outcomes.specs.Leaves.{AreLeaves, IsLeaf, named}
+use Rattle.wf_whole_outcomes.specs.Leaves.{AreLeaves, IsLeaf, IsTellable, named}
 use Rattle.wf_whole_outcomes.specs.Wholes.{WholeTold}
 
 -- the names so far, and those of one more call
@@ -93,3 +94,12 @@ module _ {State Reply : Type 0} (found : List (Kept State)) (replies : List Repl
 
   pub told_all : (bound : ℕ) (wholes : List (WholeTold State Reply)) → AreTold bound wholes → bound ≡ length spots → AreLeaves found replies processes ways spots wholes
   told_all bound wholes h all = record { size = h.size ∙ all; each = h.each }
+
+-- what is said of a layer is said of one of its nodes
+module _ (lists : List (List ℕ)) (keys : List Node) (at : ℕ) (node : Node) (there : slice_get keys at ≡ Some node) where
+  pub tellable_at : (places replies : ℕ) → All (IsTellable places replies) (spots_in lists keys) → IsTellable places replies (spot_in lists node)
+  tellable_at places replies h =
+      All-contains (IsTellable places replies) (spots_in lists keys) (spot_in lists node) h (contains_at (spots_in lists keys) at (spot_in lists node) (in_map (spot_in lists) keys at node there))
+
+  pub node_at : (processes : ℕ) → AreNodes lists processes keys → IsNode lists processes node
+  node_at processes h = All-contains (IsNode lists processes) keys node h (contains_at keys at node there)

@@ -1,18 +1,18 @@
 -- What is told on a way through the graph, and the other way round.
-use Rattle.std.proofs.Common.{◌≡◌, refl, sym, ap, ◌∙◌, subst, ℕ, ◌+◌, ◌<◌, ◌≤◌, zero, suc, List, [], ◌∷◌, ◌++◌, length, get_or, set, map, replicate, Option, Some, None, option_map, MatchOption, arith, length-map, length-set}
-use Rattle.std.proofs.lemmas.List.{length-append, length-replicate}
-use Rattle.std.proofs.lemmas.Option.{same_Some, slice_get_within, slice_get-get_or, MatchOption-at_none, MatchOption-at_some}
+use Rattle.std.proofs.Common.{◌≡◌, refl, sym, ap, ◌∙◌, subst, ℕ, ◌+◌, ◌<◌, zero, suc, List, [], ◌∷◌, ◌++◌, length, get_or, set, map, Option, Some, None, option_map, arith}
+use Rattle.std.proofs.lemmas.List.{length-append, length-map}
+use Rattle.std.proofs.lemmas.Option.{same_Some, slice_get_within, MatchOption-at_none, MatchOption-at_some}
 use Rattle.std.specs.List.{slice_get}
 use Rattle.wf_history.proofs.Positions.{one_item, same_call}
 use Rattle.wf_history.specs.declared.event.CallId.{CallId}
-use Rattle.wf_layers.specs.Graph.{Spot, AreApart, edge_from, next_from, said_on, spot_on}
-use Rattle.wf_layers.specs.Layers.{walk, then_by}
+use Rattle.wf_layers.specs.Graph.{Spot, AreApart, edge_from, next_from, spot_on}
+use Rattle.wf_layers.specs.Layers.{walk}
 use Rattle.wf_layers.specs.Nodes.{first_spot}
 use Rattle.wf_layers.specs.declared.edges.Edge.{Edge}
 use Rattle.wf_layers.proofs.Noding.{same_spot}
 use Rattle.wf_outcomes.specs.Explored.{Kept, IsExplored}
 use Rattle.wf_outcomes.specs.Merges.{Configuration, IsStep}
-use Rattle.wf_outcomes.specs.Outcomes.{IsAtEnd, LeadsOn}
+use Rattle.wf_outcomes.specs.Outcomes.{IsAtEnd}
 use Rattle.wf_outcomes.proofs.Lists.{same_configuration}
 use Rattle.wf_whole_outcomes.specs.Graph.{AreRows, IsEdge, SaysEdge}
 use Rattle.wf_whole_outcomes.specs.Leaves.{named}
@@ -83,8 +83,8 @@ module _ {State Call Reply : Type 0} (Effect : Call → State → State → Repl
             let step = is.leads.step in
             let old : is.leads.here.here.counts ≡ h.it.here.counts = ap (λ (k : Kept State). k.here.counts) here_is in
             let number : is.leads.id.number ≡ length (replies_to t process ++ is.reply ∷ []) =
-                step.number ∙ ap (λ (l : List ℕ). get_or l is.leads.id.process 0 + 1) old ∙ ap (λ (p : ℕ). get_or h.it.here.counts p 0 + 1) is.leads.own ∙ ap (λ (n : ℕ). n + 1) own_count
-                ∙ sym (length-append (replies_to t process) (is.reply ∷ [])) in
+            step.number ∙ ap (λ (l : List ℕ). get_or l is.leads.id.process 0 + 1) old ∙ ap (λ (p : ℕ). get_or h.it.here.counts p 0 + 1) is.leads.own ∙ ap (λ (n : ℕ). n + 1) own_count
+            ∙ sym (length-append (replies_to t process) (is.reply ∷ [])) in
             step.counts ∙ ap (λ (l : List ℕ). set l is.leads.id.process is.leads.id.number) (old ∙ h.counts)
             ∙ ap (λ (p : ℕ). set (map length t.replies) p is.leads.id.number) is.leads.own ∙ ap (set (map length t.replies) process) number
             ∙ sym (map_set length t.replies process (replies_to t process ++ is.reply ∷ []));
@@ -137,6 +137,7 @@ module _ {State Call Reply : Type 0} (Effect : Call → State → State → Repl
 
     -- what is told is a step of the graph
     pub on_telling : (id : CallId) (v : Telling State Reply) → id.process ≡ process → IsTold Effect scripts t id v → (u : Spot) × (next_from rows s process ≡ Some u) × Stands u v × (id ≡ next_id)
+    unfolding told_next
     on_telling id v own told = by (edge_from rows s.place process) refl
       where
         is_id : id ≡ next_id
@@ -173,7 +174,7 @@ module _ {State Call Reply : Type 0} (Effect : Call → State → State → Repl
             let call : other.call ≡ told.call = same_Some other.call told.call (sym other.listed ∙ listed_here) in
             let both = determined told.call t.state is.leads.after.here.state v.state is.reply told.reply (subst (λ (x : Call). Effect x t.state is.leads.after.here.state is.reply) call other.effect) told.effect in
             let v_is : told_on e is ≡ v = same_telling (told_on e is) v
-                (ap (λ (r : Reply). set t.replies process (replies_to t process ++ r ∷ [])) both.1 ∙ sym (told.replies ∙ ap (λ (p : ℕ). set t.replies p (replies_to t p ++ told.reply ∷ [])) own)) both.0 in
+            (ap (λ (r : Reply). set t.replies process (replies_to t process ++ r ∷ [])) both.1 ∙ sym (told.replies ∙ ap (λ (p : ℕ). set t.replies p (replies_to t p ++ told.reply ∷ [])) own)) both.0 in
             (spot_on s process e, ap (option_map (spot_on s process)) at, subst (λ (x : Telling State Reply). Stands (spot_on s process e) x) v_is (stands_on e is), is_id)
 
   -- how many calls of each process are told behind a step
@@ -201,7 +202,7 @@ module _ {State Call Reply : Type 0} (Effect : Call → State → State → Repl
           let rest = onward b one.0 one.1 to in
           let counts = counts_on t one.0 p one.2 in
           let id : ◌≡◌ {A = CallId} (record { process = p; number = length (replies_to t p) + 1 }) (record { process = p; number = get_or (map length t.replies) p 0 + 1 }) =
-              ap (λ (n : ℕ). record { process = p; number = n + 1 }) (sym (length_row t.replies p)) in (
+          ap (λ (n : ℕ). record { process = p; number = n + 1 }) (sym (length_row t.replies p)) in (
             rest.0,
             rest.1,
             subst (λ (i : CallId). Tells Effect scripts t (i ∷ named (set (map length t.replies) p (get_or (map length t.replies) p 0 + 1)) way) rest.0) id
@@ -216,7 +217,7 @@ module _ {State Call Reply : Type 0} (Effect : Call → State → State → Repl
       let rest = told_walk one.0 one.2 l in
       let counts = counts_on t u id.process (subst (λ (i : CallId). IsTold Effect scripts t i u) one.3 told) in
       let first : id ≡ record { process = id.process; number = get_or (map length t.replies) id.process 0 + 1 } =
-          one.3 ∙ ap (λ (n : ℕ). record { process = id.process; number = n + 1 }) (sym (length_row t.replies id.process)) in (
+      one.3 ∙ ap (λ (n : ℕ). record { process = id.process; number = n + 1 }) (sym (length_row t.replies id.process)) in (
         id.process ∷ rest.0,
         rest.1,
         ap (λ (o : Option Spot). walk (next_from rows) o rest.0) one.1 ∙ rest.2,

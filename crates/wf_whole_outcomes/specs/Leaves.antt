@@ -1,5 +1,5 @@
 -- What is told of the nodes of the last layer.
-use Rattle.std.specs.Prelude.{◌≡◌, ℕ, ◌+◌, ◌<◌, List, [], ◌∷◌, length, map, get_or, replicate, slice_get, slice_set, Option, Some, All}
+use Rattle.std.specs.Prelude.{◌≡◌, ℕ, ◌+◌, ◌<◌, List, [], ◌∷◌, length, map, get_or, replicate, slice_get, slice_set, Some, All}
 use Rattle.wf_history.specs.declared.event.CallId.{CallId}
 use Rattle.wf_layers.specs.Graph.{Spot}
 use Rattle.wf_outcomes.specs.Explored.{Kept}
@@ -19,7 +19,7 @@ pub record IsTellable (places replies : ℕ) (s : Spot) : Type 0 where
   pub place : s.place < places
   pub said : All (All (λ number. number < replies)) s.said
 
-module _ {State Reply : Type 0} (found : List (Kept State)) (replies : List Reply) (processes : ℕ) (ways : List (List ℕ)) (spots : List Spot) where
+module _ {State Reply : Type 0} (found : List (Kept State)) (known : List Reply) (processes : ℕ) (ways : List (List ℕ)) (spots : List Spot) where
   -- the state of the place, the replies of the numbers, and the way as names of calls
   pub record IsLeaf (k : ℕ) (w : WholeTold State Reply) : Type 0 where
     pub spot : Spot
@@ -27,7 +27,7 @@ module _ {State Reply : Type 0} (found : List (Kept State)) (replies : List Repl
     pub it : Kept State
     pub there : slice_get found spot.place ≡ Some it
     pub state : it.here.state ≡ w.state
-    pub replies : map (map (slice_get replies)) spot.said ≡ map (map Some) w.replies
+    pub replies : map (map (slice_get known)) spot.said ≡ map (map Some) w.replies
     pub order : w.order ≡ named (replicate processes 0) (get_or ways k [])
 
   pub record AreLeaves (wholes : List (WholeTold State Reply)) : Type 0 where

@@ -7,7 +7,7 @@ use Rattle.wf_whole_outcomes.specs.Wholes.{WholeTold}
 use Rattle.wf_whole_outcomes.specs.declared.wholes.ToldWhole.{ToldWhole}
 
 -- the replies to the calls of each process
-abbrev pub replies_in : {A B : Type 0} → List (Vec (Vec KeptReply A) B) → List (List Reply)
+abbrev pub replies_in : {A : Type 0} → List (Vec KeptReply A) → List (List Reply)
 replies_in rows = map (λ row. map kept_reply row.items) rows
 
 abbrev pub whole_in : {State Meaning : Type 0} → (State → Meaning) → ToldWhole State → WholeTold Meaning Reply

@@ -35,11 +35,7 @@ fn number_in(replies: &[KeptReply], reply: &Reply) -> Option<usize>
 }
 
 /// The number of a reply, which gets one if it has none.
-fn number_of(
-    alloc: Global,
-    replies: &mut Vec<KeptReply>,
-    reply: &Reply,
-) -> Result<usize, NoMemory>
+fn number_of(alloc: Global, replies: &mut Vec<KeptReply>, reply: &Reply) -> Result<usize, NoMemory>
     requires { AreApart (map kept_reply replies.old.items) }
     ensures number { IfOk result (λ number. slice_get (map kept_reply replies.new.items) number ≡ Some (reply_of reply.now)) }
     ensures apart { OnOk result (AreApart (map kept_reply replies.new.items)) }
@@ -100,10 +96,7 @@ fn row_of<O: Object>(
 }
 
 /// The graph of all places.
-pub(crate) fn graph_of<O: Object>(
-    alloc: Global,
-    explored: &Explored<O>,
-) -> Result<Graph, NoMemory>
+pub(crate) fn graph_of<O: Object>(alloc: Global, explored: &Explored<O>) -> Result<Graph, NoMemory>
     ensures rows { IfOk result (λ graph. ∥ AreRows (O.effect explored.now.object.now) (calls_in explored.now.scripts.now) (all_kept O.meaning explored.now.seen)
         (map kept_reply graph.replies.items) (length (all_kept O.meaning explored.now.seen)) (rows_in graph.rows.items) ∥₁) }
     ensures narrow { IfOk result (λ graph. IsNarrow (rows_in graph.rows.items) (length explored.now.scripts.now)) }

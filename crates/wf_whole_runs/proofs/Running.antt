@@ -1,6 +1,7 @@
 -- Runs of scripts and whole outcomes.
-use Rattle.std.proofs.Common.{◌≡◌, refl, sym, ap, ◌∙◌, subst, ℕ, ◌+◌, ◌-◌, ◌<◌, zero, suc, List, [], ◌∷◌, ◌++◌, length, get_or, set, map, Some, inl, inr, arith, length-map, get_or-set_same, get_or-set_other}
+use Rattle.std.proofs.Common.{◌≡◌, refl, sym, ap, ◌∙◌, subst, ℕ, ◌+◌, ◌-◌, ◌<◌, zero, suc, List, [], ◌∷◌, ◌++◌, length, get_or, set, map, Some, inl, inr, arith, get_or-set_same, get_or-set_other}
 use Rattle.std.proofs.lemmas.Bool.{cases_eq}
+use Rattle.std.proofs.lemmas.List.{length-map}
 use Rattle.std.proofs.lemmas.Option.{same_Some}
 use Rattle.std.specs.List.{slice_get, Contains}
 use Rattle.wf_history.proofs.Positions.{place_here, place_left, place_of}
@@ -103,7 +104,7 @@ module _ {State Call Reply : Type 0} (Effect : Call → State → State → Repl
     abbrev quiet : Telling State Reply
     quiet = silence Effect scripts opening
 
-    pub runs_give : RunsGiveWholes {State} {Call} {Reply} Effect scripts opening
+    pub runs_give : RunsGiveWholes Effect scripts opening
     runs_give history order last run legal =
         let all = all_steps Effect scripts opening history order last run legal in
         let r = along history run all.1 quiet (sym (map_all length (length scripts) [])) last legal.replies legal.made legal.agree in
@@ -145,7 +146,7 @@ module _ {State Call Reply : Type 0} (Effect : Call → State → State → Repl
       one_end (more {t} {u = a} {v = u} {id} {ids} told l) (more {u = b} {v = v} other m) =
           one_end l (subst (λ (x : Telling State Reply). Tells Effect scripts x ids v) (sym (one_next t a b id told other)) m)
 
-      pub are_of_runs : WholesAreOfRuns {State} {Call} {Reply} Effect scripts opening
+      pub are_of_runs : WholesAreOfRuns Effect scripts opening
       are_of_runs order t g =
           let first : IsOf quiet (start Effect scripts opening) = record { counts = sym (map_all length (length scripts) []); state = refl } in
           let l = leads_of g.tells (start Effect scripts opening) first in

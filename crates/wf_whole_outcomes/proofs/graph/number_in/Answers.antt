@@ -1,5 +1,5 @@
 -- None of the replies before has it.
-use Rattle.std.proofs.Common.{refl, sym, ap, ◌∙◌, map, Some, arith, inl, inr}
+use Rattle.std.proofs.Common.{sym, ap, ◌∙◌, map, Some, arith, inl, inr}
 use Rattle.std.specs.List.{slice_get}
 use Rattle.std.proofs.lemmas.Bool.{cases_eq}
 use Rattle.std.proofs.lemmas.List.{length-map}
@@ -14,7 +14,7 @@ pub returns-then-same_reply : goal.returns-then-same_reply
 returns-then-same_reply c =
     let replies = c.args.replies.now in
     let number = c.loop-number.number in
-    item_here kept_reply replies number c.kept-item.result c.loop-number-test.true c.kept-item.is ∙ ap Some (sym (c.same_reply.ensures.0 c.if-same_reply.true))
+    item_here kept_reply replies number c.index-replies-number.result c.loop-number-test.true c.index-replies-number.is ∙ ap Some (sym (c.same_reply.ensures.0 c.if-same_reply.true))
 
 pub loop-number-preserved : goal.loop-number-preserved
 loop-number-preserved c = λ k less at.
@@ -22,7 +22,7 @@ loop-number-preserved c = λ k less at.
     let number = c.loop-number.number in
     elim (cases_eq k number) [
       | inl now ↦
-          let is = item_at kept_reply replies number c.kept-item.result (reply_of c.args.reply.now) c.loop-number-test.true c.kept-item.is (ap (slice_get (map kept_reply replies)) (sym now) ∙ at) in
+          let is = item_at kept_reply replies number c.index-replies-number.result (reply_of c.args.reply.now) c.loop-number-test.true c.index-replies-number.is (ap (slice_get (map kept_reply replies)) (sym now) ∙ at) in
           let t = c.same_reply.ensures.1 (sym is) in
           let f = c.if-same_reply.false in absurd (cc)
       | inr before ↦ c.loop-number.invariant k (omega (arith, less, before)) at

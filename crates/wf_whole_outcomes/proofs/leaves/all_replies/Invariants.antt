@@ -8,4 +8,4 @@ use Rattle.wf_whole_outcomes.specs.View.{replies_in}
 use Rattle.wf_whole_outcomes.proofs.leaves.all_replies.Given as goal
 
 abbrev pub invariant-loop-number : goal.invariant-loop-number
-invariant-loop-number l = map (map Some) (replies_in l.rows.items) ≡ map (map (slice_get (map kept_reply l.replies))) (said_in (lists_in l.lists) (take l.number-index l.told))
+invariant-loop-number l = map (map Some) (replies_in l.rows.items) ≡ map (map (slice_get (map kept_reply l.replies))) (take l.number-index (said_in (lists_in l.lists) l.told))

@@ -1,5 +1,5 @@
 -- By the way to the node, turned round.
-use Rattle.std.proofs.Common.{◌≡◌, ◌∙◌, ◌<◌, ◌∷◌, [], ℕ, List, All, IfOk, Vec, Global, get_or, length, replicate, subst, sym}
+use Rattle.std.proofs.Common.{◌≡◌, ◌∙◌, ◌<◌, ◌∷◌, [], ℕ, List, All, IfOk, Vec, Global, ap, get_or, length, replicate, subst, sym}
 use Rattle.wf_layers.specs.Graph.{rows_in}
 use Rattle.wf_layers.specs.Layers.{IsLinked, ways_of}
 use Rattle.wf_layers.specs.Nodes.{trail_in}
@@ -16,8 +16,14 @@ way_back-requires-clause-within c =
     subst (λ (t : List (Vec Came Global)). c.args.at < length (ways_of ([] ∷ []) (trail_in t))) (sym c.deref.ensures.value)
     (way_there (rows_in c.args.rows.now) c.args.processes c.requires.narrow c.args.front.now c.requires.front c.args.at c.requires.at)
 
+-- the way, turned round
 pub names-requires : goal.names-requires
-names-requires c = ?
+names-requires c =
+    let front = c.args.front.now in
+    let way = c.deref-2.ensures.value ∙ c.reverse.ensures.items ∙ c.in_ok-way.ensures ∙ ap (λ (t : List (Vec Came Global)). get_or (ways_of ([] ∷ []) (trail_in t)) c.args.at []) c.deref.ensures.value in
+    subst (All (λ process. process < c.args.processes)) (sym way) (way_own (rows_in c.args.rows.now) c.args.processes c.requires.narrow front c.requires.front c.args.at c.requires.at)
 
 pub returns : goal.returns
-returns c = ?
+returns c =
+    let way = c.deref-2.ensures.value ∙ c.reverse.ensures.items ∙ c.in_ok-way.ensures ∙ ap (λ (t : List (Vec Came Global)). get_or (ways_of ([] ∷ []) (trail_in t)) c.args.at []) c.deref.ensures.value in
+    subst (λ (w : List ℕ). IfOk c.names.result (λ order. order.items ≡ named (replicate c.args.processes 0) w)) way c.names.ensures

@@ -1,5 +1,5 @@
 -- By the step that there is, and where what it leads to was found.
-use Rattle.std.proofs.Common.{sym, ap, ◌∙◌, option_map, length, ◌≡◌, map, arith}
+use Rattle.std.proofs.Common.{sym, ap, ◌∙◌, option_map, map, arith}
 use Rattle.std.proofs.Math.Bridge.{le_prop}
 use Rattle.std.proofs.Math.Logic.{∥∥₁_elim}
 use Rattle.std.proofs.lemmas.List.{length-map}
@@ -43,5 +43,5 @@ returns-in-Some-get_index_of g c =
     let only = both_match c.in_ok-there.field-0 c.in-Some.there c.in-Some.reply c.in-Some.is (HasNoStep effect scripts here.here c.args.process) (λ to. IsOnlyStepWith effect scripts here.here c.args.process (reply_of to.1) (view to.0).here) c.in_ok-there.ensures.only in
     let worded = both_there c.in_ok-there.field-0 c.in-Some.there c.in-Some.reply c.in-Some.is (λ to. IsWorded g.O.Object.meaning g.O.Object.words_of to.0) c.in_ok-there.ensures.words in
     let f = found_at g.O.Object.meaning g.O.Object.words_of (λ a b. g.met.O.Object.told_apart a b) self.seen.keys self.worded c.in-Some.there worded c.in-Some-get_index_of.place
-        (sym c.get_index_of.ensures.index ∙ c.in-Some-get_index_of.is) in
+    (sym c.get_index_of.ensures.index ∙ c.in-Some-get_index_of.is) in
     ∣ leads_on effect scripts (all_kept g.O.Object.meaning self.seen) c.args.place c.args.process here at (reply_of c.in-Some.reply) (view c.in-Some.there).here only c.in-Some-get_index_of.place f.0 f.1 f.2 ∣₁
