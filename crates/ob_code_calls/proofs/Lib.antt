@@ -1,0 +1,5 @@
+pub mod Ended
+mod Steps
+mod Arguments
+mod Words
+mod Results

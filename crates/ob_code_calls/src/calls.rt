@@ -1,0 +1,123 @@
+//! Calls on a block, by the code of a module.
+
+ghost use Rattle.std.specs.Prelude.{◌≡◌, ◌+◌, ◌*◌, length};
+
+use crate::fitting::do_fit;
+use crate::room::Room;
+use crate::running::{begin, reply_to, run_kept};
+use ob_checked::checked::Checked;
+use ob_code_engine::CodeEngine;
+use ob_code_layout::Layout;
+use ob_code_layout::laws::stacks_are_counted;
+use ob_code_machine::Code;
+use ob_code_well_formed::laws::checked_is_well_formed;
+use ob_interface::NoMemory;
+use ob_interface::call::{Call, Reply};
+use std::alloc::Global;
+use wf_object::Engine;
+use wf_table::EngineTurn;
+
+/// The code of a module, each call with so many turns.
+#[derive(Drop)]
+pub struct CodeCalls {
+    engine: CodeEngine,
+    /// The words of a stack.
+    reserve: usize,
+    /// The most instructions of a call: each turn, and the call itself, pays for as many as the code has.
+    most: u64,
+    ghost same_reserve: { reserve ≡ engine.parts.reserve },
+    ghost enough: { most ≡ (engine.parts.budget + 1) * length engine.parts.code.instructions },
+}
+
+impl CodeCalls {
+    ghost use Rattle.std.specs.Prelude.{◌≤◌, IfOk, IsTrue, List};
+    ghost use Rattle.ob_checked.specs.CheckedModule.{program_in};
+    ghost use Rattle.ob_code_calls.specs.Calls.{IsMade};
+    ghost use Rattle.ob_code_calls.specs.Parts.{parts_in, IsRoomFor};
+    ghost use Rattle.ob_code_law.specs.Compiled.{IsFitting, parts_of};
+    ghost use Rattle.ob_code_law.specs.Parts.{IsCompiledTo, IsLawfulFor};
+    ghost use Rattle.ob_code_layout.specs.Layout as Layouts;
+    ghost use Rattle.ob_code_scheme.specs.Layout.{IsEncoding};
+    ghost use Rattle.ob_code_scheme.specs.Scheme.{code_of};
+    ghost use Rattle.ob_interface.specs.View.{call_of, reply_of};
+    ghost use Rattle.ob_meaning.specs.Object.{most_turns};
+    ghost use Rattle.ob_positions.specs.Store.{Activation};
+    ghost use Rattle.ob_typing.specs.Program.{Program};
+
+    /// The code of a checked module, by its layout, each call with so many turns.
+    pub fn new(
+        alloc: Global,
+        checked: &Checked,
+        layout: &Layout,
+        code: Code,
+        budget: u64,
+    ) -> Result<CodeCalls, NoMemory>
+        requires layout { Layouts.parts_of layout.now ≡ Layouts.layout_of (program_in checked.now) }
+        requires code { code ≡ code_of (program_in checked.now) }
+        requires budget { budget ≤ most_turns }
+        ensures { IfOk result (λ c. parts_in c ≡ parts_of (program_in checked.now) budget) }
+    {
+        checked_is_well_formed(checked);
+        stacks_are_counted();
+        let reserve = layout.stack_words();
+        let instructions = code.instructions().len() as u64;
+        let engine = CodeEngine::new(alloc, checked, layout, code, budget)?;
+        Ok(CodeCalls {
+            engine,
+            reserve,
+            most: (budget + 1) * instructions,
+        })
+    }
+
+    /// Room for calls.
+    pub fn room(&self, alloc: Global) -> Result<Room, NoMemory>
+        ensures { IfOk result (IsRoomFor (parts_in self.now)) }
+    {
+        Ok(Room {
+            run: self.engine.new_run(alloc)?,
+            reserve: self.reserve,
+            call: vec![in alloc; 0; self.engine.announce_words()]?,
+            saved: vec![in alloc; 0; self.engine.variable_words()]?,
+            results: vec![in alloc; 0; self.engine.reply_words() + 1]?,
+        })
+    }
+
+    /// Whether room is as large as these calls need it.
+    pub fn has_room(&self, room: &Room) -> bool
+        ensures { IsTrue result → IsRoomFor (parts_in self.now) room.now }
+    {
+        room.reserve == self.reserve
+            && room.call.len() == self.engine.announce_words()
+            && room.saved.len() == self.engine.variable_words()
+            && room.results.len() == self.engine.reply_words() + 1
+    }
+
+    /// Whether a call is one of the module's: of an export, and with an argument of its type for each value parameter.
+    pub fn fits(&self, call: &Call) -> bool
+        ensures { IsTrue result → IsFitting (parts_in self.now).exports (call_of call.now) }
+    {
+        match self.engine.exports().get(call.proc) {
+            Some(export) => do_fit(export.parameters(), call.args.as_slice()),
+            None => false,
+        }
+    }
+
+    /// A call that is made on the block of a state, and its reply. Where it traps, the block is as it was.
+    pub fn call(&self, room: &mut Room, block: &mut [i64], call: &Call) -> Reply
+        requires room { IsRoomFor (parts_in self.now) room.old }
+        requires fits { IsFitting (parts_in self.now).exports (call_of call.now) }
+        requires lawful { ∥ IsLawfulFor (parts_in self.now) block.old ∥₁ }
+        ensures room { IsRoomFor (parts_in self.now) room.new }
+        ensures made { (program : Program) (before : Activation) → IsCompiledTo program (parts_in self.now) → IsEncoding program.variables before block.old
+            → IsMade program (parts_in self.now).budget (call_of call.now) before block.new (reply_of result) }
+    {
+        let engine = &self.engine;
+        begin(engine, &mut room.run, call, room.call.as_mut_slice());
+        let saved = room.saved.as_mut_slice();
+        match run_kept(engine, &mut room.run, block, saved, self.most) {
+            EngineTurn::Returned => reply_to(engine, &room.run, call, room.results.as_mut_slice()),
+            EngineTurn::Trapped(number) => Reply::Trap(number),
+            _ => unreachable!(),
+        }
+    }
+}

@@ -1,0 +1,17 @@
+//! What calls work in.
+
+ghost use Rattle.std.specs.Prelude.{◌≡◌};
+
+use ob_code_machine::Body;
+
+/// What calls work in: a body with its stack, and room for the words of a call, of the block before it and of its results. It is made
+/// once, and serves each call that follows.
+#[derive(Drop)]
+pub struct Room {
+    pub(crate) run: Body,
+    pub(crate) reserve: usize,
+    pub(crate) call: Vec<i64>,
+    pub(crate) saved: Vec<i64>,
+    pub(crate) results: Vec<i64>,
+    ghost same_reserve: { reserve ≡ run.reserve },
+}
