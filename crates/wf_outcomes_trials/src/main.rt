@@ -11,17 +11,21 @@ use ob_interface::scalar::Scalar;
 use std::alloc::Global;
 use std::hash::RandomState;
 use tally::Tally;
-use whole::{same_by_hand, wholes_counted, wholes_enough, wholes_shown};
 use wf_history::{CallId, KeptCall, KeptReply, KeptScalars};
 use wf_outcomes::{ExploreFault, Explored, Question, explore};
+use whole::{same_by_hand, wholes_counted, wholes_enough, wholes_shown};
 
 /// The most configurations that are looked at.
 const MOST: usize = 1_000_000;
 
 const ADD: usize = 0;
+
 const READ: usize = 1;
+
 const COUNT: usize = 2;
+
 const SET_1: usize = 3;
+
 const SET_2: usize = 4;
 
 /// A call of a procedure without arguments.
@@ -125,7 +129,11 @@ fn first_other(alloc: Global, explored: &Explored<Tally>, number: i32) -> Result
 }
 
 /// How many replies all calls of a process may have, together.
-fn replies_counted(alloc: Global, explored: &Explored<Tally>, script: (usize, u8)) -> Result<usize> {
+fn replies_counted(
+    alloc: Global,
+    explored: &Explored<Tally>,
+    script: (usize, u8),
+) -> Result<usize> {
     let mut count = 0usize;
     for number in 1..=script.1 {
         let id = CallId {
@@ -149,9 +157,9 @@ fn counted(alloc: Global, size: (u8, u8), keys: RandomState) -> Result<String> {
         let script = (usize::from(process), calls);
         replies = replies.wrapping_add(replies_counted(alloc, &explored, script)?);
     }
-    Ok(
-        format!(in alloc; "{processes} x {calls}: {found} configurations, {states} final, {replies} replies")?,
-    )
+    Ok(format!(in alloc;
+        "{processes} x {calls}: {found} configurations, {states} final, {replies} replies"
+    )?)
 }
 
 /// Whether an exploration gives up with so many configurations.

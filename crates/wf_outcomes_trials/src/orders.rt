@@ -9,7 +9,12 @@ use wf_history::{CallId, KeptCall, SeenCall};
 use wf_order::Object;
 
 /// The order number `word` of the orders of so many calls of so many processes, in lexical order: its digits are processes.
-pub fn digits(alloc: Global, word: u64, processes: u64, calls: usize) -> Result<Vec<usize>, NoMemory> {
+pub fn digits(
+    alloc: Global,
+    word: u64,
+    processes: u64,
+    calls: usize,
+) -> Result<Vec<usize>, NoMemory> {
     let mut way = Vec::new(alloc);
     let mut rest = word;
     for _ in 0..calls {
@@ -53,7 +58,12 @@ fn nothing(alloc: Global, processes: usize) -> Result<Given, NoMemory> {
 }
 
 /// One call more of a process, if it has one.
-fn goes_on(alloc: Global, given: &mut Given, scripts: &[Vec<KeptCall>], process: usize) -> Result<bool, NoMemory> {
+fn goes_on(
+    alloc: Global,
+    given: &mut Given,
+    scripts: &[Vec<KeptCall>],
+    process: usize,
+) -> Result<bool, NoMemory> {
     let (Some(script), Some(row)) = (scripts.get(process), given.replies.get_mut(process)) else {
         return Ok(false);
     };
@@ -75,7 +85,11 @@ fn goes_on(alloc: Global, given: &mut Given, scripts: &[Vec<KeptCall>], process:
 }
 
 /// What the processes give that call in this order, if these are all calls.
-pub fn given_by(alloc: Global, scripts: &[Vec<KeptCall>], way: &[usize]) -> Result<Option<Given>, NoMemory> {
+pub fn given_by(
+    alloc: Global,
+    scripts: &[Vec<KeptCall>],
+    way: &[usize],
+) -> Result<Option<Given>, NoMemory> {
     let mut given = nothing(alloc, scripts.len())?;
     for process in way {
         if !goes_on(alloc, &mut given, scripts, *process)? {

@@ -75,7 +75,11 @@ pub fn wholes_shown(alloc: Global, scripts: &[Vec<KeptCall>], keys: RandomState)
 }
 
 /// How many whole outcomes there are.
-pub fn wholes_counted(alloc: Global, scripts: &[Vec<KeptCall>], keys: RandomState) -> Result<usize> {
+pub fn wholes_counted(
+    alloc: Global,
+    scripts: &[Vec<KeptCall>],
+    keys: RandomState,
+) -> Result<usize> {
     let explored = explore(alloc, &Tally, scripts, MOST, keys)?;
     Ok(wholes_told(alloc, &explored, MOST, keys)?.len())
 }

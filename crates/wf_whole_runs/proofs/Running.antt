@@ -30,8 +30,8 @@ module _ {State Call Reply : Type 0} (Effect : Call → State → State → Repl
       elim (cases_eq process id.process) [
         | inl own ↦
             let here : replies_to u process ≡ replies_to t process ++ told.reply ∷ [] =
-                now ∙ ap (λ (p : ℕ). get_or (set t.replies id.process (replies_to t id.process ++ told.reply ∷ [])) p []) own
-                ∙ get_or-set_same t.replies id.process (replies_to t id.process ++ told.reply ∷ []) [] told.process ∙ ap (λ (p : ℕ). replies_to t p ++ told.reply ∷ []) (sym own) in
+            now ∙ ap (λ (p : ℕ). get_or (set t.replies id.process (replies_to t id.process ++ told.reply ∷ [])) p []) own
+            ∙ get_or-set_same t.replies id.process (replies_to t id.process ++ told.reply ∷ []) [] told.process ∙ ap (λ (p : ℕ). replies_to t p ++ told.reply ∷ []) (sym own) in
             ap (λ (l : List Reply). slice_get l k) here ∙ place_left (replies_to t process) (told.reply ∷ []) k reply at
         | inr other ↦
             ap (λ (l : List Reply). slice_get l k) (now ∙ get_or-set_other t.replies id.process process (replies_to t id.process ++ told.reply ∷ []) [] other) ∙ at
@@ -45,7 +45,7 @@ module _ {State Call Reply : Type 0} (Effect : Call → State → State → Repl
   told_there : (t u : Telling State Reply) (id : CallId) (told : IsTold Effect scripts t id u) → slice_get (replies_to u id.process) (id.number - 1) ≡ Some told.reply
   told_there t u id told =
       let here : replies_to u id.process ≡ replies_to t id.process ++ told.reply ∷ [] =
-          ap (λ (l : List (List Reply)). get_or l id.process []) told.replies ∙ get_or-set_same t.replies id.process (replies_to t id.process ++ told.reply ∷ []) [] told.process in
+      ap (λ (l : List (List Reply)). get_or l id.process []) told.replies ∙ get_or-set_same t.replies id.process (replies_to t id.process ++ told.reply ∷ []) [] told.process in
       let number = told.number in
       let place : id.number - 1 ≡ length (replies_to t id.process) = omega (arith, number) in
       ap (λ (l : List Reply). slice_get l (id.number - 1)) here ∙ ap (slice_get (replies_to t id.process ++ told.reply ∷ [])) place ∙ place_here (replies_to t id.process) [] told.reply
