@@ -11,7 +11,8 @@ ghost use Rattle.ob_object_outcomes.specs.OutcomesFaults.{IsFaultHere, IsOutcome
 ghost use Rattle.ob_object_outcomes.specs.Questions.{Holds};
 ghost use Rattle.ob_object_outcomes.specs.Scripted.{scripted_in};
 ghost use Rattle.ob_object_outcomes.specs.View.{always_in, last_in, outcomes_in};
-ghost use Rattle.ob_store.specs.View.{state_of, variables_in};
+ghost use Rattle.ob_object_search.specs.Kept.{kept_in};
+ghost use Rattle.ob_store.specs.View.{state_of};
 ghost use Rattle.wf_outcomes.specs.Explored.{calls_in};
 ghost use Rattle.wf_outcomes.specs.Outcomes.{AlwaysGood};
 ghost use Rattle.wf_told.specs.Told.{AreOutcomes, IsItself};
@@ -21,10 +22,9 @@ use crate::question::{call_of, passed, question_named};
 use crate::scripted::{Scripted, scripted_text};
 use ob_interface::NoMemory;
 use ob_object_compile::Asked;
-use ob_object_search::ModuleObject;
+use ob_object_search::{KeptState, ModuleObject};
 use ob_object_sequence::SeqTextFault;
 use ob_store::state::State;
-use ob_store::value::{Value, copy_all};
 use std::alloc::{AllocError, Global};
 use std::hash::RandomState;
 use thiserror::Error;
@@ -237,9 +237,9 @@ fn outcomes_found(
 /// The states in which all calls may end, each a copy.
 fn last_states(
     alloc: Global,
-    ends: &[ToldEnd<'_, Vec<Value>>],
+    ends: &[ToldEnd<'_, KeptState>],
 ) -> Result<Vec<LastState>, AllocError>
-    ensures { IfOk result (λ lasts. map last_in lasts.items ≡ map (end_in (λ values. variables_in values.items)) ends.now) }
+    ensures { IfOk result (λ lasts. map last_in lasts.items ≡ map (end_in kept_in) ends.now) }
 {
     let mut lasts = Vec::new(alloc);
     for end in ends {
@@ -249,11 +249,10 @@ fn last_states(
 }
 
 /// A state in which all calls may end, a copy.
-fn last_state(alloc: Global, end: &ToldEnd<'_, Vec<Value>>) -> Result<LastState, AllocError>
-    ensures { IfOk result (λ last. last_in last ≡ end_in (λ values. variables_in values.items) end.now) }
+fn last_state(alloc: Global, end: &ToldEnd<'_, KeptState>) -> Result<LastState, AllocError>
+    ensures { IfOk result (λ last. last_in last ≡ end_in kept_in end.now) }
 {
-    let values = copy_all(alloc, end.state)?;
+    let state = end.state.state(alloc)?;
     let order = Vec::from_slice(alloc, &end.order)?;
-    let state = State::new(values);
     Ok(LastState { state, order })
 }

@@ -8,3 +8,5 @@ pub mod Silent
 pub mod Texts
 pub mod Verdicts
 pub mod Wording
+mod KeptStates
+mod ByCode

@@ -6,7 +6,7 @@ use Rattle.ob_interface.specs.declared.scalar.Scalar.{Scalar}
 use Rattle.ob_interface.specs.declared.scalar.Scalar.TheVariants.{Int, Bool as Truth}
 use Rattle.ob_object_order.specs.LegalOrder.{CallEnds}
 use Rattle.ob_object_search.specs.Words.{word_of, count_of, value_words, parts_words, held_words, words_of}
-use Rattle.ob_positions.specs.Object.{Effect, effect}
+use Rattle.ob_positions.specs.Object.{Effect}
 use Rattle.ob_positions.specs.Store.{Activation, Held, Holds, Refers, Place}
 use Rattle.ob_positions.specs.Value as Values
 use Rattle.ob_typing.specs.Program.{Program}
@@ -16,7 +16,7 @@ module _ (program : Program) (budget : ℕ) (call : ObjectCall) (before after ot
   one_outcome h g = (ap (λ (e : Effect). e.state) (sym h ∙ g), ap (λ (e : Effect). e.reply) (sym h ∙ g))
 
 -- scalars with the same word are the same
-scalar_apart : (s t : Scalar) → word_of s ≡ word_of t → s ≡ t
+pub scalar_apart : (s t : Scalar) → word_of s ≡ word_of t → s ≡ t
 scalar_apart (Int (pos n)) (Int (pos m)) h = ap (λ (k : ℕ). Int (pos k)) (omega (arith, h))
 scalar_apart (Int (pos n)) (Int (negsuc m)) h = absurd (omega (arith, h))
 scalar_apart (Int (pos n)) (Truth true) h = absurd (omega (arith, h))

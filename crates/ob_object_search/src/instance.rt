@@ -6,10 +6,13 @@ ghost use Rattle.ob_interface.specs.View as Objects;
 ghost use Rattle.ob_interpreter.specs.View.{call_of, reply_of};
 ghost use Rattle.ob_object_order.specs.LegalOrder.{CallEnds};
 ghost use Rattle.ob_read_only.specs.ReadOnly.{TellsReadOnly};
-ghost use Rattle.ob_store.specs.View.{state_of, variables_in};
+ghost use Rattle.ob_object_search.specs.Code.{IsCodeOf};
+ghost use Rattle.ob_object_search.specs.Kept.{kept_in};
+ghost use Rattle.ob_store.specs.View.{state_of};
 ghost use Rattle.wf_history.specs.View.{seen_call};
 
-use crate::words::words_in;
+use crate::coded::{ModuleCode, module_code};
+use crate::kept::{KeptState, kept};
 use ob_checked::checked::Checked;
 use ob_interface::NoMemory;
 use ob_interface::call::Reply;
@@ -17,7 +20,6 @@ use ob_interpreter::call as interpreter;
 use ob_interpreter::object::step;
 use ob_read_only::exports::read_only_exports;
 use ob_store::state::State;
-use ob_store::value::{Value, copy_all};
 use smallvec::SmallVec;
 use std::alloc::{AllocError, Global};
 use wf_history::{SeenCall, SeenReply};
@@ -32,6 +34,9 @@ pub struct ModuleObject<'a> {
     pub budget: u64,
     /// Of each export, whether it is known to change no variable of the module.
     read_only: Vec<bool>,
+    /// The code of its calls, where there is any.
+    code: Option<ModuleCode>,
+    ghost coded: { ∥ IsCodeOf (program_in checked.now) budget code ∥₁ },
     ghost tells: { ∥ TellsReadOnly (program_in checked.now) read_only.items ∥₁ },
 }
 
@@ -50,11 +55,13 @@ impl<'a> ModuleObject<'a> {
         ensures budget { IfOk result (λ o. o.budget ≡ budget) }
     {
         let read_only = read_only_exports(alloc, checked)?;
+        let code = module_code(alloc, checked, budget)?;
         Ok(ModuleObject {
             checked,
             opening,
             budget,
             read_only,
+            code,
         })
     }
 
@@ -91,15 +98,7 @@ fn object_reply(alloc: Global, reply: &interpreter::Reply) -> Result<Reply, Allo
     }
 }
 
-/// A state whose variables have these values.
-fn state_copied(alloc: Global, values: &[Value]) -> Result<State, AllocError>
-    ensures { IfOk result (λ state. state_of state ≡ variables_in values.now) }
-{
-    let copies = copy_all(alloc, values)?;
-    Ok(State::new(copies))
-}
-
-/// What a call with so many turns makes of a state, and what it answers.
+/// What a call with so many turns makes of a state, and what it answers, by the interpreter.
 fn called(
     alloc: Global,
     checked: &Checked,
@@ -115,20 +114,49 @@ fn called(
     Ok((next, given))
 }
 
+impl<'a> ModuleObject<'a> {
+    ghost use Rattle.std.specs.Prelude.{◌≡◌, IfOk, IfSome, map};
+    ghost use Rattle.ob_checked.specs.CheckedModule.{program_in};
+    ghost use Rattle.ob_object_order.specs.LegalOrder.{CallEnds};
+    ghost use Rattle.ob_object_search.specs.Kept.{kept_in};
+    ghost use Rattle.ob_interface.specs.View as Objects;
+    ghost use Rattle.wf_history.specs.View.{seen_call};
+
+    /// What a call makes of a state by the module's code, and what it answers; nothing where there is no code for it.
+    fn called_by_code(
+        &self,
+        state: &KeptState,
+        call: SeenCall,
+    ) -> Result<Option<(KeptState, Reply)>, NoMemory>
+        ensures { IfOk result (λ o. IfSome o (λ made. CallEnds (program_in self.now.checked.now) self.now.budget (seen_call call.entry) (kept_in state.now) (kept_in made.0) (Objects.reply_of made.1))) }
+    {
+        let Some(code) = &self.code else {
+            return Ok(None);
+        };
+        let KeptState::Scalars(scalars) = state else {
+            return Ok(None);
+        };
+        match code.called(self.checked, scalars.as_slice(), call)? {
+            Some(made) => Ok(Some((KeptState::Scalars(made.scalars), made.reply))),
+            None => Ok(None),
+        }
+    }
+}
+
 impl<'a> Object for ModuleObject<'a> {
     ghost use Rattle.ob_checked.specs.CheckedModule.{program_in};
     ghost use Rattle.ob_object_order.specs.LegalOrder.{CallEnds};
     ghost use Rattle.ob_object_search.specs.Laws.{one_outcome, words_told_apart};
+    ghost use Rattle.ob_object_search.specs.Kept.{kept_in};
     ghost use Rattle.ob_object_search.specs.Words.{words_of};
     ghost use Rattle.ob_positions.specs.Store.{Activation};
-    ghost use Rattle.ob_store.specs.View.{state_of, variables_in};
+    ghost use Rattle.ob_store.specs.View.{state_of};
 
-    // The values of the module's variables, without the memory that a call works in.
-    type State = Vec<Value>;
+    type State = KeptState;
 
     ghost Meaning = { Activation };
 
-    ghost meaning = { λ values. variables_in values.items };
+    ghost meaning = { kept_in };
 
     ghost opening = { λ o. state_of o.opening.now };
 
@@ -136,23 +164,27 @@ impl<'a> Object for ModuleObject<'a> {
 
     ghost words_of = { words_of };
 
-    fn open(&self, alloc: Global) -> Result<Vec<Value>, NoMemory> {
-        Ok(self.opening.copy(alloc)?.into_values())
+    fn open(&self, alloc: Global) -> Result<KeptState, NoMemory> {
+        let values = self.opening.copy(alloc)?.into_values();
+        kept(alloc, values)
     }
 
     fn apply(
         &self,
         alloc: Global,
-        state: &Vec<Value>,
+        state: &KeptState,
         call: SeenCall,
-    ) -> Result<(Vec<Value>, Reply), NoMemory> {
-        let before = state_copied(alloc, state.as_slice())?;
+    ) -> Result<(KeptState, Reply), NoMemory> {
+        if let Some(made) = self.called_by_code(state, call)? {
+            return Ok(made);
+        }
+        let before = state.state(alloc)?;
         let (next, reply) = called(alloc, self.checked, before, call, self.budget)?;
-        Ok((next.into_values(), reply))
+        Ok((kept(alloc, next.into_values())?, reply))
     }
 
-    fn words(&self, alloc: Global, state: &Vec<Value>) -> Result<Words, NoMemory> {
-        words_in(alloc, state.as_slice())
+    fn words(&self, alloc: Global, state: &KeptState) -> Result<Words, NoMemory> {
+        state.words(alloc)
     }
 
     fn is_silent(&self, call: SeenCall, reply: SeenReply) -> bool {

@@ -4,10 +4,13 @@
 //! of `order_found`, and of `ModuleObject` on those of `wf_order::Object`. Which words a state has may change without asking.
 #![tactic(auto)]
 
+mod coded;
 pub mod instance;
+pub mod kept;
 pub mod laws;
 pub mod searching;
 mod words;
 
 pub use instance::ModuleObject;
+pub use kept::KeptState;
 pub use searching::{Search, SearchFault, search_text};

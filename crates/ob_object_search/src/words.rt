@@ -1,6 +1,7 @@
 //! States in words.
 
-ghost use Rattle.std.specs.Prelude.{◌≡◌, ◌++◌, IfOk, OnOk};
+ghost use Rattle.std.specs.Prelude.{◌≡◌, ◌++◌, IfOk, OnOk, map};
+ghost use Rattle.ob_code_calls.specs.Scalars.{held_of};
 ghost use Rattle.ob_object_search.specs.Words.{word_of, value_words, parts_words, words_of};
 ghost use Rattle.ob_store.specs.View.{value_in, values_in, variables_in};
 
@@ -48,6 +49,17 @@ fn push_all(words: &mut Words, values: &[Value]) -> Result<(), NoMemory>
         push_value(words, value)?;
     }
     Ok(())
+}
+
+/// The words of variables that hold scalars.
+pub(crate) fn scalar_words(alloc: Global, scalars: &[Scalar]) -> Result<Words, NoMemory>
+    ensures { IfOk result (λ words. words.items ≡ words_of (map held_of scalars.now)) }
+{
+    let mut words = SmallVec::new(alloc);
+    for scalar in scalars {
+        words.push(word_of(*scalar))?;
+    }
+    Ok(words)
 }
 
 /// The words of variables that have these values.

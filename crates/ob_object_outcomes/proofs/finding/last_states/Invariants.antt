@@ -1,8 +1,8 @@
 use Rattle.std.proofs.Common.{◌≡◌, map, take}
 use Rattle.ob_object_outcomes.specs.View.{last_in}
-use Rattle.ob_store.specs.View.{variables_in}
+use Rattle.ob_object_search.specs.Kept.{kept_in}
 use Rattle.wf_told.specs.View.{end_in}
 use Rattle.ob_object_outcomes.proofs.finding.last_states.Given as goal
 
 abbrev pub invariant-loop-end : goal.invariant-loop-end
-invariant-loop-end l = map last_in l.lasts.items ≡ map (end_in (λ values. variables_in values.items)) (take l.end-index l.ends)
+invariant-loop-end l = map last_in l.lasts.items ≡ map (end_in kept_in) (take l.end-index l.ends)

@@ -6,7 +6,8 @@ use Rattle.ob_checked.specs.CheckedModule.{program_in}
 use Rattle.ob_interface.specs.Call.{ObjectCall, Reply}
 use Rattle.ob_object_order.specs.LegalOrder.{CallEnds}
 use Rattle.ob_object_outcomes.specs.Questions.{FailsFirst, question_call, yes}
-use Rattle.ob_store.specs.View.{state_of, variables_in}
+use Rattle.ob_object_search.specs.Kept.{kept_in}
+use Rattle.ob_store.specs.View.{state_of}
 use Rattle.wf_history.specs.View.{kept_call, kept_reply}
 use Rattle.wf_history.specs.declared.event.CallId.{CallId}
 use Rattle.wf_outcomes.specs.Explored.{Kept, all_kept, calls_in}
@@ -52,5 +53,5 @@ returns-clause-fault c =
       c.in-Some.is,
       asked_as (λ x r. ∥ FailsFirst effect scripts opening (Answers effect x r) bad.path.items ∥₁) call reply number c.in_ok-call.ensures c.in_ok-wanted.ensures
           (∥∥₁_map (MatchOption-at_some _ _ bad c.in-Some-2.is c.in_ok-first_bad.ensures)
-          (λ f. first_of effect scripts opening (all_kept (λ values. variables_in values.items) e.seen) (Answers effect call reply) bad.place bad.path.items f)),
+          (λ f. first_of effect scripts opening (all_kept kept_in e.seen) (Answers effect call reply) bad.place bad.path.items f)),
     )

@@ -1,18 +1,19 @@
 -- With copies of the states.
-use Rattle.std.proofs.Common.{◌∙◌, Global, List, Vec, ap, map, subst, sym}
+use Rattle.std.proofs.Common.{◌∙◌, List, ap, map, subst, sym}
 use Rattle.ob_checked.specs.CheckedModule.{program_in}
 use Rattle.ob_object_order.specs.LegalOrder.{CallEnds}
 use Rattle.ob_positions.specs.Store.{Activation}
-use Rattle.ob_store.specs.View.{state_of, variables_in}
-use Rattle.ob_store.specs.declared.value.Value.{Value}
+use Rattle.ob_object_search.specs.Kept.{kept_in}
+use Rattle.ob_object_search.specs.declared.kept.KeptState.{KeptState}
+use Rattle.ob_store.specs.View.{state_of}
 use Rattle.wf_outcomes.specs.Explored.{calls_in}
 use Rattle.wf_told.specs.Told.{AreOutcomes, End, IsItself}
 use Rattle.wf_told.specs.View.{call_in, end_in}
 use Rattle.wf_told.specs.declared.ends.ToldEnd.{ToldEnd}
 use Rattle.ob_object_outcomes.proofs.finding.outcomes_found.Goals as goal
 
-abbrev ends_in : List (ToldEnd (Vec Value Global)) → List (End Activation)
-ends_in = map (end_in (λ (values : Vec Value Global). variables_in values.items))
+abbrev ends_in : List (ToldEnd KeptState) → List (End Activation)
+ends_in = map (end_in kept_in)
 
 pub returns : goal.returns
 returns c =

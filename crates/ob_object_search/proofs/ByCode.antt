@@ -1,0 +1,95 @@
+-- What code makes of a block of scalars is what the call makes of their state.
+use Rattle.std.proofs.Common.{◌≡◌, ◌∙◌, ap, refl, sym, subst, ℕ, List, [], ◌∷◌, map, Some, arith}
+use Rattle.std.specs.Prelude.{ℤ, Option, IfSome}
+use Rattle.std.specs.Coded.{Coded, Coded-set, coded×, coded_list, coded_ℕ}
+use Rattle.std.proofs.Math.Logic.{∥∥₁_elim, ∥∥₁_map}
+use Rattle.std.proofs.lemmas.Option.{same_Some}
+use base.Stored.{coded_via}
+use Rattle.ob_code_calls.specs.Calls.{IsMade}
+use Rattle.ob_code_law.proofs.CodeLaw.{lawful_decoded}
+use Rattle.ob_code_law.specs.CodeMeaning.{EngineParts}
+use Rattle.ob_code_law.specs.Compiled.{parts_of}
+use Rattle.ob_code_law.specs.Parts.{IsCompiledTo, IsLawfulFor}
+use Rattle.ob_code_scheme.specs.Layout.{decoded, IsEncoding}
+use Rattle.ob_code_scheme.specs.WellFormed.{IsWellFormed}
+use Rattle.ob_interface.specs.Call.{ObjectCall, Reply, Answers, Trapped}
+use Rattle.ob_interface.specs.declared.scalar.Scalar.{Scalar}
+use Rattle.ob_object_order.specs.LegalOrder.{CallEnds}
+use Rattle.ob_object_search.specs.Laws.{scalar_apart, words_told_apart}
+use Rattle.ob_object_search.specs.Words.{word_of, words_of}
+use Rattle.ob_positions.specs.Object.{Effect, effect}
+use Rattle.ob_positions.specs.Store.{Activation}
+use Rattle.ob_typing.specs.Program.{Program}
+use Rattle.ob_checked.specs.View.{program_of, table_of, variable_of}
+use Rattle.ob_checked.specs.declared.program.Program as Declared
+use Rattle.ob_checked.specs.declared.program.Variable as Variables
+
+-- ---- what a call comes to, in numbers, from which it can be read back
+
+abbrev reply_words : Reply → List ℕ
+reply_words (Answers values) = 0 ∷ map word_of values
+reply_words (Trapped k) = 1 ∷ k ∷ []
+
+scalars_apart : (vs ws : List Scalar) → map word_of vs ≡ map word_of ws → vs ≡ ws
+scalars_apart [] [] h = refl
+scalars_apart [] (w ∷ ws) h = absurd (cc)
+scalars_apart (v ∷ vs) [] h = absurd (cc)
+scalars_apart (v ∷ vs) (w ∷ ws) h =
+    let first : word_of v ≡ word_of w = cc in
+    let others : map word_of vs ≡ map word_of ws = cc in
+    let here : v ≡ w = scalar_apart v w first in
+    let rest : vs ≡ ws = scalars_apart vs ws others in
+    cc
+
+differ : (x y : ℕ) (xs ys : List ℕ) → x ∷ xs ≡ y ∷ ys → (x ≡ y → ⊥) → ⊥
+differ x y xs ys h apart = apart (cc)
+
+replies_apart : (a b : Reply) → reply_words a ≡ reply_words b → a ≡ b
+replies_apart (Answers vs) (Answers ws) h = let same : map word_of vs ≡ map word_of ws = cc in ap Answers (scalars_apart vs ws same)
+replies_apart (Answers vs) (Trapped k) h = absurd (differ 0 1 (map word_of vs) (k ∷ []) h (omega arith))
+replies_apart (Trapped k) (Answers ws) h = absurd (differ 1 0 (k ∷ []) (map word_of ws) h (omega arith))
+replies_apart (Trapped j) (Trapped k) h = ap Trapped (cc)
+
+effects_apart : (a b : Effect) → words_of a.state ≡ words_of b.state → reply_words a.reply ≡ reply_words b.reply → a ≡ b
+effects_apart a b state reply =
+    ap (λ (s : Activation). record { state = s; reply = a.reply }) (words_told_apart a.state b.state state)
+    ∙ ap (λ (r : Reply). record { state = b.state; reply = r }) (replies_apart a.reply b.reply reply)
+
+pub coded_effect : Coded Effect
+coded_effect =
+    coded_via (coded× (coded_list coded_ℕ) (coded_list coded_ℕ)) (λ (e : Effect). (words_of e.state, reply_words e.reply))
+    (λ a b h. effects_apart a b (λ i. (h i).0) (λ i. (h i).1))
+
+-- ---- what calls of the code say, at a checked module
+
+-- of its variables
+pub variables_are : (p : Declared.Program) (q : Program) (vs : List Variables.Variable) → program_of p ≡ q → vs ≡ p.variables.items → map (variable_of (table_of p.types)) vs ≡ q.variables
+variables_are p q vs is same = ap (map (variable_of (table_of p.types))) same ∙ ap (λ (x : Program). x.variables) is
+
+pub some_at : {A : Type 0} (o : Option A) (x : A) (P : A → Type 0) → o ≡ Some x → IfSome o P → P x
+some_at {A} o x P e h = subst (λ (q : Option A). IfSome q P) e h
+
+-- ---- the code of a program
+
+module _ (program : Program) (budget : ℕ) (parts : EngineParts) (well : ∥ IsWellFormed program ∥₁) (are : parts ≡ parts_of program budget) where
+  its_budget : parts.budget ≡ budget
+  its_budget = ap (λ (q : EngineParts). q.budget) are
+
+  compiled : IsWellFormed program → IsCompiledTo program parts
+  compiled w = record { well = w; parts_are = are ∙ ap (parts_of program) (sym its_budget) }
+
+  -- the block of a state is lawful
+  pub lawful : (state : Activation) (block : List ℤ) → IsEncoding program.variables state block → ∥ IsLawfulFor parts block ∥₁
+  lawful state block encodes = ∥∥₁_map well (λ w. record { program = program; compiled = compiled w; is = record { state = state; encodes = encodes } })
+
+  -- what is made of the block, and read from it again, is what the call comes to
+  pub ends_so : (call : ObjectCall) (before after : Activation) (laid block : List ℤ) (reply : Reply) → IsEncoding program.variables before laid →
+      ((p : Program) (state : Activation) → IsCompiledTo p parts → IsEncoding p.variables state laid → IsMade p parts.budget call state block reply) →
+      decoded program.variables block ≡ Some after → CallEnds program budget call before after reply
+  ends_so call before after laid block reply encodes made read =
+      ∥∥₁_elim well (Coded-set coded_effect (effect program call budget before) (record { state = after; reply = reply })) (λ w.
+      let m = made program before (compiled w) encodes in
+      let n = subst (λ (b : ℕ). IsMade program b call before block reply) its_budget m in
+      let state : (effect program call budget before).state ≡ after = same_Some _ _ (sym (lawful_decoded program block (effect program call budget before).state n.block_is) ∙ read) in
+      ap (λ (s : Activation). record { state = s; reply = (effect program call budget before).reply }) state
+      ∙ ap (λ (r : Reply). record { state = after; reply = r }) n.reply_is)
