@@ -42,13 +42,14 @@ module _ {State Call Reply : Type 0} (Effect : Call → State → State → Repl
   kept (more {t} {u} {v} {id} {ids} told l) process k reply at = kept l process k reply (kept_once t u id told process k reply at)
 
   -- the reply that is told of a call stands under its number
-  told_there : (t u : Telling State Reply) (id : CallId) (told : IsTold Effect scripts t id u) → slice_get (replies_to u id.process) (id.number - 1) ≡ Some told.reply
-  told_there t u id told =
-      let here : replies_to u id.process ≡ replies_to t id.process ++ told.reply ∷ [] =
-          ap (λ (l : List (List Reply)). get_or l id.process []) told.replies ∙ get_or-set_same t.replies id.process (replies_to t id.process ++ told.reply ∷ []) [] told.process in
+  told_there : (t u : Telling State Reply) (id : CallId) → IsTold Effect scripts t id u → (reply : Reply) → u.replies ≡ set t.replies id.process (replies_to t id.process ++ reply ∷ []) →
+      slice_get (replies_to u id.process) (id.number - 1) ≡ Some reply
+  told_there t u id told reply now =
+      let here : replies_to u id.process ≡ replies_to t id.process ++ reply ∷ [] =
+          ap (λ (l : List (List Reply)). get_or l id.process []) now ∙ get_or-set_same t.replies id.process (replies_to t id.process ++ reply ∷ []) [] told.process in
       let number = told.number in
       let place : id.number - 1 ≡ length (replies_to t id.process) = omega (arith, number) in
-      ap (λ (l : List Reply). slice_get l (id.number - 1)) here ∙ ap (slice_get (replies_to t id.process ++ told.reply ∷ [])) place ∙ place_here (replies_to t id.process) [] told.reply
+      ap (λ (l : List Reply). slice_get l (id.number - 1)) here ∙ ap (slice_get (replies_to t id.process ++ reply ∷ [])) place ∙ place_here (replies_to t id.process) [] reply
 
   module _ (history : List (Event Call Reply)) (run : IsRunOfScripts scripts history) where
     -- what is told along a legal order
@@ -97,7 +98,7 @@ module _ {State Call Reply : Type 0} (Effect : Call → State → State → Repl
                 let same : first ≡ id = same_Some first id at in
                 let answered : answer ≡ reply = sym (same_reply reply (subst (λ (i : CallId). Contains history (End i reply)) (sym same) ended)) in
                 subst (λ (i : CallId). slice_get (replies_to r.told i.process) (i.number - 1) ≡ Some reply) same
-                (kept r.tells first.process (first.number - 1) answer (told_there t next first one) ∙ ap Some answered)
+                (kept r.tells first.process (first.number - 1) answer (told_there t next first one answer refl) ∙ ap Some answered)
             by (suc k) id reply at ended = r.replies k id reply at ended
 
   module _ (opening : State) where
