@@ -1,5 +1,5 @@
 -- Runs of scripts and whole outcomes.
-use Rattle.std.proofs.Common.{◌≡◌, refl, sym, ap, ◌∙◌, subst, ℕ, ◌+◌, ◌-◌, ◌<◌, zero, suc, List, [], ◌∷◌, ◌++◌, length, get_or, set, map, Some, inl, inr, arith, get_or-set_same, get_or-set_other}
+use Rattle.std.proofs.Common.{◌≡◌, refl, sym, ap, ◌∙◌, subst, ℕ, ◌+◌, ◌-◌, zero, suc, List, [], ◌∷◌, ◌++◌, length, get_or, set, map, Some, inl, inr, arith, get_or-set_same, get_or-set_other}
 use Rattle.std.proofs.lemmas.Bool.{cases_eq}
 use Rattle.std.proofs.lemmas.List.{length-map}
 use Rattle.std.proofs.lemmas.Option.{same_Some}
@@ -10,16 +10,16 @@ use Rattle.wf_history.specs.History.{Event, End}
 use Rattle.wf_history.specs.Legal as Legal
 use Rattle.wf_history.specs.Legal.{HasBegun, IsLegal, OneAtATime, RepliesAgree}
 use Rattle.wf_merges.proofs.Alone.{are_legal_orders}
-use Rattle.wf_merges.proofs.Merging.{all_steps, over, step_merged}
+use Rattle.wf_merges.proofs.Merging.{all_steps, step_merged}
 use Rattle.wf_merges.specs.Runs.{IsRunOfScripts}
 use Rattle.wf_order.specs.Steps as Search
 use Rattle.wf_outcomes.proofs.Lists.{same_configuration}
 use Rattle.wf_outcomes.specs.Merges as Merges
 use Rattle.wf_outcomes.specs.Merges.{Configuration, IsStep, Leads, full, start}
-use Rattle.wf_whole_runs.specs.Runs.{GivesRun, HasReplies, RunsGiveWholes, WholesAreOfRuns}
-use Rattle.wf_whole_outcomes.specs.Tellings.{Gives, IsTold, Telling, Tells, none, more, replies_to, silence}
+use Rattle.wf_whole_runs.specs.Runs.{HasReplies, RunsGiveWholes, WholesAreOfRuns}
+use Rattle.wf_whole_outcomes.specs.Tellings.{IsTold, Telling, Tells, none, more, replies_to, silence}
 use Rattle.wf_whole_outcomes.proofs.Merging.{IsOf, behind, of_behind, told_step}
-use Rattle.wf_whole_outcomes.proofs.Numbering.{length_row, map_all, map_set}
+use Rattle.wf_whole_outcomes.proofs.Numbering.{length_row, map_all}
 use Rattle.wf_whole_outcomes.proofs.Standing.{same_telling}
 
 module _ {State Call Reply : Type 0} (Effect : Call → State → State → Reply → Type 0) (scripts : List (List Call)) where
@@ -30,8 +30,8 @@ module _ {State Call Reply : Type 0} (Effect : Call → State → State → Repl
       elim (cases_eq process id.process) [
         | inl own ↦
             let here : replies_to u process ≡ replies_to t process ++ told.reply ∷ [] =
-                now ∙ ap (λ (p : ℕ). get_or (set t.replies id.process (replies_to t id.process ++ told.reply ∷ [])) p []) own
-                ∙ get_or-set_same t.replies id.process (replies_to t id.process ++ told.reply ∷ []) [] told.process ∙ ap (λ (p : ℕ). replies_to t p ++ told.reply ∷ []) (sym own) in
+            now ∙ ap (λ (p : ℕ). get_or (set t.replies id.process (replies_to t id.process ++ told.reply ∷ [])) p []) own
+            ∙ get_or-set_same t.replies id.process (replies_to t id.process ++ told.reply ∷ []) [] told.process ∙ ap (λ (p : ℕ). replies_to t p ++ told.reply ∷ []) (sym own) in
             ap (λ (l : List Reply). slice_get l k) here ∙ place_left (replies_to t process) (told.reply ∷ []) k reply at
         | inr other ↦
             ap (λ (l : List Reply). slice_get l k) (now ∙ get_or-set_other t.replies id.process process (replies_to t id.process ++ told.reply ∷ []) [] other) ∙ at
@@ -46,7 +46,7 @@ module _ {State Call Reply : Type 0} (Effect : Call → State → State → Repl
       slice_get (replies_to u id.process) (id.number - 1) ≡ Some reply
   told_there t u id told reply now =
       let here : replies_to u id.process ≡ replies_to t id.process ++ reply ∷ [] =
-          ap (λ (l : List (List Reply)). get_or l id.process []) now ∙ get_or-set_same t.replies id.process (replies_to t id.process ++ reply ∷ []) [] told.process in
+      ap (λ (l : List (List Reply)). get_or l id.process []) now ∙ get_or-set_same t.replies id.process (replies_to t id.process ++ reply ∷ []) [] told.process in
       let number = told.number in
       let place : id.number - 1 ≡ length (replies_to t id.process) = omega (arith, number) in
       ap (λ (l : List Reply). slice_get l (id.number - 1)) here ∙ ap (slice_get (replies_to t id.process ++ reply ∷ [])) place ∙ place_here (replies_to t id.process) [] reply
