@@ -17,6 +17,7 @@ ghost use Rattle.wf_outcomes.specs.Outcomes.{AlwaysGood};
 ghost use Rattle.wf_told.specs.Told.{IsItself};
 ghost use Rattle.wf_whole_outcomes.specs.Wholes.{AreWholes};
 
+use ob_interface::NoMemory;
 use ob_object_compile::Asked;
 use ob_object_outcomes::{
     Bounds, OutcomesFault, Scripted, must_hold, question_asked, scripted_text,
@@ -106,7 +107,7 @@ fn wholes_where_held(
 fn outcomes_of(
     alloc: Global,
     told: Vec<ToldWhole<'_, Vec<Value>>>,
-) -> Result<Vec<WholeOutcome>, AllocError>
+) -> Result<Vec<WholeOutcome>, NoMemory>
     ensures { IfOk result (λ wholes. map outcome_in wholes.items ≡ map told_in told.entry.items) }
 {
     let mut wholes = Vec::new(alloc);

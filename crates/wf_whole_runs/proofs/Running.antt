@@ -1,5 +1,5 @@
 -- Runs of scripts and whole outcomes.
-use Rattle.std.proofs.Common.{◌≡◌, refl, sym, ap, ◌∙◌, subst, ℕ, ◌+◌, ◌-◌, ◌<◌, zero, suc, List, [], ◌∷◌, ◌++◌, length, get_or, set, map, Some, inl, inr, arith, get_or-set_same, get_or-set_other}
+use Rattle.std.proofs.Common.{◌≡◌, refl, sym, ap, ◌∙◌, subst, ℕ, ◌+◌, ◌-◌, zero, suc, List, [], ◌∷◌, ◌++◌, length, get_or, set, map, Some, inl, inr, arith, get_or-set_same, get_or-set_other}
 use Rattle.std.proofs.lemmas.Bool.{cases_eq}
 use Rattle.std.proofs.lemmas.List.{length-map}
 use Rattle.std.proofs.lemmas.Option.{same_Some}
@@ -10,16 +10,16 @@ use Rattle.wf_history.specs.History.{Event, End}
 use Rattle.wf_history.specs.Legal as Legal
 use Rattle.wf_history.specs.Legal.{HasBegun, IsLegal, OneAtATime, RepliesAgree}
 use Rattle.wf_merges.proofs.Alone.{are_legal_orders}
-use Rattle.wf_merges.proofs.Merging.{all_steps, over, step_merged}
+use Rattle.wf_merges.proofs.Merging.{all_steps, step_merged}
 use Rattle.wf_merges.specs.Runs.{IsRunOfScripts}
 use Rattle.wf_order.specs.Steps as Search
 use Rattle.wf_outcomes.proofs.Lists.{same_configuration}
 use Rattle.wf_outcomes.specs.Merges as Merges
 use Rattle.wf_outcomes.specs.Merges.{Configuration, IsStep, Leads, full, start}
-use Rattle.wf_whole_runs.specs.Runs.{GivesRun, HasReplies, RunsGiveWholes, WholesAreOfRuns}
-use Rattle.wf_whole_outcomes.specs.Tellings.{Gives, IsTold, Telling, Tells, none, more, replies_to, silence}
+use Rattle.wf_whole_runs.specs.Runs.{HasReplies, RunsGiveWholes, WholesAreOfRuns}
+use Rattle.wf_whole_outcomes.specs.Tellings.{IsTold, Telling, Tells, none, more, replies_to, silence}
 use Rattle.wf_whole_outcomes.proofs.Merging.{IsOf, behind, of_behind, told_step}
-use Rattle.wf_whole_outcomes.proofs.Numbering.{length_row, map_all, map_set}
+use Rattle.wf_whole_outcomes.proofs.Numbering.{length_row, map_all}
 use Rattle.wf_whole_outcomes.proofs.Standing.{same_telling}
 
 module _ {State Call Reply : Type 0} (Effect : Call → State → State → Reply → Type 0) (scripts : List (List Call)) where
@@ -42,13 +42,14 @@ module _ {State Call Reply : Type 0} (Effect : Call → State → State → Repl
   kept (more {t} {u} {v} {id} {ids} told l) process k reply at = kept l process k reply (kept_once t u id told process k reply at)
 
   -- the reply that is told of a call stands under its number
-  told_there : (t u : Telling State Reply) (id : CallId) (told : IsTold Effect scripts t id u) → slice_get (replies_to u id.process) (id.number - 1) ≡ Some told.reply
-  told_there t u id told =
-      let here : replies_to u id.process ≡ replies_to t id.process ++ told.reply ∷ [] =
-      ap (λ (l : List (List Reply)). get_or l id.process []) told.replies ∙ get_or-set_same t.replies id.process (replies_to t id.process ++ told.reply ∷ []) [] told.process in
+  told_there : (t u : Telling State Reply) (id : CallId) → IsTold Effect scripts t id u → (reply : Reply) → u.replies ≡ set t.replies id.process (replies_to t id.process ++ reply ∷ []) →
+      slice_get (replies_to u id.process) (id.number - 1) ≡ Some reply
+  told_there t u id told reply now =
+      let here : replies_to u id.process ≡ replies_to t id.process ++ reply ∷ [] =
+      ap (λ (l : List (List Reply)). get_or l id.process []) now ∙ get_or-set_same t.replies id.process (replies_to t id.process ++ reply ∷ []) [] told.process in
       let number = told.number in
       let place : id.number - 1 ≡ length (replies_to t id.process) = omega (arith, number) in
-      ap (λ (l : List Reply). slice_get l (id.number - 1)) here ∙ ap (slice_get (replies_to t id.process ++ told.reply ∷ [])) place ∙ place_here (replies_to t id.process) [] told.reply
+      ap (λ (l : List Reply). slice_get l (id.number - 1)) here ∙ ap (slice_get (replies_to t id.process ++ reply ∷ [])) place ∙ place_here (replies_to t id.process) [] reply
 
   module _ (history : List (Event Call Reply)) (run : IsRunOfScripts scripts history) where
     -- what is told along a legal order
@@ -97,7 +98,7 @@ module _ {State Call Reply : Type 0} (Effect : Call → State → State → Repl
                 let same : first ≡ id = same_Some first id at in
                 let answered : answer ≡ reply = sym (same_reply reply (subst (λ (i : CallId). Contains history (End i reply)) (sym same) ended)) in
                 subst (λ (i : CallId). slice_get (replies_to r.told i.process) (i.number - 1) ≡ Some reply) same
-                (kept r.tells first.process (first.number - 1) answer (told_there t next first one) ∙ ap Some answered)
+                (kept r.tells first.process (first.number - 1) answer (told_there t next first one answer refl) ∙ ap Some answered)
             by (suc k) id reply at ended = r.replies k id reply at ended
 
   module _ (opening : State) where

@@ -1,5 +1,5 @@
 -- Whole outcomes, and runs of scripts in which all calls end.
-use Rattle.std.specs.Prelude.{◌≡◌, ℕ, ◌-◌, List, slice_get, Some, Contains}
+use Rattle.std.specs.Prelude.{◌≡◌, ◌-◌, List, slice_get, Some, Contains}
 use Rattle.wf_history.specs.declared.event.CallId.{CallId}
 use Rattle.wf_history.specs.History.{Event, End}
 use Rattle.wf_history.specs.Legal.{IsLegal}
