@@ -31,7 +31,7 @@ pub fn explain_run(alloc: Global, run: Run<'_>) -> Result<Answer, NoMemory>
 }
 
 /// The answer to a fault of a run.
-fn run_wrong(alloc: Global, run: Run<'_>, fault: PerformFault) -> Result<Answer, NoMemory>
+pub fn run_wrong(alloc: Global, run: Run<'_>, fault: PerformFault) -> Result<Answer, NoMemory>
     ensures fault { IfOk result (λ a. IsRunFaultShown (run_texts_of run.entry) fault a) }
     ensures memory { IfOk result (λ _. Performs.is_want_of_memory fault ≡ false) }
 {

@@ -1,0 +1,3 @@
+pub mod ExplainedAlways
+pub mod OutcomesAnswers
+pub mod OutcomesFaultLines
