@@ -1,6 +1,7 @@
 -- From how an object begins to the answer that is made of it.
 use Rattle.std.proofs.Common.{◌≡◌, ℕ, Bool, List, ◌∷◌, Result, Ok, Err, IfOk, subst}
-use Rattle.ob_answer.specs.Answers.{IsCallsAnswer, IsCallsMade, IsRunAnswer, IsRunMade, shows_calls, shows_run}
+use Rattle.ob_answer.specs.AllRuns.{AllRuns, IsAllRunsAnswer, shows_all_runs}
+use Rattle.ob_answer.specs.Answers.{IsAllRunsMade, IsCallsAnswer, IsCallsMade, IsRunAnswer, IsRunMade, shows_calls, shows_run}
 use Rattle.ob_answer_explained.specs.Beginnings.{Begins, TellsNoneOf, begun, untold}
 use Rattle.ob_answer_explained.specs.CommandTexts.{CallsTexts, RunTexts, calls_of_text, calls_texts, first_or_none, record_file, run_of_text, run_texts_by}
 use Rattle.ob_answer_explained.specs.Explains.{IsValuesFaultTold}
@@ -31,6 +32,25 @@ calls_untold product calls part script record_bytes fault is_shown record_text (
     (subst (λ (s : Bool). IsValuesFaultTold s (record_file calls (first_or_none record_bytes)) fault a) shown_is
     (subst (λ (text : List ℕ). IsValuesFaultTold is_shown (record_file calls text) fault a) record_is told))
 calls_untold product calls part script record_bytes fault is_shown record_text (Err e) shown is told says none = tt
+
+-- ---- all runs
+
+pub all_runs_begun : (all : AllRuns) (calls : CallsRequest) (part whole script : List ℕ) (record_bytes : List (List ℕ)) (beginning : Beginning)
+    (t : CallsTexts) (a : Answer) → t ≡ calls_texts calls part script record_bytes beginning → Begins record_bytes beginning
+    → IsAllRunsAnswer all (calls_of_text t whole) a → IsAllRunsMade all calls (whole ∷ script ∷ record_bytes) a
+all_runs_begun all calls part whole script record_bytes beginning t a is begins h =
+    begun beginning begins (subst (λ (u : CallsTexts). IsAllRunsAnswer all (calls_of_text u whole) a) is h)
+
+pub all_runs_untold : {E : Type 0} (all : AllRuns) (calls : CallsRequest) (part script : List ℕ) (record_bytes : List (List ℕ)) (fault : ValuesFault)
+    (is_shown : Bool) (record_text : List ℕ) (result : Result Answer E) → is_shown ≡ shows_all_runs all → record_text ≡ first_or_none record_bytes
+    → IfOk result (λ a. IsValuesFaultTold is_shown (record_file calls record_text) fault a) → IfOk result (λ _. SaysNone fault) → TellsNoneOf record_bytes fault
+    → IfOk result (OfWhole part (λ whole. IsAllRunsMade all calls (whole ∷ script ∷ record_bytes)))
+all_runs_untold all calls part script record_bytes fault is_shown record_text (Ok a) shown_is record_is told says none =
+    λ whole _.
+    untold fault (none says)
+    (subst (λ (s : Bool). IsValuesFaultTold s (record_file calls (first_or_none record_bytes)) fault a) shown_is
+    (subst (λ (text : List ℕ). IsValuesFaultTold is_shown (record_file calls text) fault a) record_is told))
+all_runs_untold all calls part script record_bytes fault is_shown record_text (Err e) shown is told says none = tt
 
 -- ---- a run
 

@@ -36,6 +36,7 @@ use Rattle.ob_command.specs.declared.command.ChanceCommand.{ChanceCommand}
 use Rattle.ob_command.specs.declared.command.RunCommand.{RunCommand}
 use Rattle.ob_command.specs.declared.command.RunProduct.{RunProduct}
 use Rattle.ob_command.specs.declared.command.RunProduct.TheVariants as RunProducts
+use Rattle.ob_answer.specs.AllRuns.{AllRuns, Explained, IsAllRunsAnswer, all_runs_for, shows_all_runs}
 use Rattle.ob_answer.specs.declared.product.CallsProduct.{CallsProduct}
 use Rattle.ob_answer.specs.declared.product.CallsProduct.TheVariants as CallsProducts
 use Rattle.ob_answer.specs.declared.product.Product.{Product}
@@ -177,6 +178,12 @@ IsCallsMade product calls (module_bytes ∷ script_bytes ∷ record_bytes) answe
     (λ beginning. IsCallsAnswer product (calls_texts calls module_bytes script_bytes record_bytes beginning)) answer
 IsCallsMade product calls _ answer = ⊥
 
+abbrev pub IsAllRunsMade : AllRuns → CallsRequest → List (List ℕ) → Answer → Type 0
+IsAllRunsMade all calls (module_bytes ∷ script_bytes ∷ record_bytes) answer =
+    WithBeginning record_bytes (IsValuesFaultTold (shows_all_runs all) (record_file calls (first_or_none record_bytes)))
+    (λ beginning. IsAllRunsAnswer all (calls_texts calls module_bytes script_bytes record_bytes beginning)) answer
+IsAllRunsMade all calls _ answer = ⊥
+
 abbrev pub IsRunMade : Product → RunRequest → List (List ℕ) → Answer → Type 0
 IsRunMade product run (module_bytes ∷ script_bytes ∷ schedule_bytes ∷ record_bytes) answer =
     WithBeginning record_bytes (IsValuesFaultTold (shows_run product) (record_file run.calls (first_or_none record_bytes)))
@@ -218,6 +225,9 @@ IsChanceMade product run _ answer = ⊥
 -- the same of the bytes that were read, with the whole text of the module
 abbrev pub IsMadeOfCalls : CallsProduct → CallsCommand → CallsBytes → (whole : List ℕ) → Answer → Type 0
 IsMadeOfCalls product calls bytes whole = IsCallsMade product (calls_request_of calls) (whole ∷ bytes.script.items ∷ record_in_calls bytes)
+
+abbrev pub IsMadeOfAllRuns : AllRuns → CallsCommand → CallsBytes → (whole : List ℕ) → Answer → Type 0
+IsMadeOfAllRuns all calls bytes whole = IsAllRunsMade all (calls_request_of calls) (whole ∷ bytes.script.items ∷ record_in_calls bytes)
 
 abbrev pub IsMadeOfRun : Product → RunCommand → RunBytes → (whole : List ℕ) → Answer → Type 0
 IsMadeOfRun product run bytes whole = IsRunMade product (run_request_of run) (whole ∷ bytes.script.items ∷ bytes.schedule.items ∷ record_in_run bytes)
@@ -272,7 +282,7 @@ IsMade (DrawRecord module_name record_name range) (module_bytes ∷ record_bytes
     IsSeenPictureAnswer (range_of range) module_bytes record_bytes answer
 IsMade (DrawHistory seen) (module_bytes ∷ history_bytes ∷ []) answer =
     IsHistoryPictureAnswer (range_of seen.calls) module_bytes history_bytes seen.budget seen.most answer
-IsMade (Outcomes outcomes) bytes answer = IsCallsMade CallsProducts.Replies outcomes.calls bytes answer
+IsMade (Outcomes outcomes) bytes answer = IsAllRunsMade (all_runs_for outcomes) outcomes.calls bytes answer
 IsMade (Verify module_name record_name) (module_bytes ∷ record_bytes ∷ []) answer = IsVerifyAnswer module_bytes record_bytes answer
 IsMade (Order order) (module_bytes ∷ history_bytes ∷ []) answer =
     IsProductAnswer order.product module_bytes history_bytes order.budget order.most answer
@@ -280,7 +290,7 @@ IsMade (Explain module_name budget) (module_bytes ∷ []) answer = IsModuleExpla
 IsMade (ExplainCalls calls) bytes answer = IsCallsMade CallsProducts.Explanation calls bytes answer
 IsMade (ExplainTraps calls) bytes answer = IsCallsMade CallsProducts.Traps calls bytes answer
 IsMade (ExplainRun run) bytes answer = IsRunMade Products.Explanation run bytes answer
-IsMade (ExplainAlways asked) bytes answer = IsCallsMade CallsProducts.Explanation asked.calls bytes answer
+IsMade (ExplainAlways asked) bytes answer = IsAllRunsMade (Explained asked.name) asked.calls bytes answer
 IsMade (ExplainRecord module_name record_name) (module_bytes ∷ record_bytes ∷ []) answer =
     IsRecordExplained module_name module_bytes record_name record_bytes answer
 IsMade (ExplainHistory module_name history_name) (module_bytes ∷ history_bytes ∷ []) answer =
@@ -307,6 +317,9 @@ module _ {F : Type 0} (Reads : F → Text → Result (List ℕ) FileFault → F 
   -- the outcome of the files of calls, and of those of a run
   abbrev pub IsCallsObeyed : CallsProduct → CallsRequest → F → Answer → F → Type 0
   IsCallsObeyed product calls = IsOutcome Reads (files_of_calls calls) (IsCallsMade product calls)
+
+  abbrev pub IsAllRunsObeyed : AllRuns → CallsRequest → F → Answer → F → Type 0
+  IsAllRunsObeyed all calls = IsOutcome Reads (files_of_calls calls) (IsAllRunsMade all calls)
 
   abbrev pub IsRunObeyed : Product → RunRequest → F → Answer → F → Type 0
   IsRunObeyed product run = IsOutcome Reads (files_of_run run) (IsRunMade product run)

@@ -1,2 +1,3 @@
+pub mod AllRuns
 pub mod Refusals
 pub mod Answers

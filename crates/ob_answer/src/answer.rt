@@ -2,11 +2,13 @@
 
 ghost use Rattle.std.specs.Prelude.{◌≡◌, IfOk, count_by, map, nat_lt};
 ghost use Rattle.std.specs.Str.{bytes_eq};
+ghost use Rattle.ob_answer.specs.AllRuns.{all_runs_for, all_runs_of};
 ghost use Rattle.ob_answer.specs.Answers.{IsAnswer, IsAnswerTo, IsObeyed, files_of, input_name, range_of, reads_input_twice};
 ghost use Rattle.ob_answer_files.specs.Reads.{files_of_calls, files_of_run};
 ghost use Rattle.ob_command.specs.CommandLine.{Bound, Check, DrawHistory, DrawRecord, Listing, Order, Verify};
-ghost use Rattle.ob_command.specs.Commands.{calls_request_of, order_request_of, request_of, run_request_of, seen_request_of};
+ghost use Rattle.ob_command.specs.Commands.{calls_request_of, order_request_of, outcomes_request_of, request_of, run_request_of, seen_request_of};
 
+use crate::all_runs::{AllRuns, obey_all_runs};
 use crate::explaining::{obey_explain_history, obey_explain_module, obey_explain_record};
 use crate::making::{answer_bound, answer_check, answer_draw_seen, answer_list, answer_verify};
 use crate::making_schedules::{obey_chance, obey_finished};
@@ -17,8 +19,10 @@ use ob_answer_files::files::{FileFault, Files};
 use ob_answer_files::reading::{MODULE_BYTES, TwoFiles, read_two, unreadable};
 use ob_answer_orders::drawing::{HistoryDrawing, answer_draw_history};
 use ob_answer_orders::ordering::answer_order;
+use ob_answer_outcomes::answering::Looking;
 use ob_command::command::{
-    CallNumbers, CallsCommand, Command, OrderCommand, RunCommand, SeenCommand, Stop, read_command,
+    CallNumbers, CallsCommand, Command, OrderCommand, OutcomesCommand, RunCommand, SeenCommand,
+    Stop, read_command,
 };
 use ob_interface::NoMemory;
 use ob_text_picture_chart::CallRange;
@@ -188,7 +192,7 @@ fn obey<R: Threads + Wait + Sync + RandomSource, F: Files>(
         }
         Command::DrawHistory(seen) => obey_draw_history(rt, alloc, seen, files),
         Command::Outcomes(outcomes) => {
-            obey_calls(rt, alloc, CallsProduct::Replies, outcomes.calls, files)
+            obey_all_runs(rt, alloc, all_runs_for(outcomes), outcomes.calls, files)
         }
         Command::Verify {
             module_name,
@@ -202,7 +206,13 @@ fn obey<R: Threads + Wait + Sync + RandomSource, F: Files>(
         Command::ExplainTraps(calls) => obey_calls(rt, alloc, CallsProduct::Traps, calls, files),
         Command::ExplainRun(run) => obey_run(alloc, Product::Explanation, run, files),
         Command::ExplainAlways(asked) => {
-            obey_calls(rt, alloc, CallsProduct::Explanation, asked.calls, files)
+            obey_all_runs(
+                rt,
+                alloc,
+                AllRuns::Explained(asked.name),
+                asked.calls,
+                files,
+            )
         }
         Command::ExplainRecord {
             module_name,
@@ -269,6 +279,21 @@ fn range_of(calls: Option<CallNumbers>) -> Option<CallRange>
             from: calls.from as usize,
             to: calls.to as usize,
         }),
+    }
+}
+
+/// What words ask of all runs.
+fn all_runs_for(outcomes: OutcomesCommand<'_>) -> AllRuns<'_>
+    ensures { all_runs_of result ≡ all_runs_for (outcomes_request_of outcomes.entry) }
+{
+    let looking = Looking {
+        always: outcomes.always,
+        most: outcomes.most,
+    };
+    if outcomes.whole {
+        AllRuns::Whole(looking)
+    } else {
+        AllRuns::Told(looking)
     }
 }
 

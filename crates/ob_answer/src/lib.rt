@@ -2,6 +2,7 @@
 //! printed.
 #![tactic(auto)]
 
+pub mod all_runs;
 pub mod answer;
 mod explaining;
 mod making;

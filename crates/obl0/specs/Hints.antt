@@ -6,8 +6,8 @@ use Rattle.std.specs.List.{after_first, before_first, list_all, starts_with}
 use Rattle.std.specs.Str.{bytes_eq}
 use Rattle.std.specs.declared.io.ErrorKind.{ErrorKind}
 use Rattle.std.specs.declared.io.ErrorKind.TheVariants as Kind
-use Rattle.ob_command.specs.CommandLine.{Text, CallsRequest, OrderRequest, Request, RunRequest, SeenRequest, Check, Listing, Seq, Run, RunTree, RunSteps, RunFinished, RunByChance, Serve, Draw, DrawRecord, DrawHistory, Outcomes, Verify, Order}
-use Rattle.ob_command.specs.CommandLine.{Explain, ExplainAlways, ExplainCalls, ExplainTraps, ExplainRun, ExplainRecord, ExplainHistory, Bound, default_budget, default_most}
+use Rattle.ob_command.specs.CommandLine.{Text, CallsRequest, OrderRequest, OutcomesRequest, Request, RunRequest, SeenRequest, Check, Listing, Seq, Run, RunTree, RunSteps, RunFinished, RunByChance, Serve, Draw, DrawRecord, DrawHistory, Outcomes, Verify, Order}
+use Rattle.ob_command.specs.CommandLine.{Explain, ExplainAlways, ExplainCalls, ExplainTraps, ExplainRun, ExplainRecord, ExplainHistory, Bound, default_budget, default_most, default_most_reached}
 use Rattle.ob_command.specs.declared.command.OrderProduct.{OrderProduct}
 use Rattle.ob_command.specs.declared.command.RunProduct.{RunProduct}
 use Rattle.ob_command.specs.declared.command.RunProduct.TheVariants as products
@@ -140,6 +140,23 @@ seen_form seen line =
     else if is_plain_search seen.budget seen.most then history_form seen.module_name seen.history_name
     else []
 
+-- of calls of which an export is to answer TRUE always
+abbrev pub always_form : CallsRequest → (name : Text) → Text
+always_form calls name =
+    ((((script_words calls ++ count_words calls.processes) ++ codes " --always") ++ name_word (codes "NAME") name) ++ option_words calls) ++ telling
+
+-- `explain` does not look so far
+abbrev pub is_far : OutcomesRequest → (line : Text) → Bool
+is_far outcomes line = begins (codes "X3") line && not (nat_le outcomes.most default_most_reached)
+
+-- of all runs: with the name of such an export, or else as calls that workers make
+abbrev pub asked_form : Option Text → OutcomesRequest → (line : Text) → Text
+asked_form None outcomes line = run_form (served outcomes.calls)
+asked_form (Some name) outcomes line = if is_far outcomes line then [] else always_form outcomes.calls name
+
+abbrev pub outcomes_form : OutcomesRequest → (line : Text) → Text
+outcomes_form outcomes line = asked_form outcomes.always outcomes line
+
 -- Of a run by the tree that form tells more of faults of the text alone: `explain` makes the module's code, and where that is too long it
 -- tells that before any other.
 abbrev pub tree_form : RunRequest → (line : Text) → Text
@@ -163,7 +180,7 @@ form_about (RunFinished product run) line = made_form product run line
 form_about (RunByChance product run) line = made_form product (served run.calls) line
 form_about (Draw run range) line = run_form run
 form_about (Serve calls) line = run_form (served calls)
-form_about (Outcomes outcomes) line = run_form (served outcomes.calls)
+form_about (Outcomes outcomes) line = outcomes_form outcomes line
 form_about (DrawRecord module_name record_name calls) line = drawn_form module_name record_name line
 form_about (DrawHistory seen) line = seen_form seen line
 form_about (Verify module_name record_name) line = record_form module_name record_name
@@ -214,11 +231,16 @@ of_picture line =
     else if is_of_search line then Some (codes "--most says how many configurations are looked at\n")
     else beside_texts line
 
+-- and of all runs
+abbrev pub of_outcomes : (line : Text) → Option Text
+of_outcomes line = if is_of_search line then Some (codes "--most says how many configurations are looked at\n") else beside_texts line
+
 -- the same of a command
 abbrev pub beside : Request → (line : Text) → Option Text
 beside (Order order) line = of_order line
 beside (DrawRecord module_name seen_name calls) line = of_picture line
 beside (DrawHistory seen) line = of_picture line
+beside (Outcomes outcomes) line = of_outcomes line
 beside request line = beside_texts line
 
 -- the same, or else the form of `explain`

@@ -2,16 +2,18 @@
 
 ghost use Rattle.std.specs.Prelude.{◌≡◌, ◌++◌, IfOk, OnOk, option_map, string_bytes};
 ghost use Rattle.std.specs.List.{after_first, before_first, list_all};
+ghost use Rattle.obl0.specs.Hints.{always_form, is_far, of_outcomes, outcomes_form};
 ghost use Rattle.obl0.specs.Hints.{asks_of_fault, beside, beside_texts, budget_words, calls_form, cause, count_words, drawn_form, either_form};
 ghost use Rattle.obl0.specs.Hints.{first_place, form_about, from_words, history_form, illegal_end, is_apart, is_blank, is_explain, is_explained, is_fault};
 ghost use Rattle.obl0.specs.Hints.{is_fault_name, is_of_search, is_of_text, is_plain, is_plain_byte, is_plain_search, is_run, made_form, module_form};
 ghost use Rattle.obl0.specs.Hints.{module_words, more_about, more_about_unread, more_of, name_word, named, of_order, of_picture, option_words};
 ghost use Rattle.obl0.specs.Hints.{order_form, record_form, run_form, run_words, script_words, search_form, seen_form, served, third_word, told_of};
 ghost use Rattle.obl0.specs.Hints.{tree_form};
-ghost use Rattle.ob_command.specs.Commands.{calls_request_of, order_request_of, request_of, run_request_of, seen_request_of};
+ghost use Rattle.ob_command.specs.Commands.{calls_request_of, order_request_of, outcomes_request_of, request_of, run_request_of, seen_request_of};
 
 use ob_command::command::{
-    CallsCommand, Command, OrderCommand, OrderProduct, RunCommand, RunProduct, SeenCommand,
+    CallsCommand, Command, OrderCommand, OrderProduct, OutcomesCommand, RunCommand, RunProduct,
+    SeenCommand,
 };
 use ob_text_words::numbers::push_number;
 use std::alloc::{AllocError, Global};
@@ -25,6 +27,9 @@ const DEFAULT_BUDGET: u32 = 100_000;
 
 /// How many configurations a search looks at where nothing is said of them.
 const DEFAULT_MOST: u32 = 10_000_000;
+
+/// The same of all runs.
+const DEFAULT_MOST_REACHED: u32 = 1_000_000;
 
 /// A schedule with no items.
 const NO_ITEMS: &str = "/dev/null";
@@ -95,7 +100,19 @@ fn beside(command: Command<'_>, line: &[u8]) -> Option<&'static str>
     match command {
         Command::Order(_) => of_order(line),
         Command::DrawRecord { .. } | Command::DrawHistory(_) => of_picture(line),
+        Command::Outcomes(_) => of_outcomes(line),
         _ => beside_texts(line),
+    }
+}
+
+/// What is told so of a fault of all runs.
+fn of_outcomes(line: &[u8]) -> Option<&'static str>
+    ensures { option_map (λ text. text.now) result ≡ of_outcomes line.now }
+{
+    if is_of_search(line) {
+        Some(MOST_LOOKED_AT)
+    } else {
+        beside_texts(line)
     }
 }
 
@@ -242,7 +259,7 @@ fn form_about(alloc: Global, command: Command<'_>, line: &[u8]) -> Result<String
         }
         Command::Draw { run, .. } => run_form(alloc, run),
         Command::Serve(calls) => run_form(alloc, served(calls)),
-        Command::Outcomes(outcomes) => run_form(alloc, served(outcomes.calls)),
+        Command::Outcomes(outcomes) => outcomes_form(alloc, outcomes, line),
         Command::DrawRecord {
             module_name,
             record_name,
@@ -316,6 +333,42 @@ fn search_form(alloc: Global, order: OrderCommand<'_>, line: &[u8]) -> Result<St
     } else {
         String::from_str(alloc, illegal_end(line))
     }
+}
+
+/// The form that tells more of all runs: with the name of an export that is to answer TRUE always, or else as of calls that workers make.
+fn outcomes_form(
+    alloc: Global,
+    outcomes: OutcomesCommand<'_>,
+    line: &[u8],
+) -> Result<String, AllocError>
+    ensures { IfOk result (λ text. string_bytes text ≡ outcomes_form (outcomes_request_of outcomes.entry) line.now) }
+{
+    match outcomes.always {
+        None => run_form(alloc, served(outcomes.calls)),
+        Some(name) => match is_far(outcomes, line) {
+            true => Ok(String::new(alloc)),
+            false => always_form(alloc, outcomes.calls, name),
+        },
+    }
+}
+
+/// Whether `explain` does not look so far.
+fn is_far(outcomes: OutcomesCommand<'_>, line: &[u8]) -> bool
+    ensures { result ≡ is_far (outcomes_request_of outcomes.entry) line.now }
+{
+    line.starts_with(b"X3") && outcomes.most > DEFAULT_MOST_REACHED
+}
+
+fn always_form(alloc: Global, calls: CallsCommand<'_>, name: &str) -> Result<String, AllocError>
+    ensures { IfOk result (λ text. string_bytes text ≡ always_form (calls_request_of calls.entry) name.now) }
+{
+    let mut text = script_words(alloc, calls)?;
+    push_count(&mut text, calls.processes)?;
+    text.push_str(" --always")?;
+    push_name(&mut text, "NAME", name)?;
+    push_options(&mut text, calls)?;
+    text.push_str(TELLING)?;
+    Ok(text)
 }
 
 /// The form that tells more of a history that is drawn.

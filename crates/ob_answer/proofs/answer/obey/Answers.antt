@@ -46,7 +46,7 @@ pub returns-in-DrawHistory : goal.returns-in-DrawHistory
 returns-in-DrawHistory g c = rw c.in-DrawHistory.is c.obey_draw_history.ensures
 
 pub returns-in-Outcomes : goal.returns-in-Outcomes
-returns-in-Outcomes g c = rw c.in-Outcomes.is c.obey_calls-in-Outcomes.ensures
+returns-in-Outcomes g c = rw (c.in-Outcomes.is, ← c.all_runs_for.ensures) c.obey_all_runs.ensures
 
 pub returns-in-Verify : goal.returns-in-Verify
 returns-in-Verify g c = rw c.in-Verify.is c.obey_verify.ensures
@@ -67,7 +67,7 @@ pub returns-in-ExplainRun : goal.returns-in-ExplainRun
 returns-in-ExplainRun g c = rw c.in-ExplainRun.is c.obey_run-in-ExplainRun.ensures
 
 pub returns-in-ExplainAlways : goal.returns-in-ExplainAlways
-returns-in-ExplainAlways g c = rw c.in-ExplainAlways.is c.obey_calls-in-ExplainAlways.ensures
+returns-in-ExplainAlways g c = rw c.in-ExplainAlways.is c.obey_all_runs-in-ExplainAlways.ensures
 
 pub returns-in-ExplainRecord : goal.returns-in-ExplainRecord
 returns-in-ExplainRecord g c = rw c.in-ExplainRecord.is c.obey_explain_record.ensures
