@@ -19,7 +19,7 @@ ESCAPED = {"\n": b"", "\\": b"\\", "n": b"\n", "t": b"\t", "r": b"\r"}
 # stands for the mark | of a table's line
 MARK = "\ue000"
 # the line of a fault with a number, and that of what the machine refuses
-FAULT = re.compile(rb"[A-Z]\d+( (at|trap|line|item|process) \d+| \d+\.\d+( by [\w-]+)?| \w+)?\n")
+FAULT = re.compile(rb"[A-Z]\d+( (at|trap|line|item|process) \d+|( \d+\.\d+)+( by [\w-]+)?| \w+)?\n")
 REFUSAL = re.compile(rb"(NoMemory|cannot [^\n]*)\n")
 # that a sentence is shown at a place of a file
 EXPLAINED = re.compile(r"shown in (\w+) at (\d+): (.*)")
