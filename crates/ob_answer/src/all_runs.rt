@@ -75,9 +75,8 @@ fn begun_all_runs<R: RandomSource>(
     ensures { IfOk result (OfWhole calls.entry.asked.text.now (λ whole. IsAllRunsAnswer (all_runs_of all.entry) (calls_of_text (calls_texts_of calls.entry) whole))) }
 {
     match all {
-        AllRuns::Told(looking) | AllRuns::Whole(looking) => {
-            answer_outcomes(rt, alloc, calls.asked, calls.script, looking)
-        }
+        AllRuns::Told(looking) => answer_outcomes(rt, alloc, calls.asked, calls.script, looking),
+        AllRuns::Whole(looking) => answer_outcomes(rt, alloc, calls.asked, calls.script, looking),
         AllRuns::Explained(name) => explain_always(rt, alloc, calls, name),
     }
 }
