@@ -235,10 +235,7 @@ fn outcomes_found(
 }
 
 /// The states in which all calls may end, each a copy.
-fn last_states(
-    alloc: Global,
-    ends: &[ToldEnd<'_, KeptState>],
-) -> Result<Vec<LastState>, AllocError>
+fn last_states(alloc: Global, ends: &[ToldEnd<'_, KeptState>]) -> Result<Vec<LastState>, AllocError>
     ensures { IfOk result (λ lasts. map last_in lasts.items ≡ map (end_in kept_in) ends.now) }
 {
     let mut lasts = Vec::new(alloc);
