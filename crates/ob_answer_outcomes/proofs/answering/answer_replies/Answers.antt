@@ -1,4 +1,4 @@
-use Rattle.std.proofs.Common.{string_bytes}
+use Rattle.std.proofs.Common.{◌∙◌, ap, string_bytes}
 use Rattle.ob_answer_explained.proofs.AtOnce.{holds_of_whole}
 use Rattle.ob_answer_explained.specs.CommandTexts.{of_text}
 use Rattle.ob_answer_files.specs.Printed.{said}
@@ -8,20 +8,22 @@ use Rattle.ob_object_compile.specs.View.{asked_of}
 use Rattle.ob_object_outcomes.specs.OutcomesFaults.{HasTooMany, IsOutcomesFault}
 use Rattle.ob_object_outcomes.specs.Scripted.{scripted_in}
 use Rattle.ob_object_outcomes.specs.View.{always_in, outcomes_in}
+use Rattle.ob_outcome_lines.specs.OutcomeLines.{outcome_lines}
+use Rattle.ob_typing.specs.Program.{Program}
 use Rattle.ob_answer_outcomes.proofs.answering.answer_replies.Goals as goal
 
-pub returns-in-Ok : goal.returns-in-Ok
-returns-in-Ok c whole is =
+pub returns-in_ok-lines-in-Ok : goal.returns-in_ok-lines-in-Ok
+returns-in_ok-lines-in-Ok c whole is =
     let a = asked_of c.args.asked in
     let b = c.args.bounds.now in
-    said (string_bytes c.in_ok-lines.lines)
-    (holds_of_whole of_compiling a (λ t. SaysReplies (always_in b) b.most (of_text a t) c.args.script.now (string_bytes c.in_ok-lines.lines)) _ whole is
+    said (string_bytes c.in_ok-lines-in-Ok.lines)
+    (holds_of_whole of_compiling a (λ t. SaysReplies (always_in b) b.most (of_text a t) c.args.script.now (string_bytes c.in_ok-lines-in-Ok.lines)) _ whole is
     c.in-Ok.ensures.at_once (record {
       scripted = scripted_in c.in-Ok.scripted;
       outcomes = outcomes_in c.in-Ok.outcomes;
       are = c.in-Ok.ensures.outcomes;
       holds = c.in-Ok.ensures.always;
-      prints = c.in_ok-lines.ensures;
+      prints = c.in_ok-lines-in-Ok.ensures ∙ ap (λ (p : Program). outcome_lines p.variables (outcomes_in c.in-Ok.outcomes)) c.checked.ensures;
     }))
     c.printed.ensures
 

@@ -11,16 +11,16 @@ use Rattle.ob_object_outcomes.specs.OutcomesFaults.{HasTooMany, IsOutcomesFault}
 use Rattle.ob_object_outcomes.specs.Scripted.{scripted_in}
 use Rattle.ob_answer_outcomes.proofs.explaining.explain_always.Goals as goal
 
-pub returns-in_ok-from_str-in-Ok : goal.returns-in_ok-from_str-in-Ok
-returns-in_ok-from_str-in-Ok c whole is =
+pub returns-in_ok-from_str-in-Ok-outcomes_text : goal.returns-in_ok-from_str-in-Ok-outcomes_text
+returns-in_ok-from_str-in-Ok-outcomes_text g c whole is =
     let t = calls_texts_of c.args.calls in
-    let of = holds_of_whole of_compiling t.asked (λ text. HasAlways (of_text t.asked text) t.script c.args.name.now) _ whole is c.in-Ok.ensures.at_once
-    (scripted_in c.in-Ok._found.0, rw c.as_bytes.ensures at c.in-Ok.ensures.always) in
-    let text : string_bytes c.in_ok-from_str-in-Ok.field-0 ≡ codes "ok\n" = search rules in
+    let of = holds_of_whole of_compiling t.asked (λ text. HasAlways (of_text t.asked text) t.script c.args.name.now) _ whole is c.in-Ok-outcomes_text.ensures.at_once
+    (scripted_in c.in-Ok-outcomes_text._found.0, rw c.as_bytes.ensures at c.in-Ok-outcomes_text.ensures.always) in
+    let text : string_bytes c.in_ok-from_str-in-Ok-outcomes_text.field-0 ≡ codes "ok\n" = search rules in
     right of (rw (← text) c.printed.ensures)
 
 pub returns-in-Err : goal.returns-in-Err
-returns-in-Err c =
+returns-in-Err g c =
     let t = calls_texts_of c.args.calls in
     let name = c.args.name.now in
     wrong_made of_compiling t.asked (λ text. IsOutcomesFault (of_text t.asked text) t.script (Some name) default_most_reached) (λ text. IsAlwaysFaultShown (calls_of_text t text)) c.in-Err.fault
