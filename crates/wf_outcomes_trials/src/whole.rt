@@ -117,9 +117,12 @@ fn all_calls(scripts: &[Vec<KeptCall>]) -> usize {
 pub fn same_by_hand(alloc: Global, scripts: &[Vec<KeptCall>], text: &str) -> Result<bool> {
     let processes = scripts.len() as u64;
     let calls = all_calls(scripts);
+    let Ok(exponent) = u32::try_from(calls) else {
+        return Ok(false);
+    };
     let mut all = String::new(alloc);
     let mut seen = Vec::new(alloc);
-    for word in 0..processes.saturating_pow(calls as u32) {
+    for word in 0..processes.saturating_pow(exponent) {
         let way = digits(alloc, word, processes, calls)?;
         if let Some(given) = given_by(alloc, scripts, &way)? {
             let told = given_shown(alloc, &given)?;
