@@ -9,7 +9,6 @@ use Rattle.ob_object_outcomes.specs.OutcomesFaults.{HasTooMany, IsOutcomesFault}
 use Rattle.ob_object_outcomes.specs.Scripted.{scripted_in}
 use Rattle.ob_object_outcomes.specs.View.{always_in, outcomes_in}
 use Rattle.ob_outcome_lines.specs.OutcomeLines.{outcome_lines}
-use Rattle.ob_typing.specs.Program.{Program}
 use Rattle.ob_answer_outcomes.proofs.answering.answer_replies.Goals as goal
 
 pub returns-in_ok-lines-in-Ok : goal.returns-in_ok-lines-in-Ok
@@ -23,7 +22,7 @@ returns-in_ok-lines-in-Ok c whole is =
       outcomes = outcomes_in c.in-Ok.outcomes;
       are = c.in-Ok.ensures.outcomes;
       holds = c.in-Ok.ensures.always;
-      prints = c.in_ok-lines-in-Ok.ensures ∙ ap (λ (p : Program). outcome_lines p.variables (outcomes_in c.in-Ok.outcomes)) c.checked.ensures;
+      prints = c.in_ok-lines-in-Ok.ensures ∙ ap (λ p. outcome_lines p.variables (outcomes_in c.in-Ok.outcomes)) c.checked.ensures;
     }))
     c.printed.ensures
 
