@@ -14,8 +14,9 @@ use Rattle.ob_answer_outcomes.proofs.explaining.explain_always.Goals as goal
 pub returns-in_ok-from_str-in-Ok-outcomes_text : goal.returns-in_ok-from_str-in-Ok-outcomes_text
 returns-in_ok-from_str-in-Ok-outcomes_text g c whole is =
     let t = calls_texts_of c.args.calls in
+    let same : c.as_bytes.result.now ≡ c.args.name.now = c.as_bytes.ensures.value in
     let of = holds_of_whole of_compiling t.asked (λ text. HasAlways (of_text t.asked text) t.script c.args.name.now) _ whole is c.in-Ok-outcomes_text.ensures.at_once
-    (scripted_in c.in-Ok-outcomes_text._found.0, rw c.as_bytes.ensures at c.in-Ok-outcomes_text.ensures.always) in
+    (scripted_in c.in-Ok-outcomes_text._found.0, rw same at c.in-Ok-outcomes_text.ensures.always) in
     let text : string_bytes c.in_ok-from_str-in-Ok-outcomes_text.field-0 ≡ codes "ok\n" = search rules in
     right of (rw (← text) c.printed.ensures)
 
@@ -23,9 +24,10 @@ pub returns-in-Err : goal.returns-in-Err
 returns-in-Err g c =
     let t = calls_texts_of c.args.calls in
     let name = c.args.name.now in
+    let same : c.as_bytes.result.now ≡ name = c.as_bytes.ensures.value in
     wrong_made of_compiling t.asked (λ text. IsOutcomesFault (of_text t.asked text) t.script (Some name) default_most_reached) (λ text. IsAlwaysFaultShown (calls_of_text t text)) c.in-Err.fault
     c.in-Err.ensures.at_once
     (λ whole. outcomes_refused (of_text t.asked whole) t.script (Some name) default_most_reached (HasTooMany (of_text t.asked whole) t.script (Some name) default_most_reached))
     (always_shown t)
     (λ text. HasAlways (of_text t.asked text) t.script name) IsNumbered c.always_wrong.result c.always_wrong.ensures.fault c.always_wrong.ensures.memory
-    (rw c.as_bytes.ensures at c.in-Err.ensures.fault)
+    (rw same at c.in-Err.ensures.fault)
