@@ -23,7 +23,8 @@ use std::alloc::Global;
 use std::random::RandomSource;
 
 /// The program ends with this text where whole outcomes are asked for.
-const WHOLE_NOT_TOLD: &str = "error: whole outcomes are not told yet; without --whole, each reply and each state is\n";
+const WHOLE_NOT_TOLD: &str =
+    "error: whole outcomes are not told yet; without --whole, each reply and each state is\n";
 
 /// What is told of all runs: what may happen in them, or each outcome as a whole, or how one comes to where an export does not answer TRUE.
 #[derive(Clone, Copy)]
