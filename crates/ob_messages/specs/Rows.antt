@@ -80,81 +80,81 @@ row_of row = record { when = map when_of row.when.now; said = pieces_of row.said
 
 unfoldable pub byte_rows : List Row
 byte_rows = map (λ row. record {
-    when = map (λ w. when_by (λ text. text.now) (λ texts. map (λ text. text.now) texts.now) (λ kinds. kinds.now) w) row.when.now;
-    said = map (λ p. piece_by (λ text. text.now) p) row.said.now
-  }) BYTE_ROWS.now
+  when = map (λ w. when_by (λ text. text.now) (λ texts. map (λ text. text.now) texts.now) (λ kinds. kinds.now) w) row.when.now;
+  said = map (λ p. piece_by (λ text. text.now) p) row.said.now;
+}) BYTE_ROWS.now
 
 unfoldable pub sign_rows : List Row
 sign_rows = map (λ row. record {
-    when = map (λ w. when_by (λ text. text.now) (λ texts. map (λ text. text.now) texts.now) (λ kinds. kinds.now) w) row.when.now;
-    said = map (λ p. piece_by (λ text. text.now) p) row.said.now
-  }) SIGN_ROWS.now
+  when = map (λ w. when_by (λ text. text.now) (λ texts. map (λ text. text.now) texts.now) (λ kinds. kinds.now) w) row.when.now;
+  said = map (λ p. piece_by (λ text. text.now) p) row.said.now;
+}) SIGN_ROWS.now
 
 unfoldable pub statement_rows : List Row
 statement_rows = map (λ row. record {
-    when = map (λ w. when_by (λ text. text.now) (λ texts. map (λ text. text.now) texts.now) (λ kinds. kinds.now) w) row.when.now;
-    said = map (λ p. piece_by (λ text. text.now) p) row.said.now
-  }) STATEMENT_ROWS.now
+  when = map (λ w. when_by (λ text. text.now) (λ texts. map (λ text. text.now) texts.now) (λ kinds. kinds.now) w) row.when.now;
+  said = map (λ p. piece_by (λ text. text.now) p) row.said.now;
+}) STATEMENT_ROWS.now
 
 unfoldable pub declaration_rows : List Row
 declaration_rows = map (λ row. record {
-    when = map (λ w. when_by (λ text. text.now) (λ texts. map (λ text. text.now) texts.now) (λ kinds. kinds.now) w) row.when.now;
-    said = map (λ p. piece_by (λ text. text.now) p) row.said.now
-  }) DECLARATION_ROWS.now
+  when = map (λ w. when_by (λ text. text.now) (λ texts. map (λ text. text.now) texts.now) (λ kinds. kinds.now) w) row.when.now;
+  said = map (λ p. piece_by (λ text. text.now) p) row.said.now;
+}) DECLARATION_ROWS.now
 
 unfoldable pub rule_rows : List Row
 rule_rows = map (λ row. record {
-    when = map (λ w. when_by (λ text. text.now) (λ texts. map (λ text. text.now) texts.now) (λ kinds. kinds.now) w) row.when.now;
-    said = map (λ p. piece_by (λ text. text.now) p) row.said.now
-  }) RULE_ROWS.now
+  when = map (λ w. when_by (λ text. text.now) (λ texts. map (λ text. text.now) texts.now) (λ kinds. kinds.now) w) row.when.now;
+  said = map (λ p. piece_by (λ text. text.now) p) row.said.now;
+}) RULE_ROWS.now
 
 unfoldable pub construct_rows : List Row
 construct_rows = map (λ row. record {
-    when = map (λ w. when_by (λ text. text.now) (λ texts. map (λ text. text.now) texts.now) (λ kinds. kinds.now) w) row.when.now;
-    said = map (λ p. piece_by (λ text. text.now) p) row.said.now
-  }) CONSTRUCT_ROWS.now
+  when = map (λ w. when_by (λ text. text.now) (λ texts. map (λ text. text.now) texts.now) (λ kinds. kinds.now) w) row.when.now;
+  said = map (λ p. piece_by (λ text. text.now) p) row.said.now;
+}) CONSTRUCT_ROWS.now
 
 unfoldable pub missing_rows : List Row
 missing_rows = map (λ row. record {
-    when = map (λ w. when_by (λ text. text.now) (λ texts. map (λ text. text.now) texts.now) (λ kinds. kinds.now) w) row.when.now;
-    said = map (λ p. piece_by (λ text. text.now) p) row.said.now
-  }) MISSING_ROWS.now
+  when = map (λ w. when_by (λ text. text.now) (λ texts. map (λ text. text.now) texts.now) (λ kinds. kinds.now) w) row.when.now;
+  said = map (λ p. piece_by (λ text. text.now) p) row.said.now;
+}) MISSING_ROWS.now
 
 unfoldable pub word_rows : List Row
 word_rows = map (λ row. record {
-    when = map (λ w. when_by (λ text. text.now) (λ texts. map (λ text. text.now) texts.now) (λ kinds. kinds.now) w) row.when.now;
-    said = map (λ p. piece_by (λ text. text.now) p) row.said.now
-  }) WORD_ROWS.now
+  when = map (λ w. when_by (λ text. text.now) (λ texts. map (λ text. text.now) texts.now) (λ kinds. kinds.now) w) row.when.now;
+  said = map (λ p. piece_by (λ text. text.now) p) row.said.now;
+}) WORD_ROWS.now
 
 unfoldable pub name_rows : List Row
 name_rows = map (λ row. record {
-    when = map (λ w. when_by (λ text. text.now) (λ texts. map (λ text. text.now) texts.now) (λ kinds. kinds.now) w) row.when.now;
-    said = map (λ p. piece_by (λ text. text.now) p) row.said.now
-  }) NAME_ROWS.now
+  when = map (λ w. when_by (λ text. text.now) (λ texts. map (λ text. text.now) texts.now) (λ kinds. kinds.now) w) row.when.now;
+  said = map (λ p. piece_by (λ text. text.now) p) row.said.now;
+}) NAME_ROWS.now
 
 unfoldable pub sentence_rows : List Row
 sentence_rows = map (λ row. record {
-    when = map (λ w. when_by (λ text. text.now) (λ texts. map (λ text. text.now) texts.now) (λ kinds. kinds.now) w) row.when.now;
-    said = map (λ p. piece_by (λ text. text.now) p) row.said.now
-  }) SENTENCE_ROWS.now
+  when = map (λ w. when_by (λ text. text.now) (λ texts. map (λ text. text.now) texts.now) (λ kinds. kinds.now) w) row.when.now;
+  said = map (λ p. piece_by (λ text. text.now) p) row.said.now;
+}) SENTENCE_ROWS.now
 
 unfoldable pub limit_rows : List Row
 limit_rows = map (λ row. record {
-    when = map (λ w. when_by (λ text. text.now) (λ texts. map (λ text. text.now) texts.now) (λ kinds. kinds.now) w) row.when.now;
-    said = map (λ p. piece_by (λ text. text.now) p) row.said.now
-  }) LIMIT_ROWS.now
+  when = map (λ w. when_by (λ text. text.now) (λ texts. map (λ text. text.now) texts.now) (λ kinds. kinds.now) w) row.when.now;
+  said = map (λ p. piece_by (λ text. text.now) p) row.said.now;
+}) LIMIT_ROWS.now
 
 unfoldable pub type_rows : List Row
 type_rows = map (λ row. record {
-    when = map (λ w. when_by (λ text. text.now) (λ texts. map (λ text. text.now) texts.now) (λ kinds. kinds.now) w) row.when.now;
-    said = map (λ p. piece_by (λ text. text.now) p) row.said.now
-  }) TYPE_ROWS.now
+  when = map (λ w. when_by (λ text. text.now) (λ texts. map (λ text. text.now) texts.now) (λ kinds. kinds.now) w) row.when.now;
+  said = map (λ p. piece_by (λ text. text.now) p) row.said.now;
+}) TYPE_ROWS.now
 
 unfoldable pub end_rows : List Row
 end_rows = map (λ row. record {
-    when = map (λ w. when_by (λ text. text.now) (λ texts. map (λ text. text.now) texts.now) (λ kinds. kinds.now) w) row.when.now;
-    said = map (λ p. piece_by (λ text. text.now) p) row.said.now
-  }) END_ROWS.now
+  when = map (λ w. when_by (λ text. text.now) (λ texts. map (λ text. text.now) texts.now) (λ kinds. kinds.now) w) row.when.now;
+  said = map (λ p. piece_by (λ text. text.now) p) row.said.now;
+}) END_ROWS.now
 
 -- ---- which row holds
 

@@ -11,7 +11,9 @@ macro_rules! rows {
     };
 }
 
-const REPEAT_END: &[Piece] = &[PieceOf::Text("a REPEAT ends with UNTIL and its condition, without an END")];
+const REPEAT_END: &[Piece] = &[PieceOf::Text(
+    "a REPEAT ends with UNTIL and its condition, without an END",
+)];
 
 const THE: Piece = PieceOf::Text("the ");
 
@@ -19,7 +21,9 @@ const OF_LINE: Piece = PieceOf::Text(" of line ");
 
 const OPEN: Piece = PieceOf::Text(" is still open; is its END missing?");
 
-const OPEN_REPEAT: Piece = PieceOf::Text(" is still open; is its UNTIL missing? A REPEAT has no END");
+const OPEN_REPEAT: Piece = PieceOf::Text(
+    " is still open; is its UNTIL missing? A REPEAT has no END",
+);
 
 const END_CLOSES: Piece = PieceOf::Text("the END before it closes the ");
 
@@ -27,8 +31,9 @@ const NO_END: Piece = PieceOf::Text("; is an END missing before that one?");
 
 const ELSE_IF: Piece = PieceOf::Text(" The ELSE IF of line ");
 
-const OTHER_IF: Piece =
-    PieceOf::Text(" opens another IF, which needs an END of its own; the next case of the same IF is written ELSIF");
+const OTHER_IF: Piece = PieceOf::Text(
+    " opens another IF, which needs an END of its own; the next case of the same IF is written ELSIF",
+);
 
 /// An END that is missing or one too many, a `]` or a `)`, and pairs of tokens.
 pub const CONSTRUCT_ROWS: &[Row] = rows! {

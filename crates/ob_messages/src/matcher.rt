@@ -40,10 +40,7 @@ pub(crate) fn sentence_of(view: &View) -> Option<&'static [Piece]>
 {
     match view.number {
         Number::C4 => first(type_rows(), view),
-        _ => either(
-            first(sentence_rows(), view),
-            first(limit_rows(), view),
-        ),
+        _ => either(first(sentence_rows(), view), first(limit_rows(), view)),
     }
 }
 
@@ -71,10 +68,7 @@ fn token_hint(view: &View) -> Option<&'static [Piece]>
     );
     let of_token = either(first(sign_rows(), view), of_declaration);
     let of_word = either(word_hint(view), first(missing_rows(), view));
-    either(
-        of_token,
-        either(first(construct_rows(), view), of_word),
-    )
+    either(of_token, either(first(construct_rows(), view), of_word))
 }
 
 /// The hint on a word of another language.
@@ -92,7 +86,10 @@ pub(crate) fn end_of(view: &View) -> Option<&'static [Piece]>
 }
 
 /// The first, or else the other one.
-fn either(said: Option<&'static [Piece]>, other: Option<&'static [Piece]>) -> Option<&'static [Piece]>
+fn either(
+    said: Option<&'static [Piece]>,
+    other: Option<&'static [Piece]>,
+) -> Option<&'static [Piece]>
     ensures { option_map pieces_of result ≡ option_or (option_map pieces_of said.entry) (option_map pieces_of other.entry) }
 {
     match said {

@@ -85,7 +85,12 @@ fn fill_or(
 }
 
 /// Appends pieces.
-fn fill(text: &mut String, alloc: Global, pieces: &[Piece], evidence: &Evidence) -> Result<(), AllocError>
+fn fill(
+    text: &mut String,
+    alloc: Global,
+    pieces: &[Piece],
+    evidence: &Evidence,
+) -> Result<(), AllocError>
     ensures { OnOk result (string_bytes text.new ≡ string_bytes text.old ++ filled (evidence_of evidence.now) (map piece_of pieces.now)) }
 {
     for piece in pieces {
@@ -94,7 +99,12 @@ fn fill(text: &mut String, alloc: Global, pieces: &[Piece], evidence: &Evidence)
     Ok(())
 }
 
-fn push_piece(text: &mut String, alloc: Global, piece: Piece, evidence: &Evidence) -> Result<(), AllocError>
+fn push_piece(
+    text: &mut String,
+    alloc: Global,
+    piece: Piece,
+    evidence: &Evidence,
+) -> Result<(), AllocError>
     ensures { OnOk result (string_bytes text.new ≡ string_bytes text.old ++ spelled (evidence_of evidence.now) (piece_of piece.entry)) }
 {
     match piece {

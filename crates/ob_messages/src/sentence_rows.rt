@@ -13,7 +13,9 @@ macro_rules! rows {
 
 const NO_NUMBERS: Piece = PieceOf::Text("this operator takes INTEGERs");
 
-const ANOTHER_TYPE: Piece = PieceOf::Text("this is of another type than the one that is needed here");
+const ANOTHER_TYPE: Piece = PieceOf::Text(
+    "this is of another type than the one that is needed here",
+);
 
 /// What the rule asks, and what stands there.
 pub const SENTENCE_ROWS: &[Row] = rows! {

@@ -32,7 +32,9 @@ const ORDER: &[Piece] = &[PieceOf::Text(
     "declarations stand before BEGIN, in this order: CONST, TYPE, VAR, procedures",
 )];
 
-const NO_SEMICOLON: &[Piece] = &[PieceOf::Text("no ; stands between a condition and its THEN or DO")];
+const NO_SEMICOLON: &[Piece] = &[PieceOf::Text(
+    "no ; stands between a condition and its THEN or DO",
+)];
 
 const ARRAY_TYPE: &[Piece] = &[PieceOf::Text(
     "an array type is written ARRAY 4 OF INTEGER; its indices are 0 to 3",
@@ -42,13 +44,19 @@ const NO_VALUE: &[Piece] = &[PieceOf::Text(
     "a variable is declared without a value, as x: INTEGER; what assigns one is a statement, and stands behind BEGIN",
 )];
 
-const NO_EXPORT: &[Piece] = &[PieceOf::Text("only procedures are exported; no * stands behind other names")];
+const NO_EXPORT: &[Piece] = &[PieceOf::Text(
+    "only procedures are exported; no * stands behind other names",
+)];
 
 const NO_TYPE: &[Piece] = &[PieceOf::Text("behind names stand : and their type, as k: INTEGER")];
 
-const NO_BEGIN: &[Piece] = &[PieceOf::Text("statements stand behind BEGIN; is it missing before this one?")];
+const NO_BEGIN: &[Piece] = &[PieceOf::Text(
+    "statements stand behind BEGIN; is it missing before this one?",
+)];
 
-const ACTUALS: &[Piece] = &[PieceOf::Text("the actuals of a call stand in parentheses, as P(a, 1)")];
+const ACTUALS: &[Piece] = &[PieceOf::Text(
+    "the actuals of a call stand in parentheses, as P(a, 1)",
+)];
 
 /// Names that are meant to be keywords, and signs.
 pub const SIGN_ROWS: &[Row] = rows! {

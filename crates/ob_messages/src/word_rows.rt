@@ -11,7 +11,8 @@ macro_rules! rows {
 }
 
 /// On real numbers, as a type or as they are written.
-pub const NO_REAL: &str = "there are no real numbers; the types of single values are INTEGER and BOOLEAN";
+pub const NO_REAL: &str =
+    "there are no real numbers; the types of single values are INTEGER and BOOLEAN";
 
 const COMMENT: &str = "a comment is written (* .. *)";
 
