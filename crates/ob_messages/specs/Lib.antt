@@ -1,0 +1,9 @@
+pub mod Explanations
+pub mod Groups
+pub mod Kinds
+pub mod Places
+pub mod Remarks
+pub mod Rows
+pub mod Said
+pub mod Shown
+pub mod Words
