@@ -1,9 +1,10 @@
 use Rattle.std.proofs.Common.{IfOk, Option, subst}
 use Rattle.std.proofs.lemmas.Result.{IfOk-weaker}
-use Rattle.ob_answer.specs.Answers.{IsCallsObeyed, IsRunObeyed}
+use Rattle.ob_answer.specs.AllRuns.{AllRuns}
+use Rattle.ob_answer.specs.Answers.{IsAllRunsObeyed, IsCallsObeyed, IsRunObeyed}
 use Rattle.ob_answer.specs.declared.product.CallsProduct.{CallsProduct}
 use Rattle.ob_answer.specs.declared.product.Product.TheVariants as Products
-use Rattle.ob_command.specs.Commands.{run_request_of, seq_request_of}
+use Rattle.ob_command.specs.Commands.{outcomes_request_of, run_request_of, seq_request_of}
 use Rattle.ob_text_picture_chart.specs.declared.charts.CallRange.{CallRange}
 use Rattle.ob_answer.proofs.answer.obey.Goals as goal
 
@@ -51,7 +52,11 @@ pub returns-in-DrawHistory : goal.returns-in-DrawHistory
 returns-in-DrawHistory g c = rw c.in-DrawHistory.is c.obey_draw_history.ensures
 
 pub returns-in-Outcomes : goal.returns-in-Outcomes
-returns-in-Outcomes g c = rw (c.in-Outcomes.is, ← c.all_runs_for.ensures) c.obey_all_runs.ensures
+returns-in-Outcomes g c =
+    let request = outcomes_request_of c.in-Outcomes.outcomes in
+    rw c.in-Outcomes.is
+    (subst (λ (all : AllRuns). IfOk c.obey_all_runs.result (λ a. IsAllRunsObeyed g.F.Files.reads all request.calls c.args.files.now a c.obey_all_runs.new.files))
+    c.all_runs_for.ensures c.obey_all_runs.ensures)
 
 pub returns-in-Verify : goal.returns-in-Verify
 returns-in-Verify g c = rw c.in-Verify.is c.obey_verify.ensures
