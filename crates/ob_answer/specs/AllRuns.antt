@@ -1,12 +1,12 @@
 -- What is answered on all runs of a script.
-use Rattle.std.specs.Prelude.{Bool, true, false, codes, if◌then◌else◌}
+use Rattle.std.specs.Prelude.{Bool, true, false, if◌then◌else◌}
 use Rattle.ob_answer.specs.declared.all_runs.AllRuns as Rust
 use Rattle.ob_answer.specs.declared.all_runs.AllRuns.TheVariants as Variants
 use Rattle.ob_answer_explained.specs.CommandTexts.{CallsTexts}
-use Rattle.ob_answer_files.specs.Printed.{IsRefused}
 use Rattle.ob_answer_files.specs.declared.answered.Answer.{Answer}
 use Rattle.ob_answer_outcomes.specs.ExplainedAlways.{IsAlwaysExplained}
 use Rattle.ob_answer_outcomes.specs.OutcomesAnswers.{IsOutcomesAnswer, Looking, looking_of}
+use Rattle.ob_answer_wholes.specs.WholesAnswers.{IsWholesAnswer}
 use Rattle.ob_command.specs.CommandLine.{OutcomesRequest, Text}
 
 -- what may happen in them, or each outcome as a whole, or how one comes to where an export does not answer TRUE
@@ -27,14 +27,10 @@ looking_for outcomes = record { always = outcomes.always; most = outcomes.most }
 abbrev pub all_runs_for : OutcomesRequest → AllRuns
 all_runs_for outcomes = if outcomes.whole then Whole (looking_for outcomes) else Told (looking_for outcomes)
 
--- whole outcomes are not told yet
-abbrev pub whole_not_told_text : Text
-whole_not_told_text = codes "error: whole outcomes are not told yet; without --whole, each reply and each state is\n"
-
 -- to the texts of calls
 abbrev pub IsAllRunsAnswer : AllRuns → CallsTexts → Answer → Type 0
 IsAllRunsAnswer (Told looking) t = IsOutcomesAnswer looking t.asked t.script
-IsAllRunsAnswer (Whole looking) t = λ answer. IsRefused answer 2 whole_not_told_text
+IsAllRunsAnswer (Whole looking) t = IsWholesAnswer looking t.asked t.script
 IsAllRunsAnswer (Explained name) t = IsAlwaysExplained name t
 
 -- the faults of the record with whose values the object begins are shown to people

@@ -2,10 +2,9 @@
 //! are, then the values of the record that is named, if one is; then the answer is made.
 
 ghost use Rattle.std.specs.Prelude.{◌≡◌, IfOk};
-ghost use Rattle.ob_answer.specs.AllRuns.{IsAllRunsAnswer, all_runs_of, shows_all_runs, whole_not_told_text};
+ghost use Rattle.ob_answer.specs.AllRuns.{IsAllRunsAnswer, all_runs_of, shows_all_runs};
 ghost use Rattle.ob_answer.specs.Answers.{IsAllRunsObeyed, IsMadeOfAllRuns};
 ghost use Rattle.ob_answer_explained.specs.CommandTexts.{calls_of_text, calls_texts_of};
-ghost use Rattle.ob_answer_files.specs.Printed.{IsRefused};
 ghost use Rattle.ob_answer_files.specs.Reads.{OfWhole};
 ghost use Rattle.ob_command.specs.Commands.{calls_request_of};
 
@@ -17,14 +16,11 @@ use ob_answer_files::files::Files;
 use ob_answer_files::reading::{CallsBytes, CallsFiles, read_calls};
 use ob_answer_outcomes::answering::{Looking, answer_outcomes};
 use ob_answer_outcomes::explaining::explain_always;
+use ob_answer_wholes::answering::answer_whole_outcomes;
 use ob_command::command::CallsCommand;
 use ob_interface::NoMemory;
 use std::alloc::Global;
 use std::random::RandomSource;
-
-/// The program ends with this text where whole outcomes are asked for.
-const WHOLE_NOT_TOLD: &str =
-    "error: whole outcomes are not told yet; without --whole, each reply and each state is\n";
 
 /// What is told of all runs: what may happen in them, or each outcome as a whole, or how one comes to where an export does not answer TRUE.
 #[derive(Clone, Copy)]
@@ -81,16 +77,11 @@ fn begun_all_runs<R: RandomSource>(
 {
     match all {
         AllRuns::Told(looking) => answer_outcomes(rt, alloc, calls.asked, calls.script, looking),
-        AllRuns::Whole(_) => whole_not_told(alloc),
+        AllRuns::Whole(looking) => {
+            answer_whole_outcomes(rt, alloc, calls.asked, calls.script, looking)
+        }
         AllRuns::Explained(name) => explain_always(rt, alloc, calls, name),
     }
-}
-
-/// What is said where whole outcomes are asked for, which nothing tells yet.
-fn whole_not_told(alloc: Global) -> Result<Answer, NoMemory>
-    ensures { IfOk result (λ a. IsRefused a 2 whole_not_told_text) }
-{
-    Ok(Answer::refused(alloc, 2, String::from_str(alloc, WHOLE_NOT_TOLD)?))
 }
 
 /// Whether the faults of a command on all runs are shown to people.

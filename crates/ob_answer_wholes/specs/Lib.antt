@@ -1,0 +1,2 @@
+pub mod WholeLines
+pub mod WholesAnswers

@@ -1,0 +1,4 @@
+pub mod Asked
+pub mod Crossing
+pub mod Named
+pub mod Simulated
