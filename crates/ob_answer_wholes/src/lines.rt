@@ -1,9 +1,9 @@
 //! The lines of whole outcomes.
 
 ghost use Rattle.std.specs.Prelude.{◌≡◌, ◌++◌, IfOk, OnOk, map, string_bytes};
+ghost use Rattle.ob_answer_wholes.specs.WholeLines.{number_line, numbered_lines, one_lines, row_lines, rows_lines, total_line, whole_lines};
 ghost use Rattle.ob_checked.specs.CheckedModule.{program_in};
 ghost use Rattle.ob_checked.specs.View.{program_of};
-ghost use Rattle.ob_answer_wholes.specs.WholeLines.{numbered_lines, one_lines, row_lines, rows_lines, whole_lines};
 ghost use Rattle.ob_object_wholes.specs.View.{outcome_in};
 ghost use Rattle.ob_reply.specs.ReplyLines.{reply_line};
 ghost use Rattle.wf_history.specs.View.{kept_reply};
@@ -15,7 +15,7 @@ use ob_object_wholes::WholeOutcome;
 use ob_outcome_lines::push_order;
 use ob_reply::reply_lines::{push_done_line, push_trap_line};
 use ob_text_values::variables::push_state;
-use ob_text_words::numbers::push_number;
+use ob_text_words::numbers::push_count;
 use std::alloc::{AllocError, Global};
 use wf_history::KeptReply;
 
@@ -29,10 +29,17 @@ pub fn whole_lines(
 {
     let mut text = String::new(alloc);
     push_numbered(&mut text, checked.program(), wholes)?;
-    text.push_str("outcomes ")?;
-    push_number(&mut text, wholes.len())?;
-    text.push_str("\n")?;
+    push_total(&mut text, wholes.len() as u64)?;
     Ok(text)
+}
+
+/// Appends how many outcomes there are.
+fn push_total(text: &mut String, count: u64) -> Result<(), AllocError>
+    ensures { OnOk result (string_bytes text.new ≡ string_bytes text.old ++ total_line count) }
+{
+    text.push_str("outcomes ")?;
+    push_count(text, count)?;
+    text.push_str("\n")
 }
 
 /// Appends whole outcomes, numbered from 1.
@@ -44,26 +51,33 @@ fn push_numbered(
     ensures { OnOk result (string_bytes text.new ≡ string_bytes text.old ++ numbered_lines (program_of program.now).variables 0 (map outcome_in wholes.now)) }
 {
     for (index, whole) in wholes.iter().enumerate() {
-        push_whole(text, program, index, whole)?;
+        push_whole(text, program, index as u64 + 1, whole)?;
     }
     Ok(())
 }
 
-/// Appends a whole outcome before which so many stand.
+/// Appends a whole outcome with its number.
 fn push_whole(
     text: &mut String,
     program: &Program,
-    before: usize,
+    number: u64,
     whole: &WholeOutcome,
 ) -> Result<(), AllocError>
-    ensures { OnOk result (string_bytes text.new ≡ string_bytes text.old ++ one_lines (program_of program.now).variables before (outcome_in whole.now)) }
+    ensures { OnOk result (string_bytes text.new ≡ string_bytes text.old ++ one_lines (program_of program.now).variables number (outcome_in whole.now)) }
 {
-    text.push_str("W ")?;
-    push_number(text, before as u64 + 1)?;
-    text.push_str("\n")?;
+    push_number_line(text, number)?;
     push_order(text, &whole.order)?;
     push_rows(text, &whole.replies)?;
     push_state(text, program, &whole.state)
+}
+
+/// Appends the line with the number of an outcome.
+fn push_number_line(text: &mut String, number: u64) -> Result<(), AllocError>
+    ensures { OnOk result (string_bytes text.new ≡ string_bytes text.old ++ number_line number) }
+{
+    text.push_str("W ")?;
+    push_count(text, number)?;
+    text.push_str("\n")
 }
 
 /// Appends the replies to the calls of each process.

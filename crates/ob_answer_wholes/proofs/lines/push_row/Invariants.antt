@@ -6,5 +6,5 @@ use Rattle.ob_answer_wholes.proofs.lines.push_row.Given as goal
 
 abbrev pub invariant-loop-made : goal.invariant-loop-made
 invariant-loop-made l =
-    string_bytes l.text ++ row_lines l.process l.made (map kept_reply (drop l.made l.row))
+    string_bytes l.text ++ row_lines l.process l.made (drop l.made (map kept_reply l.row))
     ≡ string_bytes l.fn.text ++ row_lines l.process 0 (map kept_reply l.row)

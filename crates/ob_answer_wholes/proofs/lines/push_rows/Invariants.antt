@@ -6,4 +6,4 @@ use Rattle.ob_answer_wholes.proofs.lines.push_rows.Given as goal
 
 abbrev pub invariant-loop-process : goal.invariant-loop-process
 invariant-loop-process l =
-    string_bytes l.text ++ rows_lines l.process (replies_in (drop l.process l.rows)) ≡ string_bytes l.fn.text ++ rows_lines 0 (replies_in l.rows)
+    string_bytes l.text ++ rows_lines l.process (drop l.process (replies_in l.rows)) ≡ string_bytes l.fn.text ++ rows_lines 0 (replies_in l.rows)
