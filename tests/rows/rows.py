@@ -86,6 +86,9 @@ def rows_of(path):
         elif kind != "note":
             row = with_section(row, kind, said, lines)
     label = path.relative_to(HERE).with_suffix("")
+    unused = row is not tables[-1][0] if tables else sum(kind == "words" for _, kind, _, _ in sections_of(path)) > 1
+    if unused:
+        raise BadRow(f"{label}: what stands there belongs to no row; each run has a file of its own, or stands in a table")
     if not tables:
         return [replace(row, place=str(label))]
     return [tabled(*it, f"{label}:{number}") for table in tables for number, *it in lines_of(*table)]
