@@ -117,10 +117,7 @@ fn outcomes_of(
 }
 
 /// A whole outcome, with a state of its own.
-fn outcome_of(
-    alloc: Global,
-    told: ToldWhole<'_, KeptState>,
-) -> Result<WholeOutcome, AllocError>
+fn outcome_of(alloc: Global, told: ToldWhole<'_, KeptState>) -> Result<WholeOutcome, AllocError>
     ensures { IfOk result (λ whole. outcome_in whole ≡ told_in told.entry) }
 {
     let ToldWhole {
