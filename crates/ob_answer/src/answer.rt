@@ -32,8 +32,8 @@ use std::random::RandomSource;
 use std::sync::Wait;
 use std::thread::Threads;
 
-/// The program's name and version, and the kit that it is built with.
-const VERSION: &str = "obl0 0.1.0\nrattle-kit-13f logic dac8208d650f15bf\n";
+/// The program's name and version, the kit that it is built with, and its licence.
+const VERSION: &str = "obl0 0.1.0\nrattle-kit-13f logic dac8208d650f15bf\nMIT OR Apache-2.0\n";
 
 /// The name of standard input.
 pub const INPUT_NAME: &str = "-";
