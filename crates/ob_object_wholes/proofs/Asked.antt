@@ -1,11 +1,10 @@
 -- What is found by an exploration of an object with scripts, as what is said of these.
 use Rattle.std.proofs.Common.{◌≡◌, ℕ, List, Option, refl, subst}
-use Rattle.std.proofs.Math.Logic.{∥∥₁_map}
 use Rattle.ob_interface.specs.Call.{ObjectCall, Reply}
 use Rattle.ob_object_order.specs.LegalOrder.{CallEnds}
-use Rattle.ob_object_outcomes.proofs.Asked.{fails_here, no_question}
+use Rattle.ob_object_outcomes.proofs.Asked.{fails_here}
 use Rattle.ob_object_outcomes.specs.Asking.{IsAsked, IsFailing, SaysNoQuestion}
-use Rattle.ob_object_outcomes.specs.OutcomesFaults.{IsFaultAt, of_exploring}
+use Rattle.ob_object_outcomes.specs.OutcomesFaults.{of_exploring}
 use Rattle.ob_object_outcomes.specs.Scripted.{ScriptedParts}
 use Rattle.ob_object_outcomes.specs.declared.finding.OutcomesFault.{OutcomesFault}
 use Rattle.ob_object_outcomes.specs.declared.finding.OutcomesFault.TheVariants as Faults

@@ -17,9 +17,7 @@ use Rattle.ob_object_wholes.proofs.Simulated.{over, tells_there}
 use Rattle.ob_positions.specs.Object.{Effect, effect}
 use Rattle.ob_positions.specs.Store.{Activation}
 use Rattle.ob_typing.specs.Program.{Program}
-use Rattle.wf_history.specs.declared.event.CallId.{CallId}
 use Rattle.wf_told.specs.Told.{IsItself}
-use Rattle.wf_whole_outcomes.specs.Tellings.{Gives, Telling}
 use Rattle.wf_whole_outcomes.specs.Wholes.{AreWholes, WholeTold}
 
 module _ (program : Program) (budget : ℕ) (good : IsResolved program) where

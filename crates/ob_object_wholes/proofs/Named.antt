@@ -1,5 +1,5 @@
 -- What is found of an object with scripts, as what is answered of bytes.
-use Rattle.std.proofs.Common.{◌≡◌, ℕ, List, Option, ap, refl, subst}
+use Rattle.std.proofs.Common.{◌≡◌, ℕ, List, Option, ap, subst}
 use Rattle.std.proofs.Math.Logic.{∥∥₁_map}
 use Rattle.ob_agreement.specs.Resolved.{IsResolved}
 use Rattle.ob_checked.specs.Exports.{signatures}

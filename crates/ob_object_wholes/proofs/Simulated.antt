@@ -1,5 +1,5 @@
 -- What a simulation carries from tellings over states of one kind to tellings over states of another.
-use Rattle.std.proofs.Common.{◌≡◌, ℕ, List, Some, length}
+use Rattle.std.proofs.Common.{List, length}
 use Rattle.ob_code_law.specs.Carried.{Follows, Simulates}
 use Rattle.ob_object_outcomes.proofs.Simulated.{EachFits}
 use Rattle.wf_history.specs.declared.event.CallId.{CallId}

@@ -1,11 +1,10 @@
 -- By the question, and then by what is told.
-use Rattle.std.proofs.Common.{ap, List, Err, map, subst, sym}
+use Rattle.std.proofs.Common.{ap, List, Err, subst, sym}
 use Rattle.std.proofs.lemmas.Result.{err_from_is_err_and}
 use Rattle.ob_checked.specs.CheckedModule.{program_in}
 use Rattle.ob_interface.specs.Call.{Reply}
 use Rattle.ob_object_order.specs.LegalOrder.{CallEnds}
 use Rattle.ob_object_wholes.proofs.Asked.{failing_is, telling_is}
-use Rattle.ob_object_wholes.specs.View.{outcome_in}
 use Rattle.ob_positions.specs.Store.{Activation}
 use Rattle.ob_store.specs.View.{state_of}
 use Rattle.wf_outcomes.specs.Explored.{calls_in}
