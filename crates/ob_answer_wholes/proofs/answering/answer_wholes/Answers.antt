@@ -1,4 +1,4 @@
-use Rattle.std.proofs.Common.{◌∙◌, ap, map, string_bytes}
+use Rattle.std.proofs.Common.{◌∙◌, List, ap, map, string_bytes}
 use Rattle.ob_answer_explained.proofs.AtOnce.{holds_of_whole}
 use Rattle.ob_answer_explained.specs.CommandTexts.{of_text}
 use Rattle.ob_answer_files.specs.Printed.{said}
@@ -10,6 +10,7 @@ use Rattle.ob_object_wholes.specs.Wholes.{HasTooManyTold, IsWholesFault}
 use Rattle.ob_object_outcomes.specs.Scripted.{scripted_in}
 use Rattle.ob_object_outcomes.specs.View.{always_in}
 use Rattle.ob_object_wholes.specs.View.{outcome_in}
+use Rattle.ob_object_wholes.specs.declared.wholes.WholeOutcome.{WholeOutcome}
 use Rattle.ob_answer_wholes.proofs.answering.answer_wholes.Goals as goal
 
 pub returns-in_ok-lines-in-Ok : goal.returns-in_ok-lines-in-Ok
@@ -23,7 +24,9 @@ returns-in_ok-lines-in-Ok c whole is =
       wholes = map outcome_in c.in-Ok.wholes.items;
       are = c.in-Ok.ensures.wholes;
       holds = c.in-Ok.ensures.always;
-      prints = c.in_ok-lines-in-Ok.ensures ∙ ap (λ p. whole_lines p.variables (map outcome_in c.in-Ok.wholes.items)) c.checked.ensures;
+      prints =
+          c.in_ok-lines-in-Ok.ensures ∙ ap (λ p. whole_lines p.variables (map outcome_in c.deref.result.now)) c.checked.ensures
+          ∙ ap (λ (l : List WholeOutcome). whole_lines (scripted_in c.in-Ok.scripted).object.program.variables (map outcome_in l)) c.deref.ensures.value;
     }))
     c.printed.ensures
 
