@@ -37,9 +37,9 @@ IsWholesFaultHere s asked most = IsFaultAt s asked (HasManyTold s most)
 -- ---- from bytes, by what calls mean by name, each with the budget, from the state with which the object begins
 
 -- the object is the one that is asked for, with the calls of the script, and these are their whole outcomes
-pub record AreWholesOf (a : Asked) (script : List ℕ) (s : ScriptedParts) (wholes : List (WholeTold Activation Reply)) : Type 0 where
+pub record AreWholesOf (a : Asked) (script : List ℕ) (s : ScriptedParts) (found : List (WholeTold Activation Reply)) : Type 0 where
   pub scripted : IsScripted a script s
-  pub wholes : ∥ AreWholes (SameState s.object.program) (CallMeans s.object.program a.budget) s.scripts scripted.compiled.opens.state wholes ∥₁
+  pub wholes : ∥ AreWholes (SameState s.object.program) (CallMeans s.object.program a.budget) s.scripts scripted.compiled.opens.state found ∥₁
 
 -- there are an object and a script, and more than so many lists of replies, each with its state, can be told on the way, where variables
 -- go by their positions
