@@ -20,6 +20,7 @@ from __future__ import annotations
 
 import ctypes
 import json
+import operator
 import os
 import re
 import threading
@@ -75,8 +76,8 @@ _SIZE = ctypes.c_size_t
 _ROOM = 1 << 16
 
 
-def _bytes(text: Text) -> bytes:
-    return text.encode() if isinstance(text, str) else bytes(text)
+def _bytes(text: "Union[Text, Record, History]") -> bytes:
+    return bytes(text) if isinstance(text, (bytes, bytearray, memoryview)) else str(text).encode()
 
 
 def _joined(texts: Sequence[bytes]) -> list:
@@ -84,7 +85,7 @@ def _joined(texts: Sequence[bytes]) -> list:
     return [ctypes.c_char_p(b"".join(texts)), _SIZE(sum(map(len, texts))), lengths, _SIZE(len(texts))]
 
 
-def answer(words: Sequence[Text], files: Mapping[str, Text] = {}) -> Answer:
+def answer(words: Sequence[Text], files: Mapping[str, Union[Text, Record, History]] = {}) -> Answer:
     """The answer to words of the command line, behind the program's name, and to the files that they name.
 
     No file of the system is read. `serve` is answered with status 2. Raises MemoryError where there is no memory.
@@ -102,7 +103,7 @@ def answer(words: Sequence[Text], files: Mapping[str, Text] = {}) -> Answer:
         room_length = length.value
 
 
-def _printed(words: Sequence[Text], files: Mapping[str, Text]) -> Answer:
+def _printed(words: Sequence[Text], files: Mapping[str, Union[Text, Record, History]]) -> Answer:
     """The answer, where it is what was asked for; else the fault is raised."""
     given = answer(words, files)
     if given.status:
@@ -119,7 +120,7 @@ def check(module: Text) -> None:
     _printed(["check", "module"], {"module": module})
 
 
-def seq(module: Text, script: Text, *, turns: Optional[int] = None, start: Optional[Text] = None) -> List[str]:
+def seq(module: Text, script: Text, *, turns: Optional[int] = None, start: Union[Record, Text, None] = None) -> List[str]:
     """The lines of the replies to a script's calls, made one at a time, each with a budget of turns.
 
     With `start`, a record, the object begins with the values of its V lines.
@@ -156,6 +157,9 @@ class Record:
     """The variables of the module at the end: of an array a list, of a record of the language a dict."""
     steps: Dict[Tuple[int, int], int] = field(repr=False)
     """Of each call that ended how many steps its process took for it."""
+
+    def __str__(self) -> str:
+        return self.text
 
     @property
     def replies(self) -> Dict[Tuple[int, int], str]:
@@ -197,7 +201,7 @@ def run(
     length: Optional[int] = None,
     finish: bool = False,
     turns: Optional[int] = None,
-    start: Optional[Text] = None,
+    start: Union[Record, Text, None] = None,
 ) -> Record:
     """The record of a run by a schedule, or by one that a seed makes. With `finish` it goes on until each call has ended."""
     if (schedule is None) == (seed is None):
@@ -215,7 +219,7 @@ def run(
 
 def verify(module: Text, record: Union[Record, Text]) -> None:
     """Raises the fault of a record whose order is no legal order of its calls."""
-    _printed(["verify", "module", "record"], {"module": module, "record": record.text if isinstance(record, Record) else record})
+    _printed(["verify", "module", "record"], {"module": module, "record": record})
 
 
 class Trap(Exception):
@@ -243,8 +247,7 @@ class Object:
         """An object that n processes share, 1 to 16, each call with a budget of turns. It begins by the module's body, or with the values
         of a record, as `record` gives it. Raises the fault of the module or of the record."""
         self._module, self._n, self._budget, self._lock = _bytes(module), n, budget, threading.Lock()
-        start = from_.text if isinstance(from_, Record) else from_
-        begun = run(module, "", "", processes=n, turns=budget, start=start).text.splitlines()
+        begun = run(module, "", "", processes=n, turns=budget, start=from_).text.splitlines()
         self._values = dict(line.split(" ", 2)[1:] for line in begun if line.startswith("V "))
         self._head = [line for line in begun if line.startswith(("obl0", "n ", "b ", "I "))]
         self._events: List[str] = []
@@ -347,7 +350,7 @@ class History:
 
 
 def _value(value: Union[int, bool]) -> str:
-    return str(value).upper() if isinstance(value, bool) else str(value)
+    return str(value).upper() if isinstance(value, bool) else str(operator.index(value))
 
 
 def order(
@@ -364,8 +367,7 @@ def order(
     With `by` there is a line for each value of that argument of the calls; with `record` it is the history as a record.
     """
     words = ["order", "module", "history", *_option("-b", turns), *_option("--most", most), *_option("--by", by)]
-    text = str(history) if isinstance(history, History) else history
-    return _printed([*words, *(["--record"] if record else [])], {"module": module, "history": text}).out.decode().rstrip("\n")
+    return _printed([*words, *(["--record"] if record else [])], {"module": module, "history": history}).out.decode().rstrip("\n")
 
 
 def draw(
@@ -380,10 +382,9 @@ def draw(
 
     `turns` and `most` are those of the search for the order of a history, as of `order`.
     """
-    text = seen.text if isinstance(seen, Record) else str(seen) if isinstance(seen, History) else seen
     words = ["draw", "module", "seen", *_option("-b", turns), *_option("--most", most)]
     words += [] if calls is None else ["--calls", f"{calls[0]}-{calls[1]}"]
-    return _printed(words, {"module": module, "seen": text}).out.decode()
+    return _printed(words, {"module": module, "seen": seen}).out.decode()
 
 
 def explain(module: Text, history: Union[History, Text, None] = None, *, script: Optional[Text] = None, record: Union[Record, Text, None] = None) -> str:
@@ -393,9 +394,9 @@ def explain(module: Text, history: Union[History, Text, None] = None, *, script:
     if script is not None:
         files["script"], words = script, [*words, "script"]
     if record is not None:
-        files["record"], words = record.text if isinstance(record, Record) else record, [*words, "--record", "record"]
+        files["record"], words = record, [*words, "--record", "record"]
     if history is not None:
-        files["history"], words = str(history) if isinstance(history, History) else history, [*words, "--history", "history"]
+        files["history"], words = history, [*words, "--history", "history"]
     given = answer(words, files)
     if given.status > 1:
         raise Fault(given.err.decode().rstrip("\n"), given.status)
