@@ -99,16 +99,21 @@ function show_fault(text) {
     box.replaceChildren();
     by(id).setAttribute('aria-invalid', String(id in faults));
     if (id in faults) {
-      const pre = document.createElement('pre'), go = document.createElement('button');
-      pre.textContent = `line ${faults[id].line}\n${faults[id].text.trimEnd()}`;
+      const { code, said } = parts_of(faults[id].text), pre = document.createElement('pre'), go = document.createElement('button');
+      pre.textContent = code;
       go.type = 'button';
-      go.textContent = 'Go there';
+      go.textContent = `Go to line ${faults[id].line}`;
       go.onclick = () => go_to(id, faults[id]);
-      box.append(pre, go);
+      box.append(pre, ...said.map(it => { const line = document.createElement('p'); line.textContent = it; return line; }), go);
     }
     number_lines(id);
   }
   return place !== null;
+}
+// The line at fault with its mark, and what is said of it.
+function parts_of(text) {
+  const lines = text.trimEnd().split('\n'), mark = lines.findIndex(it => /^\s*\^$/.test(it));
+  return { code: lines.slice(0, mark + 1).join('\n'), said: lines.slice(mark + 1) };
 }
 // A column counts bytes, and a place of a text area counts units of UTF-16.
 function go_to(id, { line, column }) {
@@ -124,7 +129,7 @@ function go_to(id, { line, column }) {
 // One look at all that the page shows.
 const text_of = told => new TextDecoder().decode(told.status === 0 ? told.out : told.err.length ? told.err : told.out);
 const sentence = told => told.broken === 'stack' ? STACK : told.broken === 'memory' ? MEMORY : told.broken === 'stopped' ? 'Stopped.' : `The module has failed: ${told.broken}`;
-let obl0, has_state = true, told_before = null, picture_address = null, looks = 0, looking = false, once_more = false, began = 0;
+let obl0, has_state = true, told_before = null, picture_address = null, looks = 0, looking = false, once_more = false, stepped = false, began = 0;
 
 function words_of() {
   const [n, b] = NUMBERS.map(id => by(id).value.trim());
@@ -151,10 +156,13 @@ async function put_picture(told) {
   image.alt = 'The calls of each process as bars from their beginning to their end, with circles where they were made. The record says the same in text.';
   image.src = picture_address;
   await image.decode().catch(() => {});
-  const { scrollLeft, scrollTop } = box, right = box.scrollWidth - box.clientWidth - scrollLeft < 4;
+  const { scrollLeft, scrollTop } = box;
   box.replaceChildren(image);
-  box.scrollLeft = right ? box.scrollWidth : scrollLeft;
+  image.classList.toggle('fitted', image.naturalWidth < 1.6 * box.clientWidth);
+  // What a step has added stands at the right.
+  box.scrollLeft = stepped ? box.scrollWidth : scrollLeft;
   box.scrollTop = scrollTop;
+  stepped = false;
   if (old) URL.revokeObjectURL(old);
 }
 // The lines that were not there behind the schedule before stand out.
@@ -251,6 +259,7 @@ function write_schedule(text) {
   taken_back.push(area.value);
   area.value = text;
   area.scrollTop = area.scrollHeight;
+  stepped = true;
   look();
 }
 // An item behind a schedule: in a line of its own behind a remark, and as one with the item before it where both are steps of one process.
