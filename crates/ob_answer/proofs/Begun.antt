@@ -1,9 +1,9 @@
 -- From how an object begins to the answer that is made of it.
-use Rattle.std.proofs.Common.{◌≡◌, ℕ, Bool, List, ◌∷◌, Result, Ok, Err, IfOk, subst}
+use Rattle.std.proofs.Common.{◌≡◌, ℕ, Bool, false, List, ◌∷◌, Result, Ok, Err, IfOk, subst}
 use Rattle.ob_answer.specs.AllRuns.{AllRuns, IsAllRunsAnswer, shows_all_runs}
-use Rattle.ob_answer.specs.Answers.{IsAllRunsMade, IsCallsAnswer, IsCallsMade, IsRunAnswer, IsRunMade, shows_calls, shows_run}
+use Rattle.ob_answer.specs.Answers.{IsAllRunsMade, IsCallsAnswer, IsCallsMade, IsRunAnswer, IsRunMade, IsServeAnswer, IsServeMade, shows_calls, shows_run}
 use Rattle.ob_answer_explained.specs.Beginnings.{Begins, TellsNoneOf, begun, untold}
-use Rattle.ob_answer_explained.specs.CommandTexts.{CallsTexts, RunTexts, calls_of_text, calls_texts, first_or_none, record_file, run_of_text, run_texts_by}
+use Rattle.ob_answer_explained.specs.CommandTexts.{CallsTexts, RunTexts, calls_of_text, calls_texts, first_or_none, of_text, record_file, run_of_text, run_texts_by}
 use Rattle.ob_answer_explained.specs.Explains.{IsValuesFaultTold}
 use Rattle.ob_answer_files.specs.Reads.{OfWhole}
 use Rattle.ob_answer_files.specs.declared.answered.Answer.{Answer}
@@ -32,6 +32,23 @@ calls_untold product calls part script record_bytes fault is_shown record_text (
     (subst (λ (s : Bool). IsValuesFaultTold s (record_file calls (first_or_none record_bytes)) fault a) shown_is
     (subst (λ (text : List ℕ). IsValuesFaultTold is_shown (record_file calls text) fault a) record_is told))
 calls_untold product calls part script record_bytes fault is_shown record_text (Err e) shown is told says none = tt
+
+-- ---- workers
+
+pub serve_begun : (calls : CallsRequest) (part whole script : List ℕ) (record_bytes : List (List ℕ)) (beginning : Beginning) (t : CallsTexts) (a : Answer)
+    → t ≡ calls_texts calls part script record_bytes beginning → Begins record_bytes beginning → IsServeAnswer (of_text t.asked whole) t.script a
+    → IsServeMade calls (whole ∷ script ∷ record_bytes) a
+serve_begun calls part whole script record_bytes beginning t a is begins h =
+    begun beginning begins (subst (λ (u : CallsTexts). IsServeAnswer (of_text u.asked whole) u.script a) is h)
+
+pub serve_untold : {E : Type 0} (calls : CallsRequest) (part script : List ℕ) (record_bytes : List (List ℕ)) (fault : ValuesFault)
+    (record_text : List ℕ) (result : Result Answer E) → record_text ≡ first_or_none record_bytes
+    → IfOk result (λ a. IsValuesFaultTold false (record_file calls record_text) fault a) → IfOk result (λ _. SaysNone fault) → TellsNoneOf record_bytes fault
+    → IfOk result (OfWhole part (λ whole. IsServeMade calls (whole ∷ script ∷ record_bytes)))
+serve_untold calls part script record_bytes fault record_text (Ok a) record_is told says none =
+    λ whole _.
+    untold fault (none says) (subst (λ (text : List ℕ). IsValuesFaultTold false (record_file calls text) fault a) record_is told)
+serve_untold calls part script record_bytes fault record_text (Err e) is told says none = tt
 
 -- ---- all runs
 

@@ -44,7 +44,7 @@ use Rattle.ob_answer.specs.declared.product.CallsProduct.TheVariants as CallsPro
 use Rattle.ob_answer.specs.declared.product.Product.{Product}
 use Rattle.ob_answer.specs.declared.product.Product.TheVariants as Products
 use Rattle.ob_answer_explained.specs.Beginnings.{WithBeginning}
-use Rattle.ob_answer_explained.specs.CommandTexts.{CallsTexts, RunTexts, calls_texts, first_or_none, record_file, run_texts_by}
+use Rattle.ob_answer_explained.specs.CommandTexts.{CallsTexts, RunTexts, asked_by, calls_texts, first_or_none, record_file, run_texts_by}
 use Rattle.ob_answer_explained.specs.Explains.{AreTrapsExplained, IsCallsExplained, IsModuleExplained, IsRecordExplained, IsRunExplained, IsValuesFaultTold}
 use Rattle.ob_answer_orders.specs.ExplainedOrders.{IsHistoryExplained}
 use Rattle.ob_answer_orders.specs.Orders.{IsProductAnswer}
@@ -150,12 +150,10 @@ IsVerifyAnswer module_bytes record_bytes =
 
 -- ---- of the files of a request
 
--- what is printed of calls: their replies, or these with what is told beside them, or the record of workers that make them; or what is wrong
--- is shown, or the traps of the calls are
+-- what is printed of calls: their replies, or these with what is told beside them; or what is wrong is shown, or the traps of the calls are
 abbrev pub IsCallsAnswer : CallsProduct → CallsTexts → Answer → Type 0
 IsCallsAnswer CallsProducts.Replies t = IsSeqAnswer t.asked t.script
 IsCallsAnswer (CallsProducts.Told d) t = IsToldAnswer d t.asked t.script
-IsCallsAnswer CallsProducts.Workers t = IsServeAnswer t.asked t.script
 IsCallsAnswer CallsProducts.Explanation t = IsCallsExplained t
 IsCallsAnswer CallsProducts.Traps t = AreTrapsExplained t
 
@@ -163,7 +161,6 @@ IsCallsAnswer CallsProducts.Traps t = AreTrapsExplained t
 abbrev pub shows_calls : CallsProduct → Bool
 shows_calls CallsProducts.Replies = false
 shows_calls (CallsProducts.Told d) = false
-shows_calls CallsProducts.Workers = false
 shows_calls CallsProducts.Explanation = true
 shows_calls CallsProducts.Traps = true
 
@@ -190,6 +187,13 @@ IsCallsMade product calls (module_bytes ∷ script_bytes ∷ record_bytes) answe
     WithBeginning record_bytes (IsValuesFaultTold (shows_calls product) (record_file calls (first_or_none record_bytes)))
     (λ beginning. IsCallsAnswer product (calls_texts calls module_bytes script_bytes record_bytes beginning)) answer
 IsCallsMade product calls _ answer = ⊥
+
+-- the record of workers that make the calls, of the bytes of their files
+abbrev pub IsServeMade : CallsRequest → List (List ℕ) → Answer → Type 0
+IsServeMade calls (module_bytes ∷ script_bytes ∷ record_bytes) answer =
+    WithBeginning record_bytes (IsValuesFaultTold false (record_file calls (first_or_none record_bytes)))
+    (λ beginning. IsServeAnswer (asked_by calls module_bytes beginning) script_bytes) answer
+IsServeMade calls _ answer = ⊥
 
 abbrev pub IsAllRunsMade : AllRuns → CallsRequest → List (List ℕ) → Answer → Type 0
 IsAllRunsMade all calls (module_bytes ∷ script_bytes ∷ record_bytes) answer =
@@ -238,6 +242,9 @@ IsChanceMade product run _ answer = ⊥
 -- the same of the bytes that were read, with the whole text of the module
 abbrev pub IsMadeOfCalls : CallsProduct → CallsCommand → CallsBytes → (whole : List ℕ) → Answer → Type 0
 IsMadeOfCalls product calls bytes whole = IsCallsMade product (calls_request_of calls) (whole ∷ bytes.script.items ∷ record_in_calls bytes)
+
+abbrev pub IsMadeOfServe : CallsCommand → CallsBytes → (whole : List ℕ) → Answer → Type 0
+IsMadeOfServe calls bytes whole = IsServeMade (calls_request_of calls) (whole ∷ bytes.script.items ∷ record_in_calls bytes)
 
 abbrev pub IsMadeOfAllRuns : AllRuns → CallsCommand → CallsBytes → (whole : List ℕ) → Answer → Type 0
 IsMadeOfAllRuns all calls bytes whole = IsAllRunsMade all (calls_request_of calls) (whole ∷ bytes.script.items ∷ record_in_calls bytes)
@@ -289,7 +296,7 @@ IsMade (RunTree run) bytes answer = IsRunMade Products.TreeRecord run bytes answ
 IsMade (RunSteps run) bytes answer = IsRunMade Products.RecordWithSteps run bytes answer
 IsMade (RunFinished product run) bytes answer = IsFinishedMade product run bytes answer
 IsMade (RunByChance product run) bytes answer = IsChanceMade product run bytes answer
-IsMade (Serve calls) bytes answer = IsCallsMade CallsProducts.Workers calls bytes answer
+IsMade (Serve calls) bytes answer = IsServeMade calls bytes answer
 IsMade (Draw run range) bytes answer = IsRunMade (Products.Picture (range_of range)) run bytes answer
 IsMade (DrawRecord module_name record_name range) (module_bytes ∷ record_bytes ∷ []) answer =
     IsSeenPictureAnswer (range_of range) module_bytes record_bytes answer
@@ -330,6 +337,9 @@ module _ {F : Type 0} (Reads : F → Text → Result (List ℕ) FileFault → F 
   -- the outcome of the files of calls, and of those of a run
   abbrev pub IsCallsObeyed : CallsProduct → CallsRequest → F → Answer → F → Type 0
   IsCallsObeyed product calls = IsOutcome Reads (files_of_calls calls) (IsCallsMade product calls)
+
+  abbrev pub IsServeObeyed : CallsRequest → F → Answer → F → Type 0
+  IsServeObeyed calls = IsOutcome Reads (files_of_calls calls) (IsServeMade calls)
 
   abbrev pub IsAllRunsObeyed : AllRuns → CallsRequest → F → Answer → F → Type 0
   IsAllRunsObeyed all calls = IsOutcome Reads (files_of_calls calls) (IsAllRunsMade all calls)

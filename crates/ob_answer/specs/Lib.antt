@@ -1,3 +1,4 @@
 pub mod AllRuns
 pub mod Refusals
 pub mod Answers
+pub mod Alone

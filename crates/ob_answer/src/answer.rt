@@ -1,18 +1,19 @@
 //! From the words of the command line to what the program prints and its exit status.
 
-ghost use Rattle.std.specs.Prelude.{◌≡◌, IfOk, count_by, map, nat_lt};
+ghost use Rattle.std.specs.Prelude.{◌≡◌, IfNone, IfOk, IfSome, count_by, map, nat_lt};
 ghost use Rattle.std.specs.Str.{bytes_eq};
 ghost use Rattle.ob_answer.specs.AllRuns.{all_runs_for, all_runs_of};
-ghost use Rattle.ob_answer.specs.Answers.{IsAnswer, IsAnswerTo, IsObeyed, files_of, input_name, range_of, reads_input_twice, sequence_product};
+ghost use Rattle.ob_answer.specs.Alone.{IsAlone, IsAloneTo, IsNotServe, IsStopAnswer};
+ghost use Rattle.ob_answer.specs.Answers.{IsAnswer, IsObeyed, files_of, input_name, range_of, reads_input_twice, sequence_product};
 ghost use Rattle.ob_answer_files.specs.Reads.{files_of_calls, files_of_run};
-ghost use Rattle.ob_command.specs.CommandLine.{Bound, Check, DrawHistory, DrawRecord, Listing, Order, Verify};
+ghost use Rattle.ob_command.specs.CommandLine.{Bound, Check, DrawHistory, DrawRecord, Listing, Order, Serve, Verify};
 ghost use Rattle.ob_command.specs.Commands.{calls_request_of, order_request_of, outcomes_request_of, request_of, run_request_of, seen_request_of, seq_request_of};
 
 use crate::all_runs::{AllRuns, obey_all_runs};
 use crate::explaining::{obey_explain_history, obey_explain_module, obey_explain_record};
 use crate::making::{answer_bound, answer_check, answer_draw_seen, answer_list, answer_verify};
 use crate::making_schedules::{obey_chance, obey_finished};
-use crate::obeying::{obey_calls, obey_run};
+use crate::obeying::{obey_calls, obey_run, obey_serve};
 use crate::product::{CallsProduct, Product};
 use ob_answer_files::answered::Answer;
 use ob_answer_files::files::{FileFault, Files};
@@ -41,6 +42,15 @@ pub const INPUT_NAME: &str = "-";
 /// The mistake of words that name standard input for two files.
 const INPUT_TWICE: &str = "error: `-`, which is standard input, stands for one file alone\n";
 
+/// What comes of words where no thread is started.
+#[derive(Drop)]
+pub enum Alone<'a> {
+    /// Their answer.
+    Answered(Answer),
+    /// They ask for `serve`, whose calls are made by threads: no file is read.
+    Serves(CallsCommand<'a>),
+}
+
 /// The answer to the words behind the program's name. Files are read in the order in which the words
 /// name them, that of the record with whose values an object begins behind the others, before anything is made of them. Only `serve`
 /// starts threads and waits, and only a search for an order asks for random bytes.
@@ -53,28 +63,67 @@ pub fn answer<R: Threads + Wait + Sync + AllocGlobal + RandomSource, F: Files>(
     ensures asked { IfOk result (λ a. IsAnswer F.reads (map (λ word. word.now) words.now) files.old a files.new) }
 {
     let alloc = rt.alloc();
-    match read_command(alloc, words) {
-        Ok(command) => obey_once(rt, alloc, command, files),
-        Err(Stop::Help(text)) => Ok(Answer::printed(alloc, text)),
-        Err(Stop::Version) => Ok(Answer::printed(alloc, String::from_str(alloc, VERSION)?)),
-        Err(Stop::Unclear(text)) => Ok(Answer::refused(alloc, 2, text)),
-        Err(Stop::NoMemory) => Err(NoMemory),
+    match answer_alone(rt, alloc, words, files)? {
+        Alone::Answered(answer) => Ok(answer),
+        Alone::Serves(calls) => obey_serve(rt, alloc, calls, files),
     }
 }
 
-/// The answer to a command, which may read standard input but once.
-fn obey_once<R: Threads + Wait + Sync + RandomSource, F: Files>(
-    rt: &R,
+/// The same without a runtime: the answer to all words but those of `serve`. The random bytes of a search for an order come from `keys`.
+pub fn answer_alone<'a, K: RandomSource, F: Files>(
+    keys: &K,
     alloc: Global,
-    command: Command<'_>,
+    words: &'a [&'a str],
     files: &mut F,
-) -> Result<Answer, NoMemory>
-    ensures { IfOk result (λ a. IsAnswerTo F.reads (request_of command.entry) files.old a files.new) }
+) -> Result<Alone<'a>, NoMemory>
+    ensures asked { IfOk result (λ alone. IsAlone F.reads (map (λ word. word.now) words.entry.now) files.old alone files.new) }
+{
+    match read_command(alloc, words) {
+        Ok(command) => obey_once(keys, alloc, command, files),
+        Err(stop) => Ok(Alone::Answered(answer_stop(alloc, stop)?)),
+    }
+}
+
+/// The answer to words that ask for no command.
+fn answer_stop(alloc: Global, stop: Stop) -> Result<Answer, NoMemory>
+    ensures { IfOk result (IsStopAnswer stop) }
+{
+    match stop {
+        Stop::Help(text) => Ok(Answer::printed(alloc, text)),
+        Stop::Version => Ok(Answer::printed(alloc, String::from_str(alloc, VERSION)?)),
+        Stop::Unclear(text) => Ok(Answer::refused(alloc, 2, text)),
+        Stop::NoMemory => Err(NoMemory),
+    }
+}
+
+/// What comes of a command, which may read standard input but once.
+fn obey_once<'a, K: RandomSource, F: Files>(
+    keys: &K,
+    alloc: Global,
+    command: Command<'a>,
+    files: &mut F,
+) -> Result<Alone<'a>, NoMemory>
+    ensures { IfOk result (λ alone. IsAloneTo F.reads (request_of command.entry) files.old alone files.new) }
 {
     if reads_input_twice(command) {
-        return Ok(Answer::refused(alloc, 2, String::from_str(alloc, INPUT_TWICE)?));
+        let answer = Answer::refused(alloc, 2, String::from_str(alloc, INPUT_TWICE)?);
+        return Ok(Alone::Answered(answer));
     }
-    obey(rt, alloc, command, files)
+    match served(command) {
+        Some(calls) => Ok(Alone::Serves(calls)),
+        None => Ok(Alone::Answered(obey(keys, alloc, command, files)?)),
+    }
+}
+
+/// The calls of `serve`, if a command is that.
+fn served(command: Command<'_>) -> Option<CallsCommand<'_>>
+    ensures serve { IfSome result (λ calls. request_of command.entry ≡ Serve (calls_request_of calls)) }
+    ensures alone { IfNone result (IsNotServe (request_of command.entry)) }
+{
+    match command {
+        Command::Serve(calls) => Some(calls),
+        _ => None,
+    }
 }
 
 /// Whether a command names standard input for two files.
@@ -155,27 +204,26 @@ fn are_two_inputs(names: &[&str]) -> bool
     names.iter().filter(|name| **name == INPUT_NAME).count() > 1
 }
 
-/// The answer to a command.
-fn obey<R: Threads + Wait + Sync + RandomSource, F: Files>(
-    rt: &R,
+/// The answer to a command that is not `serve`.
+fn obey<K: RandomSource, F: Files>(
+    keys: &K,
     alloc: Global,
     command: Command<'_>,
     files: &mut F,
 ) -> Result<Answer, NoMemory>
+    requires alone { IsNotServe (request_of command) }
     ensures { IfOk result (λ a. IsObeyed F.reads (request_of command.entry) files.old a files.new) }
 {
     match command {
         Command::Check { module_name } => obey_check(alloc, module_name, files),
         Command::List { module_name } => obey_list(alloc, module_name, files),
-        Command::Seq(sequence) => {
-            obey_calls(rt, alloc, product_of(sequence), sequence.calls, files)
-        }
+        Command::Seq(sequence) => obey_calls(alloc, product_of(sequence), sequence.calls, files),
         Command::Run(run) => obey_run(alloc, Product::Record, run, files),
         Command::RunTree(run) => obey_run(alloc, Product::TreeRecord, run, files),
         Command::RunSteps(run) => obey_run(alloc, Product::RecordWithSteps, run, files),
         Command::RunFinished { product, run } => obey_finished(alloc, product, run, files),
         Command::RunByChance { product, run } => obey_chance(alloc, product, run, files),
-        Command::Serve(calls) => obey_calls(rt, alloc, CallsProduct::Workers, calls, files),
+        Command::Serve(_) => unreachable!(),
         Command::Draw { run, calls } => {
             obey_run(alloc, Product::Picture(range_of(calls)), run, files)
         }
@@ -189,26 +237,24 @@ fn obey<R: Threads + Wait + Sync + RandomSource, F: Files>(
                 seen_name: record_name,
                 calls,
             };
-            obey_draw_seen(rt, alloc, seen, files)
+            obey_draw_seen(keys, alloc, seen, files)
         }
-        Command::DrawHistory(seen) => obey_draw_history(rt, alloc, seen, files),
+        Command::DrawHistory(seen) => obey_draw_history(keys, alloc, seen, files),
         Command::Outcomes(outcomes) => {
-            obey_all_runs(rt, alloc, all_runs_for(outcomes), outcomes.calls, files)
+            obey_all_runs(keys, alloc, all_runs_for(outcomes), outcomes.calls, files)
         }
         Command::Verify {
             module_name,
             record_name,
         } => obey_verify(alloc, module_name, record_name, files),
-        Command::Order(order) => obey_order(rt, alloc, order, files),
+        Command::Order(order) => obey_order(keys, alloc, order, files),
         Command::Explain { module_name, .. } => obey_explain_module(alloc, module_name, files),
-        Command::ExplainCalls(calls) => {
-            obey_calls(rt, alloc, CallsProduct::Explanation, calls, files)
-        }
-        Command::ExplainTraps(calls) => obey_calls(rt, alloc, CallsProduct::Traps, calls, files),
+        Command::ExplainCalls(calls) => obey_calls(alloc, CallsProduct::Explanation, calls, files),
+        Command::ExplainTraps(calls) => obey_calls(alloc, CallsProduct::Traps, calls, files),
         Command::ExplainRun(run) => obey_run(alloc, Product::Explanation, run, files),
         Command::ExplainAlways(asked) => {
             obey_all_runs(
-                rt,
+                keys,
                 alloc,
                 AllRuns::Explained(asked.name),
                 asked.calls,
@@ -222,7 +268,7 @@ fn obey<R: Threads + Wait + Sync + RandomSource, F: Files>(
         Command::ExplainHistory {
             module_name,
             history_name,
-        } => obey_explain_history(rt, alloc, module_name, history_name, files),
+        } => obey_explain_history(keys, alloc, module_name, history_name, files),
         Command::Bound {
             module_name,
             processes,

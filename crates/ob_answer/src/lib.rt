@@ -5,7 +5,7 @@
 pub mod all_runs;
 pub mod answer;
 mod explaining;
-mod making;
+pub mod making;
 mod making_schedules;
 mod obeying;
 pub mod product;

@@ -49,7 +49,7 @@ use std::thread::Threads;
 const DEFAULT_MOST: u32 = 10_000_000;
 
 /// The answer of `check` to the beginning of a module's text.
-pub(crate) fn answer_check(alloc: Global, module: &[u8]) -> Result<Answer, NoMemory>
+pub fn answer_check(alloc: Global, module: &[u8]) -> Result<Answer, NoMemory>
     ensures { IfOk result (OfWhole «module».now IsCheckAnswer) }
 {
     match check_text(alloc, module) {
@@ -96,7 +96,7 @@ fn compile_refused(alloc: Global, fault: CompileFault) -> Result<Answer, NoMemor
 }
 
 /// The answer of `seq`, of the object that is asked for and the text of a script.
-pub(crate) fn answer_seq(alloc: Global, asked: Asked<'_>, script: &[u8]) -> Result<Answer, NoMemory>
+pub fn answer_seq(alloc: Global, asked: Asked<'_>, script: &[u8]) -> Result<Answer, NoMemory>
     ensures { IfOk result (OfWhole asked.entry.text.now (λ whole. IsSeqAnswer (of_text (asked_of asked.entry) whole) script.now)) }
 {
     match seq_asked(alloc, asked, script) {
@@ -166,7 +166,7 @@ fn serve_refused(
 }
 
 /// The answer of `run`.
-pub(crate) fn answer_record(alloc: Global, texts: Texts<'_>) -> Result<Answer, NoMemory>
+pub fn answer_record(alloc: Global, texts: Texts<'_>) -> Result<Answer, NoMemory>
     ensures { IfOk result (OfWhole texts.entry.asked.text.now (λ whole. IsRecordAnswer (texts_of_text (texts_of texts.entry) whole))) }
 {
     match run_text(alloc, texts) {
@@ -211,7 +211,7 @@ fn run_refused(
 }
 
 /// The answer of `draw` of a run, of some calls or of all.
-pub(crate) fn answer_picture(
+pub fn answer_picture(
     alloc: Global,
     texts: Texts<'_>,
     calls: Option<CallRange>,
@@ -288,7 +288,7 @@ fn draw_record_refused(alloc: Global, fault: DrawRecordFault) -> Result<Answer, 
 }
 
 /// The answer to the beginning of a module's text and to the text of a record.
-pub(crate) fn answer_verify(alloc: Global, module: &[u8], record: &[u8]) -> Result<Answer, NoMemory>
+pub fn answer_verify(alloc: Global, module: &[u8], record: &[u8]) -> Result<Answer, NoMemory>
     ensures { IfOk result (OfWhole «module».now (λ whole. IsVerifyAnswer whole «record».now)) }
 {
     match verify_text(alloc, module, record) {

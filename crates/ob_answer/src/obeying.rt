@@ -2,7 +2,7 @@
 //! answer is made.
 
 ghost use Rattle.std.specs.Prelude.{◌≡◌, IfOk};
-ghost use Rattle.ob_answer.specs.Answers.{IsCallsAnswer, IsCallsObeyed, IsMadeOfCalls, IsMadeOfRun, IsRunAnswer, IsRunObeyed, shows_calls, shows_run};
+ghost use Rattle.ob_answer.specs.Answers.{IsCallsAnswer, IsCallsObeyed, IsMadeOfCalls, IsMadeOfRun, IsMadeOfServe, IsRunAnswer, IsRunObeyed, IsServeObeyed, shows_calls, shows_run};
 ghost use Rattle.ob_answer_files.specs.Reads.{OfWhole};
 ghost use Rattle.ob_answer_explained.specs.CommandTexts.{calls_of_text, calls_texts_of, run_of_text, run_texts_of};
 ghost use Rattle.ob_command.specs.Commands.{calls_request_of, run_request_of};
@@ -28,8 +28,7 @@ use std::sync::Wait;
 use std::thread::Threads;
 
 /// The answer to a command on calls.
-pub(crate) fn obey_calls<R: Threads + Wait + Sync, F: Files>(
-    rt: &R,
+pub(crate) fn obey_calls<F: Files>(
     alloc: Global,
     product: CallsProduct,
     calls: CallsCommand<'_>,
@@ -38,14 +37,13 @@ pub(crate) fn obey_calls<R: Threads + Wait + Sync, F: Files>(
     ensures { IfOk result (λ a. IsCallsObeyed F.reads product (calls_request_of calls.entry) files.old a files.new) }
 {
     match read_calls(alloc, calls, files)? {
-        CallsFiles::Read(bytes) => answer_calls(rt, alloc, product, calls, &bytes),
+        CallsFiles::Read(bytes) => answer_calls(alloc, product, calls, &bytes),
         CallsFiles::Unread(answer) => Ok(answer),
     }
 }
 
 /// The answer to a command on calls, of the bytes of its files.
-fn answer_calls<R: Threads + Wait + Sync>(
-    rt: &R,
+fn answer_calls(
     alloc: Global,
     product: CallsProduct,
     calls: CallsCommand<'_>,
@@ -54,7 +52,7 @@ fn answer_calls<R: Threads + Wait + Sync>(
     ensures { IfOk result (OfWhole bytes.now.text.items (IsMadeOfCalls product calls.entry bytes.now)) }
 {
     match values_in(alloc, &bytes.from) {
-        Ok(values) => begun_calls(rt, alloc, product, calls_with(calls, bytes, &values)),
+        Ok(values) => begun_calls(alloc, product, calls_with(calls, bytes, &values)),
         Err(fault) => {
             let is_shown = shows_calls(product);
             let record_text = bytes_or_none(&bytes.from);
@@ -64,18 +62,12 @@ fn answer_calls<R: Threads + Wait + Sync>(
 }
 
 /// The answer to calls on the object that is asked for.
-fn begun_calls<R: Threads + Wait + Sync>(
-    rt: &R,
-    alloc: Global,
-    product: CallsProduct,
-    calls: Calls<'_>,
-) -> Result<Answer, NoMemory>
+fn begun_calls(alloc: Global, product: CallsProduct, calls: Calls<'_>) -> Result<Answer, NoMemory>
     ensures { IfOk result (OfWhole calls.entry.asked.text.now (λ whole. IsCallsAnswer product (calls_of_text (calls_texts_of calls.entry) whole))) }
 {
     match product {
         CallsProduct::Replies => answer_seq(alloc, calls.asked, calls.script),
         CallsProduct::Told(details) => answer_told(alloc, calls.asked, calls.script, details),
-        CallsProduct::Workers => answer_serve(rt, alloc, calls.asked, calls.script),
         CallsProduct::Explanation => explain_calls(alloc, calls),
         CallsProduct::Traps => explain_traps(alloc, calls),
     }
@@ -86,8 +78,44 @@ fn shows_calls(product: CallsProduct) -> bool
     ensures { result ≡ shows_calls product }
 {
     match product {
-        CallsProduct::Replies | CallsProduct::Told(_) | CallsProduct::Workers => false,
+        CallsProduct::Replies | CallsProduct::Told(_) => false,
         CallsProduct::Explanation | CallsProduct::Traps => true,
+    }
+}
+
+/// The answer to `serve`.
+pub(crate) fn obey_serve<R: Threads + Wait + Sync, F: Files>(
+    rt: &R,
+    alloc: Global,
+    calls: CallsCommand<'_>,
+    files: &mut F,
+) -> Result<Answer, NoMemory>
+    ensures { IfOk result (λ a. IsServeObeyed F.reads (calls_request_of calls.entry) files.old a files.new) }
+{
+    match read_calls(alloc, calls, files)? {
+        CallsFiles::Read(bytes) => answer_served(rt, alloc, calls, &bytes),
+        CallsFiles::Unread(answer) => Ok(answer),
+    }
+}
+
+/// The answer to `serve`, of the bytes of its files.
+fn answer_served<R: Threads + Wait + Sync>(
+    rt: &R,
+    alloc: Global,
+    calls: CallsCommand<'_>,
+    bytes: &CallsBytes,
+) -> Result<Answer, NoMemory>
+    ensures { IfOk result (OfWhole bytes.now.text.items (IsMadeOfServe calls.entry bytes.now)) }
+{
+    match values_in(alloc, &bytes.from) {
+        Ok(values) => {
+            let begun = calls_with(calls, bytes, &values);
+            answer_serve(rt, alloc, begun.asked, begun.script)
+        }
+        Err(fault) => {
+            let record_text = bytes_or_none(&bytes.from);
+            values_wrong(alloc, false, calls.from_name, record_text, fault)
+        }
     }
 }
 

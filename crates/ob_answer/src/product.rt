@@ -14,13 +14,12 @@ pub enum Product {
     Explanation,
 }
 
-/// What is printed of the calls of a script: their replies, made one at a time, or these with what is told beside them; the record
-/// of workers that make them; what is wrong with the texts; or where the calls trap.
+/// What is printed of the calls of a script: their replies, made one at a time, or these with what is told beside them; what is wrong with
+/// the texts; or where the calls trap.
 #[derive(Clone, Copy, PartialEq, Eq)]
 pub enum CallsProduct {
     Replies,
     Told(Details),
-    Workers,
     Explanation,
     Traps,
 }

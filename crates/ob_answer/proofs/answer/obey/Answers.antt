@@ -36,9 +36,6 @@ returns-in-RunFinished g c = rw c.in-RunFinished.is c.obey_finished.ensures
 pub returns-in-RunByChance : goal.returns-in-RunByChance
 returns-in-RunByChance g c = rw c.in-RunByChance.is c.obey_chance.ensures
 
-pub returns-in-Serve : goal.returns-in-Serve
-returns-in-Serve g c = rw c.in-Serve.is c.obey_calls-in-Serve.ensures
-
 pub returns-in-Draw : goal.returns-in-Draw
 returns-in-Draw g c =
     rw c.in-Draw.is (subst (λ (r : Option CallRange). IfOk c.obey_run-in-Draw.result

@@ -8,7 +8,7 @@ use Rattle.ob_answer.proofs.Begun.{calls_begun, calls_untold}
 use Rattle.ob_answer.proofs.obeying.answer_calls.Goals as goal
 
 pub returns-in-Ok : goal.returns-in-Ok
-returns-in-Ok g c =
+returns-in-Ok c =
     let bytes = c.args.bytes.now in
     IfOk-weaker c.begun_calls.result _ _ (λ a h whole is.
     calls_begun c.args.product (calls_request_of c.args.calls) bytes.text.items whole bytes.script.items (record_in_calls bytes)
@@ -17,7 +17,7 @@ returns-in-Ok g c =
     c.begun_calls.ensures
 
 pub returns-in-Err : goal.returns-in-Err
-returns-in-Err g c =
+returns-in-Err c =
     let bytes = c.args.bytes.now in
     calls_untold c.args.product (calls_request_of c.args.calls) bytes.text.items bytes.script.items (record_in_calls bytes) c.in-Err.fault
     c.shows_calls-is_shown.result c.bytes_or_none-record_text.result.now c.values_wrong.result c.shows_calls-is_shown.ensures c.bytes_or_none-record_text.ensures

@@ -1,0 +1,3 @@
+pub mod WholeModules
+pub mod NoWords
+pub mod Answered

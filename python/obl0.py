@@ -1,0 +1,292 @@
+"""Modules of Oberon-0 as objects that several processes share: what the program `obl0` answers, for Python.
+
+A module is the text of one-thread code, a script one of calls, a schedule one of who steps, a record one of what a run showed, and a
+history one of what somebody saw of any object: each is a str, or bytes of UTF-8. `check`, `seq`, `run`, `verify`, `order`, `draw`,
+`explain` and `bound` answer as the commands of these names do; `answer` takes any words of the command line but `serve`, and any files.
+
+    import obl0
+    module = open("examples/counter.mod").read()
+    obl0.seq(module, "0 Inc\\n0 Get\\n")          # ["E 0.1 done", "E 0.2 done 1"]
+    obl0.order(module, "B 0.1 Inc\\nE 0.1 done")  # "O 0.1"
+
+A fault is raised as `Fault`, whose text is its line, as `X1 1.2`. All is done by the library libobl0.so, which lies beside this file,
+in dist/ of the repository, or where OBL0_LIBRARY says. Any number of threads may call at once; while a call works, others run.
+"""
+from __future__ import annotations
+
+import ctypes
+import os
+import threading
+from dataclasses import dataclass, field
+from pathlib import Path
+from typing import Dict, List, Mapping, NamedTuple, Optional, Sequence, Tuple, Union
+
+Text = Union[str, bytes]
+
+__all__ = ["Answer", "Event", "Fault", "History", "Record", "answer", "bound", "check", "draw", "explain", "order", "run", "seq", "verify"]
+
+MEMORY = 4
+
+
+class Fault(Exception):
+    """What is wrong with a text, or with words: the line that the program prints, and its status."""
+
+    def __init__(self, line: str, status: int) -> None:
+        super().__init__(line)
+        self.line = line
+        self.status = status
+
+    @property
+    def number(self) -> str:
+        """The number of the fault, as `X1`; of a mistake in the words it is empty."""
+        return self.line.split(" ", 1)[0].strip() if self.status == 1 else ""
+
+
+class Answer(NamedTuple):
+    """What the program answers: its status, and what it prints on standard output and on standard error."""
+
+    status: int
+    out: bytes
+    err: bytes
+
+
+def _library() -> ctypes.CDLL:
+    here = Path(__file__).resolve().parent
+    named = os.environ.get("OBL0_LIBRARY")
+    places = [Path(named)] if named else [here / "libobl0.so", here.parent / "dist" / "libobl0.so"]
+    for place in places:
+        if place.exists():
+            return ctypes.CDLL(str(place))
+    raise ImportError(f"obl0: no library at {', '.join(map(str, places))}")
+
+
+_LIBRARY = _library()
+_SIZE = ctypes.c_size_t
+_ROOM = 1 << 16
+
+
+def _bytes(text: Text) -> bytes:
+    return text.encode() if isinstance(text, str) else bytes(text)
+
+
+def _joined(texts: Sequence[bytes]) -> list:
+    lengths = (_SIZE * max(len(texts), 1))(*map(len, texts))
+    return [ctypes.c_char_p(b"".join(texts)), _SIZE(sum(map(len, texts))), lengths, _SIZE(len(texts))]
+
+
+def answer(words: Sequence[Text], files: Mapping[str, Text] = {}) -> Answer:
+    """The answer to words of the command line, behind the program's name, and to the files that they name.
+
+    No file of the system is read. `serve` is answered with status 2. Raises MemoryError where there is no memory.
+    """
+    asked = _joined([_bytes(it) for it in words]) + _joined([_bytes(it) for pair in files.items() for it in pair])
+    room_length = _ROOM
+    while True:
+        room, output, length = ctypes.create_string_buffer(room_length), _SIZE(), _SIZE()
+        status = _LIBRARY.obl0_answer(*asked, room, _SIZE(room_length), ctypes.byref(output), ctypes.byref(length))
+        if status == MEMORY:
+            raise MemoryError("obl0: no memory for the answer")
+        if length.value <= room_length:
+            said = room.raw[: length.value]
+            return Answer(status, said[: output.value], said[output.value :])
+        room_length = length.value
+
+
+def _printed(words: Sequence[Text], files: Mapping[str, Text]) -> Answer:
+    """The answer, where it is what was asked for; else the fault is raised."""
+    given = answer(words, files)
+    if given.status:
+        raise Fault(given.err.decode().rstrip("\n"), given.status)
+    return given
+
+
+def _option(name: str, value: Optional[object]) -> List[str]:
+    return [] if value is None else [name, str(value)]
+
+
+def check(module: Text) -> None:
+    """Raises the first fault of a module, if it has one."""
+    _printed(["check", "module"], {"module": module})
+
+
+def seq(module: Text, script: Text, *, turns: Optional[int] = None, start: Optional[Text] = None) -> List[str]:
+    """The lines of the replies to a script's calls, made one at a time, each with a budget of turns.
+
+    With `start`, a record, the object begins with the values of its V lines.
+    """
+    files = {"module": module, "script": script, **({} if start is None else {"start": start})}
+    words = ["seq", "module", "script", *_option("-b", turns), *([] if start is None else ["--from", "start"])]
+    return _printed(words, files).out.decode().splitlines()
+
+
+class Event(NamedTuple):
+    """A call begins (`B`) or ends (`E`): its process, the number of the call there, and the words behind, as `Put 7` or `done TRUE`."""
+
+    kind: str
+    process: int
+    call: int
+    said: str
+
+
+@dataclass(frozen=True)
+class Record:
+    """What a run showed."""
+
+    text: str
+    """The record as it is printed, for `verify`, `draw` and `start`."""
+    processes: int
+    turns: int
+    events: List[Event] = field(repr=False)
+    """The calls that begin and end, in the order in which that was seen."""
+    order: List[Tuple[int, int]]
+    """The calls that took effect, in order, each as its process and its number there: a legal order."""
+    schedule: str = field(repr=False)
+    """Who stepped: given as a schedule, it makes the same run again."""
+    values: Dict[str, str]
+    """The variables of the module at the end, as they are written."""
+    steps: Dict[Tuple[int, int], int] = field(repr=False)
+    """Of each call that ended how many steps its process took for it."""
+
+    @property
+    def replies(self) -> Dict[Tuple[int, int], str]:
+        """Of each call that ended its reply, as `done 2` or `trap 4`."""
+        return {(it.process, it.call): it.said for it in self.events if it.kind == "E"}
+
+
+def _call(word: str) -> Tuple[int, int]:
+    process, number = word.split(".")
+    return int(process), int(number)
+
+
+def _record(text: str, beside: str) -> Record:
+    lines = [line.partition(" ") for line in text.splitlines()]
+    said = {kind: rest for kind, _, rest in lines}
+    events = [Event(kind, *_call(rest.split()[0]), rest.partition(" ")[2]) for kind, _, rest in lines if kind in ("B", "E")]
+    values = dict(rest.split(" ", 1) for kind, _, rest in lines if kind == "V")
+    steps = {_call(it.split()[-2]): int(it.split()[-1]) for it in beside.splitlines()}
+    order = [_call(it) for it in said["O"].split()]
+    return Record(text, int(said["n"]), int(said["b"]), events, order, said.get("S", ""), values, steps)
+
+
+def run(
+    module: Text,
+    script: Text,
+    schedule: Optional[Text] = None,
+    *,
+    processes: int,
+    seed: Optional[int] = None,
+    length: Optional[int] = None,
+    finish: bool = False,
+    turns: Optional[int] = None,
+    start: Optional[Text] = None,
+) -> Record:
+    """The record of a run by a schedule, or by one that a seed makes. With `finish` it goes on until each call has ended."""
+    if (schedule is None) == (seed is None):
+        raise TypeError("a run takes a schedule or a seed")
+    files = {"module": module, "script": script}
+    words: List[Text] = ["run", "module", "script", "-n", str(processes), "--steps"]
+    for name, text in (("schedule", schedule), ("start", start)):
+        if text is not None:
+            files[name] = text
+            words += [name] if name == "schedule" else ["--from", name]
+    words += [*_option("--seed", seed), *_option("--length", length), *_option("-b", turns), *(["--finish"] if finish else [])]
+    given = _printed(words, files)
+    return _record(given.out.decode(), given.err.decode())
+
+
+def verify(module: Text, record: Union[Record, Text]) -> None:
+    """Raises the fault of a record whose order is no legal order of its calls."""
+    _printed(["verify", "module", "record"], {"module": module, "record": record.text if isinstance(record, Record) else record})
+
+
+class History:
+    """What is seen of an object, by any number of threads at once: tell it of each call when it begins and when it ends.
+
+        history = obl0.History()
+        call = history.begin(0, "Put", 7)
+        history.end(call, queue.put(7))
+    """
+
+    def __init__(self) -> None:
+        self._lines: List[str] = []
+        self._calls: Dict[int, int] = {}
+        self._lock = threading.Lock()
+
+    def begin(self, process: int, procedure: str, *arguments: Union[int, bool]) -> str:
+        """A call begins: of a process, 0 to 65535, which begins no other before this one has ended."""
+        with self._lock:
+            self._calls[process] = self._calls.get(process, 0) + 1
+            call = f"{process}.{self._calls[process]}"
+            self._lines.append(" ".join(["B", call, procedure, *map(_value, arguments)]))
+        return call
+
+    def end(self, call: str, *values: Union[int, bool]) -> None:
+        """The call has ended with these values for its VAR parameters."""
+        with self._lock:
+            self._lines.append(" ".join(["E", call, "done", *map(_value, values)]))
+
+    def __str__(self) -> str:
+        with self._lock:
+            return "".join(f"{line}\n" for line in self._lines)
+
+
+def _value(value: Union[int, bool]) -> str:
+    return str(value).upper() if isinstance(value, bool) else str(value)
+
+
+def order(
+    module: Text,
+    history: Union[History, Text],
+    *,
+    turns: Optional[int] = None,
+    most: Optional[int] = None,
+    by: Optional[int] = None,
+    record: bool = False,
+) -> str:
+    """A legal order of the calls of a history, as `O 0.1 1.1`; raises X1 where there is none, X2 where the search was given up.
+
+    With `by` there is a line for each value of that argument of the calls; with `record` it is the history as a record.
+    """
+    words = ["order", "module", "history", *_option("-b", turns), *_option("--most", most), *_option("--by", by)]
+    text = str(history) if isinstance(history, History) else history
+    return _printed([*words, *(["--record"] if record else [])], {"module": module, "history": text}).out.decode().rstrip("\n")
+
+
+def draw(
+    module: Text,
+    seen: Union[Record, History, Text],
+    *,
+    calls: Optional[Tuple[int, int]] = None,
+    turns: Optional[int] = None,
+    most: Optional[int] = None,
+) -> str:
+    """The picture of a record or of a history, in SVG, or of some of its calls, from 1.
+
+    `turns` and `most` are those of the search for the order of a history, as of `order`.
+    """
+    text = seen.text if isinstance(seen, Record) else str(seen) if isinstance(seen, History) else seen
+    words = ["draw", "module", "seen", *_option("-b", turns), *_option("--most", most)]
+    words += [] if calls is None else ["--calls", f"{calls[0]}-{calls[1]}"]
+    return _printed(words, {"module": module, "seen": text}).out.decode()
+
+
+def explain(module: Text, history: Union[History, Text, None] = None, *, script: Optional[Text] = None, record: Union[Record, Text, None] = None) -> str:
+    """What is wrong with a module, a script, a record or a history, shown to people; `ok` where nothing is."""
+    files = {"module": module}
+    words: List[Text] = ["explain", "module"]
+    if script is not None:
+        files["script"], words = script, [*words, "script"]
+    if record is not None:
+        files["record"], words = record.text if isinstance(record, Record) else record, [*words, "--record", "record"]
+    if history is not None:
+        files["history"], words = str(history) if isinstance(history, History) else history, [*words, "--history", "history"]
+    given = answer(words, files)
+    if given.status > 1:
+        raise Fault(given.err.decode().rstrip("\n"), given.status)
+    return (given.out + given.err).decode().rstrip("\n")
+
+
+def bound(module: Text, *, processes: int, turns: Optional[int] = None) -> Dict[str, int]:
+    """How many own steps a call takes at most (`steps`), and the numbers behind it, by name."""
+    said = _printed(["bound", "module", "-n", str(processes), *_option("-b", turns)], {"module": module}).out.decode()
+    return {name: int(number) for name, _, number in (line.rpartition(" ") for line in said.splitlines())}
