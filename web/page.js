@@ -7,6 +7,7 @@ const MOST_PROCESSES = 16;
 // After so many milliseconds it is told that the work goes on, and a change of the texts begins it anew.
 const PATIENCE = 1000;
 const NOT_THERE = 2;
+const SHOWN = ['record', 'replies', 'state', 'picture', 'outcomes'];
 const STACK = 'This needs more stack than the browser gives: the module nests, or calls itself, too deeply for a page. The program has more.';
 const MEMORY = 'There is no memory for this in the browser.';
 
@@ -129,7 +130,7 @@ function go_to(id, { line, column }) {
 // One look at all that the page shows.
 const text_of = told => new TextDecoder().decode(told.status === 0 ? told.out : told.err.length ? told.err : told.out);
 const sentence = told => told.broken === 'stack' ? STACK : told.broken === 'memory' ? MEMORY : told.broken === 'stopped' ? 'Stopped.' : `The module has failed: ${told.broken}`;
-let obl0, has_state = true, told_before = null, picture_address = null, looks = 0, looking = false, once_more = false, stepped = false, began = 0;
+let obl0, has_state = true, told_before = null, picture_address = null, looking = false, once_more = false, stopped = false, stepped = false, began = 0;
 
 function words_of() {
   const [n, b] = NUMBERS.map(id => by(id).value.trim());
@@ -180,6 +181,9 @@ function put_state(told) {
   told_before = lines;
 }
 
+// That a look is given up, since the texts are others now, or since it was stopped.
+class GivenUp extends Error {}
+
 async function look() {
   if (looking) {
     once_more = true;
@@ -188,55 +192,58 @@ async function look() {
   }
   looking = true;
   document.body.dataset.looking = 'yes';
-  began = performance.now();
-  const mine = ++looks, slow = setTimeout(() => working(mine), PATIENCE);
-  try {
-    do {
-      once_more = false;
-      await look_once();
-    } while (once_more);
-  } finally {
-    clearTimeout(slow);
-    looking = false;
-    document.body.dataset.looking = 'no';
-    for (const id of ['record', 'replies', 'state', 'picture']) by(id).classList.remove('stale');
-  }
+  do {
+    once_more = stopped = false;
+    began = performance.now();
+    const slow = setTimeout(working, PATIENCE);
+    try {
+      by('status').textContent = await look_once();
+      for (const id of SHOWN) by(id).classList.remove('stale');
+    } catch (error) {
+      if (!(error instanceof GivenUp)) throw error;
+      by('status').textContent = 'Stopped.';
+    } finally {
+      clearTimeout(slow);
+    }
+  } while (once_more);
+  looking = false;
+  document.body.dataset.looking = 'no';
 }
-function working(mine) {
-  if (!looking || mine !== looks) return;
+// What is shown is of other texts until the work is done.
+function working() {
   const stop = document.createElement('button');
   stop.type = 'button';
   stop.textContent = 'Stop';
-  stop.onclick = () => obl0.stop();
+  stop.onclick = () => {
+    stopped = true;
+    obl0.stop();
+  };
   by('status').replaceChildren('working .. ', stop);
+  for (const id of SHOWN) by(id).classList.add('stale');
 }
+// Shows all, and gives what is to be said of no text in particular.
 async function look_once() {
   const { run, calls, all } = words_of(), files = files_of();
-  const ask = (...words) => obl0.ask(words, files);
+  const ask = async (...words) => {
+    const told = await obl0.ask(words, files);
+    if (once_more || stopped) throw new GivenUp();
+    return told;
+  };
   for (const id of FIELDS) number_lines(id);
   address().then(it => { by('link').href = it; history.replaceState(null, '', it); });
   const explained = await ask('explain', ...run);
-  if (once_more) return;
   const is_placed = show_fault(explained.broken || explained.status === 0 ? '' : text_of(explained));
-  const said = explained.broken ? sentence(explained) : explained.status === 0 || is_placed ? '' : text_of(explained);
   const record = await ask('run', ...run), drawn = await ask('draw', ...run);
   const state = has_state ? await ask('state', ...run) : record;
   if (has_state && state.status === NOT_THERE && record.status !== NOT_THERE) has_state = false;
   const replies = await ask('seq', ...calls);
-  if (once_more) return;
   put('record', record);
   put('replies', replies);
   put_state(has_state ? state : record);
   by('state-name').textContent = has_state ? 'State behind the schedule' : 'Record behind the schedule';
   await put_picture(drawn);
-  by('status').textContent = said;
-  if (by('outcomes-part').open) {
-    by('outcomes').classList.add('stale');
-    const outcomes = await ask('outcomes', ...all);
-    if (once_more) return;
-    put('outcomes', outcomes);
-    by('outcomes').classList.remove('stale');
-  }
+  if (by('outcomes-part').open) put('outcomes', await ask('outcomes', ...all));
+  return explained.broken ? sentence(explained) : explained.status === 0 || is_placed ? '' : text_of(explained);
 }
 
 // The stepper: each press writes behind the schedule.
