@@ -8,8 +8,13 @@ const MOST_PROCESSES = 16;
 const PATIENCE = 1000;
 const NOT_THERE = 2;
 const SHOWN = ['record', 'replies', 'state', 'picture', 'outcomes'];
-const STACK = 'This needs more stack than the browser gives: the module nests, or calls itself, too deeply for a page. The program has more.';
-const MEMORY = 'There is no memory for this in the browser.';
+// Why a call has no answer.
+const SENTENCES = {
+  stack: 'This needs more stack than the browser gives: the module nests, or calls itself, too deeply for a page. The program has more.',
+  memory: 'There is no memory for this in the browser.',
+  stopped: 'Stopped.',
+};
+const TOO_OLD = 'This browser is too old for the page, whose module has memory with 64-bit addresses. Chromium 133, Firefox 134 and later ones can run it.';
 
 // The module in its worker: words and files in, a status and two texts out, each call behind the one before it.
 class Obl0 {
@@ -105,7 +110,7 @@ function show_fault(text) {
       go.type = 'button';
       go.textContent = `Go to line ${faults[id].line}`;
       go.onclick = () => go_to(id, faults[id]);
-      box.append(pre, ...said.map(it => { const line = document.createElement('p'); line.textContent = it; return line; }), go);
+      box.append(pre, ...said.map(it => Object.assign(document.createElement('p'), { textContent: it })), go);
     }
     number_lines(id);
   }
@@ -129,7 +134,7 @@ function go_to(id, { line, column }) {
 
 // One look at all that the page shows.
 const text_of = told => new TextDecoder().decode(told.status === 0 ? told.out : told.err.length ? told.err : told.out);
-const sentence = told => told.broken === 'stack' ? STACK : told.broken === 'memory' ? MEMORY : told.broken === 'stopped' ? 'Stopped.' : `The module has failed: ${told.broken}`;
+const sentence = told => SENTENCES[told.broken] ?? `The module has failed: ${told.broken}`;
 let obl0, has_state = true, told_before = null, picture_address = null, looking = false, once_more = false, stopped = false, stepped = false, began = 0;
 
 function words_of() {
@@ -354,9 +359,9 @@ function listen() {
 async function begin() {
   const all = examples();
   listen();
-  const told = await told_by_address();
-  take(told ?? { ...all[0], budget: '100000' });
-  by('example').value = told ? '' : all[0].name;
+  const linked = await told_by_address();
+  take(linked ?? { ...all[0], budget: '100000' });
+  by('example').value = linked ? '' : all[0].name;
   steppers();
   for (const id of FIELDS) number_lines(id);
   try {
@@ -365,12 +370,14 @@ async function begin() {
     if (!WebAssembly.validate(new Uint8Array([0, 97, 115, 109, 1, 0, 0, 0, 5, 3, 1, 4, 1]))) throw new Error('no memory of 64-bit addresses');
     obl0 = new Obl0(bytes);
   } catch (error) {
-    by('status').textContent = `This browser can't run the module of this page, which has memory with 64-bit addresses (${error.message}). Chromium 133 and Firefox 134 can, and those that came later.`;
+    by('status').textContent = `${TOO_OLD} (${error.message})`;
     return;
   }
   const asked = performance.now(), version = await obl0.ask(['version']);
-  const { about, sum } = by('wasm').dataset;
-  by('about').textContent = version.broken ? sentence(version) : `It is ${text_of(version).trim().replace('\n', ', ')}. ${about} The module of WebAssembly has the SHA-256 ${sum}.`;
+  const { kit, sources, sum } = by('wasm').dataset;
+  const about = sources ? `It was proved and made by ${kit} of sources with the sum ${sources}.` : 'It was handed in, and nothing says whether it was proved.';
+  const told = version.broken ? sentence(version) : `The code is that of ${text_of(version).trim().replace('\n', ', ')}.`;
+  by('about').textContent = `${told} ${about} The module of WebAssembly has the SHA-256 ${sum}.`;
   document.body.dataset.first = Math.round(performance.now() - asked);
   await look();
   document.body.dataset.shown = 'yes';

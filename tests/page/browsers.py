@@ -109,7 +109,8 @@ class Chromium(Browser):
 
     def picture(self, path):
         size = self.send("Page.getLayoutMetrics")["cssContentSize"]
-        told = self.send("Page.captureScreenshot", captureBeyondViewport=True, clip={"x": 0, "y": 0, "width": size["width"], "height": size["height"], "scale": 1})
+        whole = {"x": 0, "y": 0, "width": size["width"], "height": size["height"], "scale": 1}
+        told = self.send("Page.captureScreenshot", captureBeyondViewport=True, clip=whole)
         Path(path).write_bytes(base64.b64decode(told["data"]))
 
 
@@ -167,12 +168,13 @@ class Firefox(Browser):
         self.send("WebDriver:Navigate", url=url)
 
     def ask(self, body, *given):
-        script = f"const done = arguments[arguments.length - 1]; (async (...given) => {{ {body} }})(...Array.from(arguments).slice(0, -1)).then(done, it => done('failed: ' + it))"
+        script = f"const given = [...arguments], done = given.pop(); (async () => {{ {body} }})().then(done, it => done('failed: ' + it))"
         return self.send("WebDriver:ExecuteAsyncScript", script=script, args=list(given), newSandbox=False)["value"]
 
     def press(self, key):
         value = KEYS[key][0] if key in KEYS else key
-        self.send("WebDriver:PerformActions", actions=[{"type": "key", "id": "keys", "actions": [{"type": "keyDown", "value": value}, {"type": "keyUp", "value": value}]}])
+        pressed = [{"type": it, "value": value} for it in ("keyDown", "keyUp")]
+        self.send("WebDriver:PerformActions", actions=[{"type": "key", "id": "keys", "actions": pressed}])
 
     def size(self, width, height):
         self.send("WebDriver:SetWindowRect", width=width, height=height)
