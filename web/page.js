@@ -2,10 +2,12 @@
 const by = id => document.getElementById(id);
 const FIELDS = ['module', 'calls', 'schedule'];
 const NUMBERS = ['processes', 'budget'];
+const GIVEN = [...FIELDS, ...NUMBERS, 'always'];
 const LABELS = 'NEXT POST FLIP TRY LINK LOAD STORE CHECK1 MINE SEEN FETCH CHECK2 SAVE ENTER BODY UNDO KEEP COMMIT READ TAKE GIVE'.split(' ');
 const MOST_PROCESSES = 16;
 // After so many milliseconds it is told that the work goes on, and a change of the texts begins it anew.
 const PATIENCE = 1000;
+const FAULT = 1;
 const NOT_THERE = 2;
 const SHOWN = ['record', 'replies', 'state', 'picture', 'outcomes'];
 // Why a call has no answer.
@@ -63,7 +65,7 @@ async function through(stream, bytes) {
 }
 const letters = bytes => btoa(Array.from(bytes, it => String.fromCharCode(it)).join('')).replace(/\+/g, '-').replace(/\//g, '_').replace(/=+$/, '');
 const unlettered = text => Uint8Array.from(atob(text.replace(/-/g, '+').replace(/_/g, '/')), it => it.charCodeAt(0));
-const given = () => Object.fromEntries([...FIELDS, ...NUMBERS].map(id => [id, by(id).value]));
+const given = () => Object.fromEntries(GIVEN.map(id => [id, by(id).value]));
 async function address() {
   const bytes = await through(new CompressionStream('deflate-raw'), new TextEncoder().encode(JSON.stringify(given())));
   return '#1' + letters(bytes);
@@ -79,7 +81,7 @@ async function told_by_address() {
   }
 }
 function take(texts) {
-  for (const id of [...FIELDS, ...NUMBERS]) if (typeof texts[id] === 'string') by(id).value = texts[id];
+  for (const id of GIVEN) if (typeof texts[id] === 'string') by(id).value = texts[id];
   taken_back.length = 0;
   told_before = null;
 }
@@ -138,8 +140,8 @@ const sentence = told => SENTENCES[told.broken] ?? `The module has failed: ${tol
 let obl0, has_state = true, told_before = null, picture_address = null, looking = false, once_more = false, stopped = false, stepped = false, began = 0;
 
 function words_of() {
-  const [n, b] = NUMBERS.map(id => by(id).value.trim());
-  return { run: ['module', 'calls', 'schedule', '-n', n, '-b', b], calls: ['module', 'calls', '-b', b], all: ['module', 'calls', '-n', n, '-b', b] };
+  const [n, b] = NUMBERS.map(id => by(id).value.trim()), always = by('always').value.trim();
+  return { run: ['module', 'calls', 'schedule', '-n', n, '-b', b], calls: ['module', 'calls', '-b', b], all: ['module', 'calls', '-n', n, '-b', b], always: always ? ['--always', always] : [] };
 }
 const files_of = () => FIELDS.map(id => [id, by(id).value]);
 
@@ -147,6 +149,13 @@ function put(id, told) {
   const box = by(id);
   box.textContent = told.broken ? sentence(told) : text_of(told);
   box.classList.toggle('refused', Boolean(told.broken) || told.status !== 0);
+}
+// Where something does not always hold, the calls behind which it does not are told, and a schedule that makes them.
+let witness = null;
+function put_outcomes(outcomes, told) {
+  put('outcomes', told);
+  witness = outcomes.broken || outcomes.status === 0 ? null : /^run shows these calls with the schedule (.*)$/m.exec(text_of(told))?.[1] ?? null;
+  by('witness').hidden = witness === null;
 }
 async function put_picture(told) {
   const box = by('picture');
@@ -228,7 +237,7 @@ function working() {
 }
 // Shows all, and gives what is to be said of no text in particular.
 async function look_once() {
-  const { run, calls, all } = words_of(), files = files_of();
+  const { run, calls, all, always } = words_of(), files = files_of();
   const ask = async (...words) => {
     const told = await obl0.ask(words, files);
     if (once_more || stopped) throw new GivenUp();
@@ -247,7 +256,10 @@ async function look_once() {
   put_state(has_state ? state : record);
   by('state-name').textContent = has_state ? 'State behind the schedule' : 'Record behind the schedule';
   await put_picture(drawn);
-  if (by('outcomes-part').open) put('outcomes', await ask('outcomes', ...all));
+  if (by('outcomes-part').open) {
+    const outcomes = await ask('outcomes', ...all, ...always);
+    put_outcomes(outcomes, always.length && outcomes.status === FAULT ? await ask('explain', ...all, ...always) : outcomes);
+  }
   return explained.broken ? sentence(explained) : explained.status === 0 || is_placed ? '' : text_of(explained);
 }
 
@@ -309,7 +321,7 @@ function examples() {
   box.onchange = () => {
     const one = all.find(it => it.name === box.value);
     if (!one) return;
-    take({ ...one, budget: '100000' });
+    take({ always: '', ...one, budget: '100000' });
     steppers();
     look();
   };
@@ -325,7 +337,8 @@ function listen() {
     by(id).addEventListener('input', () => { by('example').value = ''; number_lines(id); later(); });
     by(id).addEventListener('scroll', () => { by(id).previousElementSibling.scrollTop = by(id).scrollTop; });
   }
-  for (const id of NUMBERS) by(id).addEventListener('input', () => { steppers(); later(); });
+  for (const id of [...NUMBERS, 'always']) by(id).addEventListener('input', () => { steppers(); later(); });
+  by('witness').onclick = () => { if (witness !== null) write_schedule(witness + '\n'); };
   by('unit').append(new Option('one step', '1'), new Option('ten steps', '10'), new Option('steps until it answers', '!'),
     ...LABELS.map(it => new Option(`steps to ${it}`, it)));
   by('back').onclick = take_back;
