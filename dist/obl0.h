@@ -1,11 +1,22 @@
 /* Modules of Oberon-0 as objects that several processes share: what the program `obl0` answers, for C.
 
    Link libobl0.a or libobl0.so. The function obl0_answer answers all words of the program's command line but `serve`, of
-   files that the caller has at hand; the others answer one command each, of texts. docs/LIBRARY.md has an example.
+   files that the caller has at hand; the others answer one command each, of texts.
+
+     const char *module = "MODULE C; VAR x: INTEGER; PROCEDURE Inc*(VAR v: INTEGER); BEGIN x := x + 1; v := x END Inc; END C.";
+     const char *script = "0 Inc\n1 Inc\n";
+     uint8_t room[4096];
+     size_t length;
+     const uint32_t status = obl0_seq((const uint8_t *)module, strlen(module), (const uint8_t *)script, strlen(script), OBL0_TURNS,
+                                      room, sizeof room, &length);
+     if (length <= sizeof room) fwrite(room, 1, length, status == OBL0_DONE ? stdout : stderr);
+
+   prints "E 0.1 done 1" and "E 1.1 done 2", a line each.
 
    Texts. A text is its bytes and how many there are; it needs no zero at its end. It lies in memory of the caller, which
    is only read, and may be let go as soon as the call returns. A text without bytes has any address but NULL. No address
-   may be NULL.
+   may be NULL: what a call does then is not said. All lengths are in bytes. A module has at most 65536, and a longer one the
+   fault S5 for an answer; other texts are of any length.
 
    The answer. Its first bytes are put into `room`, as many as `room_length` says there is room for, without a zero behind
    them; what lies behind the answer stays as it was. `*length` is the length of the whole answer. Where that is more than

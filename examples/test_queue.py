@@ -3,7 +3,6 @@
 The module says what the queue is meant to do, as one-thread code. Put your own in its place.
 """
 import queue
-import threading
 
 import obl0
 
@@ -26,26 +25,25 @@ END Fifo.
 """
 
 
+def take(shared):
+    """What Take answers: whether there was an item, and which."""
+    try:
+        return True, shared.get_nowait()
+    except queue.Empty:
+        return False, 0
+
+
 def work(process, shared, history):
     """Puts and takes by turns."""
     for turn in range(8):
-        call = history.begin(process, "Put", 100 * process + turn)
-        shared.put(100 * process + turn)
-        history.end(call)
-        call = history.begin(process, "Take")
-        try:
-            history.end(call, True, shared.get_nowait())
-        except queue.Empty:
-            history.end(call, False, 0)
+        item = 100 * process + turn
+        history.call(process, "Put", item, by=lambda: shared.put(item))
+        history.call(process, "Take", by=lambda: take(shared))
 
 
 def test_queue():
     shared, history = queue.Queue(), obl0.History()
-    threads = [threading.Thread(target=work, args=(it, shared, history)) for it in range(4)]
-    for it in threads:
-        it.start()
-    for it in threads:
-        it.join()
+    history.drive(4, lambda process: work(process, shared, history))
     assert obl0.order(FIFO, history).startswith("O ")
 
 

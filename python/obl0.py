@@ -10,20 +10,31 @@ history one of what somebody saw of any object: each is a str, or bytes of UTF-8
     obl0.order(module, "B 0.1 Inc\\nE 0.1 done")  # "O 0.1"
 
 A fault is raised as `Fault`, whose text is its line, as `X1 1.2`. All is done by the library libobl0.so, which lies beside this file,
-in dist/ of the repository, or where OBL0_LIBRARY says. Any number of threads may call at once; while a call works, others run.
+in dist/ of the repository, or where OBL0_LIBRARY says. Any number of threads may call at once; while a call works, others run. A call
+takes at most 8 MiB of stack: a thread that asks of modules with deep nesting wants `threading.stack_size` before it.
+
+`Object` is a module as a living object, whose procedures are called one at a time; `History` writes down what threads see of an object
+of your own.
 """
 from __future__ import annotations
 
 import ctypes
+import json
+import operator
 import os
+import re
 import threading
 from dataclasses import dataclass, field
 from pathlib import Path
-from typing import Dict, List, Mapping, NamedTuple, Optional, Sequence, Tuple, Union
+from typing import Any, Callable, Dict, List, Mapping, NamedTuple, Optional, Sequence, Tuple, Union
 
 Text = Union[str, bytes]
+Value = Union[int, bool, List[Any], Dict[str, Any]]
 
-__all__ = ["Answer", "Event", "Fault", "History", "Record", "answer", "bound", "check", "draw", "explain", "order", "run", "seq", "verify"]
+__all__ = [
+    "Answer", "Event", "Fault", "History", "Object", "Record", "Trap", "answer", "bound", "check", "draw", "explain", "order", "run", "seq",
+    "verify",
+]
 
 MEMORY = 4
 
@@ -65,8 +76,8 @@ _SIZE = ctypes.c_size_t
 _ROOM = 1 << 16
 
 
-def _bytes(text: Text) -> bytes:
-    return text.encode() if isinstance(text, str) else bytes(text)
+def _bytes(text: "Union[Text, Record, History]") -> bytes:
+    return bytes(text) if isinstance(text, (bytes, bytearray, memoryview)) else str(text).encode()
 
 
 def _joined(texts: Sequence[bytes]) -> list:
@@ -74,7 +85,7 @@ def _joined(texts: Sequence[bytes]) -> list:
     return [ctypes.c_char_p(b"".join(texts)), _SIZE(sum(map(len, texts))), lengths, _SIZE(len(texts))]
 
 
-def answer(words: Sequence[Text], files: Mapping[str, Text] = {}) -> Answer:
+def answer(words: Sequence[Text], files: Mapping[str, Union[Text, Record, History]] = {}) -> Answer:
     """The answer to words of the command line, behind the program's name, and to the files that they name.
 
     No file of the system is read. `serve` is answered with status 2. Raises MemoryError where there is no memory.
@@ -92,7 +103,7 @@ def answer(words: Sequence[Text], files: Mapping[str, Text] = {}) -> Answer:
         room_length = length.value
 
 
-def _printed(words: Sequence[Text], files: Mapping[str, Text]) -> Answer:
+def _printed(words: Sequence[Text], files: Mapping[str, Union[Text, Record, History]]) -> Answer:
     """The answer, where it is what was asked for; else the fault is raised."""
     given = answer(words, files)
     if given.status:
@@ -109,7 +120,7 @@ def check(module: Text) -> None:
     _printed(["check", "module"], {"module": module})
 
 
-def seq(module: Text, script: Text, *, turns: Optional[int] = None, start: Optional[Text] = None) -> List[str]:
+def seq(module: Text, script: Text, *, turns: Optional[int] = None, start: Union[Record, Text, None] = None) -> List[str]:
     """The lines of the replies to a script's calls, made one at a time, each with a budget of turns.
 
     With `start`, a record, the object begins with the values of its V lines.
@@ -142,15 +153,27 @@ class Record:
     """The calls that took effect, in order, each as its process and its number there: a legal order."""
     schedule: str = field(repr=False)
     """Who stepped: given as a schedule, it makes the same run again."""
-    values: Dict[str, str]
-    """The variables of the module at the end, as they are written."""
+    values: Dict[str, Value]
+    """The variables of the module at the end: of an array a list, of a record of the language a dict."""
     steps: Dict[Tuple[int, int], int] = field(repr=False)
     """Of each call that ended how many steps its process took for it."""
+
+    def __str__(self) -> str:
+        return self.text
 
     @property
     def replies(self) -> Dict[Tuple[int, int], str]:
         """Of each call that ended its reply, as `done 2` or `trap 4`."""
         return {(it.process, it.call): it.said for it in self.events if it.kind == "E"}
+
+
+def _read(value: str) -> Value:
+    """A value as it is written, as `[1,2]` or `{key=7,is=TRUE}`."""
+    def word(found: "re.Match[str]") -> str:
+        name, is_field = found.groups()
+        return f'"{name}":' if is_field else {"TRUE": "true", "FALSE": "false"}.get(name, name)
+
+    return json.loads(re.sub(r"(\w+)(=?)", word, value))
 
 
 def _call(word: str) -> Tuple[int, int]:
@@ -162,7 +185,7 @@ def _record(text: str, beside: str) -> Record:
     lines = [line.partition(" ") for line in text.splitlines()]
     said = {kind: rest for kind, _, rest in lines}
     events = [Event(kind, *_call(rest.split()[0]), rest.partition(" ")[2]) for kind, _, rest in lines if kind in ("B", "E")]
-    values = dict(rest.split(" ", 1) for kind, _, rest in lines if kind == "V")
+    values = {name: _read(value) for name, value in (rest.split(" ", 1) for kind, _, rest in lines if kind == "V")}
     steps = {_call(it.split()[-2]): int(it.split()[-1]) for it in beside.splitlines()}
     order = [_call(it) for it in said["O"].split()]
     return Record(text, int(said["n"]), int(said["b"]), events, order, said.get("S", ""), values, steps)
@@ -178,7 +201,7 @@ def run(
     length: Optional[int] = None,
     finish: bool = False,
     turns: Optional[int] = None,
-    start: Optional[Text] = None,
+    start: Union[Record, Text, None] = None,
 ) -> Record:
     """The record of a run by a schedule, or by one that a seed makes. With `finish` it goes on until each call has ended."""
     if (schedule is None) == (seed is None):
@@ -196,7 +219,75 @@ def run(
 
 def verify(module: Text, record: Union[Record, Text]) -> None:
     """Raises the fault of a record whose order is no legal order of its calls."""
-    _printed(["verify", "module", "record"], {"module": module, "record": record.text if isinstance(record, Record) else record})
+    _printed(["verify", "module", "record"], {"module": module, "record": record})
+
+
+class Trap(Exception):
+    """A call on an `Object` trapped, and changed nothing: `number` is 1 to 5, and 5 where it had no turn left."""
+
+    def __init__(self, number: int) -> None:
+        super().__init__(f"trap {number}")
+        self.number = number
+
+
+class Object:
+    """A module as a living object: its procedures are called one at a time, by any number of threads, and it keeps its variables.
+
+        counter = obl0.Object(open("examples/counter.mod").read(), n=2)
+        counter.call(0, "Inc")             # ()
+        counter.call(1, "Get")             # (1,)
+        counter.state()                    # {"x": 1}
+        obl0.Object(module, n=2, from_=counter.record())
+
+    Each call is answered as `seq` answers it, from the variables as they stand: its text, its budget and they go through the library, and
+    nothing else of the calls before it. So a call costs a compilation of the module: @FIGURES@. The object keeps its calls for `record`, some 100 bytes each.
+    """
+
+    def __init__(self, module: Text, *, n: int, budget: Optional[int] = None, from_: Union[Record, Text, None] = None) -> None:
+        """An object that n processes share, 1 to 16, each call with a budget of turns. It begins by the module's body, or with the values
+        of a record, as `record` gives it. Raises the fault of the module or of the record."""
+        self._module, self._n, self._budget, self._lock = _bytes(module), n, budget, threading.Lock()
+        begun = run(module, "", "", processes=n, turns=budget, start=from_).text.splitlines()
+        self._values = dict(line.split(" ", 2)[1:] for line in begun if line.startswith("V "))
+        self._head = [line for line in begun if line.startswith(("obl0", "n ", "b ", "I "))]
+        self._events: List[str] = []
+        self._order: List[str] = []
+        self._calls = [0] * n
+
+    def call(self, process: int, name: str, *arguments: Union[int, bool]) -> Tuple[Value, ...]:
+        """Calls an export with arguments for its value parameters, and gives the values of its VAR parameters. Raises `Trap`, or as `Fault`
+        L2 where there is no such export, L3 where the arguments don't fit, and L4 where there is no such process."""
+        words = [name, *map(_value, arguments)]
+        if not re.fullmatch(r"\w+", name, re.ASCII):
+            raise Fault("L1 line 1", 1)
+        if process not in range(self._n):
+            raise Fault("L4 line 1", 1)
+        with self._lock:
+            start = "".join(["obl0 record 2\n", *(f"V {it} {value}\n" for it, value in self._values.items())])
+            asked = ["seq", "module", "script", "--state", "--from", "start", *_option("-b", self._budget)]
+            files = {"module": self._module, "script": " ".join([str(process), *words]), "start": start}
+            reply, *changed = _printed(asked, files).out.decode().splitlines()
+            said = reply.split(" ", 2)[2]
+            self._values.update(line.split(" ", 2)[1:] for line in changed)
+            self._calls[process] += 1
+            call = f"{process}.{self._calls[process]}"
+            self._events += [" ".join(["B", call, *words]), f"E {call} {said}"]
+            self._order.append(call)
+        kind, *values = said.split(" ")
+        if kind == "trap":
+            raise Trap(int(values[0]))
+        return tuple(map(_read, values))
+
+    def state(self) -> Dict[str, Value]:
+        """The variables of the module as they are now."""
+        with self._lock:
+            return {name: _read(value) for name, value in self._values.items()}
+
+    def record(self) -> Record:
+        """The record of all calls so far, which `verify` says is right, `draw` draws, and another object goes on from."""
+        with self._lock:
+            values = [f"V {name} {value}" for name, value in self._values.items()]
+            return _record("\n".join([*self._head, *self._events, " ".join(["O", *self._order]), *values, ""]), "")
 
 
 class History:
@@ -205,6 +296,8 @@ class History:
         history = obl0.History()
         call = history.begin(0, "Put", 7)
         history.end(call, queue.put(7))
+
+    or let `call` do both, in threads that `drive` starts.
     """
 
     def __init__(self) -> None:
@@ -225,13 +318,39 @@ class History:
         with self._lock:
             self._lines.append(" ".join(["E", call, "done", *map(_value, values)]))
 
+    def call(self, process: int, procedure: str, *arguments: Union[int, bool], by: Callable[[], Any]) -> Any:
+        """Makes a call, and tells when it begins and ends. What `by` returns is what it ended with: None, a value, or a tuple of some."""
+        call = self.begin(process, procedure, *arguments)
+        said = by()
+        self.end(call, *(() if said is None else said if isinstance(said, tuple) else (said,)))
+        return said
+
+    def drive(self, count: int, work: Callable[[int], Any]) -> None:
+        """Runs `work(process)` in threads for the processes 0 to `count` - 1, which begin together, and waits. What one raises is raised."""
+        gate, raised = threading.Barrier(count), []
+
+        def alone(process: int) -> None:
+            gate.wait()
+            try:
+                work(process)
+            except BaseException as told:
+                raised.append(told)
+
+        threads = [threading.Thread(target=alone, args=(it,)) for it in range(count)]
+        for it in threads:
+            it.start()
+        for it in threads:
+            it.join()
+        if raised:
+            raise raised[0]
+
     def __str__(self) -> str:
         with self._lock:
             return "".join(f"{line}\n" for line in self._lines)
 
 
 def _value(value: Union[int, bool]) -> str:
-    return str(value).upper() if isinstance(value, bool) else str(value)
+    return str(value).upper() if isinstance(value, bool) else str(operator.index(value))
 
 
 def order(
@@ -248,8 +367,7 @@ def order(
     With `by` there is a line for each value of that argument of the calls; with `record` it is the history as a record.
     """
     words = ["order", "module", "history", *_option("-b", turns), *_option("--most", most), *_option("--by", by)]
-    text = str(history) if isinstance(history, History) else history
-    return _printed([*words, *(["--record"] if record else [])], {"module": module, "history": text}).out.decode().rstrip("\n")
+    return _printed([*words, *(["--record"] if record else [])], {"module": module, "history": history}).out.decode().rstrip("\n")
 
 
 def draw(
@@ -264,10 +382,9 @@ def draw(
 
     `turns` and `most` are those of the search for the order of a history, as of `order`.
     """
-    text = seen.text if isinstance(seen, Record) else str(seen) if isinstance(seen, History) else seen
     words = ["draw", "module", "seen", *_option("-b", turns), *_option("--most", most)]
     words += [] if calls is None else ["--calls", f"{calls[0]}-{calls[1]}"]
-    return _printed(words, {"module": module, "seen": text}).out.decode()
+    return _printed(words, {"module": module, "seen": seen}).out.decode()
 
 
 def explain(module: Text, history: Union[History, Text, None] = None, *, script: Optional[Text] = None, record: Union[Record, Text, None] = None) -> str:
@@ -277,9 +394,9 @@ def explain(module: Text, history: Union[History, Text, None] = None, *, script:
     if script is not None:
         files["script"], words = script, [*words, "script"]
     if record is not None:
-        files["record"], words = record.text if isinstance(record, Record) else record, [*words, "--record", "record"]
+        files["record"], words = record, [*words, "--record", "record"]
     if history is not None:
-        files["history"], words = str(history) if isinstance(history, History) else history, [*words, "--history", "history"]
+        files["history"], words = history, [*words, "--history", "history"]
     given = answer(words, files)
     if given.status > 1:
         raise Fault(given.err.decode().rstrip("\n"), given.status)
