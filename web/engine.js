@@ -58,8 +58,9 @@ class NoMemory extends Error {}
 function broken(error) {
   if (error instanceof NoMemory) return 'memory';
   const text = String(error);
-  // Chromium and Firefox say so where the stack of the browser ends, and the last two where that of the module does.
-  return /call stack|recursion|out of bounds|unreachable/i.test(text) ? 'stack' : text;
+  // The first two say in Chromium and in Firefox that the browser's stack ends; the last one that the module's own does, which lies before
+  // all its memory.
+  return /call stack|recursion|out of bounds/i.test(text) ? 'stack' : text;
 }
 
 let module, instance;
