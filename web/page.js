@@ -3,10 +3,18 @@ const by = id => document.getElementById(id);
 const FIELDS = ['module', 'calls', 'schedule'];
 const NUMBERS = ['processes', 'budget'];
 const GIVEN = [...FIELDS, ...NUMBERS, 'always'];
-const LABELS = 'NEXT POST FLIP TRY LINK LOAD STORE CHECK1 MINE SEEN FETCH CHECK2 SAVE ENTER BODY UNDO KEEP COMMIT READ TAKE GIVE'.split(' ');
+// The labels, each with those that a step leads to from there.
+const STEPS = {
+  NEXT: 'POST', POST: 'FLIP', FLIP: 'TRY', TRY: 'LINK READ', LINK: 'LOAD', LOAD: 'STORE', STORE: 'LOAD CHECK1', CHECK1: 'MINE TRY', MINE: 'SEEN READ',
+  SEEN: 'FETCH COMMIT', FETCH: 'CHECK2', CHECK2: 'SAVE TRY', SAVE: 'ENTER', ENTER: 'BODY', BODY: 'KEEP UNDO', UNDO: 'KEEP', KEEP: 'SEEN',
+  COMMIT: 'READ TRY', READ: 'TAKE', TAKE: 'GIVE', GIVE: 'NEXT',
+};
+const LABELS = Object.keys(STEPS);
 const MOST_PROCESSES = 16;
 // After so many milliseconds it is told that the work goes on, and a change of the texts begins it anew.
 const PATIENCE = 1000;
+// A run that takes longer than so many milliseconds is not made some more times, to find where each process stands.
+const QUICK = 60;
 const FAULT = 1;
 const NOT_THERE = 2;
 const SHOWN = ['record', 'replies', 'state', 'picture', 'outcomes'];
@@ -180,11 +188,32 @@ async function put_picture(told) {
   stepped = false;
   if (old) URL.revokeObjectURL(old);
 }
+// Where each process stands, found by runs that go on to a label: the one that takes no step for it. It is for modules without `state`.
+let labels = [];
+function nearest(from) {
+  const found = [from];
+  for (const label of found) found.push(...STEPS[label].split(' ').filter(it => !found.includes(it)));
+  return found;
+}
+async function labels_of(record, ask_with) {
+  const stepped_so_far = it => text_of(it).split('\n').find(line => line.startsWith('S'));
+  const n = by('steppers').children.length, wanted = stepped_so_far(record), found = [];
+  for (let process = 0; process < n; process++) {
+    for (const label of nearest(labels[process] ?? 'NEXT')) {
+      const told = await ask_with(`${by('schedule').value}\n${process}:${label}`);
+      if (told.status !== 0 || stepped_so_far(told) !== wanted) continue;
+      found[process] = label;
+      break;
+    }
+  }
+  labels = found;
+  return found.map((label, process) => `process ${process} stands at ${label}\n`).join('');
+}
 // The lines that were not there behind the schedule before stand out.
-function put_state(told) {
+function put_state(told, above) {
   const box = by('state');
   if (told.broken || told.status !== 0) { put('state', told); told_before = null; return; }
-  const lines = text_of(told).trimEnd().split('\n'), old = told_before && new Set(told_before);
+  const lines = (above + text_of(told)).trimEnd().split('\n'), old = told_before && new Set(told_before);
   box.classList.remove('refused');
   box.replaceChildren(...lines.flatMap(line => {
     const it = document.createElement('span');
@@ -238,23 +267,31 @@ function working() {
 // Shows all, and gives what is to be said of no text in particular.
 async function look_once() {
   const { run, calls, all, always } = words_of(), files = files_of();
-  const ask = async (...words) => {
+  const ask_of = async (words, files) => {
     const told = await obl0.ask(words, files);
     if (once_more || stopped) throw new GivenUp();
     return told;
   };
+  const ask = (...words) => ask_of(words, files);
   for (const id of FIELDS) number_lines(id);
   address().then(it => { by('link').href = it; history.replaceState(null, '', it); });
   const explained = await ask('explain', ...run);
   const is_placed = show_fault(explained.broken || explained.status === 0 ? '' : text_of(explained));
-  const record = await ask('run', ...run), drawn = await ask('draw', ...run);
-  const state = has_state ? await ask('state', ...run) : record;
-  if (has_state && state.status === NOT_THERE && record.status !== NOT_THERE) has_state = false;
+  const asked = performance.now(), record = await ask('run', ...run), quick = performance.now() - asked < QUICK;
+  const drawn = await ask('draw', ...run);
+  let state = has_state ? await ask('state', ...run) : record;
+  if (has_state && state.status === NOT_THERE && record.status !== NOT_THERE) {
+    has_state = false;
+    state = record;
+  }
   const replies = await ask('seq', ...calls);
   put('record', record);
   put('replies', replies);
-  put_state(has_state ? state : record);
   by('state-name').textContent = has_state ? 'State behind the schedule' : 'Record behind the schedule';
+  by('record-part').hidden = !has_state;
+  by('record-part').parentElement.classList.toggle('alone', !has_state);
+  const with_schedule = schedule => ask_of(['run', ...run], [...files.slice(0, 2), ['schedule', schedule]]);
+  put_state(state, has_state || !quick || record.status !== 0 ? '' : await labels_of(record, with_schedule));
   await put_picture(drawn);
   if (by('outcomes-part').open) {
     const outcomes = await ask('outcomes', ...all, ...always);
