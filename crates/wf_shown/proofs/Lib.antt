@@ -1,0 +1,6 @@
+mod Lists
+mod Showing
+mod Opened
+mod Spending
+mod Blocks
+mod Ordered
