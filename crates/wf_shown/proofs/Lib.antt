@@ -3,4 +3,6 @@ mod Showing
 mod Opened
 mod Spending
 mod Blocks
+mod Items
 mod Ordered
+mod Laws
