@@ -6,3 +6,8 @@ mod Blocks
 mod Items
 mod Ordered
 mod Laws
+mod Stages
+pub mod Merged
+mod Played
+pub mod Submitting
+pub mod Shows

@@ -1,9 +1,6 @@
-use Rattle.std.proofs.Common.{refl}
-use Rattle.wf_shown.proofs.Blocks.{give_or_not}
-use Rattle.wf_shown.proofs.Items.{item_stands}
-use Rattle.wf_shown.proofs.Laws.{laws_of}
-use Rattle.wf_shown.proofs.Ordered.{made_in}
+use Rattle.wf_shown.proofs.Shows.{every_merge}
 use Rattle.wf_shown.proofs.laws.merges_are_shown.Goals as goal
 
 pub returns : goal.returns
-returns c = refl
+returns g c = λ e.
+    let i = g.E.Engine in every_merge (i.meaning e) (i.lawful e) (i.fits e) (i.ready e) (i.effect e) (g.met.E.Engine.law e)
