@@ -5,7 +5,7 @@ mod Spending
 mod Blocks
 mod Items
 mod Ordered
-mod Laws
+mod EveryRun
 mod Stages
 pub mod Merged
 mod Played

@@ -15,11 +15,11 @@ use Rattle.wf_shown.proofs.Showing.{EndShape, Events}
 -- each call of an order was made
 pub made_in : {State Call Answer : Type 0} (Made : CallId → Call → Type 0) (Effect : Call → State → State → Answer → Type 0) (a b : State) (ids : List CallId) (answers : List Answer) (x : CallId) →
     OneAtATime Made Effect a ids answers b → Contains ids x → (call : Call) × Made x call
-made_in Made Effect a b [] answers x none h = absurd (in_none x h)
-made_in {State} {Call} {Answer} Made Effect a b (id ∷ ids) (answer ∷ answers) x (more {between = between} {call = call} made effect rest) h =
-    elim (first_or_rest id ids x h) [
+made_in Made Effect a b ids answers x none h = absurd (in_none x h)
+made_in Made Effect a b ids answers x (more {between = between} {id = id} {ids = others} {call = call} {answers = rest} made effect later) h =
+    elim (first_or_rest id others x h) [
       | inl same ↦ (call, subst (λ (i : CallId). Made i call) same made)
-      | inr later ↦ made_in Made Effect between b ids answers x rest later
+      | inr behind ↦ made_in Made Effect between b others rest x later behind
     ]
 
 applied_append : (xs ys : Events) → applied_in (xs ++ ys) ≡ applied_in xs ++ applied_in ys

@@ -15,7 +15,7 @@ use Rattle.wf_table.specs.Start.{sizes_of}
 use Rattle.wf_bound.specs.Bound.{bound}
 use Rattle.wf_object.specs.InARow.{after_steps}
 use Rattle.wf_shown.specs.Shown.{answers}
-use Rattle.wf_shown.proofs.Laws.{Laws}
+use Rattle.wf_shown.proofs.EveryRun.{Laws}
 use Rattle.wf_shown.proofs.Merged.{Shown}
 use Rattle.wf_shown.proofs.Showing.{Events}
 use Rattle.wf_shown.proofs.Spending.{turns_behind}

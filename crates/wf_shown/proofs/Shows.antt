@@ -12,7 +12,7 @@ use Rattle.wf_table.specs.Meaning.{Meaning}
 use Rattle.wf_table.specs.Runs.{submissions, turns}
 use Rattle.wf_table.proofs.Bodies.{functional}
 use Rattle.wf_shown.specs.Shown.{EveryMergeIsShown, scripts_in}
-use Rattle.wf_shown.proofs.Laws.{laws_of}
+use Rattle.wf_shown.proofs.EveryRun.{laws_of}
 use Rattle.wf_shown.proofs.Merged.{Shown, one_by_one, one_last, run_of_scripts}
 use Rattle.wf_shown.proofs.Played.{play}
 use Rattle.wf_shown.proofs.Showing.{Events}

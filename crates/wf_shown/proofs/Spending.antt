@@ -32,7 +32,7 @@ fit_turns : (fits : ObjectCall → Type 0) (ps : List ℕ) → ActsFit fits (tur
 fit_turns fits [] = tt
 fit_turns fits (p ∷ ps) = (tt, fit_turns fits ps)
 
-fit_more : (fits : ObjectCall → Type 0) (acts : List Act) (ps : List ℕ) → ActsFit fits acts → ActsFit fits (acts ++ turns ps)
+pub fit_more : (fits : ObjectCall → Type 0) (acts : List Act) (ps : List ℕ) → ActsFit fits acts → ActsFit fits (acts ++ turns ps)
 fit_more fits [] ps h = fit_turns fits ps
 fit_more fits (act ∷ acts) ps h = (h.0, fit_more fits acts ps h.1)
 
@@ -49,7 +49,7 @@ one_begun true e = omega arith
 one_begun false e = absurd (cc)
 
 module _ {Run : Type 0} (m : Meaning Run) (z : Sizes) where
-  run_append : (acts more : List Act) (s : State Run) → run m z (acts ++ more) s ≡ run m z more (run m z acts s)
+  pub run_append : (acts more : List Act) (s : State Run) → run m z (acts ++ more) s ≡ run m z more (run m z acts s)
   run_append [] more s = refl
   run_append (act ∷ acts) more s = run_append acts more (act_of m z s act)
 

@@ -28,7 +28,7 @@ use Rattle.wf_object.specs.InARow.{after_steps}
 use Rattle.wf_play.specs.ItemSteps.{StandsFor}
 use Rattle.wf_shown.proofs.Blocks.{Reached, comes_to_end}
 use Rattle.wf_shown.proofs.Items.{item_stands}
-use Rattle.wf_shown.proofs.Laws.{Laws}
+use Rattle.wf_shown.proofs.EveryRun.{Laws}
 use Rattle.wf_shown.proofs.Lists.{is_first}
 use Rattle.wf_shown.proofs.Opened.{Closed, next_call, next_id}
 use Rattle.wf_shown.proofs.Ordered.{begun_before, call_more, made_in}
