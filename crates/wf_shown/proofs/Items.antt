@@ -19,7 +19,7 @@ use Rattle.wf_table.specs.Table.{Process, call_at, own_block}
 use Rattle.wf_bound.specs.Spent.{has_more}
 use Rattle.wf_object.specs.Halted.{is_halted, is_halted_by}
 use Rattle.wf_play.specs.ItemSteps.{IsAtEnd, IsReply, StandsFor}
-use Rattle.wf_shown.proofs.Blocks.{Passed, Reached, after}
+use Rattle.wf_shown.proofs.Blocks.{Reached, after}
 use Rattle.wf_shown.proofs.Opened.{Opened}
 
 and_false : (b : Bool) → (b && false) ≡ true → ⊥

@@ -1,5 +1,5 @@
 -- A merge leads to one state, and what was seen of its calls, one after the other, is a run of the scripts.
-use Rattle.std.proofs.Common.{◌≡◌, ℕ, zero, suc, ◌+◌, ◌-◌, ◌<◌, List, [], ◌∷◌, ◌++◌, get_or, map, set, refl, sym, ap, ◌∙◌, arith, subst, inl, inr}
+use Rattle.std.proofs.Common.{◌≡◌, ℕ, ◌+◌, ◌-◌, ◌<◌, List, [], ◌∷◌, get_or, refl, sym, ap, ◌∙◌, arith, subst, inl, inr}
 use Rattle.std.specs.Prelude.{ℤ, Some, slice_get, Contains}
 use Rattle.std.proofs.lemmas.Option.{same_Some}
 use Rattle.ob_interface.specs.Call.{ObjectCall, Reply}
@@ -21,8 +21,11 @@ ended_in ids events Runs.none id h = absurd (in_none id h)
 ended_in {Call} {Reply} ids events (Runs.more {ids = others} {events = rest} first call reply one) id h =
     let all : List (Event Call Reply) = Begin first call ∷ Applied (first ∷ []) ∷ End first reply ∷ rest in
     elim (first_or_rest first others id h) [
-      | inl same ↦ (reply, subst (λ (i : CallId). Contains all (End i reply)) same
-          (in_rest (Begin first call) (Applied (first ∷ []) ∷ End first reply ∷ rest) (End first reply) (in_rest (Applied (first ∷ [])) (End first reply ∷ rest) (End first reply) (is_first (End first reply) rest))))
+      | inl same ↦ (
+        reply,
+        subst (λ (i : CallId). Contains all (End i reply)) same
+            (in_rest (Begin first call) (Applied (first ∷ []) ∷ End first reply ∷ rest) (End first reply) (in_rest (Applied (first ∷ [])) (End first reply ∷ rest) (End first reply) (is_first (End first reply) rest))),
+      )
       | inr later ↦ (let found = ended_in others rest one id later in
           let it : Event Call Reply = End id found.0 in
           (found.0, in_rest (Begin first call) (Applied (first ∷ []) ∷ End first reply ∷ rest) it (in_rest (Applied (first ∷ [])) (End first reply ∷ rest) it (in_rest (End first reply) rest it found.1))))

@@ -1,5 +1,5 @@
 -- Steps of one process that make its next call: where it stands meanwhile, and behind them.
-use Rattle.std.proofs.Common.{◌≡◌, ◌≢◌, ℕ, ◌+◌, Bool, true, false, cond, List, [], ◌∷◌, ◌++◌, length, set, refl, sym, ap, ◌∙◌, subst, inl}
+use Rattle.std.proofs.Common.{◌≡◌, ◌≢◌, ℕ, ◌+◌, Bool, true, false, cond, [], ◌∷◌, ◌++◌, set, refl, sym, ap, ◌∙◌, subst, inl}
 use Rattle.std.specs.Prelude.{Option, Some, None, slice_get}
 use Rattle.ll_cell.specs.Cell.{own_of}
 use Rattle.ob_interface.specs.Call.{ObjectCall, Reply}

@@ -1,11 +1,11 @@
 -- Behind a call that a process made alone, the order has that call more, and it was applied by itself.
-use Rattle.std.proofs.Common.{◌≡◌, ◌≢◌, ℕ, List, [], ◌∷◌, ◌++◌, ◌⊎◌, refl, sym, ap, ◌∙◌, subst, inl, inr, append_assoc, append-nil}
+use Rattle.std.proofs.Common.{◌≡◌, List, [], ◌∷◌, ◌++◌, ◌⊎◌, refl, sym, ap, ◌∙◌, subst, inl, inr, append_assoc, append-nil}
 use Rattle.std.specs.Prelude.{ℤ, Contains}
 use Rattle.std.proofs.Math.Logic.{∥∥₁_elim}
 use Rattle.std.proofs.lemmas.List.Elements.{Contains-append_cases, Contains-append_right}
 use Rattle.ob_interface.specs.Call.{ObjectCall, Reply}
 use Rattle.wf_history.specs.declared.event.CallId.{CallId}
-use Rattle.wf_history.specs.History.{Event, Begin, Applied, End}
+use Rattle.wf_history.specs.History.{Begin, Applied, End}
 use Rattle.wf_history.specs.Legal.{HasBegun, IsLegal, NoRepeats, OneAtATime, none, more}
 use Rattle.wf_table.specs.Law.{Effects}
 use Rattle.wf_table.specs.Marks.{applied_in}
@@ -95,7 +95,7 @@ module _ (Effect : Effects) (opening last : List ℤ) (before now : Events) (old
   unapplied seen l =
       let same : order ≡ old = sym are ∙ ap applied_in seen ∙ applied_append before (Begin id call ∷ End id reply ∷ []) ∙ append-nil (applied_in before) ∙ were in
       let ended : Contains now (End id reply) = subst (λ (es : Events). Contains es (End id reply)) (sym seen)
-          (Contains-append_right before (Begin id call ∷ End id reply ∷ []) (End id reply) (in_rest (Begin id call) (End id reply ∷ []) (End id reply) (is_first (End id reply) []))) in
+      (Contains-append_right before (Begin id call ∷ End id reply ∷ []) (End id reply) (in_rest (Begin id call) (End id reply ∷ []) (End id reply) (is_first (End id reply) []))) in
       new (subst (λ (xs : List CallId). Contains xs id) same (l.ended id reply ended))
 
   pub call_more : EndShape before (Begin id call) (End id reply) now → (now ≡ before ++ Begin id call ∷ Applied (id ∷ []) ∷ End id reply ∷ []) × (order ≡ old ++ id ∷ [])

@@ -1,5 +1,5 @@
 -- Each merge is shown by a run of the machine.
-use Rattle.std.proofs.Common.{◌≡◌, ℕ, List, [], ◌++◌, refl, sym, ap, ◌∙◌, subst, take}
+use Rattle.std.proofs.Common.{◌≡◌, List, ◌++◌, sym, ap, ◌∙◌, subst, take}
 use Rattle.std.specs.Prelude.{ℤ}
 use Rattle.std.proofs.Math.Logic.{∥∥₁_elim, ∥∥₁_prop}
 use Rattle.ll_cell.specs.Cell.{block_of}

@@ -1,8 +1,7 @@
 -- Steps of one process in a row, as acts, and how many of them its call takes.
-use Rattle.std.proofs.Common.{◌≡◌, ◌≢◌, ℕ, zero, suc, ◌+◌, ◌*◌, ◌<◌, ◌≤◌, Bool, true, false, cond, List, [], ◌∷◌, ◌++◌, replicate, refl, sym, ap, ◌∙◌, arith, subst, inl, inr, append_assoc, eq-eqb}
-use Rattle.std.specs.Prelude.{ℤ, Option, Some, None, slice_get, nat_eq}
+use Rattle.std.proofs.Common.{◌≡◌, ℕ, zero, suc, ◌+◌, ◌<◌, Bool, true, false, cond, List, [], ◌∷◌, ◌++◌, replicate, refl, sym, ap, ◌∙◌, arith, subst, inl, inr, append_assoc, eq-eqb}
+use Rattle.std.specs.Prelude.{ℤ, Option, Some, None, slice_get}
 use Rattle.std.proofs.lemmas.Bool.{cases_eq}
-use Rattle.std.proofs.lemmas.Option.{same_Some}
 use Rattle.ob_interface.specs.Call.{ObjectCall}
 use Rattle.wf_table.specs.declared.process.Label.{Label}
 use Rattle.wf_table.specs.declared.process.Label.TheVariants.{Next}
@@ -15,7 +14,7 @@ use Rattle.wf_table.specs.Start.{sizes_of}
 use Rattle.wf_table.specs.Table.{Process, row}
 use Rattle.wf_table.proofs.Moves.{same_calls}
 use Rattle.wf_bound.specs.declared.spent.Spent.{Spent}
-use Rattle.wf_bound.specs.Calls.{own_act, own_spent, plus, spends}
+use Rattle.wf_bound.specs.Calls.{own_act, own_spent, spends}
 use Rattle.wf_bound.specs.Spent.{has_more, spent_after, unspent}
 use Rattle.wf_bound.proofs.Places.{put_at}
 use Rattle.wf_object.specs.InARow.{after_steps}

@@ -1,5 +1,5 @@
 -- Between the calls of a merge: where the processes stand, and what one more call that its process makes alone leaves of that.
-use Rattle.std.proofs.Common.{◌≡◌, ◌≢◌, ℕ, zero, suc, ◌+◌, ◌*◌, ◌<◌, ◌≤◌, true, List, [], ◌∷◌, ◌++◌, length, get_or, set, replicate, refl, sym, ap, ◌∙◌, arith, subst, inl, inr, length-set, get_or-set_same, get_or-set_other}
+use Rattle.std.proofs.Common.{◌≡◌, ℕ, suc, ◌+◌, ◌*◌, ◌<◌, ◌≤◌, true, List, [], ◌∷◌, ◌++◌, length, get_or, replicate, refl, sym, ap, ◌∙◌, arith, subst, inl, inr, length-set, get_or-set_same, get_or-set_other}
 use Rattle.std.specs.Prelude.{ℤ, Some, slice_get, Contains, take}
 use Rattle.std.proofs.Math.Logic.{∥∥₁_elim}
 use Rattle.std.proofs.lemmas.Bool.{cases_eq}
@@ -20,19 +20,19 @@ use Rattle.wf_table.specs.Meaning.{Meaning}
 use Rattle.wf_table.specs.Object.{State, script_of}
 use Rattle.wf_table.specs.Runs.{Act, IsRun, turns}
 use Rattle.wf_table.specs.Start.{sizes_of}
-use Rattle.wf_table.specs.Table.{Process, call_at}
+use Rattle.wf_table.specs.Table.{Process}
 use Rattle.wf_bound.specs.Bound.{bound}
 use Rattle.wf_bound.specs.Ends.{AllEndWithin}
 use Rattle.wf_bound.specs.Spent.{has_more}
 use Rattle.wf_object.specs.InARow.{after_steps}
 use Rattle.wf_play.specs.ItemSteps.{StandsFor}
-use Rattle.wf_shown.proofs.Blocks.{Reached, comes_to_end}
+use Rattle.wf_shown.proofs.Blocks.{comes_to_end}
 use Rattle.wf_shown.proofs.Items.{item_stands}
 use Rattle.wf_shown.proofs.EveryRun.{Laws}
 use Rattle.wf_shown.proofs.Lists.{is_first}
 use Rattle.wf_shown.proofs.Opened.{Closed, next_call, next_id}
 use Rattle.wf_shown.proofs.Ordered.{begun_before, call_more, made_in}
-use Rattle.wf_shown.proofs.Showing.{EndShape, Events}
+use Rattle.wf_shown.proofs.Showing.{EndShape}
 use Rattle.wf_shown.proofs.Spending.{run_more, steps_script}
 
 module _ {Run : Type 0} (m : Meaning Run) (lawful : List ℤ → Type 0) (fits : ObjectCall → Type 0) (ready : Run → Type 0) (Effect : Effects) (n limit : ℕ) (opening : List ℤ) (scripts : List (List ObjectCall)) where

@@ -1,5 +1,5 @@
 -- Where an object stands behind the submission of all calls of scripts: at the beginning of each merge.
-use Rattle.std.proofs.Common.{◌≡◌, ℕ, zero, suc, ◌+◌, ◌<◌, ◌≤◌, List, [], ◌∷◌, ◌++◌, length, get_or, map, replicate, refl, sym, ap, ◌∙◌, arith, subst}
+use Rattle.std.proofs.Common.{◌≡◌, ℕ, zero, suc, List, [], ◌∷◌, ◌++◌, length, get_or, map, replicate, refl, sym, ap, ◌∙◌, arith, subst}
 use Rattle.std.specs.Prelude.{ℤ, Option, Some, None, slice_get, Contains}
 use Rattle.std.proofs.lemmas.List.{length-replicate}
 use Rattle.std.proofs.lemmas.Option.{same_Some, get_or_from_slice_get, slice_get_within}
@@ -15,9 +15,8 @@ use Rattle.wf_table.specs.Meaning.{Meaning}
 use Rattle.wf_table.specs.Object.{Records, State, script_of, submit_by, submit_of}
 use Rattle.wf_table.specs.Runs.{IsRun, run, submissions}
 use Rattle.wf_table.specs.Scripts.{CallsFit}
-use Rattle.wf_table.specs.Sound.{IsSound}
 use Rattle.wf_table.specs.Start.{sizes_of}
-use Rattle.wf_table.specs.Table.{Process, call_at}
+use Rattle.wf_table.specs.Table.{Process}
 use Rattle.wf_table.proofs.Frame.{each_after}
 use Rattle.wf_bound.specs.Ends.{AllEndWithin}
 use Rattle.wf_shown.specs.Shown.{scripts_in}
