@@ -38,8 +38,9 @@
    Nothing is kept from one call to the next, so any number of threads may call at once. A call takes at most 8 MiB of stack,
    and of most modules far less. It allocates by malloc, realloc and free, which have to be of one allocator and to align
    as the C library's do, and lets go of all before it returns; it may be called from no signal handler, and in the child of
-   a fork only where no other thread ran. It reads no file, writes none, and starts no thread. A search for an order takes 16
-   random bytes of the system (getentropy). */
+   a fork only where no other thread ran. It reads no file, writes none, starts no thread, and asks the
+   system for nothing but memory. A search for an order keeps what it has seen in tables whose keys are always the same, so
+   of histories of people whom you do not trust give it a small `most`. */
 #ifndef OBL0_H
 #define OBL0_H
 #include <stddef.h>

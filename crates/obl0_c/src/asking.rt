@@ -4,7 +4,7 @@ ghost use Rattle.std.specs.Prelude.{IfOk, map, option_map};
 ghost use Rattle.ob_answer_files.specs.Printed.{IsRefused};
 ghost use Rattle.obl0_c.specs.Asked.{AreWordsIn, IsJoinedAnswer, IsTextsAnswer, IsWordsAnswer};
 
-use crate::keys::MachineKeys;
+use crate::keys::FixedKeys;
 use ob_answer::answer::{Alone, answer_alone};
 use ob_answer_files::answered::Answer;
 use ob_handed::files::GivenFiles;
@@ -71,7 +71,7 @@ fn answer_words(alloc: Global, words: &[&str], files: &[&[u8]]) -> Result<Answer
         alloc,
         texts: files,
     };
-    match answer_alone(&MachineKeys, alloc, words, &mut given)? {
+    match answer_alone(&FixedKeys, alloc, words, &mut given)? {
         Alone::Answered(answer) => Ok(answer),
         Alone::Serves(_) => mistake(alloc, NO_THREADS),
     }

@@ -12,7 +12,7 @@ ghost use Rattle.ob_object_perform.specs.Texts.{run_texts};
 ghost use Rattle.obl0_c.specs.Asked.{IsJoinedAnswer, module_name};
 
 use crate::asking::answer_joined;
-use crate::keys::MachineKeys;
+use crate::keys::FixedKeys;
 use crate::texts::{beginning, object};
 use ob_answer::making::{answer_check, answer_picture, answer_record, answer_seq, answer_verify};
 use ob_answer_explained::explaining::explain_module;
@@ -161,7 +161,7 @@ pub extern "C" fn obl0_order(
         most,
         product: OrderProduct::Line,
     };
-    let made = answer_order(&MachineKeys, alloc, order, beginning(module), history);
+    let made = answer_order(&FixedKeys, alloc, order, beginning(module), history);
     hand_whole(made, room, len)
 }
 
