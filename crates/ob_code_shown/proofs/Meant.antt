@@ -13,7 +13,7 @@ use Rattle.ob_code_law.proofs.Named.{positions_carry, positions_simulate}
 use Rattle.ob_code_machine.specs.Body.{Run}
 use Rattle.ob_code_scheme.specs.Layout.{encoded, IsEncoding}
 use Rattle.ob_code_scheme.specs.WellFormed.{IsWellFormed}
-use Rattle.ob_interface.specs.Call.{ObjectCall, Reply}
+use Rattle.ob_interface.specs.Call.{ObjectCall}
 use Rattle.ob_meaning.specs.Object as Named
 use Rattle.ob_positions.specs.Object.{Effect, effect}
 use Rattle.ob_positions.specs.Store.{Activation}
@@ -23,7 +23,7 @@ use Rattle.wf_history.specs.Legal.{HasBegun, IsLegal}
 use Rattle.wf_outcomes.specs.Merges.{Leads, start, full}
 use Rattle.wf_table.specs.Each.{Each}
 use Rattle.wf_table.specs.Object.{State, script_by, script_of}
-use Rattle.wf_table.specs.Runs.{IsRun, submissions}
+use Rattle.wf_table.specs.Runs.{submissions}
 use Rattle.wf_table.specs.Scripts.{CallsFit}
 use Rattle.wf_table.specs.Table.{Process}
 use Rattle.wf_table.proofs.Runs.{run_sound}
