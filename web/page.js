@@ -190,10 +190,11 @@ async function put_picture(told) {
 }
 // Where each process stands, found by runs that go on to a label: the one that takes no step for it. It is for modules without `state`.
 let labels = [];
+// The labels that are tried: NEXT first, since a process without calls takes no step to any label, and then those near the last one.
 function nearest(from) {
   const found = [from];
   for (const label of found) found.push(...STEPS[label].split(' ').filter(it => !found.includes(it)));
-  return found;
+  return ['NEXT', ...found.filter(it => it !== 'NEXT')];
 }
 async function labels_of(record, ask_with) {
   const stepped_so_far = it => text_of(it).split('\n').find(line => line.startsWith('S'));
