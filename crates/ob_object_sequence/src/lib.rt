@@ -4,6 +4,7 @@
 pub mod calls;
 mod changes;
 pub mod check;
+mod coded;
 mod replies;
 pub mod reply_lines;
 pub mod sequential;
