@@ -1,9 +1,12 @@
 -- Calls that code makes one at a time, and the lines of their replies so far.
-use Rattle.std.proofs.Common.{◌≡◌, ◌∙◌, ℕ, zero, suc, ◌+◌, ◌<◌, ◌≤◌, min, List, [], ◌∷◌, ◌++◌, map, length, get_or, set, drop, replicate, refl, sym, ap, subst, All, arith, add-one}
-use Rattle.std.proofs.lemmas.List.{length-map, get_or-map}
+use Rattle.std.proofs.Common.{◌≡◌, ◌∙◌, ℕ, zero, suc, ◌+◌, ◌<◌, ◌≤◌, min, List, [], ◌∷◌, ◌++◌, map, length, get_or, set, drop, replicate, refl, sym, ap, subst, All, arith}
+use Rattle.std.proofs.Math.ListN.{get_or-map}
+use Rattle.std.proofs.lemmas.List.{length-map}
 use Rattle.ob_code_calls.specs.Parts.{parts_in}
 use Rattle.ob_code_law.specs.CodeMeaning.{EngineParts}
 use Rattle.ob_code_law.specs.Compiled.{Fits, IsFitting, parts_of}
+use Rattle.ob_code_law.specs.Parts.{IsCompiledTo, IsLawfulFor}
+use Rattle.ob_code_scheme.specs.Layout.{encoded}
 use Rattle.ob_code_sequence.specs.Standing.{IsMade, StandsAt}
 use Rattle.ob_code_sequence.specs.declared.coded.CodedState.{CodedState}
 use Rattle.ob_interface.specs.Call.{ObjectCall, Reply}
@@ -14,10 +17,30 @@ use Rattle.ob_positions.specs.Object.{effect}
 use Rattle.ob_positions.specs.Store.{Activation}
 use Rattle.ob_reply.specs.ReplyLines.{reply_line}
 use Rattle.ob_object_compile.specs.Compilation.{ObjectParts}
+use Rattle.ob_object_compile.specs.Sound.{IsSoundObject}
 use Rattle.ob_object_sequence.specs.ReplyLines.{reply_lines}
 use Rattle.ob_text_words.specs.declared.script_call.ScriptCall.{ScriptCall}
 use Rattle.ob_text_words.specs.ScriptCalls.{object_call, script_call_of}
 use Rattle.ob_typing.specs.Program.{Program}
+
+-- ---- the code of an object
+
+module _ (o : ObjectParts) (sound : IsSoundObject o) (parts : EngineParts) (are : parts ≡ parts_of o.program o.engine.budget) where
+  pub its_budget : parts.budget ≡ o.engine.budget
+  its_budget = ap (λ (q : EngineParts). q.budget) are
+
+  pub compiled_to : IsCompiledTo o.program parts
+  compiled_to = record { well = sound.well; parts_are = are ∙ ap (parts_of o.program) (sym its_budget) }
+
+  pub opens_lawfully : ∥ IsLawfulFor parts (encoded o.opening) ∥₁
+  opens_lawfully =
+      ∣ record {
+        program = o.program;
+        compiled = compiled_to;
+        is = record { state = o.opening; encodes = record { typed = sound.begins; words_are = refl } };
+      } ∣₁
+
+-- ---- calls one after the other
 
 -- each call has a reply
 pub replies_count : (program : Program) (budget : ℕ) (state : Activation) (calls : List ObjectCall) → length (replies_to program budget state calls) ≡ length calls
@@ -34,13 +57,15 @@ begins_at : {A : Type 0} (xs : List A) (n : ℕ) (x : A) (rest : List A) → dro
 begins_at [] zero x rest h = absurd (cc)
 begins_at [] (suc n) x rest h = absurd (cc)
 begins_at (y ∷ xs) zero x rest h =
+    let is : y ∷ xs ≡ x ∷ rest = h in
     let same : y ≡ x = cc in
     let others : xs ≡ rest = cc in
     record { within = omega arith; here = sym same; behind = others }
 begins_at (y ∷ xs) (suc n) x rest h =
     let b = begins_at xs n x rest h in
     let within = b.within in
-    record { within = omega (arith, within); here = b.here; behind = ap (λ k. drop k (y ∷ xs)) (sym (add-one (suc n))) ∙ ap (λ k. drop k xs) (add-one n) ∙ b.behind }
+    let e : suc (n + 1) ≡ suc n + 1 = omega arith in
+    record { within = omega (arith, within); here = b.here; behind = ap (λ k. drop k (y ∷ xs)) (sym e) ∙ b.behind }
 
 module _ (program : Program) (budget : ℕ) (opening : Activation) (calls : List ObjectCall) where
   abbrev all_replies : List Reply

@@ -6,7 +6,6 @@ mod changes;
 pub mod check;
 mod coded;
 mod replies;
-pub mod reply_lines;
 pub mod sequential;
 pub mod told;
 mod told_lines;
