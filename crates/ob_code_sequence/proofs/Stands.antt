@@ -1,16 +1,15 @@
 -- What a call leaves, and the state that words are read as.
-use Rattle.std.proofs.Common.{◌≡◌, ◌∙◌, ℕ, List, ap, refl, subst, Some, None}
+use Rattle.std.proofs.Common.{◌≡◌, ◌∙◌, ℕ, List, ap, Some, None}
 use Rattle.std.specs.Prelude.{ℤ}
 use Rattle.std.proofs.Math.Logic.{∥∥₁_elim, ∥∥₁_map}
 use Rattle.std.proofs.lemmas.Option.{same_Some}
 use Rattle.ob_code_calls.specs.Calls as Calls
-use Rattle.ob_code_calls.specs.Parts.{parts_in}
 use Rattle.ob_code_law.proofs.CodeLaw.{lawful_decoded}
 use Rattle.ob_code_law.specs.CodeMeaning.{EngineParts}
 use Rattle.ob_code_law.specs.Parts.{IsCompiledTo, IsLawfulFor}
 use Rattle.ob_code_layout.specs.Layout.{LayoutParts, layout_of}
 use Rattle.ob_code_scheme.specs.Layout.{IsEncoding, decoded}
-use Rattle.ob_code_sequence.specs.Standing.{IsLaidOut, IsMade, StandsAt}
+use Rattle.ob_code_sequence.specs.Standing.{IsLaidOut, StandsAt}
 use Rattle.ob_code_sequence.specs.declared.coded.CodedState.{CodedState}
 use Rattle.ob_interface.specs.Call.{ObjectCall, Reply}
 use Rattle.ob_positions.specs.Object.{effect}
@@ -27,20 +26,6 @@ still_lawful parts call block after reply lawful made =
       compiled = l.compiled;
       is = record { state = (effect l.program call parts.budget l.is.state).state; encodes = (made l.program l.is.state l.compiled l.is.encodes).block_is };
     })
-
--- what a call makes of the words is what it makes of the state
-pub made_at : (program : Program) (budget : ℕ) (before : Activation) (o next : CodedState) (call : ObjectCall) (reply : Reply) → parts_in o.calls ≡ parts_in next.calls →
-    StandsAt program budget before o → Calls.IsMade program (parts_in o.calls).budget call before next.block.items reply → IsMade program budget call before next reply
-made_at program budget before o next call reply same stands made =
-    let m = subst (λ (b : ℕ). Calls.IsMade program b call before next.block.items reply) stands.turns made in
-    record {
-      reply_is = m.reply_is;
-      stands = record {
-        compiled = subst (IsCompiledTo program) same stands.compiled;
-        turns = subst (λ (q : EngineParts). q.budget ≡ budget) same stands.turns;
-        encodes = m.block_is;
-      };
-    }
 
 -- words of a state are read
 pub never_unread : (layout : LayoutParts) (o : CodedState) → ∥ IsLaidOut layout o ∥₁ → None ≡ decoded layout.variables o.block.items → ⊥
