@@ -51,7 +51,8 @@ impl CodedState {
         ensures { (program : Program) (budget : ℕ) (before : Activation) → StandsAt program budget before self.old
             → IsMade program budget (call_of call.now) before self.new (reply_of result) }
     {
-        self.calls.call(&mut self.room, self.block.as_mut_slice(), call)
+        self.calls
+            .call(&mut self.room, self.block.as_mut_slice(), call)
     }
 
     /// The state that the calls have led to.

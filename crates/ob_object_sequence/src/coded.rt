@@ -18,6 +18,12 @@ pub(crate) fn coded(alloc: Global, object: &Object) -> Result<CodedState, NoMemo
 {
     let engine = object.engine();
     let code = engine.code().copy(alloc)?;
-    let calls = CodeCalls::new(alloc, object.checked(), object.layout(), code, engine.budget())?;
+    let calls = CodeCalls::new(
+        alloc,
+        object.checked(),
+        object.layout(),
+        code,
+        engine.budget(),
+    )?;
     CodedState::begin(alloc, calls, object.opening())
 }
