@@ -6,3 +6,5 @@ pub mod Printing
 pub mod Runs
 pub mod TellsParts
 pub mod ToldNamed
+pub mod Fitting
+pub mod ByCode

@@ -4,8 +4,8 @@
 pub mod calls;
 mod changes;
 pub mod check;
+mod coded;
 mod replies;
-pub mod reply_lines;
 pub mod sequential;
 pub mod told;
 mod told_lines;

@@ -1,19 +1,21 @@
 //! A sequential run: the calls of a script made one at a time, from bytes to bytes.
 
 ghost use Rattle.std.specs.Prelude.{◌≡◌, ◌<◌, [], Err, All, IfOk, IfErr, map, string_bytes};
+ghost use Rattle.ob_code_law.specs.Compiled.{Fits};
 ghost use Rattle.ob_interface.specs.Processes.{most_processes};
 ghost use Rattle.ob_interpreter.specs.Sequences.{replies_to};
 ghost use Rattle.ob_object_compile.specs.Asked.{TellsAtOnce, by_body};
+ghost use Rattle.ob_object_compile.specs.Sound.{IsSoundObject};
 ghost use Rattle.ob_object_compile.specs.View.{asked_of, object_in};
 ghost use Rattle.ob_object_sequence.specs.ReplyLines.{reply_lines};
 ghost use Rattle.ob_object_sequence.specs.SequentialRun.{IsSeqRefusal, IsSequentialRun};
 ghost use Rattle.ob_text_words.specs.ScriptCalls.{object_call, script_call_of};
 
-use crate::calls::{callers, object_calls, object_replies};
-use crate::replies::replies_from;
-use crate::reply_lines::print_replies;
+use crate::coded::coded;
 use ob_interface::{MOST_PROCESSES, NoMemory};
+use ob_object_compile::laws::compilations_are_sound;
 use ob_object_compile::{Asked, Beginning, CompileFault, Object, compile_asked};
+use ob_reply::reply_lines::push_reply_line;
 use ob_text_scripts::{ScriptFault, read_scripts};
 use ob_text_words::script_call::ScriptCall;
 use std::alloc::Global;
@@ -99,22 +101,30 @@ pub fn seq_asked(alloc: Global, asked: Asked<'_>, script: &[u8]) -> Result<Strin
     ensures refused { IfErr result (IsSeqRefusal (asked_of asked.entry) script.now) }
     ensures at_once { TellsAtOnce (asked_of asked.entry) (λ e. result ≡ Err (SeqTextFault.Compile e)) }
 {
+    compilations_are_sound();
     let object = compile_asked(alloc, asked)?;
     let scripts = read_scripts(alloc, object.checked(), asked.processes, script)?;
     Ok(replies_text(alloc, &object, scripts.calls())?)
 }
 
-/// The E lines of the replies to calls that are made one at a time on an object, each with its budget of turns.
+/// The E lines of the replies to calls that are made one at a time on an object, each with its budget of turns. The calls are made by the
+/// object's code, and the line of a reply is written before the next call is made.
 fn replies_text(alloc: Global, object: &Object, calls: &[ScriptCall]) -> Result<String, NoMemory>
-    requires { All (λ c. c.process < (object_in object.now).processes) calls.now }
+    requires sound { IsSoundObject (object_in object.now) }
+    requires fit { All (λ c. Fits (object_in object.now).program (object_call (script_call_of c))) calls.now }
+    requires processes { All (λ c. c.process < (object_in object.now).processes) calls.now }
     ensures { IfOk result (λ text. string_bytes text ≡ reply_lines [] (map (λ c. c.process) calls.now)
         (replies_to (object_in object.now).program (object_in object.now).engine.budget (object_in object.now).opening
         (map (λ c. object_call (script_call_of c)) calls.now))) }
 {
-    let callers = callers(alloc, calls)?;
-    let asked = object_calls(alloc, calls)?;
-    let opening = object.opening().copy(alloc)?;
-    let answers = replies_from(alloc, object.checked(), opening, &asked, object.budget())?;
-    let replies = object_replies(alloc, &answers)?;
-    Ok(print_replies(alloc, object.processes(), &callers, &replies)?)
+    let mut coded = coded(alloc, object)?;
+    let mut text = String::new(alloc);
+    let mut made = vec![in alloc; 0u64; object.processes()]?;
+    for call in calls {
+        let asked = call.asked(alloc)?;
+        let reply = coded.call(&asked);
+        made[call.process] += 1;
+        push_reply_line(&mut text, call.process, made[call.process], &reply)?;
+    }
+    Ok(text)
 }

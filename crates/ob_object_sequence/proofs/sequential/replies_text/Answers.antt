@@ -1,36 +1,53 @@
-use Rattle.std.proofs.Common.{◌≡◌, ◌<◌, ◌∙◌, ℕ, List, [], All, ap, map, subst, sym}
-use Rattle.ob_interface.specs.Call.{ObjectCall, Reply}
-use Rattle.ob_interface.specs.View as Objects
-use Rattle.ob_interpreter.specs.Sequences.{replies_to}
-use Rattle.ob_interpreter.specs.View.{call_of, reply_of}
+use Rattle.std.proofs.Common.{◌≡◌, ◌∙◌, ◌<◌, ◌+◌, ◌++◌, ℕ, List, ap, arith, get_or, get_or-set_same, length, set, string_bytes, subst, sym}
+use Rattle.std.proofs.lemmas.List.{get_or_read, length-set}
+use Rattle.std.proofs.lemmas.List.Elements.{All-get_or}
+use Rattle.ob_code_sequence.specs.Standing.{IsMade}
+use Rattle.ob_interface.specs.Call.{ObjectCall}
+use Rattle.ob_interface.specs.View.{reply_of}
 use Rattle.ob_object_compile.specs.View.{object_in}
-use Rattle.ob_object_sequence.proofs.Runs.{callers_below}
-use Rattle.ob_object_sequence.specs.ReplyLines.{reply_lines}
-use Rattle.ob_positions.specs.Store.{Activation}
-use Rattle.ob_text_words.specs.ScriptCalls.{object_call, script_call_of}
+use Rattle.ob_object_sequence.proofs.ByCode.{HasTold, told_more}
+use Rattle.ob_object_sequence.proofs.Printing.{made_few}
+use Rattle.ob_reply.specs.ReplyLines.{reply_line}
 use Rattle.ob_text_words.specs.declared.script_call.ScriptCall.{ScriptCall}
-use Rattle.ob_typing.specs.Program.{Program}
 use Rattle.ob_object_sequence.proofs.sequential.replies_text.Goals as goal
 
-pub print_replies-requires : goal.print_replies-requires
-print_replies-requires c =
-    callers_below c.processes.result c.args.calls.now c.deref-3.result.now (c.deref-3.ensures.value ∙ c.in_ok-callers.ensures)
-    (subst (λ (n : ℕ). All (λ (x : ScriptCall). x.process < n) c.args.calls.now) (sym c.processes.ensures) c.requires)
-
--- the same calls of the same program, from the same state
-told_of : (p q : Program) → p ≡ q → (b d : ℕ) → b ≡ d → (s t : Activation) → s ≡ t → (xs ys : List ObjectCall) → xs ≡ ys → replies_to p b s xs ≡ replies_to q d t ys
-told_of p q program b d budget s t opening xs ys calls = cc
-
-lines_of : (callers processes : List ℕ) → callers ≡ processes → (rs replies : List Reply) → rs ≡ replies → reply_lines [] callers rs ≡ reply_lines [] processes replies
-lines_of callers processes is rs replies same = cc
-
-pub returns : goal.returns
-returns c =
+pub overflow_add-index_mut : goal.overflow_add-index_mut
+overflow_add-index_mut c =
     let o = object_in c.args.object.now in
-    let calls = map (λ (x : ScriptCall). object_call (script_call_of x)) c.args.calls.now in
-    let answers =
-    c.in_ok-replies.ensures ∙ (ap (λ rs. map reply_of rs) c.deref-2.ensures.value ∙ (c.in_ok-answers.ensures ∙ told_of _ o.program c.checked.ensures.program _ o.engine.budget c.budget.ensures _ o.opening
-    (c.in_ok-opening.ensures ∙ c.opening.ensures) _ calls (ap (λ xs. map call_of xs) c.deref.ensures.value ∙ c.in_ok-asked.ensures))) in
-    c.in_ok-print_replies.ensures
-    ∙ lines_of _ (map (λ (x : ScriptCall). x.process) c.args.calls.now) (c.deref-3.ensures.value ∙ c.in_ok-callers.ensures) _ (replies_to o.program o.engine.budget o.opening calls)
-    (ap (λ rs. map Objects.reply_of rs) c.deref-4.ensures.value ∙ answers)
+    let call = c.call-item.result in
+    let p = call.process in
+    let made = c.loop-call.made.items in
+    let below : p < o.processes =
+    subst (λ (x : ScriptCall). x.process < o.processes) (sym c.call-item.is)
+    (All-get_or (λ (x : ScriptCall). x.process < o.processes) c.args.calls.now c.loop-call.call-index call c.loop-call-test.true c.requires.processes) in
+    let few = made_few _ _ _ _ _ _ _ c.loop-call.invariant.printed p below in
+    let in_range : p < length made = omega (arith, below, c.loop-call.invariant.printed.long) in
+    let read : c.index_mut.result.now ≡ get_or made p 0 = get_or_read made p _ in_range c.index_mut.ensures.value 0 in
+    omega (arith, few, read, c.loop-call-test.true)
+
+pub loop-call-preserved : goal.loop-call-preserved
+loop-call-preserved c =
+    let o = object_in c.args.object.now in
+    let calls = c.args.calls.now in
+    let n = c.loop-call.call-index in
+    let call = c.call-item.result in
+    let p = call.process in
+    let made = c.loop-call.made.items in
+    let text = string_bytes c.loop-call.text in
+    let told = c.loop-call.invariant in
+    let next = c.call-reply.new.self in
+    let reply = reply_of c.call-reply.result in
+    let below : p < o.processes =
+    subst (λ (x : ScriptCall). x.process < o.processes) (sym c.call-item.is)
+    (All-get_or (λ (x : ScriptCall). x.process < o.processes) calls n call c.loop-call-test.true c.requires.processes) in
+    let in_range : p < length made = omega (arith, below, told.printed.long) in
+    let read : c.index_mut.result.now ≡ get_or made p 0 = get_or_read made p _ in_range c.index_mut.ensures.value 0 in
+    let number : c.index.result.now ≡ get_or made p 0 + 1 =
+    get_or_read (set made p (c.index_mut.result.now + 1)) p _ (rw length-set in_range) c.index.ensures 0 ∙ get_or-set_same _ p _ 0 in_range ∙ ap (λ k. k + 1) read in
+    let line : string_bytes c.push_reply_line.new.text ≡ text ++ reply_line p (get_or made p 0 + 1) reply =
+    c.in_ok-push_reply_line.ensures.ok ∙ ap (λ m. text ++ reply_line p m reply) number in
+    let is = subst (λ (x : ObjectCall). IsMade o.program o.engine.budget x told.calls_made.state next reply) c.in_ok-asked.ensures
+    (c.call-reply.ensures o.program o.engine.budget told.calls_made.state told.calls_made.stands) in
+    let more = told_more o calls n c.loop-call.coded next text made told call reply c.loop-call-test.true c.call-item.is below is in
+    subst (λ (t : List ℕ). HasTold o calls (n + 1) next t (set made p (c.index_mut.result.now + 1))) (sym line)
+    (subst (λ (m : ℕ). HasTold o calls (n + 1) next (text ++ reply_line p (get_or made p 0 + 1) reply) (set made p m)) (sym (ap (λ k. k + 1) read)) more)
