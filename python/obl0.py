@@ -240,8 +240,8 @@ class Object:
         obl0.Object(module, n=2, from_=counter.record())
 
     Each call is answered as `seq` answers it, from the variables as they stand: its text, its budget and they go through the library, and
-    nothing else of the calls before it. So a call costs a compilation of the module. The object keeps its calls for `record`, some 100 bytes
-    each.
+    nothing else of the calls before it. So a call costs a compilation of the module: of examples/counter.mod 0.13 ms of one processor. The
+    object keeps its calls for `record`, some 100 bytes each.
     """
 
     def __init__(self, module: Text, *, n: int, budget: Optional[int] = None, from_: Union[Record, Text, None] = None) -> None:
