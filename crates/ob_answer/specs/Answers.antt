@@ -55,9 +55,9 @@ use Rattle.ob_answer_files.specs.declared.reading.RunBytes.{RunBytes}
 use Rattle.ob_answer.specs.Refusals.{RefusesPicture, RefusesRecordPicture, RefusesTreeRun, RefusesWorkers}
 use Rattle.ob_answer_explained.specs.Refusals.{RefusesCalls, RefusesObject, RefusesRecord, RefusesRun}
 
--- the program's name and version, and the kit that it is built with
+-- the program's name and version, and the logic that it is proved in
 abbrev pub version_text : Text
-version_text = codes "obl0 0.1.0\nrattle-kit-13f logic dac8208d650f15bf\nMIT OR Apache-2.0\n"
+version_text = codes "obl0 0.1.0\nrattle logic dac8208d650f15bf\nMIT OR Apache-2.0\n"
 
 -- the mistake of words that name standard input for two files
 abbrev pub input_twice_text : Text

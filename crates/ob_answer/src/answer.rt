@@ -33,8 +33,8 @@ use std::random::RandomSource;
 use std::sync::Wait;
 use std::thread::Threads;
 
-/// The program's name and version, the kit that it is built with, and its licence.
-const VERSION: &str = "obl0 0.1.0\nrattle-kit-13f logic dac8208d650f15bf\nMIT OR Apache-2.0\n";
+/// The program's name and version, the logic that it is proved in, and its licence.
+const VERSION: &str = "obl0 0.1.0\nrattle logic dac8208d650f15bf\nMIT OR Apache-2.0\n";
 
 /// The name of standard input.
 pub const INPUT_NAME: &str = "-";
