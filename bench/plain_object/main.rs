@@ -1,5 +1,5 @@
 //! What `obl0 run` and `obl0 verify` do for examples/counter.mod, in plain Rust, with nothing proved of it. `run SCRIPT SCHEDULE -n N`
-//! reads calls and items, plays the machine of docs/OBJECT.md over the code of the module, an instruction a step, and prints the
+//! reads calls and items, plays the machine of docs/MACHINE.md over the code of the module, an instruction a step, and prints the
 //! record, byte for byte that of docs/FORMATS.md. `verify RECORD` reads a record and checks its order. A fault is told by its line on
 //! standard error, with status 1. Of the module there are the three tables below, and nothing else knows which one it is.
 
