@@ -63,9 +63,9 @@ version_text = codes "obl0 0.1.0\nrattle-kit-13f logic dac8208d650f15bf\nMIT OR 
 abbrev pub input_twice_text : Text
 input_twice_text = codes "error: `-`, which is standard input, stands for one file alone\n"
 
--- what is said of calls that come from standard input, where no line is read by itself
+-- what is said of `live` where lines are not heard one by one
 abbrev pub live_apart_text : Text
-live_apart_text = codes "error: live reads its calls line by line from standard input, and files alone are read here\n"
+live_apart_text = codes "error: live answers lines as they come, and here whole files alone are read\n"
 
 abbrev pub ok_text : Text
 ok_text = codes "ok\n"

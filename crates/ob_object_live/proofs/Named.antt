@@ -9,7 +9,7 @@ use Rattle.ob_code_law.specs.CodeMeaning.{EngineParts}
 use Rattle.ob_interface.specs.Call.{ObjectCall, Reply}
 use Rattle.ob_interface.specs.Export.{CallFits, Signature}
 use Rattle.ob_interpreter.specs.Sequences as Positions
-use Rattle.ob_object_live.specs.Living.{Ground, asked, callers, events_behind, lines_at, lines_behind, record_at, replies_at, state_after, state_at}
+use Rattle.ob_object_live.specs.Living.{Ground, asked, callers, events_behind, ground_of, lines_at, lines_behind, record_at, replies_at, state_after, state_at}
 use Rattle.ob_object_live.specs.declared.parts.Live.{Live}
 use Rattle.ob_object_live.specs.Talks.{AllFit, EndsOn, IsTalk, TalksOn, ends, made, refused}
 use Rattle.ob_meaning.specs.Object as Named
@@ -101,3 +101,10 @@ module _ (a : Asked) (o : ObjectParts) (compiled : IsCompilation a o) where
         (EndsOn (ground_at o)) (IsRecordTold a o compiled.opens.state) seq_are record_is [] 1 before after
         (All-nil (λ (c : ScriptCall). CallFits (signatures o.program) (object_call c))) h);
   }
+
+-- of an object before any call
+pub live_named : {C : Type 0} (Hears Tells : C → List ℕ → C → Type 0) (a : Asked) (l : Live) (before after : C) → BeginsAt a l →
+    TalksOn Hears Tells (ground_of l.ground) [] 1 before after → IsLiveRun Hears Tells a before after
+live_named {C} Hears Tells a l before after begins h =
+    told_named a begins.object begins.compiled Hears Tells before after
+    (subst (λ (g : Ground). TalksOn Hears Tells g [] 1 before after) begins.ground h)

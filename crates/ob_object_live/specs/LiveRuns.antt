@@ -7,9 +7,7 @@ use Rattle.ob_object_live.specs.Living.{asked, callers, events_behind, order_beh
 use Rattle.ob_object_live.specs.Talks.{IsTalk}
 use Rattle.ob_meaning.specs.Object as Named
 use Rattle.ob_object_compile.specs.Asked.{Asked}
-use Rattle.ob_object_compile.specs.Compilation.{IsCompilation, IsRefusal, IsShort, ObjectParts}
-use Rattle.ob_object_live.specs.declared.asked.LiveFault.{LiveFault}
-use Rattle.ob_object_live.specs.declared.asked.LiveFault.TheVariants as Faults
+use Rattle.ob_object_compile.specs.Compilation.{IsCompilation, ObjectParts}
 use Rattle.ob_object_record.specs.Record.{Record, carried_from}
 use Rattle.ob_object_sequence.specs.ReplyLines.{reply_lines}
 use Rattle.ob_text_record.specs.RecordText.{record_text}
@@ -50,8 +48,3 @@ module _ {C : Type 0} (Hears Tells : C → List ℕ → C → Type 0) where
     pub compiled : IsCompilation a object
     pub talk : IsTalk Hears Tells (signatures object.program) a.processes (seq_lines object.program a.budget compiled.opens.state)
         (IsRecordTold a object compiled.opens.state) [] 1 before after
-
--- what is said with a fault: where it is of the object, nothing was heard or told
-abbrev pub IsLiveRefusal : {C : Type 0} → Asked → LiveFault → (before after : C) → Type 0
-IsLiveRefusal a (Faults.Compile e) before after = IsRefusal IsShort a e × (after ≡ before)
-IsLiveRefusal a (Faults.Talk e) before after = Unit {0}

@@ -14,13 +14,13 @@ use crossbeam_channel::{Receiver, RecvTimeoutError, Sender, unbounded};
 use files::HostFiles;
 use hint::{is_run, more_of};
 use ob_answer::answer::{INPUT_NAME, answer};
+use ob_answer::live::answer_live;
 use ob_answer_files::answered::Answer;
 use ob_answer_files::reading::unreadable;
-use ob_answer_live::answer_live;
 use ob_call_counts::line::counts_line;
 use ob_command::command::{CallsCommand, Command, read_command};
 use ob_device::{Counted, emit};
-use ob_live_talk::TalkFault;
+use ob_object_live::{Pipe, TalkFault};
 use refusal::{Refusal, refusal_of_words};
 use std::alloc::Global;
 use std::io::{BufReader, IsTerminal};
@@ -231,11 +231,14 @@ fn lived<R: Files + Input + Print + AllocGlobal>(
         counts: false,
         calls: None,
     };
-    let Ok(mut reader) = BufReader::new(alloc, rt.reader()) else {
+    let Ok(reader) = BufReader::new(alloc, rt.reader()) else {
         return Err(Refusal::NoMemory);
     };
-    let mut writer = io::writer(rt);
-    let answer = match answer_live(alloc, calls, &mut files, &mut reader, &mut writer) {
+    let mut pipe = Pipe {
+        reader,
+        writer: io::writer(rt),
+    };
+    let answer = match answer_live(alloc, calls, &mut files, &mut pipe) {
         Ok(answer) => answer,
         Err(TalkFault::Input(kind)) => {
             files.refusal = Some(kind);
