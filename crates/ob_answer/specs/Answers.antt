@@ -29,7 +29,7 @@ use Rattle.ob_object_verify.specs.Verified.{IsVerified}
 use Rattle.ob_answer_orders.specs.HistoryPictureAnswers.{IsHistoryPictureAnswer}
 use Rattle.ob_schedule_made.specs.Chance.{IsOfSteps}
 use Rattle.ob_schedule_made.specs.Finish.{IsFinished}
-use Rattle.ob_command.specs.CommandLine.{CallsRequest, ChanceRequest, Request, RunRequest, SeqRequest, Text, default_most, Check, Listing, Seq, Run, RunTree, RunSteps, RunFinished, RunByChance, Serve, Draw, DrawHistory, DrawRecord, Outcomes, Verify, Order, request}
+use Rattle.ob_command.specs.CommandLine.{CallsRequest, ChanceRequest, Request, RunRequest, SeqRequest, Text, default_most, Check, Listing, Seq, Live, Run, RunTree, RunSteps, RunFinished, RunByChance, Serve, Draw, DrawHistory, DrawRecord, Outcomes, Verify, Order, request}
 use Rattle.ob_command.specs.CommandLine.{Explain, ExplainAlways, ExplainCalls, ExplainTraps, ExplainRun, ExplainRecord, ExplainHistory, Bound, Help, Version, Unclear}
 use Rattle.ob_command.specs.Commands.{IsMistakeTextOf, calls_request_of, chance_request_of, run_request_of}
 use Rattle.ob_command.specs.declared.command.CallNumbers.{CallNumbers}
@@ -62,6 +62,10 @@ version_text = codes "obl0 0.1.0\nrattle logic dac8208d650f15bf\nMIT OR Apache-2
 -- the mistake of words that name standard input for two files
 abbrev pub input_twice_text : Text
 input_twice_text = codes "error: `-`, which is standard input, stands for one file alone\n"
+
+-- what is said of `live` where lines are not heard one by one
+abbrev pub live_apart_text : Text
+live_apart_text = codes "error: live answers lines as they come, and here whole files alone are read\n"
 
 abbrev pub ok_text : Text
 ok_text = codes "ok\n"
@@ -316,6 +320,7 @@ IsMade (ExplainRecord module_name record_name) (module_bytes ∷ record_bytes �
 IsMade (ExplainHistory module_name history_name) (module_bytes ∷ history_bytes ∷ []) answer =
     IsHistoryExplained module_name module_bytes history_name history_bytes answer
 IsMade (Bound module_name processes budget) (module_bytes ∷ []) answer = IsBoundAnswer module_bytes processes budget answer
+IsMade (Live calls) [] answer = IsRefused answer 2 live_apart_text
 IsMade Help [] answer = (text : Text) × IsPrinted answer text
 IsMade Version [] answer = IsPrinted answer version_text
 IsMade Unclear [] answer = (text : Text) × IsRefused answer 2 text

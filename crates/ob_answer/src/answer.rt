@@ -4,7 +4,8 @@ ghost use Rattle.std.specs.Prelude.{◌≡◌, IfNone, IfOk, IfSome, count_by, m
 ghost use Rattle.std.specs.Str.{bytes_eq};
 ghost use Rattle.ob_answer.specs.AllRuns.{all_runs_for, all_runs_of};
 ghost use Rattle.ob_answer.specs.Alone.{IsAlone, IsAloneTo, IsNotServe, IsStopAnswer};
-ghost use Rattle.ob_answer.specs.Answers.{IsAnswer, IsObeyed, files_of, input_name, range_of, reads_input_twice, sequence_product};
+ghost use Rattle.ob_answer.specs.Answers.{IsAnswer, IsObeyed, files_of, input_name, live_apart_text, range_of, reads_input_twice, sequence_product};
+ghost use Rattle.ob_answer_files.specs.Printed.{IsRefused};
 ghost use Rattle.ob_answer_files.specs.Reads.{files_of_calls, files_of_run};
 ghost use Rattle.ob_command.specs.CommandLine.{Bound, Check, DrawHistory, DrawRecord, Listing, Order, Serve, Verify};
 ghost use Rattle.ob_command.specs.Commands.{calls_request_of, order_request_of, outcomes_request_of, request_of, run_request_of, seen_request_of, seq_request_of};
@@ -40,7 +41,11 @@ const VERSION: &str = "obl0 0.1.0\nrattle logic dac8208d650f15bf\nMIT OR Apache-
 pub const INPUT_NAME: &str = "-";
 
 /// The mistake of words that name standard input for two files.
-const INPUT_TWICE: &str = "error: `-`, which is standard input, stands for one file alone\n";
+pub(crate) const INPUT_TWICE: &str = "error: `-`, which is standard input, stands for one file alone\n";
+
+/// What is said of `live` where lines are not heard one by one: here files alone are read.
+const LIVE_APART: &str =
+    "error: live answers lines as they come, and here whole files alone are read\n";
 
 /// What comes of words where no thread is started.
 #[derive(Drop)]
@@ -53,7 +58,8 @@ pub enum Alone<'a> {
 
 /// The answer to the words behind the program's name. Files are read in the order in which the words
 /// name them, that of the record with whose values an object begins behind the others, before anything is made of them. Only `serve`
-/// starts threads and waits, and only a search for an order asks for random bytes.
+/// starts threads and waits, and only a search for an order asks for random bytes. `live` is answered by `answer_live`: here it is told that it
+/// can't be.
 pub fn answer<R: Threads + Wait + Sync + AllocGlobal + RandomSource, F: Files>(
     rt: &R,
     words: &[&str],
@@ -134,6 +140,7 @@ fn reads_input_twice(command: Command<'_>) -> bool
         Command::Check { .. } => false,
         Command::List { .. } => false,
         Command::Bound { .. } => false,
+        Command::Live(_) => false,
         Command::Seq(sequence) => are_inputs_of_calls(sequence.calls),
         Command::Serve(calls) => are_inputs_of_calls(calls),
         Command::Run(run) => are_inputs_of_run(run),
@@ -171,7 +178,7 @@ fn reads_input_twice(command: Command<'_>) -> bool
 }
 
 /// Whether calls name standard input for two files.
-fn are_inputs_of_calls(calls: CallsCommand<'_>) -> bool
+pub(crate) fn are_inputs_of_calls(calls: CallsCommand<'_>) -> bool
     ensures { result ≡ reads_input_twice (files_of_calls (calls_request_of calls.entry)) }
 {
     match calls.from_name {
@@ -218,6 +225,7 @@ fn obey<K: RandomSource, F: Files>(
         Command::Check { module_name } => obey_check(alloc, module_name, files),
         Command::List { module_name } => obey_list(alloc, module_name, files),
         Command::Seq(sequence) => obey_calls(alloc, product_of(sequence), sequence.calls, files),
+        Command::Live(_) => live_apart(alloc),
         Command::Run(run) => obey_run(alloc, Product::Record, run, files),
         Command::RunTree(run) => obey_run(alloc, Product::TreeRecord, run, files),
         Command::RunSteps(run) => obey_run(alloc, Product::RecordWithSteps, run, files),
@@ -275,6 +283,13 @@ fn obey<K: RandomSource, F: Files>(
             budget,
         } => obey_bound(alloc, module_name, processes, budget, files),
     }
+}
+
+/// The answer to `live`, of which no line is heard here.
+fn live_apart(alloc: Global) -> Result<Answer, NoMemory>
+    ensures { IfOk result (λ a. IsRefused a 2 live_apart_text) }
+{
+    Ok(Answer::refused(alloc, 2, String::from_str(alloc, LIVE_APART)?))
 }
 
 /// What is printed of calls that are made one at a time.

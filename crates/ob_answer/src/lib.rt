@@ -5,6 +5,7 @@
 pub mod all_runs;
 pub mod answer;
 mod explaining;
+pub mod live;
 pub mod making;
 mod making_schedules;
 mod obeying;

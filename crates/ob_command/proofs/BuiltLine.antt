@@ -99,6 +99,9 @@ abbrev pub run_leaf : Shape
 run_leaf = leaf (codes "run") (run_rules true false true (built_flag (codes "tree") ∷ built_flag (codes "steps")
     ∷ built_seed ∷ built_length ∷ built_flag (codes "finish") ∷ built_help ∷ []))
 
+abbrev pub live_leaf : Shape
+live_leaf = leaf (codes "live") (built_name 1 (codes "MODULE") ∷ built_budget ∷ built_from ∷ built_help ∷ [])
+
 abbrev pub serve_leaf : Shape
 serve_leaf = leaf (codes "serve") (built_name 1 (codes "MODULE") ∷ built_name 2 (codes "SCRIPT") ∷ built_number ∷ built_budget ∷ built_from ∷ built_help ∷ [])
 
@@ -128,12 +131,12 @@ built_top = record top_shape { rules = built_help ∷ []; is_leaf = false; is_bu
 abbrev pub built_app : App
 built_app = record {
   top = built_top;
-  subs = module_leaf (codes "check") ∷ module_leaf (codes "list") ∷ seq_leaf ∷ run_leaf ∷ serve_leaf ∷ draw_leaf ∷ outcomes_leaf
+  subs = module_leaf (codes "check") ∷ module_leaf (codes "list") ∷ seq_leaf ∷ live_leaf ∷ run_leaf ∷ serve_leaf ∷ draw_leaf ∷ outcomes_leaf
       ∷ verify_leaf ∷ order_leaf ∷ explain_leaf ∷ bound_leaf ∷ [];
 }
 
 abbrev pub names : Names
-names = (codes "check", []) ∷ (codes "list", []) ∷ (codes "seq", []) ∷ (codes "run", []) ∷ (codes "serve", []) ∷ (codes "draw", []) ∷ (codes "outcomes", [])
+names = (codes "check", []) ∷ (codes "list", []) ∷ (codes "seq", []) ∷ (codes "live", []) ∷ (codes "run", []) ∷ (codes "serve", []) ∷ (codes "draw", []) ∷ (codes "outcomes", [])
     ∷ (codes "verify", []) ∷ (codes "order", []) ∷ (codes "explain", []) ∷ (codes "bound", []) ∷ []
 
 -- ---- the rows that clap keeps of a command

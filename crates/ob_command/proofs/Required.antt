@@ -17,7 +17,7 @@ use Rattle.clap.specs.declared.error.kind.ErrorKind.{ErrorKind}
 use Rattle.clap.specs.declared.error.kind.ErrorKind.TheVariants as kind
 use Rattle.ob_command_line.specs.ClapCommand.{obl0_app}
 use Rattle.ob_command.specs.CommandLine.{Serve, Verify, asked, asks_command, calls_of, command_of, form_mistake, form_mistake_of, given_of, processes_of, sequence_of}
-use Rattle.ob_command.proofs.BuiltLine.{bound_leaf, built_app, built_budget, built_flag, built_from, built_help, built_name, built_number, built_one, built_top, draw_leaf, explain_leaf, module_leaf, names, needed, order_leaf, outcomes_leaf, run_leaf, seq_leaf, serve_leaf, verify_leaf}
+use Rattle.ob_command.proofs.BuiltLine.{bound_leaf, built_app, built_budget, built_flag, built_from, built_help, built_name, built_number, built_one, built_top, draw_leaf, explain_leaf, live_leaf, module_leaf, names, needed, order_leaf, outcomes_leaf, run_leaf, seq_leaf, serve_leaf, verify_leaf}
 use Rattle.ob_command.proofs.FilledRows.{EachFills, Filled, Fills, given_first, given_number, level_filled, neither, suits, with_filled, without_filled}
 use Rattle.ob_command.proofs.Numbers.{budget_accepted, number_accepted}
 
@@ -206,6 +206,12 @@ seq_asks words none =
     asks_with (codes "seq") rows (given_first (codes "MODULE") rows p.filled (p.given.0 refl))
     (λ m. some_map (sequence_of m (given_of rows)) _ (some_map (first_of (codes "SCRIPT") rows) _ script))
 
+live_asks : AsksBy live_leaf
+live_asks words none =
+    let p = passes live_leaf (fills_name 1 (codes "MODULE") any_text true, (fills_budget, (fills_from, (fills_help, tt)))) refl words none in
+    let rows = rows_of_leaf live_leaf words in
+    asks_with (codes "live") rows (given_first (codes "MODULE") rows p.filled (p.given.0 refl)) (λ m. refl)
+
 serve_asks : AsksBy serve_leaf
 serve_asks words none =
     let p = passes serve_leaf (fills_name 1 (codes "MODULE") any_text true, (fills_name 2 (codes "SCRIPT") any_text true, (fills_number, (fills_budget, (fills_from, (fills_help, tt)))))) refl words none in
@@ -270,14 +276,17 @@ each_asks = (
     (
       one_form seq_leaf seq_asks,
       (
-        several_forms run_leaf (λ rows. refl),
+        one_form live_leaf live_asks,
         (
-          one_form serve_leaf serve_asks,
+          several_forms run_leaf (λ rows. refl),
           (
-            several_forms draw_leaf (λ rows. refl),
+            one_form serve_leaf serve_asks,
             (
-              several_forms outcomes_leaf (λ rows. refl),
-              (one_form verify_leaf verify_asks, (several_forms order_leaf (λ rows. refl), (several_forms explain_leaf (λ rows. refl), (one_form bound_leaf bound_asks, tt)))),
+              several_forms draw_leaf (λ rows. refl),
+              (
+                several_forms outcomes_leaf (λ rows. refl),
+                (one_form verify_leaf verify_asks, (several_forms order_leaf (λ rows. refl), (several_forms explain_leaf (λ rows. refl), (one_form bound_leaf bound_asks, tt)))),
+              ),
             ),
           ),
         ),

@@ -80,7 +80,7 @@ pub record SeenRequest : Type 0 where
   pub most : ℕ
   pub calls : Option CallNumbers
 
--- What they ask for: the rules of a module checked; its code listed; the calls of a script made on it; a run's record; the record of the
+-- What they ask for: the rules of a module checked; its code listed; the calls of a script made on it; calls made on it as they come; a run's record; the record of the
 -- same run by the tree of the module; the record with the own steps of its calls beside it; the same of a run that goes on until each call has
 -- ended, and of a run by a schedule of chance; the record of workers' run; a run's picture; that of a record or of a history, and of a history
 -- by a search that is told how to search; what may happen over all runs; the order of a record checked; a legal order of a history; what is
@@ -91,6 +91,7 @@ pub data Request : Type 0 where
   Check : (module_name : Text) → Request
   Listing : (module_name : Text) → Request
   Seq : (sequence : SeqRequest) → Request
+  Live : (calls : CallsRequest) → Request
   Run : (run : RunRequest) → Request
   RunTree : (run : RunRequest) → Request
   RunSteps : (run : RunRequest) → Request
@@ -300,6 +301,20 @@ abbrev pub seq_of : (module_name : Text) → Given → Option Request
 seq_of module_name given =
     option_map (λ calls. Seq (record { calls = calls; state = given.state; turns = given.turns })) (sequence_of module_name given)
 
+-- the name of standard input, from which calls come one by one
+abbrev pub coming_name : Text
+coming_name = codes "-"
+
+-- calls that are made as they come
+abbrev pub live_of : (module_name : Text) → Given → Option Request
+live_of module_name given = Some (Live (record {
+  module_name = module_name;
+  script_name = coming_name;
+  processes = sequence_processes;
+  budget = turns_of given;
+  from_name = given.from_name;
+}))
+
 -- the number of configurations is in its range, where it is given, and a name does not stand beside `--whole`
 abbrev pub are_reached : Given → Bool
 are_reached given = option_map_or is_most given.most true && not (is_some given.always && given.whole)
@@ -499,6 +514,7 @@ commands =
     (codes "check", one_form (λ m given. Some (Check m)))
     ∷ (codes "list", one_form (λ m given. Some (Listing m)))
     ∷ (codes "seq", one_form seq_of)
+    ∷ (codes "live", one_form live_of)
     ∷ (codes "run", run_forms)
     ∷ (codes "serve", one_form (λ m given. option_map Serve (calls_of m given)))
     ∷ (codes "draw", draw_forms)
@@ -693,7 +709,7 @@ clap_request words = request_by (fault_of obl0_app words) (subcommand_of obl0_ap
 -- the names of the commands
 abbrev pub command_names : List Text
 command_names =
-    codes "check" ∷ codes "list" ∷ codes "seq" ∷ codes "run" ∷ codes "serve" ∷ codes "draw"
+    codes "check" ∷ codes "list" ∷ codes "seq" ∷ codes "live" ∷ codes "run" ∷ codes "serve" ∷ codes "draw"
     ∷ codes "outcomes" ∷ codes "verify" ∷ codes "order" ∷ codes "explain" ∷ codes "bound" ∷ []
 
 abbrev pub is_command : Text → Bool

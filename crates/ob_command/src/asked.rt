@@ -1,9 +1,9 @@
 //! What a command asks for, of what is given behind it.
 
-ghost use Rattle.std.specs.Prelude.{◌≡◌, option_map, true};
+ghost use Rattle.std.specs.Prelude.{◌≡◌, Some, option_map, true};
 ghost use Rattle.std.specs.Option.{option_map_or};
 ghost use Rattle.ob_command.specs.CommandLine.{always_of, are_reached, are_seen, asked, asked_by, bound_of, calls_by, calls_of, chance_by};
-ghost use Rattle.ob_command.specs.CommandLine.{chance_of, draw_forms, explain_calls_forms, explain_forms, explain_script_forms, finished_of, history_picture_by, history_picture_of, is_length};
+ghost use Rattle.ob_command.specs.CommandLine.{chance_of, draw_forms, explain_calls_forms, explain_forms, explain_script_forms, finished_of, history_picture_by, history_picture_of, is_length, live_of};
 ghost use Rattle.ob_command.specs.CommandLine.{is_most, is_place, is_seen_budget, order_by, order_of, outcomes_by, outcomes_of, picture_of, product_by, product_of};
 ghost use Rattle.ob_command.specs.CommandLine.{record_picture_of, run_file_forms, run_forms, run_of, run_product, seq_of, sequence_of, turns_of};
 ghost use Rattle.ob_command.specs.Commands.{calls_request_of, chance_request_of, given_by, request_of, run_request_of};
@@ -42,6 +42,9 @@ const GREATEST_PLACE: u16 = 8;
 /// Of how many processes calls may be that are made one at a time.
 const SEQUENCE_PROCESSES: usize = 16;
 
+/// The name of standard input, from which calls come one by one.
+const COMING_NAME: &str = "-";
+
 /// The command of a name on a module, of what is given behind it.
 pub(crate) fn asked<'a>(
     name: &str,
@@ -54,6 +57,7 @@ pub(crate) fn asked<'a>(
         "check" => Some(Command::Check { module_name }),
         "list" => Some(Command::List { module_name }),
         "seq" => seq_of(module_name, given),
+        "live" => Some(live_of(module_name, given)),
         "run" => run_asked(module_name, given),
         "serve" => Some(Command::Serve(calls_of(module_name, given)?)),
         "draw" => draw_asked(module_name, given),
@@ -79,6 +83,20 @@ fn seq_of<'a>(module_name: &'a str, given: &GivenWords<'a>) -> Option<Command<'a
         state: given.state,
         turns: given.turns,
     }))
+}
+
+/// Calls that are made as they come.
+fn live_of<'a>(module_name: &'a str, given: &GivenWords<'a>) -> Command<'a>
+    ensures { Some (request_of result) ≡ live_of module_name.entry.now (given_by given.now) }
+{
+    let from_name = given.from_name;
+    Command::Live(CallsCommand {
+        module_name,
+        script_name: COMING_NAME,
+        processes: SEQUENCE_PROCESSES,
+        budget: turns_of(given),
+        from_name,
+    })
 }
 
 /// What is told of all runs, where what is given goes together.

@@ -28,6 +28,9 @@ pub enum Command<'a> {
     },
     /// `seq MODULE SCRIPT -b BUDGET --from RECORD --state --turns`: the calls of a script on a module, one at a time.
     Seq(SeqCommand<'a>),
+    /// `live MODULE -b BUDGET --from RECORD`: the calls that come from standard input, each answered as it comes. The name of the script
+    /// is that of standard input.
+    Live(CallsCommand<'a>),
     /// `run MODULE SCRIPT SCHEDULE -n N -b BUDGET --from RECORD`: the record of a run.
     Run(RunCommand<'a>),
     /// `run .. --tree`: the record of the same run, by the tree of the module; from no record.

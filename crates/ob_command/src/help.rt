@@ -101,6 +101,7 @@ fn help_of_command(name: &str) -> Option<&'static [&'static str]>
         "check" => Some(&["check", "--help"]),
         "list" => Some(&["list", "--help"]),
         "seq" => Some(&["seq", "--help"]),
+        "live" => Some(&["live", "--help"]),
         "run" => Some(&["run", "--help"]),
         "serve" => Some(&["serve", "--help"]),
         "draw" => Some(&["draw", "--help"]),

@@ -8,9 +8,9 @@ use Rattle.clap.specs.Faults.{check_fault, defaults_fault, walk_fault}
 use Rattle.clap.specs.Simple.{Shape}
 use Rattle.clap.proofs.OnLiterals.{clap_on_literals}
 use Rattle.ob_command.specs.CommandLine.{Check, Given, Listing, Unclear, Verify, Version, asked, asks_version, clap_request, command_of, form_mistake, form_mistake_by, form_mistake_of, given_of, is_option, order_mistake_of, outcomes_mistake_of, request}
-use Rattle.ob_command_laws.specs.PlainForms.{Argument, BySeed, Finishing, Always, WithState, WithTurns, AsWhole, OfLength, AsksWithHistory, AsksWithModule, AsksWithSchedule, AsksWithScript, ArePlain, AsRecord, ByTree, Chosen, Count, Most, OfTraps, Range, Seen, Start, Told, Turns, WithSteps, bound_options, draw_options, explain_options, given_in, given_with_history, id_of, is_chosen, is_plain, order_options, outcomes_options, run_options, seq_options, serve_options, words_of}
+use Rattle.ob_command_laws.specs.PlainForms.{Argument, BySeed, Finishing, Always, WithState, WithTurns, AsWhole, OfLength, AsksWithHistory, AsksWithModule, AsksWithSchedule, AsksWithScript, ArePlain, AsRecord, ByTree, Chosen, Count, Most, OfTraps, Range, Seen, Start, Told, Turns, WithSteps, bound_options, draw_options, explain_options, given_in, given_with_history, id_of, is_chosen, is_plain, live_options, order_options, outcomes_options, run_options, seq_options, serve_options, words_of}
 use Rattle.ob_command_laws.proofs.AskedWords.{clap_asked, clap_met, start}
-use Rattle.ob_command.proofs.BuiltLine.{bound_leaf, built_always, built_budget, built_by, built_calls, built_from, built_help, built_history, built_length, built_most, built_name, built_number, built_record, built_seed, draw_leaf, explain_leaf, leaf, module_leaf, name_row, needed, order_leaf, outcomes_leaf, run_leaf, seq_leaf, serve_leaf, verify_leaf}
+use Rattle.ob_command.proofs.BuiltLine.{bound_leaf, built_always, built_budget, built_by, built_calls, built_from, built_help, built_history, built_length, built_most, built_name, built_number, built_record, built_seed, draw_leaf, explain_leaf, leaf, live_leaf, module_leaf, name_row, needed, order_leaf, outcomes_leaf, run_leaf, seq_leaf, serve_leaf, verify_leaf}
 use Rattle.ob_command_laws.proofs.ChosenWords.{AllFresh, Moves, Standing, all_move, always_moves, argument_moves, count_moves, finish_moves, length_moves, most_moves, range_moves, record_moves, row_of, seed_moves, seen_moves, start_moves, state_moves, steps_moves, told_moves, traps_moves, tree_moves, turns_moves, turns_word_moves, whole_moves}
 use Rattle.ob_command_laws.proofs.OptionRows.{EachQuiet, EachThere, Quiet, counted_there, each_stays, given_alone, given_history, given_schedule, given_script, given_stays, module_stays, no_default_fault, none_lacks, quiet_as_record, quiet_finish, quiet_plain, quiet_state, quiet_steps, quiet_traps, quiet_tree, quiet_turns, quiet_whole}
 use Rattle.ob_command_laws.proofs.PlainWords.{by_clap}
@@ -57,6 +57,9 @@ quiet_number t = quiet_plain (needed t built_number) refl
 
 quiet_seq : EachQuiet seq_leaf.rules
 quiet_seq = (quiet_file 1 (codes "MODULE") true, (quiet_file 2 (codes "SCRIPT") true, (plain built_budget refl, (plain built_from refl, (quiet_state, (quiet_turns, (plain built_help refl, tt)))))))
+
+quiet_live : EachQuiet live_leaf.rules
+quiet_live = (quiet_file 1 (codes "MODULE") true, (plain built_budget refl, (plain built_from refl, (plain built_help refl, tt))))
 
 quiet_serve : EachQuiet serve_leaf.rules
 quiet_serve = (quiet_file 1 (codes "MODULE") true, (quiet_file 2 (codes "SCRIPT") true, (quiet_number true, (plain built_budget refl, (plain built_from refl, (plain built_help refl, tt))))))
@@ -194,6 +197,29 @@ seq_moves (Always a) known plain = cc
 seq_moves WithState known plain = state_moves seq_leaf (record { turn = λ h p k. refl; walk = λ h p k. refl })
 seq_moves WithTurns known plain = turns_word_moves seq_leaf (record { turn = λ h p k. refl; walk = λ h p k. refl })
 seq_moves AsWhole known plain = cc
+
+live_moves : (one : Chosen) → list_any (bytes_eq (id_of one)) live_options ≡ true → is_plain one ≡ true → Moves live_leaf one
+unfolding clap_on_literals
+live_moves (Count n) known plain = cc
+live_moves (Turns true b) known plain = turns_moves live_leaf true (record { turn = λ h p k. refl; walk = λ h p k. refl; push = λ v h k. refl; fault = λ v h. refl; uses = λ v h. refl }) b plain
+live_moves (Turns false b) known plain = turns_moves live_leaf false (record { turn = λ h p k. refl; walk = λ h p k. refl; push = λ v h k. refl; fault = λ v h. refl; uses = λ v h. refl }) b plain
+live_moves (Most k) known plain = cc
+live_moves (Argument n) known plain = cc
+live_moves (Start f) known plain = start_moves live_leaf (record { turn = λ h p k. refl; walk = λ h p k. refl; push = λ v h k. refl; fault = λ v h. refl; uses = λ v h. refl }) f plain
+live_moves (Range c) known plain = cc
+live_moves (Told r) known plain = cc
+live_moves (Seen h) known plain = cc
+live_moves ByTree known plain = cc
+live_moves WithSteps known plain = cc
+live_moves OfTraps known plain = cc
+live_moves AsRecord known plain = cc
+live_moves (BySeed v) known plain = cc
+live_moves (OfLength j) known plain = cc
+live_moves Finishing known plain = cc
+live_moves (Always a) known plain = cc
+live_moves WithState known plain = cc
+live_moves WithTurns known plain = cc
+live_moves AsWhole known plain = cc
 
 run_moves : (one : Chosen) → list_any (bytes_eq (id_of one)) run_options ≡ true → is_plain one ≡ true → Moves run_leaf one
 unfolding clap_on_literals
@@ -444,6 +470,19 @@ pub list_asked : (m : Text) → is_option m ≡ false → request (codes "list" 
 unfolding clap_on_literals
 list_asked m no_m =
     by_clap (codes "list") m no_m ∙ clap_asked (codes "list") (module_leaf (codes "list")) refl refl refl (m ∷ []) _ (check_alone (codes "list") m no_m)
+
+pub live_asks : AsksWithModule (codes "live") false live_options
+unfolding clap_on_literals
+live_asks m chosen no_m plain counted =
+    let kept = name_row (codes "MODULE") m ∷ map row_of chosen in
+    let rows = fold with_default kept live_leaf.rules in
+    by_options (codes "live") m chosen no_m
+    ∙ (clap_asked (codes "live") live_leaf refl refl refl (m ∷ words_of chosen) rows
+    (named live_leaf [] None 1 m no_m refl _ refl (words_of chosen) rows
+    (all_move live_leaf live_options live_moves chosen plain ([]) (Some (codes "MODULE", m ∷ [])) 2
+    (name_row (codes "MODULE") m ∷ []) (record { no_fault = refl; settles = refl }) (fresh_module m chosen) rows
+    (ended (codes "live") live_leaf.rules quiet_live kept (λ e. refl, (λ e. cc, (λ e. cc, (λ e. cc, tt)))) 2)))
+    ∙ answered (codes "live") live_leaf.rules quiet_live m kept (given_in None None chosen) refl (given_alone live_options chosen plain))
 
 pub bound_asks : AsksWithModule (codes "bound") true bound_options
 unfolding clap_on_literals

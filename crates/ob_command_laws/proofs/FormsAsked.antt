@@ -3,13 +3,13 @@ use Rattle.std.proofs.Common.{◌≡◌, ◌∙◌, ◌||◌, ◌&&◌, ◌⊎�
 use Rattle.std.specs.Option.{option_map_or}
 use Rattle.std.specs.Str.{bytes_eq}
 use Rattle.clap.specs.Walk.{Text}
-use Rattle.ob_command.specs.CommandLine.{Bound, CallsRequest, ChanceRequest, Draw, DrawHistory, DrawRecord, Explain, ExplainAlways, ExplainCalls, ExplainHistory, ExplainRecord, ExplainRun, ExplainTraps, Given, Order, Outcomes, OutcomesRequest, Request, Run, RunByChance, RunFinished, RunRequest, RunSteps, RunTree, SeenRequest, Seq, Serve, Unclear, are_reached, are_seen, asked, budget_number, default_budget, default_length, default_most, default_most_reached, is_length, is_most, is_place, is_seen_budget, most_mistake, number, order_by, outcomes_by, parts_mistake, place_mistake, product_by, range_by, run_product, seed_number, seen_budget_mistake, whole_mistake}
-use Rattle.ob_command_laws.specs.PlainForms.{AreInRange, ArePlain, Argument, AsRecord, BySeed, ByTree, Chosen, Count, Finishing, Always, WithState, WithTurns, AsWhole, Has, IsLength, IsMost, IsPlace, IsSeenBudget, Lacks, ModuleAsksFor, Most, NamesBesideWhole, OfLength, OfTraps, Range, RunAsksFor, SaysSearch, ScriptAsksFor, ScriptSays, Seen, Start, Told, Turns, WithSteps, always_with, argument_in, bound_options, budget_in, calls_with, chance_with, count_in, draw_options, explain_options, given_in, given_with_history, id_of, is_chosen, length_in, most_in, order_options, order_with, outcomes_options, outcomes_with, product_in, run_options, seed_in, seen_with, seq_options, seq_with, serve_options, text_of, turns_in, value_in}
+use Rattle.ob_command.specs.CommandLine.{Bound, CallsRequest, ChanceRequest, Draw, DrawHistory, DrawRecord, Explain, ExplainAlways, ExplainCalls, ExplainHistory, ExplainRecord, ExplainRun, ExplainTraps, Given, Live, Order, Outcomes, OutcomesRequest, Request, Run, RunByChance, RunFinished, RunRequest, RunSteps, RunTree, SeenRequest, Seq, Serve, Unclear, are_reached, are_seen, asked, budget_number, default_budget, default_length, default_most, default_most_reached, is_length, is_most, is_place, is_seen_budget, most_mistake, number, order_by, outcomes_by, parts_mistake, place_mistake, product_by, range_by, run_product, seed_number, seen_budget_mistake, whole_mistake}
+use Rattle.ob_command_laws.specs.PlainForms.{AreInRange, ArePlain, Argument, AsRecord, BySeed, ByTree, Chosen, Count, Finishing, Always, WithState, WithTurns, AsWhole, Has, IsLength, IsMost, IsPlace, IsSeenBudget, Lacks, ModuleAsksFor, Most, NamesBesideWhole, OfLength, OfTraps, Range, RunAsksFor, SaysSearch, ScriptAsksFor, ScriptSays, Seen, Start, Told, Turns, WithSteps, always_with, argument_in, bound_options, budget_in, calls_with, chance_with, count_in, draw_options, explain_options, given_in, given_with_history, id_of, is_chosen, length_in, live_options, most_in, order_options, order_with, outcomes_options, outcomes_with, product_in, run_options, seed_in, seen_with, seq_options, seq_with, serve_options, text_of, turns_in, value_in}
 use Rattle.ob_command.specs.declared.command.CallNumbers.{CallNumbers}
 use Rattle.ob_command.specs.declared.command.OrderProduct.{OrderProduct}
 use Rattle.ob_command.specs.declared.command.RunProduct.{RunProduct}
 use Rattle.ob_command.specs.declared.command.OrderProduct.TheVariants.{Apart, Line, WholeRecord}
-use Rattle.ob_command_laws.proofs.CommandForms.{bound_asks, draw_schedule_asks, draw_script_asks, explain_module_asks, explain_schedule_asks, explain_script_asks, order_asks, order_said, outcomes_asks, outcomes_said, run_asks, run_script_asks, seq_asks, serve_asks}
+use Rattle.ob_command_laws.proofs.CommandForms.{bound_asks, draw_schedule_asks, draw_script_asks, explain_module_asks, explain_schedule_asks, explain_script_asks, live_asks, order_asks, order_said, outcomes_asks, outcomes_said, run_asks, run_script_asks, seq_asks, serve_asks}
 use Rattle.ob_command_laws.proofs.OptionRows.{given_as}
 
 -- ---- options that are there, and that are not
@@ -347,6 +347,9 @@ outcomes_whole_said m s chosen no_m no_s plain holds = (
       (ap₂ (λ (t u : Bool). t && u) (a_value (codes "NAME") chosen holds.2.0) holds.2.1)),
   outcomes_said m s chosen no_m no_s plain holds.0 ∙ ap (λ (t : Bool). Some (if t then whole_mistake else most_mistake)) holds.1,
 )
+
+pub live_form : ModuleAsksFor (codes "live") live_options (Lacks []) (λ m chosen. Live (calls_with m (codes "-") 16 chosen))
+live_form m chosen no_m plain lacks = live_asks m chosen no_m plain (not_needed chosen)
 
 pub bound_form : (k : ℕ) → ModuleAsksFor (codes "bound") bound_options (λ chosen. count_in chosen ≡ Some k) (λ m chosen. Bound m k (turns_in chosen))
 bound_form k m chosen no_m plain count = bound_asks m chosen no_m plain (λ e. counted chosen k count) ∙ bounded m [] [] (told chosen) (seen chosen) (begun chosen) (shown chosen) (named chosen) (count_in chosen) (spent chosen) (looked chosen) (parted chosen) (recorded chosen) (treed chosen) (stepped chosen) (trapped chosen) (seeded chosen) (lengthened chosen) (ended chosen) (stated chosen) (timed chosen) (wholly chosen) k count

@@ -140,6 +140,9 @@ ArePlain names (chosen ∷ others) = (list_any (bytes_eq (id_of chosen)) names �
 abbrev pub seq_options : List Text
 seq_options = codes "BUDGET" ∷ codes "FROM" ∷ codes "state" ∷ codes "turns" ∷ []
 
+abbrev pub live_options : List Text
+live_options = codes "BUDGET" ∷ codes "FROM" ∷ []
+
 abbrev pub run_options : List Text
 run_options = codes "N" ∷ codes "BUDGET" ∷ codes "FROM" ∷ codes "tree" ∷ codes "steps" ∷ codes "S" ∷ codes "LENGTH" ∷ codes "finish" ∷ []
 

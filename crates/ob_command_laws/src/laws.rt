@@ -4,7 +4,7 @@ ghost use Rattle.std.specs.Prelude.{◌≡◌, ◌⊎◌, ℕ, List, Option, Som
 ghost use Rattle.clap.specs.Words.{fault_of};
 ghost use Rattle.ob_command_line.specs.ClapCommand.{obl0_app};
 ghost use Rattle.ob_command.specs.CommandLine.{Bound, Check, Draw, DrawHistory, DrawRecord, Explain, ExplainAlways, ExplainCalls};
-ghost use Rattle.ob_command.specs.CommandLine.{ExplainHistory, ExplainRecord, ExplainRun, ExplainTraps, Help, Listing, Order, Outcomes, Run, RunByChance, RunFinished, RunSteps, RunTree, Seq};
+ghost use Rattle.ob_command.specs.CommandLine.{ExplainHistory, ExplainRecord, ExplainRun, ExplainTraps, Help, Listing, Live, Order, Outcomes, Run, RunByChance, RunFinished, RunSteps, RunTree, Seq};
 ghost use Rattle.ob_command.specs.CommandLine.{Serve, Text, Unclear, Verify};
 ghost use Rattle.ob_command.specs.CommandLine.{Version, asks_command, command_names, form_mistake_of, is_option, most_mistake, parts_mistake};
 ghost use Rattle.ob_command.specs.CommandLine.{place_mistake, range_by, request, seen_budget_mistake, whole_mistake};
@@ -12,7 +12,7 @@ ghost use Rattle.ob_command_laws.specs.PlainForms.{AreInRange, AsksWithHistory, 
 ghost use Rattle.ob_command_laws.specs.PlainForms.{IsLength, IsMost, IsPlace, IsSeenBudget, IsVersionAsked, Lacks, ModuleAsksFor, NamesBesideWhole};
 ghost use Rattle.ob_command_laws.specs.PlainForms.{RunAsksFor, SaysSearch, ScriptAsksFor};
 ghost use Rattle.ob_command_laws.specs.PlainForms.{ScriptSays, always_with, argument_in, bound_options, calls_with, chance_with, count_in, draw_options};
-ghost use Rattle.ob_command_laws.specs.PlainForms.{explain_options, order_options, order_with, outcomes_options, outcomes_with, product_in, run_options};
+ghost use Rattle.ob_command_laws.specs.PlainForms.{explain_options, live_options, order_options, order_with, outcomes_options, outcomes_with, product_in, run_options};
 ghost use Rattle.ob_command_laws.specs.PlainForms.{seed_in, seen_with, seq_options, seq_with, serve_options};
 ghost use Rattle.ob_command_laws.specs.PlainForms.{turns_in, value_in};
 ghost use Rattle.ob_command.specs.declared.command.CallNumbers.{CallNumbers};
@@ -33,6 +33,12 @@ pub fn list_is_asked()
 pub fn seq_is_asked()
     ensures table { AsksWithScript (codes "seq") false seq_options }
     ensures calls { ScriptAsksFor (codes "seq") seq_options (Lacks []) (λ m s chosen. Seq (seq_with m s chosen)) }
+{}
+
+/// `live` and a name that is no option, and its options in any order.
+pub fn live_is_asked()
+    ensures table { AsksWithModule (codes "live") false live_options }
+    ensures calls { ModuleAsksFor (codes "live") live_options (Lacks []) (λ m chosen. Live (calls_with m (codes "-") 16 chosen)) }
 {}
 
 /// `run` and three names that are no options, or two, and its options in any order.

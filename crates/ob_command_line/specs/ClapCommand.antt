@@ -98,6 +98,10 @@ abbrev pub seq_app : Text → App
 seq_app command = command_app command (name_rule (codes "MODULE") ∷ name_rule (codes "SCRIPT") ∷ budget_rule ∷ from_rule
     ∷ flag_rule (codes "state") ∷ flag_rule (codes "turns") ∷ [])
 
+-- `MODULE -b BUDGET --from RECORD`
+abbrev pub live_app : Text → App
+live_app command = command_app command (name_rule (codes "MODULE") ∷ budget_rule ∷ from_rule ∷ [])
+
 -- `MODULE SCRIPT -n N -b BUDGET --from RECORD`, with which those of `outcomes` begin too
 abbrev pub serve_app : Text → App
 serve_app command = command_app command (name_rule (codes "MODULE") ∷ name_rule (codes "SCRIPT") ∷ number_rule ∷ budget_rule ∷ from_rule ∷ [])
@@ -164,10 +168,10 @@ top_app = record { top = top_shape; subs = [] }
 abbrev pub with_command : App → App → App
 with_command app command = with_subcommand app command.top
 
--- those that make no calls of a script, or one at a time; that make a run, or all runs; that look at a record or a history; and that tell of
+-- those that make no calls, or one at a time; that make a run, or all runs; that look at a record or a history; and that tell of
 -- a module
 abbrev pub module_apps : List App
-module_apps = module_app (codes "check") ∷ module_app (codes "list") ∷ seq_app (codes "seq") ∷ []
+module_apps = module_app (codes "check") ∷ module_app (codes "list") ∷ seq_app (codes "seq") ∷ live_app (codes "live") ∷ []
 
 abbrev pub run_apps : List App
 run_apps = run_app (codes "run") ∷ serve_app (codes "serve") ∷ draw_app (codes "draw") ∷ outcomes_app (codes "outcomes") ∷ []

@@ -6,8 +6,8 @@ ghost use Rattle.clap.specs.declared.builder.command.Command.TheViews.{out-Comma
 ghost use Rattle.ob_command_line.specs.ClapCommand.{module_apps, obl0_app, record_apps, run_apps, telling_apps, top_app, with_command, with_commands};
 
 use crate::lines::{
-    bound_line, draw_line, explain_line, module_line, order_line, outcomes_line, record_line,
-    run_line, seq_line, serve_line,
+    bound_line, draw_line, explain_line, live_line, module_line, order_line, outcomes_line,
+    record_line, run_line, seq_line, serve_line,
 };
 use std::alloc::{AllocError, Global};
 
@@ -21,6 +21,9 @@ Shares a module of Oberon-0 among processes, none of which waits for another.
   Explore:  `outcomes` tells all that may happen, whatever the schedule, and `draw` shows a run.";
 
 const ABOUT_SEQ: &str = "Makes the calls of a script one at a time and prints the reply to each";
+
+const ABOUT_LIVE: &str =
+    "Reads calls from standard input, answers each as soon as its line is there, and ends with the record";
 
 const ABOUT_RUN: &str =
     "Makes the calls of a script by the steps of a schedule, or of one by chance, and prints the record of the run";
@@ -50,6 +53,8 @@ const USAGE_CHECK: &str = "obl0 check MODULE";
 const USAGE_LIST: &str = "obl0 list MODULE";
 
 const USAGE_SEQ: &str = "obl0 seq MODULE SCRIPT [-b BUDGET] [--from RECORD] [--state] [--turns]";
+
+const USAGE_LIVE: &str = "obl0 live MODULE [-b BUDGET] [--from RECORD]";
 
 const USAGE_RUN: &str = "\
 obl0 run MODULE SCRIPT SCHEDULE -n N [--finish] [-b BUDGET] [--from RECORD] [--steps]
@@ -103,7 +108,7 @@ pub fn command_line<'a>(alloc: Global) -> Result<clap::Command<'a>, AllocError>
 
 type Line<'a> = Result<clap::Command<'a>, AllocError>;
 
-/// The command line with the commands that make no calls of a script, or one at a time.
+/// The command line with the commands that make no calls, or one at a time.
 fn with_module_commands<'a>(alloc: Global, program: Line<'a>) -> Line<'a>
     ensures { (a : App) → IfOk program.entry (λ c. app_of c ≡ a) → IfOk result (λ c. app_of c ≡ with_commands a module_apps) }
 {
@@ -111,7 +116,8 @@ fn with_module_commands<'a>(alloc: Global, program: Line<'a>) -> Line<'a>
     let program = with_command(program, USAGE_CHECK, check);
     let list = module_line(alloc, "list", "Prints the code of a module");
     let program = with_command(program, USAGE_LIST, list);
-    with_command(program, USAGE_SEQ, seq_line(alloc, "seq", ABOUT_SEQ))
+    let program = with_command(program, USAGE_SEQ, seq_line(alloc, "seq", ABOUT_SEQ));
+    with_command(program, USAGE_LIVE, live_line(alloc, "live", ABOUT_LIVE))
 }
 
 /// The command line with the commands that make a run, or all runs.

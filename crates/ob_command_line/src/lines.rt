@@ -3,7 +3,7 @@
 ghost use Rattle.std.specs.Prelude.{◌≡◌, false, IfOk, IsOkAnd};
 ghost use Rattle.clap.specs.Words.{app_of, rule_of, with_rule};
 ghost use Rattle.clap.specs.declared.builder.command.Command.TheViews.{out-Command as fields_of};
-ghost use Rattle.ob_command_line.specs.ClapCommand.{bound_app, draw_app, drawn_app, explain_app, files_app, module_app, order_app, outcomes_app};
+ghost use Rattle.ob_command_line.specs.ClapCommand.{bound_app, draw_app, drawn_app, explain_app, files_app, live_app, module_app, order_app, outcomes_app};
 ghost use Rattle.ob_command_line.specs.ClapCommand.{record_app, run_app, schedule_app, search_app, seq_app, sequence_app, serve_app, texts_app};
 ghost use Rattle.ob_command_line.specs.ClapCommand.{told_run_app};
 
@@ -194,6 +194,20 @@ pub fn sequence_line<'a>(
 {
     let line = module_line(alloc, command, about);
     let line = with_arg(line, file_name(alloc, "SCRIPT", HELP_SCRIPT));
+    let line = with_arg(line, call_budget(alloc));
+    with_arg(line, first_record(alloc))
+}
+
+/// The words behind a command that makes calls on a module as they come.
+pub fn live_line<'a>(
+    alloc: Global,
+    command: &'a str,
+    about: &'a str,
+) -> Result<clap::Command<'a>, AllocError>
+    ensures app { IfOk result (λ c. app_of c ≡ live_app command.entry.now) }
+    ensures local { IfOk result (λ c. (fields_of c).has_globals ≡ false) }
+{
+    let line = module_line(alloc, command, about);
     let line = with_arg(line, call_budget(alloc));
     with_arg(line, first_record(alloc))
 }

@@ -6,7 +6,7 @@ use Rattle.std.specs.List.{after_first, before_first, list_all, starts_with}
 use Rattle.std.specs.Str.{bytes_eq}
 use Rattle.std.specs.declared.io.ErrorKind.{ErrorKind}
 use Rattle.std.specs.declared.io.ErrorKind.TheVariants as Kind
-use Rattle.ob_command.specs.CommandLine.{Text, CallsRequest, OrderRequest, OutcomesRequest, Request, RunRequest, SeenRequest, Check, Listing, Seq, Run, RunTree, RunSteps, RunFinished, RunByChance, Serve, Draw, DrawRecord, DrawHistory, Outcomes, Verify, Order}
+use Rattle.ob_command.specs.CommandLine.{Text, CallsRequest, OrderRequest, OutcomesRequest, Request, RunRequest, SeenRequest, Check, Listing, Seq, Live, Run, RunTree, RunSteps, RunFinished, RunByChance, Serve, Draw, DrawRecord, DrawHistory, Outcomes, Verify, Order}
 use Rattle.ob_command.specs.CommandLine.{Explain, ExplainAlways, ExplainCalls, ExplainTraps, ExplainRun, ExplainRecord, ExplainHistory, Bound, default_budget, default_most, default_most_reached}
 use Rattle.ob_command.specs.declared.command.OrderProduct.{OrderProduct}
 use Rattle.ob_command.specs.declared.command.RunProduct.{RunProduct}
@@ -173,6 +173,7 @@ form_about (Check module_name) line = module_form module_name
 form_about (Listing module_name) line = module_form module_name
 form_about (Bound module_name processes budget) line = module_form module_name
 form_about (Seq sequence) line = calls_form sequence.calls
+form_about (Live calls) line = module_form calls.module_name
 form_about (Run run) line = run_form run
 form_about (RunTree run) line = tree_form run line
 form_about (RunSteps run) line = run_form run

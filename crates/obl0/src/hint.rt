@@ -250,6 +250,7 @@ fn form_about(alloc: Global, command: Command<'_>, line: &[u8]) -> Result<String
         Command::List { module_name } => module_form(alloc, module_name),
         Command::Bound { module_name, .. } => module_form(alloc, module_name),
         Command::Seq(sequence) => calls_form(alloc, sequence.calls),
+        Command::Live(calls) => module_form(alloc, calls.module_name),
         Command::Run(run) => run_form(alloc, run),
         Command::RunTree(run) => tree_form(alloc, run, line),
         Command::RunSteps(run) => run_form(alloc, run),

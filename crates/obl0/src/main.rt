@@ -14,13 +14,16 @@ use crossbeam_channel::{Receiver, RecvTimeoutError, Sender, unbounded};
 use files::HostFiles;
 use hint::{is_run, more_of};
 use ob_answer::answer::{INPUT_NAME, answer};
+use ob_answer::live::answer_live;
 use ob_answer_files::answered::Answer;
+use ob_answer_files::reading::unreadable;
 use ob_call_counts::line::counts_line;
-use ob_command::command::{Command, read_command};
+use ob_command::command::{CallsCommand, Command, read_command};
 use ob_device::{Counted, emit};
+use ob_object_live::{Pipe, TalkFault};
 use refusal::{Refusal, refusal_of_words};
 use std::alloc::Global;
-use std::io::IsTerminal;
+use std::io::{BufReader, IsTerminal};
 use std::process::ExitCode;
 use std::random::RandomSource;
 use std::rt::{Env, Files};
@@ -35,6 +38,9 @@ const STACK: usize = 8 * 1024 * 1024;
 
 /// How many seconds the work may take before a terminal is told that it goes on.
 const PATIENCE: u64 = 1;
+
+/// The command that answers calls as they come.
+const LIVE: &str = "live";
 
 /// What a terminal is told then.
 const WORKING: &str = "working ..\n";
@@ -106,10 +112,10 @@ fn given_words<R: Env + AllocGlobal>(rt: &R) -> Result<Vec<String>, Refusal> {
     Ok(given)
 }
 
-/// Whether a word names standard input, at which somebody may be typing for as long as they like.
+/// Whether a word names standard input, or the command that reads calls from it: somebody may be typing there for as long as they like.
 fn reads_input<R: Env + AllocGlobal>(rt: &R) -> bool {
     match env::args(rt) {
-        Ok(mut words) => words.any(|word| word.as_str() == INPUT_NAME),
+        Ok(mut words) => words.any(|word| word.as_str() == INPUT_NAME || word.as_str() == LIVE),
         Err(_) => false,
     }
 }
@@ -166,7 +172,7 @@ fn told<R: Eprint>(rt: &R, refusal: Refusal) -> u8
 }
 
 /// What comes of the words of the command line. Whoever waits for the work has no more to tell where the sender is gone.
-fn work<R: Env + Files + Input + AllocGlobal + Threads + Wait + Sync + RandomSource>(
+fn work<R: Env + Files + Input + Print + AllocGlobal + Threads + Wait + Sync + RandomSource>(
     rt: &R,
     working: Sender<(), Global>,
 ) -> Result<Outcome, Refusal> {
@@ -176,7 +182,7 @@ fn work<R: Env + Files + Input + AllocGlobal + Threads + Wait + Sync + RandomSou
 }
 
 /// What comes of the words of the command line.
-fn answered<R: Env + Files + Input + AllocGlobal + Threads + Wait + Sync + RandomSource>(
+fn answered<R: Env + Files + Input + Print + AllocGlobal + Threads + Wait + Sync + RandomSource>(
     rt: &R,
 ) -> Result<Outcome, Refusal> {
     let given = given_words(rt)?;
@@ -185,13 +191,18 @@ fn answered<R: Env + Files + Input + AllocGlobal + Threads + Wait + Sync + Rando
 }
 
 /// What comes of words.
-fn obeyed<R: Files + Input + AllocGlobal + Threads + Wait + Sync + RandomSource>(
+fn obeyed<R: Files + Input + Print + AllocGlobal + Threads + Wait + Sync + RandomSource>(
     rt: &R,
     words: &[&str],
 ) -> Result<Outcome, Refusal>
     // Want of memory is never told as a mistake in the words.
     ensures { IfErr result (λ refusal. refusal ≢ Refusal.Words) }
 {
+    if words.first().copied() == Some(LIVE) {
+        if let Ok(Command::Live(calls)) = read_command(rt.alloc(), words) {
+            return lived(rt, calls);
+        }
+    }
     let mut files = HostFiles {
         rt,
         refusal: None,
@@ -203,6 +214,43 @@ fn obeyed<R: Files + Input + AllocGlobal + Threads + Wait + Sync + RandomSource>
         answer,
         refusal: files.refusal,
         calls: files.calls,
+    })
+}
+
+/// What comes of calls that are answered as they come. They are answered here, so that of them nothing is left to print.
+fn lived<R: Files + Input + Print + AllocGlobal>(
+    rt: &R,
+    calls: CallsCommand<'_>,
+) -> Result<Outcome, Refusal>
+    ensures { IfErr result (λ refusal. refusal ≢ Refusal.Words) }
+{
+    let alloc = rt.alloc();
+    let mut files = HostFiles {
+        rt,
+        refusal: None,
+        counts: false,
+        calls: None,
+    };
+    let Ok(reader) = BufReader::new(alloc, rt.reader()) else {
+        return Err(Refusal::NoMemory);
+    };
+    let mut pipe = Pipe {
+        reader,
+        writer: io::writer(rt),
+    };
+    let answer = match answer_live(alloc, calls, &mut files, &mut pipe) {
+        Ok(answer) => answer,
+        Err(TalkFault::Input(kind)) => {
+            files.refusal = Some(kind);
+            unreadable(alloc, INPUT_NAME)?
+        }
+        Err(TalkFault::Output) => return Err(Refusal::Output),
+        Err(TalkFault::NoMemory) => return Err(Refusal::NoMemory),
+    };
+    Ok(Outcome {
+        answer,
+        refusal: files.refusal,
+        calls: None,
     })
 }
 

@@ -1,4 +1,4 @@
-use Rattle.std.proofs.Common.{IfOk, Option, subst}
+use Rattle.std.proofs.Common.{IfOk, Option, refl, subst}
 use Rattle.std.proofs.lemmas.Result.{IfOk-weaker}
 use Rattle.ob_answer.specs.AllRuns.{AllRuns}
 use Rattle.ob_answer.specs.Answers.{IsAllRunsObeyed, IsCallsObeyed, IsRunObeyed}
@@ -20,6 +20,9 @@ returns-in-Seq g c =
     rw c.in-Seq.is
     (subst (λ (p : CallsProduct). IfOk c.obey_calls.result (λ a. IsCallsObeyed g.F.Files.reads p request.calls c.args.files.now a c.obey_calls.new.files))
     c.product_of.ensures c.obey_calls.ensures)
+
+pub returns-in-Live : goal.returns-in-Live
+returns-in-Live g c = rw c.in-Live.is (IfOk-weaker c.live_apart.result _ _ (λ a h. (h, refl)) c.live_apart.ensures)
 
 pub returns-in-Run : goal.returns-in-Run
 returns-in-Run g c = rw c.in-Run.is c.obey_run.ensures

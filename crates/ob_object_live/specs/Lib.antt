@@ -1,0 +1,5 @@
+pub mod LiveParts
+pub mod LiveRuns
+pub mod Living
+pub mod Pipes
+pub mod Talks

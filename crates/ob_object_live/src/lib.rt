@@ -1,0 +1,20 @@
+//! The object of a module's text that is called as calls come: each line of calls is answered before the next one is heard, and behind the last
+//! one the record of all calls is told.
+//!
+//! One may rely on the clauses of `live_object` and `live_talk`, which are in the words of `specs/LiveRuns.antt`, and of `Pipe`, a
+//! conversation over a reader and a writer, in those of `specs/Pipes.antt`.
+#![tactic(auto)]
+
+pub mod asked;
+#[cfg(test)]
+mod tests;
+mod calls;
+pub mod conversation;
+pub mod live;
+pub mod parts;
+pub mod record;
+pub mod talking;
+
+pub use asked::{live_object, live_talk};
+pub use conversation::{Conversation, Pipe, TalkFault};
+pub use parts::{Ground, Live, Told};
