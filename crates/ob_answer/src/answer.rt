@@ -142,6 +142,7 @@ fn reads_input_twice(command: Command<'_>) -> bool
         Command::RunFinished { run, .. } => are_inputs_of_run(run),
         Command::RunByChance { run, .. } => are_inputs_of_calls(run.calls),
         Command::Draw { run, .. } => are_inputs_of_run(run),
+        Command::State(run) => are_inputs_of_run(run),
         Command::DrawRecord {
             module_name,
             record_name,
@@ -224,6 +225,7 @@ fn obey<K: RandomSource, F: Files>(
         Command::RunFinished { product, run } => obey_finished(alloc, product, run, files),
         Command::RunByChance { product, run } => obey_chance(alloc, product, run, files),
         Command::Serve(_) => unreachable!(),
+        Command::State(run) => obey_run(alloc, Product::State, run, files),
         Command::Draw { run, calls } => {
             obey_run(alloc, Product::Picture(range_of(calls)), run, files)
         }
