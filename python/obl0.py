@@ -1,8 +1,8 @@
 """Modules of Oberon-0 as objects that several processes share: what the program `obl0` answers, for Python.
 
 A module is the text of one-thread code, a script one of calls, a schedule one of who steps, a record one of what a run showed, and a
-history one of what somebody saw of any object: each is a str, or bytes of UTF-8. `check`, `seq`, `run`, `verify`, `order`, `draw`,
-`explain` and `bound` answer as the commands of these names do; `answer` takes any words of the command line but `serve`, and any files.
+history one of what somebody saw of any object: each is a str, or bytes of UTF-8. `check`, `seq`, `run`, `state`, `verify`, `order`,
+`draw`, `explain` and `bound` answer as the commands of these names do; `answer` takes any words of the command line but `serve`, and any files.
 
     import obl0
     module = open("examples/counter.mod").read()
@@ -32,8 +32,8 @@ Text = Union[str, bytes]
 Value = Union[int, bool, List[Any], Dict[str, Any]]
 
 __all__ = [
-    "Answer", "Event", "Fault", "History", "Object", "Record", "Trap", "answer", "bound", "check", "draw", "explain", "order", "run", "seq",
-    "verify",
+    "Answer", "Event", "Fault", "History", "Object", "Process", "Record", "State", "Trap", "answer", "bound", "check", "draw", "explain", "order",
+    "run", "seq", "state", "verify",
 ]
 
 MEMORY = 4
@@ -215,6 +215,84 @@ def run(
     words += [*_option("--seed", seed), *_option("--length", length), *_option("-b", turns), *(["--finish"] if finish else [])]
     given = _printed(words, files)
     return _record(given.out.decode(), given.err.decode())
+
+
+@dataclass(frozen=True)
+class Process:
+    """Where a process stands, and what it uses there."""
+
+    label: str
+    begun: int
+    """How many calls of its script have begun."""
+    calls: int
+    """How many there are."""
+    linked: bool
+    """Whether nobody has stored since it linked the root."""
+    uses: Dict[str, Union[int, List[int]]]
+    """Of `round`, `r`, `acc`, `i`, `j` and `status` the numbers, and of `list`, `save` and `replies` the words, that are used at the label."""
+    announced: List[int]
+    """The words of its announcement."""
+    toggle: int
+    """The toggle of its announcement."""
+    block: int
+    """The number of its own block."""
+
+
+@dataclass(frozen=True)
+class State:
+    """Where the machine stands behind a run."""
+
+    text: str
+    """The state as it is printed."""
+    processes: List[Process]
+    root: int
+    """The number of the root's block."""
+    blocks: Dict[int, List[List[int]]] = field(repr=False)
+    """Each block by its number: the words of the variables, and then for each process status, values and toggle."""
+
+    def __str__(self) -> str:
+        return self.text
+
+
+def _used(words: List[str]) -> Dict[str, Union[int, List[int]]]:
+    """Names, each with the numbers behind it."""
+    found: Dict[str, List[int]] = {}
+    for word in words:
+        if word.isalpha():
+            found[word] = numbers = []
+        else:
+            numbers.append(int(word))
+    return {name: it if name in ("list", "save", "replies") else it[0] for name, it in found.items()}
+
+
+def _state(text: str) -> State:
+    lines = [line.split() for line in text.splitlines()]
+    of_kind = lambda kind: [words[1:] for words in lines if words[0] == kind]
+    parts = lambda words: [[int(it) for it in part.split()] for part in " ".join(words).split("|")]
+    owned = [parts(words) for words in of_kind("B")]
+    (root,), *root_words = parts(of_kind("R")[0])
+    processes = []
+    for (_, label, calls, *rest), told, ((_, block), *_) in zip(of_kind("P"), of_kind("A"), owned):
+        (_, *announced), (toggle,) = parts(told)
+        begun, _, all_calls = calls.partition("/")
+        uses = _used([it for it in rest if it != "linked"])
+        processes.append(Process(label, int(begun), int(all_calls), "linked" in rest, uses, announced, toggle, block))
+    return State(text, processes, root, {root: root_words, **{block: words for (_, block), *words in owned}})
+
+
+def state(
+    module: Text,
+    script: Text,
+    schedule: Text,
+    *,
+    processes: int,
+    turns: Optional[int] = None,
+    start: Union[Record, Text, None] = None,
+) -> State:
+    """Where the machine stands behind the run that `run` makes."""
+    files = {"module": module, "script": script, "schedule": schedule, **({} if start is None else {"start": start})}
+    words = ["state", "module", "script", "schedule", "-n", str(processes), *_option("-b", turns), *([] if start is None else ["--from", "start"])]
+    return _state(_printed(words, files).out.decode())
 
 
 def verify(module: Text, record: Union[Record, Text]) -> None:

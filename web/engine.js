@@ -5,8 +5,7 @@ const MEMORY = 4;
 
 class Instance {
   constructor(module) {
-    const random = (at, size) => crypto.getRandomValues(new Uint8Array(this.exports.memory.buffer, Number(at), Number(size)));
-    this.exports = new WebAssembly.Instance(module, { page: { random } }).exports;
+    this.exports = new WebAssembly.Instance(module).exports;
     this.room = 1 << 16;
   }
 

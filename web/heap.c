@@ -1,4 +1,4 @@
-// What the module asks of a C library that a page has not: memory, and random bytes for the keys of hash tables. No proof covers it.
+// What the module asks of a C library that a page has not: memory. No proof covers it.
 // A block has a size that is a power of two from 32 bytes on, and 16 bytes before it that say which. A freed block is kept for the next of
 // its size. The memory grows as it has to, and never shrinks; a page throws it away with the instance.
 typedef unsigned long long u64;
@@ -51,10 +51,6 @@ struct tried rattle_realloc(void *at, u64 kept, u64 size, u64 align) {
     }
     return made;
 }
-
-// Random bytes are the page's to give.
-__attribute__((import_module("page"), import_name("random"))) extern void page_random(void *at, u64 size);
-int getentropy(void *at, u64 size) { page_random(at, size); return 0; }
 
 // Room for the texts that a page hands in and gets back; 0 where there is none.
 u64 obl0_room(u64 size) { struct tried it = rattle_alloc(size, 16); return it.ok ? it.at : 0; }

@@ -3,20 +3,12 @@ const by = id => document.getElementById(id);
 const FIELDS = ['module', 'calls', 'schedule'];
 const NUMBERS = ['processes', 'budget'];
 const GIVEN = [...FIELDS, ...NUMBERS, 'always'];
-// The labels, each with those that a step leads to from there.
-const STEPS = {
-  NEXT: 'POST', POST: 'FLIP', FLIP: 'TRY', TRY: 'LINK READ', LINK: 'LOAD', LOAD: 'STORE', STORE: 'LOAD CHECK1', CHECK1: 'MINE TRY', MINE: 'SEEN READ',
-  SEEN: 'FETCH COMMIT', FETCH: 'CHECK2', CHECK2: 'SAVE TRY', SAVE: 'ENTER', ENTER: 'BODY', BODY: 'KEEP UNDO', UNDO: 'KEEP', KEEP: 'SEEN',
-  COMMIT: 'READ TRY', READ: 'TAKE', TAKE: 'GIVE', GIVE: 'NEXT',
-};
-const LABELS = Object.keys(STEPS);
+const LABELS = ['NEXT', 'POST', 'FLIP', 'TRY', 'LINK', 'LOAD', 'STORE', 'CHECK1', 'MINE', 'SEEN', 'FETCH', 'CHECK2', 'SAVE', 'ENTER', 'BODY', 'UNDO', 'KEEP',
+  'COMMIT', 'READ', 'TAKE', 'GIVE'];
 const MOST_PROCESSES = 16;
 // After so many milliseconds it is told that the work goes on, and a change of the texts begins it anew.
 const PATIENCE = 1000;
-// A run that takes longer than so many milliseconds is not made some more times, to find where each process stands.
-const QUICK = 60;
 const FAULT = 1;
-const NOT_THERE = 2;
 const SHOWN = ['record', 'replies', 'state', 'picture', 'outcomes'];
 // Why a call has no answer.
 const SENTENCES = {
@@ -145,7 +137,7 @@ function go_to(id, { line, column }) {
 // One look at all that the page shows.
 const text_of = told => new TextDecoder().decode(told.status === 0 ? told.out : told.err.length ? told.err : told.out);
 const sentence = told => SENTENCES[told.broken] ?? `The module has failed: ${told.broken}`;
-let obl0, has_state = true, told_before = null, picture_address = null, looking = false, once_more = false, stopped = false, stepped = false, began = 0;
+let obl0, told_before = null, picture_address = null, looking = false, once_more = false, stopped = false, stepped = false, began = 0;
 
 function words_of() {
   const [n, b] = NUMBERS.map(id => by(id).value.trim()), always = by('always').value.trim();
@@ -188,33 +180,19 @@ async function put_picture(told) {
   stepped = false;
   if (old) URL.revokeObjectURL(old);
 }
-// Where each process stands, found by runs that go on to a label: the one that takes no step for it. It is for modules without `state`.
-let labels = [];
-// The labels that are tried: NEXT first, since a process without calls takes no step to any label, and then those near the last one.
-function nearest(from) {
-  const found = [from];
-  for (const label of found) found.push(...STEPS[label].split(' ').filter(it => !found.includes(it)));
-  return ['NEXT', ...found.filter(it => it !== 'NEXT')];
-}
-async function labels_of(record, ask_with) {
-  const stepped_so_far = it => text_of(it).split('\n').find(line => line.startsWith('S'));
-  const n = by('steppers').children.length, wanted = stepped_so_far(record), found = [];
-  for (let process = 0; process < n; process++) {
-    for (const label of nearest(labels[process] ?? 'NEXT')) {
-      const told = await ask_with(`${by('schedule').value}\n${process}:${label}`);
-      if (told.status !== 0 || stepped_so_far(told) !== wanted) continue;
-      found[process] = label;
-      break;
-    }
-  }
-  labels = found;
-  return found.map((label, process) => `process ${process} stands at ${label}\n`).join('');
+// The label at which each process stands, at its button.
+function put_labels(lines) {
+  const found = new Map(lines.map(line => /^P (\d+) (\S+)/.exec(line)).filter(it => it).map(it => [Number(it[1]), it[2]]));
+  [...by('steppers').children].forEach((it, process) => {
+    it.lastElementChild.textContent = found.get(process) ?? '';
+    it.setAttribute('aria-label', found.has(process) ? `Step process ${process}, which stands at ${found.get(process)}` : `Step process ${process}`);
+  });
 }
 // The lines that were not there behind the schedule before stand out.
-function put_state(told, above) {
+function put_state(told) {
   const box = by('state');
-  if (told.broken || told.status !== 0) { put('state', told); told_before = null; return; }
-  const lines = (above + text_of(told)).trimEnd().split('\n'), old = told_before && new Set(told_before);
+  if (told.broken || told.status !== 0) { put('state', told); put_labels([]); told_before = null; return; }
+  const lines = text_of(told).trimEnd().split('\n'), old = told_before && new Set(told_before);
   box.classList.remove('refused');
   box.replaceChildren(...lines.flatMap(line => {
     const it = document.createElement('span');
@@ -223,6 +201,7 @@ function put_state(told, above) {
     return [it, '\n'];
   }));
   told_before = lines;
+  put_labels(lines);
 }
 
 // That a look is given up, since the texts are others now, or since it was stopped.
@@ -278,21 +257,11 @@ async function look_once() {
   address().then(it => { by('link').href = it; history.replaceState(null, '', it); });
   const explained = await ask('explain', ...run);
   const is_placed = show_fault(explained.broken || explained.status === 0 ? '' : text_of(explained));
-  const asked = performance.now(), record = await ask('run', ...run), quick = performance.now() - asked < QUICK;
-  const drawn = await ask('draw', ...run);
-  let state = has_state ? await ask('state', ...run) : record;
-  if (has_state && state.status === NOT_THERE && record.status !== NOT_THERE) {
-    has_state = false;
-    state = record;
-  }
+  const record = await ask('run', ...run), drawn = await ask('draw', ...run), state = await ask('state', ...run);
   const replies = await ask('seq', ...calls);
   put('record', record);
   put('replies', replies);
-  by('state-name').textContent = has_state ? 'State behind the schedule' : 'Record behind the schedule';
-  by('record-part').hidden = !has_state;
-  by('record-part').parentElement.classList.toggle('alone', !has_state);
-  const with_schedule = schedule => ask_of(['run', ...run], [...files.slice(0, 2), ['schedule', schedule]]);
-  put_state(state, has_state || !quick || record.status !== 0 ? '' : await labels_of(record, with_schedule));
+  put_state(state);
   await put_picture(drawn);
   if (by('outcomes-part').open) {
     const outcomes = await ask('outcomes', ...all, ...always);
@@ -309,7 +278,8 @@ function steppers() {
   box.replaceChildren(...Array.from({ length: n }, (_, process) => {
     const it = document.createElement('button');
     it.type = 'button';
-    it.textContent = `P${process}`;
+    it.id = `P${process}`;
+    it.append(`P${process} `, document.createElement('small'));
     it.setAttribute('aria-label', `Step process ${process}`);
     it.onclick = () => step(process);
     return it;

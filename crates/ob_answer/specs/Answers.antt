@@ -24,12 +24,13 @@ use Rattle.ob_object_sequence.specs.ToldRun.{IsToldRun}
 use Rattle.ob_object_sequence.specs.declared.told.Details.{Details}
 use Rattle.ob_object_search_draw.specs.Forms.{is_record_form}
 use Rattle.ob_object_spent.specs.Spent.{IsPrintedWithSteps}
+use Rattle.ob_object_state.specs.Behind.{IsStatePrinted}
 use Rattle.ob_object_tree.specs.TreeRuns.{IsPrintedOfCode}
 use Rattle.ob_object_verify.specs.Verified.{IsVerified}
 use Rattle.ob_answer_orders.specs.HistoryPictureAnswers.{IsHistoryPictureAnswer}
 use Rattle.ob_schedule_made.specs.Chance.{IsOfSteps}
 use Rattle.ob_schedule_made.specs.Finish.{IsFinished}
-use Rattle.ob_command.specs.CommandLine.{CallsRequest, ChanceRequest, Request, RunRequest, SeqRequest, Text, default_most, Check, Listing, Seq, Live, Run, RunTree, RunSteps, RunFinished, RunByChance, Serve, Draw, DrawHistory, DrawRecord, Outcomes, Verify, Order, request}
+use Rattle.ob_command.specs.CommandLine.{CallsRequest, ChanceRequest, Request, RunRequest, SeqRequest, Text, default_most, Check, Listing, Seq, Live, Run, RunTree, RunSteps, RunFinished, RunByChance, Serve, Draw, DrawHistory, DrawRecord, Outcomes, State, Verify, Order, request}
 use Rattle.ob_command.specs.CommandLine.{Explain, ExplainAlways, ExplainCalls, ExplainTraps, ExplainRun, ExplainRecord, ExplainHistory, Bound, Help, Version, Unclear}
 use Rattle.ob_command.specs.Commands.{IsMistakeTextOf, calls_request_of, chance_request_of, run_request_of}
 use Rattle.ob_command.specs.declared.command.CallNumbers.{CallNumbers}
@@ -123,6 +124,10 @@ SaysTreeRecord t text = IsPrintedOf IsAny t text × IsPrintedOfCode t text
 abbrev pub IsTreeRecordAnswer : Texts → Answer → Type 0
 IsTreeRecordAnswer t = IsTextAnswer (SaysTreeRecord t) (RefusesTreeRun t) (run_fault_line t.asked.beginning)
 
+-- the state behind the run
+abbrev pub IsStateAnswer : Texts → Answer → Type 0
+IsStateAnswer t = IsTextAnswer (IsStatePrinted t) (RefusesRun t) (run_fault_line t.asked.beginning)
+
 -- the calls of a picture that words name
 abbrev pub range_of : Option CallNumbers → Option CallRange
 range_of = option_map (λ calls. record { from = calls.from; to = calls.to })
@@ -172,12 +177,13 @@ shows_calls CallsProducts.Traps = true
 abbrev pub sequence_product : SeqRequest → CallsProduct
 sequence_product s = if s.state || s.turns then CallsProducts.Told (record { state = s.state; turns = s.turns }) else CallsProducts.Replies
 
--- what is printed of a run: its record, by the code or by the tree of the module, or with the own steps of its calls, or a picture of it;
--- or what is wrong is shown
+-- what is printed of a run: its record, by the code or by the tree of the module, or with the own steps of its calls, the state behind it, or
+-- a picture of it; or what is wrong is shown
 abbrev pub IsRunAnswer : Product → RunTexts → Answer → Type 0
 IsRunAnswer Products.Record t = IsRecordAnswer t.texts
 IsRunAnswer Products.TreeRecord t = IsTreeRecordAnswer t.texts
 IsRunAnswer Products.RecordWithSteps t = IsStepsAnswer t.texts
+IsRunAnswer Products.State t = IsStateAnswer t.texts
 IsRunAnswer (Products.Picture calls) t = IsPictureAnswer calls t.texts
 IsRunAnswer Products.Explanation t = IsRunExplained t
 
@@ -275,6 +281,7 @@ files_of (RunFinished product run) = files_of_run run
 files_of (RunByChance product run) = files_of_calls run.calls
 files_of (Serve calls) = files_of_calls calls
 files_of (Draw run range) = files_of_run run
+files_of (State run) = files_of_run run
 files_of (DrawRecord module_name record_name range) = module_name ∷ record_name ∷ []
 files_of (DrawHistory seen) = seen.module_name ∷ seen.history_name ∷ []
 files_of (Outcomes outcomes) = files_of_calls outcomes.calls
@@ -302,6 +309,7 @@ IsMade (RunFinished product run) bytes answer = IsFinishedMade product run bytes
 IsMade (RunByChance product run) bytes answer = IsChanceMade product run bytes answer
 IsMade (Serve calls) bytes answer = IsServeMade calls bytes answer
 IsMade (Draw run range) bytes answer = IsRunMade (Products.Picture (range_of range)) run bytes answer
+IsMade (State run) bytes answer = IsRunMade Products.State run bytes answer
 IsMade (DrawRecord module_name record_name range) (module_bytes ∷ record_bytes ∷ []) answer =
     IsSeenPictureAnswer (range_of range) module_bytes record_bytes answer
 IsMade (DrawHistory seen) (module_bytes ∷ history_bytes ∷ []) answer =

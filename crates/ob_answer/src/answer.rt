@@ -41,7 +41,8 @@ const VERSION: &str = "obl0 0.1.0\nrattle logic dac8208d650f15bf\nMIT OR Apache-
 pub const INPUT_NAME: &str = "-";
 
 /// The mistake of words that name standard input for two files.
-pub(crate) const INPUT_TWICE: &str = "error: `-`, which is standard input, stands for one file alone\n";
+pub(crate) const INPUT_TWICE: &str =
+    "error: `-`, which is standard input, stands for one file alone\n";
 
 /// What is said of `live` where lines are not heard one by one: here files alone are read.
 const LIVE_APART: &str =
@@ -149,6 +150,7 @@ fn reads_input_twice(command: Command<'_>) -> bool
         Command::RunFinished { run, .. } => are_inputs_of_run(run),
         Command::RunByChance { run, .. } => are_inputs_of_calls(run.calls),
         Command::Draw { run, .. } => are_inputs_of_run(run),
+        Command::State(run) => are_inputs_of_run(run),
         Command::DrawRecord {
             module_name,
             record_name,
@@ -232,6 +234,7 @@ fn obey<K: RandomSource, F: Files>(
         Command::RunFinished { product, run } => obey_finished(alloc, product, run, files),
         Command::RunByChance { product, run } => obey_chance(alloc, product, run, files),
         Command::Serve(_) => unreachable!(),
+        Command::State(run) => obey_run(alloc, Product::State, run, files),
         Command::Draw { run, calls } => {
             obey_run(alloc, Product::Picture(range_of(calls)), run, files)
         }

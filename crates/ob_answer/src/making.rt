@@ -2,7 +2,7 @@
 
 ghost use Rattle.std.specs.Prelude.{◌≡◌, ◌≢◌, ◌++◌, false, IfOk, codes};
 ghost use Rattle.ob_answer.specs.Answers.{IsBoundAnswer, IsCheckAnswer, IsListAnswer, IsPictureAnswer, IsRecordAnswer, IsRecordPictureAnswer, IsSeenPictureAnswer};
-ghost use Rattle.ob_answer.specs.Answers.{IsSeqAnswer, IsServeAnswer, IsStepsAnswer, IsToldAnswer, IsTreeRecordAnswer};
+ghost use Rattle.ob_answer.specs.Answers.{IsSeqAnswer, IsServeAnswer, IsStateAnswer, IsStepsAnswer, IsToldAnswer, IsTreeRecordAnswer};
 ghost use Rattle.ob_answer.specs.Answers.{IsVerifyAnswer};
 ghost use Rattle.ob_answer_files.specs.Reads.{OfWhole};
 ghost use Rattle.ob_answer_explained.specs.CommandTexts.{of_text, texts_of_text};
@@ -37,6 +37,7 @@ use ob_object_perform::{DrawFault, PerformFault, Texts, draw_text, run_text};
 use ob_object_search_draw::is_record_form;
 use ob_object_sequence::{Details, SeqTextFault, check_text, seq_asked, seq_asked_told};
 use ob_object_spent::run_text_with_steps;
+use ob_object_state::state_text;
 use ob_object_tree::run_tree_text;
 use ob_object_verify::{VerifyFault, verify_text};
 use ob_text_picture_chart::CallRange;
@@ -191,6 +192,16 @@ pub(crate) fn answer_steps(alloc: Global, texts: Texts<'_>) -> Result<Answer, No
 {
     match run_text_with_steps(alloc, texts) {
         Ok((lines, steps)) => Ok(Answer::printed_beside(lines, steps)),
+        Err(fault) => run_refused(alloc, texts.asked.beginning, fault),
+    }
+}
+
+/// The answer of `state`.
+pub(crate) fn answer_state(alloc: Global, texts: Texts<'_>) -> Result<Answer, NoMemory>
+    ensures { IfOk result (OfWhole texts.entry.asked.text.now (λ whole. IsStateAnswer (texts_of_text (texts_of texts.entry) whole))) }
+{
+    match state_text(alloc, texts) {
+        Ok(lines) => Ok(Answer::printed(alloc, lines)),
         Err(fault) => run_refused(alloc, texts.asked.beginning, fault),
     }
 }

@@ -8,8 +8,8 @@ ghost use Rattle.ob_answer_explained.specs.CommandTexts.{calls_of_text, calls_te
 ghost use Rattle.ob_command.specs.Commands.{calls_request_of, run_request_of};
 
 use crate::making::{
-    answer_picture, answer_record, answer_seq, answer_serve, answer_steps, answer_told,
-    answer_tree_record,
+    answer_picture, answer_record, answer_seq, answer_serve, answer_state, answer_steps,
+    answer_told, answer_tree_record,
 };
 use crate::product::{CallsProduct, Product};
 use ob_answer_explained::explaining::explain_calls;
@@ -161,6 +161,7 @@ fn begun_run(alloc: Global, product: Product, run: Run<'_>) -> Result<Answer, No
         Product::Record => answer_record(alloc, run.texts),
         Product::TreeRecord => answer_tree_record(alloc, run.texts),
         Product::RecordWithSteps => answer_steps(alloc, run.texts),
+        Product::State => answer_state(alloc, run.texts),
         Product::Picture(calls) => answer_picture(alloc, run.texts, calls),
         Product::Explanation => explain_run(alloc, run),
     }

@@ -3,13 +3,14 @@
 use ob_object_sequence::Details;
 use ob_text_picture_chart::CallRange;
 
-/// What is printed of a run: the text of its record, by the code or by the tree of the module, or with the own steps of its calls,
-/// or a picture of some calls or of all; or what is wrong with its texts.
+/// What is printed of a run: the text of its record, by the code or by the tree of the module, or with the own steps of its calls;
+/// the state behind it; or a picture of some calls or of all; or what is wrong with its texts.
 #[derive(Clone, Copy, PartialEq, Eq)]
 pub enum Product {
     Record,
     TreeRecord,
     RecordWithSteps,
+    State,
     Picture(Option<CallRange>),
     Explanation,
 }

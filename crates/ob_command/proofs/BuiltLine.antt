@@ -112,6 +112,9 @@ abbrev pub outcomes_leaf : Shape
 outcomes_leaf = leaf (codes "outcomes") (built_name 1 (codes "MODULE") ∷ built_name 2 (codes "SCRIPT") ∷ built_number ∷ built_budget ∷ built_from
     ∷ built_always ∷ built_flag (codes "whole") ∷ built_most ∷ built_help ∷ [])
 
+abbrev pub state_leaf : Shape
+state_leaf = leaf (codes "state") (run_rules true true true (built_help ∷ []))
+
 abbrev pub verify_leaf : Shape
 verify_leaf = leaf (codes "verify") (built_name 1 (codes "MODULE") ∷ built_name 2 (codes "RECORD") ∷ built_help ∷ [])
 
@@ -132,12 +135,12 @@ abbrev pub built_app : App
 built_app = record {
   top = built_top;
   subs = module_leaf (codes "check") ∷ module_leaf (codes "list") ∷ seq_leaf ∷ live_leaf ∷ run_leaf ∷ serve_leaf ∷ draw_leaf ∷ outcomes_leaf
-      ∷ verify_leaf ∷ order_leaf ∷ explain_leaf ∷ bound_leaf ∷ [];
+      ∷ state_leaf ∷ verify_leaf ∷ order_leaf ∷ explain_leaf ∷ bound_leaf ∷ [];
 }
 
 abbrev pub names : Names
-names = (codes "check", []) ∷ (codes "list", []) ∷ (codes "seq", []) ∷ (codes "live", []) ∷ (codes "run", []) ∷ (codes "serve", []) ∷ (codes "draw", []) ∷ (codes "outcomes", [])
-    ∷ (codes "verify", []) ∷ (codes "order", []) ∷ (codes "explain", []) ∷ (codes "bound", []) ∷ []
+names = (codes "check", []) ∷ (codes "list", []) ∷ (codes "seq", []) ∷ (codes "live", []) ∷ (codes "run", []) ∷ (codes "serve", []) ∷ (codes "draw", [])
+    ∷ (codes "outcomes", []) ∷ (codes "state", []) ∷ (codes "verify", []) ∷ (codes "order", []) ∷ (codes "explain", []) ∷ (codes "bound", []) ∷ []
 
 -- ---- the rows that clap keeps of a command
 

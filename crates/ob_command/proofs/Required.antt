@@ -16,8 +16,8 @@ use Rattle.clap.specs.Takes.{is_given}
 use Rattle.clap.specs.declared.error.kind.ErrorKind.{ErrorKind}
 use Rattle.clap.specs.declared.error.kind.ErrorKind.TheVariants as kind
 use Rattle.ob_command_line.specs.ClapCommand.{obl0_app}
-use Rattle.ob_command.specs.CommandLine.{Serve, Verify, asked, asks_command, calls_of, command_of, form_mistake, form_mistake_of, given_of, processes_of, sequence_of}
-use Rattle.ob_command.proofs.BuiltLine.{bound_leaf, built_app, built_budget, built_flag, built_from, built_help, built_name, built_number, built_one, built_top, draw_leaf, explain_leaf, live_leaf, module_leaf, names, needed, order_leaf, outcomes_leaf, run_leaf, seq_leaf, serve_leaf, verify_leaf}
+use Rattle.ob_command.specs.CommandLine.{Serve, State, Verify, asked, asks_command, calls_of, command_of, form_mistake, form_mistake_of, given_of, processes_of, run_of, sequence_of}
+use Rattle.ob_command.proofs.BuiltLine.{bound_leaf, built_app, built_budget, built_flag, built_from, built_help, built_name, built_number, built_one, built_top, draw_leaf, explain_leaf, live_leaf, module_leaf, names, needed, order_leaf, outcomes_leaf, run_leaf, seq_leaf, serve_leaf, state_leaf, verify_leaf}
 use Rattle.ob_command.proofs.FilledRows.{EachFills, Filled, Fills, given_first, given_number, level_filled, neither, suits, with_filled, without_filled}
 use Rattle.ob_command.proofs.Numbers.{budget_accepted, number_accepted}
 
@@ -221,6 +221,17 @@ serve_asks words none =
     (λ m. some_map (calls_of m (given_of rows)) Serve (some_then (processes_of rows) _ (given_number rows p.filled (p.given.1.1.0 refl))
     (λ k. some_map (first_of (codes "SCRIPT") rows) _ script)))
 
+state_asks : AsksBy state_leaf
+state_asks words none =
+    let p = passes state_leaf (fills_name 1 (codes "MODULE") any_text true, (fills_name 2 (codes "SCRIPT") any_text true, (fills_name 3 (codes "SCHEDULE") any_text true, (fills_number, (fills_budget, (fills_from, (fills_help, tt))))))) refl words none in
+    let rows = rows_of_leaf state_leaf words in
+    let script = given_first (codes "SCRIPT") rows p.filled (p.given.1.0 refl) in
+    let schedule = given_first (codes "SCHEDULE") rows p.filled (p.given.1.1.0 refl) in
+    asks_with (codes "state") rows (given_first (codes "MODULE") rows p.filled (p.given.0 refl))
+    (λ m. some_map (run_of m (given_of rows)) State (some_then (calls_of m (given_of rows)) _
+    (some_then (processes_of rows) _ (given_number rows p.filled (p.given.1.1.1.0 refl)) (λ k. some_map (first_of (codes "SCRIPT") rows) _ script))
+    (λ calls. some_map (first_of (codes "SCHEDULE") rows) _ schedule)))
+
 bound_asks : AsksBy bound_leaf
 bound_asks words none =
     let p = passes bound_leaf (fills_name 1 (codes "MODULE") any_text true, (fills_number, (fills_budget, (fills_help, tt)))) refl words none in
@@ -285,7 +296,7 @@ each_asks = (
               several_forms draw_leaf (λ rows. refl),
               (
                 several_forms outcomes_leaf (λ rows. refl),
-                (one_form verify_leaf verify_asks, (several_forms order_leaf (λ rows. refl), (several_forms explain_leaf (λ rows. refl), (one_form bound_leaf bound_asks, tt)))),
+                (one_form state_leaf state_asks, (one_form verify_leaf verify_asks, (several_forms order_leaf (λ rows. refl), (several_forms explain_leaf (λ rows. refl), (one_form bound_leaf bound_asks, tt))))),
               ),
             ),
           ),

@@ -83,7 +83,7 @@ pub record SeenRequest : Type 0 where
 -- What they ask for: the rules of a module checked; its code listed; the calls of a script made on it; calls made on it as they come; a run's record; the record of the
 -- same run by the tree of the module; the record with the own steps of its calls beside it; the same of a run that goes on until each call has
 -- ended, and of a run by a schedule of chance; the record of workers' run; a run's picture; that of a record or of a history, and of a history
--- by a search that is told how to search; what may happen over all runs; the order of a record checked; a legal order of a history; what is
+-- by a search that is told how to search; what may happen over all runs; the state behind a run; the order of a record checked; a legal order of a history; what is
 -- wrong with a module, or with a module and a script, shown to people; how all runs come to what is not to be; where the calls of a script trap, shown to people; what is wrong with a run; the same of a record, and of a history; how many
 -- own steps a call takes at most; help; the version; or nothing that there is. A command has the names of its files, and a budget is how
 -- many turns each call has. A picture has some calls, or all.
@@ -102,6 +102,7 @@ pub data Request : Type 0 where
   DrawRecord : (module_name record_name : Text) (calls : Option CallNumbers) → Request
   DrawHistory : (seen : SeenRequest) → Request
   Outcomes : (outcomes : OutcomesRequest) → Request
+  State : (run : RunRequest) → Request
   Verify : (module_name record_name : Text) → Request
   Order : (order : OrderRequest) → Request
   Explain : (module_name : Text) (budget : ℕ) → Request
@@ -519,6 +520,7 @@ commands =
     ∷ (codes "serve", one_form (λ m given. option_map Serve (calls_of m given)))
     ∷ (codes "draw", draw_forms)
     ∷ (codes "outcomes", one_form outcomes_of)
+    ∷ (codes "state", one_form (λ m given. option_map State (run_of m given)))
     ∷ (codes "verify", one_form (λ m given. option_map (Verify m) given.record_name))
     ∷ (codes "order", one_form order_of)
     ∷ (codes "explain", explain_forms)
@@ -670,7 +672,7 @@ form_mistake name rows = form_mistake_by name (given_of rows)
 -- How many names of files stand behind a command that has a number of processes.
 abbrev pub names_of : Text → Option ℕ
 names_of name =
-    if bytes_eq name (codes "run") || (bytes_eq name (codes "draw") || bytes_eq name (codes "explain")) then Some 3
+    if bytes_eq name (codes "run") || (bytes_eq name (codes "draw") || (bytes_eq name (codes "explain") || bytes_eq name (codes "state"))) then Some 3
     else if bytes_eq name (codes "serve") || bytes_eq name (codes "outcomes") then Some 2
     else if bytes_eq name (codes "bound") then Some 1
     else None
@@ -710,7 +712,7 @@ clap_request words = request_by (fault_of obl0_app words) (subcommand_of obl0_ap
 abbrev pub command_names : List Text
 command_names =
     codes "check" ∷ codes "list" ∷ codes "seq" ∷ codes "live" ∷ codes "run" ∷ codes "serve" ∷ codes "draw"
-    ∷ codes "outcomes" ∷ codes "verify" ∷ codes "order" ∷ codes "explain" ∷ codes "bound" ∷ []
+    ∷ codes "outcomes" ∷ codes "state" ∷ codes "verify" ∷ codes "order" ∷ codes "explain" ∷ codes "bound" ∷ []
 
 abbrev pub is_command : Text → Bool
 is_command name = list_any (bytes_eq name) command_names

@@ -18,7 +18,7 @@ use Rattle.ob_command.specs.declared.given.GivenWords.{GivenWords}
 use Rattle.ob_command.specs.declared.command.Stop.{Stop}
 use Rattle.ob_command.specs.declared.command.Stop.TheVariants as stops
 use Rattle.ob_command_line.specs.ClapCommand.{obl0_app}
-use Rattle.ob_command.specs.CommandLine.{Text, clap_words, extra_of_help, form_mistake_of, has_negative, help_mistake, loose_number, number_sentence, number_tip, AlwaysRequest, CallsRequest, ChanceRequest, Given, OrderRequest, OutcomesRequest, Request, RunRequest, SeenRequest, SeqRequest, Check, Listing, Seq, Live, Run, RunTree, RunSteps, RunFinished, RunByChance, Serve, Draw, DrawRecord, DrawHistory, Outcomes, Verify, Order, Explain, ExplainCalls, ExplainTraps, ExplainRun, ExplainAlways, ExplainRecord, ExplainHistory, Bound, Help, Version, Unclear}
+use Rattle.ob_command.specs.CommandLine.{Text, clap_words, extra_of_help, form_mistake_of, has_negative, help_mistake, loose_number, number_sentence, number_tip, AlwaysRequest, CallsRequest, ChanceRequest, Given, OrderRequest, OutcomesRequest, Request, RunRequest, SeenRequest, SeqRequest, Check, Listing, Seq, Live, Run, RunTree, RunSteps, RunFinished, RunByChance, Serve, Draw, DrawRecord, DrawHistory, Outcomes, State, Verify, Order, Explain, ExplainCalls, ExplainTraps, ExplainRun, ExplainAlways, ExplainRecord, ExplainHistory, Bound, Help, Version, Unclear}
 
 -- what is given by words
 abbrev pub given_by : GivenWords → Given
@@ -109,6 +109,7 @@ request_of (commands.Draw run calls) = Draw (run_request_of run) calls
 request_of (commands.DrawRecord module_name record_name calls) = DrawRecord module_name.now record_name.now calls
 request_of (commands.DrawHistory seen) = DrawHistory (seen_request_of seen)
 request_of (commands.Outcomes outcomes) = Outcomes (outcomes_request_of outcomes)
+request_of (commands.State run) = State (run_request_of run)
 request_of (commands.Verify module_name record_name) = Verify module_name.now record_name.now
 request_of (commands.Order order) = Order (order_request_of order)
 request_of (commands.Explain module_name budget) = Explain module_name.now budget

@@ -62,6 +62,7 @@ pub(crate) fn asked<'a>(
         "serve" => Some(Command::Serve(calls_of(module_name, given)?)),
         "draw" => draw_asked(module_name, given),
         "outcomes" => outcomes_of(module_name, given),
+        "state" => Some(Command::State(run_of(module_name, given)?)),
         "verify" => Some(Command::Verify {
             module_name,
             record_name: given.record_name?,

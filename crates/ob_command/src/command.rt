@@ -64,6 +64,8 @@ pub enum Command<'a> {
     DrawHistory(SeenCommand<'a>),
     /// `outcomes MODULE SCRIPT -n N -b BUDGET --from RECORD --most K`, with `--always NAME` or `--whole`: what may happen over all runs.
     Outcomes(OutcomesCommand<'a>),
+    /// `state MODULE SCRIPT SCHEDULE -n N -b BUDGET --from RECORD`: where the machine stands behind a run.
+    State(RunCommand<'a>),
     /// `verify MODULE RECORD`: whether the order of a record is a legal order of its calls.
     Verify {
         module_name: &'a str,

@@ -106,6 +106,7 @@ fn help_of_command(name: &str) -> Option<&'static [&'static str]>
         "serve" => Some(&["serve", "--help"]),
         "draw" => Some(&["draw", "--help"]),
         "outcomes" => Some(&["outcomes", "--help"]),
+        "state" => Some(&["state", "--help"]),
         "verify" => Some(&["verify", "--help"]),
         "order" => Some(&["order", "--help"]),
         "explain" => Some(&["explain", "--help"]),

@@ -163,7 +163,7 @@ fn names_of(name: &str) -> Option<usize>
     ensures { result ≡ names_of name.now }
 {
     match name {
-        "run" | "draw" | "explain" => Some(3),
+        "run" | "draw" | "explain" | "state" => Some(3),
         "serve" | "outcomes" => Some(2),
         "bound" => Some(1),
         _ => None,

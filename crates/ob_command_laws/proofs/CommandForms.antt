@@ -8,9 +8,9 @@ use Rattle.clap.specs.Faults.{check_fault, defaults_fault, walk_fault}
 use Rattle.clap.specs.Simple.{Shape}
 use Rattle.clap.proofs.OnLiterals.{clap_on_literals}
 use Rattle.ob_command.specs.CommandLine.{Check, Given, Listing, Unclear, Verify, Version, asked, asks_version, clap_request, command_of, form_mistake, form_mistake_by, form_mistake_of, given_of, is_option, order_mistake_of, outcomes_mistake_of, request}
-use Rattle.ob_command_laws.specs.PlainForms.{Argument, BySeed, Finishing, Always, WithState, WithTurns, AsWhole, OfLength, AsksWithHistory, AsksWithModule, AsksWithSchedule, AsksWithScript, ArePlain, AsRecord, ByTree, Chosen, Count, Most, OfTraps, Range, Seen, Start, Told, Turns, WithSteps, bound_options, draw_options, explain_options, given_in, given_with_history, id_of, is_chosen, is_plain, live_options, order_options, outcomes_options, run_options, seq_options, serve_options, words_of}
+use Rattle.ob_command_laws.specs.PlainForms.{Argument, BySeed, Finishing, Always, WithState, WithTurns, AsWhole, OfLength, AsksWithHistory, AsksWithModule, AsksWithSchedule, AsksWithScript, ArePlain, AsRecord, ByTree, Chosen, Count, Most, OfTraps, Range, Seen, Start, Told, Turns, WithSteps, bound_options, draw_options, explain_options, given_in, given_with_history, id_of, is_chosen, is_plain, live_options, order_options, outcomes_options, run_options, seq_options, serve_options, state_options, words_of}
 use Rattle.ob_command_laws.proofs.AskedWords.{clap_asked, clap_met, start}
-use Rattle.ob_command.proofs.BuiltLine.{bound_leaf, built_always, built_budget, built_by, built_calls, built_from, built_help, built_history, built_length, built_most, built_name, built_number, built_record, built_seed, draw_leaf, explain_leaf, leaf, live_leaf, module_leaf, name_row, needed, order_leaf, outcomes_leaf, run_leaf, seq_leaf, serve_leaf, verify_leaf}
+use Rattle.ob_command.proofs.BuiltLine.{bound_leaf, built_always, built_budget, built_by, built_calls, built_from, built_help, built_history, built_length, built_most, built_name, built_number, built_record, built_seed, draw_leaf, explain_leaf, leaf, live_leaf, module_leaf, name_row, needed, order_leaf, outcomes_leaf, run_leaf, seq_leaf, serve_leaf, state_leaf, verify_leaf}
 use Rattle.ob_command_laws.proofs.ChosenWords.{AllFresh, Moves, Standing, all_move, always_moves, argument_moves, count_moves, finish_moves, length_moves, most_moves, range_moves, record_moves, row_of, seed_moves, seen_moves, start_moves, state_moves, steps_moves, told_moves, traps_moves, tree_moves, turns_moves, turns_word_moves, whole_moves}
 use Rattle.ob_command_laws.proofs.OptionRows.{EachQuiet, EachThere, Quiet, counted_there, each_stays, given_alone, given_history, given_schedule, given_script, given_stays, module_stays, no_default_fault, none_lacks, quiet_as_record, quiet_finish, quiet_plain, quiet_state, quiet_steps, quiet_traps, quiet_tree, quiet_turns, quiet_whole}
 use Rattle.ob_command_laws.proofs.PlainWords.{by_clap}
@@ -60,6 +60,9 @@ quiet_seq = (quiet_file 1 (codes "MODULE") true, (quiet_file 2 (codes "SCRIPT") 
 
 quiet_live : EachQuiet live_leaf.rules
 quiet_live = (quiet_file 1 (codes "MODULE") true, (plain built_budget refl, (plain built_from refl, (plain built_help refl, tt))))
+
+quiet_state_words : EachQuiet state_leaf.rules
+quiet_state_words = (quiet_file 1 (codes "MODULE") true, (quiet_file 2 (codes "SCRIPT") true, (quiet_file 3 (codes "SCHEDULE") true, (quiet_number true, (plain built_budget refl, (plain built_from refl, (plain built_help refl, tt)))))))
 
 quiet_serve : EachQuiet serve_leaf.rules
 quiet_serve = (quiet_file 1 (codes "MODULE") true, (quiet_file 2 (codes "SCRIPT") true, (quiet_number true, (plain built_budget refl, (plain built_from refl, (plain built_help refl, tt))))))
@@ -151,6 +154,29 @@ serve_moves (Always a) known plain = cc
 serve_moves WithState known plain = cc
 serve_moves WithTurns known plain = cc
 serve_moves AsWhole known plain = cc
+
+stating_moves : (one : Chosen) → list_any (bytes_eq (id_of one)) state_options ≡ true → is_plain one ≡ true → Moves state_leaf one
+unfolding clap_on_literals
+stating_moves (Count n) known plain = count_moves state_leaf (record { turn = λ h p k. refl; walk = λ h p k. refl; push = λ v h k. refl; fault = λ v h. refl; uses = λ v h. refl }) n plain
+stating_moves (Turns true b) known plain = turns_moves state_leaf true (record { turn = λ h p k. refl; walk = λ h p k. refl; push = λ v h k. refl; fault = λ v h. refl; uses = λ v h. refl }) b plain
+stating_moves (Turns false b) known plain = turns_moves state_leaf false (record { turn = λ h p k. refl; walk = λ h p k. refl; push = λ v h k. refl; fault = λ v h. refl; uses = λ v h. refl }) b plain
+stating_moves (Most k) known plain = cc
+stating_moves (Argument n) known plain = cc
+stating_moves (Start f) known plain = start_moves state_leaf (record { turn = λ h p k. refl; walk = λ h p k. refl; push = λ v h k. refl; fault = λ v h. refl; uses = λ v h. refl }) f plain
+stating_moves (Range c) known plain = cc
+stating_moves (Told r) known plain = cc
+stating_moves (Seen h) known plain = cc
+stating_moves ByTree known plain = cc
+stating_moves WithSteps known plain = cc
+stating_moves OfTraps known plain = cc
+stating_moves AsRecord known plain = cc
+stating_moves (BySeed v) known plain = cc
+stating_moves (OfLength j) known plain = cc
+stating_moves Finishing known plain = cc
+stating_moves (Always a) known plain = cc
+stating_moves WithState known plain = cc
+stating_moves WithTurns known plain = cc
+stating_moves AsWhole known plain = cc
 
 outcomes_moves : (one : Chosen) → list_any (bytes_eq (id_of one)) outcomes_options ≡ true → is_plain one ≡ true → Moves outcomes_leaf one
 unfolding clap_on_literals
@@ -675,6 +701,20 @@ run_asks m s d chosen no_m no_s no_d plain counted =
     (name_row (codes "MODULE") m ∷ name_row (codes "SCRIPT") s ∷ name_row (codes "SCHEDULE") d ∷ []) (record { no_fault = refl; settles = refl }) (fresh_schedule m s d chosen) rows
     (ended (codes "run") run_leaf.rules quiet_run kept (λ e. refl, (λ e. refl, (λ e. cc, (λ e. counted_there chosen (counted refl), (λ e. cc, (λ e. cc, (λ e. cc, (λ e. cc, (λ e. cc, (λ e. cc, (λ e. cc, (λ e. cc, tt)))))))))))) 4)))))
     ∙ answered (codes "run") run_leaf.rules quiet_run m kept (given_in (Some s) (Some d) chosen) refl (given_schedule run_options chosen plain s d)
+
+pub state_asks : AsksWithSchedule (codes "state") true state_options
+unfolding clap_on_literals
+state_asks m s d chosen no_m no_s no_d plain counted =
+    let kept = name_row (codes "MODULE") m ∷ name_row (codes "SCRIPT") s ∷ name_row (codes "SCHEDULE") d ∷ map row_of chosen in
+    let rows = fold with_default kept state_leaf.rules in
+    clap_asked (codes "state") state_leaf refl refl refl (m ∷ s ∷ d ∷ words_of chosen) rows
+    (named state_leaf [] None 1 m no_m refl _ refl (s ∷ d ∷ words_of chosen) rows
+    (named state_leaf [] (Some (codes "MODULE", m ∷ [])) 2 s no_s refl _ refl (d ∷ words_of chosen) rows
+    (named state_leaf (name_row (codes "MODULE") m ∷ []) (Some (codes "SCRIPT", s ∷ [])) 3 d no_d refl _ refl (words_of chosen) rows
+    (all_move state_leaf state_options stating_moves chosen plain (name_row (codes "MODULE") m ∷ name_row (codes "SCRIPT") s ∷ []) (Some (codes "SCHEDULE", d ∷ [])) 4
+    (name_row (codes "MODULE") m ∷ name_row (codes "SCRIPT") s ∷ name_row (codes "SCHEDULE") d ∷ []) (record { no_fault = refl; settles = refl }) (fresh_schedule m s d chosen) rows
+    (ended (codes "state") state_leaf.rules quiet_state_words kept (λ e. refl, (λ e. refl, (λ e. refl, (λ e. counted_there chosen (counted refl), (λ e. cc, (λ e. cc, (λ e. cc, tt))))))) 4)))))
+    ∙ answered (codes "state") state_leaf.rules quiet_state_words m kept (given_in (Some s) (Some d) chosen) refl (given_schedule state_options chosen plain s d)
 
 pub draw_schedule_asks : AsksWithSchedule (codes "draw") false draw_options
 unfolding clap_on_literals

@@ -3,13 +3,13 @@ use Rattle.std.proofs.Common.{◌≡◌, ◌∙◌, ◌||◌, ◌&&◌, ◌⊎�
 use Rattle.std.specs.Option.{option_map_or}
 use Rattle.std.specs.Str.{bytes_eq}
 use Rattle.clap.specs.Walk.{Text}
-use Rattle.ob_command.specs.CommandLine.{Bound, CallsRequest, ChanceRequest, Draw, DrawHistory, DrawRecord, Explain, ExplainAlways, ExplainCalls, ExplainHistory, ExplainRecord, ExplainRun, ExplainTraps, Given, Live, Order, Outcomes, OutcomesRequest, Request, Run, RunByChance, RunFinished, RunRequest, RunSteps, RunTree, SeenRequest, Seq, Serve, Unclear, are_reached, are_seen, asked, budget_number, default_budget, default_length, default_most, default_most_reached, is_length, is_most, is_place, is_seen_budget, most_mistake, number, order_by, outcomes_by, parts_mistake, place_mistake, product_by, range_by, run_product, seed_number, seen_budget_mistake, whole_mistake}
-use Rattle.ob_command_laws.specs.PlainForms.{AreInRange, ArePlain, Argument, AsRecord, BySeed, ByTree, Chosen, Count, Finishing, Always, WithState, WithTurns, AsWhole, Has, IsLength, IsMost, IsPlace, IsSeenBudget, Lacks, ModuleAsksFor, Most, NamesBesideWhole, OfLength, OfTraps, Range, RunAsksFor, SaysSearch, ScriptAsksFor, ScriptSays, Seen, Start, Told, Turns, WithSteps, always_with, argument_in, bound_options, budget_in, calls_with, chance_with, count_in, draw_options, explain_options, given_in, given_with_history, id_of, is_chosen, length_in, live_options, most_in, order_options, order_with, outcomes_options, outcomes_with, product_in, run_options, seed_in, seen_with, seq_options, seq_with, serve_options, text_of, turns_in, value_in}
+use Rattle.ob_command.specs.CommandLine.{Bound, CallsRequest, ChanceRequest, Draw, DrawHistory, DrawRecord, Explain, ExplainAlways, ExplainCalls, ExplainHistory, ExplainRecord, ExplainRun, ExplainTraps, Given, Live, Order, Outcomes, OutcomesRequest, Request, Run, RunByChance, RunFinished, RunRequest, RunSteps, RunTree, SeenRequest, Seq, Serve, State, Unclear, are_reached, are_seen, asked, budget_number, default_budget, default_length, default_most, default_most_reached, is_length, is_most, is_place, is_seen_budget, most_mistake, number, order_by, outcomes_by, parts_mistake, place_mistake, product_by, range_by, run_product, seed_number, seen_budget_mistake, whole_mistake}
+use Rattle.ob_command_laws.specs.PlainForms.{AreInRange, ArePlain, Argument, AsRecord, BySeed, ByTree, Chosen, Count, Finishing, Always, WithState, WithTurns, AsWhole, Has, IsLength, IsMost, IsPlace, IsSeenBudget, Lacks, ModuleAsksFor, Most, NamesBesideWhole, OfLength, OfTraps, Range, RunAsksFor, SaysSearch, ScriptAsksFor, ScriptSays, Seen, Start, Told, Turns, WithSteps, always_with, argument_in, bound_options, budget_in, calls_with, chance_with, count_in, draw_options, explain_options, given_in, given_with_history, id_of, is_chosen, length_in, live_options, most_in, order_options, order_with, outcomes_options, outcomes_with, product_in, run_options, seed_in, seen_with, seq_options, seq_with, serve_options, state_options, text_of, turns_in, value_in}
 use Rattle.ob_command.specs.declared.command.CallNumbers.{CallNumbers}
 use Rattle.ob_command.specs.declared.command.OrderProduct.{OrderProduct}
 use Rattle.ob_command.specs.declared.command.RunProduct.{RunProduct}
 use Rattle.ob_command.specs.declared.command.OrderProduct.TheVariants.{Apart, Line, WholeRecord}
-use Rattle.ob_command_laws.proofs.CommandForms.{bound_asks, draw_schedule_asks, draw_script_asks, explain_module_asks, explain_schedule_asks, explain_script_asks, live_asks, order_asks, order_said, outcomes_asks, outcomes_said, run_asks, run_script_asks, seq_asks, serve_asks}
+use Rattle.ob_command_laws.proofs.CommandForms.{bound_asks, draw_schedule_asks, draw_script_asks, explain_module_asks, explain_schedule_asks, explain_script_asks, live_asks, order_asks, order_said, outcomes_asks, outcomes_said, run_asks, run_script_asks, seq_asks, serve_asks, state_asks}
 use Rattle.ob_command_laws.proofs.OptionRows.{given_as}
 
 -- ---- options that are there, and that are not
@@ -114,6 +114,9 @@ module _ (m s d : Text) (r h f c a : Option Text) (o t q g : Option ℕ) (w x y 
 
   served : (k : ℕ) → o ≡ Some k → asks (codes "serve") m with_script ≡ Serve (calls_as m s k t f)
   served k is_o = rw is_o refl
+
+  stands : (k : ℕ) → o ≡ Some k → asks (codes "state") m with_schedule ≡ State (run_as m s d k t f)
+  stands k is_o = rw is_o refl
 
   reached : (k : ℕ) → o ≡ Some k → option_map_or is_most q true ≡ true → (is_some a && l) ≡ false
       → asks (codes "outcomes") m with_script ≡ Outcomes (outcomes_as m s k t f a l q)
@@ -304,6 +307,11 @@ tree_from_form m s d chosen k no_m no_s no_d plain count holds =
 pub serve_form : (k : ℕ) → ScriptAsksFor (codes "serve") serve_options (λ chosen. count_in chosen ≡ Some k) (λ m s chosen. Serve (calls_with m s k chosen))
 serve_form k m s chosen no_m no_s plain count =
     serve_asks m s chosen no_m no_s plain (λ e. counted chosen k count) ∙ served m s [] (told chosen) (seen chosen) (begun chosen) (shown chosen) (named chosen) (count_in chosen) (spent chosen) (looked chosen) (parted chosen) (recorded chosen) (treed chosen) (stepped chosen) (trapped chosen) (seeded chosen) (lengthened chosen) (ended chosen) (stated chosen) (timed chosen) (wholly chosen) k count
+
+pub state_form : RunAsksFor (codes "state") state_options (Lacks []) State
+state_form m s d chosen k no_m no_s no_d plain count lacks =
+    state_asks m s d chosen no_m no_s no_d plain (λ e. counted chosen k count)
+    ∙ stands m s d (told chosen) (seen chosen) (begun chosen) (shown chosen) (named chosen) (count_in chosen) (spent chosen) (looked chosen) (parted chosen) (recorded chosen) (treed chosen) (stepped chosen) (trapped chosen) (seeded chosen) (lengthened chosen) (ended chosen) (stated chosen) (timed chosen) (wholly chosen) k count
 
 -- no procedure is named beside `--whole`
 both_false : (a b : Bool) → ((a ≡ true) × (b ≡ true) → ⊥) → (a && b) ≡ false

@@ -149,6 +149,9 @@ run_options = codes "N" ∷ codes "BUDGET" ∷ codes "FROM" ∷ codes "tree" ∷
 abbrev pub serve_options : List Text
 serve_options = codes "N" ∷ codes "BUDGET" ∷ codes "FROM" ∷ []
 
+abbrev pub state_options : List Text
+state_options = codes "N" ∷ codes "BUDGET" ∷ codes "FROM" ∷ []
+
 abbrev pub draw_options : List Text
 draw_options = codes "N" ∷ codes "BUDGET" ∷ codes "FROM" ∷ codes "FROM-TO" ∷ codes "K" ∷ []
 

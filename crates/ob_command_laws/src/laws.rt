@@ -4,7 +4,7 @@ ghost use Rattle.std.specs.Prelude.{◌≡◌, ◌⊎◌, ℕ, List, Option, Som
 ghost use Rattle.clap.specs.Words.{fault_of};
 ghost use Rattle.ob_command_line.specs.ClapCommand.{obl0_app};
 ghost use Rattle.ob_command.specs.CommandLine.{Bound, Check, Draw, DrawHistory, DrawRecord, Explain, ExplainAlways, ExplainCalls};
-ghost use Rattle.ob_command.specs.CommandLine.{ExplainHistory, ExplainRecord, ExplainRun, ExplainTraps, Help, Listing, Live, Order, Outcomes, Run, RunByChance, RunFinished, RunSteps, RunTree, Seq};
+ghost use Rattle.ob_command.specs.CommandLine.{ExplainHistory, ExplainRecord, ExplainRun, ExplainTraps, Help, Listing, Live, Order, Outcomes, Run, RunByChance, RunFinished, RunSteps, RunTree, Seq, State};
 ghost use Rattle.ob_command.specs.CommandLine.{Serve, Text, Unclear, Verify};
 ghost use Rattle.ob_command.specs.CommandLine.{Version, asks_command, command_names, form_mistake_of, is_option, most_mistake, parts_mistake};
 ghost use Rattle.ob_command.specs.CommandLine.{place_mistake, range_by, request, seen_budget_mistake, whole_mistake};
@@ -13,7 +13,7 @@ ghost use Rattle.ob_command_laws.specs.PlainForms.{IsLength, IsMost, IsPlace, Is
 ghost use Rattle.ob_command_laws.specs.PlainForms.{RunAsksFor, SaysSearch, ScriptAsksFor};
 ghost use Rattle.ob_command_laws.specs.PlainForms.{ScriptSays, always_with, argument_in, bound_options, calls_with, chance_with, count_in, draw_options};
 ghost use Rattle.ob_command_laws.specs.PlainForms.{explain_options, live_options, order_options, order_with, outcomes_options, outcomes_with, product_in, run_options};
-ghost use Rattle.ob_command_laws.specs.PlainForms.{seed_in, seen_with, seq_options, seq_with, serve_options};
+ghost use Rattle.ob_command_laws.specs.PlainForms.{seed_in, seen_with, seq_options, seq_with, serve_options, state_options};
 ghost use Rattle.ob_command_laws.specs.PlainForms.{turns_in, value_in};
 ghost use Rattle.ob_command.specs.declared.command.CallNumbers.{CallNumbers};
 ghost use Rattle.ob_command.specs.declared.command.RunProduct.{RunProduct};
@@ -63,6 +63,12 @@ pub fn run_is_asked()
 pub fn serve_is_asked()
     ensures table { AsksWithScript (codes "serve") true serve_options }
     ensures calls { (k : ℕ) → ScriptAsksFor (codes "serve") serve_options (λ chosen. count_in chosen ≡ Some k) (λ m s chosen. Serve (calls_with m s k chosen)) }
+{}
+
+/// `state` and three names that are no options, and its options in any order.
+pub fn state_is_asked()
+    ensures table { AsksWithSchedule (codes "state") true state_options }
+    ensures runs { RunAsksFor (codes "state") state_options (Lacks []) State }
 {}
 
 /// `draw` and three names that are no options, or two, and its options in any order.

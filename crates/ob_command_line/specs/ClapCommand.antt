@@ -116,6 +116,11 @@ abbrev pub schedule_app : Text → App
 schedule_app command =
     command_app command (name_rule (codes "MODULE") ∷ name_rule (codes "SCRIPT") ∷ new_rule (codes "SCHEDULE") ∷ number_rule ∷ budget_rule ∷ [])
 
+-- the same where the schedule has to be there, and `--from RECORD`
+abbrev pub state_app : Text → App
+state_app command = command_app command (name_rule (codes "MODULE") ∷ name_rule (codes "SCRIPT") ∷ name_rule (codes "SCHEDULE")
+    ∷ number_rule ∷ budget_rule ∷ from_rule ∷ [])
+
 abbrev pub drawn_app : Text → App
 drawn_app command =
     command_app command (name_rule (codes "MODULE") ∷ name_rule (codes "SCRIPT") ∷ new_rule (codes "SCHEDULE") ∷ optional_number_rule ∷ budget_rule ∷ [])
@@ -174,7 +179,7 @@ abbrev pub module_apps : List App
 module_apps = module_app (codes "check") ∷ module_app (codes "list") ∷ seq_app (codes "seq") ∷ live_app (codes "live") ∷ []
 
 abbrev pub run_apps : List App
-run_apps = run_app (codes "run") ∷ serve_app (codes "serve") ∷ draw_app (codes "draw") ∷ outcomes_app (codes "outcomes") ∷ []
+run_apps = run_app (codes "run") ∷ serve_app (codes "serve") ∷ draw_app (codes "draw") ∷ outcomes_app (codes "outcomes") ∷ state_app (codes "state") ∷ []
 
 abbrev pub record_apps : List App
 record_apps = record_app (codes "verify") ∷ order_app (codes "order") ∷ []

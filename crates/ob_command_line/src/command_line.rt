@@ -7,7 +7,7 @@ ghost use Rattle.ob_command_line.specs.ClapCommand.{module_apps, obl0_app, recor
 
 use crate::lines::{
     bound_line, draw_line, explain_line, live_line, module_line, order_line, outcomes_line,
-    record_line, run_line, seq_line, serve_line,
+    record_line, run_line, seq_line, serve_line, state_line,
 };
 use std::alloc::{AllocError, Global};
 
@@ -36,6 +36,9 @@ const ABOUT_DRAW: &str =
 
 const ABOUT_OUTCOMES: &str =
     "Tells what may happen over all runs of the calls of a script, whatever the schedule";
+
+const ABOUT_STATE: &str =
+    "Prints where the machine stands behind a run: labels and registers, announcements, the root and the blocks";
 
 const ABOUT_VERIFY: &str = "Tells whether the order of a record is a legal order of its calls";
 
@@ -71,6 +74,8 @@ obl0 draw MODULE SCRIPT SCHEDULE -n N [-b BUDGET] [--from RECORD] [--calls FROM-
 
 const USAGE_OUTCOMES: &str =
     "obl0 outcomes MODULE SCRIPT -n N [-b BUDGET] [--from RECORD] [--most K] [--always NAME | --whole]";
+
+const USAGE_STATE: &str = "obl0 state MODULE SCRIPT SCHEDULE -n N [-b BUDGET] [--from RECORD]";
 
 const USAGE_VERIFY: &str = "obl0 verify MODULE RECORD";
 
@@ -129,7 +134,12 @@ fn with_run_commands<'a>(alloc: Global, program: Line<'a>) -> Line<'a>
     let program = with_command(program, USAGE_SERVE, serve);
     let program = with_command(program, USAGE_DRAW, draw_line(alloc, "draw", ABOUT_DRAW));
     let outcomes = outcomes_line(alloc, "outcomes", ABOUT_OUTCOMES);
-    with_command(program, USAGE_OUTCOMES, outcomes)
+    let program = with_command(program, USAGE_OUTCOMES, outcomes);
+    with_command(
+        program,
+        USAGE_STATE,
+        state_line(alloc, "state", ABOUT_STATE),
+    )
 }
 
 /// The command line with the commands that look at a record or a history.

@@ -5,7 +5,7 @@ ghost use Rattle.clap.specs.Words.{app_of, rule_of, with_rule};
 ghost use Rattle.clap.specs.declared.builder.command.Command.TheViews.{out-Command as fields_of};
 ghost use Rattle.ob_command_line.specs.ClapCommand.{bound_app, draw_app, drawn_app, explain_app, files_app, live_app, module_app, order_app, outcomes_app};
 ghost use Rattle.ob_command_line.specs.ClapCommand.{record_app, run_app, schedule_app, search_app, seq_app, sequence_app, serve_app, texts_app};
-ghost use Rattle.ob_command_line.specs.ClapCommand.{told_run_app};
+ghost use Rattle.ob_command_line.specs.ClapCommand.{state_app, told_run_app};
 
 use crate::arguments::{
     always_true, call_budget, drawn_budget, drawn_calls, explained_history, explained_record,
@@ -104,6 +104,23 @@ pub fn schedule_line<'a>(
     let line = with_arg(line, optional_name(alloc, "SCHEDULE", HELP_SCHEDULE));
     let line = with_arg(line, process_count(alloc));
     with_arg(line, call_budget(alloc))
+}
+
+/// The words behind a command on a module, a script and a schedule, for a number of processes with a budget.
+pub fn state_line<'a>(
+    alloc: Global,
+    command: &'a str,
+    about: &'a str,
+) -> Result<clap::Command<'a>, AllocError>
+    ensures app { IfOk result (λ c. app_of c ≡ state_app command.entry.now) }
+    ensures local { IfOk result (λ c. (fields_of c).has_globals ≡ false) }
+{
+    let line = with_items(module_line(alloc, command, about));
+    let line = with_arg(line, file_name(alloc, "SCRIPT", HELP_SCRIPT));
+    let line = with_arg(line, file_name(alloc, "SCHEDULE", HELP_SCHEDULE));
+    let line = with_arg(line, process_count(alloc));
+    let line = with_arg(line, call_budget(alloc));
+    with_arg(line, first_record(alloc))
 }
 
 /// The words behind a command on a module, and on a script and a schedule for a number of processes with a budget, on a record or on a

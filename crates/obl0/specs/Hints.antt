@@ -6,7 +6,7 @@ use Rattle.std.specs.List.{after_first, before_first, list_all, starts_with}
 use Rattle.std.specs.Str.{bytes_eq}
 use Rattle.std.specs.declared.io.ErrorKind.{ErrorKind}
 use Rattle.std.specs.declared.io.ErrorKind.TheVariants as Kind
-use Rattle.ob_command.specs.CommandLine.{Text, CallsRequest, OrderRequest, OutcomesRequest, Request, RunRequest, SeenRequest, Check, Listing, Seq, Live, Run, RunTree, RunSteps, RunFinished, RunByChance, Serve, Draw, DrawRecord, DrawHistory, Outcomes, Verify, Order}
+use Rattle.ob_command.specs.CommandLine.{Text, CallsRequest, OrderRequest, OutcomesRequest, Request, RunRequest, SeenRequest, Check, Listing, Seq, Live, Run, RunTree, RunSteps, RunFinished, RunByChance, Serve, Draw, DrawRecord, DrawHistory, Outcomes, State, Verify, Order}
 use Rattle.ob_command.specs.CommandLine.{Explain, ExplainAlways, ExplainCalls, ExplainTraps, ExplainRun, ExplainRecord, ExplainHistory, Bound, default_budget, default_most, default_most_reached}
 use Rattle.ob_command.specs.declared.command.OrderProduct.{OrderProduct}
 use Rattle.ob_command.specs.declared.command.RunProduct.{RunProduct}
@@ -180,6 +180,7 @@ form_about (RunSteps run) line = run_form run
 form_about (RunFinished product run) line = made_form product run line
 form_about (RunByChance product run) line = made_form product (served run.calls) line
 form_about (Draw run range) line = run_form run
+form_about (State run) line = run_form run
 form_about (Serve calls) line = run_form (served calls)
 form_about (Outcomes outcomes) line = outcomes_form outcomes line
 form_about (DrawRecord module_name record_name calls) line = drawn_form module_name record_name line

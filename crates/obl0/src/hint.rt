@@ -259,6 +259,7 @@ fn form_about(alloc: Global, command: Command<'_>, line: &[u8]) -> Result<String
             made_form(alloc, product, served(run.calls), line)
         }
         Command::Draw { run, .. } => run_form(alloc, run),
+        Command::State(run) => run_form(alloc, run),
         Command::Serve(calls) => run_form(alloc, served(calls)),
         Command::Outcomes(outcomes) => outcomes_form(alloc, outcomes, line),
         Command::DrawRecord {

@@ -39,6 +39,9 @@ returns-in-RunFinished g c = rw c.in-RunFinished.is c.obey_finished.ensures
 pub returns-in-RunByChance : goal.returns-in-RunByChance
 returns-in-RunByChance g c = rw c.in-RunByChance.is c.obey_chance.ensures
 
+pub returns-in-State : goal.returns-in-State
+returns-in-State g c = rw c.in-State.is c.obey_run-in-State.ensures
+
 pub returns-in-Draw : goal.returns-in-Draw
 returns-in-Draw g c =
     rw c.in-Draw.is (subst (λ (r : Option CallRange). IfOk c.obey_run-in-Draw.result

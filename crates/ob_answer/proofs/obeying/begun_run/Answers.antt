@@ -9,6 +9,9 @@ returns-in-TreeRecord c = rw c.in-TreeRecord.is c.answer_tree_record.ensures
 pub returns-in-RecordWithSteps : goal.returns-in-RecordWithSteps
 returns-in-RecordWithSteps c = rw c.in-RecordWithSteps.is c.answer_steps.ensures
 
+pub returns-in-State : goal.returns-in-State
+returns-in-State c = rw c.in-State.is c.answer_state.ensures
+
 pub returns-in-Picture : goal.returns-in-Picture
 returns-in-Picture c = rw c.in-Picture.is c.answer_picture.ensures
 

@@ -6,4 +6,5 @@ returns c a above =
     let run = added _ _ _ _ _ above c.run_line.ensures.app c.with_command-program.ensures in
     let serve = added _ _ _ _ _ run c.serve_line-serve.ensures.app c.with_command-program-2.ensures in
     let draw = added _ _ _ _ _ serve c.draw_line.ensures.app c.with_command-program-3.ensures in
-    added _ _ _ _ _ draw c.outcomes_line-outcomes.ensures.app c.with_command.ensures
+    let outcomes = added _ _ _ _ _ draw c.outcomes_line-outcomes.ensures.app c.with_command-program-4.ensures in
+    added _ _ _ _ _ outcomes c.state_line.ensures.app c.with_command.ensures
