@@ -22,7 +22,7 @@ nothing_asked = refl
 
 pub each_help_asked : All IsHelpAsked command_names
 unfolding clap_on_literals clap_request
-each_help_asked = All-from_recursion IsHelpAsked command_names (record { before = refl; long = refl; short = refl; before_long = refl; before_short = refl }, (record { before = refl; long = refl; short = refl; before_long = refl; before_short = refl }, (record { before = refl; long = refl; short = refl; before_long = refl; before_short = refl }, (record { before = refl; long = refl; short = refl; before_long = refl; before_short = refl }, (record { before = refl; long = refl; short = refl; before_long = refl; before_short = refl }, (record { before = refl; long = refl; short = refl; before_long = refl; before_short = refl }, (record { before = refl; long = refl; short = refl; before_long = refl; before_short = refl }, (record { before = refl; long = refl; short = refl; before_long = refl; before_short = refl }, (record { before = refl; long = refl; short = refl; before_long = refl; before_short = refl }, (record { before = refl; long = refl; short = refl; before_long = refl; before_short = refl }, (record { before = refl; long = refl; short = refl; before_long = refl; before_short = refl }, (record { before = refl; long = refl; short = refl; before_long = refl; before_short = refl }, tt))))))))))))
+each_help_asked = All-from_recursion IsHelpAsked command_names (record { before = refl; long = refl; short = refl; before_long = refl; before_short = refl }, (record { before = refl; long = refl; short = refl; before_long = refl; before_short = refl }, (record { before = refl; long = refl; short = refl; before_long = refl; before_short = refl }, (record { before = refl; long = refl; short = refl; before_long = refl; before_short = refl }, (record { before = refl; long = refl; short = refl; before_long = refl; before_short = refl }, (record { before = refl; long = refl; short = refl; before_long = refl; before_short = refl }, (record { before = refl; long = refl; short = refl; before_long = refl; before_short = refl }, (record { before = refl; long = refl; short = refl; before_long = refl; before_short = refl }, (record { before = refl; long = refl; short = refl; before_long = refl; before_short = refl }, (record { before = refl; long = refl; short = refl; before_long = refl; before_short = refl }, (record { before = refl; long = refl; short = refl; before_long = refl; before_short = refl }, (record { before = refl; long = refl; short = refl; before_long = refl; before_short = refl }, (record { before = refl; long = refl; short = refl; before_long = refl; before_short = refl }, tt)))))))))))))
 
 pub each_version_asked : All IsVersionAsked command_names
-each_version_asked = All-from_recursion IsVersionAsked command_names (record { long = refl; short = refl }, (record { long = refl; short = refl }, (record { long = refl; short = refl }, (record { long = refl; short = refl }, (record { long = refl; short = refl }, (record { long = refl; short = refl }, (record { long = refl; short = refl }, (record { long = refl; short = refl }, (record { long = refl; short = refl }, (record { long = refl; short = refl }, (record { long = refl; short = refl }, (record { long = refl; short = refl }, tt))))))))))))
+each_version_asked = All-from_recursion IsVersionAsked command_names (record { long = refl; short = refl }, (record { long = refl; short = refl }, (record { long = refl; short = refl }, (record { long = refl; short = refl }, (record { long = refl; short = refl }, (record { long = refl; short = refl }, (record { long = refl; short = refl }, (record { long = refl; short = refl }, (record { long = refl; short = refl }, (record { long = refl; short = refl }, (record { long = refl; short = refl }, (record { long = refl; short = refl }, (record { long = refl; short = refl }, tt)))))))))))))
