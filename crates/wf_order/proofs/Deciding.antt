@@ -1,7 +1,7 @@
 -- What the answers of searches say of the whole history.
-use Rattle.std.proofs.Common.{◌≡◌, sym, ap, subst, ℕ, ◌+◌, ◌-◌, ◌<◌, ◌≤◌, List, length, take, Vec, Global, arith, inl, inr}
+use Rattle.std.proofs.Common.{◌≡◌, ap, subst, ℕ, ◌+◌, ◌-◌, ◌<◌, ◌≤◌, List, length, take, Vec, Global, arith, inl, inr}
 use Rattle.std.proofs.lemmas.Bool.{cases_lt}
-use Rattle.std.proofs.lemmas.List.{take_all, nil_from_length, length-take-le}
+use Rattle.std.proofs.lemmas.List.{take_all, length-take-le}
 use Rattle.ob_interface.specs.Call.{ObjectCall, Reply}
 use Rattle.wf_history.specs.declared.event.CallId.{CallId}
 use Rattle.wf_history.specs.History.{Event, IsHistory}
@@ -10,19 +10,19 @@ use Rattle.wf_order.specs.declared.search.Answer.TheVariants as Answers
 use Rattle.wf_order.specs.Rows.{AreOfProcesses}
 use Rattle.wf_order.specs.Search.{IsAnswer, try_cost}
 use Rattle.wf_order.specs.Verdict.{HasLegal, IsBetween, IsLastLegal, IsTooMuch}
-use Rattle.wf_order.proofs.Beginnings.{last_legal_is, nothing_legal}
+use Rattle.wf_order.proofs.Beginnings.{last_legal_is}
 use Rattle.wf_order.proofs.Bounds.{enough_is}
 
 module _ {M : Type 0} (Effect : ObjectCall → M → M → Reply → Type 0) (history : List (Event ObjectCall Reply)) (opening : M) where
   -- the ends of the halving
-  pub between_start : ¬ HasLegal Effect opening history → IsBetween Effect opening history 0 (length history)
-  between_start gone = record {
-    order = elim (cases_lt 0 (length history)) [
+  pub between_start : ¬ HasLegal Effect opening history → (farthest : ℕ) → HasLegal Effect opening (take farthest history) → IsBetween Effect opening history farthest (length history)
+  between_start gone farthest has = record {
+    order = elim (cases_lt farthest (length history)) [
       | inl lt ↦ lt
-      | inr le ↦ absurd (gone (subst (λ (l : List (Event ObjectCall Reply)). HasLegal Effect opening l) (sym (nil_from_length history (omega (arith, le)))) (nothing_legal Effect opening)))
+      | inr le ↦ absurd (gone (subst (λ (l : List (Event ObjectCall Reply)). HasLegal Effect opening l) (take_all farthest history (omega (arith, le))) has))
     ];
     within = omega arith;
-    has = nothing_legal Effect opening;
+    has = has;
     none = λ h. gone (subst (λ (l : List (Event ObjectCall Reply)). HasLegal Effect opening l) (take_all (length history) history (omega arith)) h);
   }
 
@@ -36,17 +36,24 @@ module _ {M : Type 0} (Effect : ObjectCall → M → M → Reply → Type 0) (hi
   module _ (processes most count : ℕ) (within : count ≤ length history) where
     pub at_order : (answer : Answer) → IsAnswer Effect opening (take count history) processes most answer → (order : Vec CallId Global) → answer ≡ Answers.Order order → HasLegal Effect opening (take count history)
     at_order (Answers.Order order) a o e = (order.items, a.0, a.1)
-    at_order Answers.NoOrder a o e = absurd (cc)
+    at_order (Answers.NoOrder farthest) a o e = absurd (cc)
     at_order Answers.TooMany a o e = absurd (cc)
 
-    pub at_none : (answer : Answer) → IsAnswer Effect opening (take count history) processes most answer → answer ≡ Answers.NoOrder → ¬ HasLegal Effect opening (take count history)
-    at_none (Answers.Order order) a e = absurd (cc)
-    at_none Answers.NoOrder a e = a
-    at_none Answers.TooMany a e = absurd (cc)
+    pub at_none : (answer : Answer) → IsAnswer Effect opening (take count history) processes most answer → (farthest : ℕ) → answer ≡ Answers.NoOrder farthest → ¬ HasLegal Effect opening (take count history)
+    at_none (Answers.Order order) a farthest e = absurd (cc)
+    at_none (Answers.NoOrder f) a farthest e = a.0
+    at_none Answers.TooMany a farthest e = absurd (cc)
+
+    pub at_farthest : (answer : Answer) → IsAnswer Effect opening (take count history) processes most answer → (farthest : ℕ) → answer ≡ Answers.NoOrder farthest → HasLegal Effect opening (take farthest (take count history))
+    at_farthest (Answers.Order order) a farthest e = absurd (cc)
+    at_farthest (Answers.NoOrder f) a farthest e =
+        let same : f ≡ farthest = cc in
+        subst (λ (n : ℕ). HasLegal Effect opening (take n (take count history))) same a.1
+    at_farthest Answers.TooMany a farthest e = absurd (cc)
 
     pub at_many : (answer : Answer) → IsAnswer Effect opening (take count history) processes most answer → answer ≡ Answers.TooMany → IsTooMuch Effect opening history processes most
     at_many (Answers.Order order) a e = absurd (cc)
-    at_many Answers.NoOrder a e = absurd (cc)
+    at_many (Answers.NoOrder farthest) a e = absurd (cc)
     at_many Answers.TooMany a e =
         let size = length-take-le count history within in
         let cost = ap (λ (n : ℕ). try_cost processes (n + 1)) size in

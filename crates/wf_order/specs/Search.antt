@@ -119,9 +119,9 @@ weights n rows counted (f ∷ fs) = weight n rows counted f + weights n rows cou
 unfoldable pub work : {State : Type 0} → ℕ → Rows → List (Configuration State) → List Frame → ℕ
 work processes rows found stack = weights processes (begun_rows rows) (map (λ c. c.counts) found) stack
 
--- what a search answers: a legal order, that there is none, or that there is more than the most to be looked at, which is
--- less than one try may cost
+-- what a search answers: a legal order; that there is none, but one of so many first events; or that there is more than the most
+-- to be looked at, which is less than one try may cost
 abbrev pub IsAnswer : {M : Type 0} → (ObjectCall → M → M → Reply → Type 0) → M → List (Event ObjectCall Reply) → (processes most : ℕ) → Answer → Type 0
 IsAnswer {M} Effect opening history processes most (Answers.Order order) = (last : M) × IsLegal Effect opening history order.items last
-IsAnswer Effect opening history processes most Answers.NoOrder = ¬ HasLegal Effect opening history
+IsAnswer Effect opening history processes most (Answers.NoOrder farthest) = (¬ HasLegal Effect opening history) × HasLegal Effect opening (take farthest history)
 IsAnswer Effect opening history processes most Answers.TooMany = HasMore Effect opening history processes most × (most < try_cost processes (length history + 1))

@@ -62,43 +62,62 @@ fn front_answer<O: Object>(question: &Question<O>, count: usize) -> Result<Answe
     search(&task, processes, question.most, question.keys)
 }
 
-/// One half of what is between a beginning that has a legal order and one that has none.
+/// A place between two others: so far behind the first one, but no farther than half of the way.
+fn place_between(legal: usize, illegal: usize, step: usize) -> usize
+    requires wide { 1 < illegal - legal }
+    ensures lower { legal < result }
+    ensures upper { result < illegal }
+{
+    let half = (illegal - legal) / 2;
+    if step == 0 || step >= half {
+        return legal + half;
+    }
+    legal + step
+}
+
+/// Of what is between a beginning that has a legal order and one that has none, the part before a place or the one behind it.
 fn halved<O: Object>(
     question: &Question<O>,
     legal: usize,
     illegal: usize,
+    middle: usize,
 ) -> Result<Option<(usize, usize)>, NoMemory>
     requires history { IsHistory (map event_of question.now.events.now) }
     requires few { AreOfProcesses question.now.processes (map event_of question.now.events.now) }
     requires between { IsBetween (O.effect question.now.object.now) (O.opening question.now.object.now) (map event_of question.now.events.now) legal illegal }
-    requires wide { 1 < illegal - legal }
+    requires lower { legal < middle }
+    requires upper { middle < illegal }
     ensures { IfOk result (IsHalved (O.effect question.now.object.now) (O.opening question.now.object.now)
         (map event_of question.now.events.now) question.now.processes question.now.most (illegal - legal)) }
 {
-    let middle = legal + (illegal - legal) / 2;
     match front_answer(question, middle)? {
         Answer::Order(_) => Ok(Some((middle, illegal))),
-        Answer::NoOrder => Ok(Some((legal, middle))),
+        Answer::NoOrder(_) => Ok(Some((legal, middle))),
         Answer::TooMany => Ok(None),
     }
 }
 
-/// The largest number of first events that have a legal order, by halving, where all have none.
-fn last_legal<O: Object>(question: &Question<O>) -> Result<Option<usize>, NoMemory>
+/// The largest number of first events that have a legal order, where so many have one and all have none. Mostly one event more has
+/// none: the search of all came as far as it can. Else wider and wider steps are taken, and then halves.
+fn last_legal<O: Object>(question: &Question<O>, farthest: usize) -> Result<Option<usize>, NoMemory>
     requires history { IsHistory (map event_of question.now.events.now) }
     requires few { AreOfProcesses question.now.processes (map event_of question.now.events.now) }
+    requires legal { HasLegal (O.effect question.now.object.now) (O.opening question.now.object.now) (take farthest (map event_of question.now.events.now)) }
     requires none { ¬ HasLegal (O.effect question.now.object.now) (O.opening question.now.object.now) (map event_of question.now.events.now) }
     ensures { IfOk result (IsLastFound (O.effect question.now.object.now) (O.opening question.now.object.now)
         (map event_of question.now.events.now) question.now.processes question.now.most) }
 {
-    let mut legal = 0;
+    let mut legal = farthest;
     let mut illegal = question.events.len();
+    let mut step: usize = 1;
     while illegal - legal > 1 {
-        let Some((more, less)) = halved(question, legal, illegal)? else {
+        let middle = place_between(legal, illegal, step);
+        let Some((more, less)) = halved(question, legal, illegal, middle)? else {
             return Ok(None);
         };
         legal = more;
         illegal = less;
+        step = step.saturating_mul(2);
     }
     Ok(Some(legal))
 }
@@ -124,7 +143,7 @@ fn verdict_of<O: Object>(question: &Question<O>) -> Result<Verdict, NoMemory>
     match front_answer(question, question.events.len())? {
         Answer::Order(order) => Ok(Verdict::Legal(order)),
         Answer::TooMany => Ok(Verdict::TooMany),
-        Answer::NoOrder => match last_legal(question)? {
+        Answer::NoOrder(farthest) => match last_legal(question, farthest)? {
             Some(place) => Ok(Verdict::Illegal(end_at(question.events, place), place)),
             None => Ok(Verdict::TooMany),
         },

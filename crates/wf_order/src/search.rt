@@ -38,8 +38,8 @@ pub(crate) struct Frame {
 pub(crate) enum Answer {
     /// A legal order.
     Order(Vec<CallId>),
-    /// There is none.
-    NoOrder,
+    /// There is none; so many first events have one.
+    NoOrder(usize),
     /// More configurations were found than were to be looked at.
     TooMany,
 }
@@ -189,13 +189,16 @@ pub(crate) fn search<O: Object>(
     if let Some(order) = arrive(task, &mut seen, &mut stack, start)? {
         return Ok(Answer::Order(order));
     }
+    // All that ends before the limit of a configuration is taken there, so the events before it have a legal order.
+    let mut farthest = 0;
     while let Some(frame) = stack.pop() {
         if seen.len() > most {
             return Ok(Answer::TooMany);
         }
+        farthest = farthest.max(frame.limit);
         if let Some(order) = advance(task, &mut seen, &mut stack, frame)? {
             return Ok(Answer::Order(order));
         }
     }
-    Ok(Answer::NoOrder)
+    Ok(Answer::NoOrder(farthest))
 }

@@ -11,7 +11,8 @@ loop-illegal-init g c =
     let effect = g.O.Object.effect c.args.question.now.object.now in
     let opening = g.O.Object.opening c.args.question.now.object.now in
     let history = map event_of c.args.question.now.events.now in
-    subst (λ (n : ℕ). IsBetween effect opening history 0 n) (length-map c.args.question.now.events.now event_of) (between_start effect history opening c.requires.none)
+    subst (λ (n : ℕ). IsBetween effect opening history c.args.farthest n) (length-map c.args.question.now.events.now event_of)
+    (between_start effect history opening c.requires.none c.args.farthest c.requires.legal)
 
 pub returns : goal.returns
 returns g c =

@@ -7,7 +7,7 @@ use Rattle.wf_history.specs.History.{Event, End}
 use Rattle.wf_history.specs.View.{event_of}
 use Rattle.wf_history.proofs.Positions.{one_item}
 use Rattle.wf_order.specs.Verdict.{HasLegal, enough}
-use Rattle.wf_order.proofs.Deciding.{at_none, at_many}
+use Rattle.wf_order.proofs.Deciding.{at_farthest, at_none, at_many}
 use Rattle.wf_order.proofs.Places.{same_end}
 use Rattle.wf_order.proofs.find.verdict_of.Goals as goal
 
@@ -20,8 +20,20 @@ last_legal-requires-clause-none g c = λ h.
     let count = length c.args.question.now.events.now in
     let inside : count ≤ length history = omega (arith, size) in
     let all : take count history ≡ history = take_all count history (omega (arith, size)) in
-    at_none effect history opening c.args.question.now.processes c.args.question.now.most count inside c.in_ok-order.field-0 c.in_ok-order.ensures c.in-NoOrder.is
+    at_none effect history opening c.args.question.now.processes c.args.question.now.most count inside c.in_ok-order.field-0 c.in_ok-order.ensures c.in-NoOrder.farthest c.in-NoOrder.is
     (subst (λ (l : List (Event ObjectCall Reply)). HasLegal effect opening l) (sym all) h)
+
+pub last_legal-requires-clause-legal : goal.last_legal-requires-clause-legal
+last_legal-requires-clause-legal g c =
+    let effect = g.O.Object.effect c.args.question.now.object.now in
+    let opening = g.O.Object.opening c.args.question.now.object.now in
+    let history = map event_of c.args.question.now.events.now in
+    let size = length-map c.args.question.now.events.now event_of in
+    let count = length c.args.question.now.events.now in
+    let inside : count ≤ length history = omega (arith, size) in
+    let all : take count history ≡ history = take_all count history (omega (arith, size)) in
+    subst (λ (l : List (Event ObjectCall Reply)). HasLegal effect opening (take c.in-NoOrder.farthest l)) all
+    (at_farthest effect history opening c.args.question.now.processes c.args.question.now.most count inside c.in_ok-order.field-0 c.in_ok-order.ensures c.in-NoOrder.farthest c.in-NoOrder.is)
 
 pub returns-in-TooMany-clause-decided : goal.returns-in-TooMany-clause-decided
 returns-in-TooMany-clause-decided g c = λ le e.
@@ -49,7 +61,7 @@ returns-in-Some-clause-verdict g c =
     let end = c.end_at.ensures in (
       last,
       same_end history last.id c.end_at.result last.reply end.0 (one_item history c.in-Some.place (End last.id last.reply) (End c.end_at.result end.0) last.end end.1),
-      (λ h. at_none effect history opening c.args.question.now.processes c.args.question.now.most count inside c.in_ok-order.field-0 c.in_ok-order.ensures c.in-NoOrder.is
+      (λ h. at_none effect history opening c.args.question.now.processes c.args.question.now.most count inside c.in_ok-order.field-0 c.in_ok-order.ensures c.in-NoOrder.farthest c.in-NoOrder.is
           (subst (λ (l : List (Event ObjectCall Reply)). HasLegal effect opening l) (sym all) h)),
     )
 

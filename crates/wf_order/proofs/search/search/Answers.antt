@@ -1,5 +1,5 @@
 -- The search from its start to its end.
-use Rattle.std.proofs.Common.{◌≡◌, sym, ap, subst, ◌∙◌, ℕ, ◌+◌, ◌<◌, ◌≤◌, List, [], length, map, arith}
+use Rattle.std.proofs.Common.{◌≡◌, sym, ap, subst, ◌∙◌, ℕ, ◌+◌, ◌<◌, ◌≤◌, List, [], length, map, take, arith, Bool, true, false, cond}
 use Rattle.std.proofs.lemmas.List.{length-map, nil_from_length}
 use Rattle.std.proofs.lemmas.Option.{MatchOption-at_none, MatchOption-at_some, slice_get_within}
 use Rattle.std.specs.List.{Contains}
@@ -9,6 +9,8 @@ use Rattle.wf_order.specs.declared.search.Frame.{Frame}
 use Rattle.wf_order.specs.declared.seen.Found.{Found}
 use Rattle.wf_order.specs.Search.{found_in, all_found, IsSearch, try_cost, work}
 use Rattle.wf_order.specs.Steps.{start_at}
+use Rattle.wf_order.specs.Verdict.{HasLegal}
+use Rattle.wf_order.proofs.Beginnings.{legal_before, nothing_legal}
 use Rattle.wf_order.proofs.Completeness.{none_taken}
 use Rattle.wf_order.proofs.Ending.{start_legal, start_search, start_rows, arrival_at, many}
 use Rattle.wf_order.proofs.Keeping.{found_apart, found_alike, found_eq}
@@ -34,6 +36,11 @@ returns-in-Some g c =
     let none = ap (map view) (nil_from_length c.with_hasher-seen.result.keys c.with_hasher-seen.ensures.len) in
     (opening, start_legal effect history c.args.processes rows c.requires opening (all_found g.O.Object.meaning c.with_hasher-seen.result) [] c.new-stack.result.items [] none c.new-stack.ensures.items c.in-Some.order.items a)
 
+-- what holds of two numbers holds of the one that is taken
+of_either : (P : ℕ → Type 0) (first : Bool) (a b m : ℕ) → m ≡ cond first a b → P a → P b → P m
+of_either P true a b m is ha hb = subst P (sym is) ha
+of_either P false a b m is ha hb = subst P (sym is) hb
+
 pub loop-frame-init : goal.loop-frame-init
 loop-frame-init g c =
     let effect = g.O.Object.effect c.args.task.now.object.now in
@@ -50,6 +57,7 @@ loop-frame-init g c =
       c.in_ok-order.ensures.worded,
       subst (λ (n : ℕ). n + work c.args.processes rows (all_found g.O.Object.meaning c.arrive.new.seen) c.arrive.new.stack.items ≤ try_cost c.args.processes (length c.args.task.now.events.now + 1)) (length-map c.arrive.new.seen.keys view)
           (subst (λ (n : ℕ). length (all_found g.O.Object.meaning c.arrive.new.seen) + work c.args.processes rows (all_found g.O.Object.meaning c.arrive.new.seen) c.arrive.new.stack.items ≤ try_cost c.args.processes (n + 1)) (length-map c.args.task.now.events.now event_of) s.1),
+      nothing_legal effect opening,
     )
 
 pub returns-then-len-most : goal.returns-then-len-most
@@ -109,6 +117,7 @@ loop-frame-smaller g c =
 pub loop-frame-preserved : goal.loop-frame-preserved
 loop-frame-preserved g c =
     let effect = g.O.Object.effect c.args.task.now.object.now in
+    let opening = g.O.Object.opening c.args.task.now.object.now in
     let history = map event_of c.args.task.now.events.now in
     let rows = c.args.task.now.rows.now in
     let start = start_at c.args.processes (g.O.Object.opening c.args.task.now.object.now) in
@@ -119,7 +128,14 @@ loop-frame-preserved g c =
     let less = subst (λ (l : List Frame). work c.args.processes rows more c.advance.new.stack.items < work c.args.processes rows found l) (sym c.in-Some-pop.ensures.items) both.1 in
     let one = c.in_ok-order-2.ensures.one_more in
     let bound = c.loop-frame.invariant.2 in
-    (both.0, c.in_ok-order-2.ensures.worded, omega (arith, less, one, bound))
+    let top = top_led effect history c.args.processes start found c.pop.new.self.items c.in-Some-pop.frame h in
+    let limit = c.in-Some-pop.frame.limit in (
+      both.0,
+      c.in_ok-order-2.ensures.worded,
+      omega (arith, less, one, bound),
+      of_either (λ (n : ℕ). HasLegal effect opening (take n history)) _ c.loop-frame.farthest limit c.max-farthest.result c.max-farthest.ensures c.loop-frame.invariant.3
+          (legal_before effect history c.args.processes opening _ top.0 limit top.2 top.3),
+    )
 
 pub returns : goal.returns
 returns g c =
@@ -128,6 +144,8 @@ returns g c =
     let history = map event_of c.args.task.now.events.now in
     let start = start_at c.args.processes opening in
     let found = all_found g.O.Object.meaning c.loop-frame.seen in
-    let none : c.loop-frame.stack.items ≡ [] = nil_from_length c.loop-frame.stack.items (sym c.loop-frame.stack.ok.0 ∙ c.in_default-pop.ensures.cases.0) in
-    none_legal effect history c.args.processes c.args.task.now.rows.now c.requires opening (λ call. g.met.O.Object.determined c.args.task.now.object.now call) found
-    (subst (λ (l : List Frame). IsSearch effect history c.args.processes start found l) none c.loop-frame.invariant.0)
+    let none : c.loop-frame.stack.items ≡ [] = nil_from_length c.loop-frame.stack.items (sym c.loop-frame.stack.ok.0 ∙ c.in_default-pop.ensures.cases.0) in (
+      none_legal effect history c.args.processes c.args.task.now.rows.now c.requires opening (λ call. g.met.O.Object.determined c.args.task.now.object.now call) found
+          (subst (λ (l : List Frame). IsSearch effect history c.args.processes start found l) none c.loop-frame.invariant.0),
+      c.loop-frame.invariant.3,
+    )
