@@ -1,5 +1,5 @@
 -- What was found of all events, in the first ones.
-use Rattle.std.proofs.Common.{◌≡◌, refl, sym, ap, ◌∙◌, subst, ℕ, ◌+◌, ◌-◌, ◌<◌, ◌≤◌, List, [], ◌∷◌, ◌++◌, length, map, take, get_or, Some, option_map, true, false, arith, ◌⊎◌, inl, inr}
+use Rattle.std.proofs.Common.{◌≡◌, refl, sym, ap, ◌∙◌, subst, ℕ, ◌-◌, ◌<◌, ◌≤◌, List, [], ◌∷◌, ◌++◌, length, map, take, get_or, Some, option_map, true, false, arith, ◌⊎◌, inl, inr}
 use Rattle.std.proofs.lemmas.Bool.{cases_lt}
 use Rattle.std.proofs.lemmas.List.{length-take-le}
 use Rattle.std.proofs.lemmas.List.Elements.{Contains-append_left, Contains-push, Contains-push_cases}
@@ -17,9 +17,9 @@ use Rattle.wf_order.specs.declared.search.Frame.{Frame}
 use Rattle.wf_order.specs.declared.seen.Found.{Found}
 use Rattle.wf_order.specs.Fronts.{AreFramed, AreSized, EndsBefore, IsFarthest, IsFresh}
 use Rattle.wf_order.specs.Rows.{AreRows, call_at, ended_rows, row_of}
-use Rattle.wf_order.specs.Rules.{EndsFirst, ComesFirst, ends, open_ones, IsAnswered, IsBehind, IsSilent}
+use Rattle.wf_order.specs.Rules.{ComesFirst, ends, open_ones, IsAnswered, IsBehind, IsSilent}
 use Rattle.wf_order.specs.Search.{found_in, IsLed, IsSearch, IsWholeSearch}
-use Rattle.wf_order.specs.Steps.{Configuration, IsTaken, IsLimit, IsStep, Leads, none, more, IsDone, start_at}
+use Rattle.wf_order.specs.Steps.{Configuration, IsTaken, IsLimit, IsStep, Leads, none, more, start_at}
 use Rattle.wf_order.specs.Turns.{BeginsFrom}
 use Rattle.wf_order.specs.Verdict.{HasLegal}
 use Rattle.wf_order.proofs.Beginnings.{legal_before, nothing_legal}

@@ -13,7 +13,7 @@ use Rattle.wf_history.proofs.Positions.{place_push, place_left, place_here, plac
 use Rattle.wf_order.specs.declared.rows.Rows.{Rows}
 use Rattle.wf_order.specs.declared.search.Frame.{Frame}
 use Rattle.wf_order.specs.Rows.{AreRows}
-use Rattle.wf_order.specs.Steps.{Configuration, IsTaken, IsLimit, IsStep, Leads, none, more, IsDone, start_at}
+use Rattle.wf_order.specs.Steps.{Configuration, IsLimit, IsStep, Leads, none, more, IsDone, start_at}
 use Rattle.wf_order.specs.Verdict.{HasLegal}
 use Rattle.wf_order.specs.Rules.{ComesFirst, ends, open_ones, IsOpen, IsBehind, IsAnswered}
 use Rattle.wf_order.specs.Search.{ids_of, IsLed, IsSearch, LeadsOn}

@@ -10,8 +10,8 @@ ghost use Rattle.wf_order.specs.Rows.{AreOfProcesses, AreRows};
 ghost use Rattle.wf_order.specs.Search.{all_counts, all_found, AreWorded, IsAnswer, IsWholeSearch};
 ghost use Rattle.wf_order.specs.Verdict.{HasLegal, IsBetween, IsHalved, IsLastFound, IsVerdict, enough};
 
-use crate::object::Object;
 use crate::front::{Front, farthest_of, frames_behind, go_on};
+use crate::object::Object;
 use crate::rows::{Rows, processes_of, rows_of};
 use crate::search::{Answer, search};
 use crate::seen::{Keys, Seen};

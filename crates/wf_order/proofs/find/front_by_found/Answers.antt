@@ -1,11 +1,9 @@
 -- The first events, gone on with from what was found of all.
-use Rattle.std.proofs.Common.{◌≡◌, sym, ap, ◌∙◌, subst, List, ◌≤◌, ◌++◌, length, map, take, false, arith}
+use Rattle.std.proofs.Common.{sym, ap, ◌∙◌, subst, List, ◌≤◌, length, map, take, false, arith}
 use Rattle.std.proofs.lemmas.List.{length-map, take-map, take_at}
-use Rattle.std.specs.Prelude.{IfOk}
 use Rattle.ob_interface.specs.Call.{ObjectCall, Reply}
 use Rattle.wf_history.specs.History.{Event, IsHistory}
 use Rattle.wf_history.specs.View.{event_of}
-use Rattle.wf_order.specs.declared.seen.Found.{Found}
 use Rattle.wf_order.specs.Fronts.{IsFound}
 use Rattle.wf_order.specs.Rows.{AreOfProcesses}
 use Rattle.wf_order.specs.Search.{all_found, IsLed, IsSearch}

@@ -1,5 +1,5 @@
 -- From the whole history down to one event.
-use Rattle.std.proofs.Common.{◌≡◌, sym, subst, ℕ, List, ◌≤◌, map, arith}
+use Rattle.std.proofs.Common.{sym, subst, ℕ, List, ◌≤◌, map, arith}
 use Rattle.std.proofs.lemmas.List.{length-map}
 use Rattle.std.proofs.lemmas.Option.{MatchOption-at_some}
 use Rattle.std.specs.List.{Contains}
@@ -24,7 +24,7 @@ loop-illegal-init g c =
     let legal = farthest_legal g.O.Object.meaning effect history processes opening keys c.requires.search c.farthest_of-legal.result far in
     record {
       between = subst (λ (n : ℕ). IsBetween effect opening history c.farthest_of-legal.result n) (length-map c.args.question.now.events.now event_of)
-      (between_start effect history opening c.requires.none c.farthest_of-legal.result legal);
+          (between_start effect history opening c.requires.none c.farthest_of-legal.result legal);
       search = c.requires.search;
       worded = c.requires.worded;
       farthest = (c.farthest_of-legal.result, omega arith, far);

@@ -1,5 +1,5 @@
 -- By the search of the whole, and by halving.
-use Rattle.std.proofs.Common.{◌≡◌, ap, ℕ, map, arith}
+use Rattle.std.proofs.Common.{ap, ℕ, map, arith}
 use Rattle.std.proofs.lemmas.List.{length-map}
 use Rattle.std.proofs.lemmas.Option.{MatchOption-at_none, MatchOption-at_some}
 use Rattle.wf_history.specs.History.{End}

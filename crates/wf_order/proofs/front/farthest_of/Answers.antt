@@ -3,7 +3,6 @@ use Rattle.std.proofs.Common.{◌≡◌, ◌∷◌, ◌++◌, ◌+◌, ◌∙◌
 use Rattle.std.proofs.lemmas.List.{length-map, take_all}
 use Rattle.std.specs.List.{slice_get}
 use Rattle.wf_history.proofs.Positions.{contains_at, take_next}
-use Rattle.wf_order.specs.declared.seen.Found.{Found}
 use Rattle.wf_order.specs.Fronts.{AreSized, IsFarthest}
 use Rattle.wf_order.specs.Rows.{AreRows}
 use Rattle.wf_order.specs.Steps.{IsLimit}

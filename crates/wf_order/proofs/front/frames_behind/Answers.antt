@@ -5,7 +5,6 @@ use Rattle.std.proofs.lemmas.Option.{slice_get_within}
 use Rattle.std.specs.List.{slice_get}
 use Rattle.wf_history.proofs.Positions.{contains_at, take_next}
 use Rattle.wf_order.specs.declared.search.Frame.{Frame}
-use Rattle.wf_order.specs.declared.seen.Found.{Found}
 use Rattle.wf_order.specs.Fronts.{AreFramed, AreSized, EndsBefore}
 use Rattle.wf_order.specs.Rows.{AreRows}
 use Rattle.wf_order.specs.Steps.{IsLimit}

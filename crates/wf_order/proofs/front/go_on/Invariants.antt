@@ -8,7 +8,7 @@ use Rattle.wf_order.proofs.front.go_on.Given as goal
 abbrev pub invariant-loop-frame : goal.invariant-loop-frame
 invariant-loop-frame g l = record {
   search : IsSearch (g.O.Object.effect l.task.object.now) (map event_of l.task.events.now) l.processes (IsLed (g.O.Object.effect l.task.object.now) (map event_of l.task.events.now) false (start_at l.processes (g.O.Object.opening l.task.object.now)))
-  (start_at l.processes (g.O.Object.opening l.task.object.now)) (all_found g.O.Object.meaning l.seen) l.stack.items;
+      (start_at l.processes (g.O.Object.opening l.task.object.now)) (all_found g.O.Object.meaning l.seen) l.stack.items;
   worded : AreWorded g.O.Object.meaning g.O.Object.words_of l.seen;
   grown : IsGrown l.initial.seen.keys l.seen.keys;
 }
