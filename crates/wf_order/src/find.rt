@@ -77,7 +77,8 @@ fn front_by_found<O: Object>(
     requires history { IsHistory (map event_of question.now.events.now) }
     requires few { AreOfProcesses question.now.processes (map event_of question.now.events.now) }
     requires rows { AreRows (map event_of question.now.events.now) question.now.processes question.now.rows.now }
-    requires search { IsWholeSearch (O.effect question.now.object.now) (O.opening question.now.object.now) (map event_of question.now.events.now) question.now.processes (all_found O.meaning seen.old) }
+    requires search { IsWholeSearch (O.effect question.now.object.now) (O.opening question.now.object.now) (map event_of question.now.events.now)
+        question.now.processes (all_found O.meaning seen.old) }
     requires worded { AreWorded O.meaning O.words_of seen.old }
     requires farthest { (farthest : ℕ) × (farthest < count) × IsFarthest (map event_of question.now.events.now) (all_counts seen.old) farthest }
     requires within { count ≤ length question.now.events.now }
@@ -149,7 +150,8 @@ fn halved<O: Object>(
     requires history { IsHistory (map event_of question.now.events.now) }
     requires few { AreOfProcesses question.now.processes (map event_of question.now.events.now) }
     requires rows { AreRows (map event_of question.now.events.now) question.now.processes question.now.rows.now }
-    requires search { IsWholeSearch (O.effect question.now.object.now) (O.opening question.now.object.now) (map event_of question.now.events.now) question.now.processes (all_found O.meaning seen.old) }
+    requires search { IsWholeSearch (O.effect question.now.object.now) (O.opening question.now.object.now) (map event_of question.now.events.now)
+        question.now.processes (all_found O.meaning seen.old) }
     requires worded { AreWorded O.meaning O.words_of seen.old }
     requires farthest { (farthest : ℕ) × (farthest ≤ legal) × IsFarthest (map event_of question.now.events.now) (all_counts seen.old) farthest }
     requires between { IsBetween (O.effect question.now.object.now) (O.opening question.now.object.now) (map event_of question.now.events.now) legal illegal }
@@ -176,7 +178,8 @@ fn last_legal<O: Object>(
     requires history { IsHistory (map event_of question.now.events.now) }
     requires few { AreOfProcesses question.now.processes (map event_of question.now.events.now) }
     requires rows { AreRows (map event_of question.now.events.now) question.now.processes question.now.rows.now }
-    requires search { IsWholeSearch (O.effect question.now.object.now) (O.opening question.now.object.now) (map event_of question.now.events.now) question.now.processes (all_found O.meaning seen.old) }
+    requires search { IsWholeSearch (O.effect question.now.object.now) (O.opening question.now.object.now) (map event_of question.now.events.now)
+        question.now.processes (all_found O.meaning seen.old) }
     requires worded { AreWorded O.meaning O.words_of seen.old }
     requires none { ¬ HasLegal (O.effect question.now.object.now) (O.opening question.now.object.now) (map event_of question.now.events.now) }
     ensures { IfOk result (IsLastFound (O.effect question.now.object.now) (O.opening question.now.object.now)
