@@ -1,15 +1,18 @@
 -- What the answers of searches say of the whole history.
-use Rattle.std.proofs.Common.{◌≡◌, ap, subst, ℕ, ◌+◌, ◌-◌, ◌<◌, ◌≤◌, List, length, take, Vec, Global, arith, inl, inr}
+use Rattle.std.proofs.Common.{◌≡◌, sym, ap, subst, ℕ, ◌+◌, ◌-◌, ◌<◌, ◌≤◌, List, length, take, Vec, Global, arith, inl, inr}
 use Rattle.std.proofs.lemmas.Bool.{cases_lt}
 use Rattle.std.proofs.lemmas.List.{take_all, length-take-le}
 use Rattle.ob_interface.specs.Call.{ObjectCall, Reply}
 use Rattle.wf_history.specs.declared.event.CallId.{CallId}
 use Rattle.wf_history.specs.History.{Event, IsHistory}
+use Rattle.wf_order.specs.declared.front.Front.{Front}
+use Rattle.wf_order.specs.declared.front.Front.TheVariants as Fronts
+use Rattle.wf_order.specs.Fronts.{IsFound}
 use Rattle.wf_order.specs.declared.search.Answer.{Answer}
 use Rattle.wf_order.specs.declared.search.Answer.TheVariants as Answers
 use Rattle.wf_order.specs.Rows.{AreOfProcesses}
 use Rattle.wf_order.specs.Search.{IsAnswer, try_cost}
-use Rattle.wf_order.specs.Verdict.{HasLegal, IsBetween, IsLastLegal, IsTooMuch}
+use Rattle.wf_order.specs.Verdict.{HasLegal, HasMore, IsBetween, IsLastLegal, IsTooMuch}
 use Rattle.wf_order.proofs.Beginnings.{last_legal_is}
 use Rattle.wf_order.proofs.Bounds.{enough_is}
 
@@ -33,33 +36,53 @@ module _ {M : Type 0} (Effect : ObjectCall → M → M → Reply → Type 0) (hi
     pub between_lower : ¬ HasLegal Effect opening (take middle history) → IsBetween Effect opening history legal middle
     between_lower gone = record { order = lower; within = let w = h.within in omega (arith, w, upper); has = h.has; none = gone }
 
+  module _ (processes most : ℕ) where
+    pub none_of : (answer : Answer) → IsAnswer Effect opening history processes most answer → answer ≡ Answers.NoOrder → ¬ HasLegal Effect opening history
+    none_of (Answers.Order order) a e = absurd (cc)
+    none_of Answers.NoOrder a e = a
+    none_of Answers.TooMany a e = absurd (cc)
+
+    pub many_of : (answer : Answer) → IsAnswer Effect opening history processes most answer → answer ≡ Answers.TooMany → IsTooMuch Effect opening history processes most
+    many_of (Answers.Order order) a e = absurd (cc)
+    many_of Answers.NoOrder a e = absurd (cc)
+    many_of Answers.TooMany a e =
+        let le = enough_is processes processes (length history) (length history) (omega arith) (omega arith) in
+        let less = a.1 in (
+          record { count = length history; more = subst (λ (l : List (Event ObjectCall Reply)). HasMore Effect opening l processes most) (sym (take_all (length history) history (omega arith))) a.0 },
+          omega (arith, less, le),
+        )
+
   module _ (processes most count : ℕ) (within : count ≤ length history) where
     pub at_order : (answer : Answer) → IsAnswer Effect opening (take count history) processes most answer → (order : Vec CallId Global) → answer ≡ Answers.Order order → HasLegal Effect opening (take count history)
     at_order (Answers.Order order) a o e = (order.items, a.0, a.1)
-    at_order (Answers.NoOrder farthest) a o e = absurd (cc)
+    at_order Answers.NoOrder a o e = absurd (cc)
     at_order Answers.TooMany a o e = absurd (cc)
 
-    pub at_none : (answer : Answer) → IsAnswer Effect opening (take count history) processes most answer → (farthest : ℕ) → answer ≡ Answers.NoOrder farthest → ¬ HasLegal Effect opening (take count history)
-    at_none (Answers.Order order) a farthest e = absurd (cc)
-    at_none (Answers.NoOrder f) a farthest e = a.0
-    at_none Answers.TooMany a farthest e = absurd (cc)
-
-    pub at_farthest : (answer : Answer) → IsAnswer Effect opening (take count history) processes most answer → (farthest : ℕ) → answer ≡ Answers.NoOrder farthest → HasLegal Effect opening (take farthest (take count history))
-    at_farthest (Answers.Order order) a farthest e = absurd (cc)
-    at_farthest (Answers.NoOrder f) a farthest e =
-        let same : f ≡ farthest = cc in
-        subst (λ (n : ℕ). HasLegal Effect opening (take n (take count history))) same a.1
-    at_farthest Answers.TooMany a farthest e = absurd (cc)
+    pub at_none : (answer : Answer) → IsAnswer Effect opening (take count history) processes most answer → answer ≡ Answers.NoOrder → ¬ HasLegal Effect opening (take count history)
+    at_none (Answers.Order order) a e = absurd (cc)
+    at_none Answers.NoOrder a e = a
+    at_none Answers.TooMany a e = absurd (cc)
 
     pub at_many : (answer : Answer) → IsAnswer Effect opening (take count history) processes most answer → answer ≡ Answers.TooMany → IsTooMuch Effect opening history processes most
     at_many (Answers.Order order) a e = absurd (cc)
-    at_many (Answers.NoOrder farthest) a e = absurd (cc)
+    at_many Answers.NoOrder a e = absurd (cc)
     at_many Answers.TooMany a e =
         let size = length-take-le count history within in
         let cost = ap (λ (n : ℕ). try_cost processes (n + 1)) size in
         let le = enough_is processes processes count (length history) (omega arith) within in
         let less = a.1 in
         (record { count = count; more = a.0 }, omega (arith, less, cost, le))
+
+  -- what is told of events
+  pub told_legal : (front : Front) → IsFound Effect opening history front → front ≡ Fronts.Legal → HasLegal Effect opening history
+  told_legal Fronts.Legal h e = h
+  told_legal Fronts.Illegal h e = absurd (cc)
+  told_legal Fronts.Unknown h e = absurd (cc)
+
+  pub told_illegal : (front : Front) → IsFound Effect opening history front → front ≡ Fronts.Illegal → ¬ HasLegal Effect opening history
+  told_illegal Fronts.Legal h e = absurd (cc)
+  told_illegal Fronts.Illegal h e = h
+  told_illegal Fronts.Unknown h e = absurd (cc)
 
   -- where there is nothing left to halve
   pub between_end : (whole : IsHistory history) (processes : ℕ) → AreOfProcesses processes history → (legal illegal : ℕ) → IsBetween Effect opening history legal illegal → illegal - legal ≤ 1 → IsLastLegal Effect opening history legal

@@ -3,14 +3,14 @@ use Rattle.std.proofs.Common.{◌≡◌, sym, subst, map, length, arith, ◌<◌
 use Rattle.std.specs.Prelude.{IfOk}
 use Rattle.wf_history.specs.View.{event_of}
 use Rattle.wf_order.proofs.Deciding.{between_upper, between_lower, at_order, at_none, at_many}
-use Rattle.wf_order.proofs.find.halved.Goals.{in-Order, in-NoOrder, in-TooMany}
-use Rattle.wf_order.proofs.find.halved.Goals as goal
+use Rattle.wf_order.proofs.find.halved_by_search.Goals.{in-Order, in-NoOrder, in-TooMany}
+use Rattle.wf_order.proofs.find.halved_by_search.Goals as goal
 
 at_ok : {V E : Type 0} (P : V → Type 0) (r : Result V E) (v : V) → r ≡ Ok v → P v → IfOk r P
 at_ok {V} {E} P r v e h = subst (λ (x : Result V E). IfOk x P) (sym e) h
 
-pub returns : goal.returns
-returns g c =
+pub returns-clause-halved : goal.returns-clause-halved
+returns-clause-halved g c =
     let effect = g.O.Object.effect c.args.question.now.object.now in
     let opening = g.O.Object.opening c.args.question.now.object.now in
     let history = map event_of c.args.question.now.events.now in
@@ -30,8 +30,17 @@ returns g c =
         omega (arith, lower, upper),
       )
       | in-NoOrder w ↦ at_ok _ c.match-branch-2.result _ w.result-is (
-        between_lower effect history opening legal illegal middle between lower upper (at_none effect history opening processes most middle inside c.in_ok-front_answer.field-0 c.in_ok-front_answer.ensures w.in-NoOrder.field-0 w.in-NoOrder.is),
+        between_lower effect history opening legal illegal middle between lower upper (at_none effect history opening processes most middle inside c.in_ok-front_answer.field-0 c.in_ok-front_answer.ensures w.in-NoOrder.is),
         omega (arith, lower, upper),
       )
       | in-TooMany w ↦ at_ok _ c.match-branch-2.result _ w.result-is (at_many effect history opening processes most middle inside c.in_ok-front_answer.field-0 c.in_ok-front_answer.ensures w.in-TooMany.is)
+    ]
+
+pub returns-clause-higher : goal.returns-clause-higher
+returns-clause-higher g c =
+    let lower = c.requires.lower in
+    elim c.match-branch-2.branch [
+      | in-Order w ↦ at_ok _ c.match-branch-2.result _ w.result-is (omega (arith, lower))
+      | in-NoOrder w ↦ at_ok _ c.match-branch-2.result _ w.result-is (omega arith)
+      | in-TooMany w ↦ at_ok _ c.match-branch-2.result _ w.result-is tt
     ]
