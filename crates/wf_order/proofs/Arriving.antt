@@ -8,36 +8,36 @@ use Rattle.std.specs.List.{slice_get, Contains}
 use Rattle.ob_interface.specs.Call.{ObjectCall, Reply}
 use Rattle.wf_history.specs.declared.event.CallId.{CallId}
 use Rattle.wf_history.specs.History.{Event, Begin}
-use Rattle.wf_history.specs.Legal.{IsLegal}
 use Rattle.wf_history.proofs.Positions.{place_push, place_left, contains_at, one_item}
 use Rattle.wf_order.specs.declared.rows.Rows.{Rows}
 use Rattle.wf_order.specs.declared.search.Frame.{Frame}
 use Rattle.wf_order.specs.Rows.{AreRows, begun_rows, row_of}
 use Rattle.wf_order.specs.Rules.{IsBehind, IsAnswered}
-use Rattle.wf_order.specs.Steps.{Configuration, IsTaken, IsLimit, IsStep}
-use Rattle.wf_order.specs.Search.{HasNoStep, IsOnlyStep, IsSilentStep, IsSearch, IsArrival, left, weights, work}
+use Rattle.wf_order.specs.Steps.{Configuration, IsLimit, IsStep, IsDone}
+use Rattle.wf_order.specs.Search.{HasNoStep, IsOnlyStep, IsSilentStep, IsSearch, LeadsOn, IsArrival, left, weights, work}
 use Rattle.wf_order.specs.Turns.{BeginsFrom, turns}
-use Rattle.wf_order.proofs.Searching.{top_led, popped, advanced, pushed, found_legal, places_within}
+use Rattle.wf_order.proofs.Searching.{top_led, popped, advanced, pushed, led_done, places_within}
 use Rattle.wf_order.proofs.Weights.{left_step, pop_less, try_less, push_less}
 
 module _ {M : Type 0} (Effect : ObjectCall → M → M → Reply → Type 0) (history : List (Event ObjectCall Reply)) (processes : ℕ) (rows : Rows) (are : AreRows history processes rows)
-    (start : Configuration M) (found : List (Configuration M)) (xs : List Frame) (f : Frame) (h : IsSearch Effect history processes start found (xs ++ f ∷ [])) where
+    (Led : List CallId → Configuration M → Type 0) (leads_on : LeadsOn Effect history Led) (start : Configuration M) (found : List (Configuration M)) (xs : List Frame) (f : Frame)
+    (h : IsSearch Effect history processes Led start found (xs ++ f ∷ [])) where
   abbrev counts_in : Configuration M → List ℕ
   counts_in c = c.counts
 
   -- the configuration of the frame on top, with its limit
   pub top_at : (c : Configuration M) → slice_get found f.place ≡ Some c → AreRows history (length c.counts) rows × IsLimit history c.counts f.limit
   top_at c at =
-      let t = top_led Effect history processes start found xs f h in (
+      let t = top_led Effect history processes Led leads_on start found xs f h in (
         subst (λ (n : ℕ). AreRows history n rows) (sym (h.sizes c (contains_at found f.place c at))) are,
         subst (λ (x : Configuration M). IsLimit history x.counts f.limit) (one_item found f.place t.0 c t.1 at) t.3,
       )
 
   pub after_pop : ((c d : Configuration M) (id : CallId) → slice_get found f.place ≡ Some c → IsStep Effect history c id d → BeginsFrom history f.next id → ⊥) →
-      IsSearch Effect history processes start found xs × (work processes rows found xs < work processes rows found (xs ++ f ∷ []))
+      IsSearch Effect history processes Led start found xs × (work processes rows found xs < work processes rows found (xs ++ f ∷ []))
   unfolding work
   after_pop all = (
-    popped Effect history processes start found xs f h all,
+    popped Effect history processes Led leads_on start found xs f h all,
     pop_less processes (begun_rows rows) (map (λ c. c.counts) found) xs f,
   )
 
@@ -57,12 +57,12 @@ module _ {M : Type 0} (Effect : ObjectCall → M → M → Reply → Type 0) (hi
 
     -- each step whose call begins from the one place up to the other is of this process
     module _ (process : ℕ) (of : (id : CallId) (d : Configuration M) (call : ObjectCall) (begun : ℕ) → slice_get history begun ≡ Some (Begin id call) → f.next ≤ begun → begun < g.next → IsStep Effect history c id d → id.process ≡ process) where
-      pub after_none : HasNoStep Effect history c process → IsSearch Effect history processes start found (xs ++ g ∷ []) × (work processes rows found (xs ++ g ∷ []) < work processes rows found (xs ++ f ∷ []))
-      after_none no_step = (advanced Effect history processes start found xs f g h c at place limit (λ id d call begun is le lt s. absurd (no_step id d (of id d call begun is le lt s) s)), tried_less)
+      pub after_none : HasNoStep Effect history c process → IsSearch Effect history processes Led start found (xs ++ g ∷ []) × (work processes rows found (xs ++ g ∷ []) < work processes rows found (xs ++ f ∷ []))
+      after_none no_step = (advanced Effect history processes Led leads_on start found xs f g h c at place limit (λ id d call begun is le lt s. absurd (no_step id d (of id d call begun is le lt s) s)), tried_less)
 
       pub after_behind : ((id : CallId) (d : Configuration M) → id.process ≡ process → IsStep Effect history c id d → IsBehind Effect history c id) →
-          IsSearch Effect history processes start found (xs ++ g ∷ []) × (work processes rows found (xs ++ g ∷ []) < work processes rows found (xs ++ f ∷ []))
-      after_behind behind = (advanced Effect history processes start found xs f g h c at place limit (λ id d call begun is le lt s. inr (inr (behind id d (of id d call begun is le lt s) s))), tried_less)
+          IsSearch Effect history processes Led start found (xs ++ g ∷ []) × (work processes rows found (xs ++ g ∷ []) < work processes rows found (xs ++ f ∷ []))
+      after_behind behind = (advanced Effect history processes Led leads_on start found xs f g h c at place limit (λ id d call begun is le lt s. inr (inr (behind id d (of id d call begun is le lt s) s))), tried_less)
 
     module _ (d : Configuration M) (step : IsStep Effect history c g.id d)
         (covers : (all : List (Configuration M)) → Contains all d → (id : CallId) (y : Configuration M) (call : ObjectCall) (begun : ℕ) → slice_get history begun ≡ Some (Begin id call) → f.next ≤ begun → begun < g.next →
@@ -86,7 +86,7 @@ module _ {M : Type 0} (Effect : ObjectCall → M → M → Reply → Type 0) (hi
       places_tried k x here =
           let size = length-map found counts_in in
           elim (place_push xs g k x here) [
-            | inl old ↦ let p = places_within Effect history processes start found (xs ++ f ∷ []) h k x (place_left xs (f ∷ []) k x old) in omega (arith, size, p)
+            | inl old ↦ let p = places_within Effect history processes Led leads_on start found (xs ++ f ∷ []) h k x (place_left xs (f ∷ []) k x old) in omega (arith, size, p)
             | inr top ↦
                 let lt = slice_get_within found f.place c at in
                 let same : g.place ≡ x.place = ap (λ (y : Frame). y.place) top.1 in
@@ -104,37 +104,37 @@ module _ {M : Type 0} (Effect : ObjectCall → M → M → Reply → Type 0) (hi
           (push_less processes (begun_rows rows) (map (λ c. c.counts) found) xs f g place fewer_here d.counts new places_tried here (omega (arith, count)) left_less)
 
       pub after_arrival : (more : List (Configuration M)) (stack : List Frame) → IsArrival Effect history d found more (xs ++ g ∷ []) stack None →
-          IsSearch Effect history processes start more stack × (work processes rows more stack < work processes rows found (xs ++ f ∷ []))
+          IsSearch Effect history processes Led start more stack × (work processes rows more stack < work processes rows found (xs ++ f ∷ []))
       after_arrival more stack a =
           elim a.1 [
             | inl old ↦
-                subst (λ (l : List (Configuration M)). IsSearch Effect history processes start l stack × (work processes rows l stack < work processes rows found (xs ++ f ∷ []))) (sym old.1)
-                (subst (λ (l : List Frame). IsSearch Effect history processes start found l × (work processes rows found l < work processes rows found (xs ++ f ∷ []))) (sym old.2)
-                (advanced Effect history processes start found xs f g h c at place limit (covers found old.0), tried_less))
+                subst (λ (l : List (Configuration M)). IsSearch Effect history processes Led start l stack × (work processes rows l stack < work processes rows found (xs ++ f ∷ []))) (sym old.1)
+                (subst (λ (l : List Frame). IsSearch Effect history processes Led start found l × (work processes rows found l < work processes rows found (xs ++ f ∷ []))) (sym old.2)
+                (advanced Effect history processes Led leads_on start found xs f g h c at place limit (covers found old.0), tried_less))
             | inr new ↦
-                subst (λ (l : List (Configuration M)). IsSearch Effect history processes start l stack × (work processes rows l stack < work processes rows found (xs ++ f ∷ []))) (sym new.0)
-                (subst (λ (l : List Frame). IsSearch Effect history processes start (found ++ d ∷ []) l × (work processes rows (found ++ d ∷ []) l < work processes rows found (xs ++ f ∷ []))) (sym new.2)
-                (pushed Effect history processes start found xs f g h c at place limit d step (covers (found ++ d ∷ []) (Contains-push found d)) a.0 new.1 new.3 new.4 new.5, new_less new.1 new.3))
+                subst (λ (l : List (Configuration M)). IsSearch Effect history processes Led start l stack × (work processes rows l stack < work processes rows found (xs ++ f ∷ []))) (sym new.0)
+                (subst (λ (l : List Frame). IsSearch Effect history processes Led start (found ++ d ∷ []) l × (work processes rows (found ++ d ∷ []) l < work processes rows found (xs ++ f ∷ []))) (sym new.2)
+                (pushed Effect history processes Led leads_on start found xs f g h c at place limit d step (covers (found ++ d ∷ []) (Contains-push found d)) a.0 new.1 new.3 new.4 new.5, new_less new.1 new.3))
           ]
 
       pub after_found : (more : List (Configuration M)) (stack : List Frame) (path : List CallId) → IsArrival Effect history d found more (xs ++ g ∷ []) stack (Some path) →
-          ((id : CallId) → ¬ IsTaken start.counts id) → (last : M) × IsLegal Effect start.state history path last
-      after_found more stack path a fresh = (
-        d.state,
-        subst (λ (l : List CallId). IsLegal Effect start.state history l d.state) (sym a.0)
-            (found_legal Effect history processes start found xs f g h c at place limit fresh d step a.1),
+          (e : Configuration M) × Led path e × IsDone Effect history e
+      after_found more stack path a = (
+        d,
+        subst (λ (l : List CallId). Led l d) (sym a.0) (led_done Effect history processes Led leads_on start found xs f g h c at place limit d step),
+        a.1,
       )
 
       at_arrival : {V : Type 0} (items : V → List CallId) (more : List (Configuration M)) (stack : List Frame) (to : Option V) → IsArrival Effect history d found more (xs ++ g ∷ []) stack (option_map items to) →
-          MatchOption to (IsSearch Effect history processes start more stack × (work processes rows more stack < work processes rows found (xs ++ f ∷ [])))
-          (λ v. ((id : CallId) → ¬ IsTaken start.counts id) → (last : M) × IsLegal Effect start.state history (items v) last)
+          MatchOption to (IsSearch Effect history processes Led start more stack × (work processes rows more stack < work processes rows found (xs ++ f ∷ [])))
+          (λ v. (e : Configuration M) × Led (items v) e × IsDone Effect history e)
       at_arrival items more stack None a = after_arrival more stack a
       at_arrival items more stack (Some v) a = after_found more stack (items v) a
 
       pub concluded : {V : Type 0} (items : V → List CallId) (tried : List Frame) (more : List (Configuration M)) (stack : List Frame) (to : Option V) → tried ≡ xs ++ g ∷ [] →
           IsArrival Effect history d found more tried stack (option_map items to) →
-          MatchOption to (IsSearch Effect history processes start more stack × (work processes rows more stack < work processes rows found (xs ++ f ∷ [])))
-          (λ v. ((id : CallId) → ¬ IsTaken start.counts id) → (last : M) × IsLegal Effect start.state history (items v) last)
+          MatchOption to (IsSearch Effect history processes Led start more stack × (work processes rows more stack < work processes rows found (xs ++ f ∷ [])))
+          (λ v. (e : Configuration M) × Led (items v) e × IsDone Effect history e)
       concluded items tried more stack to t a =
           at_arrival items more stack to (subst (λ (l : List Frame). IsArrival Effect history d found more l stack (option_map items to)) t a)
 

@@ -11,7 +11,7 @@ use Rattle.wf_history.specs.Legal.{HasBegun}
 use Rattle.wf_history.proofs.Positions.{place_of, place_left, place_push, place_behind, place_take, contains_at, take_next}
 use Rattle.wf_history.proofs.Once.{one_begin}
 use Rattle.wf_order.specs.Rows.{AreOfProcesses}
-use Rattle.wf_order.specs.Steps.{Configuration, IsStep, Leads, none, more, IsDone, start_at}
+use Rattle.wf_order.specs.Steps.{Configuration, IsLimit, IsStep, Leads, none, more, IsDone, start_at}
 use Rattle.wf_order.specs.Verdict.{HasLegal, IsLastLegal}
 use Rattle.wf_order.proofs.Completeness.{complete, none_taken}
 use Rattle.wf_order.proofs.Places.{before_at, places_before}
@@ -35,9 +35,9 @@ module _ {State Call Reply : Type 0} (Effect : Call → State → State → Repl
         before_at (xs ++ ys) a b reply call i.0 (length xs + j.0) (omega (arith, lt)) (place_left xs ys i.0 (End a reply) i.1) (place_behind xs ys j.0 ∙ j.1)
 
     -- steps of a history, as far as the calls have begun in the front, are steps of the front, and lead as far as is to be
-    steps_front : {c e : Configuration State} {ids : List CallId} → Leads Effect (xs ++ ys) c ids e → IsDone Effect (xs ++ ys) e →
+    steps_front : {c e : Configuration State} {ids : List CallId} → Leads Effect (xs ++ ys) c ids e → IsDone Effect xs e →
         (front : List CallId) × (d : Configuration State) × Leads Effect xs c front d × IsDone Effect xs d
-    steps_front (none {c}) done = ([], c, none, λ id reply ended. done id reply (Contains-append_left xs ys (End id reply) ended))
+    steps_front (none {c}) done = ([], c, none, done)
     steps_front (more {c} {d} {e} {id} {ids} s l) done =
         elim (Contains-append_cases xs ys (Begin id s.call) s.begun) [
           | inl early ↦
@@ -63,8 +63,21 @@ module _ {State Call Reply : Type 0} (Effect : Call → State → State → Repl
         HasLegal Effect opening (xs ++ ys) → HasLegal Effect opening xs
     legal_front whole processes few opening h =
         let r = complete Effect (xs ++ ys) whole processes few opening h.1 h.0 h.2 in
-        let f = steps_front r.1 r.2 in
+        let f = steps_front r.1 (λ id reply ended. r.2 id reply (Contains-append_left xs ys (End id reply) ended)) in
         (f.0, f.1.state, sound Effect xs f.2 (none_taken processes) f.3)
+
+  -- what all that ends before a place leads to is a legal order of the events before it
+  pub legal_before : (history : List (Event Call Reply)) (processes : ℕ) (opening : State) (ids : List CallId) (c : Configuration State) (limit : ℕ) →
+      Leads Effect history (start_at processes opening) ids c → IsLimit history c.counts limit → HasLegal Effect opening (take limit history)
+  legal_before history processes opening ids c limit l is =
+      let parts = take-append-drop limit history in
+      let all = subst (λ (es : List (Event Call Reply)). Leads Effect es (start_at processes opening) ids c) (sym parts) l in
+      let done : IsDone Effect (take limit history) c = λ id reply ended.
+      let k = place_of (take limit history) (End id reply) ended in
+      let p = place_take limit history k.0 (End id reply) k.1 in
+      is.taken id reply k.0 p.0 p.1 in
+      let f = steps_front (take limit history) (drop limit history) all done in
+      (f.0, f.1.state, sound Effect (take limit history) f.2 (none_taken processes) f.3)
 
   -- where one more event is no end, steps stay steps
   module _ (xs : List (Event Call Reply)) (event : Event Call Reply) (whole : IsHistory (xs ++ event ∷ [])) (no_end : (id : CallId) (reply : Reply) → event ≡ End id reply → ⊥) where

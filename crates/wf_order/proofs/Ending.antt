@@ -1,5 +1,5 @@
 -- How a search begins, and what it answers.
-use Rattle.std.proofs.Common.{◌≡◌, sym, ap, ◌∙◌, subst, ℕ, ◌+◌, ◌<◌, ◌≤◌, List, [], ◌∷◌, ◌++◌, length, Option, option_map, Some, None, inl, inr}
+use Rattle.std.proofs.Common.{◌≡◌, sym, ap, ◌∙◌, subst, ℕ, ◌+◌, ◌<◌, ◌≤◌, List, [], ◌∷◌, ◌++◌, length, true, Option, option_map, Some, None, inl, inr}
 use Rattle.std.proofs.lemmas.List.{length-replicate}
 use Rattle.std.specs.List.{Contains}
 use Rattle.ob_interface.specs.Call.{ObjectCall, Reply}
@@ -10,11 +10,11 @@ use Rattle.wf_history.proofs.Positions.{place_of}
 use Rattle.wf_order.specs.declared.rows.Rows.{Rows}
 use Rattle.wf_order.specs.declared.search.Frame.{Frame}
 use Rattle.wf_order.specs.Rows.{AreRows}
-use Rattle.wf_order.specs.Search.{ids_of, IsArrival, IsSearch, try_cost, work}
+use Rattle.wf_order.specs.Search.{ids_of, IsArrival, IsLed, IsSearch, try_cost, work}
 use Rattle.wf_order.specs.Steps.{Configuration, start_at}
 use Rattle.wf_order.specs.Verdict.{AreApart, HasMore}
 use Rattle.wf_order.proofs.Bounds.{start_work}
-use Rattle.wf_order.proofs.Searching.{begun_search, empty_legal}
+use Rattle.wf_order.proofs.Searching.{begun_search, empty_legal, led_on, leads_none}
 
 module _ {M : Type 0} (Effect : ObjectCall → M → M → Reply → Type 0) (history : List (Event ObjectCall Reply)) (processes : ℕ) (rows : Rows) (are : AreRows history processes rows) (opening : M)
     (found more : List (Configuration M)) (stack new : List Frame) (none : found ≡ []) (empty : stack ≡ []) where
@@ -27,7 +27,7 @@ module _ {M : Type 0} (Effect : ObjectCall → M → M → Reply → Type 0) (hi
       subst (λ (l : List CallId). IsLegal Effect opening history l opening) (sym is) (empty_legal Effect history processes rows are opening a.1)
 
   pub start_search : IsArrival Effect history start found more stack new None →
-      IsSearch Effect history processes start more new × (length more + work processes rows more new ≤ try_cost processes (length history + 1))
+      IsSearch Effect history processes (IsLed Effect history true start) start more new × (length more + work processes rows more new ≤ try_cost processes (length history + 1))
   start_search a =
       elim a.1 [
         | inl old ↦
@@ -38,9 +38,9 @@ module _ {M : Type 0} (Effect : ObjectCall → M → M → Reply → Type 0) (hi
             let new_is : new ≡ first.1 ∷ [] = first.2 ∙ ap (λ (l : List Frame). l ++ first.1 ∷ []) empty in
             let place : first.1.place ≡ 0 = first.3 ∙ ap length none in
             let work_is = start_work history processes rows are opening first.1 place first.4 in
-            subst (λ (l : List (Configuration M)). IsSearch Effect history processes start l new × (length l + work processes rows l new ≤ try_cost processes (length history + 1))) (sym more_is)
-            (subst (λ (l : List Frame). IsSearch Effect history processes start (start ∷ []) l × (length (start ∷ []) + work processes rows (start ∷ []) l ≤ try_cost processes (length history + 1))) (sym new_is)
-            (begun_search Effect history processes start (length-replicate processes 0) a.0 first.1 place first.4 first.5, work_is))
+            subst (λ (l : List (Configuration M)). IsSearch Effect history processes (IsLed Effect history true start) start l new × (length l + work processes rows l new ≤ try_cost processes (length history + 1))) (sym more_is)
+            (subst (λ (l : List Frame). IsSearch Effect history processes (IsLed Effect history true start) start (start ∷ []) l × (length (start ∷ []) + work processes rows (start ∷ []) l ≤ try_cost processes (length history + 1))) (sym new_is)
+            (begun_search Effect history processes (IsLed Effect history true start) (led_on Effect history true start) start (leads_none Effect history start) (length-replicate processes 0) a.0 first.1 place first.4 first.5, work_is))
       ]
 
 -- an arrival, at what it was and with what it answered
@@ -57,5 +57,5 @@ start_rows {M} history processes rows opening c e are =
 
 -- what was found is more than was to be looked at
 pub many : {M : Type 0} (Effect : ObjectCall → M → M → Reply → Type 0) (history : List (Event ObjectCall Reply)) (processes most : ℕ) (opening : M) (found : List (Configuration M)) (stack : List Frame) →
-    IsSearch Effect history processes (start_at processes opening) found stack → AreApart found → most < length found → HasMore Effect opening history processes most
+    IsSearch Effect history processes (IsLed Effect history true (start_at processes opening)) (start_at processes opening) found stack → AreApart found → most < length found → HasMore Effect opening history processes most
 many Effect history processes most opening found stack h apart more = record { reached = found; apart = apart; path = h.reached; more = more }

@@ -16,7 +16,7 @@ use Rattle.wf_order.specs.Steps.{Configuration}
 use Rattle.wf_order.specs.Verdict.{AreApart}
 use Rattle.wf_order.proofs.Lists.{same_configuration}
 
-mapped_some : {X Y : Type 0} (f : X → Y) (o : Option X) (y : Y) → option_map f o ≡ Some y → (x : X) × (o ≡ Some x) × (f x ≡ y)
+pub mapped_some : {X Y : Type 0} (f : X → Y) (o : Option X) (y : Y) → option_map f o ≡ Some y → (x : X) × (o ≡ Some x) × (f x ≡ y)
 mapped_some f None y h = absurd (cc)
 mapped_some f (Some x) y h = (x, refl, same_Some (f x) y h)
 

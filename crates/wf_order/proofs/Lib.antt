@@ -5,6 +5,7 @@ pub mod Completeness
 pub mod Deciding
 pub mod Ending
 pub mod Exchange
+pub mod Fronts
 pub mod Keeping
 pub mod Limits
 pub mod Lists

@@ -1,5 +1,5 @@
 -- What a search has found, one step on.
-use Rattle.std.proofs.Common.{◌≡◌, refl, sym, ap, ◌∙◌, subst, ℕ, ◌+◌, ◌<◌, ◌≤◌, zero, suc, List, [], ◌∷◌, ◌++◌, length, take, Some, arith, inl, inr, length-set}
+use Rattle.std.proofs.Common.{◌≡◌, refl, sym, ap, ◌∙◌, subst, ℕ, ◌+◌, ◌<◌, ◌≤◌, zero, suc, List, [], ◌∷◌, ◌++◌, length, take, Bool, true, false, Some, arith, inl, inr, length-set}
 use Rattle.std.proofs.lemmas.Bool.{cases_lt}
 use Rattle.std.proofs.lemmas.List.{map-append, take_at, take-append-le}
 use Rattle.std.proofs.lemmas.List.Elements.{Contains-append_left, Contains-push, Contains-push_cases}
@@ -13,10 +13,10 @@ use Rattle.wf_history.proofs.Positions.{place_push, place_left, place_here, plac
 use Rattle.wf_order.specs.declared.rows.Rows.{Rows}
 use Rattle.wf_order.specs.declared.search.Frame.{Frame}
 use Rattle.wf_order.specs.Rows.{AreRows}
-use Rattle.wf_order.specs.Steps.{Configuration, IsTaken, IsLimit, IsStep, Leads, none, more, IsDone, start_at}
+use Rattle.wf_order.specs.Steps.{Configuration, IsLimit, IsStep, Leads, none, more, IsDone, start_at}
 use Rattle.wf_order.specs.Verdict.{HasLegal}
 use Rattle.wf_order.specs.Rules.{ComesFirst, ends, open_ones, IsOpen, IsBehind, IsAnswered}
-use Rattle.wf_order.specs.Search.{ids_of, IsSearch}
+use Rattle.wf_order.specs.Search.{ids_of, IsLed, IsSearch, LeadsOn}
 use Rattle.wf_order.specs.Turns.{BeginsFrom}
 use Rattle.wf_order.proofs.Exchange.{IsHopeful, hope_more, silent_first, alike_first}
 use Rattle.wf_order.proofs.Soundness.{sound}
@@ -40,9 +40,16 @@ module _ {Call Reply : Type 0} (history : List (Event Call Reply)) where
   lower a b (open_ones over _ less) r (opened _ is) = (length history + a.process, opened over refl, omega (arith, less, is))
 
 module _ {State Call Reply : Type 0} (Effect : Call → State → State → Reply → Type 0) (history : List (Event Call Reply)) where
-  leads_push : {c d e : Configuration State} {id : CallId} {ids : List CallId} → Leads Effect history c ids d → IsStep Effect history d id e → Leads Effect history c (ids ++ id ∷ []) e
+  pub leads_none : (c : Configuration State) → Leads Effect history c [] c
+  leads_none c = none
+
+  pub leads_push : {c d e : Configuration State} {id : CallId} {ids : List CallId} → Leads Effect history c ids d → IsStep Effect history d id e → Leads Effect history c (ids ++ id ∷ []) e
   leads_push none s = more s none
   leads_push (more t l) s = more t (leads_push l s)
+
+  pub led_on : (exact : Bool) (start : Configuration State) → LeadsOn Effect history (IsLed Effect history exact start)
+  led_on true start ids c d id l s = leads_push l s
+  led_on false start ids c d id l s = (l.0 ++ id ∷ [], leads_push l.1 s)
 
   -- where each step from what was found is answered, and nothing that was found is done, steps lead to nothing that is done
   module _ (whole : IsHistory history)
@@ -89,7 +96,8 @@ module _ {State Call Reply : Type 0} (Effect : Call → State → State → Repl
         (λ behind hope. let own = ranked history behind.sooner r.0 behind.first in
         among n (hopeless n) (suc own.0) c behind.to behind.sooner in_found behind.step hope own.0 own.1 (omega arith))
 
-module _ {State Call Reply : Type 0} (Effect : Call → State → State → Reply → Type 0) (history : List (Event Call Reply)) (processes : ℕ) (start : Configuration State) where
+module _ {State Call Reply : Type 0} (Effect : Call → State → State → Reply → Type 0) (history : List (Event Call Reply)) (processes : ℕ)
+    (Led : List CallId → Configuration State → Type 0) (leads_on : LeadsOn Effect history Led) (start : Configuration State) where
   -- what was answered stays so, where more is found
   answered_grown : (found : List (Configuration State)) (d c : Configuration State) (id : CallId) (e : Configuration State) → IsAnswered Effect history found c id e → IsAnswered Effect history (found ++ d ∷ []) c id e
   answered_grown found d c id e h =
@@ -101,52 +109,52 @@ module _ {State Call Reply : Type 0} (Effect : Call → State → State → Repl
         ]
       ]
 
-  abbrev IsLed : List (Configuration State) → List CallId → Frame → Type 0
-  IsLed found ids f = (c : Configuration State) × (slice_get found f.place ≡ Some c) × Leads Effect history start ids c × IsLimit history c.counts f.limit
+  abbrev IsLedTo : List (Configuration State) → List CallId → Frame → Type 0
+  IsLedTo found ids f = (c : Configuration State) × (slice_get found f.place ≡ Some c) × Led ids c × IsLimit history c.counts f.limit
 
   abbrev AreLed : List (Configuration State) → List Frame → Type 0
-  AreLed found stack = (k : ℕ) (f : Frame) → slice_get stack k ≡ Some f → IsLed found (ids_of (take k stack)) f
+  AreLed found stack = (k : ℕ) (f : Frame) → slice_get stack k ≡ Some f → IsLedTo found (ids_of (take k stack)) f
 
   led_front : (found : List (Configuration State)) (xs ys : List Frame) → AreLed found (xs ++ ys) → AreLed found xs
   led_front found xs ys h k f at =
       let lt = slice_get_within xs k f at in
-      subst (λ (l : List Frame). IsLed found (ids_of l) f) (take-append-le k xs ys (omega arith)) (h k f (place_left xs ys k f at))
+      subst (λ (l : List Frame). IsLedTo found (ids_of l) f) (take-append-le k xs ys (omega arith)) (h k f (place_left xs ys k f at))
 
-  led_last : (found : List (Configuration State)) (xs : List Frame) (f : Frame) → AreLed found (xs ++ f ∷ []) → IsLed found (ids_of xs) f
+  led_last : (found : List (Configuration State)) (xs : List Frame) (f : Frame) → AreLed found (xs ++ f ∷ []) → IsLedTo found (ids_of xs) f
   led_last found xs f h =
-      subst (λ (l : List Frame). IsLed found (ids_of l) f) (take_at xs (f ∷ []) (length xs) refl) (h (length xs) f (place_here xs [] f))
+      subst (λ (l : List Frame). IsLedTo found (ids_of l) f) (take_at xs (f ∷ []) (length xs) refl) (h (length xs) f (place_here xs [] f))
 
-  led_more : (found : List (Configuration State)) (xs : List Frame) (f : Frame) → AreLed found xs → IsLed found (ids_of xs) f → AreLed found (xs ++ f ∷ [])
+  led_more : (found : List (Configuration State)) (xs : List Frame) (f : Frame) → AreLed found xs → IsLedTo found (ids_of xs) f → AreLed found (xs ++ f ∷ [])
   led_more found xs f h last k g at =
       elim (place_push xs f k g at) [
         | inl old ↦
             let lt = slice_get_within xs k g old in
-            subst (λ (l : List Frame). IsLed found (ids_of l) g) (sym (take-append-le k xs (f ∷ []) (omega arith))) (h k g old)
+            subst (λ (l : List Frame). IsLedTo found (ids_of l) g) (sym (take-append-le k xs (f ∷ []) (omega arith))) (h k g old)
         | inr new ↦
-            subst (λ (l : List Frame). IsLed found (ids_of l) g) (sym (take_at xs (f ∷ []) k (sym new.0))) (subst (λ (x : Frame). IsLed found (ids_of xs) x) new.1 last)
+            subst (λ (l : List Frame). IsLedTo found (ids_of l) g) (sym (take_at xs (f ∷ []) k (sym new.0))) (subst (λ (x : Frame). IsLedTo found (ids_of xs) x) new.1 last)
       ]
 
   led_grown : (found : List (Configuration State)) (d : Configuration State) (xs : List Frame) → AreLed found xs → AreLed (found ++ d ∷ []) xs
   led_grown found d xs h k f at = let r = h k f at in (r.0, place_left found (d ∷ []) f.place r.0 r.1, r.2, r.3)
 
   -- the configuration of the frame on top
-  pub top_led : (found : List (Configuration State)) (xs : List Frame) (f : Frame) → IsSearch Effect history processes start found (xs ++ f ∷ []) →
-      (c : Configuration State) × (slice_get found f.place ≡ Some c) × Leads Effect history start (ids_of xs) c × IsLimit history c.counts f.limit
+  pub top_led : (found : List (Configuration State)) (xs : List Frame) (f : Frame) → IsSearch Effect history processes Led start found (xs ++ f ∷ []) →
+      (c : Configuration State) × (slice_get found f.place ≡ Some c) × Led (ids_of xs) c × IsLimit history c.counts f.limit
   top_led found xs f h = led_last found xs f h.led
 
-  pub places_within : (found : List (Configuration State)) (xs : List Frame) → IsSearch Effect history processes start found xs → (k : ℕ) (f : Frame) → slice_get xs k ≡ Some f → f.place < length found
+  pub places_within : (found : List (Configuration State)) (xs : List Frame) → IsSearch Effect history processes Led start found xs → (k : ℕ) (f : Frame) → slice_get xs k ≡ Some f → f.place < length found
   places_within found xs h k f at = let r = h.led k f at in slice_get_within found f.place r.0 r.1
 
   -- each step is still to be tried by a frame that begins
   from_start : (f : Frame) → f.next ≡ 0 → (id : CallId) (d c : Configuration State) → IsStep Effect history c id d → BeginsFrom history f.next id
   from_start f next id d c s = let p = place_of history (Begin id s.call) s.begun in record { call = s.call; place = p.0; at = p.1; behind = omega (arith, next) }
 
-  pub begun_search : length start.counts ≡ processes → ¬ IsDone Effect history start → (f : Frame) → f.place ≡ 0 → f.next ≡ 0 → IsLimit history start.counts f.limit → IsSearch Effect history processes start (start ∷ []) (f ∷ [])
-  begun_search size undone f place next limit = record {
+  pub begun_search : Led [] start → length start.counts ≡ processes → ¬ IsDone Effect history start → (f : Frame) → f.place ≡ 0 → f.next ≡ 0 → IsLimit history start.counts f.limit → IsSearch Effect history processes Led start (start ∷ []) (f ∷ [])
+  begun_search here size undone f place next limit = record {
     start_found = contains_at (start ∷ []) 0 start refl;
     sizes = λ c h. subst (λ (x : Configuration State). length x.counts ≡ processes) (only c h) size;
-    led = led_more (start ∷ []) [] f (λ k g at. absurd (cc)) (start, ap (slice_get (start ∷ [])) place, none, limit);
-    reached = λ c h. ([], subst (λ (x : Configuration State). Leads Effect history start [] x) (only c h) none);
+    led = led_more (start ∷ []) [] f (λ k g at. absurd (cc)) (start, ap (slice_get (start ∷ [])) place, here, limit);
+    reached = λ c h. ([], subst (λ (x : Configuration State). Led [] x) (only c h) here);
     not_done = λ c h. subst (λ (x : Configuration State). ¬ IsDone Effect history x) (only c h) undone;
     next = λ c d id h s. inr (f, contains_at (f ∷ []) 0 f refl, ap (slice_get (start ∷ [])) place ∙ ap Some (only c h), from_start f next id d c s);
   }
@@ -159,8 +167,8 @@ module _ {State Call Reply : Type 0} (Effect : Call → State → State → Repl
           only_at (suc k) c e = absurd (cc)
 
   -- nothing is left for the frame to be tried
-  pub popped : (found : List (Configuration State)) (xs : List Frame) (f : Frame) → IsSearch Effect history processes start found (xs ++ f ∷ []) →
-      ((c d : Configuration State) (id : CallId) → slice_get found f.place ≡ Some c → IsStep Effect history c id d → BeginsFrom history f.next id → ⊥) → IsSearch Effect history processes start found xs
+  pub popped : (found : List (Configuration State)) (xs : List Frame) (f : Frame) → IsSearch Effect history processes Led start found (xs ++ f ∷ []) →
+      ((c d : Configuration State) (id : CallId) → slice_get found f.place ≡ Some c → IsStep Effect history c id d → BeginsFrom history f.next id → ⊥) → IsSearch Effect history processes Led start found xs
   popped found xs f h all = record {
     start_found = h.start_found;
     sizes = h.sizes;
@@ -180,15 +188,15 @@ module _ {State Call Reply : Type 0} (Effect : Call → State → State → Repl
         ];
   }
 
-  module _ (found : List (Configuration State)) (xs : List Frame) (f g : Frame) (h : IsSearch Effect history processes start found (xs ++ f ∷ []))
+  module _ (found : List (Configuration State)) (xs : List Frame) (f g : Frame) (h : IsSearch Effect history processes Led start found (xs ++ f ∷ []))
       (c : Configuration State) (at : slice_get found f.place ≡ Some c) (place : g.place ≡ f.place) (limit : g.limit ≡ f.limit) where
     top_same : (x : Configuration State) (o : Frame) → f ≡ o → slice_get found o.place ≡ Some x → c ≡ x
     top_same x o same there = one_item found f.place c x at (ap (λ (y : Frame). slice_get found y.place) same ∙ there)
 
-    led_to : Leads Effect history start (ids_of xs) c
+    led_to : Led (ids_of xs) c
     led_to =
         let r = led_last found xs f h.led in
-        subst (λ (x : Configuration State). Leads Effect history start (ids_of xs) x) (one_item found f.place r.0 c r.1 at) r.2
+        subst (λ (x : Configuration State). Led (ids_of xs) x) (one_item found f.place r.0 c r.1 at) r.2
 
     limit_here : IsLimit history c.counts g.limit
     limit_here =
@@ -199,7 +207,7 @@ module _ {State Call Reply : Type 0} (Effect : Call → State → State → Repl
     led_tried = led_more found xs g (led_front found xs (f ∷ []) h.led) (c, ap (slice_get found) place ∙ at, led_to, limit_here)
 
     -- the next turn of the frame was tried, and leads to nothing new
-    pub advanced : ((id : CallId) (d : Configuration State) (call : Call) (begun : ℕ) → slice_get history begun ≡ Some (Begin id call) → f.next ≤ begun → begun < g.next → IsStep Effect history c id d → IsAnswered Effect history found c id d) → IsSearch Effect history processes start found (xs ++ g ∷ [])
+    pub advanced : ((id : CallId) (d : Configuration State) (call : Call) (begun : ℕ) → slice_get history begun ≡ Some (Begin id call) → f.next ≤ begun → begun < g.next → IsStep Effect history c id d → IsAnswered Effect history found c id d) → IsSearch Effect history processes Led start found (xs ++ g ∷ [])
     advanced old_ones = record {
       start_found = h.start_found;
       sizes = h.sizes;
@@ -229,7 +237,7 @@ module _ {State Call Reply : Type 0} (Effect : Call → State → State → Repl
     -- the next turn of the frame was tried, and leads to one that is new
     pub pushed : (d : Configuration State) → IsStep Effect history c g.id d →
         ((id : CallId) (y : Configuration State) (call : Call) (begun : ℕ) → slice_get history begun ≡ Some (Begin id call) → f.next ≤ begun → begun < g.next → IsStep Effect history c id y → IsAnswered Effect history (found ++ d ∷ []) c id y) → ¬ IsDone Effect history d → (new : Frame) → new.place ≡ length found → new.next ≡ 0 → IsLimit history d.counts new.limit →
-        IsSearch Effect history processes start (found ++ d ∷ []) ((xs ++ g ∷ []) ++ new ∷ [])
+        IsSearch Effect history processes Led start (found ++ d ∷ []) ((xs ++ g ∷ []) ++ new ∷ [])
     pushed d step covers undone new new_place new_next new_limit = record {
       start_found = Contains-append_left found (d ∷ []) start h.start_found;
       sizes = λ x in_found. elim (Contains-push_cases found d x in_found) [
@@ -240,12 +248,12 @@ module _ {State Call Reply : Type 0} (Effect : Call → State → State → Repl
       led = led_more (found ++ d ∷ []) (xs ++ g ∷ []) new (led_grown found d (xs ++ g ∷ []) led_tried) (
         d,
         ap (slice_get (found ++ d ∷ [])) new_place ∙ place_here found [] d,
-        subst (λ (l : List CallId). Leads Effect history start l d) (sym (map-append (λ y. y.id) xs (g ∷ []))) (leads_push Effect history led_to step),
+        subst (λ (l : List CallId). Led l d) (sym (map-append (λ y. y.id) xs (g ∷ []))) (leads_on (ids_of xs) c d g.id led_to step),
         new_limit,
       );
       reached = λ x in_found. elim (Contains-push_cases found d x in_found) [
         | inl old ↦ h.reached x old
-        | inr same ↦ (ids_of xs ++ g.id ∷ [], subst (λ (y : Configuration State). Leads Effect history start (ids_of xs ++ g.id ∷ []) y) same (leads_push Effect history led_to step))
+        | inr same ↦ (ids_of xs ++ g.id ∷ [], subst (λ (y : Configuration State). Led (ids_of xs ++ g.id ∷ []) y) same (leads_on (ids_of xs) c d g.id led_to step))
       ];
       not_done = λ x in_found. elim (Contains-push_cases found d x in_found) [
         | inl old ↦ h.not_done x old
@@ -275,17 +283,14 @@ module _ {State Call Reply : Type 0} (Effect : Call → State → State → Repl
     }
 
     -- the next turn of the frame leads to one that is done
-    pub found_legal : ((a : CallId) → IsTaken start.counts a → ⊥) → (d : Configuration State) → IsStep Effect history c g.id d → IsDone Effect history d →
-        IsLegal Effect start.state history (ids_of (xs ++ g ∷ [])) d.state
-    found_legal fresh d s done =
-        subst (λ (l : List CallId). IsLegal Effect start.state history l d.state) (sym (map-append (λ y. y.id) xs (g ∷ [])))
-        (sound Effect history (leads_push Effect history led_to s) fresh done)
+    pub led_done : (d : Configuration State) → IsStep Effect history c g.id d → Led (ids_of (xs ++ g ∷ [])) d
+    led_done d s = subst (λ (l : List CallId). Led l d) (sym (map-append (λ y. y.id) xs (g ∷ []))) (leads_on (ids_of xs) c d g.id led_to s)
 
 module _ {M : Type 0} (Effect : ObjectCall → M → M → Reply → Type 0) (history : List (Event ObjectCall Reply)) (processes : ℕ) (rows : Rows) (are : AreRows history processes rows) (opening : M) where
   -- nothing is left to be tried
-  pub none_legal : (determined : (call : ObjectCall) (before after other : M) (reply answer : Reply) → Effect call before after reply → Effect call before other answer → (after ≡ other) × (reply ≡ answer))
-      (found : List (Configuration M)) → IsSearch Effect history processes (start_at processes opening) found [] → ¬ HasLegal Effect opening history
-  none_legal determined found h some =
+  pub none_legal : (Led : List CallId → Configuration M → Type 0) (determined : (call : ObjectCall) (before after other : M) (reply answer : Reply) → Effect call before after reply → Effect call before other answer → (after ≡ other) × (reply ≡ answer))
+      (found : List (Configuration M)) → IsSearch Effect history processes Led (start_at processes opening) found [] → ¬ HasLegal Effect opening history
+  none_legal Led determined found h some =
       let order = some.0 in
       let r = complete Effect history are.whole processes (λ id call begun. (are.every_begun id call begun).0) opening some.1 order some.2 in
       hopeless Effect history are.whole determined found

@@ -45,7 +45,7 @@ module _ (counts : List ℕ) (id : CallId) (within : id.process < length counts)
       ]
 
 module _ {State Call Reply : Type 0} (Effect : Call → State → State → Reply → Type 0) (history : List (Event Call Reply)) where
-  step_grows : (c d : Configuration State) (id : CallId) → IsStep Effect history c id d → (a : CallId) → IsTaken c.counts a → IsTaken d.counts a
+  pub step_grows : (c d : Configuration State) (id : CallId) → IsStep Effect history c id d → (a : CallId) → IsTaken c.counts a → IsTaken d.counts a
   step_grows c d id s a h = subst (λ (l : List ℕ). IsTaken l a) (sym s.counts) (taken_more c.counts id s.process s.number a h)
 
   step_takes : (c d : Configuration State) (id : CallId) → IsStep Effect history c id d → IsTaken d.counts id

@@ -1,5 +1,5 @@
 -- What a search has found so far.
-use Rattle.std.specs.Prelude.{◌≡◌, ℕ, zero, suc, ◌+◌, ◌-◌, ◌*◌, ◌<◌, List, [], ◌∷◌, ◌++◌, map, length, get_or, slice_get, Option, Some, None, IfSome, Contains, ◌⊎◌}
+use Rattle.std.specs.Prelude.{◌≡◌, ℕ, zero, suc, ◌+◌, ◌-◌, ◌*◌, ◌<◌, List, [], ◌∷◌, ◌++◌, map, length, get_or, slice_get, Option, Some, None, Bool, true, false, IfSome, Contains, ◌⊎◌}
 use Rattle.std.proofs.Common.{take}
 use Rattle.wf_history.specs.declared.event.CallId.{CallId}
 use Rattle.ob_interface.specs.Call.{ObjectCall, Reply}
@@ -19,7 +19,7 @@ use Rattle.wf_order.specs.declared.rows.Rows.{Rows}
 use Rattle.wf_order.specs.declared.seen.Found as Rust
 use Rattle.wf_order.specs.Rows.{AreAt, AreRows, begun_rows, row_of}
 use Rattle.wf_order.specs.Rules.{IsAnswered, IsSilent}
-use Rattle.wf_order.specs.Steps.{Configuration, IsLimit, IsStep, Leads, IsDone}
+use Rattle.wf_order.specs.Steps.{Configuration, IsLimit, IsStep, Leads, IsDone, start_at}
 use Rattle.wf_order.specs.Turns.{BeginsFrom, turns}
 use Rattle.wf_order.specs.Verdict.{HasLegal, HasMore}
 
@@ -40,6 +40,14 @@ AreWorded {State} meaning words_of seen = (found : Rust.Found State) → Contain
 -- a configuration of a history that stands in these rows, with its limit
 abbrev pub IsAt : {State : Type 0} → List (Event ObjectCall Reply) → Rows → Here State → Type 0
 IsAt history rows here = AreRows history (length here.found.now.counts.items) rows × IsLimit history here.found.now.counts.items here.limit
+
+-- the counts of what is kept
+abbrev pub all_counts : {State S : Type 0} → HashSet (Rust.Found State) S → List (List ℕ)
+all_counts seen = map (λ f. f.counts.items) seen.keys
+
+-- there are the old ones, and there may be more behind them
+abbrev pub IsGrown : {A : Type 0} → List A → List A → Type 0
+IsGrown {A} old new = (more : List A) × (new ≡ old ++ more)
 
 -- the calls that the frames are at
 abbrev pub ids_of : List Frame → List CallId
@@ -76,14 +84,23 @@ module _ {State Call Reply : Type 0} (Effect : Call → State → State → Repl
     pub step : IsStep Effect history c id d
     pub only : (other : CallId) (e : Configuration State) → other.process ≡ process → IsStep Effect history c other e → e ≡ d
 
+  -- the calls lead from the start to the configuration, or, where that is not asked, some calls do
+  abbrev pub IsLed : Bool → Configuration State → List CallId → Configuration State → Type 0
+  IsLed true start ids c = Leads Effect history start ids c
+  IsLed false start ids c = (path : List CallId) × Leads Effect history start path c
+
+  -- calls lead to configurations, and steps lead on
+  abbrev pub LeadsOn : (List CallId → Configuration State → Type 0) → Type 0
+  LeadsOn Led = (ids : List CallId) (c d : Configuration State) (id : CallId) → Led ids c → IsStep Effect history c id d → Led (ids ++ id ∷ []) d
+
   -- Each configuration that was found can be reached, and none is done. Each step from one of them leads to one of them or
   -- need not be tried, unless a frame has still to try it.
-  pub record IsSearch (processes : ℕ) (start : Configuration State) (found : List (Configuration State)) (stack : List Frame) : Type 0 where
+  pub record IsSearch (processes : ℕ) (Led : List CallId → Configuration State → Type 0) (start : Configuration State) (found : List (Configuration State)) (stack : List Frame) : Type 0 where
     pub start_found : Contains found start
     pub sizes : (c : Configuration State) → Contains found c → length c.counts ≡ processes
     pub led : (k : ℕ) (f : Frame) → slice_get stack k ≡ Some f →
-        (c : Configuration State) × (slice_get found f.place ≡ Some c) × Leads Effect history start (ids_of (take k stack)) c × IsLimit history c.counts f.limit
-    pub reached : (c : Configuration State) → Contains found c → (ids : List CallId) × Leads Effect history start ids c
+        (c : Configuration State) × (slice_get found f.place ≡ Some c) × Led (ids_of (take k stack)) c × IsLimit history c.counts f.limit
+    pub reached : (c : Configuration State) → Contains found c → (ids : List CallId) × Led ids c
     pub not_done : (c : Configuration State) → Contains found c → ¬ IsDone Effect history c
     pub next : (c d : Configuration State) (id : CallId) → Contains found c → IsStep Effect history c id d →
         IsAnswered Effect history found c id d ⊎ ((f : Frame) × Contains stack f × (slice_get found f.place ≡ Some c) × BeginsFrom history f.next id)
@@ -125,3 +142,8 @@ abbrev pub IsAnswer : {M : Type 0} → (ObjectCall → M → M → Reply → Typ
 IsAnswer {M} Effect opening history processes most (Answers.Order order) = (last : M) × IsLegal Effect opening history order.items last
 IsAnswer Effect opening history processes most Answers.NoOrder = ¬ HasLegal Effect opening history
 IsAnswer Effect opening history processes most Answers.TooMany = HasMore Effect opening history processes most × (most < try_cost processes (length history + 1))
+
+-- the search of a history is over, and found this
+abbrev pub IsWholeSearch : {M : Type 0} → (ObjectCall → M → M → Reply → Type 0) → M → List (Event ObjectCall Reply) → ℕ → List (Configuration M) → Type 0
+IsWholeSearch Effect opening history processes found =
+    IsSearch Effect history processes (IsLed Effect history true (start_at processes opening)) (start_at processes opening) found []

@@ -1,17 +1,20 @@
 //! A legal order of a history, or where it ceases to have one.
 
-ghost use Rattle.std.specs.Prelude.{◌≡◌, ◌<◌, ◌≤◌, ◌-◌, ℕ, List, map, length, take, Some, IfOk, slice_get};
+ghost use Rattle.std.specs.Prelude.{◌≡◌, ◌<◌, ◌≤◌, ◌-◌, ℕ, List, map, length, take, Some, IfOk, IfSome, slice_get};
 ghost use Rattle.ob_interface.specs.Call.{ObjectCall, Reply};
 ghost use Rattle.wf_history.specs.History.{Event as AnyEvent, End, IsHistory};
 ghost use Rattle.wf_history.specs.View.{event_of};
 ghost use Rattle.wf_order.specs.declared.find.Verdict.TheVariants as Verdicts;
-ghost use Rattle.wf_order.specs.Rows.{AreOfProcesses};
-ghost use Rattle.wf_order.specs.Search.{IsAnswer};
+ghost use Rattle.wf_order.specs.Fronts.{IsFarthest, IsFound};
+ghost use Rattle.wf_order.specs.Rows.{AreOfProcesses, AreRows};
+ghost use Rattle.wf_order.specs.Search.{all_counts, all_found, AreWorded, IsAnswer, IsWholeSearch};
 ghost use Rattle.wf_order.specs.Verdict.{HasLegal, IsBetween, IsHalved, IsLastFound, IsVerdict, enough};
 
+use crate::front::{Front, farthest_of, frames_behind, go_on};
 use crate::object::Object;
-use crate::rows::{processes_of, rows_of};
+use crate::rows::{Rows, processes_of, rows_of};
 use crate::search::{Answer, search};
+use crate::seen::{Keys, Seen};
 use crate::step::Task;
 use ob_interface::NoMemory;
 use std::alloc::Global;
@@ -30,11 +33,12 @@ pub enum Verdict {
     TooMany,
 }
 
-/// A history of so many processes on an object, and the most configurations to be looked at.
+/// A history of so many processes on an object, with its rows, and the most configurations to be looked at.
 #[derive_where(Clone, Copy)]
-struct Question<'a, O> {
+struct Question<'r, 'a, O> {
     alloc: Global,
     events: &'a [Event],
+    rows: &'r Rows<'a>,
     object: &'a O,
     processes: usize,
     most: usize,
@@ -59,23 +63,75 @@ fn front_answer<O: Object>(question: &Question<O>, count: usize) -> Result<Answe
         object: question.object,
         rows: &rows,
     };
-    search(&task, processes, question.most, question.keys)
+    let mut seen = Seen::with_hasher(alloc, Keys::new(question.keys));
+    search(&task, &mut seen, processes, question.most)
 }
 
-/// One half of what is between a beginning that has a legal order and one that has none.
-fn halved<O: Object>(
+/// What the search of all events tells of the first ones, so many that each configuration that it found ends among them. From
+/// those whose next calls end behind them it goes on, and then they are as they were.
+fn front_by_found<O: Object>(
+    question: &Question<O>,
+    seen: &mut Seen<O::State>,
+    count: usize,
+) -> Result<Front, NoMemory>
+    requires history { IsHistory (map event_of question.now.events.now) }
+    requires few { AreOfProcesses question.now.processes (map event_of question.now.events.now) }
+    requires rows { AreRows (map event_of question.now.events.now) question.now.processes question.now.rows.now }
+    requires search { IsWholeSearch (O.effect question.now.object.now) (O.opening question.now.object.now) (map event_of question.now.events.now)
+        question.now.processes (all_found O.meaning seen.old) }
+    requires worded { AreWorded O.meaning O.words_of seen.old }
+    requires farthest { (farthest : ℕ) × (farthest < count) × IsFarthest (map event_of question.now.events.now) (all_counts seen.old) farthest }
+    requires within { count ≤ length question.now.events.now }
+    ensures front { IfOk result (IsFound (O.effect question.now.object.now) (O.opening question.now.object.now) (take count (map event_of question.now.events.now))) }
+    ensures same { IfOk result (λ front. seen.new.keys ≡ seen.old.keys) }
+{
+    let alloc = question.alloc;
+    let processes = question.processes;
+    let events = &question.events[..count];
+    let rows = rows_of(alloc, events, processes)?;
+    let task = Task {
+        alloc,
+        events,
+        object: question.object,
+        rows: &rows,
+    };
+    let size = seen.len();
+    let stack = frames_behind(alloc, question.rows, seen, count)?;
+    let front = go_on(&task, seen, stack, processes, question.most)?;
+    seen.truncate(size);
+    Ok(front)
+}
+
+/// A place between two others: so far behind the first one, but no farther than half of the way.
+fn place_between(legal: usize, illegal: usize, step: usize) -> usize
+    requires wide { 1 < illegal - legal }
+    ensures lower { legal < result }
+    ensures upper { result < illegal }
+{
+    let half = (illegal - legal) / 2;
+    if step == 0 || step >= half {
+        return legal + half;
+    }
+    legal + step
+}
+
+/// Of what is between a beginning that has a legal order and one that has none, the part before a place or the one behind it, by a
+/// search of its own.
+fn halved_by_search<O: Object>(
     question: &Question<O>,
     legal: usize,
     illegal: usize,
+    middle: usize,
 ) -> Result<Option<(usize, usize)>, NoMemory>
     requires history { IsHistory (map event_of question.now.events.now) }
     requires few { AreOfProcesses question.now.processes (map event_of question.now.events.now) }
     requires between { IsBetween (O.effect question.now.object.now) (O.opening question.now.object.now) (map event_of question.now.events.now) legal illegal }
-    requires wide { 1 < illegal - legal }
-    ensures { IfOk result (IsHalved (O.effect question.now.object.now) (O.opening question.now.object.now)
+    requires lower { legal < middle }
+    requires upper { middle < illegal }
+    ensures halved { IfOk result (IsHalved (O.effect question.now.object.now) (O.opening question.now.object.now)
         (map event_of question.now.events.now) question.now.processes question.now.most (illegal - legal)) }
+    ensures higher { IfOk result (λ half. IfSome half (λ h. legal ≤ h.0)) }
 {
-    let middle = legal + (illegal - legal) / 2;
     match front_answer(question, middle)? {
         Answer::Order(_) => Ok(Some((middle, illegal))),
         Answer::NoOrder => Ok(Some((legal, middle))),
@@ -83,22 +139,63 @@ fn halved<O: Object>(
     }
 }
 
-/// The largest number of first events that have a legal order, by halving, where all have none.
-fn last_legal<O: Object>(question: &Question<O>) -> Result<Option<usize>, NoMemory>
+/// The same, by what the search of all events found, where that tells it.
+fn halved<O: Object>(
+    question: &Question<O>,
+    seen: &mut Seen<O::State>,
+    legal: usize,
+    illegal: usize,
+    middle: usize,
+) -> Result<Option<(usize, usize)>, NoMemory>
     requires history { IsHistory (map event_of question.now.events.now) }
     requires few { AreOfProcesses question.now.processes (map event_of question.now.events.now) }
+    requires rows { AreRows (map event_of question.now.events.now) question.now.processes question.now.rows.now }
+    requires search { IsWholeSearch (O.effect question.now.object.now) (O.opening question.now.object.now) (map event_of question.now.events.now)
+        question.now.processes (all_found O.meaning seen.old) }
+    requires worded { AreWorded O.meaning O.words_of seen.old }
+    requires farthest { (farthest : ℕ) × (farthest ≤ legal) × IsFarthest (map event_of question.now.events.now) (all_counts seen.old) farthest }
+    requires between { IsBetween (O.effect question.now.object.now) (O.opening question.now.object.now) (map event_of question.now.events.now) legal illegal }
+    requires lower { legal < middle }
+    requires upper { middle < illegal }
+    ensures halved { IfOk result (IsHalved (O.effect question.now.object.now) (O.opening question.now.object.now)
+        (map event_of question.now.events.now) question.now.processes question.now.most (illegal - legal)) }
+    ensures higher { IfOk result (λ half. IfSome half (λ h. legal ≤ h.0)) }
+    ensures same { IfOk result (λ half. seen.new.keys ≡ seen.old.keys) }
+{
+    match front_by_found(question, seen, middle)? {
+        Front::Legal => Ok(Some((middle, illegal))),
+        Front::Illegal => Ok(Some((legal, middle))),
+        Front::Unknown => halved_by_search(question, legal, illegal, middle),
+    }
+}
+
+/// The largest number of first events that have a legal order, where all have none, by what the search of all found. Those have
+/// one that a configuration takes, and mostly one event more has none. Else wider and wider steps are taken, and then halves.
+fn last_legal<O: Object>(
+    question: &Question<O>,
+    seen: &mut Seen<O::State>,
+) -> Result<Option<usize>, NoMemory>
+    requires history { IsHistory (map event_of question.now.events.now) }
+    requires few { AreOfProcesses question.now.processes (map event_of question.now.events.now) }
+    requires rows { AreRows (map event_of question.now.events.now) question.now.processes question.now.rows.now }
+    requires search { IsWholeSearch (O.effect question.now.object.now) (O.opening question.now.object.now) (map event_of question.now.events.now)
+        question.now.processes (all_found O.meaning seen.old) }
+    requires worded { AreWorded O.meaning O.words_of seen.old }
     requires none { ¬ HasLegal (O.effect question.now.object.now) (O.opening question.now.object.now) (map event_of question.now.events.now) }
     ensures { IfOk result (IsLastFound (O.effect question.now.object.now) (O.opening question.now.object.now)
         (map event_of question.now.events.now) question.now.processes question.now.most) }
 {
-    let mut legal = 0;
+    let mut legal = farthest_of(question.rows, seen);
     let mut illegal = question.events.len();
+    let mut step: usize = 1;
     while illegal - legal > 1 {
-        let Some((more, less)) = halved(question, legal, illegal)? else {
+        let middle = place_between(legal, illegal, step);
+        let Some((more, less)) = halved(question, seen, legal, illegal, middle)? else {
             return Ok(None);
         };
         legal = more;
         illegal = less;
+        step = step.saturating_mul(2);
     }
     Ok(Some(legal))
 }
@@ -118,13 +215,21 @@ fn end_at(events: &[Event], place: usize) -> CallId
 fn verdict_of<O: Object>(question: &Question<O>) -> Result<Verdict, NoMemory>
     requires history { IsHistory (map event_of question.now.events.now) }
     requires few { AreOfProcesses question.now.processes (map event_of question.now.events.now) }
+    requires rows { AreRows (map event_of question.now.events.now) question.now.processes question.now.rows.now }
     ensures verdict { IfOk result (IsVerdict (O.effect question.now.object.now) (O.opening question.now.object.now) (map event_of question.now.events.now) question.now.most) }
     ensures decided { enough question.now.processes (length question.now.events.now) ≤ question.now.most → IfOk result (λ verdict. ¬ (verdict ≡ Verdicts.TooMany)) }
 {
-    match front_answer(question, question.events.len())? {
+    let task = Task {
+        alloc: question.alloc,
+        events: question.events,
+        object: question.object,
+        rows: question.rows,
+    };
+    let mut seen = Seen::with_hasher(question.alloc, Keys::new(question.keys));
+    match search(&task, &mut seen, question.processes, question.most)? {
         Answer::Order(order) => Ok(Verdict::Legal(order)),
         Answer::TooMany => Ok(Verdict::TooMany),
-        Answer::NoOrder => match last_legal(question)? {
+        Answer::NoOrder => match last_legal(question, &mut seen)? {
             Some(place) => Ok(Verdict::Illegal(end_at(question.events, place), place)),
             None => Ok(Verdict::TooMany),
         },
@@ -150,9 +255,11 @@ pub fn find_order<O: Object>(
     let Some(processes) = processes_of(events) else {
         return Err(NoMemory);
     };
+    let rows = rows_of(alloc, events, processes)?;
     let question = Question {
         alloc,
         events,
+        rows: &rows,
         object,
         processes,
         most,

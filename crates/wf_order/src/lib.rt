@@ -10,6 +10,7 @@
 
 mod behind;
 pub mod find;
+mod front;
 pub mod object;
 mod replies;
 pub mod rows;

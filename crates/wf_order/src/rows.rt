@@ -60,13 +60,13 @@ impl<'a> Rows<'a> {
     }
 }
 
-/// Rows without items.
-fn empty_rows<T: Drop>(alloc: Global, count: usize) -> Result<Vec<Vec<T>>, NoMemory>
+/// Rows without items, each with memory for so many.
+fn empty_rows<T: Drop>(alloc: Global, count: usize, room: usize) -> Result<Vec<Vec<T>>, NoMemory>
     ensures { IfOk result (λ rows. map (λ row. row.items) rows.items ≡ replicate count []) }
 {
     let mut rows = Vec::new(alloc);
     for _ in 0..count {
-        rows.push(Vec::new(alloc))?;
+        rows.push(Vec::with_capacity(alloc, room)?)?;
     }
     Ok(rows)
 }
@@ -106,8 +106,10 @@ pub fn rows_of(alloc: Global, events: &[Event], processes: usize) -> Result<Rows
     requires few { (event : AnyEvent ObjectCall Reply) → Contains (map event_of events.now) event → IsOfProcesses processes event }
     ensures { IfOk result (λ rows. AreRows (map event_of events.now) processes rows) }
 {
-    let mut begun = empty_rows(alloc, processes)?;
-    let mut ended = empty_rows(alloc, processes)?;
+    // Half of the events begin a call, and mostly each process begins as many: so much memory is taken at once.
+    let room = events.len() / 2 / processes.max(1);
+    let mut begun = empty_rows(alloc, processes, room)?;
+    let mut ended = empty_rows(alloc, processes, room)?;
     for (place, event) in events.iter().enumerate() {
         note(event, place, &mut begun, &mut ended)?;
     }

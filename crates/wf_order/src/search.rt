@@ -1,26 +1,25 @@
 //! The search of one history.
 
-ghost use Rattle.std.specs.Prelude.{◌≡◌, ◌<◌, ◌≤◌, ◌+◌, ◌++◌, ◌∷◌, ℕ, List, [], map, length, replicate, IfOk, IfSome, MatchOption, IsTrue, option_map, vec_len};
+ghost use Rattle.std.specs.Prelude.{◌≡◌, Bool, ◌<◌, ◌≤◌, ◌+◌, ◌++◌, ◌∷◌, ℕ, List, [], map, length, replicate, IfOk, IfSome, MatchOption, IsTrue, option_map, vec_len};
 ghost use Rattle.indexmap.specs.IndexSet.{index_set_len};
 ghost use Rattle.ob_interface.specs.Call.{ObjectCall, Reply};
 ghost use Rattle.wf_history.specs.declared.event.CallId.{CallId};
 ghost use Rattle.wf_history.specs.History.{Event};
-ghost use Rattle.wf_history.specs.Legal.{IsLegal};
 ghost use Rattle.wf_history.specs.View.{event_of};
+ghost use Rattle.wf_order.specs.declared.search.Answer.TheVariants as Answers;
 ghost use Rattle.wf_order.specs.Rows.{AreRows};
-ghost use Rattle.wf_order.specs.Search.{found_in, all_found, ids_of, AreWorded, IsWorded, IsArrival, IsSearch, IsAnswer, work};
-ghost use Rattle.wf_order.specs.Steps.{Configuration, IsTaken, start_at};
+ghost use Rattle.wf_order.specs.Search.{found_in, all_found, ids_of, AreWorded, IsWorded, IsArrival, IsGrown, IsSearch, IsAnswer, IsWholeSearch, IsLed, work};
+ghost use Rattle.wf_order.specs.Steps.{Configuration, IsDone, start_at};
 
 use crate::behind::is_behind;
 use crate::object::Object;
 use crate::rows::limit_of;
-use crate::seen::{Found, Keys, Seen};
+use crate::seen::{Found, Seen};
 use crate::step::{Here, Task, any_silent_step, step};
 use crate::turn::next_turn;
 use ob_interface::NoMemory;
 use smallvec::SmallVec;
 use std::alloc::Global;
-use std::hash::RandomState;
 use wf_history::CallId;
 
 /// A configuration on the way from the start, by its place: the place from which on calls begin that are still to be tried, the
@@ -66,6 +65,7 @@ fn arrive<O: Object>(
         (all_found O.meaning seen.old) (all_found O.meaning seen.new) stack.old.items stack.new.items (option_map (λ path. path.items) to)) }
     ensures worded { IfOk result (λ to. AreWorded O.meaning O.words_of seen.new) }
     ensures one_more { IfOk result (λ to. index_set_len seen.new ≤ index_set_len seen.old + 1) }
+    ensures grown { IfOk result (λ to. IsGrown seen.old.keys seen.new.keys) }
 {
     let limit = limit_of(task.rows, &there.counts);
     if limit >= task.rows.events {
@@ -86,7 +86,7 @@ fn arrive<O: Object>(
 }
 
 /// Tries a silent call or else the next call of the frame that was on top of the stack: a legal order, if one is found.
-fn advance<O: Object>(
+pub(crate) fn advance<O: Object>(
     task: &Task<O>,
     seen: &mut Seen<O::State>,
     stack: &mut Vec<Frame>,
@@ -94,14 +94,15 @@ fn advance<O: Object>(
 ) -> Result<Option<Vec<CallId>>, NoMemory>
     requires place { frame.place < index_set_len seen.old }
     requires worded { AreWorded O.meaning O.words_of seen.old }
-    ensures search { (history : List (Event ObjectCall Reply)) (processes : ℕ) (start : Configuration O.Meaning) → AreRows history processes task.now.rows.now
-        → IsSearch (O.effect task.now.object.now) history processes start (all_found O.meaning seen.old) (stack.old.items ++ frame ∷ [])
+    ensures search { (history : List (Event ObjectCall Reply)) (processes : ℕ) (exact : Bool) (start : Configuration O.Meaning) → AreRows history processes task.now.rows.now
+        → IsSearch (O.effect task.now.object.now) history processes (IsLed (O.effect task.now.object.now) history exact start) start (all_found O.meaning seen.old) (stack.old.items ++ frame ∷ [])
         → IfOk result (λ to. MatchOption to
-        (IsSearch (O.effect task.now.object.now) history processes start (all_found O.meaning seen.new) stack.new.items
+        (IsSearch (O.effect task.now.object.now) history processes (IsLed (O.effect task.now.object.now) history exact start) start (all_found O.meaning seen.new) stack.new.items
         × (work processes task.now.rows.now (all_found O.meaning seen.new) stack.new.items < work processes task.now.rows.now (all_found O.meaning seen.old) (stack.old.items ++ frame ∷ [])))
-        (λ order. ((id : CallId) → ¬ IsTaken start.counts id) → (last : O.Meaning) × IsLegal (O.effect task.now.object.now) start.state history order.items last)) }
+        (λ order. (end : Configuration O.Meaning) × IsLed (O.effect task.now.object.now) history exact start order.items end × IsDone (O.effect task.now.object.now) history end)) }
     ensures worded { IfOk result (λ to. AreWorded O.meaning O.words_of seen.new) }
     ensures one_more { IfOk result (λ to. index_set_len seen.new ≤ index_set_len seen.old + 1) }
+    ensures grown { IfOk result (λ to. IsGrown seen.old.keys seen.new.keys) }
 {
     let place = frame.place;
     let limit = frame.limit;
@@ -172,28 +173,30 @@ fn start_of<O: Object>(task: &Task<O>, processes: usize) -> Result<Found<O::Stat
 }
 
 /// A legal order of a history whose calls stand in these rows, if there is one, where no more than so many configurations
-/// are to be looked at.
+/// are to be looked at. What was found stays in the table.
 pub(crate) fn search<O: Object>(
     task: &Task<O>,
+    seen: &mut Seen<O::State>,
     processes: usize,
     most: usize,
-    keys: RandomState,
 ) -> Result<Answer, NoMemory>
-    requires { AreRows (map event_of task.now.events.now) processes task.now.rows.now }
-    ensures { IfOk result (IsAnswer (O.effect task.now.object.now) (O.opening task.now.object.now) (map event_of task.now.events.now) processes most) }
+    requires rows { AreRows (map event_of task.now.events.now) processes task.now.rows.now }
+    requires empty { index_set_len seen.old ≡ 0 }
+    ensures answer { IfOk result (IsAnswer (O.effect task.now.object.now) (O.opening task.now.object.now) (map event_of task.now.events.now) processes most) }
+    ensures whole { IfOk result (λ answer. answer ≡ Answers.NoOrder
+        → IsWholeSearch (O.effect task.now.object.now) (O.opening task.now.object.now) (map event_of task.now.events.now) processes (all_found O.meaning seen.new)) }
+    ensures worded { IfOk result (λ answer. AreWorded O.meaning O.words_of seen.new) }
 {
-    let alloc = task.alloc;
-    let mut seen = Seen::with_hasher(alloc, Keys::new(keys));
-    let mut stack = Vec::new(alloc);
+    let mut stack = Vec::new(task.alloc);
     let start = start_of(task, processes)?;
-    if let Some(order) = arrive(task, &mut seen, &mut stack, start)? {
+    if let Some(order) = arrive(task, seen, &mut stack, start)? {
         return Ok(Answer::Order(order));
     }
     while let Some(frame) = stack.pop() {
         if seen.len() > most {
             return Ok(Answer::TooMany);
         }
-        if let Some(order) = advance(task, &mut seen, &mut stack, frame)? {
+        if let Some(order) = advance(task, seen, &mut stack, frame)? {
             return Ok(Answer::Order(order));
         }
     }

@@ -105,5 +105,9 @@ pub(crate) fn has_sooner(rows: &Rows, limit: usize, counts: &[u32], process: usi
     let Some(end) = rows.ended_at(process, place) else {
         return false;
     };
+    // No call that is not taken ends before the limit.
+    if end.place <= limit {
+        return false;
+    }
     has_sooner_than(rows, limit, counts, begun, end)
 }

@@ -30,4 +30,4 @@ returns g c =
     let opening = g.O.Object.opening c.args.question.now.object.now in
     let all = map event_of c.args.question.now.events.now in
     let same = sym (take-map event_of c.args.count c.args.question.now.events.now) in
-    subst (λ (es : List (Event ObjectCall Reply)). IfOk c.search.result (IsAnswer effect opening es c.args.question.now.processes c.args.question.now.most)) same c.search.ensures
+    subst (λ (es : List (Event ObjectCall Reply)). IfOk c.search.result (IsAnswer effect opening es c.args.question.now.processes c.args.question.now.most)) same c.search.ensures.answer

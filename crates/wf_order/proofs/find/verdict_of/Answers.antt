@@ -1,27 +1,29 @@
 -- By the search of the whole, and by halving.
-use Rattle.std.proofs.Common.{◌≡◌, sym, ap, subst, ℕ, List, ◌≤◌, map, length, take, arith}
-use Rattle.std.proofs.lemmas.List.{length-map, take_all}
+use Rattle.std.proofs.Common.{ap, ℕ, map, arith}
+use Rattle.std.proofs.lemmas.List.{length-map}
 use Rattle.std.proofs.lemmas.Option.{MatchOption-at_none, MatchOption-at_some}
-use Rattle.ob_interface.specs.Call.{ObjectCall, Reply}
-use Rattle.wf_history.specs.History.{Event, End}
+use Rattle.wf_history.specs.History.{End}
 use Rattle.wf_history.specs.View.{event_of}
 use Rattle.wf_history.proofs.Positions.{one_item}
-use Rattle.wf_order.specs.Verdict.{HasLegal, enough}
-use Rattle.wf_order.proofs.Deciding.{at_none, at_many}
+use Rattle.wf_order.specs.Verdict.{enough}
+use Rattle.wf_order.proofs.Deciding.{none_of, many_of}
 use Rattle.wf_order.proofs.Places.{same_end}
 use Rattle.wf_order.proofs.find.verdict_of.Goals as goal
 
 pub last_legal-requires-clause-none : goal.last_legal-requires-clause-none
-last_legal-requires-clause-none g c = λ h.
+last_legal-requires-clause-none g c =
     let effect = g.O.Object.effect c.args.question.now.object.now in
     let opening = g.O.Object.opening c.args.question.now.object.now in
     let history = map event_of c.args.question.now.events.now in
-    let size = length-map c.args.question.now.events.now event_of in
-    let count = length c.args.question.now.events.now in
-    let inside : count ≤ length history = omega (arith, size) in
-    let all : take count history ≡ history = take_all count history (omega (arith, size)) in
-    at_none effect history opening c.args.question.now.processes c.args.question.now.most count inside c.in_ok-order.field-0 c.in_ok-order.ensures c.in-NoOrder.is
-    (subst (λ (l : List (Event ObjectCall Reply)). HasLegal effect opening l) (sym all) h)
+    none_of effect history opening c.args.question.now.processes c.args.question.now.most c.in_ok-order.field-0 c.in_ok-order.ensures.answer c.in-NoOrder.is
+
+pub returns-in-TooMany-clause-verdict : goal.returns-in-TooMany-clause-verdict
+returns-in-TooMany-clause-verdict g c =
+    let effect = g.O.Object.effect c.args.question.now.object.now in
+    let opening = g.O.Object.opening c.args.question.now.object.now in
+    let history = map event_of c.args.question.now.events.now in
+    let many = many_of effect history opening c.args.question.now.processes c.args.question.now.most c.in_ok-order.field-0 c.in_ok-order.ensures.answer c.in-TooMany.is in
+    (c.args.question.now.processes, many.0)
 
 pub returns-in-TooMany-clause-decided : goal.returns-in-TooMany-clause-decided
 returns-in-TooMany-clause-decided g c = λ le e.
@@ -29,9 +31,7 @@ returns-in-TooMany-clause-decided g c = λ le e.
     let opening = g.O.Object.opening c.args.question.now.object.now in
     let history = map event_of c.args.question.now.events.now in
     let size = length-map c.args.question.now.events.now event_of in
-    let count = length c.args.question.now.events.now in
-    let inside : count ≤ length history = omega (arith, size) in
-    let many = at_many effect history opening c.args.question.now.processes c.args.question.now.most count inside c.in_ok-order.field-0 c.in_ok-order.ensures c.in-TooMany.is in
+    let many = many_of effect history opening c.args.question.now.processes c.args.question.now.most c.in_ok-order.field-0 c.in_ok-order.ensures.answer c.in-TooMany.is in
     let less = many.1 in
     let cost = ap (λ (n : ℕ). enough c.args.question.now.processes n) size in
     omega (arith, le, less, cost)
@@ -41,20 +41,15 @@ returns-in-Some-clause-verdict g c =
     let effect = g.O.Object.effect c.args.question.now.object.now in
     let opening = g.O.Object.opening c.args.question.now.object.now in
     let history = map event_of c.args.question.now.events.now in
-    let size = length-map c.args.question.now.events.now event_of in
-    let count = length c.args.question.now.events.now in
-    let inside : count ≤ length history = omega (arith, size) in
-    let all : take count history ≡ history = take_all count history (omega (arith, size)) in
     let last = MatchOption-at_some _ _ c.in-Some.place c.in-Some.is c.in_ok-place-in-NoOrder.ensures in
     let end = c.end_at.ensures in (
       last,
       same_end history last.id c.end_at.result last.reply end.0 (one_item history c.in-Some.place (End last.id last.reply) (End c.end_at.result end.0) last.end end.1),
-      (λ h. at_none effect history opening c.args.question.now.processes c.args.question.now.most count inside c.in_ok-order.field-0 c.in_ok-order.ensures c.in-NoOrder.is
-          (subst (λ (l : List (Event ObjectCall Reply)). HasLegal effect opening l) (sym all) h)),
+      none_of effect history opening c.args.question.now.processes c.args.question.now.most c.in_ok-order.field-0 c.in_ok-order.ensures.answer c.in-NoOrder.is,
     )
 
-pub returns-in-None-clause-decided : goal.returns-in-None-clause-decided
-returns-in-None-clause-decided g c = λ le e.
+pub returns-clause-decided : goal.returns-clause-decided
+returns-clause-decided g c = λ le e.
     let size = length-map c.args.question.now.events.now event_of in
     let many = MatchOption-at_none _ _ c.in-None.is c.in_ok-place-in-NoOrder.ensures in
     let less = many.1 in

@@ -1,22 +1,16 @@
 -- By what the search of the first half says.
-use Rattle.std.proofs.Common.{◌≡◌, sym, subst, map, length, arith, ℕ, ◌<◌, ◌≤◌, ◌+◌, ◌-◌, ◌/◌, Result, Ok}
+use Rattle.std.proofs.Common.{◌≡◌, sym, subst, map, length, arith, ◌<◌, ◌≤◌, Result, Ok}
 use Rattle.std.specs.Prelude.{IfOk}
 use Rattle.wf_history.specs.View.{event_of}
 use Rattle.wf_order.proofs.Deciding.{between_upper, between_lower, at_order, at_none, at_many}
-use Rattle.wf_order.proofs.find.halved.Goals.{in-Order, in-NoOrder, in-TooMany}
-use Rattle.wf_order.proofs.find.halved.Goals as goal
+use Rattle.wf_order.proofs.find.halved_by_search.Goals.{in-Order, in-NoOrder, in-TooMany}
+use Rattle.wf_order.proofs.find.halved_by_search.Goals as goal
 
 at_ok : {V E : Type 0} (P : V → Type 0) (r : Result V E) (v : V) → r ≡ Ok v → P v → IfOk r P
 at_ok {V} {E} P r v e h = subst (λ (x : Result V E). IfOk x P) (sym e) h
 
-lower_is : (legal illegal : ℕ) → legal < illegal → 1 < illegal - legal → legal < legal + (illegal - legal) / 2
-lower_is legal illegal order wide = omega (arith, order, wide)
-
-upper_is : (legal illegal : ℕ) → legal < illegal → 1 < illegal - legal → legal + (illegal - legal) / 2 < illegal
-upper_is legal illegal order wide = omega (arith, order, wide)
-
-pub returns : goal.returns
-returns g c =
+pub returns-clause-halved : goal.returns-clause-halved
+returns-clause-halved g c =
     let effect = g.O.Object.effect c.args.question.now.object.now in
     let opening = g.O.Object.opening c.args.question.now.object.now in
     let history = map event_of c.args.question.now.events.now in
@@ -25,9 +19,9 @@ returns g c =
     let legal = c.args.legal in
     let illegal = c.args.illegal in
     let between = c.requires.between in
-    let middle = legal + (illegal - legal) / 2 in
-    let lower : legal < middle = lower_is legal illegal between.order c.requires.wide in
-    let upper : middle < illegal = upper_is legal illegal between.order c.requires.wide in
+    let middle = c.args.middle in
+    let lower : legal < middle = c.requires.lower in
+    let upper : middle < illegal = c.requires.upper in
     let within = between.within in
     let inside : middle ≤ length history = omega (arith, upper, within) in
     elim c.match-branch-2.branch [
@@ -40,4 +34,13 @@ returns g c =
         omega (arith, lower, upper),
       )
       | in-TooMany w ↦ at_ok _ c.match-branch-2.result _ w.result-is (at_many effect history opening processes most middle inside c.in_ok-front_answer.field-0 c.in_ok-front_answer.ensures w.in-TooMany.is)
+    ]
+
+pub returns-clause-higher : goal.returns-clause-higher
+returns-clause-higher g c =
+    let lower = c.requires.lower in
+    elim c.match-branch-2.branch [
+      | in-Order w ↦ at_ok _ c.match-branch-2.result _ w.result-is (omega (arith, lower))
+      | in-NoOrder w ↦ at_ok _ c.match-branch-2.result _ w.result-is (omega arith)
+      | in-TooMany w ↦ at_ok _ c.match-branch-2.result _ w.result-is tt
     ]

@@ -1,0 +1,62 @@
+-- One try more.
+use Rattle.std.proofs.Common.{◌≡◌, sym, ap, subst, ◌∙◌, ◌<◌, ◌++◌, List, [], map, false, append_assoc}
+use Rattle.std.proofs.lemmas.List.{nil_from_length}
+use Rattle.std.proofs.lemmas.Option.{MatchOption-at_none, MatchOption-at_some}
+use Rattle.wf_history.specs.View.{event_of}
+use Rattle.wf_order.specs.declared.search.Frame.{Frame}
+use Rattle.wf_order.specs.declared.seen.Found.{Found}
+use Rattle.wf_order.specs.Search.{all_found, IsLed, IsSearch, work}
+use Rattle.wf_order.specs.Steps.{start_at}
+use Rattle.wf_order.proofs.Completeness.{none_taken}
+use Rattle.wf_order.proofs.Searching.{none_legal}
+use Rattle.wf_order.proofs.Soundness.{sound}
+use Rattle.wf_order.proofs.front.go_on.Goals as goal
+
+pub returns-in-Some-2-clause-found : goal.returns-in-Some-2-clause-found
+returns-in-Some-2-clause-found g c =
+    let effect = g.O.Object.effect c.args.task.now.object.now in
+    let history = map event_of c.args.task.now.events.now in
+    let start = start_at c.args.processes (g.O.Object.opening c.args.task.now.object.now) in
+    let found = all_found g.O.Object.meaning c.loop-frame.seen in
+    let h = subst (λ (l : List Frame). IsSearch effect history c.args.processes (IsLed effect history false start) start found l) c.in-Some.ensures.items c.loop-frame.invariant.search in
+    let end = MatchOption-at_some _ _ c.in-Some-2._order c.in-Some-2.is (c.in_ok-_order.ensures.search history c.args.processes false start c.requires.rows h) in
+    (end.1.0, end.0.state, sound effect history end.1.1 (none_taken c.args.processes) end.2)
+
+pub loop-frame-smaller : goal.loop-frame-smaller
+loop-frame-smaller g c =
+    let effect = g.O.Object.effect c.args.task.now.object.now in
+    let history = map event_of c.args.task.now.events.now in
+    let rows = c.args.task.now.rows.now in
+    let start = start_at c.args.processes (g.O.Object.opening c.args.task.now.object.now) in
+    let found = all_found g.O.Object.meaning c.loop-frame.seen in
+    let more = all_found g.O.Object.meaning c.advance.new.seen in
+    let h = subst (λ (l : List Frame). IsSearch effect history c.args.processes (IsLed effect history false start) start found l) c.in-Some.ensures.items c.loop-frame.invariant.search in
+    let both = MatchOption-at_none _ _ c.in_default-2.is (c.in_ok-_order.ensures.search history c.args.processes false start c.requires.rows h) in
+    subst (λ (l : List Frame). work c.args.processes rows more c.advance.new.stack.items < work c.args.processes rows found l) (sym c.in-Some.ensures.items) both.1
+
+pub loop-frame-preserved : goal.loop-frame-preserved
+loop-frame-preserved g c =
+    let effect = g.O.Object.effect c.args.task.now.object.now in
+    let history = map event_of c.args.task.now.events.now in
+    let start = start_at c.args.processes (g.O.Object.opening c.args.task.now.object.now) in
+    let found = all_found g.O.Object.meaning c.loop-frame.seen in
+    let h = subst (λ (l : List Frame). IsSearch effect history c.args.processes (IsLed effect history false start) start found l) c.in-Some.ensures.items c.loop-frame.invariant.search in
+    let both = MatchOption-at_none _ _ c.in_default-2.is (c.in_ok-_order.ensures.search history c.args.processes false start c.requires.rows h) in
+    let old = c.loop-frame.invariant.grown in
+    let new = c.in_ok-_order.ensures.grown in
+    record {
+      search = both.0;
+      worded = c.in_ok-_order.ensures.worded;
+      grown = (old.0 ++ new.0, new.1 ∙ ap (λ (l : List (Found g.row.O-State.Denot)). l ++ new.0) old.1 ∙ append_assoc c.args.seen.now.keys old.0 new.0);
+    }
+
+pub returns-clause-found : goal.returns-clause-found
+returns-clause-found g c =
+    let effect = g.O.Object.effect c.args.task.now.object.now in
+    let opening = g.O.Object.opening c.args.task.now.object.now in
+    let history = map event_of c.args.task.now.events.now in
+    let start = start_at c.args.processes opening in
+    let found = all_found g.O.Object.meaning c.loop-frame.seen in
+    let none : c.loop-frame.stack.items ≡ [] = nil_from_length c.loop-frame.stack.items (sym c.loop-frame.stack.ok.0 ∙ c.in_default.ensures.cases.0) in
+    none_legal effect history c.args.processes c.args.task.now.rows.now c.requires.rows opening (IsLed effect history false start) (λ call. g.met.O.Object.determined c.args.task.now.object.now call) found
+    (subst (λ (l : List Frame). IsSearch effect history c.args.processes (IsLed effect history false start) start found l) none c.loop-frame.invariant.search)
