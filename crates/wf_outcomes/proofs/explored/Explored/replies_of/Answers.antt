@@ -4,6 +4,7 @@ use Rattle.std.proofs.Math.Logic.{∥∥₁_map}
 use Rattle.std.proofs.lemmas.List.{length-map}
 use Rattle.std.proofs.lemmas.Option.{MatchOption-at_none, MatchOption-at_some, slice_get-map}
 use Rattle.ob_interface.specs.View.{reply_of}
+use Rattle.wf_history.proofs.Positions.{contains_at}
 use Rattle.wf_outcomes.specs.declared.replies.Possible.{Possible}
 use Rattle.wf_outcomes.specs.Explored.{kept_in, all_kept, calls_in}
 use Rattle.wf_outcomes.specs.Outcomes.{HasNoReply, IsOnlyReply}
@@ -11,6 +12,11 @@ use Rattle.wf_outcomes.specs.Possible.{had_in}
 use Rattle.wf_outcomes.proofs.Replying.{AreSoFar, no_reply, one_reply, all_replies}
 use Rattle.wf_outcomes.proofs.explored.Explored.replies_of.Goals as goal
 use Rattle.wf_outcomes.proofs.explored.Explored.replies_of.Goals.{in-Some+in_ok-add_reply, in_default}
+
+pub reply_at-requires-clause-words : goal.reply_at-requires-clause-words
+reply_at-requires-clause-words g c =
+    let self = c.args.self.now in
+    self.worded c.index.result.now (contains_at self.seen.keys c.loop-place.place c.index.result.now c.index.ensures)
 
 pub loop-place-preserved : goal.loop-place-preserved
 loop-place-preserved g c =
