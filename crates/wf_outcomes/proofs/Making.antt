@@ -11,7 +11,8 @@ use Rattle.wf_history.specs.View.{kept_call}
 use Rattle.wf_history.proofs.Positions.{place_push}
 use Rattle.wf_outcomes.specs.declared.made.Made.{Made}
 use Rattle.wf_outcomes.specs.declared.seen.Stated.{Stated}
-use Rattle.wf_outcomes.specs.Made.{AreMade, Answers, IsAfter, IsMade, IsNothing, IsRecalled, IsStated}
+use Rattle.wf_outcomes.specs.Made.{AreMade, IsAfter, IsMade, IsNothing, IsRecalled, IsStated}
+use Rattle.wf_outcomes.specs.Outcomes.{Answers}
 
 -- what is read behind a write
 set_same : {X : Type 0} (xs : List X) (p : ℕ) (x y : X) → slice_get (set xs p x) p ≡ Some y → y ≡ x
@@ -29,6 +30,11 @@ set_other (z ∷ xs) (suc p) (suc k) x other = set_other xs p k x (λ e. other (
 -- what is read at a row
 pub row_there : {X : Type 0} (xs : List (Option X)) (p : ℕ) (x : Option X) (m : X) → true ≡ nat_lt p (length xs) → x ≡ get_or xs p x → x ≡ Some m → slice_get xs p ≡ Some (Some m)
 row_there xs p x m within is some = slice_get-get_or xs p x (ltb-true p (length xs) (sym within)) ∙ ap Some (sym is ∙ some)
+
+-- no row at all
+pub nothing_yet : {State : Type 0} (rows : List (Option (Made State))) → rows ≡ [] → IsNothing rows
+nothing_yet {State} rows none k made at =
+    let e : slice_get [] k ≡ Some (Some made) = ap (λ (l : List (Option (Made State))). slice_get l k) (sym none) ∙ at in absurd (cc)
 
 -- one row more, with no call
 pub nothing_more : {State : Type 0} (rows more : List (Option (Made State))) → IsNothing rows → more ≡ rows ++ None ∷ [] → IsNothing more
@@ -60,9 +66,11 @@ module _ {State Meaning : Type 0} (meaning : State → Meaning) (words_of : Mean
   made_after before call made is from by after to =
       subst (λ (s : Stated State). IsAfter meaning words_of Effect (kept_call call) before s) (sym to) (
         is.after,
-        reply_of made.reply,
-        subst (λ (k : KeptCall). Effect (kept_call k) (meaning before.state) (meaning made.after.value.state) (reply_of made.reply)) by
-        (subst (λ (s : Stated State). Effect (kept_call made.call.now) (meaning s.state) (meaning made.after.value.state) (reply_of made.reply)) from is.effect),
+        (
+          reply_of made.reply,
+          subst (λ (k : KeptCall). Effect (kept_call k) (meaning before.state) (meaning made.after.value.state) (reply_of made.reply)) by
+          (subst (λ (s : Stated State). Effect (kept_call made.call.now) (meaning s.state) (meaning made.after.value.state) (reply_of made.reply)) from is.effect),
+        ),
       )
 
   module _ (told_apart : (a b : Meaning) → words_of a ≡ words_of b → a ≡ b) (rows : List (Option (Made State))) (are : AreMade meaning words_of Effect rows) (before : Stated State) (is : IsStated meaning words_of before) (call : KeptCall)
@@ -78,8 +86,8 @@ module _ {State Meaning : Type 0} (meaning : State → Meaning) (words_of : Mean
     pub recalled_after : (after : Stated State) → after ≡ made.after.value → IsAfter meaning words_of Effect (kept_call call) before after
     recalled_after after to =
         let m = are r.row made r.there in
-        subst (λ (s : Stated State). IsAfter meaning words_of Effect (kept_call call) before s) (sym to) (m.after, reply_of made.reply, recalled_effect)
+        subst (λ (s : Stated State). IsAfter meaning words_of Effect (kept_call call) before s) (sym to) (m.after, (reply_of made.reply, recalled_effect))
 
-    pub recalled_reply : (reply : Reply) → reply ≡ reply_of made.reply → Answers Effect (kept_call call) (meaning before.state) reply
+    pub recalled_reply : (reply : Reply) → reply ≡ reply_of made.reply → Answers Effect (kept_call call) reply (meaning before.state)
     recalled_reply reply is_reply =
-        subst (λ (a : Reply). Answers Effect (kept_call call) (meaning before.state) a) (sym is_reply) (meaning made.after.value.state, recalled_effect)
+        subst (λ (a : Reply). Answers Effect (kept_call call) a (meaning before.state)) (sym is_reply) (meaning made.after.value.state, recalled_effect)

@@ -36,7 +36,3 @@ pub record IsRecalled {State : Type 0} (rows : List (Option (Rust.Made State))) 
 abbrev pub IsAfter : {State Meaning : Type 0} → (State → Meaning) → (Meaning → List ℕ) → (ObjectCall → Meaning → Meaning → Reply → Type 0) → ObjectCall → (before after : Stated State) → Type 0
 IsAfter meaning words_of Effect call before after =
     IsStated meaning words_of after × ((reply : Reply) × Effect call (meaning before.state) (meaning after.state) reply)
-
--- the call, made on the state, has the reply
-abbrev pub Answers : {Meaning : Type 0} → (ObjectCall → Meaning → Meaning → Reply → Type 0) → ObjectCall → Meaning → Reply → Type 0
-Answers {Meaning} Effect call before reply = (after : Meaning) × Effect call before after reply

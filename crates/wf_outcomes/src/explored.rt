@@ -17,7 +17,7 @@ pub struct Explored<'a, O: Object> {
     /// Calls that were made, as far as they are remembered.
     pub memory: Memory<'a, O::State>,
     ghost worded: { AreWorded O.meaning O.words_of seen },
-    ghost remembered: { AreMade O.meaning O.words_of (O.effect object.now) memory.items },
+    ghost remembered: { ∥ AreMade O.meaning O.words_of (O.effect object.now) memory.items ∥₁ },
     ghost explored: { ∥ IsExplored (O.effect object.now) (calls_in scripts.now) (O.opening object.now) (all_kept O.meaning seen) ∥₁ },
 }
 

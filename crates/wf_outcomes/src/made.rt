@@ -3,7 +3,8 @@
 ghost use Rattle.std.specs.Prelude.{◌≡◌, ◌<◌, length, slice_set, Some, IfOk, IfSome, OnOk, IsTrue};
 ghost use Rattle.ob_interface.specs.View.{reply_of};
 ghost use Rattle.wf_history.specs.View.{kept_call};
-ghost use Rattle.wf_outcomes.specs.Made.{AreMade, Answers, IsAfter, IsMade, IsNothing, IsRecalled, IsStated};
+ghost use Rattle.wf_outcomes.specs.Made.{AreMade, IsAfter, IsMade, IsNothing, IsRecalled, IsStated};
+ghost use Rattle.wf_outcomes.specs.Outcomes.{Answers};
 
 use crate::seen::Stated;
 use crate::step::{Task, applied};
@@ -37,7 +38,7 @@ pub(crate) fn nothing_made<'a, S: Drop>(alloc: Global) -> Result<Memory<'a, S>, 
     ensures { IfOk result (λ memory. IsNothing memory.items) }
 {
     let mut memory = Vec::with_capacity(alloc, ROWS)?;
-    for _row in 0..ROWS {
+    for _ in 0..ROWS {
         memory.push(None)?;
     }
     Ok(memory)
@@ -137,7 +138,7 @@ fn made_now<'a, O: Object>(
 /// A call is remembered.
 fn remember<'a, S: Drop>(memory: &mut Memory<'a, S>, row: usize, made: Made<'a, S>)
     requires { row < length memory.old.items }
-    ensures { memory.new.items ≡ slice_set memory.old.items row (Some made) }
+    ensures { memory.new.items ≡ slice_set memory.old.items row (Some made.entry) }
 {
     memory[row] = Some(made);
 }
@@ -186,8 +187,8 @@ pub(crate) fn reply_to<O: Object>(
     call: &KeptCall,
 ) -> Result<Reply, NoMemory>
     requires before { IsStated O.meaning O.words_of before.now }
-    requires memory { AreMade O.meaning O.words_of (O.effect task.now.object.now) memory.now }
-    ensures { IfOk result (λ reply. Answers (O.effect task.now.object.now) (kept_call call.now) (O.meaning before.now.state) (reply_of reply)) }
+    requires memory { ∥ AreMade O.meaning O.words_of (O.effect task.now.object.now) memory.now ∥₁ }
+    ensures { IfOk result (λ reply. ∥ Answers (O.effect task.now.object.now) (kept_call call.now) (reply_of reply) (O.meaning before.now.state) ∥₁) }
 {
     if let Some(made) = recalled(memory, before, call) {
         let known = copied(task.alloc, &made.reply)?;

@@ -76,9 +76,9 @@ fn reply_at<O: Object>(
     id: CallId,
 ) -> Result<Option<Reply>, NoMemory>
     requires words { IsWorded O.meaning O.words_of here.now }
-    requires memory { AreMade O.meaning O.words_of (O.effect task.now.object.now) memory.now }
+    requires memory { ∥ AreMade O.meaning O.words_of (O.effect task.now.object.now) memory.now ∥₁ }
     ensures { IfOk result (λ made. MatchOption made (HasNoReply (O.effect task.now.object.now) (calls_in task.now.scripts.now) (kept_in O.meaning here.now).here id)
-        (λ reply. IsOnlyReply (O.effect task.now.object.now) (calls_in task.now.scripts.now) (kept_in O.meaning here.now).here id (reply_of reply))) }
+        (λ reply. ∥ IsOnlyReply (O.effect task.now.object.now) (calls_in task.now.scripts.now) (kept_in O.meaning here.now).here id (reply_of reply) ∥₁)) }
 {
     if !is_next(here.counts.as_slice(), id) {
         return Ok(None);

@@ -19,7 +19,7 @@ returns-clause-only g c =
     let at = next_is (Some call) scripts c.as_slice.result.now c.args.here.now.counts.items process c.as_slice.ensures within c.in-Some.ensures in
     let after = c.in_ok-kept.ensures.after in
     only_step (g.O.Object.effect task.object.now) (λ call. g.met.O.Object.determined task.object.now call) scripts here process call at within
-    (g.O.Object.meaning c.in_ok-kept.kept.value.state) after.1 c.in_ok-counts.counts.items c.in_ok-counts.ensures after.2
+    (g.O.Object.meaning c.in_ok-kept.kept.value.state) after.1.0 c.in_ok-counts.counts.items c.in_ok-counts.ensures after.1.1
 
 pub returns-clause-words : goal.returns-clause-words
 returns-clause-words g c = c.in_ok-kept.ensures.after.0
