@@ -4,7 +4,6 @@ ghost use Rattle.std.specs.Prelude.{◌≡◌, map, length, IfOk};
 ghost use Rattle.wf_outcomes.specs.Explored.{all_kept, calls_in};
 
 use crate::explored::Explored;
-use crate::seen::Counts;
 use ob_interface::NoMemory;
 use std::alloc::Global;
 use wf_history::KeptCall;
@@ -21,10 +20,10 @@ fn count_of(calls: usize) -> Result<u32, NoMemory>
 }
 
 /// How many calls each script has.
-fn lengths(alloc: Global, scripts: &[Vec<KeptCall>]) -> Result<Counts, NoMemory>
+fn lengths(alloc: Global, scripts: &[Vec<KeptCall>]) -> Result<Vec<u32>, NoMemory>
     ensures { IfOk result (λ counts. counts.items ≡ map length (calls_in scripts.now)) }
 {
-    let mut counts = Counts::new(alloc);
+    let mut counts = Vec::new(alloc);
     for script in scripts {
         counts.push(count_of(script.len())?)?;
     }

@@ -1,5 +1,5 @@
 -- The replies so far, and those of one more configuration.
-use Rattle.std.proofs.Common.{sym, ap, ◌∙◌, subst, ◌+◌, map, option_map, Vec, Global, arith}
+use Rattle.std.proofs.Common.{sym, ap, ◌∙◌, subst, ◌+◌, map, option_map, List, Option, Vec, Global, arith}
 use Rattle.std.proofs.Math.Logic.{∥∥₁_elim, ∥∥₁_map}
 use Rattle.std.proofs.Props.{props}
 use Rattle.std.proofs.lemmas.List.{length-map}
@@ -10,6 +10,8 @@ use Rattle.wf_outcomes.specs.declared.replies.Possible.{Possible}
 use Rattle.wf_outcomes.specs.Explored.{kept_in, all_kept, calls_in}
 use Rattle.wf_outcomes.specs.Outcomes.{HasNoReply, IsOnlyReply}
 use Rattle.wf_outcomes.specs.Possible.{had_in}
+use Rattle.wf_outcomes.specs.Made.{AreMade}
+use Rattle.wf_outcomes.specs.declared.made.Made.{Made}
 use Rattle.wf_outcomes.proofs.Replying.{AreSoFar, none_so_far, no_reply, one_reply, all_replies}
 use Rattle.wf_outcomes.proofs.explored.Explored.replies_of.Goals as goal
 use Rattle.wf_outcomes.proofs.explored.Explored.replies_of.Goals.{in-Some+in_ok-add_reply, in_default}
@@ -18,6 +20,11 @@ pub reply_at-requires-clause-words : goal.reply_at-requires-clause-words
 reply_at-requires-clause-words g c =
     let self = c.args.self.now in
     self.worded c.index.result.now (contains_at self.seen.keys c.loop-place.place c.index.result.now c.index.ensures)
+
+pub reply_at-requires-clause-memory : goal.reply_at-requires-clause-memory
+reply_at-requires-clause-memory g c =
+    let self = c.args.self.now in
+    subst (λ (rows : List (Option (Made g.row.O-State.Denot))). ∥ AreMade g.O.Object.meaning g.O.Object.words_of (g.O.Object.effect self.object.now) rows ∥₁) (sym c.deref.ensures.value) self.remembered
 
 pub loop-place-init : goal.loop-place-init
 loop-place-init g c =
