@@ -155,6 +155,7 @@ fn outcomes_of(
         object: _object,
         scripts: _scripts,
         seen: _seen,
+        memory: _memory,
     } = explored;
     found
 }

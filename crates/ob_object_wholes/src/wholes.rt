@@ -78,6 +78,7 @@ fn wholes_of(
         object: _object,
         scripts: _scripts,
         seen: _seen,
+        memory: _memory,
     } = explored;
     found
 }

@@ -1,6 +1,7 @@
 -- What a search keeps of a spot.
 use Rattle.std.specs.Prelude.{◌≡◌, ◌⊎◌, ℕ, ◌+◌, ◌<◌, List, [], ◌∷◌, ◌++◌, length, map, get_or, replicate, Vec, All, Option, Contains}
 use Rattle.std.specs.HashSet.{HashSet}
+use Rattle.smallvec.specs.SmallVec.{SmallVec}
 use Rattle.wf_layers.specs.Graph.{Spot, AreApart, next_from}
 use Rattle.wf_layers.specs.Layers.{HasSome, IsGrowing, IsLayer, IsLinked, ways_of}
 use Rattle.wf_layers.specs.declared.edges.Edge.{Edge}
@@ -10,7 +11,7 @@ use Rattle.wf_layers.specs.declared.nodes.Node.{Node}
 use Rattle.wf_layers.specs.declared.search.Front.{Front}
 
 -- the lists that were found, by their numbers
-abbrev pub lists_in : {A S : Type 0} → HashSet (Vec ℕ A) S → List (List ℕ)
+abbrev pub lists_in : {S : Type 0} → HashSet (SmallVec ℕ) S → List (List ℕ)
 lists_in lists = map (λ l. l.items) lists.keys
 
 -- the node's place, and of each process the list that has the number

@@ -6,6 +6,7 @@ ghost use Rattle.wf_layers.specs.Layers.{GrowsOver};
 ghost use Rattle.wf_layers.specs.Nodes.{AreNodes, IsArrived, IsGrown, IsNode, lists_in, spot_in, spots_in};
 
 use crate::edges::{Edge, known_edge};
+use crate::keys::Keys;
 use crate::nodes::{Layer, Lists, Node, node_on};
 use crate::search::LayersFault;
 use ob_interface::NoMemory;
@@ -111,7 +112,7 @@ pub(crate) fn layer_behind(
 {
     let mut growing = Growing {
         lists,
-        layer: Layer::with_hasher(ground.alloc, ground.keys),
+        layer: Layer::with_hasher(ground.alloc, Keys::new(ground.keys)),
         came: Vec::new(ground.alloc),
     };
     for from in 0..layer.len() {

@@ -7,12 +7,13 @@
 
 pub mod edges;
 pub mod growing;
+pub mod keys;
 pub mod nodes;
 pub mod search;
 pub mod ways;
 
 pub use edges::Edge;
 pub use growing::{Came, Ground};
-pub use nodes::{Layer, Lists, Node, Told};
+pub use nodes::{Layer, Lists, Node, Said, Told};
 pub use search::{Front, LayersFault, search_all};
 pub use ways::way_back;

@@ -5,14 +5,17 @@ ghost use Rattle.wf_layers.specs.Graph.{AreApart, GoesOn, spot_on};
 ghost use Rattle.wf_layers.specs.Nodes.{IsNode, lists_in, spot_in};
 
 use crate::edges::Edge;
+use crate::keys::Keys;
 use indexmap::IndexSet;
 use ob_interface::NoMemory;
 use smallvec::SmallVec;
 use std::alloc::{AllocError, Global};
-use std::hash::RandomState;
+
+/// The numbers of replies, in order. Of eight of them and less no memory is taken.
+pub type Said = SmallVec<usize, 8>;
 
 /// Lists of the numbers of replies, each once. What is kept of a list is its place here.
-pub type Lists = IndexSet<Vec<usize>, RandomState>;
+pub type Lists = IndexSet<Said, Keys>;
 
 /// Of each process the number of the list of its replies so far.
 pub type Told = SmallVec<usize, 4>;
@@ -25,13 +28,13 @@ pub struct Node {
 }
 
 /// The nodes of one layer, in the order in which they were found.
-pub type Layer = IndexSet<Node, RandomState>;
+pub type Layer = IndexSet<Node, Keys>;
 
 /// A list with one reply more.
-fn with_reply(alloc: Global, list: &[usize], reply: usize) -> Result<Vec<usize>, AllocError>
+fn with_reply(alloc: Global, list: &[usize], reply: usize) -> Result<Said, AllocError>
     ensures { IfOk result (λ longer. longer.items ≡ list.now ++ reply ∷ []) }
 {
-    let mut longer = Vec::from_slice(alloc, list)?;
+    let mut longer = SmallVec::from_slice(alloc, list)?;
     longer.push(reply)?;
     Ok(longer)
 }

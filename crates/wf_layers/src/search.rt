@@ -6,6 +6,7 @@ ghost use Rattle.wf_layers.specs.Layers.{HasOver};
 ghost use Rattle.wf_layers.specs.Nodes.{IsFirst, IsFront, first_spot, lists_in, trail_in};
 
 use crate::growing::{Came, Ground, Growing, layer_behind};
+use crate::keys::Keys;
 use crate::nodes::{Layer, Lists, Node};
 use ob_interface::NoMemory;
 use smallvec::SmallVec;
@@ -48,8 +49,9 @@ pub struct Front {
 fn no_lists(ground: &Ground<'_>) -> Result<Lists, NoMemory>
     ensures { IfOk result (λ lists. lists_in lists ≡ [] ∷ []) }
 {
-    let mut lists = Lists::with_hasher(ground.alloc, ground.keys);
-    let _is_new = lists.insert(Vec::new(ground.alloc))?;
+    let mut lists = Lists::with_hasher(ground.alloc, Keys::new(ground.keys));
+    let nothing = SmallVec::new(ground.alloc);
+    let _is_new = lists.insert(nothing)?;
     Ok(lists)
 }
 
@@ -58,7 +60,7 @@ fn first_layer(ground: &Ground<'_>) -> Result<Layer, NoMemory>
     ensures { IfOk result (λ layer. IsFirst ground.now.processes layer.keys) }
 {
     let told = SmallVec::from_elem(ground.alloc, 0, ground.processes)?;
-    let mut layer = Layer::with_hasher(ground.alloc, ground.keys);
+    let mut layer = Layer::with_hasher(ground.alloc, Keys::new(ground.keys));
     let _is_new = layer.insert(Node { place: 0, told })?;
     Ok(layer)
 }

@@ -13,7 +13,7 @@ pub fn way_back(alloc: Global, trail: &[Vec<Came>], at: usize) -> Result<Vec<usi
     requires within { at < length (ways_of ([] ∷ []) (trail_in trail.now)) }
     ensures { IfOk result (λ back. reverse back.items ≡ get_or (ways_of ([] ∷ []) (trail_in trail.now)) at []) }
 {
-    let mut way = Vec::new(alloc);
+    let mut way = Vec::with_capacity(alloc, trail.len())?;
     let mut at = at;
     let mut depth = trail.len();
     while depth > 0 {

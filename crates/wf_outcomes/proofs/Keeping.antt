@@ -21,24 +21,24 @@ true≢false e = cc
 -- what `==` says of two that were found
 module _ {State : Type 0} where
   abbrev pub found_eq : Found State → Found State → Bool
-  found_eq a b = pointwise eqb a.counts.items b.counts.items && pointwise eqb a.words.items b.words.items
+  found_eq a b = pointwise eqb a.counts.items b.counts.items && pointwise eqb a.kept.value.words.items b.kept.value.words.items
 
-  found_exact : (a b : Found State) → found_eq a b ≡ true → (a.counts.items ≡ b.counts.items) × (a.words.items ≡ b.words.items)
-  found_exact a b e = by (pointwise eqb a.counts.items b.counts.items) (pointwise eqb a.words.items b.words.items) refl refl e
+  found_exact : (a b : Found State) → found_eq a b ≡ true → (a.counts.items ≡ b.counts.items) × (a.kept.value.words.items ≡ b.kept.value.words.items)
+  found_exact a b e = by (pointwise eqb a.counts.items b.counts.items) (pointwise eqb a.kept.value.words.items b.kept.value.words.items) refl refl e
     where
-      by : (p q : Bool) → p ≡ pointwise eqb a.counts.items b.counts.items → q ≡ pointwise eqb a.words.items b.words.items → (p && q) ≡ true → (a.counts.items ≡ b.counts.items) × (a.words.items ≡ b.words.items)
+      by : (p q : Bool) → p ≡ pointwise eqb a.counts.items b.counts.items → q ≡ pointwise eqb a.kept.value.words.items b.kept.value.words.items → (p && q) ≡ true → (a.counts.items ≡ b.counts.items) × (a.kept.value.words.items ≡ b.kept.value.words.items)
       by true true is_p is_q h = (
         (slice_eq-Decides {E = eqb} Decides-eqb a.counts.items b.counts.items true is_p).0 refl,
-        (slice_eq-Decides {E = eqb} Decides-eqb a.words.items b.words.items true is_q).0 refl,
+        (slice_eq-Decides {E = eqb} Decides-eqb a.kept.value.words.items b.kept.value.words.items true is_q).0 refl,
       )
       by true false is_p is_q h = absurd (cc)
       by false q is_p is_q h = absurd (cc)
 
-  found_alike : (a b : Found State) → a.counts.items ≡ b.counts.items → a.words.items ≡ b.words.items → found_eq a b ≡ true
+  found_alike : (a b : Found State) → a.counts.items ≡ b.counts.items → a.kept.value.words.items ≡ b.kept.value.words.items → found_eq a b ≡ true
   found_alike a b counts words =
       let p = (slice_eq-Decides {E = eqb} Decides-eqb a.counts.items b.counts.items (pointwise eqb a.counts.items b.counts.items) refl).1 counts in
-      let q = (slice_eq-Decides {E = eqb} Decides-eqb a.words.items b.words.items (pointwise eqb a.words.items b.words.items) refl).1 words in
-      ap (λ (x : Bool). x && pointwise eqb a.words.items b.words.items) p ∙ q
+      let q = (slice_eq-Decides {E = eqb} Decides-eqb a.kept.value.words.items b.kept.value.words.items (pointwise eqb a.kept.value.words.items b.kept.value.words.items) refl).1 words in
+      ap (λ (x : Bool). x && pointwise eqb a.kept.value.words.items b.kept.value.words.items) p ∙ q
 
 -- what a set's keys are after an insertion
 module _ {K : Type 0} (eq : K → K → Bool) (keys : List K) (k : K) where
@@ -62,12 +62,12 @@ module _ {State Meaning : Type 0} (meaning : State → Meaning) (words_of : Mean
   pub same_here : (a b : Found State) → IsWorded meaning words_of a → IsWorded meaning words_of b → found_eq a b ≡ true → (kept_in meaning b).here ≡ (kept_in meaning a).here
   same_here a b is_a is_b e =
       let parts = found_exact a b e in
-      same_configuration (sym parts.0) (told_apart (meaning b.state) (meaning a.state) (sym is_b ∙ sym parts.1 ∙ is_a))
+      same_configuration (sym parts.0) (told_apart (meaning b.kept.value.state) (meaning a.kept.value.state) (sym is_b ∙ sym parts.1 ∙ is_a))
 
   same_found : (a b : Found State) → IsWorded meaning words_of a → IsWorded meaning words_of b → (kept_in meaning b).here ≡ (kept_in meaning a).here → found_eq a b ≡ true
   same_found a b is_a is_b same =
       let counts : b.counts.items ≡ a.counts.items = ap (λ (c : Configuration Meaning). c.counts) same in
-      let states : meaning b.state ≡ meaning a.state = ap (λ (c : Configuration Meaning). c.state) same in
+      let states : meaning b.kept.value.state ≡ meaning a.kept.value.state = ap (λ (c : Configuration Meaning). c.state) same in
       found_alike a b (sym counts) (is_a ∙ ap words_of (sym states) ∙ sym is_b)
 
   -- what the set has was found

@@ -5,5 +5,6 @@ pub mod Growing
 pub mod Keeping
 pub mod Lists
 pub mod Leading
+pub mod Making
 pub mod Replying
 pub mod Stepping

@@ -6,6 +6,7 @@ use Rattle.wf_history.specs.declared.event.CallId.{CallId}
 use Rattle.wf_history.specs.declared.kept.KeptCall.{KeptCall}
 use Rattle.wf_history.specs.View.{kept_call}
 use Rattle.wf_outcomes.specs.declared.seen.Found as Rust
+use Rattle.wf_outcomes.specs.Made.{IsStated}
 use Rattle.wf_outcomes.specs.Merges.{Configuration, total, IsStep, start, IsReached}
 
 -- a configuration that was found, and by a call of which process it was first reached from which place
@@ -15,7 +16,7 @@ pub record Kept (State : Type 0) : Type 0 where
   pub by : ℕ
 
 abbrev pub kept_in : {State Meaning : Type 0} → (State → Meaning) → Rust.Found State → Kept Meaning
-kept_in meaning f = record { here = record { counts = f.counts.items; state = meaning f.state }; from = f.from; by = f.by }
+kept_in meaning f = record { here = record { counts = f.counts.items; state = meaning f.kept.value.state }; from = f.from; by = f.by }
 
 abbrev pub all_kept : {State Meaning S : Type 0} → (State → Meaning) → HashSet (Rust.Found State) S → List (Kept Meaning)
 all_kept meaning seen = map (kept_in meaning) seen.keys
@@ -29,7 +30,7 @@ IsFound {State} found c = (k : ℕ) × (e : Kept State) × (slice_get found k �
 
 -- the words that are kept are those of the state
 abbrev pub IsWorded : {State Meaning : Type 0} → (State → Meaning) → (Meaning → List ℕ) → Rust.Found State → Type 0
-IsWorded meaning words_of found = found.words.items ≡ words_of (meaning found.state)
+IsWorded meaning words_of found = IsStated meaning words_of found.kept.value
 
 abbrev pub AreWorded : {State Meaning S : Type 0} → (State → Meaning) → (Meaning → List ℕ) → HashSet (Rust.Found State) S → Type 0
 AreWorded {State} meaning words_of seen = (found : Rust.Found State) → Contains seen.keys found → IsWorded meaning words_of found

@@ -1,4 +1,5 @@
 pub mod Explored
+pub mod Made
 pub mod Merges
 pub mod Outcomes
 pub mod Possible

@@ -50,7 +50,7 @@ impl<'a, O: Object> Explored<'a, O> {
             (IsFirstPlace (Answers (O.effect self.now.object.now) (kept_call question.entry.call.now) (kept_reply question.entry.wanted.now)) (all_kept O.meaning self.now.seen))) }
     {
         for place in 0..self.seen.len() {
-            if !answers(alloc, self.object, &self.seen[place].state, question)? {
+            if !answers(alloc, self.object, self.seen[place].state(), question)? {
                 return Ok(Some(place));
             }
         }

@@ -1,7 +1,9 @@
 //! What an exploration has found.
 
 ghost use Rattle.wf_outcomes.specs.Explored.{all_kept, calls_in, AreWorded, IsExplored};
+ghost use Rattle.wf_outcomes.specs.Made.{AreMade};
 
+use crate::made::Memory;
 use crate::seen::Seen;
 use wf_history::KeptCall;
 use wf_order::Object;
@@ -12,7 +14,10 @@ pub struct Explored<'a, O: Object> {
     pub object: &'a O,
     pub scripts: &'a [Vec<KeptCall>],
     pub seen: Seen<O::State>,
+    /// Calls that were made, as far as they are remembered.
+    pub memory: Memory<'a, O::State>,
     ghost worded: { AreWorded O.meaning O.words_of seen },
+    ghost remembered: { ∥ AreMade O.meaning O.words_of (O.effect object.now) memory.items ∥₁ },
     ghost explored: { ∥ IsExplored (O.effect object.now) (calls_in scripts.now) (O.opening object.now) (all_kept O.meaning seen) ∥₁ },
 }
 
@@ -33,6 +38,6 @@ impl<'a, O: Object> Explored<'a, O> {
         requires { place < length (all_kept O.meaning self.now.seen) }
         ensures { state_at (all_kept O.meaning self.now.seen) place ≡ Some (O.meaning result.now) }
     {
-        &self.seen[place].state
+        self.seen[place].state()
     }
 }

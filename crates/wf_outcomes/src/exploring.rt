@@ -1,16 +1,19 @@
 //! The exploration.
 
-ghost use Rattle.std.specs.Prelude.{◌≡◌, ◌<◌, ◌≤◌, ◌+◌, length, replicate, IfOk, IsErrOf};
+ghost use Rattle.std.specs.Prelude.{◌≡◌, ◌<◌, ◌≤◌, ◌+◌, length, replicate, IfOk, OnOk, IsErrOf};
 ghost use Rattle.indexmap.specs.IndexSet.{index_set_len};
 ghost use Rattle.wf_outcomes.specs.Explored.{all_kept, kept_in, calls_in, AreWorded, IsWorded, IsArrival, IsExploring, HasMore};
+ghost use Rattle.wf_outcomes.specs.Made.{AreMade};
 ghost use Rattle.wf_outcomes.specs.Merges.{start};
 
 use crate::explored::Explored;
-use crate::seen::{Found, Seen};
+use crate::made::{Memory, nothing_made};
+use crate::seen::{Counts, Found, Keys, Seen, Stated};
 use crate::step::{Task, step};
 use ob_interface::NoMemory;
 use std::alloc::Global;
 use std::hash::RandomState;
+use std::rc::Rc;
 use thiserror::Error;
 use wf_history::KeptCall;
 use wf_order::Object;
@@ -54,8 +57,9 @@ fn arrive<O: Object>(
 }
 
 /// Tries the next call of a process at a place.
-fn advance<O: Object>(
-    task: &Task<O>,
+fn advance<'a, O: Object>(
+    task: &Task<'a, O>,
+    memory: &mut Memory<'a, O::State>,
     seen: &mut Seen<O::State>,
     place: usize,
     process: usize,
@@ -63,42 +67,48 @@ fn advance<O: Object>(
     requires place { place < index_set_len seen.old }
     requires process { process < length task.now.scripts.now }
     requires worded { AreWorded O.meaning O.words_of seen.old }
+    requires memory { AreMade O.meaning O.words_of (O.effect task.now.object.now) memory.old.items }
     requires exploring { IsExploring (O.effect task.now.object.now) (calls_in task.now.scripts.now) (O.opening task.now.object.now) (all_kept O.meaning seen.old) place process }
+    ensures memory { OnOk result (AreMade O.meaning O.words_of (O.effect task.now.object.now) memory.new.items) }
     ensures worded { IfOk result (λ _. AreWorded O.meaning O.words_of seen.new) }
     ensures grown { IfOk result (λ _. index_set_len seen.old ≤ index_set_len seen.new) }
     ensures exploring { IfOk result (λ _. IsExploring (O.effect task.now.object.now) (calls_in task.now.scripts.now) (O.opening task.now.object.now)
         (all_kept O.meaning seen.new) place (process + 1)) }
 {
-    match step(task, &seen[place], place, process)? {
+    match step(task, memory, &seen[place], place, process)? {
         None => Ok(()),
         Some(there) => arrive(task.object, seen, there),
     }
 }
 
 /// Tries the next call of each process at a place.
-fn expand<O: Object>(
-    task: &Task<O>,
+fn expand<'a, O: Object>(
+    task: &Task<'a, O>,
+    memory: &mut Memory<'a, O::State>,
     seen: &mut Seen<O::State>,
     place: usize,
 ) -> Result<(), NoMemory>
     requires place { place < index_set_len seen.old }
     requires worded { AreWorded O.meaning O.words_of seen.old }
+    requires memory { AreMade O.meaning O.words_of (O.effect task.now.object.now) memory.old.items }
     requires exploring { IsExploring (O.effect task.now.object.now) (calls_in task.now.scripts.now) (O.opening task.now.object.now) (all_kept O.meaning seen.old) place 0 }
+    ensures memory { OnOk result (AreMade O.meaning O.words_of (O.effect task.now.object.now) memory.new.items) }
     ensures worded { IfOk result (λ _. AreWorded O.meaning O.words_of seen.new) }
     ensures exploring { IfOk result (λ _. IsExploring (O.effect task.now.object.now) (calls_in task.now.scripts.now) (O.opening task.now.object.now)
         (all_kept O.meaning seen.new) (place + 1) 0) }
 {
     for process in 0..task.scripts.len() {
-        advance(task, seen, place, process)?;
+        advance(task, memory, seen, place, process)?;
     }
     Ok(())
 }
 
 /// No call of any process.
-fn no_calls(alloc: Global, processes: usize) -> Result<Vec<usize>, NoMemory>
+fn no_calls(alloc: Global, processes: usize) -> Result<Counts, NoMemory>
     ensures { IfOk result (λ counts. counts.items ≡ replicate processes 0) }
 {
-    Ok(vec![in alloc; 0; processes]?)
+    let counts = Counts::from_elem(alloc, 0, processes)?;
+    Ok(counts)
 }
 
 /// The configuration in which no call is made.
@@ -110,11 +120,11 @@ fn start_of<O: Object>(task: &Task<O>) -> Result<Found<O::State>, NoMemory>
     let counts = no_calls(alloc, task.scripts.len())?;
     let state = task.object.open(alloc)?;
     let words = task.object.words(alloc, &state)?;
+    let kept = Rc::new(alloc, Stated { words, state })?;
     let (from, by) = (0, 0);
     Ok(Found {
         counts,
-        words,
-        state,
+        kept,
         from,
         by,
     })
@@ -126,7 +136,7 @@ fn begin<O: Object>(task: &Task<O>, keys: RandomState) -> Result<Seen<O::State>,
     ensures one { IfOk result (λ seen. index_set_len seen ≡ 1) }
     ensures exploring { IfOk result (λ seen. IsExploring (O.effect task.now.object.now) (calls_in task.now.scripts.now) (O.opening task.now.object.now) (all_kept O.meaning seen) 0 0) }
 {
-    let mut seen = Seen::with_hasher(task.alloc, keys);
+    let mut seen = Seen::with_hasher(task.alloc, Keys::new(keys));
     let first = start_of(task)?;
     arrive(task.object, &mut seen, first)?;
     Ok(seen)
@@ -158,9 +168,10 @@ pub fn explore<'a, O: Object>(
     if most == 0 {
         return Err(ExploreFault::TooMany);
     }
+    let mut memory = nothing_made(alloc)?;
     let mut place = 0;
     while place < seen.len() {
-        expand(&task, &mut seen, place)?;
+        expand(&task, &mut memory, &mut seen, place)?;
         if seen.len() > most {
             return Err(ExploreFault::TooMany);
         }
@@ -170,5 +181,6 @@ pub fn explore<'a, O: Object>(
         object,
         scripts,
         seen,
+        memory,
     })
 }

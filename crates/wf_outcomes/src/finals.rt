@@ -9,13 +9,23 @@ use std::alloc::Global;
 use wf_history::KeptCall;
 use wf_order::Object;
 
+/// How many calls there are, as a count.
+fn count_of(calls: usize) -> Result<u32, NoMemory>
+    ensures { IfOk result (λ count. count ≡ calls) }
+{
+    match u32::try_from(calls) {
+        Ok(count) => Ok(count),
+        Err(_) => Err(NoMemory),
+    }
+}
+
 /// How many calls each script has.
-fn lengths(alloc: Global, scripts: &[Vec<KeptCall>]) -> Result<Vec<usize>, NoMemory>
+fn lengths(alloc: Global, scripts: &[Vec<KeptCall>]) -> Result<Vec<u32>, NoMemory>
     ensures { IfOk result (λ counts. counts.items ≡ map length (calls_in scripts.now)) }
 {
     let mut counts = Vec::new(alloc);
     for script in scripts {
-        counts.push(script.len())?;
+        counts.push(count_of(script.len())?)?;
     }
     Ok(counts)
 }

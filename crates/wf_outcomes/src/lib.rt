@@ -13,6 +13,7 @@ pub mod bad;
 pub mod explored;
 pub mod exploring;
 pub mod finals;
+pub mod made;
 pub mod onward;
 pub mod paths;
 pub mod replies;

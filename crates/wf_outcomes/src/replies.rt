@@ -2,13 +2,15 @@
 
 ghost use Rattle.std.specs.Prelude.{◌≡◌, ◌↔◌, ◌<◌, ◌+◌, map, length, get_or, Contains, IfOk, OnOk, IsTrue, MatchOption};
 ghost use Rattle.ob_interface.specs.View.{reply_of};
-ghost use Rattle.wf_outcomes.specs.Explored.{kept_in, calls_in};
+ghost use Rattle.wf_outcomes.specs.Explored.{kept_in, calls_in, IsWorded};
+ghost use Rattle.wf_outcomes.specs.Made.{AreMade};
 ghost use Rattle.wf_outcomes.specs.Outcomes.{HasNoReply, IsAdded, IsOnlyReply};
 ghost use Rattle.wf_outcomes.specs.Possible.{had_in, reply_in};
 
 use crate::explored::Explored;
 use crate::seen::Found;
-use crate::step::{Task, applied, next_call};
+use crate::made::{Made, reply_to};
+use crate::step::{Task, next_call};
 use ob_interface::NoMemory;
 use ob_interface::call::Reply;
 use std::alloc::Global;
@@ -57,7 +59,7 @@ fn add_reply(replies: &mut Vec<Possible>, reply: Reply, place: usize) -> Result<
 }
 
 /// Whether a call is its process's next one.
-fn is_next(counts: &[usize], id: CallId) -> bool
+fn is_next(counts: &[u32], id: CallId) -> bool
     ensures { IsTrue result ↔ ((id.process < length counts.now) × (id.number ≡ get_or counts.now id.process 0 + 1)) }
 {
     match counts.get(id.process) {
@@ -68,20 +70,23 @@ fn is_next(counts: &[usize], id: CallId) -> bool
 
 /// The reply of a call at a configuration, if it is next there.
 fn reply_at<O: Object>(
-    task: &Task<O>,
+    task: &Task<'_, O>,
+    memory: &[Option<Made<'_, O::State>>],
     here: &Found<O::State>,
     id: CallId,
 ) -> Result<Option<Reply>, NoMemory>
+    requires words { IsWorded O.meaning O.words_of here.now }
+    requires memory { ∥ AreMade O.meaning O.words_of (O.effect task.now.object.now) memory.now ∥₁ }
     ensures { IfOk result (λ made. MatchOption made (HasNoReply (O.effect task.now.object.now) (calls_in task.now.scripts.now) (kept_in O.meaning here.now).here id)
-        (λ reply. IsOnlyReply (O.effect task.now.object.now) (calls_in task.now.scripts.now) (kept_in O.meaning here.now).here id (reply_of reply))) }
+        (λ reply. ∥ IsOnlyReply (O.effect task.now.object.now) (calls_in task.now.scripts.now) (kept_in O.meaning here.now).here id (reply_of reply) ∥₁)) }
 {
-    if !is_next(&here.counts, id) {
+    if !is_next(here.counts.as_slice(), id) {
         return Ok(None);
     }
-    let Some(call) = next_call(task.scripts, &here.counts, id.process) else {
+    let Some(call) = next_call(task.scripts, here.counts.as_slice(), id.process) else {
         return Ok(None);
     };
-    let (_, reply) = applied(task.alloc, task.object, &here.state, call)?;
+    let reply = reply_to(task, memory, here.kept.as_ref(), call)?;
     Ok(Some(reply))
 }
 
@@ -104,7 +109,7 @@ impl<'a, O: Object> Explored<'a, O> {
         };
         let mut replies = Vec::new(alloc);
         for place in 0..self.seen.len() {
-            if let Some(reply) = reply_at(&task, &self.seen[place], id)? {
+            if let Some(reply) = reply_at(&task, &self.memory, &self.seen[place], id)? {
                 add_reply(&mut replies, reply, place)?;
             }
         }

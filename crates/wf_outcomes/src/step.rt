@@ -1,15 +1,19 @@
 //! Steps from a configuration.
 
-ghost use Rattle.std.specs.Prelude.{◌≡◌, ◌<◌, ◌+◌, [], length, get_or, slice_get, slice_set, option_map, IfOk, IfSome, MatchOption, IsTrue, ◌↔◌};
+ghost use Rattle.std.specs.Prelude.{◌≡◌, ◌<◌, ◌+◌, [], length, get_or, slice_get, slice_set, option_map, IfOk, IfSome, MatchOption, OnOk, IsTrue, ◌↔◌};
 ghost use Rattle.std.specs.Option.{option_copied};
 ghost use Rattle.ob_interface.specs.View.{reply_of};
 ghost use Rattle.wf_history.specs.View.{kept_call};
+ghost use Rattle.wf_outcomes.specs.Made.{AreMade};
 ghost use Rattle.wf_outcomes.specs.Explored.{kept_in, calls_in, HasNoStep, IsOnlyStep, IsOnlyStepWith, IsWorded};
 
-use crate::seen::Found;
+use crate::made::{Memory, after};
+use crate::seen::{Counts, Found, Stated};
 use ob_interface::NoMemory;
 use ob_interface::call::Reply;
-use std::alloc::Global;
+use smallvec::SmallVec;
+use std::alloc::{AllocError, Global};
+use std::rc::Rc;
 use wf_history::{KeptCall, SeenCall};
 use wf_order::Object;
 
@@ -40,21 +44,40 @@ pub(crate) fn applied<O: Object>(
 /// The next call of a process, if it has one.
 pub(crate) fn next_call<'a>(
     scripts: &'a [Vec<KeptCall>],
-    counts: &[usize],
+    counts: &[u32],
     process: usize,
 ) -> Option<&'a KeptCall>
     ensures { process < length counts.now → option_map kept_call (option_copied result) ≡ slice_get (get_or (calls_in scripts.now) process []) (get_or counts.now process 0) }
 {
-    scripts.get(process)?.get(*counts.get(process)?)
+    scripts.get(process)?.get(*counts.get(process)? as usize)
+}
+
+/// The counts with another one for a process.
+fn counts_with(
+    alloc: Global,
+    counts: &Counts,
+    process: usize,
+    number: u32,
+) -> Result<Counts, AllocError>
+    requires { process < length counts.now.items }
+    ensures { IfOk result (λ new. new.items ≡ slice_set counts.now.items process number) }
+{
+    let mut new = SmallVec::from_slice(alloc, counts.as_slice())?;
+    if let Some(count) = new.get_mut(process) {
+        *count = number;
+    }
+    Ok(new)
 }
 
 /// The counts with one call more of a process.
-fn one_more(alloc: Global, counts: &[usize], process: usize) -> Result<Vec<usize>, NoMemory>
-    requires { process < length counts.now }
-    ensures { IfOk result (λ more. more.items ≡ slice_set counts.now process (get_or counts.now process 0 + 1)) }
+fn one_more(alloc: Global, counts: &Counts, process: usize) -> Result<Counts, NoMemory>
+    requires { process < length counts.now.items }
+    ensures { IfOk result (λ more. more.items ≡ slice_set counts.now.items process (get_or counts.now.items process 0 + 1)) }
 {
-    let mut more = Vec::from_slice(alloc, counts)?;
-    more[process] = more[process].checked_add(1).ok_or(NoMemory)?;
+    let Some(number) = counts[process].checked_add(1) else {
+        return Err(NoMemory);
+    };
+    let more = counts_with(alloc, counts, process, number)?;
     Ok(more)
 }
 
@@ -72,17 +95,17 @@ pub(crate) fn stepped<O: Object>(
     ensures words { IfOk result (λ made. IfSome made (λ to. IsWorded O.meaning O.words_of to.0)) }
 {
     let alloc = task.alloc;
-    let Some(call) = next_call(task.scripts, &here.counts, process) else {
+    let Some(call) = next_call(task.scripts, here.counts.as_slice(), process) else {
         return Ok(None);
     };
-    let (state, reply) = applied(alloc, task.object, &here.state, call)?;
+    let (state, reply) = applied(alloc, task.object, here.state(), call)?;
     let words = task.object.words(alloc, &state)?;
+    let kept = Rc::new(alloc, Stated { words, state })?;
     let counts = one_more(alloc, &here.counts, process)?;
     let (from, by) = (place, process);
     let there = Found {
         counts,
-        words,
-        state,
+        kept,
         from,
         by,
     };
@@ -90,20 +113,33 @@ pub(crate) fn stepped<O: Object>(
 }
 
 /// What the next call of a process leads to from the configuration at a place, if it has one.
-pub(crate) fn step<O: Object>(
-    task: &Task<O>,
+pub(crate) fn step<'a, O: Object>(
+    task: &Task<'a, O>,
+    memory: &mut Memory<'a, O::State>,
     here: &Found<O::State>,
     place: usize,
     process: usize,
 ) -> Result<Option<Found<O::State>>, NoMemory>
-    requires { process < length here.now.counts.items }
+    requires process { process < length here.now.counts.items }
+    requires words { IsWorded O.meaning O.words_of here.now }
+    requires memory { AreMade O.meaning O.words_of (O.effect task.now.object.now) memory.old.items }
     ensures only { IfOk result (λ stepped. MatchOption stepped (HasNoStep (O.effect task.now.object.now) (calls_in task.now.scripts.now) (kept_in O.meaning here.now).here process)
         (λ to. IsOnlyStep (O.effect task.now.object.now) (calls_in task.now.scripts.now) (kept_in O.meaning here.now).here process (kept_in O.meaning to).here)) }
     ensures origin { IfOk result (λ stepped. IfSome stepped (λ to. (to.from ≡ place) × (to.by ≡ process))) }
     ensures words { IfOk result (λ stepped. IfSome stepped (IsWorded O.meaning O.words_of)) }
+    ensures memory { OnOk result (AreMade O.meaning O.words_of (O.effect task.now.object.now) memory.new.items) }
 {
-    match stepped(task, here, place, process)? {
-        None => Ok(None),
-        Some((there, _)) => Ok(Some(there)),
-    }
+    let Some(call) = next_call(task.scripts, here.counts.as_slice(), process) else {
+        return Ok(None);
+    };
+    let kept = after(task, memory, &here.kept, call)?;
+    let counts = one_more(task.alloc, &here.counts, process)?;
+    let (from, by) = (place, process);
+    let there = Found {
+        counts,
+        kept,
+        from,
+        by,
+    };
+    Ok(Some(there))
 }

@@ -88,7 +88,7 @@ fn row_of<O: Object>(
     ensures apart { OnOk result (AreApart (map kept_reply replies.new.items)) }
     ensures more { OnOk result (GoesOn (map kept_reply replies.old.items) (map kept_reply replies.new.items)) }
 {
-    let mut row = Vec::new(alloc);
+    let mut row = Vec::with_capacity(alloc, explored.scripts.len())?;
     for process in 0..explored.scripts.len() {
         row.push(edge_of(alloc, explored, place, process, replies)?)?;
     }
@@ -103,7 +103,7 @@ pub(crate) fn graph_of<O: Object>(alloc: Global, explored: &Explored<O>) -> Resu
     ensures apart { IfOk result (λ graph. AreApart (map kept_reply graph.replies.items)) }
 {
     let mut replies = Vec::new(alloc);
-    let mut rows = Vec::new(alloc);
+    let mut rows = Vec::with_capacity(alloc, explored.len())?;
     for place in 0..explored.len() {
         rows.push(row_of(alloc, explored, place, &mut replies)?)?;
     }

@@ -24,7 +24,7 @@ fn names(alloc: Global, processes: usize, way: &[usize]) -> Result<Vec<CallId>, 
     ensures { IfOk result (λ order. order.items ≡ named (replicate processes 0) way.now) }
 {
     let mut counts = vec![in alloc; 0u64; processes]?;
-    let mut order = Vec::new(alloc);
+    let mut order = Vec::with_capacity(alloc, way.len())?;
     for process in way {
         let process = *process;
         let number = counts[process].checked_add(1).ok_or(NoMemory)?;
@@ -74,7 +74,7 @@ fn replies_of(
     requires { All (λ number. number < length replies.now) numbers.now }
     ensures { IfOk result (λ row. map Some (map kept_reply row.items) ≡ map (slice_get (map kept_reply replies.now)) numbers.now) }
 {
-    let mut row = Vec::new(alloc);
+    let mut row = Vec::with_capacity(alloc, numbers.len())?;
     for number in numbers {
         row.push(copied(alloc, &replies[*number])?)?;
     }
@@ -92,7 +92,7 @@ fn all_replies(
     requires numbers { All (All (λ number. number < length replies.now)) (said_in (lists_in lists.now) told.now) }
     ensures { IfOk result (λ rows. map (map Some) (replies_in rows.items) ≡ map (map (slice_get (map kept_reply replies.now))) (said_in (lists_in lists.now) told.now)) }
 {
-    let mut rows = Vec::new(alloc);
+    let mut rows = Vec::with_capacity(alloc, told.len())?;
     for number in told {
         rows.push(replies_of(alloc, replies, &lists[*number])?)?;
     }
@@ -138,7 +138,7 @@ pub(crate) fn leaves_told<'e, O: Object>(
     ensures { IfOk result (λ told. AreLeaves (all_kept O.meaning explored.now.seen) (map kept_reply graph.now.replies.items) (length explored.now.scripts.now)
         (ways_of ([] ∷ []) (trail_in front.now.trail.items)) (spots_in (lists_in front.now.lists) front.now.layer.keys) (map (whole_in O.meaning) told.items)) }
 {
-    let mut told = Vec::new(alloc);
+    let mut told = Vec::with_capacity(alloc, front.layer.len())?;
     for at in 0..front.layer.len() {
         told.push(leaf_told(alloc, explored, graph, front, at)?)?;
     }

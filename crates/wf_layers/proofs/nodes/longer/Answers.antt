@@ -11,7 +11,7 @@ returns-clause-there c =
     let keys = c.args.lists.now.keys in
     let stored = c.in_ok-number.ensures.stored in
     let old = get_or_from_slice_get (lists_in c.args.lists.now) c.args.list c.index.result.now.items [] (in_map (λ l. l.items) keys c.args.list c.index.result.now c.index.ensures) in
-    let new = sym (same_items c.in_ok-items.items stored.0 stored.2) ∙ c.in_ok-items.ensures ∙ ap (λ (l : List ℕ). l ++ c.args.reply ∷ []) (c.deref.ensures.value ∙ sym old) in
+    let new = sym (same_items c.in_ok-items.items stored.0 stored.2) ∙ c.in_ok-items.ensures ∙ ap (λ (l : List ℕ). l ++ c.args.reply ∷ []) (c.deref.ensures ∙ sym old) in
     in_map (λ l. l.items) c.insert_full.new.self.keys c.in_ok-number.number stored.0 stored.1 ∙ ap Some new
 
 pub returns-clause-apart : goal.returns-clause-apart

@@ -8,4 +8,4 @@ use Rattle.wf_layers.proofs.search.no_lists.Goals as goal
 pub returns : goal.returns
 returns c =
     let none = nil_from_length c.with_hasher-lists.result.keys c.with_hasher-lists.ensures.len in
-    ap (map (λ l. l.items)) (c.in_ok-_is_new.ensures.keys ∙ ap (λ k. insert_key list_eq k c.new.result) none) ∙ ap (λ l. l ∷ []) c.new.ensures.items
+    ap (map (λ l. l.items)) (c.in_ok-_is_new.ensures.keys ∙ ap (λ k. insert_key list_eq k c.new-nothing.result) none) ∙ ap (λ l. l ∷ []) c.new-nothing.ensures.items

@@ -4,19 +4,23 @@ use Rattle.std.proofs.lemmas.List.{length-map}
 use Rattle.std.proofs.lemmas.Option.{MatchOption-at_none, MatchOption-at_some, slice_get-map}
 use Rattle.std.proofs.lemmas.Result.{IfOk-weaker}
 use Rattle.wf_history.specs.View.{kept_call}
+use Rattle.wf_history.proofs.Positions.{contains_at}
 use Rattle.wf_outcomes.specs.Explored.{kept_in, all_kept, calls_in, IsOnlyStep, HasNoStep}
 use Rattle.wf_outcomes.proofs.Growing.{tried_none, concluded}
 use Rattle.wf_outcomes.proofs.Keeping.{some_at}
 use Rattle.wf_outcomes.proofs.exploring.advance.Goals as goal
 
-pub step-requires : goal.step-requires
-step-requires g c =
+pub step-requires-clause-process : goal.step-requires-clause-process
+step-requires-clause-process g c =
     let view = kept_in g.O.Object.meaning in
     let at = slice_get-map view c.args.seen.now.keys c.args.place ∙ ap (option_map view) c.index.ensures in
     let size = c.requires.exploring.sizes c.args.place (view c.index.result.now) at in
     let count = length-map c.args.task.now.scripts.now (λ s. Rattle.std.specs.Prelude.map kept_call s.items) in
     let p = c.requires.process in
     omega (arith, size, count, p)
+
+pub step-requires-clause-words : goal.step-requires-clause-words
+step-requires-clause-words g c = c.requires.worded c.index.result.now (contains_at c.args.seen.now.keys c.args.place c.index.result.now c.index.ensures)
 
 pub returns-in-None-clause-exploring : goal.returns-in-None-clause-exploring
 returns-in-None-clause-exploring g c =
@@ -47,4 +51,4 @@ returns-in-Some-clause-exploring g c =
 
 pub arrive-requires-clause-words : goal.arrive-requires-clause-words
 arrive-requires-clause-words g c =
-    some_at (λ to. to.words.items ≡ g.O.Object.words_of (g.O.Object.meaning to.state)) c.in_ok-step.field-0 c.in-Some.there c.in-Some.is c.in_ok-step.ensures.words
+    some_at (λ to. to.kept.value.words.items ≡ g.O.Object.words_of (g.O.Object.meaning to.kept.value.state)) c.in_ok-step.field-0 c.in-Some.there c.in-Some.is c.in_ok-step.ensures.words

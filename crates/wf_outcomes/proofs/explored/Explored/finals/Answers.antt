@@ -20,9 +20,9 @@ loop-place-preserved g c =
     let at = slice_get-map view c.args.self.now.seen.keys place ∙ ap (option_map view) c.index.ensures in
     let eq = slice_eq-Decides {E = eqb} Decides-eqb c.as_slice.result.now c.as_slice-in-loop-place.result.now c.eq.result c.eq.ensures in
     elim c.if-eq.branch [
-      | then-eq+in_ok-push w ↦ full_more kept c.in_ok-full.full.items c.loop-place.places.items place c.loop-place.invariant (view one) at (sym c.as_slice.ensures.value ∙ eq.0 w.if-eq.true ∙ c.as_slice-in-loop-place.ensures.value) c.if-eq.places.items (ap (λ (v : Vec ℕ Global). v.items) w.places-is ∙ w.in_ok-push.ensures.items)
+      | then-eq+in_ok-push w ↦ full_more kept c.in_ok-full.full.items c.loop-place.places.items place c.loop-place.invariant (view one) at (sym c.as_slice.ensures ∙ eq.0 w.if-eq.true ∙ c.as_slice-in-loop-place.ensures.value) c.if-eq.places.items (ap (λ (v : Vec ℕ Global). v.items) w.places-is ∙ w.in_ok-push.ensures.items)
       | else-eq w ↦ subst (λ (v : Vec ℕ Global). AreFull kept c.in_ok-full.full.items v.items (place + 1)) (sym w.places-is)
-          (full_less kept c.in_ok-full.full.items c.loop-place.places.items place c.loop-place.invariant (view one) at (λ same. let t = eq.1 (c.as_slice.ensures.value ∙ same ∙ sym c.as_slice-in-loop-place.ensures.value) in let f = w.if-eq.false in absurd (cc)))
+          (full_less kept c.in_ok-full.full.items c.loop-place.places.items place c.loop-place.invariant (view one) at (λ same. let t = eq.1 (c.as_slice.ensures ∙ same ∙ sym c.as_slice-in-loop-place.ensures.value) in let f = w.if-eq.false in absurd (cc)))
     ]
 
 pub returns : goal.returns

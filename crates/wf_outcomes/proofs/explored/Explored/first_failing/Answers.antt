@@ -1,5 +1,5 @@
 -- What holds of each place so far.
-use Rattle.std.proofs.Common.{ap, ◌∙◌, option_map, arith}
+use Rattle.std.proofs.Common.{ap, sym, subst, ◌∙◌, option_map, arith}
 use Rattle.std.proofs.lemmas.List.{length-map}
 use Rattle.std.proofs.lemmas.Option.{slice_get-map}
 use Rattle.wf_history.specs.View.{kept_call, kept_reply}
@@ -14,7 +14,7 @@ returns-then-not-branch g c =
     let at = slice_get-map view c.args.self.now.seen.keys c.loop-place.place ∙ ap (option_map view) c.index.ensures in (
       view c.index.result.now,
       at,
-      (λ good. let t = c.in_ok-answers.ensures.1 good in let f = c.if-not-branch.true in absurd (cc)),
+      (λ good. let t = c.in_ok-answers.ensures.1 (subst (λ (s : g.row.O-State.Denot). Answers (g.O.Object.effect c.args.self.now.object.now) (kept_call c.args.question.call.now) (kept_reply c.args.question.wanted.now) (g.O.Object.meaning s)) (sym c.state.ensures) good) in let f = c.if-not-branch.true in absurd (cc)),
       c.loop-place.invariant,
     )
 
@@ -25,7 +25,8 @@ loop-place-preserved g c =
     let question = c.args.question in
     let at = slice_get-map view self.seen.keys c.loop-place.place ∙ ap (option_map view) c.index.ensures in
     good_more (Answers (g.O.Object.effect self.object.now) (kept_call question.call.now) (kept_reply question.wanted.now)) (all_kept g.O.Object.meaning self.seen) c.loop-place.place c.loop-place.invariant
-    (view c.index.result.now) at (c.in_ok-answers.ensures.0 c.if-not-branch.false)
+    (view c.index.result.now) at
+    (subst (λ (s : g.row.O-State.Denot). Answers (g.O.Object.effect self.object.now) (kept_call question.call.now) (kept_reply question.wanted.now) (g.O.Object.meaning s)) c.state.ensures (c.in_ok-answers.ensures.0 c.if-not-branch.false))
 
 pub returns : goal.returns
 returns g c = λ k e lt there.

@@ -1,5 +1,5 @@
 -- What is kept at the place.
-use Rattle.std.proofs.Common.{ap, ◌∙◌, option_map, arith}
+use Rattle.std.proofs.Common.{ap, sym, Some, ◌∙◌, option_map, arith}
 use Rattle.std.proofs.lemmas.List.{length-map}
 use Rattle.std.proofs.lemmas.Option.{slice_get-map}
 use Rattle.wf_outcomes.specs.Explored.{Kept, kept_in}
@@ -15,3 +15,4 @@ pub returns : goal.returns
 returns g c =
     let view = kept_in g.O.Object.meaning in
     ap (option_map (λ (e : Kept g.O.Object.Meaning). e.here.state)) (slice_get-map view c.args.self.now.seen.keys c.args.place ∙ ap (option_map view) c.index.ensures)
+    ∙ ap (λ (s : g.row.O-State.Denot). Some (g.O.Object.meaning s)) (sym c.state.ensures)
