@@ -69,7 +69,7 @@ module _ {State Meaning : Type 0} (meaning : State → Meaning) (words_of : Mean
         (
           reply_of made.reply,
           subst (λ (k : KeptCall). Effect (kept_call k) (meaning before.state) (meaning made.after.value.state) (reply_of made.reply)) by
-          (subst (λ (s : Stated State). Effect (kept_call made.call.now) (meaning s.state) (meaning made.after.value.state) (reply_of made.reply)) from is.effect),
+              (subst (λ (s : Stated State). Effect (kept_call made.call.now) (meaning s.state) (meaning made.after.value.state) (reply_of made.reply)) from is.effect),
         ),
       )
 

@@ -8,8 +8,8 @@ ghost use Rattle.wf_outcomes.specs.Outcomes.{HasNoReply, IsAdded, IsOnlyReply};
 ghost use Rattle.wf_outcomes.specs.Possible.{had_in, reply_in};
 
 use crate::explored::Explored;
-use crate::seen::Found;
 use crate::made::{Made, reply_to};
+use crate::seen::Found;
 use crate::step::{Task, next_call};
 use ob_interface::NoMemory;
 use ob_interface::call::Reply;

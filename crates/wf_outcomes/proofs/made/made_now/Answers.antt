@@ -1,5 +1,5 @@
 -- What was made, with its words.
-use Rattle.std.proofs.Common.{◌≡◌, sym, ◌∙◌, subst}
+use Rattle.std.proofs.Common.{sym, ◌∙◌, subst}
 use Rattle.ob_interface.specs.View.{reply_of}
 use Rattle.wf_history.specs.View.{kept_call}
 use Rattle.wf_outcomes.specs.Made.{IsStated}

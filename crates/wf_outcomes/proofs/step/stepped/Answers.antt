@@ -1,5 +1,5 @@
 -- The next call is the script's, and has one outcome.
-use Rattle.std.proofs.Common.{◌≡◌, ap, sym, subst, ◌∙◌, ℕ, set, ◌+◌, ◌<◌, List, length, get_or, Some}
+use Rattle.std.proofs.Common.{sym, subst, ◌<◌, length, Some}
 use Rattle.ob_interface.specs.View.{reply_of}
 use Rattle.wf_history.specs.View.{kept_call}
 use Rattle.wf_outcomes.specs.declared.seen.Stated.{Stated}
