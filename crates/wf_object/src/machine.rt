@@ -1,6 +1,6 @@
 //! The step machine.
 
-ghost use Rattle.std.specs.Prelude.{true, false, ◌≡◌, ◌+◌, ◌*◌, ◌<◌, ◌≤◌, ◌⊎◌, ◌↔◌, [], ◌++◌, ◌∷◌, List, Contains, replicate, IfOk, OnOk, OnErr, length};
+ghost use Rattle.std.specs.Prelude.{true, false, ◌≡◌, ◌+◌, ◌*◌, ◌<◌, ◌≤◌, ◌⊎◌, ◌↔◌, [], ◌++◌, ◌∷◌, List, Contains, replicate, IfOk, OnOk, OnErr, length, slice_get, Some};
 ghost use Rattle.ll_cell.specs.Form.{kept_words};
 ghost use Rattle.wf_object.specs.Packed.{packed};
 ghost use Rattle.ob_interface.specs.View.{call_of};
@@ -364,6 +364,28 @@ impl<E: Engine> Machine<E> {
     {
         let own = &self.processes[p];
         own.label == Label::Next && !own.has_more()
+    }
+
+    /// How many processes there are, and the words of variables, replies and calls.
+    pub fn sizes(&self) -> Sizes
+        ensures { result ≡ self.now.sizes }
+    {
+        self.sizes
+    }
+
+    /// What the processes share, as it stands: root, blocks, links and announcements.
+    pub fn shared(&self) -> &Shared
+        ensures { result.now.cell ≡ self.now.state.cell }
+    {
+        &self.shared
+    }
+
+    /// What the process keeps for itself, as it stands.
+    pub fn process(&self, p: usize) -> &Process<E::Run>
+        requires { p < self.now.sizes.processes }
+        ensures { slice_get self.now.state.processes p ≡ Some result.now }
+    {
+        &self.processes[p]
     }
 
     /// What was seen so far.

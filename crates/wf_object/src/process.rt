@@ -47,6 +47,62 @@ impl<R> Process<R> {
         Ok(self.calls.len())
     }
 
+    /// Where it stands.
+    pub fn label(&self) -> Label
+        ensures { result ≡ self.now.label }
+    {
+        self.label
+    }
+
+    /// Its registers.
+    pub fn registers(&self) -> Registers
+        ensures { result ≡ self.now.registers }
+    {
+        self.registers
+    }
+
+    /// How many calls of its script have begun.
+    pub fn begun(&self) -> usize
+        ensures { result ≡ self.now.begun }
+    {
+        self.begun
+    }
+
+    /// How many calls its script has.
+    pub fn submitted(&self) -> usize
+        ensures { result ≡ length self.now.calls }
+    {
+        self.calls.len()
+    }
+
+    /// The words of an announced call.
+    pub fn list(&self) -> &[i64]
+        ensures { result.now ≡ self.now.list }
+    {
+        self.list.as_slice()
+    }
+
+    /// Status and results of the own call, as TAKE finds them.
+    pub fn replies(&self) -> &[i64]
+        ensures { result.now ≡ self.now.replies }
+    {
+        self.replies.as_slice()
+    }
+
+    /// The variables before the body.
+    pub fn save(&self) -> &[i64]
+        ensures { result.now ≡ self.now.save }
+    {
+        self.save.as_slice()
+    }
+
+    /// The engine's run of its body.
+    pub fn run(&self) -> &R
+        ensures { result.now ≡ self.now.run }
+    {
+        &self.run
+    }
+
     /// Calls of the script have not begun.
     pub fn has_more(&self) -> bool
         ensures { result ≡ has_more self.now }
