@@ -1,11 +1,54 @@
 -- What is told of lines, one after the other.
-use Rattle.std.proofs.Common.{◌≡◌, ◌≢◌, ◌⊎◌, inl, inr, ℕ, suc, List, [], ◌++◌, Result, OnOk, refl, sym, subst}
+use Rattle.std.proofs.Common.{◌≡◌, ◌∙◌, ◌≢◌, ◌⊎◌, ◌==◌, inl, inr, ℕ, ◌+◌, suc, true, false, List, [], ◌∷◌, ◌++◌, length, Result, OnOk, Global, String, string_bytes, add-one, arith, refl, sym, subst}
+use Rattle.std.proofs.lemmas.Bool.{false≢true}
+use Rattle.std.proofs.lemmas.Bool.Decides.{nat_tests}
 use Rattle.std.proofs.lemmas.Result.{on_ok_weaker}
 use Rattle.ob_checked.specs.Exports.{signatures}
-use Rattle.ob_object_live.specs.Living.{Ground, IsAt, ground_of}
-use Rattle.ob_object_live.specs.Talks.{TalksOn, TellsLine, ends, made, record_told, refused}
+use Rattle.ob_object_live.specs.Living.{Ground, IsAnswered, IsAt, ground_of}
+use Rattle.ob_object_live.specs.Talks.{TalksOn, TellsLine, ends, fault_text, made, record_told, refused}
 use Rattle.ob_object_live.specs.declared.parts.Live.{Live}
+use Rattle.ob_object_live.specs.declared.parts.Told.{Told}
+use Rattle.ob_object_live.specs.declared.parts.Told.TheVariants as Tolds
+use Rattle.ob_text_scripts.specs.declared.script.ScriptFault.{ScriptFault}
 use Rattle.ob_text_words.specs.ScriptCalls.{ScriptCall}
+
+-- a line that has no byte, and one that has some
+pub none_there : (line : List ℕ) → (length line == 0) ≡ true → line ≡ []
+none_there [] e = refl
+none_there (b ∷ line) e = let is : suc (length line) ≡ 0 = grind (arith, nat_tests, e) in absurd (omega (arith, is))
+
+pub some_there : (line : List ℕ) → (length line == 0) ≡ false → line ≢ []
+some_there line e is = let none : (length line == 0) ≡ true = rw is refl in false≢true (sym e ∙ none)
+
+-- ---- what is told of one line
+
+module _ {C : Type 0} (Tells : C → List ℕ → C → Type 0) (g : Ground) (calls : List ScriptCall) (number : ℕ) (line : List ℕ) (before after last : C) (next : Live) (told : Told)
+    (text : List ℕ) (left : last ≡ after) (answered : IsAnswered g calls line told next) (tells : Tells before text after) where
+  pub lines_told : (lines : String Global) → told ≡ Tolds.Lines lines → text ≡ string_bytes lines → TellsLine Tells g calls number line before last next
+  lines_told lines is same =
+      let made = subst (λ (t : Told). IsAnswered g calls line t next) is answered in
+      let written = subst (λ (t : List ℕ). Tells before t after) same tells in
+      inl (record {
+        more = made.more;
+        lines = string_bytes lines;
+        read = made.read;
+        made = made.made;
+        told = subst (λ (c : C). Tells before (string_bytes lines) c) (sym left) written;
+      })
+
+  pub fault_told : (fault : ScriptFault) → told ≡ Tolds.Fault fault → text ≡ fault_text number fault → TellsLine Tells g calls number line before last next
+  fault_told fault is same =
+      let refusal = subst (λ (t : Told). IsAnswered g calls line t next) is answered in
+      let written = subst (λ (t : List ℕ). Tells before t after) same tells in
+      inr (record {
+        fault = fault;
+        fails = refusal.fails;
+        says = refusal.says;
+        at = refusal.at;
+        told = subst (λ (c : C). Tells before (fault_text number fault) c) (sym left) written;
+      })
+
+-- ---- what is told of all
 
 module _ {C : Type 0} (Hears Tells : C → List ℕ → C → Type 0) (g : Ground) where
   -- So far this was told: a conversation that goes on from here is one from the beginning.
