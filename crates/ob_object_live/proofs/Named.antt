@@ -9,7 +9,7 @@ use Rattle.ob_code_law.specs.CodeMeaning.{EngineParts}
 use Rattle.ob_interface.specs.Call.{ObjectCall, Reply}
 use Rattle.ob_interface.specs.Export.{CallFits, Signature}
 use Rattle.ob_interpreter.specs.Sequences as Positions
-use Rattle.ob_object_live.specs.Living.{Ground, IsAt, asked, callers, events_behind, ground_of, lines_at, lines_behind, record_at, replies_at, state_after, state_at}
+use Rattle.ob_object_live.specs.Living.{Ground, IsAt, asked, callers, end_text, events_behind, id_behind, ground_of, lines_at, lines_behind, record_at, replies_at, state_after, state_at}
 use Rattle.ob_object_live.specs.declared.parts.Live.{Live}
 use Rattle.ob_object_live.specs.Talks.{AllFit, EndsOn, IsTalk, TalksOn, ends, made, refused}
 use Rattle.ob_meaning.specs.Object as Named
@@ -31,7 +31,7 @@ lines_are : (before : List ℕ) (calls : List ScriptCall) (replies : List Reply)
     lines_behind before calls replies ≡ numbered (λ place. reply_line) before (callers calls) replies
 lines_are before [] replies = refl
 lines_are before (c ∷ calls) [] = refl
-lines_are before (c ∷ calls) (reply ∷ replies) = ap (λ rest. _ ++ rest) (lines_are (c.process ∷ before) calls replies)
+lines_are before (c ∷ calls) (reply ∷ replies) = ap (λ rest. end_text (id_behind before c.process) reply ++ rest) (lines_are (c.process ∷ before) calls replies)
 
 -- the state behind calls is the same
 state_same : (program : Program) (good : IsResolved program) (budget : ℕ) (calls : List ScriptCall) → All (λ c. CallFits (signatures program) (object_call c)) calls →
