@@ -20,4 +20,4 @@ loop-number-preserved g c calls at =
     let some = some_there line.items (ap (λ (n : ℕ). n == 0) (sym line.ok.0) ∙ (sym c.is_empty.ensures ∙ c.if-is_empty.false)) in
     one_more g.C.Conversation.hears g.C.Conversation.tells (ground_of c.args.live.ground) calls c.loop-number.number (c.loop-number.number + 1) (add-one c.loop-number.number)
     c.args.conversation.now c.loop-number.conversation c.next_line.new.self c.tell_line.new.conversation c.loop-number.live c.in_ok-live.live line.items some c.in_ok-line.ensures
-    (c.loop-number.invariant calls at) (λ cs is. rw (← c.deref.ensures.value) c.in_ok-live.ensures cs is)
+    (c.loop-number.invariant calls at) (λ cs is. rw (← c.deref.ensures.value) (c.in_ok-live.ensures cs is))
