@@ -1,5 +1,5 @@
 -- What is told of lines, one after the other.
-use Rattle.std.proofs.Common.{◌≡◌, ◌∙◌, ◌≢◌, ◌⊎◌, ◌==◌, inl, inr, ℕ, ◌+◌, suc, true, false, List, [], ◌∷◌, ◌++◌, length, Result, OnOk, Global, String, string_bytes, add-one, arith, refl, sym, subst}
+use Rattle.std.proofs.Common.{◌≡◌, ◌∙◌, ◌≢◌, ◌⊎◌, ◌==◌, inl, inr, ℕ, suc, true, false, List, [], ◌∷◌, ◌++◌, length, Result, OnOk, Global, String, string_bytes, arith, refl, sym, subst}
 use Rattle.std.proofs.lemmas.Bool.{false≢true}
 use Rattle.std.proofs.lemmas.Bool.Decides.{nat_tests}
 use Rattle.std.proofs.lemmas.Result.{on_ok_weaker}
