@@ -1,4 +1,4 @@
-use Rattle.std.proofs.Common.{◌≡◌, [], refl, rules, string_bytes}
+use Rattle.std.proofs.Common.{string_bytes}
 use Rattle.ob_answer_explained.specs.CommandTexts.{of_text}
 use Rattle.ob_answer_explained.proofs.AtOnce.{holds_of_whole}
 use Rattle.ob_object_compile.specs.View.{asked_of}
@@ -11,7 +11,7 @@ pub returns-in_ok-live_talk-in-Ok-clause-made : goal.returns-in_ok-live_talk-in-
 returns-in_ok-live_talk-in-Ok-clause-made g c whole is =
     let a = asked_of c.args.asked in
     let begins = holds_of_whole (λ e. e) a (λ t. BeginsAt (of_text a t) c.in-Ok.live) _ whole is c.in-Ok.ensures.at_once c.in-Ok.ensures.begun in
-    said [] (refl, c.in_ok-live_talk-in-Ok.ensures (of_text a whole) begins) c.printed.ensures
+    said (string_bytes c.new.result) (c.new.ensures.bytes, c.in_ok-live_talk-in-Ok.ensures (of_text a whole) begins) c.printed.ensures
 
 pub returns-in_ok-object_refused-in-Err-clause-made : goal.returns-in_ok-object_refused-in-Err-clause-made
 returns-in_ok-object_refused-in-Err-clause-made g c whole is =
