@@ -35,5 +35,8 @@ module _ {C : Type 0} (Hears Tells : C → List ℕ → C → Type 0) (start end
       → IsNumbered e → TellsAtOnce a (λ c. ◌≡◌ {A = Result Live CompileFault} (Err e) (Err c)) → IsRefusal IsShort (of_text a a.text) e
       → IsLiveAnswer Hears Tells start end (of_text a whole) x
   live_refused a e x whole is told numbered tells h =
-      refused e (refused_of_whole {T = Live} {F = CompileFault} (λ c. c) a (λ t. IsRefusal IsShort (of_text a t)) e whole is tells
-      (λ c longer at_once _. object_refused IsShort (of_text a whole) c longer at_once) h, numbered) told
+      refused e (
+        refused_of_whole {T = Live} {F = CompileFault} (λ c. c) a (λ t. IsRefusal IsShort (of_text a t)) e whole is tells
+            (λ c longer at_once _. object_refused IsShort (of_text a whole) c longer at_once) h,
+        numbered,
+      ) told

@@ -41,7 +41,8 @@ const VERSION: &str = "obl0 0.1.0\nrattle-kit-13f logic dac8208d650f15bf\nMIT OR
 pub const INPUT_NAME: &str = "-";
 
 /// The mistake of words that name standard input for two files.
-pub(crate) const INPUT_TWICE: &str = "error: `-`, which is standard input, stands for one file alone\n";
+pub(crate) const INPUT_TWICE: &str =
+    "error: `-`, which is standard input, stands for one file alone\n";
 
 /// What is said of `live` where lines are not heard one by one: here files alone are read.
 const LIVE_APART: &str =
