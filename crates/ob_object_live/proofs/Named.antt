@@ -1,5 +1,5 @@
 -- What is told of an object's calls by position, by name.
-use Rattle.std.proofs.Common.{◌≡◌, ◌∙◌, ◌<◌, ℕ, suc, true, List, [], ◌∷◌, ◌++◌, map, All, refl, sym, ap, ap₂, subst, None, Some, Option}
+use Rattle.std.proofs.Common.{◌≡◌, ◌∙◌, ◌<◌, ℕ, suc, Bool, true, List, [], ◌∷◌, ◌++◌, map, All, refl, sym, ap, ap₂, subst, None, Some, Option}
 use Rattle.std.proofs.lemmas.List.Elements.{All-head, All-nil, All-tail}
 use Rattle.ob_agreement.specs.Resolved.{IsResolved}
 use Rattle.ob_agreement.specs.Same.{SameState}
@@ -9,7 +9,7 @@ use Rattle.ob_code_law.specs.CodeMeaning.{EngineParts}
 use Rattle.ob_interface.specs.Call.{ObjectCall, Reply}
 use Rattle.ob_interface.specs.Export.{CallFits, Signature}
 use Rattle.ob_interpreter.specs.Sequences as Positions
-use Rattle.ob_object_live.specs.Living.{Ground, asked, callers, events_behind, ground_of, lines_at, lines_behind, record_at, replies_at, state_after, state_at}
+use Rattle.ob_object_live.specs.Living.{Ground, IsAt, asked, callers, end_text, events_behind, id_behind, ground_of, lines_at, lines_behind, record_at, replies_at, state_after, state_at}
 use Rattle.ob_object_live.specs.declared.parts.Live.{Live}
 use Rattle.ob_object_live.specs.Talks.{AllFit, EndsOn, IsTalk, TalksOn, ends, made, refused}
 use Rattle.ob_meaning.specs.Object as Named
@@ -31,7 +31,7 @@ lines_are : (before : List ℕ) (calls : List ScriptCall) (replies : List Reply)
     lines_behind before calls replies ≡ numbered (λ place. reply_line) before (callers calls) replies
 lines_are before [] replies = refl
 lines_are before (c ∷ calls) [] = refl
-lines_are before (c ∷ calls) (reply ∷ replies) = ap (λ rest. _ ++ rest) (lines_are (c.process ∷ before) calls replies)
+lines_are before (c ∷ calls) (reply ∷ replies) = ap (λ rest. end_text (id_behind before c.process) reply ++ rest) (lines_are (c.process ∷ before) calls replies)
 
 -- the state behind calls is the same
 state_same : (program : Program) (good : IsResolved program) (budget : ℕ) (calls : List ScriptCall) → All (λ c. CallFits (signatures program) (object_call c)) calls →
@@ -108,3 +108,26 @@ pub live_named : {C : Type 0} (Hears Tells : C → List ℕ → C → Type 0) (a
 live_named {C} Hears Tells a l before after begins h =
     told_named a begins.object begins.compiled Hears Tells before after
     (subst (λ (g : Ground). TalksOn Hears Tells g [] 1 before after) begins.ground h)
+
+-- ---- of an object before any call
+
+abbrev ground_by : Program → (processes budget : ℕ) → Activation → Bool → Ground
+ground_by program processes budget opening carried = record {
+  program = program;
+  processes = processes;
+  budget = budget;
+  opening = opening;
+  carried = carried;
+}
+
+pub begins_at : (a : Asked) (o : ObjectParts) (l : Live) (p : Program) (n b : ℕ) (s : Activation) (c : Bool) → IsCompilation a o → p ≡ o.program →
+    n ≡ o.processes → b ≡ o.engine.budget → s ≡ o.opening → c ≡ o.carried → IsAt (ground_by p n b s c) [] l → BeginsAt a l
+begins_at a o l p n b s c compiled p_is n_is b_is s_is c_is at =
+    let same = ap (λ x. ground_by x n b s c) p_is ∙ (ap (λ x. ground_by o.program x b s c) n_is ∙ (ap (λ x. ground_by o.program o.processes x s c) b_is
+        ∙ (ap (λ x. ground_by o.program o.processes o.engine.budget x c) s_is ∙ ap (λ x. ground_by o.program o.processes o.engine.budget o.opening x) c_is))) in
+    record {
+      object = o;
+      compiled = compiled;
+      ground = at.ground ∙ same;
+      at = subst (λ (h : Ground). IsAt h [] l) (sym at.ground) at;
+    }

@@ -1,7 +1,8 @@
 //! The object that is asked for, called as calls come.
 
 ghost use Rattle.std.specs.Prelude.{◌≡◌, Err, IfErr, IfOk, OnOk};
-ghost use Rattle.ob_object_compile.specs.Asked.{Asked, TellsAtOnce};
+ghost use Rattle.ob_object_compile.specs.Asked as Asking;
+ghost use Rattle.ob_object_compile.specs.Asked.{TellsAtOnce};
 ghost use Rattle.ob_object_compile.specs.Compilation.{IsRefusal, IsShort};
 ghost use Rattle.ob_object_compile.specs.View.{asked_of};
 ghost use Rattle.ob_object_live.specs.LiveParts.{BeginsAt};
@@ -37,7 +38,7 @@ pub fn live_talk<C: Conversation>(
     live: Live,
     conversation: &mut C,
 ) -> Result<(), TalkFault>
-    ensures { (asked : Asked) → BeginsAt asked live → OnOk result (IsLiveRun C.hears C.tells asked conversation.old conversation.new) }
+    ensures { (asked : Asking.Asked) → BeginsAt asked live → OnOk result (IsLiveRun C.hears C.tells asked conversation.old conversation.new) }
 {
     talk(alloc, live, conversation)
 }

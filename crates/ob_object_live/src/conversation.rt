@@ -63,6 +63,7 @@ pub trait Conversation {
 }
 
 /// Lines of a reader, and a writer that is told of them.
+#[derive(Drop)]
 pub struct Pipe<R, W> {
     pub reader: R,
     pub writer: W,

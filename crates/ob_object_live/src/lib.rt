@@ -6,8 +6,6 @@
 #![tactic(auto)]
 
 pub mod asked;
-#[cfg(test)]
-mod tests;
 mod calls;
 pub mod conversation;
 pub mod live;

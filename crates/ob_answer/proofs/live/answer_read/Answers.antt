@@ -17,10 +17,9 @@ returns-in-Ok-clause-made g c =
     (h whole (ap (λ (t : CallsTexts). t.asked.text) c.calls_with-begun.ensures ∙ is)))
     c.answer_begun.ensures.made
 
-pub returns-in-Err-clause-made : goal.returns-in-Err-clause-made
-returns-in-Err-clause-made g c =
-    let bytes = c.args.bytes.now in
+pub returns-in_ok-values_wrong-in-Err-clause-made : goal.returns-in_ok-values_wrong-in-Err-clause-made
+returns-in_ok-values_wrong-in-Err-clause-made g c whole is =
+    let wrong = c.in_ok-values_wrong-in-Err in
     live_untold g.C.Conversation.hears g.C.Conversation.tells c.args.conversation.now c.args.conversation.now
-    (calls_request_of c.args.calls) bytes.text.items (record_in_calls bytes) c.in-Err.fault
-    c.bytes_or_none-record_text.result.now c.values_wrong.result c.bytes_or_none-record_text.ensures
-    c.values_wrong.ensures.fault c.values_wrong.ensures.memory c.in-Err.ensures.none
+    (calls_request_of c.args.calls) whole (record_in_calls c.args.bytes.now) c.in-Err.fault c.bytes_or_none-record_text.result.now wrong.field-0
+    c.bytes_or_none-record_text.ensures wrong.ensures.fault wrong.ensures.memory c.in-Err.ensures.none

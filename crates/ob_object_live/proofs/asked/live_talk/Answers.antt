@@ -5,5 +5,6 @@ use Rattle.ob_object_live.proofs.asked.live_talk.Goals as goal
 
 pub returns : goal.returns
 returns g c asked begins =
-    on_ok_weaker c.talk.result _ _ (live_named g.C.Conversation.hears g.C.Conversation.tells asked c.args.live c.args.conversation.now c.talk.new.conversation begins)
+    on_ok_weaker c.talk.result
+    (live_named g.C.Conversation.hears g.C.Conversation.tells asked c.args.live c.args.conversation.now c.talk.new.conversation begins)
     (c.talk.ensures [] begins.at)
