@@ -124,7 +124,7 @@ pub begins_at : (a : Asked) (o : ObjectParts) (l : Live) (p : Program) (n b : �
     n ≡ o.processes → b ≡ o.engine.budget → s ≡ o.opening → c ≡ o.carried → IsAt (ground_by p n b s c) [] l → BeginsAt a l
 begins_at a o l p n b s c compiled p_is n_is b_is s_is c_is at =
     let same = ap (λ x. ground_by x n b s c) p_is ∙ (ap (λ x. ground_by o.program x b s c) n_is ∙ (ap (λ x. ground_by o.program o.processes x s c) b_is
-        ∙ (ap (λ x. ground_by o.program o.processes o.engine.budget x c) s_is ∙ ap (λ x. ground_by o.program o.processes o.engine.budget o.opening x) c_is))) in
+    ∙ (ap (λ x. ground_by o.program o.processes o.engine.budget x c) s_is ∙ ap (λ x. ground_by o.program o.processes o.engine.budget o.opening x) c_is))) in
     record {
       object = o;
       compiled = compiled;

@@ -84,7 +84,7 @@ module _ {C : Type 0} (Hears Tells : C → List ℕ → C → Type 0) (g : Groun
       SoFar calls following start told next
   one_more calls number following n start now heard told live next line some is so_far tells =
       let one = subst (λ (h : Ground). TellsLine Tells h so_far.later number line heard told next) so_far.at.ground
-          (tells so_far.later (own so_far.later live so_far.at)) in
+      (tells so_far.later (own so_far.later live so_far.at)) in
       subst (λ (k : ℕ). SoFar calls k start told next) (sym n) (more_told calls number start now heard told live next line some is so_far one)
 
   -- the end

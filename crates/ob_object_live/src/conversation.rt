@@ -3,10 +3,10 @@
 ghost use Rattle.std.specs.Prelude.{ℕ, List, IfOk, OnOk};
 ghost use Rattle.std.specs.Io.KnownBytes.{Keeps};
 
+use ob_interface::NoMemory;
 use std::alloc::{AllocError, Global};
 use std::io;
 use std::io::{BufRead, Write};
-use ob_interface::NoMemory;
 use thiserror::Error;
 
 /// Why not all was told.
@@ -73,6 +73,7 @@ impl<R: BufRead, W: Write> Conversation for Pipe<R, W> {
     ghost use Rattle.ob_object_live.specs.Pipes.{IsHeard, IsToldTo};
 
     ghost hears = { IsHeard R.remaining W.contents };
+
     ghost tells = { IsToldTo R.remaining W.contents };
 
     fn next_line(&mut self, alloc: Global) -> Result<Vec<u8>, TalkFault> {
