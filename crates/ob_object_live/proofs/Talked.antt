@@ -1,9 +1,8 @@
 -- What is told of lines, one after the other.
-use Rattle.std.proofs.Common.{◌≡◌, ◌∙◌, ◌≢◌, ◌⊎◌, ◌==◌, inl, inr, ℕ, suc, true, false, List, [], ◌∷◌, ◌++◌, length, Result, OnOk, Global, String, string_bytes, arith, refl, sym, subst}
+use Rattle.std.proofs.Common.{◌≡◌, ◌∙◌, ◌≢◌, ◌==◌, inl, inr, ℕ, suc, true, false, List, [], ◌∷◌, ◌++◌, length, Result, OnOk, Global, String, string_bytes, arith, refl, sym, subst}
 use Rattle.std.proofs.lemmas.Bool.{false≢true}
 use Rattle.std.proofs.lemmas.Bool.Decides.{nat_tests}
 use Rattle.std.proofs.lemmas.Result.{on_ok_weaker}
-use Rattle.ob_checked.specs.Exports.{signatures}
 use Rattle.ob_object_live.specs.Living.{Ground, IsAnswered, IsAt, ground_of}
 use Rattle.ob_object_live.specs.Talks.{TalksOn, TellsLine, ends, fault_text, made, record_told, refused}
 use Rattle.ob_object_live.specs.declared.parts.Live.{Live}
