@@ -32,24 +32,24 @@ words_from words first = over_each (λ i. word_text (word_at words (first + i)))
 -- ---- what a process keeps for itself
 
 -- a name, and a number behind it; nothing where it isn't used
-abbrev pub number_where : Bool → (name : List ℕ) → ℕ → List ℕ
+unfoldable pub number_where : Bool → (name : List ℕ) → ℕ → List ℕ
 number_where used name n = if used then name ++ decimal n else []
 
-abbrev pub word_where : Bool → (name : List ℕ) → ℤ → List ℕ
+unfoldable pub word_where : Bool → (name : List ℕ) → ℤ → List ℕ
 word_where used name w = if used then name ++ word_text w else []
 
-abbrev pub words_where : Bool → (name : List ℕ) → List ℤ → List ℕ
+unfoldable pub words_where : Bool → (name : List ℕ) → List ℤ → List ℕ
 words_where used name words = if used then name ++ words_text words else []
 
 -- the registers that are used at the label
-abbrev pub registers_text : Label → Registers → List ℕ
+unfoldable pub registers_text : Label → Registers → List ℕ
 registers_text l g =
     number_where (uses_round l) (codes " round ") g.round ++ number_where (uses_block l) (codes " r ") g.r ++ word_where (uses_word l) (codes " acc") g.acc
     ++ number_where (uses_place l) (codes " i ") g.i ++ number_where (uses_process l) (codes " j ") g.j ++ word_where (uses_status l) (codes " status") g.status
 
 module _ {Run : Type 0} where
   -- and the lists of words
-  abbrev pub lists_text : Process Run → List ℕ
+  unfoldable pub lists_text : Process Run → List ℕ
   lists_text q =
       words_where (uses_list q.label) (codes " list") q.list ++ words_where (uses_save q.label) (codes " save") q.save
       ++ words_where (uses_replies q.label) (codes " replies") q.replies

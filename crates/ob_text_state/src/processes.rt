@@ -1,6 +1,6 @@
 //! The lines of processes.
 
-ghost use Rattle.std.specs.Prelude.{◌≡◌, ◌++◌, codes, decimal, length, OnErr, OnOk, string_bytes, if◌then◌else◌, []};
+ghost use Rattle.std.specs.Prelude.{◌≡◌, ◌<◌, ◌++◌, codes, decimal, length, OnErr, OnOk, string_bytes, if◌then◌else◌, []};
 ghost use Rattle.ll_cell.specs.Cell.{is_linked};
 ghost use Rattle.ob_schedule.specs.LabelNames.{label_name};
 ghost use Rattle.ob_text_state.specs.StateText.{lists_text, process_line, registers_text};
@@ -59,6 +59,7 @@ fn link_mark(linked: bool) -> &'static str
 }
 
 /// Appends the registers that are used at the label.
+#[tactic(auto, unfolding(crate::specs::StateText::registers_text))]
 fn push_registers(text: &mut String, label: Label, registers: Registers) -> Result<(), AllocError>
     ensures ok { OnOk result (string_bytes text.new ≡ string_bytes text.old ++ registers_text label registers) }
     ensures left { OnErr result (GoesOn (string_bytes text.old) (string_bytes text.new)) }
@@ -72,6 +73,7 @@ fn push_registers(text: &mut String, label: Label, registers: Registers) -> Resu
 }
 
 /// Appends the lists of words that are used at the process's label.
+#[tactic(auto, unfolding(crate::specs::StateText::lists_text))]
 fn push_lists<R>(text: &mut String, process: &Process<R>) -> Result<(), AllocError>
     ensures ok { OnOk result (string_bytes text.new ≡ string_bytes text.old ++ lists_text process.now) }
     ensures left { OnErr result (GoesOn (string_bytes text.old) (string_bytes text.new)) }
