@@ -8,8 +8,8 @@ ghost use Rattle.ob_answer_explained.specs.CommandTexts.{calls_of_text, calls_te
 ghost use Rattle.ob_command.specs.Commands.{calls_request_of, run_request_of};
 
 use crate::making::{
-    answer_picture, answer_record, answer_seq, answer_serve, answer_state, answer_steps, answer_told,
-    answer_tree_record,
+    answer_picture, answer_record, answer_seq, answer_serve, answer_state, answer_steps,
+    answer_told, answer_tree_record,
 };
 use crate::product::{CallsProduct, Product};
 use ob_answer_explained::explaining::explain_calls;
