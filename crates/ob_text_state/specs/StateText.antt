@@ -41,11 +41,21 @@ word_where used name w = if used then name ++ word_text w else []
 unfoldable pub words_where : Bool → (name : List ℕ) → List ℤ → List ℕ
 words_where used name words = if used then name ++ words_text words else []
 
--- the registers that are used at the label
-unfoldable pub registers_text : Label → Registers → List ℕ
-registers_text l g =
-    number_where (uses_round l) (codes " round ") g.round ++ number_where (uses_block l) (codes " r ") g.r ++ word_where (uses_word l) (codes " acc") g.acc
-    ++ number_where (uses_place l) (codes " i ") g.i ++ number_where (uses_process l) (codes " j ") g.j ++ word_where (uses_status l) (codes " status") g.status
+-- the registers that are used at the label: the round, and the block that is read
+
+unfoldable pub round_text : Label → Registers → List ℕ
+round_text l g = number_where (uses_round l) (codes " round ") g.round ++ number_where (uses_block l) (codes " r ") g.r
+
+-- the word that is copied, and the place
+unfoldable pub copied_text : Label → Registers → List ℕ
+copied_text l g = word_where (uses_word l) (codes " acc") g.acc ++ number_where (uses_place l) (codes " i ") g.i
+
+-- the process that is looked at or served, and the status of its body
+unfoldable pub served_text : Label → Registers → List ℕ
+served_text l g = number_where (uses_process l) (codes " j ") g.j ++ word_where (uses_status l) (codes " status") g.status
+
+abbrev pub registers_text : Label → Registers → List ℕ
+registers_text l g = round_text l g ++ copied_text l g ++ served_text l g
 
 module _ {Run : Type 0} where
   -- and the lists of words
