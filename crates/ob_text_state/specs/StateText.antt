@@ -41,8 +41,7 @@ word_where used name w = if used then name ++ word_text w else []
 unfoldable pub words_where : Bool → (name : List ℕ) → List ℤ → List ℕ
 words_where used name words = if used then name ++ words_text words else []
 
--- the registers that are used at the label: the round, and the block that is read
-
+-- of the registers that are used at the label the round, and the block that is read
 unfoldable pub round_text : Label → Registers → List ℕ
 round_text l g = number_where (uses_round l) (codes " round ") g.round ++ number_where (uses_block l) (codes " r ") g.r
 
@@ -54,6 +53,7 @@ copied_text l g = word_where (uses_word l) (codes " acc") g.acc ++ number_where 
 unfoldable pub served_text : Label → Registers → List ℕ
 served_text l g = number_where (uses_process l) (codes " j ") g.j ++ word_where (uses_status l) (codes " status") g.status
 
+-- all of them
 abbrev pub registers_text : Label → Registers → List ℕ
 registers_text l g = round_text l g ++ copied_text l g ++ served_text l g
 
