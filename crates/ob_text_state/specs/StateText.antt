@@ -32,24 +32,34 @@ words_from words first = over_each (λ i. word_text (word_at words (first + i)))
 -- ---- what a process keeps for itself
 
 -- a name, and a number behind it; nothing where it isn't used
-abbrev pub number_where : Bool → (name : List ℕ) → ℕ → List ℕ
+unfoldable pub number_where : Bool → (name : List ℕ) → ℕ → List ℕ
 number_where used name n = if used then name ++ decimal n else []
 
-abbrev pub word_where : Bool → (name : List ℕ) → ℤ → List ℕ
+unfoldable pub word_where : Bool → (name : List ℕ) → ℤ → List ℕ
 word_where used name w = if used then name ++ word_text w else []
 
-abbrev pub words_where : Bool → (name : List ℕ) → List ℤ → List ℕ
+unfoldable pub words_where : Bool → (name : List ℕ) → List ℤ → List ℕ
 words_where used name words = if used then name ++ words_text words else []
 
--- the registers that are used at the label
+-- of the registers that are used at the label the round, and the block that is read
+unfoldable pub round_text : Label → Registers → List ℕ
+round_text l g = number_where (uses_round l) (codes " round ") g.round ++ number_where (uses_block l) (codes " r ") g.r
+
+-- the word that is copied, and the place
+unfoldable pub copied_text : Label → Registers → List ℕ
+copied_text l g = word_where (uses_word l) (codes " acc") g.acc ++ number_where (uses_place l) (codes " i ") g.i
+
+-- the process that is looked at or served, and the status of its body
+unfoldable pub served_text : Label → Registers → List ℕ
+served_text l g = number_where (uses_process l) (codes " j ") g.j ++ word_where (uses_status l) (codes " status") g.status
+
+-- all of them
 abbrev pub registers_text : Label → Registers → List ℕ
-registers_text l g =
-    number_where (uses_round l) (codes " round ") g.round ++ number_where (uses_block l) (codes " r ") g.r ++ word_where (uses_word l) (codes " acc") g.acc
-    ++ number_where (uses_place l) (codes " i ") g.i ++ number_where (uses_process l) (codes " j ") g.j ++ word_where (uses_status l) (codes " status") g.status
+registers_text l g = round_text l g ++ copied_text l g ++ served_text l g
 
 module _ {Run : Type 0} where
   -- and the lists of words
-  abbrev pub lists_text : Process Run → List ℕ
+  unfoldable pub lists_text : Process Run → List ℕ
   lists_text q =
       words_where (uses_list q.label) (codes " list") q.list ++ words_where (uses_save q.label) (codes " save") q.save
       ++ words_where (uses_replies q.label) (codes " replies") q.replies

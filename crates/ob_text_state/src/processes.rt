@@ -1,9 +1,9 @@
 //! The lines of processes.
 
-ghost use Rattle.std.specs.Prelude.{◌≡◌, ◌++◌, codes, decimal, length, OnErr, OnOk, string_bytes, if◌then◌else◌, []};
+ghost use Rattle.std.specs.Prelude.{◌≡◌, ◌<◌, ◌++◌, codes, decimal, length, OnErr, OnOk, string_bytes, if◌then◌else◌, []};
 ghost use Rattle.ll_cell.specs.Cell.{is_linked};
 ghost use Rattle.ob_schedule.specs.LabelNames.{label_name};
-ghost use Rattle.ob_text_state.specs.StateText.{lists_text, process_line, registers_text};
+ghost use Rattle.ob_text_state.specs.StateText.{copied_text, lists_text, process_line, registers_text, round_text, served_text};
 ghost use Rattle.ob_text_words.specs.Appending.{GoesOn};
 
 use crate::uses::{
@@ -63,15 +63,44 @@ fn push_registers(text: &mut String, label: Label, registers: Registers) -> Resu
     ensures ok { OnOk result (string_bytes text.new ≡ string_bytes text.old ++ registers_text label registers) }
     ensures left { OnErr result (GoesOn (string_bytes text.old) (string_bytes text.new)) }
 {
-    push_number_where(text, uses_round(label), " round ", u64::from(registers.round))?;
-    push_number_where(text, uses_block(label), " r ", registers.r as u64)?;
+    push_round(text, label, registers)?;
+    push_copied(text, label, registers)?;
+    push_served(text, label, registers)
+}
+
+/// Appends the round, and the block that is read.
+#[tactic(auto, unfolding(crate::specs::StateText::round_text))]
+fn push_round(text: &mut String, label: Label, registers: Registers) -> Result<(), AllocError>
+    ensures ok { OnOk result (string_bytes text.new ≡ string_bytes text.old ++ round_text label registers) }
+    ensures left { OnErr result (GoesOn (string_bytes text.old) (string_bytes text.new)) }
+{
+    let round = u64::from(registers.round);
+    push_number_where(text, uses_round(label), " round ", round)?;
+    push_number_where(text, uses_block(label), " r ", registers.r as u64)
+}
+
+/// Appends the word that is copied, and the place.
+#[tactic(auto, unfolding(crate::specs::StateText::copied_text))]
+fn push_copied(text: &mut String, label: Label, registers: Registers) -> Result<(), AllocError>
+    ensures ok { OnOk result (string_bytes text.new ≡ string_bytes text.old ++ copied_text label registers) }
+    ensures left { OnErr result (GoesOn (string_bytes text.old) (string_bytes text.new)) }
+{
     push_word_where(text, uses_word(label), " acc", registers.acc)?;
-    push_number_where(text, uses_place(label), " i ", registers.i as u64)?;
+    push_number_where(text, uses_place(label), " i ", registers.i as u64)
+}
+
+/// Appends the process that is looked at or served, and the status of its body.
+#[tactic(auto, unfolding(crate::specs::StateText::served_text))]
+fn push_served(text: &mut String, label: Label, registers: Registers) -> Result<(), AllocError>
+    ensures ok { OnOk result (string_bytes text.new ≡ string_bytes text.old ++ served_text label registers) }
+    ensures left { OnErr result (GoesOn (string_bytes text.old) (string_bytes text.new)) }
+{
     push_number_where(text, uses_process(label), " j ", registers.j as u64)?;
     push_word_where(text, uses_status(label), " status", registers.status)
 }
 
 /// Appends the lists of words that are used at the process's label.
+#[tactic(auto, unfolding(crate::specs::StateText::lists_text))]
 fn push_lists<R>(text: &mut String, process: &Process<R>) -> Result<(), AllocError>
     ensures ok { OnOk result (string_bytes text.new ≡ string_bytes text.old ++ lists_text process.now) }
     ensures left { OnErr result (GoesOn (string_bytes text.old) (string_bytes text.new)) }

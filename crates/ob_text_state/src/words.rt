@@ -28,6 +28,7 @@ fn push_words(text: &mut String, words: &[i64]) -> Result<(), AllocError>
 }
 
 /// Appends a name and a number, where it is used.
+#[tactic(auto, unfolding(crate::specs::StateText::number_where))]
 pub(crate) fn push_number_where(
     text: &mut String,
     used: bool,
@@ -45,6 +46,7 @@ pub(crate) fn push_number_where(
 }
 
 /// Appends a name and a word, where it is used.
+#[tactic(auto, unfolding(crate::specs::StateText::word_where))]
 pub(crate) fn push_word_where(
     text: &mut String,
     used: bool,
@@ -62,6 +64,7 @@ pub(crate) fn push_word_where(
 }
 
 /// Appends a name and words, where they are used.
+#[tactic(auto, unfolding(crate::specs::StateText::words_where))]
 pub(crate) fn push_words_where(
     text: &mut String,
     used: bool,

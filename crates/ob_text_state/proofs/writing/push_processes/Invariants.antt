@@ -4,4 +4,4 @@ use Rattle.ob_text_state.specs.StateText.{over_each, process_at}
 use Rattle.ob_text_state.proofs.writing.push_processes.Given as goal
 
 abbrev pub invariant-loop-p : goal.invariant-loop-p
-invariant-loop-p l = string_bytes l.text ≡ string_bytes l.fn.text ++ over_each (process_at l.machine.state) l.p
+invariant-loop-p g l = string_bytes l.text ≡ string_bytes l.fn.text ++ over_each (process_at l.machine.state) l.p
