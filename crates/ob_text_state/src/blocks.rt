@@ -101,12 +101,7 @@ pub(crate) fn push_own_blocks(
 }
 
 /// Appends the line of a process's own block.
-fn push_own_block(
-    text: &mut String,
-    z: Sizes,
-    shared: &Shared,
-    p: usize,
-) -> Result<(), AllocError>
+fn push_own_block(text: &mut String, z: Sizes, shared: &Shared, p: usize) -> Result<(), AllocError>
     requires sized { IsSized z }
     requires shaped { IsShaped z shared.now.cell }
     requires process { p < z.processes }
@@ -122,12 +117,7 @@ fn push_own_block(
 }
 
 /// Appends the words of a block: its variables, and behind them the part of each process.
-fn push_block(
-    text: &mut String,
-    z: Sizes,
-    shared: &Shared,
-    block: usize,
-) -> Result<(), AllocError>
+fn push_block(text: &mut String, z: Sizes, shared: &Shared, block: usize) -> Result<(), AllocError>
     requires sized { IsSized z }
     requires shaped { IsShaped z shared.now.cell }
     requires block { block < z.processes + 1 }
@@ -141,12 +131,7 @@ fn push_block(
 }
 
 /// Appends the part of each process in a block.
-fn push_parts(
-    text: &mut String,
-    z: Sizes,
-    shared: &Shared,
-    block: usize,
-) -> Result<(), AllocError>
+fn push_parts(text: &mut String, z: Sizes, shared: &Shared, block: usize) -> Result<(), AllocError>
     requires sized { IsSized z }
     requires shaped { IsShaped z shared.now.cell }
     requires block { block < z.processes + 1 }
