@@ -1,5 +1,5 @@
 -- What an engine's machine is behind a run is what the object's is.
-use Rattle.std.proofs.Common.{◌≡◌, ◌∙◌, ℕ, List, ap, subst}
+use Rattle.std.proofs.Common.{◌≡◌, ◌∙◌, ℕ, List, true, false, ap, subst}
 use Rattle.std.specs.Prelude.{ℤ}
 use Rattle.ob_code_law.specs.CodeMeaning.{EngineParts, code_meaning}
 use Rattle.ob_code_law.specs.Compiled.{HasReserve, IsFitting}
@@ -7,7 +7,8 @@ use Rattle.ob_code_law.specs.Parts.{IsLawfulFor}
 use Rattle.ob_code_machine.specs.Body.{Run}
 use Rattle.ob_code_scheme.specs.Layout.{encoded}
 use Rattle.ob_object_compile.specs.Compilation.{IsShort, ObjectParts}
-use Rattle.ob_object_perform.specs.Performance.{AreReadOf, IsRunFault}
+use Rattle.ob_object_perform.specs.Performance.{AreReadOf, IsRefusal, IsRunFault}
+use Rattle.ob_object_perform.specs.declared.performing.PerformFault.TheVariants as Faults
 use Rattle.ob_object_perform.specs.Texts.{Texts}
 use Rattle.ob_object_state.specs.Behind.{IsStateBehind, IsStatePrinted, sizes_in}
 use Rattle.ob_schedule.specs.declared.item.Item.{Item}
@@ -18,6 +19,7 @@ use Rattle.wf_play.specs.declared.playing.PlayFault.{PlayFault}
 use Rattle.wf_table.specs.declared.process.Sizes.{Sizes}
 use Rattle.wf_table.specs.Object.{State}
 use Rattle.wf_table.specs.Start.{sizes_of}
+use Rattle.ob_typing.specs.Program.{Program}
 
 -- of an engine, a number of processes, words, calls and items that are the object's
 module _ (o : ObjectParts) (calls : List ScriptCall) (items : List Item)
@@ -63,3 +65,7 @@ printed t o calls items read z s sizes behind output written = record {
   behind = behind;
   printed = written ∙ ap (λ (y : Sizes). state_text y s) sizes;
 }
+
+-- want of memory says nothing of the texts
+pub memory_refused : (Allowed : Program → Type 0) (t : Texts) → IsRefusal Allowed t Faults.NoMemory
+memory_refused Allowed t = record { says = tt; none = λ numbered. let bad : true ≡ false = numbered.0 in cc; unread = λ read. absurd read; memory = tt }
