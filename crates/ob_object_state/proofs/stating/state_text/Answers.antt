@@ -1,4 +1,3 @@
-use Rattle.std.proofs.Common.{string_bytes}
 use Rattle.std.proofs.lemmas.Result.{err_from_is_err_and}
 use Rattle.ob_object_compile.specs.Compilation.{IsShort}
 use Rattle.ob_object_compile.specs.View.{object_in}
