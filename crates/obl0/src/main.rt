@@ -199,7 +199,7 @@ fn obeyed<R: Files + Input + Print + AllocGlobal + Threads + Wait + Sync + Rando
     ensures { IfErr result (λ refusal. refusal ≢ Refusal.Words) }
 {
     if words.first().copied() == Some(LIVE) {
-        if let Ok(Command::Live(calls)) = read_command(rt.alloc(), words) {
+        if let Ok(Command::Live(calls)) = read_command(rt.alloc(), &*words) {
             return lived(rt, calls);
         }
     }
