@@ -90,8 +90,10 @@ def answer(words: Sequence[Text], files: Mapping[str, Union[Text, Record, Histor
 
     No file of the system is read. `serve` is answered with status 2. Raises MemoryError where there is no memory.
     """
-    asked = _joined([_bytes(it) for it in words]) + _joined([_bytes(it) for pair in files.items() for it in pair])
-    room_length = _ROOM
+    texts = _joined([_bytes(it) for it in words]), _joined([_bytes(it) for pair in files.items() for it in pair])
+    asked = texts[0] + texts[1]
+    # Most answers are no longer than that: what has no room is worked out once more.
+    room_length = _ROOM + 2 * texts[1][1].value
     while True:
         room, output, length = ctypes.create_string_buffer(room_length), _SIZE(), _SIZE()
         status = _LIBRARY.obl0_answer(*asked, room, _SIZE(room_length), ctypes.byref(output), ctypes.byref(length))
