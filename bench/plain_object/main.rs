@@ -1,7 +1,8 @@
-//! What `obl0 run` and `obl0 verify` do for examples/counter.mod, in plain Rust, with nothing proved of it. `run SCRIPT SCHEDULE -n N`
-//! reads calls and items, plays the machine of docs/MACHINE.md over the code of the module, an instruction a step, and prints the
-//! record, byte for byte that of docs/FORMATS.md. `verify RECORD` reads a record and checks its order. A fault is told by its line on
-//! standard error, with status 1. Of the module there are the three tables below, and nothing else knows which one it is.
+//! What `obl0 run`, `obl0 verify` and `obl0 seq` do for examples/counter.mod, in plain Rust, with nothing proved of it. `run SCRIPT
+//! SCHEDULE -n N` reads calls and items, plays the machine of docs/MACHINE.md over the code of the module, an instruction a step, and
+//! prints the record, byte for byte that of docs/FORMATS.md. `verify RECORD` reads a record and checks its order. `seq SCRIPT` reads calls,
+//! makes them one after the other and prints their replies. A fault is told by its line on standard error, with status 1. Of the module
+//! there are the three tables below, and nothing else knows which one it is: bench/table writes others in their place.
 
 use std::env;
 use std::fs;
@@ -1362,26 +1363,13 @@ fn first_too_early(record: &mut Record) -> Option<CallId> {
 
 /// The first call that, made at its place in the order, ends with another reply than the record's.
 fn first_other(record: &mut Record) -> Option<CallId> {
-    let code = Code::read(LISTING);
-    let mut body = Body::new();
-    let mut words = vec![0; Sizes::of(1).arguments];
-    let mut block = vec![0; VARIABLES.len()];
-    let mut before = block.clone();
+    let mut object = Object::new();
     for id in &record.order {
         let call = told(&mut record.calls, *id)?;
-        words[0] = i64::from(call.procedure);
-        for (word, value) in words[1..].iter_mut().zip(call.arguments.as_slice()) {
-            *word = i64::from(*value);
-        }
-        before.copy_from_slice(&block);
-        body.start(&code, &words, record.budget);
-        let (_, turn) = body.run(&code, &mut block, u64::MAX);
+        let turn = object.made(call.procedure, &call.arguments, record.budget);
         let is_same = match (turn, call.end.as_ref().map(|end| &end.reply)) {
-            (BodyTurn::Trapped(number), reply) => {
-                block.copy_from_slice(&before);
-                reply.is_none_or(|reply| *reply == Reply::Trap(number))
-            }
-            (_, Some(Reply::Done(values))) => values.as_slice().iter().map(|value| i64::from(*value)).eq(body.stack.iter().copied()),
+            (BodyTurn::Trapped(number), reply) => reply.is_none_or(|reply| *reply == Reply::Trap(number)),
+            (_, Some(Reply::Done(values))) => values.as_slice().iter().map(|value| i64::from(*value)).eq(object.body.stack.iter().copied()),
             (_, reply) => reply.is_none(),
         };
         if !is_same {
@@ -1389,6 +1377,81 @@ fn first_other(record: &mut Record) -> Option<CallId> {
         }
     }
     None
+}
+
+// ---- calls one after the other ----
+
+/// The variables, and what a call on them needs.
+struct Object {
+    code: Code,
+    body: Body,
+    words: Vec<i64>,
+    block: Vec<i64>,
+    before: Vec<i64>,
+}
+
+impl Object {
+    fn new() -> Object {
+        let block = vec![0; VARIABLES.len()];
+        Object { code: Code::read(LISTING), body: Body::new(), words: vec![0; Sizes::of(1).arguments], before: block.clone(), block }
+    }
+
+    /// Makes a call. Its reply stands on the body's stack; one that traps leaves the variables as they were.
+    fn made(&mut self, procedure: u16, arguments: &Values, budget: u32) -> BodyTurn {
+        self.words[0] = i64::from(procedure);
+        for (word, value) in self.words[1..].iter_mut().zip(arguments.as_slice()) {
+            *word = i64::from(*value);
+        }
+        self.before.copy_from_slice(&self.block);
+        self.body.start(&self.code, &self.words, budget);
+        let (_, turn) = self.body.run(&self.code, &mut self.block, u64::MAX);
+        if matches!(turn, BodyTurn::Trapped(_)) {
+            self.block.copy_from_slice(&self.before);
+        }
+        turn
+    }
+}
+
+/// The calls of a script in their order, each with its process.
+fn read_calls(text: &[u8]) -> Result<Vec<(u8, Call)>, Fault> {
+    let mut reader = Reader::new(text);
+    let mut calls = Vec::new();
+    loop {
+        if let Some(first) = reader.word()
+            && first[0] != b'#'
+        {
+            let (process, call) = script_call(&mut reader, first, MOST_PROCESSES).map_err(|fault| format!("{fault} line {}", reader.line))?;
+            calls.push((process as u8, call));
+        }
+        if !reader.next_line() {
+            return Ok(calls);
+        }
+    }
+}
+
+/// The lines of the replies.
+fn replies(calls: &[(u8, Call)]) -> Vec<u8> {
+    let (mut text, mut object, mut numbers) = (Vec::new(), Object::new(), [0; MOST_PROCESSES]);
+    for (process, call) in calls {
+        let number = &mut numbers[usize::from(*process)];
+        *number += 1;
+        text.extend_from_slice(b"E ");
+        push_id(&mut text, *process, *number);
+        match object.made(call.procedure, &call.arguments, MOST_TURNS as u32) {
+            BodyTurn::Trapped(number) => {
+                text.extend_from_slice(b" trap ");
+                push_number(&mut text, u64::from(number));
+            }
+            _ => {
+                text.extend_from_slice(b" done");
+                for (kind, word) in EXPORTS[usize::from(call.procedure)].kinds(true).zip(&object.body.stack) {
+                    push_value(&mut text, kind, *word as i32);
+                }
+            }
+        }
+        text.push(b'\n');
+    }
+    text
 }
 
 // ---- commands ----
@@ -1420,13 +1483,18 @@ fn verify(record: &str) -> Result<Vec<u8>, Fault> {
     Ok(b"ok\n".to_vec())
 }
 
+fn seq(script: &str) -> Result<Vec<u8>, Fault> {
+    Ok(replies(&read_calls(&read_file(script)?)?))
+}
+
 fn main() -> ExitCode {
     let words: Vec<String> = env::args().skip(1).collect();
     let words: Vec<&str> = words.iter().map(String::as_str).collect();
     let done = match words[..] {
         ["run", script, schedule, "-n", n] => run(script, schedule, n),
         ["verify", record] => verify(record),
-        _ => Err("the words are: run SCRIPT SCHEDULE -n N, or: verify RECORD".to_string()),
+        ["seq", script] => seq(script),
+        _ => Err("the words are: run SCRIPT SCHEDULE -n N, or: verify RECORD, or: seq SCRIPT".to_string()),
     };
     match done {
         Ok(text) if io::stdout().write_all(&text).is_ok() => ExitCode::SUCCESS,
