@@ -4,12 +4,10 @@ use Rattle.std.proofs.lemmas.Bool.{cases_lt}
 use Rattle.std.proofs.lemmas.List.{take-take, take_all}
 use Rattle.std.proofs.lemmas.Option.{same_Some}
 use Rattle.std.specs.List.{slice_get, Contains}
-use Rattle.std.specs.Prelude.{Result, IfErr, IfOk, MatchResult}
+use Rattle.std.specs.Prelude.{Result, IfErr, IfOk, MatchResult, OnOk}
 use Rattle.ob_typing.specs.Program.{Program}
 use Rattle.ob_positions.specs.Store.{Activation}
 use Rattle.ob_positions.specs.Object.{Effect}
-use Rattle.ob_store.specs.declared.state.State as Stores
-use Rattle.ob_store.specs.View.{state_of}
 use Rattle.ob_interface.specs.Call.{ObjectCall, Reply}
 use Rattle.wf_history.specs.declared.event.CallId.{CallId}
 use Rattle.ob_object_order.specs.declared.order.OrderFault.{OrderFault}
@@ -182,15 +180,15 @@ module _ (program : Program) (budget : ℕ) (opening : Activation) (history : Li
   replay_fault arranged F.NoMemory h = tt
 
   -- what an answer says, of its two clauses
-  module _ (result : Result Stores.State OrderFault) (fault : IfErr result Fault) where
+  module _ {T : Type 0} (result : Result T OrderFault) (fault : IfErr result Fault) where
     pub accepted_of : (last : Activation) → IsLegalOrder program budget opening history order last → IfErr result (λ e. e ≡ F.NoMemory)
     accepted_of last legal = elim result as (λ r. IfErr r Fault → IfErr r (λ e. e ≡ F.NoMemory)) [ Ok s ↦ λ h. tt | Err e ↦ λ h. legal_fault last legal e h ] fault
 
-    pub exact_of : IfOk result (λ s. IsLegalOrder program budget opening history order (state_of s)) → (f : OrderFault) → Fault f →
-        (f ≡ F.NoMemory) ⊎ MatchResult result (λ s. ⊥) (λ e. (e ≡ f) ⊎ (e ≡ F.NoMemory))
+    pub exact_of : OnOk result ((last : Activation) × IsLegalOrder program budget opening history order last) → (f : OrderFault) → Fault f →
+        (f ≡ F.NoMemory) ⊎ MatchResult result (λ x. ⊥) (λ e. (e ≡ f) ⊎ (e ≡ F.NoMemory))
     exact_of legal f g =
-        elim result as (λ r. IfErr r Fault → IfOk r (λ s. IsLegalOrder program budget opening history order (state_of s)) → (f ≡ F.NoMemory) ⊎ MatchResult r (λ s. ⊥) (λ e. (e ≡ f) ⊎ (e ≡ F.NoMemory))) [
-          | Ok s ↦ λ h l. inl (legal_fault (state_of s) l f g)
+        elim result as (λ r. IfErr r Fault → OnOk r ((last : Activation) × IsLegalOrder program budget opening history order last) → (f ≡ F.NoMemory) ⊎ MatchResult r (λ x. ⊥) (λ e. (e ≡ f) ⊎ (e ≡ F.NoMemory))) [
+          | Ok x ↦ λ h l. inl (legal_fault l.0 l.1 f g)
           | Err e ↦ λ h l. one_fault e f h g
         ] fault legal
 

@@ -3,4 +3,6 @@ mod Early
 pub mod Faults
 mod Noting
 mod Placing
+mod InTurn
+mod Interpreting
 mod Replay

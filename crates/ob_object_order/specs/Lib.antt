@@ -1,3 +1,5 @@
+pub mod InTurn
+pub mod Interpreting
 pub mod LegalOrder
 pub mod Noted
 pub mod OrderFaults

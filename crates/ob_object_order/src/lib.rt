@@ -2,9 +2,12 @@
 //! budget of turns.
 #![tactic(auto)]
 
+mod interpreted;
+pub mod maker;
 mod noted;
 pub mod order;
 mod places;
 mod replies;
 
-pub use order::{OrderFault, check_order};
+pub use maker::CallMaker;
+pub use order::{OrderFault, check_order, check_order_by};

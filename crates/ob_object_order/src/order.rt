@@ -10,17 +10,19 @@ ghost use Rattle.wf_history.specs.View.{event_of, seen_call, seen_reply};
 ghost use Rattle.ob_object_order.specs.declared.order.OrderFault.{OrderFault};
 ghost use Rattle.ob_object_order.specs.declared.order.OrderFault.TheVariants as Faults;
 ghost use Rattle.ob_object_order.specs.LegalOrder.{IsLegalOrder};
-ghost use Rattle.ob_object_order.specs.OrderFaults.{AllLeadTo, IsNowhere, IsUnknown, IsListFault, IsEndFound, IsUnlistedFound, IsTooLateFound, IsArranged, IsReplayFault, IsOrderFault, TellsFault};
+ghost use Rattle.ob_object_order.specs.OrderFaults.{IsNowhere, IsUnknown, IsListFault, IsEndFound, IsUnlistedFound, IsTooLateFound, IsArranged, IsOrderFault, TellsFault};
+ghost use Rattle.ob_object_order.specs.InTurn.{AcceptsLegal, FailsBy, MakesAll, MakesLegal, StopsAt, TakesBegun, TellsFaults};
 ghost use Rattle.ob_object_order.specs.Noted.{AreNoted};
 ghost use Rattle.ob_object_order.specs.PlacedCalls.{placed_all};
 ghost use Rattle.ob_object_order.specs.Places.{ArePlaced, BeginsAt, EndsAt};
 
+use crate::interpreted::Interpreted;
+use crate::maker::CallMaker;
 use crate::noted::Noted;
 use crate::places::{Places, places_of};
-use crate::replies::{call_in, is_same_reply};
+use crate::replies::is_same_reply;
 use ob_checked::checked::Checked;
 use ob_interface::NoMemory;
-use ob_interpreter::object::step;
 use ob_store::state::State;
 use std::alloc::{AllocError, AllocFailed, Global};
 use thiserror::Error;
@@ -185,34 +187,50 @@ fn reply_at(events: &[Event], place: usize) -> SeenReply<'_>
     }
 }
 
-/// Makes the calls one at a time, and compares the replies of those that have ended: the state that they lead to.
-fn replay(
+/// Makes the calls one at a time, and compares the replies of those that have ended.
+fn replay<M: CallMaker>(
     alloc: Global,
     events: &[Event],
     places: &Places,
     order: &[CallId],
-    checked: &Checked,
-    opening: &State,
-    budget: u64,
-) -> Result<State, OrderFault>
+    maker: &mut M,
+) -> Result<(), OrderFault>
     requires history { IsHistory (map event_of events.now) }
     requires placed { ArePlaced (map event_of events.now) (placed_all places.now order.now) }
-    ensures made { IfOk result (λ last. AllLeadTo (program_in checked.now) budget (state_of opening.now) (map event_of events.now) order.now (state_of last)) }
-    ensures fault { IfErr result (IsReplayFault (program_in checked.now) budget (state_of opening.now) (map event_of events.now) order.now) }
+    requires taken { TakesBegun M.takes M.stands (map event_of events.now) maker.old }
+    ensures made { OnOk result (MakesAll M.stands (map event_of events.now) order.now maker.old maker.new) }
+    ensures fault { IfErr result (StopsAt M.stands (map event_of events.now) order.now maker.old) }
 {
-    let mut state = opening.copy(alloc)?;
     for id in order {
         let x = places.placed(*id);
-        let call = call_in(alloc, call_at(events, x.begin))?;
-        let (next, reply) = step(alloc, checked.program(), state, &call, budget)?;
+        let reply = maker.make(alloc, call_at(events, x.begin))?;
         if let Some(end) = x.end
             && !is_same_reply(&reply, reply_at(events, end))
         {
             return Err(OrderFault::OtherReply(x.id));
         }
-        state = next;
     }
-    Ok(state)
+    Ok(())
+}
+
+/// Whether a list of calls is a legal order of a history, where the calls are made by this, from where it stands: so many turns for each
+/// as it gives them, the calls give the history's replies. Behind a legal order it stands where the calls have led to. Applied events
+/// are not looked at.
+pub fn check_order_by<M: CallMaker>(
+    alloc: Global,
+    history: &History,
+    order: &[CallId],
+    maker: &mut M,
+) -> Result<(), OrderFault>
+    requires { TakesBegun M.takes M.stands history.now maker.old }
+    ensures legal { OnOk result (MakesLegal M.stands history.now order.now maker.old maker.new) }
+    ensures fault { IfErr result (FailsBy M.stands history.now order.now maker.old) }
+    ensures exact { TellsFaults M.stands history.now order.now maker.old result }
+    ensures accepted { AcceptsLegal M.stands history.now order.now maker.old result }
+{
+    let events = history.events();
+    let places = arranged(alloc, events, order)?;
+    replay(alloc, events, &places, order, maker)
 }
 
 /// Whether a list of calls is a legal order of a history: made one at a time from the opening state, each with the budget of
@@ -235,7 +253,12 @@ pub fn check_order(
     ensures accepted { (last : Activation) → IsLegalOrder (program_in checked.now) budget (state_of opening.now) history.now order.now last
         → IfErr result (λ e. e ≡ Faults.NoMemory) }
 {
-    let events = history.events();
-    let places = arranged(alloc, events, order)?;
-    replay(alloc, events, &places, order, checked, opening, budget)
+    let state = opening.copy(alloc)?;
+    let mut maker = Interpreted {
+        checked,
+        state,
+        budget,
+    };
+    check_order_by(alloc, history, order, &mut maker)?;
+    Ok(maker.state)
 }

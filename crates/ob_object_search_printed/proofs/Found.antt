@@ -20,7 +20,8 @@ use Rattle.ob_object_printed.proofs.SameStates.{one_state}
 use Rattle.ob_object_record.specs.Record.{Record}
 use Rattle.ob_object_search.proofs.Fitting.{calls_fit, history_opened}
 use Rattle.ob_object_search_printed.proofs.Told.{IsSmall, budget_small, events_small, events_whole, some_processes}
-use Rattle.ob_object_search_printed.proofs.Typed.{beginning_typed, carried_typed}
+use Rattle.ob_object_search_printed.proofs.Typed.{carried_typed}
+use Rattle.ob_object_verify.proofs.Typed.{beginning_typed}
 use Rattle.ob_object_search_printed.specs.FoundRecords.{FoundIsVerified, FoundIsWritable, MayBeAsked}
 use Rattle.ob_object_search_record.specs.SearchRecords.{IsHistoryRecord}
 use Rattle.ob_object_verify.proofs.Beginnings.{beginning_placed}

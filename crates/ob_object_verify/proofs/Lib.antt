@@ -1,4 +1,5 @@
 pub mod Beginnings
+mod ByCode
 pub mod Crossing
 pub mod Fitting
 pub mod OneLine
@@ -6,4 +7,5 @@ pub mod Openings
 pub mod Records
 pub mod Simulated
 pub mod Texts
+pub mod Typed
 pub mod WithoutApplied

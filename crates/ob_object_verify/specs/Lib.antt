@@ -1,4 +1,5 @@
 pub mod Beginnings
+pub mod ByCode
 pub mod RunRecords
 pub mod Verified
 pub mod VerifyFaults

@@ -2,6 +2,7 @@
 #![tactic(auto)]
 
 pub mod beginning;
+mod coded;
 pub mod laws;
 pub mod verifying;
 

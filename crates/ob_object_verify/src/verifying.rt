@@ -2,6 +2,7 @@
 
 ghost use Rattle.std.specs.Prelude.{◌≡◌, ◌<◌, Err, OnOk, IfErr, length};
 ghost use Rattle.ob_checked.specs.CheckedModule.{program_in};
+ghost use Rattle.ob_code_scheme.specs.WellFormed.{IsWellFormed};
 ghost use Rattle.ob_object_order.specs.LegalOrder.{CallEnds};
 ghost use Rattle.ob_object_verify.specs.Beginnings.{BeginsPlaced, TrapsPlaced};
 ghost use Rattle.ob_object_verify.specs.Verified.{IsLegalRecord, IsVerified};
@@ -10,10 +11,14 @@ ghost use Rattle.ob_object_verify.specs.declared.verifying.VerifyFault.{VerifyFa
 ghost use Rattle.ob_object_verify.specs.declared.verifying.VerifyFault.TheVariants as Faults;
 
 use crate::beginning::beginning;
+use crate::coded::by_code;
 use ob_check_text::checked_text::{TextFault, checked_text};
 use ob_checked::checked::Checked;
+use ob_code_kept::laws::openings_are_states;
+use ob_code_well_formed::laws::modules_are_well_formed;
+use ob_interface::NoMemory;
 use ob_interpreter::opening::OpenFault;
-use ob_object_order::{OrderFault, check_order};
+use ob_object_order::{OrderFault, check_order, check_order_by};
 use ob_scan::scanner::LONGEST_TEXT;
 use ob_text_record_reading::{RecordFault, read_record};
 use std::alloc::Global;
@@ -95,6 +100,17 @@ impl From<OrderFault> for VerifyFault {
     }
 }
 
+impl From<NoMemory> for VerifyFault {
+    ghost use Rattle.std.specs.Prelude.{◌≡◌};
+    ghost use Rattle.ob_object_verify.specs.declared.verifying.VerifyFault.TheVariants as Faults;
+
+    ghost from_gives = { λ _ f. f ≡ Faults.NoMemory };
+
+    fn from(_: NoMemory) -> VerifyFault {
+        VerifyFault::NoMemory
+    }
+}
+
 /// Whether a text is a record of a module's object, and its order a legal order of its history: made one at a time from the values that
 /// were carried over, or else from the module's opening, each with the record's budget of turns, the calls give the record's replies.
 pub fn verify_text(alloc: Global, module: &[u8], record: &[u8]) -> Result<(), VerifyFault>
@@ -116,12 +132,14 @@ pub fn verify_text(alloc: Global, module: &[u8], record: &[u8]) -> Result<(), Ve
     // A module's text over the scanner's bound is refused, whatever it says.
     ensures too_long { LONGEST_TEXT < length «module».now → result ≡ Err too_long }
 {
+    modules_are_well_formed();
     let checked = checked_text(alloc, module)?;
     verify_record(alloc, &checked, record)
 }
 
-/// The same, of a checked module, where variables go by their positions.
+/// The same, of a checked module, where variables go by their positions. The calls are made by the module's code, where it has any.
 fn verify_record(alloc: Global, checked: &Checked, text: &[u8]) -> Result<(), VerifyFault>
+    requires { IsWellFormed (program_in checked.now) }
     ensures legal { OnOk result (IsLegalRecord BeginsPlaced CallEnds (program_in checked.now) text.now) }
     ensures fault { IfErr result (HasRecordFault BeginsPlaced TrapsPlaced CallEnds (program_in checked.now) text.now) }
     ensures lawful { IsLegalRecord BeginsPlaced CallEnds (program_in checked.now) text.now → IfErr result (λ e. e ≡ Faults.NoMemory) }
@@ -129,8 +147,13 @@ fn verify_record(alloc: Global, checked: &Checked, text: &[u8]) -> Result<(), Ve
         → TellsFault result fault }
     ensures memory { IfErr result TellsMemoryApart }
 {
+    openings_are_states();
     let read = read_record(alloc, checked, text)?;
     let begun = beginning(alloc, checked, read.carried)?;
+    if let Some(mut code) = by_code(alloc, checked, &begun, read.budget)? {
+        check_order_by(alloc, &read.history, &read.order, &mut code)?;
+        return Ok(());
+    }
     check_order(
         alloc,
         &read.history,

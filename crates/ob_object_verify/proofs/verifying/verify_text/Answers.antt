@@ -1,4 +1,5 @@
 use Rattle.std.proofs.lemmas.Result.{err_from_is_err_and, IfErr-weaker, on_ok_weaker}
+use Rattle.ob_checked.specs.CheckedModule.{program_in}
 use Rattle.ob_object_verify.proofs.Texts.{fault_in, memory_lawful, memory_only, no_run, none_by, record_in, told_of, verified_by}
 use Rattle.ob_object_verify.proofs.verifying.verify_text.Goals as goal
 
@@ -44,3 +45,6 @@ pub returns-clause-exact : goal.returns-clause-exact
 returns-clause-exact c =
     λ fault numbered f. c.verify_record.ensures.exact fault numbered
     (fault_in c.args.module.now c.args.record.now _ c.in_ok-checked.ensures.program c.in_ok-checked.ensures.alone fault f)
+
+pub verify_record-requires : goal.verify_record-requires
+verify_record-requires c = c.modules_are_well_formed.ensures c.args.module.now (program_in c.in_ok-checked.checked) c.in_ok-checked.ensures.program
