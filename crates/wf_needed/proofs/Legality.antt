@@ -1,6 +1,7 @@
 -- Legal orders without some of their open calls.
-use Rattle.std.proofs.Common.{◌≡◌, ◌∙◌, refl, sym, ap, subst, ℕ, zero, suc, ◌+◌, ◌<◌, List, [], ◌∷◌, ◌++◌, length, Option, Some, None, arith}
+use Rattle.std.proofs.Common.{◌≡◌, ◌∙◌, refl, sym, ap, subst, ℕ, zero, suc, ◌+◌, ◌<◌, List, [], ◌∷◌, ◌++◌, length, Option, Some, None, Vec, Global, arith}
 use Rattle.std.proofs.lemmas.List.{length-append, map-append}
+use Rattle.std.proofs.lemmas.List.Elements.{All-contains}
 use Rattle.std.proofs.lemmas.Option.{MatchOption-at_none, same_Some}
 use Rattle.std.specs.Prelude.{slice_get, Contains, IfSome, MatchOption}
 use Rattle.ob_interface.specs.Call.{ObjectCall, Reply}
@@ -11,7 +12,7 @@ use Rattle.wf_history.specs.declared.seen_event.SeenReply.{SeenReply}
 use Rattle.wf_history.specs.History.{Event, End, Before, IsHistory}
 use Rattle.wf_history.specs.Legal.{HasBegun, IsLegal, NoRepeats, OneAtATime, RepliesAgree, none, more}
 use Rattle.wf_history.specs.View.{seen_call, seen_reply}
-use Rattle.wf_needed.specs.Listed.{AreListed, EachIsNeeded, IsOpenCall, Replays, id_of, ids_of, over, next}
+use Rattle.wf_needed.specs.Listed.{AreListed, EachIsNeeded, IsOpenCall, NoneIsOpen, Replays, id_of, ids_of, over, next}
 use Rattle.wf_needed.specs.Needed.{IsOpen, LeavesOut, NoneIsNeedless, nothing, one}
 use Rattle.wf_needed.specs.declared.listed.Listed.{Listed}
 
@@ -205,3 +206,15 @@ module _ (history : List (Event ObjectCall Reply)) where
             let replays = replays_of (s.0 ++ s.2) l.replies opening last (listed_less history s.0 s.2 c there) l.made l.agree in
             let size = ap length s.3 ∙ length-append s.0 (c ∷ s.2) in
             each s.0 s.2 c last s.3 (omega (arith, size)) open_call replays
+
+-- of calls that have all ended none can be left out
+pub ended_needed : {State : Type 0} (Effect : ObjectCall → State → State → Reply → Type 0) (opening : State) (history : List (Event ObjectCall Reply)) (order : List CallId) → NoneIsOpen history order →
+    NoneIsNeedless Effect opening history order
+ended_needed Effect opening history order ended first rest id last parts opens legal =
+    let there = contains_at order (length first) id (subst (λ (ids : List CallId). slice_get ids (length first) ≡ Some id) (sym parts) (place_here first rest id)) in
+    All-contains (λ (x : CallId). ¬ IsOpen history x) order id ended there opens
+
+-- the calls that are listed are those of the order
+pub listed_ids : (order : List CallId) (o : Option (Vec (Listed) Global)) (all : Vec (Listed) Global) → o ≡ Some all → IfSome o (λ v. ids_of v.items ≡ order) → ids_of all.items ≡ order
+listed_ids order None all e h = absurd (cc)
+listed_ids order (Some v) all e h = ap (λ (x : Vec (Listed) Global). ids_of x.items) (sym (same_Some v all e)) ∙ h

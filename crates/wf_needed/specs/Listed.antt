@@ -1,5 +1,5 @@
 -- The calls of an order, with what the history says of each.
-use Rattle.std.specs.Prelude.{◌≡◌, ◌<◌, ◌≤◌, ℕ, List, [], ◌∷◌, ◌++◌, Some, None, IfSome, MatchOption, Contains, drop, length, map, slice_get, take}
+use Rattle.std.specs.Prelude.{◌≡◌, ◌<◌, ◌≤◌, ℕ, List, [], ◌∷◌, ◌++◌, Some, None, IfSome, MatchOption, All, Contains, drop, length, map, slice_get, take}
 use Rattle.ob_interface.specs.Call.{ObjectCall, Reply}
 use Rattle.wf_history.specs.declared.event.CallId.{CallId}
 use Rattle.wf_history.specs.History.{Event, End}
@@ -15,6 +15,10 @@ pub record IsListed (history : List (Event ObjectCall Reply)) (c : Listed) : Typ
 
 abbrev pub AreListed : List (Event ObjectCall Reply) → List Listed → Type 0
 AreListed history all = (k : ℕ) (c : Listed) → slice_get all k ≡ Some c → IsListed history c
+
+-- all of the calls have ended
+abbrev pub NoneIsOpen : List (Event ObjectCall Reply) → List CallId → Type 0
+NoneIsOpen history order = All (λ id. ¬ IsOpen history id) order
 
 abbrev pub id_of : Listed → CallId
 id_of c = c.id

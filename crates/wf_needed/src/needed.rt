@@ -121,7 +121,10 @@ pub fn needed_order<O: Object>(
     // Nothing but open calls is left out.
     ensures left_out { IfOk result (λ needed. LeavesOut (IsOpen history.now) order.now needed.items) }
 {
-    let all = listed_all(alloc, history.events(), order)?;
+    let Some(all) = listed_all(alloc, history.events(), order)? else {
+        let whole = order.to_vec(alloc)?;
+        return Ok(whole);
+    };
     let kept = thinned(alloc, object, all)?;
     names_of(alloc, kept.as_slice())
 }

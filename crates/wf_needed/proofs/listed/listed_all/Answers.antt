@@ -10,6 +10,9 @@ use Rattle.wf_needed.proofs.listed.listed_all.Goals as goal
 abbrev default : CallId
 default = record { process = 0; number = 0 }
 
+pub returns-then-have_ended-clause-listed : goal.returns-then-have_ended-clause-listed
+returns-then-have_ended-clause-listed c = c.have_ended.ensures (map event_of c.args.events.now) c.in-Some.processes c.in_ok-rows.ensures c.if-have_ended.true
+
 pub unreachable-requires : goal.unreachable-requires
 unreachable-requires c =
     let i = c.loop-id.id-index in
