@@ -156,6 +156,7 @@ fn outcomes_of(
         scripts: _scripts,
         seen: _seen,
         memory: _memory,
+        telling: _telling,
     } = explored;
     found
 }

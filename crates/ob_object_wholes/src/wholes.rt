@@ -79,6 +79,7 @@ fn wholes_of(
         scripts: _scripts,
         seen: _seen,
         memory: _memory,
+        telling: _telling,
     } = explored;
     found
 }

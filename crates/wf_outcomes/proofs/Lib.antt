@@ -8,3 +8,4 @@ pub mod Leading
 pub mod Making
 pub mod Replying
 pub mod Stepping
+pub mod Meeting

@@ -15,12 +15,12 @@ use Rattle.wf_outcomes.specs.Made.{AreMade, IsAfter, IsMade, IsNothing, IsRecall
 use Rattle.wf_outcomes.specs.Outcomes.{Answers}
 
 -- what is read behind a write
-set_same : {X : Type 0} (xs : List X) (p : ℕ) (x y : X) → slice_get (set xs p x) p ≡ Some y → y ≡ x
+pub set_same : {X : Type 0} (xs : List X) (p : ℕ) (x y : X) → slice_get (set xs p x) p ≡ Some y → y ≡ x
 set_same [] p x y at = absurd (cc)
 set_same (z ∷ xs) zero x y at = sym (same_Some x y at)
 set_same (z ∷ xs) (suc p) x y at = set_same xs p x y at
 
-set_other : {X : Type 0} (xs : List X) (p k : ℕ) (x : X) → k ≢ p → slice_get (set xs p x) k ≡ slice_get xs k
+pub set_other : {X : Type 0} (xs : List X) (p k : ℕ) (x : X) → k ≢ p → slice_get (set xs p x) k ≡ slice_get xs k
 set_other [] p k x other = refl
 set_other (z ∷ xs) zero zero x other = absurd (other refl)
 set_other (z ∷ xs) zero (suc k) x other = refl

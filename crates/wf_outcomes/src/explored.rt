@@ -1,7 +1,9 @@
 //! What an exploration has found.
 
 ghost use Rattle.wf_outcomes.specs.Explored.{all_kept, calls_in, AreWorded, IsExplored};
+ghost use Rattle.std.specs.Prelude.{length};
 ghost use Rattle.wf_outcomes.specs.Made.{AreMade};
+ghost use Rattle.wf_outcomes.specs.Telling.{AreTelling};
 
 use crate::made::Memory;
 use crate::seen::Seen;
@@ -16,8 +18,11 @@ pub struct Explored<'a, O: Object> {
     pub seen: Seen<O::State>,
     /// Calls that were made, as far as they are remembered.
     pub memory: Memory<'a, O::State>,
+    /// Places at which the replies of all calls are to be seen.
+    pub telling: Vec<usize>,
     ghost worded: { AreWorded O.meaning O.words_of seen },
     ghost remembered: { ∥ AreMade O.meaning O.words_of (O.effect object.now) memory.items ∥₁ },
+    ghost told: { ∥ AreTelling seen.keys telling.items (length seen.keys) ∥₁ },
     ghost explored: { ∥ IsExplored (O.effect object.now) (calls_in scripts.now) (O.opening object.now) (all_kept O.meaning seen) ∥₁ },
 }
 

@@ -10,6 +10,7 @@ use crate::explored::Explored;
 use crate::made::{Memory, nothing_made};
 use crate::seen::{Counts, Found, Keys, Seen, Stated};
 use crate::step::{Task, step};
+use crate::telling::telling_places;
 use ob_interface::NoMemory;
 use std::alloc::Global;
 use std::hash::RandomState;
@@ -177,10 +178,12 @@ pub fn explore<'a, O: Object>(
         }
         place += 1;
     }
+    let telling = telling_places(alloc, &seen, Keys::new(keys))?;
     Ok(Explored {
         object,
         scripts,
         seen,
         memory,
+        telling,
     })
 }

@@ -19,6 +19,7 @@ pub mod paths;
 pub mod replies;
 pub mod seen;
 mod step;
+mod telling;
 pub mod whole;
 
 pub use bad::{Bad, Question};

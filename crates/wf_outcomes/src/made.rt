@@ -75,7 +75,7 @@ fn is_same_call(call: &KeptCall, other: &KeptCall) -> bool
 }
 
 /// Whether two states have the same words.
-fn has_same_words<S>(one: &Stated<S>, other: &Stated<S>) -> bool
+pub(crate) fn has_same_words<S>(one: &Stated<S>, other: &Stated<S>) -> bool
     ensures { IsTrue result → one.now.words.items ≡ other.now.words.items }
 {
     one.words.as_slice() == other.words.as_slice()

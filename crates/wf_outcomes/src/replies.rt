@@ -108,7 +108,9 @@ impl<'a, O: Object> Explored<'a, O> {
             scripts: self.scripts,
         };
         let mut replies = Vec::new(alloc);
-        for place in 0..self.seen.len() {
+        let places = self.telling.as_slice();
+        for row in 0..places.len() {
+            let place = places[row];
             if let Some(reply) = reply_at(&task, &self.memory, &self.seen[place], id)? {
                 add_reply(&mut replies, reply, place)?;
             }

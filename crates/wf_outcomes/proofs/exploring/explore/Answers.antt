@@ -35,4 +35,4 @@ invariant_of-result g c =
     let size = length-map seen.keys (kept_in g.O.Object.meaning) in
     let count = c.len.ensures.len in
     let end = c.loop-place-test.false in
-    record { worded = c.loop-place.invariant.worded; remembered = ∣ c.loop-place.invariant.memory ∣₁; explored = ∣ explored effect (calls_in c.args.scripts.now) (g.O.Object.opening c.args.object.now) (all_kept g.O.Object.meaning seen) c.loop-place.place 0 c.loop-place.invariant.exploring (omega (arith, size, count, end)) ∣₁ }
+    record { worded = c.loop-place.invariant.worded; remembered = ∣ c.loop-place.invariant.memory ∣₁; told = ∣ c.in_ok-telling.ensures ∣₁; explored = ∣ explored effect (calls_in c.args.scripts.now) (g.O.Object.opening c.args.object.now) (all_kept g.O.Object.meaning seen) c.loop-place.place 0 c.loop-place.invariant.exploring (omega (arith, size, count, end)) ∣₁ }
