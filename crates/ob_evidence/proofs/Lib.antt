@@ -1,0 +1,4 @@
+pub mod Begun
+pub mod Places
+pub mod Shown
+pub mod Tried
