@@ -6,4 +6,4 @@ use Rattle.ob_evidence.proofs.constructs.open_around.Goals as goal
 
 pub returns-then-is_open_name : goal.returns-then-is_open_name
 returns-then-is_open_name c =
-    open_alone _ c.open_construct.result (c.open_construct.ensures ∙ ap (λ (ts : List Token). open_construct 0 ts) c.rest_of.ensures)
+    open_alone _ c.open_construct.result (c.open_construct.ensures ∙ ap (λ (ts : List Token). open_construct 0 ts) c.rest_of-before.ensures)
