@@ -1,7 +1,7 @@
 //! Facts that are noted of a place.
 
-ghost use Rattle.std.specs.Prelude.{◌≡◌, IfOk};
-ghost use Rattle.ob_evidence.specs.Facts.{facts_in};
+ghost use Rattle.std.specs.Prelude.{◌≡◌, IfOk, OnOk};
+ghost use Rattle.ob_evidence.specs.Facts.{facts_in, with_fact};
 
 use ob_messages::table::Fact;
 use std::alloc::{AllocError, Global};
@@ -10,18 +10,16 @@ use std::alloc::{AllocError, Global};
 pub fn facts_of(alloc: Global, pairs: &[(bool, Fact)]) -> Result<Vec<Fact>, AllocError>
     ensures { IfOk result (λ facts. facts.items ≡ facts_in pairs.now) }
 {
-    pairs
-        .iter()
-        .copied()
-        .filter(|pair| pair.0)
-        .map(|pair| pair.1)
-        .collect(alloc)
+    let mut facts = Vec::new(alloc);
+    for pair in pairs {
+        note(&mut facts, pair.0, pair.1)?;
+    }
+    Ok(facts)
 }
 
 /// Notes a fact, where it is one.
-pub fn note(facts: &mut Vec<Fact>, is: bool, fact: Fact) -> Result<(), AllocError> {
-    if is {
-        facts.push(fact)?;
-    }
-    Ok(())
+pub fn note(facts: &mut Vec<Fact>, is: bool, fact: Fact) -> Result<(), AllocError>
+    ensures { OnOk result (facts.new.items ≡ with_fact facts.old.items is fact) }
+{
+    if is { facts.push(fact) } else { Ok(()) }
 }
