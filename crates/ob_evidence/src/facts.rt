@@ -21,5 +21,9 @@ pub fn facts_of(alloc: Global, pairs: &[(bool, Fact)]) -> Result<Vec<Fact>, Allo
 pub fn note(facts: &mut Vec<Fact>, is: bool, fact: Fact) -> Result<(), AllocError>
     ensures { OnOk result (facts.new.items ≡ with_fact facts.old.items is fact) }
 {
-    if is { facts.push(fact) } else { Ok(()) }
+    if !is {
+        return Ok(());
+    }
+    facts.push(fact)?;
+    Ok(())
 }
