@@ -6,7 +6,7 @@ told-requires c = record {
   shown = c.in_ok-found.found.shown;
   are_shown = c.in_ok-found.ensures;
   expected = c.requires;
-  keyword = rw (c.kind_or_name.ensures, c.opening_of.ensures) refl;
-  line = rw (c.line_of.ensures, c.opening_of.ensures) refl;
+  keyword = rw (c.kind_or_name.ensures, c.opening_of-opening.ensures) refl;
+  line = rw (c.line_of.ensures, c.opening_of-opening.ensures) refl;
   other_line = rw (c.line_of-2.ensures, c.inner_of.ensures) refl;
 }
