@@ -1,4 +1,3 @@
 pub mod Known
 pub mod Visible
 pub mod Lookup
-pub mod Needs

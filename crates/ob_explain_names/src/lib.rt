@@ -4,5 +4,4 @@
 pub mod declared;
 pub mod known;
 pub mod lookup;
-pub mod need;
 pub mod visible;

@@ -1,4 +1,3 @@
 pub mod Edits
 pub mod Distance
 pub mod Nearest
-pub mod Keywords

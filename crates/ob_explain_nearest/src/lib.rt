@@ -1,7 +1,6 @@
-//! The visible name that is nearest to an unknown one, and the keywords that are near to a word.
+//! The visible name that is nearest to an unknown one.
 #![tactic(auto)]
 
 pub mod distance;
 pub mod edits;
-pub mod keywords;
 pub mod nearest;

@@ -5,10 +5,10 @@ ghost use Rattle.ob_explain_operands.specs.Declarations.{begins_part, behind_tok
 ghost use Rattle.ob_explain_operands.specs.Declarations.{is_there, token_bytes, type_token};
 
 use crate::kinds::{is_colon, is_end, is_record};
-use ob_explain_hints::slips::is_same;
 use ob_explain_names::known::Known;
 use ob_explain_names::lookup::name_at;
 use ob_explain_tokens::around::tokens_behind;
+use ob_messages::words::is_same;
 use ob_scan::{Kind, Token};
 use std::alloc::{AllocError, Global};
 

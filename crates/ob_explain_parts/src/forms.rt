@@ -9,7 +9,6 @@ ghost use Rattle.ob_explain_parts.specs.Forms.{variable_at};
 
 use crate::parts::{Selection, is_value, operand_start, selected};
 use crate::types::{Standing, declared_type, meant};
-use ob_explain_hints::slips::is_same;
 use ob_explain_names::known::{Known, Sort};
 use ob_explain_names::lookup::name_at;
 use ob_explain_operands::declarations::{declared_as, first_of, is_declared};
@@ -19,6 +18,7 @@ use ob_explain_operands::kinds::{
 };
 use ob_explain_operands::numerals::{Numeral, numeral_behind};
 use ob_explain_tokens::around::tokens_behind;
+use ob_messages::words::is_same;
 use ob_scan::Token;
 use std::alloc::{AllocError, Global};
 

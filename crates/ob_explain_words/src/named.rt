@@ -3,8 +3,8 @@
 ghost use Rattle.std.specs.Prelude.{◌≡◌, find, reverse};
 ghost use Rattle.ob_explain_words.specs.Named.{is_named, named_words, own_words};
 
-use ob_explain_hints::slips::is_same;
 use ob_explain_names::lookup::name_at;
+use ob_messages::words::is_same;
 
 /// A type that is declared at a place, and its words, where they are told.
 #[derive(Clone, Copy)]

@@ -2,7 +2,7 @@
 use Rattle.std.proofs.Common.{◌≡◌, ◌⊎◌, inl, inr, ℕ, List, Option, Result, IfOk, IfSome, arith, subst, sym}
 use Rattle.std.proofs.lemmas.Option.{IfSome_then}
 use Rattle.std.proofs.lemmas.Result.{IfOk-weaker}
-use Rattle.ob_explain.specs.declared.remark.Remark as Declared
+use Rattle.ob_messages.specs.declared.remark.Remark as Declared
 use Rattle.ob_explained.specs.Marks.{IsMark, IsToldMark, MarksBehindProcess, MarksWord}
 use Rattle.ob_text_scripts.specs.declared.script.ScriptFault.{ScriptFault}
 use Rattle.ob_text_scripts.specs.declared.script.ScriptFault.TheVariants as Script

@@ -1,8 +1,9 @@
 -- What is shown of a fault that has a place in a text.
 use Rattle.std.specs.Prelude.{◌≡◌, ℕ, List, Option, None, Some, option_map}
 use Rattle.ob_scan.specs.declared.fault.ScanFault.TheVariants as Scan
-use Rattle.ob_explain.specs.Explanations.{explanation}
-use Rattle.ob_explain.specs.Remarks.{Remark, IsCheckRemark, IsParseRemark, scan_remark}
+use Rattle.ob_messages.specs.Explanations.{explanation}
+use Rattle.ob_diagnosis.specs.Remarks.{IsCheckRemark, IsParseRemark, IsScanRemark}
+use Rattle.ob_messages.specs.Remarks.{Remark}
 use Rattle.ob_explained.specs.NumberFaults.{budget_explanation, long_code_explanation, long_text_explanation, processes_explanation}
 use Rattle.ob_explained.specs.CallRemarks.{IsScriptRemark}
 use Rattle.ob_check_text.specs.declared.checked_text.TextFault.{TextFault}
@@ -14,10 +15,9 @@ use Rattle.ob_object_sequence.specs.declared.sequential.SeqTextFault.TheVariants
 use Rattle.ob_text_scripts.specs.declared.script.ScriptFault.{ScriptFault}
 use Rattle.ob_trap_told.specs.Openings.{IsOpenExplanation}
 
--- the remark on a fault of a module's text; none where it is too long, which is a matter of no place, or memory wants
+-- the remark on a fault of a module's text; none for want of memory
 abbrev pub IsTextRemark : List ℕ → TextFault → Option Remark → Type 0
-IsTextRemark text (Texts.Scan Scan.TooLong) remark = remark ≡ None
-IsTextRemark text (Texts.Scan e) remark = remark ≡ scan_remark text e
+IsTextRemark text (Texts.Scan e) remark = IsScanRemark text e remark
 IsTextRemark text (Texts.Parse e) remark = IsParseRemark text e remark
 IsTextRemark text (Texts.Check e) remark = IsCheckRemark text e remark
 IsTextRemark text Texts.NoMemory remark = remark ≡ None

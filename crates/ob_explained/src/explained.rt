@@ -1,8 +1,8 @@
 //! What is shown of a fault that has a place in a text.
 
 ghost use Rattle.std.specs.Prelude.{◌≡◌, IfOk, option_map, string_bytes};
-ghost use Rattle.ob_explain.specs.Explanations.{explanation};
-ghost use Rattle.ob_explain.specs.Remarks.{remark_of};
+ghost use Rattle.ob_messages.specs.Explanations.{explanation};
+ghost use Rattle.ob_messages.specs.Remarks.{remark_of};
 ghost use Rattle.ob_explained.specs.Explained.{IsCallsExplanation, IsModuleExplanation, IsObjectExplanation, IsTextExplanation, IsTextRemark};
 
 use crate::call_remark::calls_remark;
@@ -10,8 +10,9 @@ use crate::number_fault::{
     budget_explanation, long_code_explanation, long_text_explanation, processes_explanation,
 };
 use ob_check_text::TextFault;
-use ob_explain::explanation::explanation;
-use ob_explain::remark::{Remark, check_remark, parse_remark, scan_remark};
+use ob_diagnosis::remark::{check_remark, parse_remark, scan_remark};
+use ob_messages::explanation::explanation;
+use ob_messages::remark::Remark;
 use ob_object_compile::CompileFault;
 use ob_object_sequence::SeqTextFault;
 use ob_scan::ScanFault;
@@ -101,12 +102,11 @@ fn text_explanation(
     }
 }
 
-/// The remark on a fault of a module's text; `None` where the text is too long, and for want of memory.
+/// The remark on a fault of a module's text; `None` for want of memory.
 fn text_remark(alloc: Global, text: &[u8], fault: TextFault) -> Result<Option<Remark>, AllocError>
     ensures { IfOk result (λ remark. IsTextRemark text.now fault (option_map remark_of remark)) }
 {
     match fault {
-        TextFault::Scan(ScanFault::TooLong) => Ok(None),
         TextFault::Scan(fault) => scan_remark(alloc, text, fault),
         TextFault::Parse(fault) => parse_remark(alloc, text, fault),
         TextFault::Check(fault) => check_remark(alloc, text, fault),

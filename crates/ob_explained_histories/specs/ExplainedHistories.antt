@@ -1,6 +1,6 @@
 -- What is shown of a fault of a module and a history: its place. Sentences are not spoken of here.
 use Rattle.std.specs.Prelude.{◌≡◌, ◌≤◌, ◌<◌, ◌-◌, ℕ, List, ◌∷◌, Option, None, Some, MatchOption, codes, slice_get}
-use Rattle.ob_explain.specs.Remarks.{Remark}
+use Rattle.ob_messages.specs.Remarks.{Remark}
 use Rattle.ob_explained.specs.Explained.{IsTextExplanation}
 use Rattle.ob_explained.specs.Marks.{MarksWord}
 use Rattle.ob_explained_runs.specs.Sources.{Source, shown_in}

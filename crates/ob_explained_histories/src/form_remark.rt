@@ -1,11 +1,11 @@
 //! What is wrong in a line of a history, in a sentence.
 
 ghost use Rattle.std.specs.Prelude.{IfOk, option_map};
-ghost use Rattle.ob_explain.specs.Remarks.{remark_of};
+ghost use Rattle.ob_messages.specs.Remarks.{remark_of};
 ghost use Rattle.ob_explained_histories.specs.ExplainedHistories.{Marks};
 
-use ob_explain::remark::Remark;
 use ob_explained::script_place::{first_place, script_line};
+use ob_messages::remark::Remark;
 use std::alloc::{AllocError, Global};
 
 /// The remark on the line of a number, from 1, which is missing or can't stand there: at its first word.

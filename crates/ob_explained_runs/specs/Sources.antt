@@ -1,7 +1,7 @@
 -- Texts with the names by which their files are shown.
 use Rattle.std.specs.Prelude.{ℕ, List, Option, option_map}
-use Rattle.ob_explain.specs.Explanations.{explanation}
-use Rattle.ob_explain.specs.Remarks.{Remark}
+use Rattle.ob_messages.specs.Explanations.{explanation}
+use Rattle.ob_messages.specs.Remarks.{Remark}
 use Rattle.ob_explained_runs.specs.declared.source.Source as Rust
 
 pub record Source : Type 0 where

@@ -1,17 +1,17 @@
 //! What is wrong in the scripts or in the schedule of a run, in a sentence.
 
 ghost use Rattle.std.specs.Prelude.{◌≡◌, IfOk, IfSome, option_map, string_bytes};
-ghost use Rattle.ob_explain.specs.Remarks.{at, remark_of};
+ghost use Rattle.ob_messages.specs.Remarks.{at, remark_of};
 ghost use Rattle.ob_explained.specs.Marks.{IsToldMark, MarksWord};
 ghost use Rattle.ob_explained.specs.ScriptPlaces.{first_place, in_line};
 ghost use Rattle.ob_explained_runs.specs.ItemMarks.{IsItemMark, MarksItem};
 ghost use Rattle.ob_explained_runs.specs.RunRemarks.{IsAtItem, IsRunScriptRemark, IsScheduleRemark, long_item_sentence, processes_sentence};
 
 use crate::item_place::{item_at, item_place};
-use ob_explain::remark::Remark;
 use ob_explain_forms::items::item_sentence;
 use ob_explained::call_remark::calls_remark;
 use ob_explained::script_place::{first_place, script_line};
+use ob_messages::remark::Remark;
 use ob_schedule::ScheduleFault;
 use ob_text_scripts::ScriptFault;
 use ob_text_words::numbers::push_number;

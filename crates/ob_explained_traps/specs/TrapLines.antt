@@ -1,6 +1,6 @@
 -- The lines that tell of the traps of calls.
 use Rattle.std.specs.Prelude.{ℕ, suc, List, [], ◌∷◌, ◌++◌, Option, Some, None, codes, decimal, slice_index, take}
-use Rattle.ob_explain.specs.Explanations.{explanation}
+use Rattle.ob_messages.specs.Explanations.{explanation}
 use Rattle.ob_explained_runs.specs.Sources.{Source, source_of}
 use Rattle.ob_grammar.specs.Tree
 use Rattle.ob_grammar.specs.View.{module_of}

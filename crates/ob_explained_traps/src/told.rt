@@ -5,10 +5,10 @@ ghost use Rattle.ob_explained_traps.specs.TrapLines.{call_text, heading, line_te
 ghost use Rattle.ob_trap_places.specs.Places.{place_of};
 ghost use Rattle.ob_trap_values.specs.Reaching.{site_of};
 
-use ob_explain::explanation::explanation;
-use ob_explain::remark::Remark;
 use ob_explained_runs::Source;
 use ob_grammar::tree::ModuleTree;
+use ob_messages::explanation::explanation;
+use ob_messages::remark::Remark;
 use ob_text_words::numbers::push_number;
 use ob_trap_lookup::places::place_of;
 use ob_trap_told::cause::{Runner, cause_sentence};

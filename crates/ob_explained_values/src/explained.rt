@@ -1,18 +1,18 @@
 //! What is shown of a fault of values that are to be carried over.
 
 ghost use Rattle.std.specs.Prelude.{IfOk, IfSome, option_map};
-ghost use Rattle.ob_explain.specs.Remarks.{remark_of};
+ghost use Rattle.ob_messages.specs.Remarks.{remark_of};
 ghost use Rattle.ob_explained.specs.Marks.{MarksWord};
 ghost use Rattle.ob_explained_values.specs.ExplainedValues.{ExplainsCarry, ExplainsValues};
 ghost use Rattle.ob_explained_values.specs.ValueMarks.{IsAtLine, IsAtValue, IsCarryRemark, IsValuesRemark};
 
 use crate::value_line::value_line;
 use ob_carry::carrying::CarryFault;
-use ob_explain::remark::Remark;
 use ob_explain_forms::records::title_sentence;
 use ob_explained::script_place::{first_place, script_line, word_place};
 use ob_explained_runs::Source;
 use ob_explained_runs::source::shown;
+use ob_messages::remark::Remark;
 use ob_text_values_reading::ValuesFault;
 use ob_text_values_reading::comments::said_number;
 use std::alloc::{AllocError, Global};

@@ -1,6 +1,6 @@
 -- What is told of an opening that traps.
 use Rattle.std.specs.Prelude.{◌≡◌, ℕ, List, ◌++◌, Option, None, Some, codes, decimal, option_map}
-use Rattle.ob_explain.specs.Explanations.{explanation}
+use Rattle.ob_messages.specs.Explanations.{explanation}
 use Rattle.ob_grammar.specs.Texts.{IsTextOf}
 use Rattle.ob_grammar.specs.Tree.{Module}
 use Rattle.ob_interpreter.specs.declared.opening.OpenFault.{OpenFault}

@@ -1,7 +1,7 @@
 //! Faults as they are shown to people.
 
-use ob_explain::explanation::explanation;
-use ob_explain::remark::{check_remark, parse_remark, scan_remark};
+use ob_diagnosis::remark::{check_remark, parse_remark, scan_remark};
+use ob_messages::explanation::explanation;
 use ob_parser::parser::ParseFault;
 use ob_scan::ScanFault;
 use ob_scopes::fault::broken;

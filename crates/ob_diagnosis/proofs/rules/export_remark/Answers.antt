@@ -1,0 +1,5 @@
+use Rattle.std.proofs.Common.{refl}
+use Rattle.ob_diagnosis.proofs.rules.export_remark.Goals as goal
+
+pub told-requires : goal.told-requires
+told-requires c = rw (c.of_facts.ensures, c.deref.ensures.value, c.in_ok-facts.ensures, c.is_kind.ensures, c.open_construct-outside.ensures, c.rest_of.ensures) refl

@@ -1,0 +1,11 @@
+use Rattle.std.proofs.Common.{refl}
+use Rattle.ob_diagnosis.proofs.rules.unknown_remark.Goals as goal
+
+pub told-requires : goal.told-requires
+told-requires c = record {
+  further_down = c.declares.result;
+  number_type = c.is_number_type.result;
+  small_keyword = c.is_small_keyword.result;
+  name = rw (c.bytes_of.ensures, c.in_ok-near.ensures) refl;
+  noted = rw (c.of_facts.ensures, c.deref.ensures.value, c.in_ok-facts.ensures, c.is_near.ensures, c.in_ok-near.ensures) refl;
+}

@@ -1,0 +1,12 @@
+use Rattle.std.proofs.Common.{refl}
+use Rattle.ob_diagnosis.proofs.syntax.expected_remark.Goals as goal
+
+pub told-requires : goal.told-requires
+told-requires c = record {
+  shown = c.in_ok-found.found.shown;
+  are_shown = c.in_ok-found.ensures;
+  expected = c.requires;
+  keyword = rw (c.kind_or_name.ensures, c.opening_of-opening.ensures) refl;
+  line = rw (c.line_of.ensures, c.opening_of-opening.ensures) refl;
+  other_line = rw (c.line_of-2.ensures, c.inner_of.ensures) refl;
+}

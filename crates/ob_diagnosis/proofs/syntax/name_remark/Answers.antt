@@ -1,0 +1,12 @@
+use Rattle.std.proofs.Common.{refl}
+use Rattle.ob_diagnosis.proofs.syntax.name_remark.Goals as goal
+
+pub told-requires : goal.told-requires
+told-requires c = record {
+  opening = c.open_around-opening.result;
+  name = rw (c.word_of.ensures, c.end_name-name.ensures) refl;
+  is_open = c.open_around-opening.ensures;
+  keyword = c.kind_or_name.ensures;
+  line = c.line_of.ensures;
+  noted = rw (c.of_facts.ensures, c.deref.ensures.value, c.in_ok-facts.ensures, c.is_token.ensures, c.is_token-2.ensures, c.is_kind.ensures, c.end_name-name.ensures) refl;
+}

@@ -1,0 +1,102 @@
+//! Names of procedures and of what is declared, by the tokens of a text alone.
+
+use ob_evidence::site::{Site, is_kind};
+use ob_explain_tokens::actuals::ends_call;
+use ob_explain_tokens::open::open_construct;
+use ob_scan::{Kind, Token};
+
+/// Whether a procedure of this name is declared among these tokens.
+pub(crate) fn declares(site: &Site<'_, '_>, tokens: &[Token], word: &[u8]) -> bool {
+    let mut is_behind = false;
+    for token in tokens {
+        if is_behind && site.word_of(Some(*token)) == word {
+            return true;
+        }
+        is_behind = token.kind == Kind::Procedure;
+    }
+    false
+}
+
+/// Whether a `:` or a `,` stands behind this name.
+pub(crate) fn lists(site: &Site<'_, '_>, word: &[u8]) -> bool {
+    let mut is_named = false;
+    for token in site.tokens {
+        if is_named && matches!(token.kind, Kind::Colon | Kind::Comma) {
+            return true;
+        }
+        is_named = site.word_of(Some(*token)) == word;
+    }
+    false
+}
+
+/// Whether a `:=` stands behind the place before the end of the statement.
+pub(crate) fn is_assigned(site: &Site<'_, '_>) -> bool {
+    let place = site.place;
+    let end = site.tokens.iter().copied().find(|token| place < token.start
+        && (token.kind == Kind::Assign || ends_call(token.kind)));
+    is_kind(end, Kind::Assign)
+}
+
+/// The name of the call that may end behind the place, where tokens of these kinds could stand.
+pub(crate) fn called(site: &Site<'_, '_>, could: &[Kind]) -> Option<Token> {
+    let ends_statement = could.contains(&Kind::End) || could.contains(&Kind::Until);
+    let ends = (could.contains(&Kind::Assign) && could.contains(&Kind::LeftParen))
+        || (is_kind(site.last(), Kind::RightParen)
+            && ends_statement
+            && !could.contains(&Kind::And));
+    let leader = site
+        .before
+        .iter()
+        .copied()
+        .find(|token| leads_to_statement(token.kind));
+    match leader {
+        Some(leader) if ends => next_behind(site.tokens, leader.start),
+        _ => None,
+    }
+}
+
+/// The first token behind a place.
+fn next_behind(tokens: &[Token], place: usize) -> Option<Token> {
+    tokens.iter().copied().find(|token| place < token.start)
+}
+
+fn leads_to_statement(kind: Kind) -> bool {
+    matches!(
+        kind,
+        Kind::Semicolon | Kind::Begin | Kind::Then | Kind::Else | Kind::Do | Kind::Repeat
+    )
+}
+
+/// Whether the token there is to end a REPEAT, where tokens of these kinds could stand: a WHILE without a DO in place of UNTIL, or the
+/// end of the statements behind the condition of one.
+pub(crate) fn ends_repeat(site: &Site<'_, '_>, could: &[Kind]) -> bool {
+    let Some(here) = site.here() else {
+        return false;
+    };
+    (here.kind == Kind::While && could.contains(&Kind::Until) && !leads_on(site))
+        || (could.contains(&Kind::Do) && ends_call(here.kind) && is_in_repeat(site))
+}
+
+/// Whether a DO stands behind the place before the end of the statement.
+fn leads_on(site: &Site<'_, '_>) -> bool {
+    let place = site.place;
+    let end = site.tokens.iter().copied().find(|token| place < token.start
+        && (token.kind == Kind::Do || ends_call(token.kind)));
+    is_kind(end, Kind::Do)
+}
+
+/// Whether the construct that is open at the place stands in a REPEAT.
+fn is_in_repeat(site: &Site<'_, '_>) -> bool {
+    let Some(opening) = open_construct(site.before) else {
+        return false;
+    };
+    let start = opening.start;
+    let outside = site.before.iter().position(|token| token.start < start);
+    match outside {
+        Some(count) => {
+            let (_, before) = site.before.split_at(count.min(site.before.len()));
+            is_kind(open_construct(before), Kind::Repeat)
+        }
+        None => false,
+    }
+}

@@ -1,0 +1,76 @@
+//! What is said of faults of the grammar: a token that can't stand there, and a name behind END that is another one.
+
+ghost use Rattle.std.specs.Prelude.{IfOk};
+ghost use Rattle.ob_diagnosis.specs.Remarks.{Tells};
+ghost use Rattle.ob_evidence.specs.Expected.{AreExpected};
+ghost use Rattle.ob_evidence.specs.Sites.{scene_of};
+ghost use Rattle.ob_messages.specs.Remarks.{remark_of};
+
+use crate::told::{Seen, nothing, of_facts, told};
+use crate::unexpected::seen_there;
+use ob_evidence::constructs::{inner_of, open_around, opening_of};
+use ob_evidence::expected::expected_kinds;
+use ob_evidence::facts::facts_of;
+use ob_evidence::names::end_name;
+use ob_evidence::site::{Site, is_kind, is_token, kind_or_name, line_of};
+use ob_messages::remark::Remark;
+use ob_messages::said::Evidence;
+use ob_messages::table::{Fact, Number};
+use ob_scan::Kind;
+use std::alloc::{AllocError, Global};
+
+/// The remark on a token that can't stand at a place, or on the end there.
+pub(crate) fn unexpected_remark(alloc: Global, site: &Site<'_, '_>) -> Result<Remark, AllocError>
+    ensures { IfOk result (λ remark. Tells (scene_of site.now) Number.P1 (remark_of remark)) }
+{
+    let could = expected_kinds(alloc, site.text, site.place)?;
+    expected_remark(alloc, site, &could)
+}
+
+/// The same where tokens of these kinds could stand.
+fn expected_remark(alloc: Global, site: &Site<'_, '_>, could: &[Kind]) -> Result<Remark, AllocError>
+    requires { AreExpected site.now.text.now site.now.place could.now }
+    ensures { IfOk result (λ remark. Tells (scene_of site.now) Number.P1 (remark_of remark)) }
+{
+    let mut facts = Vec::new(alloc);
+    let found = seen_there(&mut facts, alloc, site, could)?;
+    let seen = Seen {
+        facts: &facts,
+        word: site.word(),
+        word_before: site.word_of(site.last()),
+        called: site.word_of(found.called),
+    };
+    let opening = opening_of(found.shown);
+    let evidence = Evidence {
+        could,
+        keyword: found.keyword.unwrap_or(Kind::Ident),
+        opening: kind_or_name(opening),
+        line: line_of(site.text, opening),
+        other_line: line_of(site.text, inner_of(found.shown)),
+        ..nothing()
+    };
+    told(alloc, site, Number::P1, &seen, &evidence)
+}
+
+/// The remark on a name behind END that is another than that of what ends.
+pub(crate) fn name_remark(alloc: Global, site: &Site<'_, '_>) -> Result<Remark, AllocError>
+    ensures { IfOk result (λ remark. Tells (scene_of site.now) Number.P3 (remark_of remark)) }
+{
+    let name = end_name(site);
+    let opening = open_around(site);
+    let facts = facts_of(
+        alloc,
+        &[
+            (is_token(name), Fact::Named),
+            (is_token(opening), Fact::StillOpen),
+            (is_kind(opening, Kind::Repeat), Fact::OpenRepeat),
+        ],
+    )?;
+    let evidence = Evidence {
+        name: site.word_of(name),
+        opening: kind_or_name(opening),
+        line: line_of(site.text, opening),
+        ..nothing()
+    };
+    told(alloc, site, Number::P3, &of_facts(&facts), &evidence)
+}

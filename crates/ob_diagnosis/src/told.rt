@@ -1,0 +1,164 @@
+//! What the tables say of what may be seen at a place.
+
+ghost use Rattle.std.specs.Prelude.{◌≡◌, IfOk};
+ghost use Rattle.ob_diagnosis.specs.Remarks.{Sees, Tells, shown_at};
+ghost use Rattle.ob_evidence.specs.Evidence.{AsksNothing, IsTrueOf};
+ghost use Rattle.ob_evidence.specs.Sites.{scene_of};
+ghost use Rattle.ob_messages.specs.Remarks.{remark_of};
+ghost use Rattle.ob_messages.specs.Said.{evidence_of};
+
+use ob_evidence::facts::facts_of;
+use ob_evidence::site::{Site, kind_of};
+use ob_messages::matcher::View;
+use ob_messages::place::{halves, shown_place};
+use ob_messages::remark::Remark;
+use ob_messages::said::{Evidence, hint, sentence};
+use ob_messages::table::{Fact, Number, Type};
+use ob_scan::Kind;
+use std::alloc::{AllocError, Global};
+
+/// What may be seen at a place beside its tokens: facts, the words there and before it, and the name of the call that ends there.
+#[derive(Clone, Copy)]
+pub(crate) struct Seen<'a> {
+    pub(crate) facts: &'a [Fact],
+    pub(crate) word: &'a [u8],
+    pub(crate) word_before: &'a [u8],
+    pub(crate) called: &'a [u8],
+}
+
+/// These facts, and no words.
+pub(crate) fn of_facts(facts: &[Fact]) -> Seen<'_>
+    ensures { result.facts.now ≡ facts.now }
+{
+    Seen {
+        facts,
+        word: b"",
+        word_before: b"",
+        called: b"",
+    }
+}
+
+/// What is told at a place where this may be seen, and this is known.
+pub(crate) fn told(
+    alloc: Global,
+    site: &Site<'_, '_>,
+    number: Number,
+    seen: &Seen<'_>,
+    evidence: &Evidence<'_>,
+) -> Result<Remark, AllocError>
+    requires { IsTrueOf number (scene_of site.now) seen.now.facts.now (evidence_of evidence.now) }
+    ensures { IfOk result (λ remark. Tells (scene_of site.now) number (remark_of remark)) }
+{
+    let view = View {
+        number,
+        here: kind_of(site.here()),
+        last: kind_of(site.last()),
+        second: kind_of(site.second()),
+        next: kind_of(site.next()),
+        from: halves(site.text, site.place).1,
+        word: seen.word,
+        word_before: seen.word_before,
+        called: seen.called,
+        could: evidence.could,
+        facts: seen.facts,
+    };
+    told_by(alloc, site, &view, evidence)
+}
+
+/// What the tables say where this may be seen.
+fn told_by(
+    alloc: Global,
+    site: &Site<'_, '_>,
+    view: &View<'_>,
+    evidence: &Evidence<'_>,
+) -> Result<Remark, AllocError>
+    requires sees { Sees (scene_of site.now) view.now (evidence_of evidence.now) }
+    requires known { IsTrueOf view.now.number (scene_of site.now) view.now.facts.now (evidence_of evidence.now) }
+    ensures { IfOk result (λ remark. Tells (scene_of site.now) view.now.number (remark_of remark)) }
+{
+    let said = sentence(alloc, view, evidence)?;
+    let hinted = hint(alloc, view, evidence)?;
+    Ok(Remark {
+        place: shown_at(view.number, site.text, site.place),
+        sentence: said,
+        hint: hinted,
+    })
+}
+
+/// Where the place of a fault is shown.
+fn shown_at(number: Number, text: &[u8], place: usize) -> usize
+    ensures { result ≡ shown_at number text.now place }
+{
+    match number {
+        Number::P1 => shown_place(text, place),
+        _ => place,
+    }
+}
+
+/// Nothing is known.
+pub(crate) fn nothing() -> Evidence<'static> {
+    Evidence {
+        name: b"",
+        first: b"",
+        second: b"",
+        could: &[],
+        opening: Kind::Ident,
+        keyword: Kind::Ident,
+        line: 0,
+        other_line: 0,
+        count: 0,
+        most: 0,
+        wanted: Type::Unknown,
+        found: Type::Unknown,
+    }
+}
+
+/// The remark on a fault that shows by its bytes alone.
+pub(crate) fn plain_remark(
+    alloc: Global,
+    site: &Site<'_, '_>,
+    number: Number,
+) -> Result<Remark, AllocError>
+    requires { AsksNothing number }
+    ensures { IfOk result (λ remark. Tells (scene_of site.now) number (remark_of remark)) }
+{
+    let (before, from) = halves(site.text, site.place);
+    let facts = facts_of(
+        alloc,
+        &[
+            (begins_other(from), Fact::NotAscii),
+            (ends_number(before), Fact::BehindDigits),
+            (ends_with_minus(before), Fact::BehindMinus),
+        ],
+    )?;
+    told(alloc, site, number, &of_facts(&facts), &nothing())
+}
+
+/// Whether a minus stands at the end of some bytes, but for blanks.
+fn ends_with_minus(before: &[u8]) -> bool {
+    match before.trim_ascii_end().last() {
+        Some(last) => *last == b'-',
+        None => false,
+    }
+}
+
+/// Whether the first of some bytes is no ASCII.
+fn begins_other(bytes: &[u8]) -> bool {
+    match bytes.first() {
+        Some(first) => *first >= 128,
+        None => false,
+    }
+}
+
+/// Whether the letters and digits at the end of some bytes begin with a digit.
+fn ends_number(before: &[u8]) -> bool {
+    let length = before
+        .iter()
+        .rev()
+        .take_while(|byte| byte.is_ascii_alphanumeric())
+        .count();
+    match before.get(before.len().saturating_sub(length)) {
+        Some(first) => first.is_ascii_digit(),
+        None => false,
+    }
+}

@@ -1,0 +1,141 @@
+//! What may be seen at a token that can't stand where it does.
+
+ghost use Rattle.std.specs.Prelude.{IfOk};
+ghost use Rattle.ob_evidence.specs.Constructs.{AreShown};
+ghost use Rattle.ob_evidence.specs.Sites.{scene_of};
+
+use crate::calls::{called, declares, ends_repeat, is_assigned, lists};
+use crate::foreign::{is_foreign, is_small_keyword, is_type_name};
+use crate::keywords::meant_keyword;
+use crate::missing::missing_there;
+use ob_evidence::constructs::{Shown, shown_there};
+use ob_evidence::facts::note;
+use ob_evidence::site::{Site, is_kind};
+use ob_explain_tokens::open::open_construct;
+use ob_messages::table::Fact;
+use ob_scan::{Kind, Token};
+use std::alloc::{AllocError, Global};
+
+/// What is known of a token that can't stand where it does.
+#[derive(Clone, Copy)]
+pub(crate) struct Found {
+    pub(crate) keyword: Option<Kind>,
+    /// The construct that is shown.
+    pub(crate) shown: Option<Shown>,
+    /// The name of a call that ends there and that no procedure has.
+    pub(crate) called: Option<Token>,
+}
+
+/// What is known of a place where tokens of these kinds could stand; what may be seen there goes to the facts.
+pub(crate) fn seen_there(
+    facts: &mut Vec<Fact>,
+    alloc: Global,
+    site: &Site<'_, '_>,
+    could: &[Kind],
+) -> Result<Found, AllocError>
+    ensures { IfOk result (λ found. AreShown (scene_of site.now) found.shown) }
+{
+    let keyword = meant_keyword(alloc, site)?;
+    note(facts, keyword.is_some(), Fact::Keyword)?;
+    note(facts, !could.is_empty(), Fact::Expected)?;
+    note_tokens(facts, site, could)?;
+    note_words(facts, site)?;
+    let call = called(site, could);
+    let name = site.word_of(call);
+    let is_undeclared = !name.is_empty() && !declares(site, site.tokens, name);
+    note(facts, is_undeclared, Fact::UndeclaredCall)?;
+    note(
+        facts,
+        is_undeclared && is_small_keyword(name),
+        Fact::SmallKeyword,
+    )?;
+    note(facts, ends_repeat(site, could), Fact::RepeatEnd)?;
+    if let Some(missing) = missing_there(alloc, site, could)? {
+        facts.push(missing)?;
+    }
+    let shown = shown_there(site, could);
+    note_constructs(facts, shown)?;
+    Ok(Found {
+        keyword,
+        shown,
+        called: if is_undeclared { call } else { None },
+    })
+}
+
+/// Notes what the constructs show.
+fn note_constructs(facts: &mut Vec<Fact>, shown: Option<Shown>) -> Result<(), AllocError> {
+    let Some(shown) = shown else {
+        return Ok(());
+    };
+    facts.push(shown.fact)?;
+    note(
+        facts,
+        is_kind(shown.opening, Kind::Repeat),
+        Fact::OpenRepeat,
+    )?;
+    note(facts, shown.inner.is_some(), Fact::InnerIf)
+}
+
+/// Notes what the tokens around the place show.
+fn note_tokens(
+    facts: &mut Vec<Fact>,
+    site: &Site<'_, '_>,
+    could: &[Kind],
+) -> Result<(), AllocError> {
+    note(facts, is_touching(site), Fact::Touching)?;
+    note(facts, ends_heading(site, could), Fact::Heading)?;
+    note(
+        facts,
+        is_kind(open_construct(site.before), Kind::Module),
+        Fact::InModule,
+    )
+}
+
+/// Notes what the words there and before it show.
+fn note_words(facts: &mut Vec<Fact>, site: &Site<'_, '_>) -> Result<(), AllocError> {
+    let word = site.word();
+    let before = site.word_of(site.last());
+    let is_procedure = declares(site, site.tokens, before);
+    let is_listed = lists(site, before);
+    let is_known = is_foreign(before) || is_small_keyword(before);
+    note(
+        facts,
+        is_known && !is_procedure && !is_listed,
+        Fact::Foreign,
+    )?;
+    note(
+        facts,
+        !before.is_empty() && (is_procedure || !is_listed),
+        Fact::NoArray,
+    )?;
+    note(facts, is_procedure, Fact::BehindCall)?;
+    note(
+        facts,
+        !declares(site, site.tokens, word) && !is_assigned(site),
+        Fact::Actual,
+    )?;
+    note(facts, is_type_name(before), Fact::TypeBefore)?;
+    note(facts, is_type_name(word), Fact::TypeThere)?;
+    note(
+        facts,
+        is_small_keyword(word) || is_small_keyword(before),
+        Fact::SmallKeyword,
+    )
+}
+
+/// Whether the last token and the one there touch.
+fn is_touching(site: &Site<'_, '_>) -> bool {
+    match site.last() {
+        Some(last) => last.end == site.place,
+        None => false,
+    }
+}
+
+/// Whether the heading of a procedure could end there, where tokens of these kinds could stand.
+fn ends_heading(site: &Site<'_, '_>, could: &[Kind]) -> bool {
+    could.contains(&Kind::Semicolon)
+        && !could.contains(&Kind::And)
+        && !could.contains(&Kind::End)
+        && !could.contains(&Kind::Until)
+        && (is_kind(site.last(), Kind::RightParen) || could.contains(&Kind::LeftParen))
+}

@@ -1,3 +1,0 @@
-pub mod Types
-pub mod Wanted
-pub mod Typed
